@@ -1,0 +1,8 @@
+//! Lines and decimal numbers of a text: the primitives of a reader of line formats.
+#![tactic(auto)]
+
+mod line;
+mod number;
+
+pub use line::{take_line, take_prefix};
+pub use number::{numbers_of, take_number};
