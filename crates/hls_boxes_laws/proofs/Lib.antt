@@ -1,0 +1,11 @@
+pub mod CutLaws
+mod Examples
+pub mod GrammarLaws
+pub mod Headers
+pub mod KindLaws
+pub mod LeftLaws
+pub mod NextLaws
+pub mod TextLaws
+pub mod Steps
+pub mod Walk
+pub mod WholeLaws
