@@ -1,0 +1,17 @@
+//! The box reader: a stream that comes in pieces of any length is cut into init sections and units,
+//! however it was cut into pieces (ISO/IEC 14496-12 4.2; definitions in `hls_boxes_laws`).
+//!
+//! [`UnitReader`](reader::UnitReader) is the door through which a stream comes.
+#![tactic(auto)]
+
+mod first;
+pub mod reader;
+mod room;
+mod scan;
+mod step;
+#[cfg(test)]
+mod tests;
+
+pub use hls_boxes_laws::fault::BoxFault;
+pub use hls_boxes_laws::part::Part;
+pub use reader::UnitReader;
