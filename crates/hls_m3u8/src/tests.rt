@@ -1,0 +1,192 @@
+//! Texts from outside, byte for byte.
+
+ghost use Rattle.std.specs.Prelude.{All, IfOk};
+ghost use Rattle.hls_m3u8.specs.HasText.{IsSegment};
+
+use crate::{ByteRange, MediaPlaylist, Segment, is_uri, write_media};
+use bytes::ByteStr;
+use std::alloc::{AllocError, Global};
+use std::process::Abort;
+use std::test::Fail;
+
+// A segment of `uri`, of these bytes.
+fn segment(
+    rt: &impl Abort,
+    uri: &ByteStr,
+    mark: bool,
+    us: u64,
+    range: ByteRange,
+) -> Result<Segment, AllocError>
+    ensures { IfOk result (λ s. IsSegment uri.now s) }
+{
+    assert!(rt; us < 1 << 53);
+    assert!(rt; 0 < range.length);
+    assert!(rt; range.length < 1_000_000_000_000_000);
+    assert!(rt; range.offset < 1_000_000_000_000_000);
+    let shared = uri.clone()?;
+    Ok(Segment {
+        mark,
+        us,
+        range: Some(range),
+        uri: shared,
+    })
+}
+
+// The segments of `uri`, each as its mark, its length, and its bytes' number and offset.
+fn segments_of(
+    rt: &impl Abort,
+    alloc: Global,
+    uri: &ByteStr,
+    items: &[(bool, u64, u64, u64)],
+) -> Result<Vec<Segment>, AllocError>
+    ensures { IfOk result (λ v. All (IsSegment uri.now) v.items) }
+{
+    let mut segments = Vec::new(alloc);
+    for item in items {
+        let range = ByteRange {
+            length: item.2,
+            offset: item.3,
+        };
+        segments.push(segment(rt, uri, item.0, item.1, range)?)?;
+    }
+    Ok(segments)
+}
+
+// The text of a list of VOD over `uri`, whose init section has 600 bytes.
+#[tactic(auto, using(crate::proofs::Building::vod_has_text))]
+fn vod_text(
+    rt: &impl Abort,
+    alloc: Global,
+    uri: &'static str,
+    items: &[(bool, u64, u64, u64)],
+) -> Result<Vec<u8>, AllocError> {
+    assert!(rt; is_uri(uri));
+    let name = ByteStr::from_static(uri);
+    let segments = segments_of(rt, alloc, &name, items)?;
+    let list = MediaPlaylist::vod(6, name, 600, segments);
+    write_media(alloc, &list)
+}
+
+// The same for a live list of which one segment was removed.
+#[tactic(auto, using(crate::proofs::Building::live_has_text))]
+fn live_text(
+    rt: &impl Abort,
+    alloc: Global,
+    uri: &'static str,
+    items: &[(bool, u64, u64, u64)],
+) -> Result<Vec<u8>, AllocError> {
+    assert!(rt; is_uri(uri));
+    let name = ByteStr::from_static(uri);
+    let segments = segments_of(rt, alloc, &name, items)?;
+    let list = MediaPlaylist::live(6, 1, 0, name, 600, segments, false);
+    write_media(alloc, &list)
+}
+
+#[test]
+fn one_unit(rt: HostRuntime) -> Result<(), Fail> {
+    let text = vod_text(&rt, rt.alloc(), "media.mp4", &[(false, 4000000, 1000, 600)])?;
+    assert_eq!(rt;
+        text.as_slice(),
+        b"#EXTM3U
+#EXT-X-VERSION:6
+#EXT-X-TARGETDURATION:6
+#EXT-X-MEDIA-SEQUENCE:0
+#EXT-X-DISCONTINUITY-SEQUENCE:0
+#EXT-X-PLAYLIST-TYPE:VOD
+#EXT-X-MAP:URI=\"media.mp4\",BYTERANGE=\"600@0\"
+#EXTINF:4.000000,
+#EXT-X-BYTERANGE:1000@600
+media.mp4
+#EXT-X-ENDLIST
+"
+            .as_slice()
+    );
+    assert_eq!(rt; text.capacity(), text.len(), "the buffer is sized once");
+    Ok(())
+}
+
+#[test]
+fn marks_and_lengths(rt: HostRuntime) -> Result<(), Fail> {
+    let items = [
+        (false, 1, 1, 600),
+        (true, 6499999, 999999999999999, 601),
+        (false, 9007199254740991, 10, 999999999999999),
+    ];
+    let text = vod_text(&rt, rt.alloc(), "a b,\u{e9}\u{20ac}.mp4", &items)?;
+    assert_eq!(rt;
+        text.as_slice(),
+        "#EXTM3U
+#EXT-X-VERSION:6
+#EXT-X-TARGETDURATION:6
+#EXT-X-MEDIA-SEQUENCE:0
+#EXT-X-DISCONTINUITY-SEQUENCE:0
+#EXT-X-PLAYLIST-TYPE:VOD
+#EXT-X-MAP:URI=\"a b,\u{e9}\u{20ac}.mp4\",BYTERANGE=\"600@0\"
+#EXTINF:0.000001,
+#EXT-X-BYTERANGE:1@600
+a b,\u{e9}\u{20ac}.mp4
+#EXT-X-DISCONTINUITY
+#EXTINF:6.499999,
+#EXT-X-BYTERANGE:999999999999999@601
+a b,\u{e9}\u{20ac}.mp4
+#EXTINF:9007199254.740991,
+#EXT-X-BYTERANGE:10@999999999999999
+a b,\u{e9}\u{20ac}.mp4
+#EXT-X-ENDLIST
+"
+            .as_bytes()
+    );
+    assert_eq!(rt; text.capacity(), text.len(), "the buffer is sized once");
+    Ok(())
+}
+
+#[test]
+fn live_after_slide(rt: HostRuntime) -> Result<(), Fail> {
+    let items = [
+        (false, 4000000, 1000, 1600),
+        (false, 5000000, 1000, 2600),
+        (false, 5000000, 1000, 3600),
+        (false, 4000000, 1000, 4600),
+    ];
+    let text = live_text(&rt, rt.alloc(), "/media/0.mp4", &items)?;
+    assert_eq!(rt;
+        text.as_slice(),
+        b"#EXTM3U
+#EXT-X-VERSION:6
+#EXT-X-TARGETDURATION:6
+#EXT-X-MEDIA-SEQUENCE:1
+#EXT-X-DISCONTINUITY-SEQUENCE:0
+#EXT-X-MAP:URI=\"/media/0.mp4\",BYTERANGE=\"600@0\"
+#EXTINF:4.000000,
+#EXT-X-BYTERANGE:1000@1600
+/media/0.mp4
+#EXTINF:5.000000,
+#EXT-X-BYTERANGE:1000@2600
+/media/0.mp4
+#EXTINF:5.000000,
+#EXT-X-BYTERANGE:1000@3600
+/media/0.mp4
+#EXTINF:4.000000,
+#EXT-X-BYTERANGE:1000@4600
+/media/0.mp4
+"
+            .as_slice()
+    );
+    Ok(())
+}
+
+#[test]
+fn uris(rt: HostRuntime) {
+    for (text, want) in [
+        ("media.mp4", true),
+        ("a b,\u{20ac}", true),
+        ("a#b", true),
+        ("", false),
+        ("#a", false),
+        ("a\"b", false),
+        ("a\nb", false),
+        ("a\rb", false),
+    ] {
+        assert_eq!(rt; is_uri(text), want, "at {text}");
+    }
+}
