@@ -1,0 +1,183 @@
+ghost use Rattle.std.specs.Prelude.{◌≡◌, ℕ, ◌+◌, ◌-◌, ◌*◌, ◌<◌, ◌≤◌, ◌↔◌, length, IsTrue, MatchOption, IfOk};
+ghost use Rattle.hls_check_laws.specs.Tables.{IsTable, spot_in, place_at};
+ghost use Rattle.hls_check_laws.specs.Orders.{IsOrderly, IsPastGap, IsRowEnd};
+ghost use Rattle.hls_check_laws.specs.Steps.{Allowed, cost};
+
+use crate::orders::{first_unsorted, is_rising_throughout};
+use crate::printed_table::PrintedTable;
+use crate::spot::Spot;
+use crate::spots::Spots;
+use hls_time::fits;
+use std::alloc::{AllocError, Global};
+use std::marker::Model;
+
+/// A table of common places in order: in rendition 0 the starts rise, and in every rendition
+/// fragment, prev_end and run_in don't fall, prev_end is at most start and run_in at most run_out.
+#[derive(Debug, Drop)]
+pub struct PlaceTable {
+    table: PrintedTable,
+}
+
+impl Model for PlaceTable {
+    ghost use Rattle.hls_check_laws.specs.Tables.{Table};
+    ghost use Rattle.hls_check_laws.specs.Orders.{IsOrderly};
+
+    ghost Value = { Table };
+
+    ghost view = { λ t. t.table };
+
+    ghost invariant = { λ t. IsOrderly t.table };
+}
+
+fn is_orderly(table: &PrintedTable) -> bool
+    ensures { IsTrue result ↔ IsOrderly table.now }
+{
+    if let Some(_) = first_unsorted(table) {
+        return false;
+    }
+    is_rising_throughout(table)
+}
+
+#[inline(always)]
+fn is_too_long(target: u64, from: Spot, to: Spot) -> bool
+    ensures { IsTrue result ↔ (target * 1000000 + 499999 < to.prev_end - from.start) }
+{
+    !fits(to.prev_end.saturating_sub(from.start), target)
+}
+
+#[inline(always)]
+fn is_past_gap(from: &Spots, to: &Spots) -> bool
+    requires { length to.now ≡ length from.now }
+    ensures { IsTrue result ↔ IsPastGap from.now to.now }
+{
+    for r in 0..from.len() {
+        if to.get(r).run_in > from.get(r).run_out {
+            return true;
+        }
+    }
+    false
+}
+
+impl PlaceTable {
+    pub fn new(table: PrintedTable) -> PlaceTable
+        requires { IsOrderly table }
+        ensures { result ≡ table }
+    {
+        PlaceTable { table }
+    }
+
+    /// The table, or `None` where its places aren't in order.
+    pub fn try_new(table: PrintedTable) -> Option<PlaceTable>
+        ensures { MatchOption result (¬ IsOrderly table) (λ t. IsOrderly t × (t ≡ table)) }
+    {
+        if !is_orderly(&table) {
+            return None;
+        }
+        Some(PlaceTable::new(table))
+    }
+
+    #[inline(always)]
+    pub fn table(&self) -> &PrintedTable
+        ensures table { result.now ≡ self.now }
+        ensures orderly { IsOrderly self.now }
+    {
+        &self.table
+    }
+
+    pub fn into_table(self) -> PrintedTable
+        ensures { result ≡ self }
+    {
+        self.table
+    }
+
+    /// A copy of the table, for a certificate.
+    pub fn printed(&self, alloc: Global) -> Result<PrintedTable, AllocError>
+        ensures { IfOk result (λ copy. copy ≡ self.now) }
+    {
+        self.table().copied(alloc)
+    }
+
+    /// The greatest length of a segment, in seconds.
+    #[inline(always)]
+    pub fn target(&self) -> u64
+        ensures { result ≡ self.now.target }
+    {
+        self.table().target()
+    }
+
+    /// The preferred length of a segment, in microseconds.
+    #[inline(always)]
+    pub fn preferred(&self) -> u64
+        ensures { result ≡ self.now.preferred }
+    {
+        self.table().preferred()
+    }
+
+    #[inline(always)]
+    pub fn renditions(&self) -> usize
+        ensures { result ≡ self.now.renditions }
+    {
+        self.table().renditions()
+    }
+
+    /// The number of places.
+    #[inline(always)]
+    pub fn len(&self) -> usize
+        ensures len { result ≡ length self.now.places }
+        ensures valid { IsTable self.now }
+        ensures orderly { IsOrderly self.now }
+    {
+        self.table().len()
+    }
+
+    #[inline(always)]
+    pub fn places(&self) -> &[Spots]
+        ensures { result.now ≡ self.now.places }
+    {
+        self.table().places()
+    }
+
+    #[inline(always)]
+    pub fn place(&self, p: usize) -> &Spots
+        requires { p < length self.now.places }
+        ensures { result.now ≡ place_at self.now.places p }
+    {
+        self.table().place(p)
+    }
+
+    /// Whether the step from place `p` to place `q` is allowed; false where there is no such place.
+    #[inline(always)]
+    pub fn allowed(&self, p: usize, q: usize) -> bool
+        ensures { IsTrue result ↔ Allowed self.now p q }
+    {
+        self.table().allowed(p, q)
+    }
+
+    /// What an allowed step costs, in microseconds.
+    #[inline(always)]
+    pub fn cost(&self, p: usize, q: usize) -> u64
+        requires { Allowed self.now p q }
+        ensures cost { result ≡ cost self.now p q }
+        ensures bound { result ≤ 3600499999 }
+    {
+        self.table().cost(p, q)
+    }
+
+    /// Whether no step from place `p` to place `q` or a later one is allowed, as the order tells:
+    /// `q` is too far in rendition 0, or past a gap in some rendition.
+    #[inline(always)]
+    pub fn is_row_end(&self, p: usize, q: usize) -> bool
+        requires from_in { p < length self.now.places }
+        requires to_in { q < length self.now.places }
+        ensures exact { IsTrue result ↔ IsRowEnd self.now p q }
+        ensures none_after { IsTrue result → (j : ℕ) → q ≤ j → Allowed self.now p j → ⊥ }
+    {
+        let _ = self.len();
+        let from = self.place(p);
+        let to = self.place(q);
+        if is_too_long(self.target(), from.get(0), to.get(0)) {
+            return true;
+        }
+        is_past_gap(from, to)
+    }
+}

@@ -1,0 +1,47 @@
+ghost use Rattle.std.specs.Prelude.{◌≡◌, ◌+◌, ◌-◌, ◌*◌, ◌^◌, ◌<◌, ◌↔◌, length, IsTrue};
+ghost use Rattle.hls_check_laws.specs.Steps.{IsSpotStep, IsPlaceStep, step_cost};
+
+use crate::spot::Spot;
+use crate::spots::Spots;
+use hls_time::fits;
+
+#[inline(always)]
+fn spot_allowed(target: u64, from: Spot, to: Spot) -> bool
+    ensures { IsTrue result ↔ IsSpotStep target from to }
+{
+    from.fragment < to.fragment
+        && from.run_out == to.run_in
+        && from.start < to.prev_end
+        && fits(to.prev_end - from.start, target)
+}
+
+/// Whether one segment may reach from a place to another: in each rendition a later fragment, no
+/// gap between, and a length above 0 that rounds to at most `target` seconds (RFC 8216 4.3.3.1).
+/// False where the two have not the same number of renditions.
+#[inline(always)]
+pub fn pair_allowed(target: u64, from: &Spots, to: &Spots) -> bool
+    ensures { IsTrue result ↔ IsPlaceStep target from.now to.now }
+{
+    if to.len() != from.len() {
+        return false;
+    }
+    for r in 0..from.len() {
+        if !spot_allowed(target, from.get(r), to.get(r)) {
+            return false;
+        }
+    }
+    true
+}
+
+/// How far the segment's length in rendition 0 is from the preferred one, in microseconds.
+#[inline(always)]
+pub fn pair_cost(preferred: u64, from: &Spots, to: &Spots) -> u64
+    requires from_one { 0 < length from.now }
+    requires to_one { 0 < length to.now }
+    ensures { result ≡ step_cost preferred from.now to.now }
+{
+    to.get(0)
+        .prev_end
+        .saturating_sub(from.get(0).start)
+        .abs_diff(preferred)
+}
