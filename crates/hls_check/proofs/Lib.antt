@@ -1,0 +1,3 @@
+pub mod PlanLists
+pub mod GoodAnswers
+pub mod OneAnswer

@@ -1,0 +1,9 @@
+use Rattle.std.proofs.Common.{◌≡◌, ◌-◌, ◌*◌, ◌≤◌, take, slice_index}
+use Rattle.hls_check_laws.specs.Plans.{plan_cost}
+use Rattle.hls_check.proofs.plans.cost_of_plan.Given as goal
+
+abbrev pub invariant-loop-k : goal.invariant-loop-k
+invariant-loop-k l = record {
+  sum : l.total ≡ plan_cost l.table (take l.k l.plan);
+  bound : l.total ≤ slice_index l.plan (l.k - 1) * 3600499999;
+}

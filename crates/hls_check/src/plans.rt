@@ -1,0 +1,49 @@
+ghost use Rattle.std.specs.Prelude.{◌≡◌, ℕ, ◌+◌, ◌*◌, ◌<◌, ◌≤◌, ◌↔◌, length, IsTrue, MatchOption, All};
+ghost use Rattle.hls_check_laws.specs.Tables.{IsTable};
+ghost use Rattle.hls_check_laws.specs.Plans.{plan_cost};
+ghost use Rattle.hls_check.specs.Faults.{HasEnds, HasSteps, IsForwardStep, IsFirstBadPair};
+
+use hls_check_laws::PrintedTable;
+
+pub fn has_ends(table: &PrintedTable, plan: &[usize]) -> bool
+    requires { 0 < length plan.now }
+    ensures { IsTrue result ↔ HasEnds table.now plan.now }
+{
+    let _ = table.len();
+    plan[0] == 0 && plan[plan.len() - 1] == table.len() - 1
+}
+
+fn is_forward_step(table: &PrintedTable, p: usize, q: usize) -> bool
+    ensures { IsTrue result ↔ IsForwardStep table.now p q }
+{
+    p < q && table.allowed(p, q)
+}
+
+/// The first pair of a plan that doesn't rise or isn't an allowed step.
+pub fn first_bad_pair(table: &PrintedTable, plan: &[usize]) -> Option<(usize, usize)>
+    ensures { MatchOption result (HasSteps table.now plan.now) (λ pair. IsFirstBadPair table.now plan.now pair.0 pair.1) }
+{
+    for k in 1..plan.len() {
+        let p = plan[k - 1];
+        let q = plan[k];
+        if !is_forward_step(table, p, q) {
+            return Some((p, q));
+        }
+    }
+    None
+}
+
+/// What a plan costs, in microseconds.
+pub fn cost_of_plan(table: &PrintedTable, plan: &[usize]) -> u64
+    requires some { 0 < length plan.now }
+    requires in_range { All (λ p. p < length table.now.places) plan.now }
+    requires steps { HasSteps table.now plan.now }
+    ensures { result ≡ plan_cost table.now plan.now }
+{
+    let _ = table.len();
+    let mut total = 0;
+    for k in 1..plan.len() {
+        total += table.cost(plan[k - 1], plan[k]);
+    }
+    total
+}
