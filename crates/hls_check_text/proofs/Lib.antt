@@ -1,0 +1,9 @@
+pub mod Spellings
+pub mod Nexts
+pub mod Stagings
+pub mod Starts
+pub mod Sames
+pub mod Wrongs
+pub mod LineKinds
+pub mod Claims
+pub mod Written

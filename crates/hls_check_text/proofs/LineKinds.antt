@@ -1,0 +1,298 @@
+-- One line of each kind: when it is one, and when it can't be.
+use Rattle.std.proofs.Common.{◌≡◌, refl, sym, ◌∙◌, ap, subst, ℕ, suc, ◌+◌, ◌*◌, ◌^◌, ◌<◌, ◌≤◌, List, [], ◌∷◌, ◌++◌, length, take, drop, get_or, All, arith, append_assoc, codes, add-one}
+use Rattle.std.proofs.Math.Seq.{drop-cons, take-suc}
+use Rattle.std.proofs.lemmas.List.{append_cancel_left, nil_from_length}
+use Rattle.hls_check_laws.specs.declared.spot.Spot.{Spot}
+use Rattle.std.specs.Fmt.{decimal}
+use Rattle.std.proofs.lemmas.List.Elements.{All-head, All-tail, All-cons, All-nil, All-append}
+use Rattle.hls_check_laws.specs.Tables.{IsSpotInRange, IsPlaceOf}
+use Rattle.hls_check_laws.specs.declared.cert_fault.CertFault.TheVariants.{Form}
+use Rattle.hls_text.specs.Lines.{cut_text, IsFirstLine}
+use Rattle.hls_text.specs.Numbers.{words, number_line, spaced, ArePrintable, IsNumber, HasNoNumber, AreNumbers}
+use Rattle.hls_text.proofs.Digits.{same_number}
+use Rattle.hls_text.proofs.Words.{IsSmall, front_number}
+use Rattle.hls_check_text.specs.Text.{place_numbers, place_line, plan_line, closed_line}
+use Rattle.hls_check_text.specs.Stages.{Refuses, IsNumberLine, IsPlaceLine, IsPlanLine, IsPriceLine, IsClosedLine}
+use Rattle.hls_check_text.proofs.Spellings.{number_same, numbers_printable, priced_line_same}
+use Rattle.hls_check_text.proofs.Sames.{words_all, below_small}
+
+its_number : (line word digits : List ℕ) (n : ℕ) → line ≡ word ++ digits → n < 2 ^ 53 → line ≡ word ++ words (n ∷ []) →
+    IsNumber digits n []
+unfolding spaced
+its_number line word digits n is small spelled =
+    let same : digits ≡ words (n ∷ []) = append_cancel_left word digits (words (n ∷ [])) (sym is ∙ spelled) in
+    subst (λ (xs : List ℕ). IsNumber xs n []) (sym same) (front_number n [] small)
+
+pub no_number : (line word digits : List ℕ) → line ≡ word ++ digits → HasNoNumber digits →
+    (n : ℕ) → n < 2 ^ 53 → line ≡ word ++ words (n ∷ []) → ⊥
+no_number line word digits is none n small spelled = none n [] (its_number line word digits n is small spelled)
+
+pub number_read : (line word digits : List ℕ) (n : ℕ) (rest : List ℕ) → line ≡ word ++ digits → IsNumber digits n rest →
+    length rest ≡ 0 → (n < 2 ^ 53) × (line ≡ word ++ words (n ∷ []))
+unfolding words spaced
+number_read line word digits n rest is at ended =
+    (at.small, is ∙ ap (λ (xs : List ℕ). word ++ xs) (subst (λ (xs : List ℕ). digits ≡ decimal n ++ xs) (nil_from_length rest ended) at.is))
+
+pub more_behind : (line word digits : List ℕ) (m : ℕ) (rest : List ℕ) → line ≡ word ++ digits → IsNumber digits m rest →
+    0 < length rest → (n : ℕ) → n < 2 ^ 53 → line ≡ word ++ words (n ∷ []) → ⊥
+more_behind line word digits m rest is at some n small spelled =
+    let same : (m ≡ n) × (rest ≡ []) = same_number digits m n rest [] at (its_number line word digits n is small spelled) in
+    let none : length rest ≡ 0 = ap length same.1 in
+    absurd (omega arith)
+
+-- a spot more
+five_more : (numbers : List ℕ) (k : ℕ) → k + 5 ≤ length numbers →
+    drop k numbers ≡ get_or numbers k 0 ∷ get_or numbers (k + 1) 0 ∷ get_or numbers (k + 2) 0 ∷ get_or numbers (k + 3) 0
+    ∷ get_or numbers (k + 4) 0 ∷ drop (k + 5) numbers
+five_more numbers k h =
+    let a : drop k numbers ≡ get_or numbers k 0 ∷ drop (suc k) numbers = drop-cons numbers k 0 (omega arith) in
+    let b : drop (k + 1) numbers ≡ get_or numbers (k + 1) 0 ∷ drop (suc (k + 1)) numbers = drop-cons numbers (k + 1) 0 (omega arith) in
+    let c : drop (k + 2) numbers ≡ get_or numbers (k + 2) 0 ∷ drop (suc (k + 2)) numbers = drop-cons numbers (k + 2) 0 (omega arith) in
+    let d : drop (k + 3) numbers ≡ get_or numbers (k + 3) 0 ∷ drop (suc (k + 3)) numbers = drop-cons numbers (k + 3) 0 (omega arith) in
+    let e : drop (k + 4) numbers ≡ get_or numbers (k + 4) 0 ∷ drop (suc (k + 4)) numbers = drop-cons numbers (k + 4) 0 (omega arith) in
+    let one : suc k ≡ k + 1 = omega arith in
+    let two : suc (k + 1) ≡ k + 2 = omega arith in
+    let three : suc (k + 2) ≡ k + 3 = omega arith in
+    let four : suc (k + 3) ≡ k + 4 = omega arith in
+    let five : suc (k + 4) ≡ k + 5 = omega arith in
+    a ∙ ap (λ (j : ℕ). get_or numbers k 0 ∷ drop j numbers) one
+    ∙ ap (λ (xs : List ℕ). get_or numbers k 0 ∷ xs) (b ∙ ap (λ (j : ℕ). get_or numbers (k + 1) 0 ∷ drop j numbers) two
+    ∙ ap (λ (xs : List ℕ). get_or numbers (k + 1) 0 ∷ xs) (c ∙ ap (λ (j : ℕ). get_or numbers (k + 2) 0 ∷ drop j numbers) three
+    ∙ ap (λ (xs : List ℕ). get_or numbers (k + 2) 0 ∷ xs) (d ∙ ap (λ (j : ℕ). get_or numbers (k + 3) 0 ∷ drop j numbers) four
+    ∙ ap (λ (xs : List ℕ). get_or numbers (k + 3) 0 ∷ xs) (e ∙ ap (λ (j : ℕ). get_or numbers (k + 4) 0 ∷ drop j numbers) five))))
+
+numbers-append : (xs ys : List Spot) → place_numbers (xs ++ ys) ≡ place_numbers xs ++ place_numbers ys
+unfolding place_numbers
+numbers-append [] ys = refl
+numbers-append (x ∷ xs) ys =
+    ap (λ (ns : List ℕ). x.fragment ∷ x.prev_end ∷ x.start ∷ x.run_in ∷ x.run_out ∷ ns) (numbers-append xs ys)
+
+abbrev pub spot_at : List ℕ → ℕ → Spot
+spot_at numbers r = record {
+  fragment = get_or numbers (5 * r) 0;
+  prev_end = get_or numbers (5 * r + 1) 0;
+  start = get_or numbers (5 * r + 2) 0;
+  run_in = get_or numbers (5 * r + 3) 0;
+  run_out = get_or numbers (5 * r + 4) 0;
+}
+
+pub spot_more : (numbers : List ℕ) (spots : List Spot) (r renditions : ℕ) → length numbers ≡ 5 * renditions → r < renditions →
+    place_numbers spots ++ drop (5 * r) numbers ≡ numbers →
+    place_numbers (spots ++ (spot_at numbers r ∷ [])) ++ drop (5 * (r + 1)) numbers ≡ numbers
+unfolding place_numbers
+spot_more numbers spots r renditions count below read =
+    let further : 5 * (r + 1) ≡ 5 * r + 5 = omega arith in
+    ap (λ (xs : List ℕ). xs ++ drop (5 * (r + 1)) numbers) (numbers-append spots (spot_at numbers r ∷ []))
+    ∙ append_assoc (place_numbers spots) (place_numbers (spot_at numbers r ∷ [])) (drop (5 * (r + 1)) numbers)
+    ∙ ap (λ (xs : List ℕ). place_numbers spots ++ xs)
+    (rw (further) (sym (five_more numbers (5 * r) (omega arith))))
+    ∙ read
+
+-- a place's line
+spots_in_range : (spots : List Spot) → ArePrintable (place_numbers spots) → All IsSpotInRange spots
+unfolding place_numbers
+spots_in_range [] small = All-nil IsSpotInRange
+spots_in_range (s ∷ spots) small =
+    let a : ArePrintable (s.prev_end ∷ s.start ∷ s.run_in ∷ s.run_out ∷ place_numbers spots) =
+    All-tail IsSmall s.fragment (s.prev_end ∷ s.start ∷ s.run_in ∷ s.run_out ∷ place_numbers spots) small in
+    let b : ArePrintable (s.start ∷ s.run_in ∷ s.run_out ∷ place_numbers spots) =
+    All-tail IsSmall s.prev_end (s.start ∷ s.run_in ∷ s.run_out ∷ place_numbers spots) a in
+    let c : ArePrintable (s.run_in ∷ s.run_out ∷ place_numbers spots) =
+    All-tail IsSmall s.start (s.run_in ∷ s.run_out ∷ place_numbers spots) b in
+    let d : ArePrintable (s.run_out ∷ place_numbers spots) = All-tail IsSmall s.run_in (s.run_out ∷ place_numbers spots) c in
+    All-cons IsSpotInRange s spots
+    (record {
+      fragment_small = All-head IsSmall s.fragment (s.prev_end ∷ s.start ∷ s.run_in ∷ s.run_out ∷ place_numbers spots) small;
+      prev_end_small = All-head IsSmall s.prev_end (s.start ∷ s.run_in ∷ s.run_out ∷ place_numbers spots) a;
+      start_small = All-head IsSmall s.start (s.run_in ∷ s.run_out ∷ place_numbers spots) b;
+      run_in_small = All-head IsSmall s.run_in (s.run_out ∷ place_numbers spots) c;
+      run_out_small = All-head IsSmall s.run_out (place_numbers spots) d;
+    })
+    (spots_in_range spots (All-tail IsSmall s.run_out (place_numbers spots) d))
+
+count_numbers : (spots : List Spot) → length (place_numbers spots) ≡ 5 * length spots
+unfolding place_numbers
+count_numbers [] = refl
+count_numbers (s ∷ spots) =
+    let rest : length (place_numbers spots) ≡ 5 * length spots = count_numbers spots in
+    omega arith
+
+pub place_read : (line ns : List ℕ) (spots : List Spot) (renditions : ℕ) → AreNumbers line ns → place_numbers spots ≡ ns →
+    length spots ≡ renditions → IsPlaceOf renditions spots × (line ≡ place_line spots)
+place_read line ns spots renditions are numbers count = (
+  record { count = count; spots = spots_in_range spots (subst ArePrintable (sym numbers) are.small) },
+  are.is ∙ ap words (sym numbers),
+)
+
+place_words : (line : List ℕ) (renditions : ℕ) → 1 ≤ renditions → (at : IsPlaceLine renditions line) → AreNumbers line (place_numbers at.place)
+place_words line renditions some at =
+    let count : length (place_numbers at.place) ≡ 5 * length at.place = count_numbers at.place in
+    let places : length at.place ≡ renditions = at.good.count in
+    record { some = omega arith; small = numbers_printable at.place at.good.spots; is = at.is }
+
+pub no_place : (line : List ℕ) (renditions : ℕ) → 1 ≤ renditions → ((ns : List ℕ) → AreNumbers line ns → ⊥) → IsPlaceLine renditions line → ⊥
+no_place line renditions some none at = none (place_numbers at.place) (place_words line renditions some at)
+
+pub other_count : (line ns : List ℕ) (renditions : ℕ) → 1 ≤ renditions → AreNumbers line ns → (length ns ≡ 5 * renditions → ⊥) →
+    IsPlaceLine renditions line → ⊥
+other_count line ns renditions some are other at =
+    let numbers : AreNumbers line (place_numbers at.place) = place_words line renditions some at in
+    let same : ns ≡ place_numbers at.place =
+    words_all ns (place_numbers at.place) are.small numbers.small are.some numbers.some (sym are.is ∙ numbers.is) in
+    let count : length (place_numbers at.place) ≡ 5 * length at.place = count_numbers at.place in
+    let places : length at.place ≡ renditions = at.good.count in
+    let len : length ns ≡ length (place_numbers at.place) = ap length same in
+    other (omega arith)
+
+-- the plan's line
+pub plan_read : (line rest ns plan : List ℕ) (count : ℕ) → line ≡ codes "plan " ++ rest → AreNumbers rest ns →
+    All (λ p. p < count) ns → plan ≡ ns → (0 < length plan) × All (λ p. p < count) plan × (line ≡ plan_line plan)
+plan_read line rest ns plan count is are below same =
+    let whole : line ≡ plan_line ns = is ∙ ap (λ (xs : List ℕ). codes "plan " ++ xs) are.is in
+    subst (λ (xs : List ℕ). (0 < length xs) × All (λ p. p < count) xs × (line ≡ plan_line xs)) (sym same) (are.some, below, whole)
+
+plan_words : (line rest : List ℕ) (count : ℕ) → count ≤ 16384 → line ≡ codes "plan " ++ rest → (at : IsPlanLine count line) → AreNumbers rest at.plan
+plan_words line rest count few is at = record {
+  some = at.not_empty;
+  small = below_small count at.plan few at.in_range;
+  is = append_cancel_left (codes "plan ") rest (words at.plan) (sym is ∙ at.is);
+}
+
+pub no_plan : (line rest : List ℕ) (count : ℕ) → count ≤ 16384 → line ≡ codes "plan " ++ rest → ((ns : List ℕ) → AreNumbers rest ns → ⊥) →
+    IsPlanLine count line → ⊥
+no_plan line rest count few is none at = none at.plan (plan_words line rest count few is at)
+
+pub no_prefix : (line : List ℕ) (count : ℕ) → ((rest : List ℕ) → line ≡ codes "plan " ++ rest → ⊥) → IsPlanLine count line → ⊥
+no_prefix line count none at = none (words at.plan) at.is
+
+pub plan_too_far : (line rest ns : List ℕ) (count : ℕ) → count ≤ 16384 → line ≡ codes "plan " ++ rest → AreNumbers rest ns →
+    (All (λ p. p < count) ns → ⊥) → IsPlanLine count line → ⊥
+plan_too_far line rest ns count few is are far at =
+    let numbers : AreNumbers rest at.plan = plan_words line rest count few is at in
+    let same : ns ≡ at.plan = words_all ns at.plan are.small numbers.small are.some numbers.some (sym are.is ∙ numbers.is) in
+    far (subst (All (λ p. p < count)) (sym same) at.in_range)
+
+-- a line of two numbers
+two_there : (line word numbers : List ℕ) (m n : ℕ) → line ≡ word ++ numbers → m < 2 ^ 53 →
+    line ≡ word ++ words (m ∷ n ∷ []) → IsNumber numbers m (32 ∷ (decimal n ++ []))
+unfolding spaced words
+two_there line word numbers m n is small spelled =
+    subst (λ (xs : List ℕ). IsNumber xs m (32 ∷ (decimal n ++ [])))
+    (sym (append_cancel_left word numbers (words (m ∷ n ∷ [])) (sym is ∙ spelled))) (front_number m (n ∷ []) small)
+
+pub no_first : (line word numbers : List ℕ) → line ≡ word ++ numbers → HasNoNumber numbers →
+    (m n : ℕ) → m < 2 ^ 53 → n < 2 ^ 53 → line ≡ word ++ words (m ∷ n ∷ []) → ⊥
+no_first line word numbers is none m n m_small n_small spelled =
+    none m (32 ∷ (decimal n ++ [])) (two_there line word numbers m n is m_small spelled)
+
+space_there : (line word numbers : List ℕ) (k : ℕ) (space : List ℕ) → line ≡ word ++ numbers → IsNumber numbers k space →
+    (m n : ℕ) → m < 2 ^ 53 → line ≡ word ++ words (m ∷ n ∷ []) → (k ≡ m) × (space ≡ 32 ∷ (decimal n ++ []))
+space_there line word numbers k space is at m n m_small spelled =
+    same_number numbers k m space (32 ∷ (decimal n ++ [])) at (two_there line word numbers m n is m_small spelled)
+
+pub no_space : (line word numbers : List ℕ) (k : ℕ) (space : List ℕ) → line ≡ word ++ numbers → IsNumber numbers k space →
+    ((rest : List ℕ) → space ≡ (32 ∷ []) ++ rest → ⊥) →
+    (m n : ℕ) → m < 2 ^ 53 → n < 2 ^ 53 → line ≡ word ++ words (m ∷ n ∷ []) → ⊥
+no_space line word numbers k space is at none m n m_small n_small spelled =
+    none (decimal n ++ []) (space_there line word numbers k space is at m n m_small spelled).1
+
+pub no_second : (line word numbers : List ℕ) (k : ℕ) (space rest : List ℕ) → line ≡ word ++ numbers → IsNumber numbers k space →
+    space ≡ (32 ∷ []) ++ rest → ((n : ℕ) → n < 2 ^ 53 → rest ≡ [] ++ words (n ∷ []) → ⊥) →
+    (m n : ℕ) → m < 2 ^ 53 → n < 2 ^ 53 → line ≡ word ++ words (m ∷ n ∷ []) → ⊥
+unfolding spaced words
+no_second line word numbers k space rest is at space_is none m n m_small n_small spelled =
+    let there : space ≡ 32 ∷ (decimal n ++ []) = (space_there line word numbers k space is at m n m_small spelled).1 in
+    let both : 32 ∷ rest ≡ 32 ∷ (decimal n ++ []) = sym space_is ∙ there in
+    none n n_small (ap (drop 1) both)
+
+pub two_read : (line word numbers : List ℕ) (m n : ℕ) (space rest : List ℕ) → line ≡ word ++ numbers → IsNumber numbers m space →
+    space ≡ (32 ∷ []) ++ rest → (n < 2 ^ 53) × (rest ≡ [] ++ words (n ∷ [])) →
+    (m < 2 ^ 53) × (n < 2 ^ 53) × (line ≡ word ++ words (m ∷ n ∷ []))
+unfolding spaced words
+two_read line word numbers m n space rest is at space_is second = (
+  at.small,
+  second.0,
+  is ∙ ap (λ (xs : List ℕ). word ++ xs) (at.is ∙ ap (λ (xs : List ℕ). decimal m ++ xs) (space_is ∙ ap (λ (xs : List ℕ). 32 ∷ xs) second.1)),
+)
+
+-- the lines of prices and of the closed set
+pub no_price : (line : List ℕ) (low count : ℕ) → count ≤ 16384 →
+    ((m n : ℕ) → m < 2 ^ 53 → n < 2 ^ 53 → line ≡ codes "price " ++ words (m ∷ n ∷ []) → ⊥) → IsPriceLine low count line → ⊥
+no_price line low count few none at =
+    let below : at.priced.place < count = at.below in
+    none at.priced.place at.priced.price (omega arith) at.small at.is
+
+price_place : (line : List ℕ) (low count m n : ℕ) → count ≤ 16384 → m < 2 ^ 53 → n < 2 ^ 53 →
+    line ≡ codes "price " ++ words (m ∷ n ∷ []) → IsPriceLine low count line → (low ≤ m) × (m < count)
+price_place line low count m n few m_small n_small spelled at =
+    let below : at.priced.place < count = at.below in
+    let above : low ≤ at.priced.place = at.above in
+    let same : (m ≡ at.priced.place) × (n ≡ at.priced.price) =
+    priced_line_same (record { place = m; price = n }) at.priced m_small n_small (omega arith) at.small (sym spelled ∙ at.is) in
+    (omega arith, omega arith)
+
+pub price_too_low : (line : List ℕ) (low count m n : ℕ) → count ≤ 16384 → m < low →
+    (m < 2 ^ 53) × (n < 2 ^ 53) × (line ≡ codes "price " ++ words (m ∷ n ∷ [])) → IsPriceLine low count line → ⊥
+price_too_low line low count m n few less read at =
+    let range : (low ≤ m) × (m < count) = price_place line low count m n few read.0 read.1 read.2 at in
+    absurd (omega arith)
+
+pub price_too_far : (line : List ℕ) (low count m n : ℕ) → count ≤ 16384 → count ≤ m →
+    (m < 2 ^ 53) × (n < 2 ^ 53) × (line ≡ codes "price " ++ words (m ∷ n ∷ [])) → IsPriceLine low count line → ⊥
+price_too_far line low count m n few more read at =
+    let range : (low ≤ m) × (m < count) = price_place line low count m n few read.0 read.1 read.2 at in
+    absurd (omega arith)
+
+pub no_closed : (line : List ℕ) (low count : ℕ) → count ≤ 16384 →
+    ((n : ℕ) → n < 2 ^ 53 → line ≡ codes "closed " ++ words (n ∷ []) → ⊥) → IsClosedLine low count line → ⊥
+no_closed line low count few none at =
+    let below : at.place < count = at.below in
+    none at.place (omega arith) at.is
+
+closed_place : (line : List ℕ) (low count n : ℕ) → count ≤ 16384 → n < 2 ^ 53 → line ≡ closed_line n → IsClosedLine low count line →
+    (low ≤ n) × (n < count)
+closed_place line low count n few small spelled at =
+    let below : at.place < count = at.below in
+    let above : low ≤ at.place = at.above in
+    let same : n ≡ at.place = number_same (codes "closed ") n at.place small (omega arith) (sym spelled ∙ at.is) in
+    (omega arith, omega arith)
+
+pub closed_too_low : (line : List ℕ) (low count n : ℕ) → count ≤ 16384 → n < low → (n < 2 ^ 53) × (line ≡ closed_line n) →
+    IsClosedLine low count line → ⊥
+closed_too_low line low count n few less read at =
+    let range : (low ≤ n) × (n < count) = closed_place line low count n few read.0 read.1 at in
+    absurd (omega arith)
+
+pub closed_too_far : (line : List ℕ) (low count n : ℕ) → count ≤ 16384 → count ≤ n → (n < 2 ^ 53) × (line ≡ closed_line n) →
+    IsClosedLine low count line → ⊥
+closed_too_far line low count n few more read at =
+    let range : (low ≤ n) × (n < count) = closed_place line low count n few read.0 read.1 at in
+    absurd (omega arith)
+
+pub below_more : (numbers places more : List ℕ) (i count : ℕ) → i < length numbers → get_or numbers i 0 < count →
+    (places ≡ take i numbers) × All (λ p. p < count) (take i numbers) → more ≡ places ++ (get_or numbers i 0 ∷ []) →
+    (more ≡ take (i + 1) numbers) × All (λ p. p < count) (take (i + 1) numbers)
+below_more numbers places more i count small below read pushed =
+    let P : ℕ → Type 0 = λ p. p < count in
+    let step : take (i + 1) numbers ≡ take i numbers ++ (get_or numbers i 0 ∷ []) =
+    ap (λ (j : ℕ). take j numbers) (add-one i) ∙ take-suc numbers i 0 small in (
+      pushed ∙ ap (λ (xs : List ℕ). xs ++ (get_or numbers i 0 ∷ [])) read.0 ∙ sym step,
+      subst (All P) (sym step)
+          (All-append P (take i numbers) (get_or numbers i 0 ∷ []) read.1 (All-cons P (get_or numbers i 0) [] below (All-nil P))),
+    )
+
+-- a number outside its range
+pub out_of_range : (word rest line after : List ℕ) (m low high passed : ℕ) → IsFirstLine rest line after →
+    (m < 2 ^ 53) × (line ≡ word ++ words (m ∷ [])) → high < 2 ^ 53 → ((low ≤ m) × (m ≤ high) → ⊥) →
+    Refuses (IsNumberLine (number_line word) (λ n. (low ≤ n) × (n ≤ high))) rest passed (Form (passed + 1))
+out_of_range word rest line after m low high passed first read small out = (
+  refl,
+  λ other others here good.
+      let same : line ∷ (cut_text after).lines ≡ other ∷ others = sym first.lines ∙ here in
+      let lines : line ≡ other = cc in
+      let within : good.number ≤ high = good.good.1 in
+      let numbers : m ≡ good.number =
+      number_same word m good.number read.0 (omega arith) (sym read.1 ∙ lines ∙ good.is) in
+      let above : low ≤ good.number = good.good.0 in
+      out (omega arith, omega arith),
+)

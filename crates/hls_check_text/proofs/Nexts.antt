@@ -1,0 +1,98 @@
+-- In each certificate whose text begins with the lines that a reader has passed, a line follows that may come next.
+use Rattle.std.proofs.Common.{◌≡◌, refl, ap, subst, ℕ, ◌+◌, ◌<◌, ◌≤◌, List, [], ◌∷◌, ◌++◌, length, map, All, arith, inl, inr, get_or, drop, codes, ◌⊎◌}
+use Rattle.std.proofs.lemmas.List.Elements.{All-head, All-tail}
+use Rattle.hls_check_laws.specs.declared.spot.Spot.{Spot}
+use Rattle.hls_check_laws.specs.Tables.{Table, IsTable, IsPlaceOf}
+use Rattle.hls_check_text.specs.Text.{header_line, target_line, preferred_line, renditions_line, places_line, end_line, price_line, closed_line, place_line, table_lines, Priced}
+use Rattle.hls_check_text.specs.Stages.{IsPlaceLine, IsPriceLine, IsClosedLine, past_priced, past_members}
+use Rattle.hls_check_text.proofs.Spellings.{number_same, other_first, RisesFrom, ClimbsFrom, priced_line_same}
+
+-- a line follows, and it is a good one
+abbrev pub Next : (List ℕ → Type 0) → List (List ℕ) → Type 0
+Next IsGood [] = ⊥
+Next IsGood (line ∷ more) = IsGood line
+
+-- one more place, where more places are to come than were read
+pub place_next : (renditions : ℕ) (ps qs : List (List Spot)) (tail xs : List (List ℕ)) → length qs < length ps →
+    All (IsPlaceOf renditions) ps → map place_line ps ++ tail ≡ map place_line qs ++ xs → Next (IsPlaceLine renditions) xs
+place_next renditions [] qs tail xs h good e = absurd (omega arith)
+place_next renditions (p ∷ ps) [] tail xs h good e =
+    subst (Next (IsPlaceLine renditions)) e (record { place = p; good = All-head (IsPlaceOf renditions) p ps good; is = refl })
+place_next renditions (p ∷ ps) (q ∷ qs) tail xs h good e =
+    let tails : map place_line ps ++ tail ≡ map place_line qs ++ xs = ap (drop 1) e in
+    place_next renditions ps qs tail xs (omega arith) (All-tail (IsPlaceOf renditions) p ps good) tails
+
+-- what follows places of which there are as many
+pub places_passed : (ps qs : List (List Spot)) (tail xs : List (List ℕ)) → length ps ≡ length qs →
+    map place_line ps ++ tail ≡ map place_line qs ++ xs → tail ≡ xs
+places_passed [] [] tail xs h e = e
+places_passed [] (q ∷ qs) tail xs h e = absurd (omega arith)
+places_passed (p ∷ ps) [] tail xs h e = absurd (omega arith)
+places_passed (p ∷ ps) (q ∷ qs) tail xs h e = places_passed ps qs tail xs (omega arith) (ap (drop 1) e)
+
+-- the count and the number of renditions are told by their lines
+pub counts_same : (r n r' n' : ℕ) → r ≤ 16 → n ≤ 16384 → r' ≤ 16 → n' ≤ 16384 →
+    (a b a' b' : List ℕ) (xs ys : List (List ℕ)) →
+    header_line ∷ a ∷ b ∷ renditions_line r ∷ places_line n ∷ xs ≡ header_line ∷ a' ∷ b' ∷ renditions_line r' ∷ places_line n' ∷ ys →
+    (r ≡ r') × (n ≡ n') × (xs ≡ ys)
+counts_same r n r' n' r_small n_small r'_small n'_small a b a' b' xs ys e =
+    let renditions : renditions_line r ≡ renditions_line r' = ap (λ (ls : List (List ℕ)). get_or ls 3 []) e in
+    let places : places_line n ≡ places_line n' = ap (λ (ls : List (List ℕ)). get_or ls 4 []) e in
+    let rest : xs ≡ ys = ap (drop 5) e in (
+      number_same (codes "renditions ") r r' (omega arith) (omega arith) renditions,
+      number_same (codes "places ") n n' (omega arith) (omega arith) places,
+      rest,
+    )
+
+-- what stands behind a table, told by a table that begins alike
+pub table_passed : (t u : Table) (tail xs : List (List ℕ)) → IsTable t → IsTable u →
+    table_lines t ++ tail ≡ table_lines u ++ xs → (length t.places ≡ length u.places) × (tail ≡ xs)
+unfolding table_lines
+table_passed t u tail xs t_good u_good e =
+    let told : (t.renditions ≡ u.renditions) × (length t.places ≡ length u.places) × (map place_line t.places ++ tail ≡ map place_line u.places ++ xs) =
+    counts_same t.renditions (length t.places) u.renditions (length u.places)
+    t_good.renditions.1 t_good.count.1 u_good.renditions.1 u_good.count.1
+    (target_line t.target) (preferred_line t.preferred) (target_line u.target) (preferred_line u.preferred)
+    (map place_line t.places ++ tail) (map place_line u.places ++ xs) e in
+    (told.1, places_passed t.places u.places tail xs told.1 told.2)
+
+-- one more price, or the end
+pub price_next : (k count : ℕ) (ps qs : List Priced) (xs : List (List ℕ)) → count ≤ 16384 →
+    RisesFrom k count ps → RisesFrom k count qs →
+    map price_line ps ++ (end_line ∷ []) ≡ map price_line qs ++ xs →
+    Next (λ line. (line ≡ end_line) ⊎ IsPriceLine (past_priced k qs) count line) xs
+price_next k count [] [] xs few p_rises q_rises e =
+    subst (Next (λ line. (line ≡ end_line) ⊎ IsPriceLine k count line)) e (inl refl)
+price_next k count (p ∷ ps) [] xs few p_rises q_rises e =
+    subst (Next (λ line. (line ≡ end_line) ⊎ IsPriceLine k count line)) e
+    (inr (record { priced = p; above = p_rises.0; below = p_rises.1; small = p_rises.2; is = refl }))
+price_next k count [] (q ∷ qs) xs few p_rises q_rises e =
+    absurd (other_first end_line (price_line q) (λ z. omega (arith, z)) (ap (λ (ls : List (List ℕ)). get_or ls 0 []) e))
+price_next k count (p ∷ ps) (q ∷ qs) xs few p_rises q_rises e =
+    let first : price_line p ≡ price_line q = ap (λ (ls : List (List ℕ)). get_or ls 0 []) e in
+    let p_place : p.place < count = p_rises.1 in
+    let q_place : q.place < count = q_rises.1 in
+    let same : (p.place ≡ q.place) × (p.price ≡ q.price) =
+    priced_line_same p q (omega arith) p_rises.2 (omega arith) q_rises.2 first in
+    let P : ℕ → Type 0 = λ n. RisesFrom (n + 1) count ps in
+    price_next (q.place + 1) count ps qs xs few (subst P same.0 p_rises.3) q_rises.3 (ap (drop 1) e)
+
+-- one more place of the closed set, or the end
+pub closed_next : (k count : ℕ) (ps qs : List ℕ) (xs : List (List ℕ)) → count ≤ 16384 →
+    ClimbsFrom k count ps → ClimbsFrom k count qs →
+    map closed_line ps ++ (end_line ∷ []) ≡ map closed_line qs ++ xs →
+    Next (λ line. (line ≡ end_line) ⊎ IsClosedLine (past_members k qs) count line) xs
+closed_next k count [] [] xs few p_climbs q_climbs e =
+    subst (Next (λ line. (line ≡ end_line) ⊎ IsClosedLine k count line)) e (inl refl)
+closed_next k count (p ∷ ps) [] xs few p_climbs q_climbs e =
+    subst (Next (λ line. (line ≡ end_line) ⊎ IsClosedLine k count line)) e
+    (inr (record { place = p; above = p_climbs.0; below = p_climbs.1; is = refl }))
+closed_next k count [] (q ∷ qs) xs few p_climbs q_climbs e =
+    absurd (other_first end_line (closed_line q) (λ z. omega (arith, z)) (ap (λ (ls : List (List ℕ)). get_or ls 0 []) e))
+closed_next k count (p ∷ ps) (q ∷ qs) xs few p_climbs q_climbs e =
+    let first : closed_line p ≡ closed_line q = ap (λ (ls : List (List ℕ)). get_or ls 0 []) e in
+    let p_place : p < count = p_climbs.1 in
+    let q_place : q < count = q_climbs.1 in
+    let same : p ≡ q = number_same (codes "closed ") p q (omega arith) (omega arith) first in
+    let P : ℕ → Type 0 = λ n. ClimbsFrom (n + 1) count ps in
+    closed_next (q + 1) count ps qs xs few (subst P same p_climbs.2) q_climbs.2 (ap (drop 1) e)

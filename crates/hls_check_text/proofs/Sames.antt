@@ -1,0 +1,225 @@
+-- The lines of a certificate are those of no other, and no lines go on behind them.
+use Rattle.std.proofs.Common.{◌≡◌, refl, sym, ◌∙◌, ap, ap₂, subst, ℕ, ◌+◌, ◌<◌, ◌≤◌, Bool, true, false, List, [], ◌∷◌, ◌++◌, length, map, All, arith, append_assoc, get_or, drop, codes, Option, Some, None}
+use Rattle.std.proofs.lemmas.List.Elements.{All-head, All-tail, All-cons, All-nil}
+use Rattle.std.proofs.lemmas.List.{append_cancel_left}
+use Rattle.hls_check_laws.specs.declared.spot.Spot.{Spot}
+use Rattle.hls_check_laws.specs.Tables.{Table, IsTable, IsPlaceOf}
+use Rattle.hls_check_laws.specs.Certificates.{Printed, Shown, CutShown, NoneShown, IsForm, IsCertificate}
+use Rattle.hls_text.specs.Numbers.{words, ArePrintable}
+use Rattle.hls_text.proofs.Words.{IsSmall}
+use Rattle.hls_check_text.specs.Text.{target_line, preferred_line, cut_line, none_line, end_line, price_line, closed_line, place_line, place_numbers, table_lines, shown_lines, lines, Priced, priced, priced_from, members_from}
+use Rattle.hls_check_text.specs.Stages.{printed}
+use Rattle.hls_check_text.proofs.Spellings.{words_same, number_same, other_first, numbers_printable, place_same, RisesFrom, ClimbsFrom, priced_rises, members_climb, priced_line_same}
+use Rattle.hls_check_text.proofs.Nexts.{counts_same, places_passed}
+
+pub words_all : (ms ns : List ℕ) → ArePrintable ms → ArePrintable ns → 0 < length ms → 0 < length ns →
+    words ms ≡ words ns → ms ≡ ns
+words_all [] ns ms_small ns_small some others e = absurd (omega arith)
+words_all (m ∷ ms) [] ms_small ns_small some others e = absurd (omega arith)
+words_all (m ∷ ms) (n ∷ ns) ms_small ns_small some others e = words_same m n ms ns ms_small ns_small e
+
+some_numbers : (place : List Spot) → 0 < length place → 0 < length (place_numbers place)
+unfolding place_numbers
+some_numbers [] some = absurd (omega arith)
+some_numbers (s ∷ place) some = omega arith
+
+place_line_same : (renditions : ℕ) (p q : List Spot) → 1 ≤ renditions → IsPlaceOf renditions p → IsPlaceOf renditions q →
+    place_line p ≡ place_line q → p ≡ q
+place_line_same renditions p q some p_good q_good e =
+    let p_count : length p ≡ renditions = p_good.count in
+    let q_count : length q ≡ renditions = q_good.count in
+    place_same p q (omega arith)
+    (words_all (place_numbers p) (place_numbers q) (numbers_printable p p_good.spots) (numbers_printable q q_good.spots)
+    (some_numbers p (omega arith)) (some_numbers q (omega arith)) e)
+
+places_same : (renditions : ℕ) (ps qs : List (List Spot)) (tail xs : List (List ℕ)) → 1 ≤ renditions →
+    length ps ≡ length qs → All (IsPlaceOf renditions) ps → All (IsPlaceOf renditions) qs →
+    map place_line ps ++ tail ≡ map place_line qs ++ xs → ps ≡ qs
+places_same renditions [] [] tail xs some len p_good q_good e = refl
+places_same renditions [] (q ∷ qs) tail xs some len p_good q_good e = absurd (omega arith)
+places_same renditions (p ∷ ps) [] tail xs some len p_good q_good e = absurd (omega arith)
+places_same renditions (p ∷ ps) (q ∷ qs) tail xs some len p_good q_good e =
+    ap₂ (λ (y : List Spot) (ys : List (List Spot)). y ∷ ys)
+    (place_line_same renditions p q some (All-head (IsPlaceOf renditions) p ps p_good) (All-head (IsPlaceOf renditions) q qs q_good)
+    (ap (λ (ls : List (List ℕ)). get_or ls 0 []) e))
+    (places_same renditions ps qs tail xs some (omega arith) (All-tail (IsPlaceOf renditions) p ps p_good)
+    (All-tail (IsPlaceOf renditions) q qs q_good) (ap (drop 1) e))
+
+abbrev table_with : ℕ → ℕ → ℕ → List (List Spot) → Table
+table_with t p r places = record { target = t; preferred = p; renditions = r; places = places }
+
+table_made : (t p r : ℕ) (ps : List (List Spot)) (t' p' r' : ℕ) (ps' : List (List Spot)) →
+    t ≡ t' → p ≡ p' → r ≡ r' → ps ≡ ps' → table_with t p r ps ≡ table_with t' p' r' ps'
+table_made t p r ps t' p' r' ps' a b c d = rw (a, b, c, d) refl
+
+table_same : (t u : Table) (tail xs : List (List ℕ)) → IsTable t → IsTable u →
+    table_lines t ++ tail ≡ table_lines u ++ xs → (t ≡ u) × (tail ≡ xs)
+unfolding table_lines
+table_same t u tail xs t_good u_good e =
+    let told : (t.renditions ≡ u.renditions) × (length t.places ≡ length u.places) × (map place_line t.places ++ tail ≡ map place_line u.places ++ xs) =
+    counts_same t.renditions (length t.places) u.renditions (length u.places)
+    t_good.renditions.1 t_good.count.1 u_good.renditions.1 u_good.count.1
+    (target_line t.target) (preferred_line t.preferred) (target_line u.target) (preferred_line u.preferred)
+    (map place_line t.places ++ tail) (map place_line u.places ++ xs) e in
+    let t_target : t.target ≤ 3600 = t_good.target.1 in
+    let u_target : u.target ≤ 3600 = u_good.target.1 in
+    let t_preferred : t.preferred ≤ 3600000000 = t_good.preferred.1 in
+    let u_preferred : u.preferred ≤ 3600000000 = u_good.preferred.1 in
+    let P : ℕ → Type 0 = λ r. All (IsPlaceOf r) t.places in (
+      table_made t.target t.preferred t.renditions t.places u.target u.preferred u.renditions u.places
+          (number_same (codes "target ") t.target u.target (omega arith) (omega arith) (ap (λ (ls : List (List ℕ)). get_or ls 1 []) e))
+          (number_same (codes "preferred ") t.preferred u.preferred (omega arith) (omega arith) (ap (λ (ls : List (List ℕ)). get_or ls 2 []) e))
+          told.0
+          (places_same u.renditions t.places u.places tail xs u_good.renditions.0 told.1 (subst P told.0 t_good.places) u_good.places told.2),
+      places_passed t.places u.places tail xs told.1 told.2,
+    )
+
+priced_made : (a b a' b' : ℕ) → a ≡ a' → b ≡ b' → priced a b ≡ priced a' b'
+priced_made a b a' b' p q = rw (p, q) refl
+
+-- the same prices are shown, and nothing behind them
+price_lines_same : (k count : ℕ) (ps qs : List Priced) (xs : List (List ℕ)) → count ≤ 16384 →
+    RisesFrom k count ps → RisesFrom k count qs →
+    map price_line ps ++ (end_line ∷ []) ≡ (map price_line qs ++ (end_line ∷ [])) ++ xs → (ps ≡ qs) × (xs ≡ [])
+price_lines_same k count [] [] xs few p_rises q_rises e = (refl, sym (ap (drop 1) e))
+price_lines_same k count (p ∷ ps) [] xs few p_rises q_rises e =
+    absurd (other_first end_line (price_line p) (λ z. omega (arith, z)) (sym (ap (λ (ls : List (List ℕ)). get_or ls 0 []) e)))
+price_lines_same k count [] (q ∷ qs) xs few p_rises q_rises e =
+    absurd (other_first end_line (price_line q) (λ z. omega (arith, z)) (ap (λ (ls : List (List ℕ)). get_or ls 0 []) e))
+price_lines_same k count (p ∷ ps) (q ∷ qs) xs few p_rises q_rises e =
+    let p_place : p.place < count = p_rises.1 in
+    let q_place : q.place < count = q_rises.1 in
+    let same : (p.place ≡ q.place) × (p.price ≡ q.price) =
+    priced_line_same p q (omega arith) p_rises.2 (omega arith) q_rises.2 (ap (λ (ls : List (List ℕ)). get_or ls 0 []) e) in
+    let P : ℕ → Type 0 = λ n. RisesFrom (n + 1) count ps in
+    let rest : (ps ≡ qs) × (xs ≡ []) =
+    price_lines_same (q.place + 1) count ps qs xs few (subst P same.0 p_rises.3) q_rises.3 (ap (drop 1) e) in
+    (ap₂ (λ (y : Priced) (ys : List Priced). y ∷ ys) (priced_made p.place p.price q.place q.price same.0 same.1) rest.0, rest.1)
+
+closed_lines_same : (k count : ℕ) (ps qs : List ℕ) (xs : List (List ℕ)) → count ≤ 16384 →
+    ClimbsFrom k count ps → ClimbsFrom k count qs →
+    map closed_line ps ++ (end_line ∷ []) ≡ (map closed_line qs ++ (end_line ∷ [])) ++ xs → (ps ≡ qs) × (xs ≡ [])
+closed_lines_same k count [] [] xs few p_climbs q_climbs e = (refl, sym (ap (drop 1) e))
+closed_lines_same k count (p ∷ ps) [] xs few p_climbs q_climbs e =
+    absurd (other_first end_line (closed_line p) (λ z. omega (arith, z)) (sym (ap (λ (ls : List (List ℕ)). get_or ls 0 []) e)))
+closed_lines_same k count [] (q ∷ qs) xs few p_climbs q_climbs e =
+    absurd (other_first end_line (closed_line q) (λ z. omega (arith, z)) (ap (λ (ls : List (List ℕ)). get_or ls 0 []) e))
+closed_lines_same k count (p ∷ ps) (q ∷ qs) xs few p_climbs q_climbs e =
+    let p_place : p < count = p_climbs.1 in
+    let q_place : q < count = q_climbs.1 in
+    let same : p ≡ q =
+    number_same (codes "closed ") p q (omega arith) (omega arith) (ap (λ (ls : List (List ℕ)). get_or ls 0 []) e) in
+    let P : ℕ → Type 0 = λ n. ClimbsFrom (n + 1) count ps in
+    let rest : (ps ≡ qs) × (xs ≡ []) =
+    closed_lines_same (q + 1) count ps qs xs few (subst P same p_climbs.2) q_climbs.2 (ap (drop 1) e) in
+    (ap₂ (λ (y : ℕ) (ys : List ℕ). y ∷ ys) same rest.0, rest.1)
+
+-- prices are told by the places that have one
+priced_above : (j : ℕ) (prices : List (Option ℕ)) (r : Priced) (rs : List Priced) → priced_from j prices ≡ r ∷ rs → j ≤ r.place
+unfolding priced_from
+priced_above j [] r rs e = absurd cc
+priced_above j (None ∷ prices) r rs e =
+    let above : j + 1 ≤ r.place = priced_above (j + 1) prices r rs e in
+    omega arith
+priced_above j (Some v ∷ prices) r rs e =
+    let first : priced j v ≡ r = cc in
+    let place : j ≡ r.place = ap (λ (p : Priced). p.place) first in
+    omega arith
+
+prices_same : (k : ℕ) (ps qs : List (Option ℕ)) → length ps ≡ length qs → priced_from k ps ≡ priced_from k qs → ps ≡ qs
+unfolding priced_from
+prices_same k [] [] len e = refl
+prices_same k [] (q ∷ qs) len e = absurd (omega arith)
+prices_same k (p ∷ ps) [] len e = absurd (omega arith)
+prices_same k (None ∷ ps) (None ∷ qs) len e =
+    ap (λ (ys : List (Option ℕ)). None ∷ ys) (prices_same (k + 1) ps qs (omega arith) e)
+prices_same k (None ∷ ps) (Some w ∷ qs) len e =
+    let above : k + 1 ≤ k = priced_above (k + 1) ps (priced k w) (priced_from (k + 1) qs) e in
+    absurd (omega arith)
+prices_same k (Some v ∷ ps) (None ∷ qs) len e =
+    let above : k + 1 ≤ k = priced_above (k + 1) qs (priced k v) (priced_from (k + 1) ps) (sym e) in
+    absurd (omega arith)
+prices_same k (Some v ∷ ps) (Some w ∷ qs) len e =
+    let first : priced k v ≡ priced k w = cc in
+    let price : v ≡ w = ap (λ (p : Priced). p.price) first in
+    let rest : priced_from (k + 1) ps ≡ priced_from (k + 1) qs = cc in
+    ap₂ (λ (y : ℕ) (ys : List (Option ℕ)). Some y ∷ ys) price (prices_same (k + 1) ps qs (omega arith) rest)
+
+members_above : (j : ℕ) (closed : List Bool) (r : ℕ) (rs : List ℕ) → members_from j closed ≡ r ∷ rs → j ≤ r
+unfolding members_from
+members_above j [] r rs e = absurd cc
+members_above j (false ∷ closed) r rs e =
+    let above : j + 1 ≤ r = members_above (j + 1) closed r rs e in
+    omega arith
+members_above j (true ∷ closed) r rs e =
+    let first : j ≡ r = cc in
+    omega arith
+
+closed_same : (k : ℕ) (ps qs : List Bool) → length ps ≡ length qs → members_from k ps ≡ members_from k qs → ps ≡ qs
+unfolding members_from
+closed_same k [] [] len e = refl
+closed_same k [] (q ∷ qs) len e = absurd (omega arith)
+closed_same k (p ∷ ps) [] len e = absurd (omega arith)
+closed_same k (false ∷ ps) (false ∷ qs) len e =
+    ap (λ (ys : List Bool). false ∷ ys) (closed_same (k + 1) ps qs (omega arith) e)
+closed_same k (false ∷ ps) (true ∷ qs) len e =
+    let above : k + 1 ≤ k = members_above (k + 1) ps k (members_from (k + 1) qs) e in
+    absurd (omega arith)
+closed_same k (true ∷ ps) (false ∷ qs) len e =
+    let above : k + 1 ≤ k = members_above (k + 1) qs k (members_from (k + 1) ps) (sym e) in
+    absurd (omega arith)
+closed_same k (true ∷ ps) (true ∷ qs) len e =
+    let rest : members_from (k + 1) ps ≡ members_from (k + 1) qs = cc in
+    ap (λ (ys : List Bool). true ∷ ys) (closed_same (k + 1) ps qs (omega arith) rest)
+
+pub below_small : (count : ℕ) (ps : List ℕ) → count ≤ 16384 → All (λ p. p < count) ps → ArePrintable ps
+below_small count [] few below = All-nil IsSmall
+below_small count (p ∷ ps) few below =
+    let first : p < count = All-head (λ (q : ℕ). q < count) p ps below in
+    All-cons IsSmall p ps (omega arith) (below_small count ps few (All-tail (λ (q : ℕ). q < count) p ps below))
+
+cut_made : (a : ℕ) (b : List ℕ) (c : List (Option ℕ)) (a' : ℕ) (b' : List ℕ) (c' : List (Option ℕ)) →
+    a ≡ a' → b ≡ b' → c ≡ c' → CutShown a b c ≡ CutShown a' b' c'
+cut_made a b c a' b' c' p q r = rw (p, q, r) refl
+
+-- what is shown over as many places
+pub shown_same : (count : ℕ) (s z : Shown) (xs : List (List ℕ)) → count ≤ 16384 → IsForm count s → IsForm count z →
+    shown_lines s ≡ shown_lines z ++ xs → (s ≡ z) × (xs ≡ [])
+unfolding shown_lines
+shown_same count (CutShown a plan prices) (CutShown b plan' prices') xs few s_good z_good e =
+    let p_whole : length prices ≡ count = s_good.one_each in
+    let q_whole : length prices' ≡ count = z_good.one_each in
+    let priced_same : (priced_from 0 prices ≡ priced_from 0 prices') × (xs ≡ []) =
+    price_lines_same 0 count (priced_from 0 prices) (priced_from 0 prices') xs few
+    (priced_rises 0 count prices (omega arith) s_good.prices_small)
+    (priced_rises 0 count prices' (omega arith) z_good.prices_small) (ap (drop 2) e) in
+    let plans : plan ≡ plan' =
+    words_all plan plan' (below_small count plan few s_good.in_range) (below_small count plan' few z_good.in_range)
+    s_good.not_empty z_good.not_empty
+    (append_cancel_left (codes "plan ") (words plan) (words plan') (ap (λ (ls : List (List ℕ)). get_or ls 1 []) e)) in
+    let totals : a ≡ b =
+    number_same (codes "cut ") a b s_good.total_small z_good.total_small (ap (λ (ls : List (List ℕ)). get_or ls 0 []) e) in
+    (cut_made a plan prices b plan' prices' totals plans (prices_same 0 prices prices' (omega arith) priced_same.0), priced_same.1)
+shown_same count (CutShown a plan prices) (NoneShown closed) xs few s_good z_good e =
+    absurd (other_first none_line (cut_line a) (λ z. omega (arith, z)) (sym (ap (λ (ls : List (List ℕ)). get_or ls 0 []) e)))
+shown_same count (NoneShown closed) (CutShown b plan' prices') xs few s_good z_good e =
+    absurd (other_first none_line (cut_line b) (λ z. omega (arith, z)) (ap (λ (ls : List (List ℕ)). get_or ls 0 []) e))
+shown_same count (NoneShown closed) (NoneShown closed') xs few s_good z_good e =
+    let p_whole : length closed ≡ count = s_good in
+    let q_whole : length closed' ≡ count = z_good in
+    let same : (members_from 0 closed ≡ members_from 0 closed') × (xs ≡ []) =
+    closed_lines_same 0 count (members_from 0 closed) (members_from 0 closed') xs few
+    (members_climb 0 count closed (omega arith)) (members_climb 0 count closed' (omega arith)) (ap (drop 1) e) in
+    (ap NoneShown (closed_same 0 closed closed' (omega arith) same.0), same.1)
+
+pub lines_same : (c d : Printed) (xs : List (List ℕ)) → IsCertificate c → IsCertificate d → lines c ≡ lines d ++ xs →
+    (c ≡ d) × (xs ≡ [])
+unfolding lines
+lines_same c d xs c_good d_good e =
+    let told : (c.table ≡ d.table) × (shown_lines c.shown ≡ shown_lines d.shown ++ xs) =
+    table_same c.table d.table (shown_lines c.shown) (shown_lines d.shown ++ xs) c_good.table d_good.table
+    (e ∙ append_assoc (table_lines d.table) (shown_lines d.shown) xs) in
+    let rest : (c.shown ≡ d.shown) × (xs ≡ []) =
+    shown_same (length d.table.places) c.shown d.shown xs d_good.table.count.1
+    (subst (λ (t : Table). IsForm (length t.places) c.shown) told.0 c_good.form) d_good.form told.1 in
+    (ap₂ printed told.0 rest.0, rest.1)

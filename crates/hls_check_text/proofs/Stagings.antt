@@ -1,0 +1,136 @@
+-- Each stage of reading: what follows it in every certificate that begins so.
+use Rattle.std.proofs.Common.{◌≡◌, refl, sym, ◌∙◌, ap, subst, ℕ, ◌^◌, ◌<◌, ◌≤◌, Bool, List, [], ◌∷◌, ◌++◌, length, map, All, arith, append_assoc, inl, inr, get_or, drop, Option, ◌⊎◌}
+use Rattle.hls_check_laws.specs.declared.spot.Spot.{Spot}
+use Rattle.hls_check_laws.specs.Tables.{Table, IsTable, IsPlaceOf}
+use Rattle.hls_check_laws.specs.Certificates.{Printed, Shown, CutShown, NoneShown, IsForm, IsCertificate}
+use Rattle.hls_check_text.specs.Text.{target_line, preferred_line, cut_line, none_line, end_line, plan_line, price_line, closed_line, place_line, table_lines, shown_lines, lines, priced_from, members_from}
+use Rattle.hls_check_text.specs.declared.head.Head.{Head}
+use Rattle.hls_check_text.specs.Stages.{Stage, AtHeader, AtTarget, AtPreferred, AtRenditions, AtCount, AtPlace, AtClaim, AtPlan, AtPrice, AtClosed, AtEnd, lines_of, front, IsStage, IsNext, IsNumberLine, IsPlaceLine, IsPlanLine, IsPriceLine, IsClosedLine, ArePlaces, ArePrices, IsClosing, past_priced, past_members}
+use Rattle.hls_check_text.proofs.Spellings.{other_first, priced_rises, members_climb}
+use Rattle.hls_check_text.proofs.Nexts.{Next, place_next, counts_same, table_passed, price_next, closed_next}
+
+-- a line must follow
+abbrev pub IsOpen : Stage → Type 0
+IsOpen AtHeader = Unit {0}
+IsOpen AtTarget = Unit {0}
+IsOpen (AtPreferred target) = Unit {0}
+IsOpen (AtRenditions target preferred) = Unit {0}
+IsOpen (AtCount target preferred renditions) = Unit {0}
+IsOpen (AtPlace head places) = Unit {0}
+IsOpen (AtClaim table) = Unit {0}
+IsOpen (AtPlan table total) = Unit {0}
+IsOpen (AtPrice table total plan prices) = Unit {0}
+IsOpen (AtClosed table closed) = Unit {0}
+IsOpen (AtEnd certificate) = ⊥
+
+at_place : (h : Head) (places : List (List Spot)) → ArePlaces h places → (c : Printed) → IsCertificate c →
+    (xs : List (List ℕ)) → lines c ≡ (lines_of h ++ map place_line places) ++ xs → Next (IsPlaceLine h.renditions) xs
+unfolding lines table_lines
+at_place h places good c valid xs e =
+    let told : (c.table.renditions ≡ h.renditions) × (length c.table.places ≡ h.count)
+    × (map place_line c.table.places ++ shown_lines c.shown ≡ map place_line places ++ xs) =
+    counts_same c.table.renditions (length c.table.places) h.renditions h.count
+    valid.table.renditions.1 valid.table.count.1 good.head.renditions.1 good.head.count.1
+    (target_line c.table.target) (preferred_line c.table.preferred) (target_line h.target) (preferred_line h.preferred)
+    (map place_line c.table.places ++ shown_lines c.shown) (map place_line places ++ xs) e in
+    let room : length places < h.count = good.room in
+    let P : ℕ → Type 0 = λ r. All (IsPlaceOf r) c.table.places in
+    place_next h.renditions c.table.places places (shown_lines c.shown) xs (omega arith) (subst P told.0 valid.table.places) told.2
+
+-- what a claim's first line is
+at_claim : (count : ℕ) (shown : Shown) → IsForm count shown → (xs : List (List ℕ)) → shown_lines shown ≡ xs →
+    Next (λ line. (line ≡ none_line) ⊎ IsNumberLine cut_line (λ n. n < 2 ^ 53) line) xs
+unfolding shown_lines
+at_claim count (CutShown total plan prices) form xs e =
+    subst (Next (λ line. (line ≡ none_line) ⊎ IsNumberLine cut_line (λ n. n < 2 ^ 53) line)) e
+    (inr (record { number = total; good = form.total_small; is = refl }))
+at_claim count (NoneShown closed) form xs e =
+    subst (Next (λ line. (line ≡ none_line) ⊎ IsNumberLine cut_line (λ n. n < 2 ^ 53) line)) e (inl refl)
+
+-- behind the line of a cut's cost
+at_plan : (count : ℕ) (shown : Shown) (total : ℕ) → IsForm count shown → (xs : List (List ℕ)) →
+    shown_lines shown ≡ cut_line total ∷ xs → Next (IsPlanLine count) xs
+unfolding shown_lines
+at_plan count (CutShown cost plan prices) total form xs e =
+    subst (Next (IsPlanLine count)) (ap (drop 1) e)
+    (record { plan = plan; not_empty = form.not_empty; in_range = form.in_range; is = refl })
+at_plan count (NoneShown closed) total form xs e =
+    absurd (other_first none_line (cut_line total) (λ z. omega (arith, z)) (ap (λ (ls : List (List ℕ)). get_or ls 0 []) e))
+
+-- behind the plan
+at_price : (count : ℕ) (shown : Shown) (total : ℕ) (plan : List ℕ) (prices : List (Option ℕ)) → count ≤ 16384 →
+    IsForm count shown → ArePrices count prices → (xs : List (List ℕ)) →
+    shown_lines shown ≡ cut_line total ∷ plan_line plan ∷ (map price_line (priced_from 0 prices) ++ xs) →
+    Next (λ line. (line ≡ end_line) ⊎ IsPriceLine (past_priced 0 (priced_from 0 prices)) count line) xs
+unfolding shown_lines
+at_price count (CutShown cost others all) total plan prices few form good xs e =
+    let whole : length all ≡ count = form.one_each in
+    let within : length prices ≤ count = good.within in
+    price_next 0 count (priced_from 0 all) (priced_from 0 prices) xs few
+    (priced_rises 0 count all (omega arith) form.prices_small)
+    (priced_rises 0 count prices (omega arith) good.small) (ap (drop 2) e)
+at_price count (NoneShown closed) total plan prices few form good xs e =
+    absurd (other_first none_line (cut_line total) (λ z. omega (arith, z)) (ap (λ (ls : List (List ℕ)). get_or ls 0 []) e))
+
+-- behind the line that says none
+at_closed : (count : ℕ) (shown : Shown) (closed : List Bool) → count ≤ 16384 → IsForm count shown → IsClosing count closed →
+    (xs : List (List ℕ)) → shown_lines shown ≡ none_line ∷ (map closed_line (members_from 0 closed) ++ xs) →
+    Next (λ line. (line ≡ end_line) ⊎ IsClosedLine (past_members 0 (members_from 0 closed)) count line) xs
+unfolding shown_lines
+at_closed count (CutShown cost plan prices) closed few form good xs e =
+    absurd (other_first none_line (cut_line cost) (λ z. omega (arith, z)) (sym (ap (λ (ls : List (List ℕ)). get_or ls 0 []) e)))
+at_closed count (NoneShown all) closed few form good xs e =
+    let whole : length all ≡ count = form in
+    let within : length closed ≤ count = good.within in
+    closed_next 0 count (members_from 0 all) (members_from 0 closed) xs few
+    (members_climb 0 count all (omega arith)) (members_climb 0 count closed (omega arith)) (ap (drop 1) e)
+
+-- behind a table that was read whole
+behind_table : (t : Table) → IsTable t → (c : Printed) → IsCertificate c → (front xs : List (List ℕ)) →
+    lines c ≡ (table_lines t ++ front) ++ xs →
+    (length c.table.places ≡ length t.places) × (shown_lines c.shown ≡ front ++ xs)
+unfolding lines
+behind_table t good c valid front xs e =
+    table_passed c.table t (shown_lines c.shown) (front ++ xs) valid.table good (e ∙ append_assoc (table_lines t) front xs)
+
+pub stage_next : (s : Stage) → IsOpen s → IsStage s → (c : Printed) → IsCertificate c → (xs : List (List ℕ)) →
+    lines c ≡ front s ++ xs → Next (IsNext s) xs
+unfolding lines table_lines
+stage_next AtHeader open_ good c valid xs e = subst (Next (IsNext AtHeader)) e refl
+stage_next AtTarget open_ good c valid xs e =
+    subst (Next (IsNext AtTarget)) (ap (drop 1) e) (record { number = c.table.target; good = valid.table.target; is = refl })
+stage_next (AtPreferred target) open_ good c valid xs e =
+    subst (Next (IsNext (AtPreferred target))) (ap (drop 2) e)
+    (record { number = c.table.preferred; good = valid.table.preferred; is = refl })
+stage_next (AtRenditions target preferred) open_ good c valid xs e =
+    subst (Next (IsNext (AtRenditions target preferred))) (ap (drop 3) e)
+    (record { number = c.table.renditions; good = valid.table.renditions; is = refl })
+stage_next (AtCount target preferred renditions) open_ good c valid xs e =
+    subst (Next (IsNext (AtCount target preferred renditions))) (ap (drop 4) e)
+    (record { number = length c.table.places; good = valid.table.count; is = refl })
+stage_next (AtPlace head places) open_ good c valid xs e = at_place head places good c valid xs e
+stage_next (AtClaim table) open_ good c valid xs e =
+    let told : (length c.table.places ≡ length table.places) × (shown_lines c.shown ≡ xs) =
+    table_passed c.table table (shown_lines c.shown) xs valid.table good e in
+    at_claim (length c.table.places) c.shown valid.form xs told.1
+stage_next (AtPlan table total) open_ good c valid xs e =
+    let told : (length c.table.places ≡ length table.places) × (shown_lines c.shown ≡ cut_line total ∷ xs) =
+    behind_table table good.0 c valid (cut_line total ∷ []) xs e in
+    at_plan (length table.places) c.shown total (subst (λ (n : ℕ). IsForm n c.shown) told.0 valid.form) xs told.1
+stage_next (AtPrice table total plan prices) open_ good c valid xs e =
+    let told : (length c.table.places ≡ length table.places)
+    × (shown_lines c.shown ≡ cut_line total ∷ plan_line plan ∷ (map price_line (priced_from 0 prices) ++ xs)) =
+    behind_table table good.0 c valid (cut_line total ∷ plan_line plan ∷ map price_line (priced_from 0 prices)) xs e in
+    let found : Next (λ line. (line ≡ end_line) ⊎ IsPriceLine (past_priced 0 (priced_from 0 prices)) (length table.places) line) xs =
+    at_price (length table.places) c.shown total plan prices good.0.count.1
+    (subst (λ (n : ℕ). IsForm n c.shown) told.0 valid.form) good.2 xs told.1 in
+    subst (λ (n : ℕ). Next (λ line. (line ≡ end_line) ⊎ IsPriceLine n (length table.places) line) xs) (sym good.2.just) found
+stage_next (AtClosed table closed) open_ good c valid xs e =
+    let told : (length c.table.places ≡ length table.places)
+    × (shown_lines c.shown ≡ none_line ∷ (map closed_line (members_from 0 closed) ++ xs)) =
+    behind_table table good.0 c valid (none_line ∷ map closed_line (members_from 0 closed)) xs e in
+    let found : Next (λ line. (line ≡ end_line) ⊎ IsClosedLine (past_members 0 (members_from 0 closed)) (length table.places) line) xs =
+    at_closed (length table.places) c.shown closed good.0.count.1
+    (subst (λ (n : ℕ). IsForm n c.shown) told.0 valid.form) good.1 xs told.1 in
+    subst (λ (n : ℕ). Next (λ line. (line ≡ end_line) ⊎ IsClosedLine n (length table.places) line) xs) (sym good.1.just) found
+stage_next (AtEnd certificate) open_ good c valid xs e = absurd open_

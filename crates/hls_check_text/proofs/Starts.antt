@@ -1,0 +1,215 @@
+-- Each stage of reading begins some certificate's text: what was read is completed by blank places, by no prices, or by
+-- an empty set.
+use Rattle.std.proofs.Common.{◌≡◌, refl, sym, ◌∙◌, ap, ap₂, ℕ, zero, suc, ◌+◌, ◌-◌, ◌^◌, ◌<◌, ◌≤◌, Bool, true, false, List, [], ◌∷◌, ◌++◌, length, map, All, arith, append_assoc, drop, replicate, Option, Some, None}
+use Rattle.std.proofs.lemmas.List.Elements.{All-cons, All-nil, All-append, All-replicate}
+use Rattle.std.proofs.lemmas.List.{length-append, length-replicate, map-append}
+use Rattle.hls_check_laws.specs.declared.spot.Spot.{Spot}
+use Rattle.hls_check_laws.specs.Tables.{Table, IsTable, IsSpotInRange, IsPlaceOf, no_spot}
+use Rattle.hls_check_laws.specs.Certificates.{Printed, CutShown, NoneShown, IsCertificate, IsPriceInRange}
+use Rattle.hls_check_text.specs.Text.{cut_line, none_line, plan_line, price_line, closed_line, place_line, end_line, head_lines, table_lines, shown_lines, lines, Priced, priced_from, members_from}
+use Rattle.hls_check_text.specs.Wrong.{Begins}
+use Rattle.hls_check_text.specs.declared.head.Head.{Head}
+use Rattle.hls_check_text.specs.Stages.{Stage, AtHeader, AtTarget, AtPreferred, AtRenditions, AtCount, AtPlace, AtClaim, AtPlan, AtPrice, AtClosed, AtEnd, lines_of, front, IsStage, IsHead, ArePlaces, IsPlanned, ArePrices, IsClosing, IsTarget, IsPreferred, IsRenditions}
+use Rattle.hls_check_text.proofs.Stagings.{IsOpen}
+
+abbrev blank : ℕ → List Spot
+blank renditions = replicate renditions no_spot
+
+blank_good : (renditions : ℕ) → IsPlaceOf renditions (blank renditions)
+blank_good renditions = record {
+  count = length-replicate renditions no_spot;
+  spots = All-replicate IsSpotInRange renditions no_spot
+      (record {
+        fragment_small = omega arith;
+        prev_end_small = omega arith;
+        start_small = omega arith;
+        run_in_small = omega arith;
+        run_out_small = omega arith;
+      });
+}
+
+abbrev completed : Head → List (List Spot) → Table
+completed h places = record {
+  target = h.target;
+  preferred = h.preferred;
+  renditions = h.renditions;
+  places = places ++ replicate (h.count - length places) (blank h.renditions);
+}
+
+completed_count : (h : Head) (places : List (List Spot)) → length places ≤ h.count →
+    length (places ++ replicate (h.count - length places) (blank h.renditions)) ≡ h.count
+completed_count h places room =
+    simp (length-append, length-replicate) (omega arith)
+
+completed_good : (h : Head) (places : List (List Spot)) → IsHead h → length places ≤ h.count →
+    All (IsPlaceOf h.renditions) places → IsTable (completed h places)
+completed_good h places good room each =
+    let count : length (completed h places).places ≡ h.count = completed_count h places room in
+    record {
+      target = good.target;
+      preferred = good.preferred;
+      renditions = good.renditions;
+      count = (omega (arith, good.count), omega (arith, good.count));
+      places = All-append (IsPlaceOf h.renditions) places (replicate (h.count - length places) (blank h.renditions)) each
+          (All-replicate (IsPlaceOf h.renditions) (h.count - length places) (blank h.renditions) (blank_good h.renditions));
+    }
+
+-- a table without a cut
+abbrev uncut : Table → Printed
+uncut t = record { table = t; shown = NoneShown (replicate (length t.places) false) }
+
+uncut_good : (t : Table) → IsTable t → IsCertificate (uncut t)
+uncut_good t good = record { table = good; form = length-replicate (length t.places) false }
+
+abbrev head_of : ℕ → ℕ → ℕ → Head
+head_of target preferred renditions = record { target = target; preferred = preferred; renditions = renditions; count = 2 }
+
+abbrev first_of : ℕ → ℕ → ℕ → Printed
+first_of target preferred renditions = uncut (completed (head_of target preferred renditions) [])
+
+first_good : (target preferred renditions : ℕ) → IsTarget target → IsPreferred preferred → IsRenditions renditions →
+    IsCertificate (first_of target preferred renditions)
+first_good target preferred renditions t p r =
+    uncut_good (completed (head_of target preferred renditions) [])
+    (completed_good (head_of target preferred renditions) []
+    (record { target = t; preferred = p; renditions = r; count = (omega arith, omega arith) })
+    (omega arith) (All-nil (IsPlaceOf renditions)))
+
+places_begin : (h : Head) (places : List (List Spot)) → ArePlaces h places → Begins (lines_of h ++ map place_line places)
+unfolding lines table_lines
+places_begin h places good =
+    let room : length places < h.count = good.room in
+    let count : length (completed h places).places ≡ h.count = completed_count h places (omega arith) in
+    let blanks : List (List ℕ) = map place_line (replicate (h.count - length places) (blank h.renditions)) in
+    record {
+      certificate = uncut (completed h places);
+      is_certificate = uncut_good (completed h places) (completed_good h places good.head (omega arith) good.each);
+      more = blanks ++ shown_lines (uncut (completed h places)).shown;
+      is = ap₂ (λ (n : ℕ) (xs : List (List ℕ)). head_lines h.target h.preferred h.renditions n ++ xs) count
+          (ap (λ (xs : List (List ℕ)). xs ++ shown_lines (uncut (completed h places)).shown)
+          (map-append place_line places (replicate (h.count - length places) (blank h.renditions)))
+          ∙ append_assoc (map place_line places) blanks (shown_lines (uncut (completed h places)).shown));
+    }
+
+pub unpriced : (k : ℕ) (prices : List (Option ℕ)) (n : ℕ) → priced_from k (prices ++ replicate n None) ≡ priced_from k prices
+unfolding priced_from
+unpriced k [] zero = refl
+unpriced k [] (suc n) = unpriced (k + 1) [] n
+unpriced k (None ∷ prices) n = unpriced (k + 1) prices n
+unpriced k (Some v ∷ prices) n = ap (λ (ps : List Priced). record { place = k; price = v } ∷ ps) (unpriced (k + 1) prices n)
+
+pub left_out : (k : ℕ) (closed : List Bool) (n : ℕ) → members_from k (closed ++ replicate n false) ≡ members_from k closed
+unfolding members_from
+left_out k [] zero = refl
+left_out k [] (suc n) = left_out (k + 1) [] n
+left_out k (false ∷ closed) n = left_out (k + 1) closed n
+left_out k (true ∷ closed) n = ap (λ (ps : List ℕ). k ∷ ps) (left_out (k + 1) closed n)
+
+-- a table with prices, or with a set, that are completed
+abbrev priced_out : Table → ℕ → List ℕ → List (Option ℕ) → Printed
+priced_out t total plan prices =
+    record { table = t; shown = CutShown total plan (prices ++ replicate (length t.places - length prices) None) }
+
+priced_good : (t : Table) (total : ℕ) (plan : List ℕ) (prices : List (Option ℕ)) → IsTable t →
+    IsPlanned (length t.places) total plan → length prices ≤ length t.places → All IsPriceInRange prices →
+    IsCertificate (priced_out t total plan prices)
+priced_good t total plan prices table planned within small = record {
+  table = table;
+  form = record {
+    total_small = planned.total_small;
+    not_empty = planned.not_empty;
+    in_range = planned.in_range;
+    one_each = simp (length-append, length-replicate) (omega arith);
+    prices_small = All-append IsPriceInRange prices (replicate (length t.places - length prices) None) small
+        (All-replicate IsPriceInRange (length t.places - length prices) None tt);
+  };
+}
+
+price_begins : (t : Table) (total : ℕ) (plan : List ℕ) (prices : List (Option ℕ)) → IsTable t →
+    IsPlanned (length t.places) total plan → ArePrices (length t.places) prices →
+    Begins (table_lines t ++ (cut_line total ∷ plan_line plan ∷ map price_line (priced_from 0 prices)))
+unfolding lines shown_lines
+price_begins t total plan prices table planned good = record {
+  certificate = priced_out t total plan prices;
+  is_certificate = priced_good t total plan prices table planned good.within good.small;
+  more = end_line ∷ [];
+  is =
+      ap (λ (ps : List Priced). table_lines t ++ (cut_line total ∷ plan_line plan ∷ (map price_line ps ++ (end_line ∷ []))))
+      (unpriced 0 prices (length t.places - length prices))
+      ∙ sym (append_assoc (table_lines t) (cut_line total ∷ plan_line plan ∷ map price_line (priced_from 0 prices)) (end_line ∷ []));
+}
+
+first_place : (t : Table) → IsTable t → (total : ℕ) → total < 2 ^ 53 → IsPlanned (length t.places) total (0 ∷ [])
+first_place t good total small = record {
+  total_small = small;
+  not_empty = omega arith;
+  in_range = All-cons (λ (p : ℕ). p < length t.places) 0 [] (omega (arith, good.count)) (All-nil (λ (p : ℕ). p < length t.places));
+}
+
+cost_begins : (t : Table) (total : ℕ) → IsTable t → total < 2 ^ 53 → Begins (table_lines t ++ (cut_line total ∷ []))
+unfolding lines shown_lines
+cost_begins t total good small = record {
+  certificate = priced_out t total (0 ∷ []) [];
+  is_certificate = priced_good t total (0 ∷ []) [] good (first_place t good total small) (omega arith) (All-nil IsPriceInRange);
+  more = drop 1 (shown_lines (priced_out t total (0 ∷ []) []).shown);
+  is = sym (append_assoc (table_lines t) (cut_line total ∷ []) (drop 1 (shown_lines (priced_out t total (0 ∷ []) []).shown)));
+}
+
+closed_begins : (t : Table) (closed : List Bool) → IsTable t → IsClosing (length t.places) closed →
+    Begins (table_lines t ++ (none_line ∷ map closed_line (members_from 0 closed)))
+unfolding lines shown_lines
+closed_begins t closed table good =
+    let within : length closed ≤ length t.places = good.within in
+    record {
+      certificate = record { table = t; shown = NoneShown (closed ++ replicate (length t.places - length closed) false) };
+      is_certificate = record { table = table; form = simp (length-append, length-replicate) (omega arith) };
+      more = end_line ∷ [];
+      is =
+          ap (λ (ps : List ℕ). table_lines t ++ (none_line ∷ (map closed_line ps ++ (end_line ∷ []))))
+          (left_out 0 closed (length t.places - length closed))
+          ∙ sym (append_assoc (table_lines t) (none_line ∷ map closed_line (members_from 0 closed)) (end_line ∷ []));
+    }
+
+pub stage_begins : (s : Stage) → IsOpen s → IsStage s → Begins (front s)
+unfolding lines table_lines
+stage_begins AtHeader open_ good = record {
+  certificate = first_of 1 1 1;
+  is_certificate = first_good 1 1 1 (omega arith, omega arith) (omega arith, omega arith) (omega arith, omega arith);
+  more = lines (first_of 1 1 1);
+  is = refl;
+}
+stage_begins AtTarget open_ good = record {
+  certificate = first_of 1 1 1;
+  is_certificate = first_good 1 1 1 (omega arith, omega arith) (omega arith, omega arith) (omega arith, omega arith);
+  more = drop 1 (lines (first_of 1 1 1));
+  is = refl;
+}
+stage_begins (AtPreferred target) open_ good = record {
+  certificate = first_of target 1 1;
+  is_certificate = first_good target 1 1 good (omega arith, omega arith) (omega arith, omega arith);
+  more = drop 2 (lines (first_of target 1 1));
+  is = refl;
+}
+stage_begins (AtRenditions target preferred) open_ good = record {
+  certificate = first_of target preferred 1;
+  is_certificate = first_good target preferred 1 good.0 good.1 (omega arith, omega arith);
+  more = drop 3 (lines (first_of target preferred 1));
+  is = refl;
+}
+stage_begins (AtCount target preferred renditions) open_ good = record {
+  certificate = first_of target preferred renditions;
+  is_certificate = first_good target preferred renditions good.0 good.1 good.2;
+  more = drop 4 (lines (first_of target preferred renditions));
+  is = refl;
+}
+stage_begins (AtPlace head places) open_ good = places_begin head places good
+stage_begins (AtClaim table) open_ good = record {
+  certificate = uncut table;
+  is_certificate = uncut_good table good;
+  more = shown_lines (uncut table).shown;
+  is = refl;
+}
+stage_begins (AtPlan table total) open_ good = cost_begins table total good.0 good.1
+stage_begins (AtPrice table total plan prices) open_ good = price_begins table total plan prices good.0 good.1 good.2
+stage_begins (AtClosed table closed) open_ good = closed_begins table closed good.0 good.1
+stage_begins (AtEnd certificate) open_ good = absurd open_

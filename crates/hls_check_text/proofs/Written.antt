@@ -1,0 +1,266 @@
+-- What was written, line by line.
+use Rattle.std.proofs.Common.{◌≡◌, refl, sym, ◌∙◌, ap, ℕ, ◌+◌, ◌<◌, ◌≤◌, arith, List, [], ◌∷◌, ◌++◌, length, map, drop, get_or, codes, Bool, true, false, Option, Some, None, add-one, append_assoc, append-nil}
+use Rattle.std.specs.Fmt.{decimal}
+use Rattle.std.proofs.Math.Seq.{drop-cons}
+use Rattle.std.proofs.lemmas.List.{drop_all}
+use Rattle.hls_check_laws.specs.declared.spot.Spot.{Spot}
+use Rattle.hls_check_laws.specs.Tables.{Table}
+use Rattle.hls_check_laws.specs.Certificates.{Printed, Shown, CutShown, NoneShown}
+use Rattle.hls_text.specs.Lines.{joined}
+use Rattle.hls_text.specs.Numbers.{words, spaced, number_line}
+use Rattle.hls_text.proofs.Joins.{joined-append}
+use Rattle.hls_check_text.specs.Text.{header_line, target_line, preferred_line, renditions_line, places_line, cut_line, none_line, end_line, head_lines, table_lines, shown_lines, lines, text, place_numbers, place_line, plan_line, closed_line, price_line, priced, priced_from, members_from}
+
+pub one_line : (line : List ℕ) → joined (line ∷ []) ≡ line ++ (10 ∷ [])
+unfolding joined
+one_line line = refl
+
+-- a word, and then the end of its line
+pub word_written : (old word a b : List ℕ) → a ≡ old ++ word → b ≡ a ++ (10 ∷ []) → b ≡ old ++ joined (word ∷ [])
+unfolding joined
+word_written old word a b a_is b_is = b_is ∙ ap (λ (xs : List ℕ). xs ++ (10 ∷ [])) a_is ∙ append_assoc old word (10 ∷ [])
+
+pub number_line_written : (old word : List ℕ) (n : ℕ) (a b c : List ℕ) → a ≡ old ++ word → b ≡ a ++ decimal n → c ≡ b ++ (10 ∷ []) →
+    c ≡ old ++ joined (number_line word n ∷ [])
+unfolding joined words spaced
+number_line_written old word n a b c a_is b_is c_is =
+    c_is ∙ ap (λ (xs : List ℕ). xs ++ (10 ∷ [])) (b_is ∙ ap (λ (xs : List ℕ). xs ++ decimal n) a_is)
+    ∙ simp (append_assoc, append-nil)
+
+-- five numbers, one after the other
+five_joined : (old a b c d e : List ℕ) → ((((old ++ a) ++ b) ++ c) ++ d) ++ e ≡ old ++ (a ++ (b ++ (c ++ (d ++ e))))
+five_joined old a b c d e = simp append_assoc
+
+pub spot_written : (old : List ℕ) (s : Spot) (a b c d e : List ℕ) → a ≡ old ++ (32 ∷ decimal s.fragment) → b ≡ a ++ (32 ∷ decimal s.prev_end) →
+    c ≡ b ++ (32 ∷ decimal s.start) → d ≡ c ++ (32 ∷ decimal s.run_in) → e ≡ d ++ (32 ∷ decimal s.run_out) →
+    e ≡ old ++ spaced (place_numbers (s ∷ []))
+unfolding place_numbers spaced
+spot_written old s a b c d e a_is b_is c_is d_is e_is =
+    rw (e_is, d_is, c_is, b_is, a_is)
+    (five_joined old (32 ∷ decimal s.fragment) (32 ∷ decimal s.prev_end) (32 ∷ decimal s.start) (32 ∷ decimal s.run_in) (32 ∷ decimal s.run_out)
+    ∙ ap (λ (xs : List ℕ). old ++ ((32 ∷ decimal s.fragment) ++ ((32 ∷ decimal s.prev_end) ++ ((32 ∷ decimal s.start) ++ ((32 ∷ decimal s.run_in) ++ (32 ∷ xs))))))
+    (sym (append-nil (decimal s.run_out))))
+
+pub first_spot_written : (old : List ℕ) (s : Spot) (a b c d e : List ℕ) → a ≡ old ++ decimal s.fragment → b ≡ a ++ (32 ∷ decimal s.prev_end) →
+    c ≡ b ++ (32 ∷ decimal s.start) → d ≡ c ++ (32 ∷ decimal s.run_in) → e ≡ d ++ (32 ∷ decimal s.run_out) →
+    e ≡ old ++ words (place_numbers (s ∷ []))
+unfolding place_numbers spaced words
+first_spot_written old s a b c d e a_is b_is c_is d_is e_is =
+    rw (e_is, d_is, c_is, b_is, a_is)
+    (five_joined old (decimal s.fragment) (32 ∷ decimal s.prev_end) (32 ∷ decimal s.start) (32 ∷ decimal s.run_in) (32 ∷ decimal s.run_out)
+    ∙ ap (λ (xs : List ℕ). old ++ (decimal s.fragment ++ ((32 ∷ decimal s.prev_end) ++ ((32 ∷ decimal s.start) ++ ((32 ∷ decimal s.run_in) ++ (32 ∷ xs))))))
+    (sym (append-nil (decimal s.run_out))))
+
+pub price_written : (old : List ℕ) (place price : ℕ) (a b c d : List ℕ) → a ≡ old ++ codes "price " → b ≡ a ++ decimal place →
+    c ≡ b ++ (32 ∷ decimal price) → d ≡ c ++ (10 ∷ []) → d ≡ old ++ joined (price_line (priced place price) ∷ [])
+unfolding joined words spaced
+price_written old place price a b c d a_is b_is c_is d_is =
+    rw (d_is, c_is, b_is, a_is) (simp (append_assoc, append-nil))
+
+-- the rest of a list, one element less
+dropped : {X : Type 0} (xs : List X) (i : ℕ) (d : X) → i < length xs → drop i xs ≡ get_or xs i d ∷ drop (i + 1) xs
+dropped xs i d small = drop-cons xs i d small ∙ ap (λ (j : ℕ). get_or xs i d ∷ drop j xs) (sym (add-one i))
+
+abbrev pub closed_text : ℕ → List Bool → List ℕ
+closed_text i closed = joined (map closed_line (members_from i closed))
+
+closed_cons : (i : ℕ) (b : Bool) (closed : List Bool) → closed_text i (b ∷ []) ++ closed_text (i + 1) closed ≡ closed_text i (b ∷ closed)
+unfolding joined members_from
+closed_cons i false closed = refl
+closed_cons i true closed = append_assoc (closed_line i) (10 ∷ []) (closed_text (i + 1) closed)
+
+pub closed_more : (closed : List Bool) (i : ℕ) (out new whole : List ℕ) → i < length closed →
+    new ≡ out ++ closed_text i (get_or closed i false ∷ []) → out ++ closed_text i (drop i closed) ≡ whole →
+    new ++ closed_text (i + 1) (drop (i + 1) closed) ≡ whole
+closed_more closed i out new whole small new_is left =
+    ap (λ (xs : List ℕ). xs ++ closed_text (i + 1) (drop (i + 1) closed)) new_is
+    ∙ append_assoc out (closed_text i (get_or closed i false ∷ [])) (closed_text (i + 1) (drop (i + 1) closed))
+    ∙ ap (λ (xs : List ℕ). out ++ xs)
+    (closed_cons i (get_or closed i false) (drop (i + 1) closed) ∙ ap (closed_text i) (sym (dropped closed i false small)))
+    ∙ left
+
+pub closed_done : (closed : List Bool) (i : ℕ) (out whole : List ℕ) → length closed ≤ i → out ++ closed_text i (drop i closed) ≡ whole → out ≡ whole
+unfolding joined members_from
+closed_done closed i out whole all left =
+    sym (append-nil out) ∙ ap (λ (xs : List Bool). out ++ closed_text i xs) (sym (drop_all i closed all)) ∙ left
+
+pub not_member : (out : List ℕ) (i : ℕ) (b : Bool) → b ≡ false → out ≡ out ++ closed_text i (b ∷ [])
+unfolding joined members_from
+not_member out i b e = rw e (sym (append-nil out))
+
+pub a_member : (out new : List ℕ) (i : ℕ) (b : Bool) → b ≡ true → new ≡ out ++ joined (closed_line i ∷ []) → new ≡ out ++ closed_text i (b ∷ [])
+unfolding joined members_from
+a_member out new i b e is = rw e is
+
+abbrev pub prices_text : ℕ → List (Option ℕ) → List ℕ
+prices_text i prices = joined (map price_line (priced_from i prices))
+
+prices_cons : (i : ℕ) (b : Option ℕ) (prices : List (Option ℕ)) → prices_text i (b ∷ []) ++ prices_text (i + 1) prices ≡ prices_text i (b ∷ prices)
+unfolding joined priced_from
+prices_cons i None prices = refl
+prices_cons i (Some v) prices = append_assoc (price_line (priced i v)) (10 ∷ []) (prices_text (i + 1) prices)
+
+pub prices_more : (prices : List (Option ℕ)) (i : ℕ) (out new whole : List ℕ) → i < length prices →
+    new ≡ out ++ prices_text i (get_or prices i None ∷ []) → out ++ prices_text i (drop i prices) ≡ whole →
+    new ++ prices_text (i + 1) (drop (i + 1) prices) ≡ whole
+prices_more prices i out new whole small new_is left =
+    ap (λ (xs : List ℕ). xs ++ prices_text (i + 1) (drop (i + 1) prices)) new_is
+    ∙ append_assoc out (prices_text i (get_or prices i None ∷ [])) (prices_text (i + 1) (drop (i + 1) prices))
+    ∙ ap (λ (xs : List ℕ). out ++ xs)
+    (prices_cons i (get_or prices i None) (drop (i + 1) prices) ∙ ap (prices_text i) (sym (dropped prices i None small)))
+    ∙ left
+
+pub prices_done : (prices : List (Option ℕ)) (i : ℕ) (out whole : List ℕ) → length prices ≤ i → out ++ prices_text i (drop i prices) ≡ whole → out ≡ whole
+unfolding joined priced_from
+prices_done prices i out whole all left =
+    sym (append-nil out) ∙ ap (λ (xs : List (Option ℕ)). out ++ prices_text i xs) (sym (drop_all i prices all)) ∙ left
+
+pub no_price_line : (out : List ℕ) (i : ℕ) (b : Option ℕ) → b ≡ None → out ≡ out ++ prices_text i (b ∷ [])
+unfolding joined priced_from
+no_price_line out i b e = rw e (sym (append-nil out))
+
+pub a_price_line : (out new : List ℕ) (i v : ℕ) (b : Option ℕ) → b ≡ Some v → new ≡ out ++ joined (price_line (priced i v) ∷ []) →
+    new ≡ out ++ prices_text i (b ∷ [])
+unfolding joined priced_from
+a_price_line out new i v b e is = rw e is
+
+-- a plan's numbers behind the first
+pub plan_more : (plan : List ℕ) (i : ℕ) (out new whole : List ℕ) → i < length plan → new ≡ out ++ (32 ∷ decimal (get_or plan i 0)) →
+    out ++ spaced (drop i plan) ≡ whole → new ++ spaced (drop (i + 1) plan) ≡ whole
+unfolding spaced
+plan_more plan i out new whole small new_is left =
+    ap (λ (xs : List ℕ). xs ++ spaced (drop (i + 1) plan)) new_is
+    ∙ append_assoc out (32 ∷ decimal (get_or plan i 0)) (spaced (drop (i + 1) plan))
+    ∙ ap (λ (xs : List ℕ). out ++ xs) (ap spaced (sym (dropped plan i 0 small)))
+    ∙ left
+
+spaced_spot : (s : Spot) (spots : List Spot) →
+    spaced (place_numbers (s ∷ [])) ++ spaced (place_numbers spots) ≡ spaced (place_numbers (s ∷ spots))
+unfolding spaced place_numbers
+spaced_spot s spots = simp (append_assoc, append-nil)
+
+-- a place's spots behind the first
+pub spots_more : (spots : List Spot) (i : ℕ) (d : Spot) (out new whole : List ℕ) → i < length spots →
+    new ≡ out ++ spaced (place_numbers (get_or spots i d ∷ [])) → out ++ spaced (place_numbers (drop i spots)) ≡ whole →
+    new ++ spaced (place_numbers (drop (i + 1) spots)) ≡ whole
+unfolding spaced place_numbers
+spots_more spots i d out new whole small new_is left =
+    ap (λ (xs : List ℕ). xs ++ spaced (place_numbers (drop (i + 1) spots))) new_is
+    ∙ append_assoc out (spaced (place_numbers (get_or spots i d ∷ []))) (spaced (place_numbers (drop (i + 1) spots)))
+    ∙ ap (λ (xs : List ℕ). out ++ xs)
+    (spaced_spot (get_or spots i d) (drop (i + 1) spots) ∙ ap (λ (zs : List Spot). spaced (place_numbers zs)) (sym (dropped spots i d small)))
+    ∙ left
+
+pub spots_done : (spots : List Spot) (i : ℕ) (out whole : List ℕ) → length spots ≤ i → out ++ spaced (place_numbers (drop i spots)) ≡ whole → out ≡ whole
+unfolding spaced place_numbers
+spots_done spots i out whole all left =
+    sym (append-nil out) ∙ ap (λ (xs : List Spot). out ++ spaced (place_numbers xs)) (sym (drop_all i spots all)) ∙ left
+
+pub plan_done : (plan : List ℕ) (i : ℕ) (out whole : List ℕ) → length plan ≤ i → out ++ spaced (drop i plan) ≡ whole → out ≡ whole
+unfolding spaced
+plan_done plan i out whole all left =
+    sym (append-nil out) ∙ ap (λ (xs : List ℕ). out ++ spaced xs) (sym (drop_all i plan all)) ∙ left
+
+-- a plan's whole line
+pub plan_written : (old plan a b c d : List ℕ) → 0 < length plan → a ≡ old ++ codes "plan " → b ≡ a ++ decimal (get_or plan 0 0) →
+    c ≡ b ++ spaced (drop 1 plan) → d ≡ c ++ (10 ∷ []) → d ≡ old ++ joined (plan_line plan ∷ [])
+unfolding joined words
+plan_written old [] a b c d some a_is b_is c_is d_is = absurd (omega arith)
+plan_written old (p ∷ plan) a b c d some a_is b_is c_is d_is =
+    rw (d_is, c_is, b_is, a_is)
+    (append_assoc ((old ++ codes "plan ") ++ decimal p) (spaced plan) (10 ∷ [])
+    ∙ append_assoc (old ++ codes "plan ") (decimal p) (spaced plan ++ (10 ∷ []))
+    ∙ append_assoc old (codes "plan ") (decimal p ++ (spaced plan ++ (10 ∷ [])))
+    ∙ ap (λ (xs : List ℕ). old ++ (codes "plan " ++ xs)) (sym (append_assoc (decimal p) (spaced plan) (10 ∷ [])))
+    ∙ ap (λ (xs : List ℕ). old ++ xs) (sym (append_assoc (codes "plan ") (decimal p ++ spaced plan) (10 ∷ []))))
+
+five_then : (a b c d e xs : List ℕ) → (a ++ (b ++ (c ++ (d ++ e)))) ++ xs ≡ a ++ (b ++ (c ++ (d ++ (e ++ xs))))
+five_then a b c d e xs = simp append_assoc
+
+four_more : (s : Spot) (xs : List ℕ) → words (place_numbers (s ∷ [])) ++ xs ≡
+    decimal s.fragment ++ (32 ∷ (decimal s.prev_end ++ (32 ∷ (decimal s.start ++ (32 ∷ (decimal s.run_in ++ (32 ∷ (decimal s.run_out ++ xs))))))))
+unfolding words spaced place_numbers
+four_more s xs =
+    five_then (decimal s.fragment) (32 ∷ decimal s.prev_end) (32 ∷ decimal s.start) (32 ∷ decimal s.run_in) (32 ∷ (decimal s.run_out ++ [])) xs
+    ∙ ap (λ (ys : List ℕ). decimal s.fragment ++ (32 ∷ (decimal s.prev_end ++ (32 ∷ (decimal s.start ++ (32 ∷ (decimal s.run_in ++ (32 ∷ (ys ++ xs)))))))))
+    (append-nil (decimal s.run_out))
+
+spots_parts : (old : List ℕ) (s : Spot) (others : List Spot) →
+    (old ++ words (place_numbers (s ∷ []))) ++ spaced (place_numbers others) ≡ old ++ words (place_numbers (s ∷ others))
+unfolding words spaced place_numbers
+spots_parts old s others =
+    append_assoc old (words (place_numbers (s ∷ []))) (spaced (place_numbers others))
+    ∙ ap (λ (xs : List ℕ). old ++ xs) (four_more s (spaced (place_numbers others)))
+
+pub spots_written : (old : List ℕ) (spots : List Spot) (d : Spot) (a b : List ℕ) → 0 < length spots →
+    a ≡ old ++ words (place_numbers (get_or spots 0 d ∷ [])) → b ≡ a ++ spaced (place_numbers (drop 1 spots)) →
+    b ≡ old ++ words (place_numbers spots)
+spots_written old [] d a b some a_is b_is = absurd (omega arith)
+spots_written old (s ∷ spots) d a b some a_is b_is =
+    b_is ∙ ap (λ (xs : List ℕ). xs ++ spaced (place_numbers spots)) a_is ∙ spots_parts old s spots
+
+pub no_spots : (out : List ℕ) (spots : List Spot) → length spots ≡ 0 → out ≡ out ++ words (place_numbers spots)
+unfolding words place_numbers
+no_spots out [] none = sym (append-nil out)
+no_spots out (s ∷ spots) none = absurd (omega arith)
+
+-- lines one after the other
+pub lines_more : (old a b : List ℕ) (xs ys : List (List ℕ)) → a ≡ old ++ joined xs → b ≡ a ++ joined ys → b ≡ old ++ joined (xs ++ ys)
+lines_more old a b xs ys a_is b_is =
+    b_is ∙ ap (λ (zs : List ℕ). zs ++ joined ys) a_is ∙ append_assoc old (joined xs) (joined ys)
+    ∙ ap (λ (zs : List ℕ). old ++ zs) (sym (joined-append xs ys))
+
+-- places' lines
+pub places_more : (places : List (List Spot)) (i : ℕ) (place : List Spot) (out new whole : List ℕ) → i < length places →
+    place ≡ get_or places i place → new ≡ out ++ joined (place_line place ∷ []) → out ++ joined (map place_line (drop i places)) ≡ whole →
+    new ++ joined (map place_line (drop (i + 1) places)) ≡ whole
+unfolding joined
+places_more places i place out new whole small is new_is left =
+    let first : drop i places ≡ place ∷ drop (i + 1) places =
+    dropped places i place small ∙ ap (λ (p : List Spot). p ∷ drop (i + 1) places) (sym is) in
+    ap (λ (xs : List ℕ). xs ++ joined (map place_line (drop (i + 1) places))) new_is
+    ∙ append_assoc out (place_line place ++ (10 ∷ [])) (joined (map place_line (drop (i + 1) places)))
+    ∙ ap (λ (xs : List ℕ). out ++ xs)
+    (append_assoc (place_line place) (10 ∷ []) (joined (map place_line (drop (i + 1) places)))
+    ∙ ap (λ (ps : List (List Spot)). joined (map place_line ps)) (sym first))
+    ∙ left
+
+pub places_done : (places : List (List Spot)) (i : ℕ) (out whole : List ℕ) → length places ≤ i →
+    out ++ joined (map place_line (drop i places)) ≡ whole → out ≡ whole
+unfolding joined
+places_done places i out whole all left =
+    sym (append-nil out) ∙ ap (λ (ps : List (List Spot)). out ++ joined (map place_line ps)) (sym (drop_all i places all)) ∙ left
+
+-- the parts of a certificate
+pub cut_written : (old : List ℕ) (cost : ℕ) (plan : List ℕ) (prices : List (Option ℕ)) (a b c d : List ℕ) →
+    a ≡ old ++ joined (cut_line cost ∷ []) → b ≡ a ++ joined (plan_line plan ∷ []) → c ≡ b ++ joined (map price_line (priced_from 0 prices)) →
+    d ≡ c ++ joined (end_line ∷ []) → d ≡ old ++ joined (shown_lines (CutShown cost plan prices))
+unfolding shown_lines
+cut_written old cost plan prices a b c d a_is b_is c_is d_is =
+    lines_more old c d (cut_line cost ∷ plan_line plan ∷ map price_line (priced_from 0 prices)) (end_line ∷ [])
+    (lines_more old b c (cut_line cost ∷ plan_line plan ∷ []) (map price_line (priced_from 0 prices))
+    (lines_more old a b (cut_line cost ∷ []) (plan_line plan ∷ []) a_is b_is) c_is) d_is
+
+pub none_written : (old : List ℕ) (closed : List Bool) (a b c : List ℕ) → a ≡ old ++ joined (none_line ∷ []) →
+    b ≡ a ++ joined (map closed_line (members_from 0 closed)) → c ≡ b ++ joined (end_line ∷ []) → c ≡ old ++ joined (shown_lines (NoneShown closed))
+unfolding shown_lines
+none_written old closed a b c a_is b_is c_is =
+    lines_more old b c (none_line ∷ map closed_line (members_from 0 closed)) (end_line ∷ [])
+    (lines_more old a b (none_line ∷ []) (map closed_line (members_from 0 closed)) a_is b_is) c_is
+
+pub table_written : (old : List ℕ) (t : Table) (a b c d e f : List ℕ) → a ≡ old ++ joined (header_line ∷ []) →
+    b ≡ a ++ joined (target_line t.target ∷ []) → c ≡ b ++ joined (preferred_line t.preferred ∷ []) →
+    d ≡ c ++ joined (renditions_line t.renditions ∷ []) → e ≡ d ++ joined (places_line (length t.places) ∷ []) →
+    f ≡ e ++ joined (map place_line t.places) → f ≡ old ++ joined (table_lines t)
+unfolding table_lines
+table_written old t a b c d e f a_is b_is c_is d_is e_is f_is =
+    lines_more old e f (head_lines t.target t.preferred t.renditions (length t.places)) (map place_line t.places)
+    (lines_more old d e (header_line ∷ target_line t.target ∷ preferred_line t.preferred ∷ renditions_line t.renditions ∷ []) (places_line (length t.places) ∷ [])
+    (lines_more old c d (header_line ∷ target_line t.target ∷ preferred_line t.preferred ∷ []) (renditions_line t.renditions ∷ [])
+    (lines_more old b c (header_line ∷ target_line t.target ∷ []) (preferred_line t.preferred ∷ [])
+    (lines_more old a b (header_line ∷ []) (target_line t.target ∷ []) a_is b_is) c_is) d_is) e_is) f_is
+
+pub text_written : (c : Printed) (s : Shown) (a b : List ℕ) → c.shown ≡ s → a ≡ joined (table_lines c.table) → b ≡ a ++ joined (shown_lines s) → b ≡ text c
+unfolding text lines
+text_written c s a b is a_is b_is =
+    lines_more [] a b (table_lines c.table) (shown_lines s) a_is b_is ∙ ap (λ (z : Shown). joined (table_lines c.table ++ shown_lines z)) (sym is)

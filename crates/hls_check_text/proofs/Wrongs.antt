@@ -1,0 +1,360 @@
+-- A reader that stops has met the first wrong line; a certificate's text has none.
+use Rattle.std.proofs.Common.{◌≡◌, refl, sym, ◌∙◌, ap, ap₂, subst, ℕ, ◌+◌, ◌^◌, ◌<◌, ◌≤◌, List, [], ◌∷◌, ◌++◌, length, map, drop, All, arith, append_assoc, append-nil, codes, Result, Ok, Err, inl, inr}
+use Rattle.std.proofs.lemmas.Bool.{cases_order}
+use Rattle.std.proofs.lemmas.List.Elements.{All-head, All-tail, All-cons, All-nil, All-append}
+use Rattle.std.proofs.lemmas.List.{length-append, length-map, map-append}
+use Rattle.hls_check_laws.specs.declared.spot.Spot.{Spot}
+use Rattle.hls_check_laws.specs.declared.cert_fault.CertFault.{CertFault}
+use Rattle.hls_check_laws.specs.declared.cert_fault.CertFault.TheVariants.{Form, TableNotSorted, PlanEnds, PlanStep, PlanCost, PriceStart, PriceStep, EndReached, Memory}
+use Rattle.hls_check_laws.specs.Tables.{IsPlaceOf}
+use Rattle.hls_check_laws.specs.Certificates.{Printed, Shown, CutShown, NoneShown, IsForm, IsCertificate}
+use Rattle.hls_text.specs.Lines.{cut_text, joined, IsFirstLine}
+use Rattle.hls_text.specs.Numbers.{words}
+use Rattle.hls_text.proofs.Words.{IsSmall}
+use Rattle.hls_text.proofs.Joins.{IsClean, clean-append, clean_words, lines_of_joined, tail_of_joined, joined_lines}
+use Rattle.hls_check_text.specs.Text.{header_line, target_line, preferred_line, renditions_line, places_line, cut_line, none_line, end_line, plan_line, price_line, closed_line, place_line, place_numbers, head_lines, table_lines, shown_lines, lines, text, Priced, priced_from, members_from}
+use Rattle.hls_check_text.specs.Wrong.{IsFirstWrong, IsReading, Gives}
+use Rattle.hls_check_text.specs.declared.head.Head.{Head}
+use Rattle.hls_check_text.specs.Stages.{Stage, AtHeader, AtTarget, AtPreferred, AtRenditions, AtCount, AtPlace, AtClaim, AtEnd, front, IsStage, IsNext, IsAt, Refuses, IsHead, lines_of, table_of}
+use Rattle.hls_check_text.proofs.Spellings.{one_small, numbers_printable, RisesFrom, ClimbsFrom, priced_rises, members_climb}
+use Rattle.hls_check_text.proofs.Nexts.{Next}
+use Rattle.hls_check_text.proofs.Stagings.{IsOpen, stage_next}
+use Rattle.hls_check_text.proofs.Starts.{stage_begins}
+use Rattle.hls_check_text.proofs.Sames.{lines_same, below_small}
+
+clean_number : (word : List ℕ) (n : ℕ) → IsClean word → n < 2 ^ 53 → IsClean (word ++ words (n ∷ []))
+clean_number word n clean small = clean-append word (words (n ∷ [])) clean (clean_words (n ∷ []) (one_small n small))
+
+clean_places : (renditions : ℕ) (places : List (List Spot)) → All (IsPlaceOf renditions) places → All IsClean (map place_line places)
+clean_places renditions [] good = All-nil IsClean
+clean_places renditions (p ∷ places) good =
+    let first : IsPlaceOf renditions p = All-head (IsPlaceOf renditions) p places good in
+    All-cons IsClean (place_line p) (map place_line places)
+    (clean_words (place_numbers p) (numbers_printable p first.spots))
+    (clean_places renditions places (All-tail (IsPlaceOf renditions) p places good))
+
+clean_prices : (k count : ℕ) (ps : List Priced) → count ≤ 16384 → RisesFrom k count ps → All IsClean (map price_line ps)
+clean_prices k count [] few rises = All-nil IsClean
+clean_prices k count (p ∷ ps) few rises =
+    let place : p.place < count = rises.1 in
+    All-cons IsClean (price_line p) (map price_line ps)
+    (clean-append (codes "price ") (words (p.place ∷ p.price ∷ [])) refl
+    (clean_words (p.place ∷ p.price ∷ [])
+    (All-cons IsSmall p.place (p.price ∷ []) (omega arith) (one_small p.price rises.2))))
+    (clean_prices (p.place + 1) count ps few rises.3)
+
+clean_closed : (k count : ℕ) (ps : List ℕ) → count ≤ 16384 → ClimbsFrom k count ps → All IsClean (map closed_line ps)
+clean_closed k count [] few climbs = All-nil IsClean
+clean_closed k count (p ∷ ps) few climbs =
+    let place : p < count = climbs.1 in
+    All-cons IsClean (closed_line p) (map closed_line ps)
+    (clean_number (codes "closed ") p refl (omega arith))
+    (clean_closed (p + 1) count ps few climbs.2)
+
+clean_end : All IsClean (end_line ∷ [])
+clean_end = All-cons IsClean end_line [] refl (All-nil IsClean)
+
+clean_shown : (count : ℕ) (shown : Shown) → count ≤ 16384 → IsForm count shown → All IsClean (shown_lines shown)
+unfolding shown_lines
+clean_shown count (CutShown total plan prices) few form =
+    let whole : length prices ≡ count = form.one_each in
+    let priced_lines : List (List ℕ) = map price_line (priced_from 0 prices) in
+    All-cons IsClean (cut_line total) (plan_line plan ∷ (priced_lines ++ (end_line ∷ [])))
+    (clean_number (codes "cut ") total refl form.total_small)
+    (All-cons IsClean (plan_line plan) (priced_lines ++ (end_line ∷ []))
+    (clean-append (codes "plan ") (words plan) refl (clean_words plan (below_small count plan few form.in_range)))
+    (All-append IsClean priced_lines (end_line ∷ [])
+    (clean_prices 0 count (priced_from 0 prices) few (priced_rises 0 count prices (omega arith) form.prices_small))
+    clean_end))
+clean_shown count (NoneShown closed) few form =
+    let whole : length closed ≡ count = form in
+    let members : List (List ℕ) = map closed_line (members_from 0 closed) in
+    All-cons IsClean none_line (members ++ (end_line ∷ [])) refl
+    (All-append IsClean members (end_line ∷ [])
+    (clean_closed 0 count (members_from 0 closed) few (members_climb 0 count closed (omega arith)))
+    clean_end)
+
+clean_heads : (t p r n : ℕ) → t ≤ 3600 → p ≤ 3600000000 → r ≤ 16 → n ≤ 16384 → All IsClean (head_lines t p r n)
+clean_heads t p r n t_small p_small r_small n_small =
+    All-cons IsClean header_line (drop 1 (head_lines t p r n)) refl
+    (All-cons IsClean (codes "target " ++ words (t ∷ [])) (drop 2 (head_lines t p r n)) (clean_number (codes "target ") t refl (omega arith))
+    (All-cons IsClean (codes "preferred " ++ words (p ∷ [])) (drop 3 (head_lines t p r n)) (clean_number (codes "preferred ") p refl (omega arith))
+    (All-cons IsClean (codes "renditions " ++ words (r ∷ [])) (drop 4 (head_lines t p r n)) (clean_number (codes "renditions ") r refl (omega arith))
+    (All-cons IsClean (codes "places " ++ words (n ∷ [])) [] (clean_number (codes "places ") n refl (omega arith)) (All-nil IsClean)))))
+
+pub clean_lines : (c : Printed) → IsCertificate c → All IsClean (lines c)
+unfolding lines table_lines
+clean_lines c good =
+    All-append IsClean
+    (head_lines c.table.target c.table.preferred c.table.renditions (length c.table.places) ++ map place_line c.table.places)
+    (shown_lines c.shown)
+    (All-append IsClean (head_lines c.table.target c.table.preferred c.table.renditions (length c.table.places)) (map place_line c.table.places)
+    (clean_heads c.table.target c.table.preferred c.table.renditions (length c.table.places) good.table.target.1 good.table.preferred.1
+    good.table.renditions.1 good.table.count.1)
+    (clean_places c.table.renditions c.table.places good.table.places))
+    (clean_shown (length c.table.places) c.shown good.table.count.1 good.form)
+
+-- the lines of a certificate's text are its lines, and nothing stands behind them
+pub cut_of_text : (c : Printed) (bytes : List ℕ) → IsCertificate c → bytes ≡ text c →
+    ((cut_text bytes).lines ≡ lines c) × ((cut_text bytes).tail ≡ [])
+unfolding text
+cut_of_text c bytes good e =
+    rw e (lines_of_joined (lines c) (clean_lines c good), tail_of_joined (lines c) (clean_lines c good))
+
+-- and so the other way round
+pub text_of_cut : (c : Printed) (bytes : List ℕ) → (cut_text bytes).lines ≡ lines c → (cut_text bytes).tail ≡ [] → bytes ≡ text c
+unfolding text
+text_of_cut c bytes lines_is tail_is =
+    joined_lines bytes ∙ ap₂ (λ (ls : List (List ℕ)) (xs : List ℕ). joined ls ++ xs) lines_is tail_is ∙ append-nil (joined (lines c))
+
+no_next : (IsGood : List ℕ → Type 0) (ls : List (List ℕ)) →
+    ((line : List ℕ) (after : List (List ℕ)) → ls ≡ line ∷ after → IsGood line → ⊥) → Next IsGood ls → ⊥
+no_next IsGood [] none next = next
+no_next IsGood (line ∷ after) none next = none line after refl next
+
+-- the line that a reader refuses is the first wrong one
+pub first_wrong : (s : Stage) → IsOpen s → (bytes rest : List ℕ) (passed : ℕ) → IsAt s bytes rest passed →
+    ((line : List ℕ) (after : List (List ℕ)) → (cut_text rest).lines ≡ line ∷ after → IsNext s line → ⊥) →
+    IsFirstWrong bytes (passed + 1)
+first_wrong s open_ bytes rest passed at none = record {
+  before = front s;
+  rest = (cut_text rest).lines;
+  is = at.lines;
+  number = ap (λ (n : ℕ). n + 1) at.count;
+  begins = stage_begins s open_ at.is_stage;
+  wrong = λ line after here begun.
+      none line after here
+      (stage_next s open_ at.is_stage begun.certificate begun.is_certificate (line ∷ begun.more)
+      (begun.is ∙ append_assoc (front s) (line ∷ []) begun.more));
+  no_text = λ c good e.
+      no_next (IsNext s) (cut_text rest).lines none
+      (stage_next s open_ at.is_stage c good (cut_text rest).lines (sym (cut_of_text c bytes good e).0 ∙ at.lines));
+}
+
+-- a reader stops at a line
+pub stops : (s : Stage) → IsOpen s → (bytes rest : List ℕ) (passed : ℕ) → IsAt s bytes rest passed → (fault : CertFault) →
+    Refuses (IsNext s) rest passed fault → IsReading bytes (Err fault)
+stops s open_ bytes rest passed at (Form n) refused =
+    subst (IsFirstWrong bytes) (sym refused.0) (first_wrong s open_ bytes rest passed at refused.1)
+stops s open_ bytes rest passed at Memory refused = tt
+stops s open_ bytes rest passed at (TableNotSorted place) refused = absurd refused
+stops s open_ bytes rest passed at PlanEnds refused = absurd refused
+stops s open_ bytes rest passed at (PlanStep p q) refused = absurd refused
+stops s open_ bytes rest passed at PlanCost refused = absurd refused
+stops s open_ bytes rest passed at PriceStart refused = absurd refused
+stops s open_ bytes rest passed at (PriceStep p q) refused = absurd refused
+stops s open_ bytes rest passed at EndReached refused = absurd refused
+
+-- at the end nothing may follow
+pub is_whole : (c : Printed) (bytes rest : List ℕ) (passed : ℕ) → IsAt (AtEnd c) bytes rest passed → length rest ≡ 0 → bytes ≡ text c
+unfolding cut_text
+is_whole c bytes [] passed at ended = text_of_cut c bytes (at.lines ∙ append-nil (lines c)) at.tail
+is_whole c bytes (b ∷ rest) passed at ended = absurd (omega arith)
+
+empty_text : (rest : List ℕ) → (cut_text rest).lines ≡ [] → (cut_text rest).tail ≡ [] → rest ≡ []
+unfolding joined
+empty_text rest lines_is tail_is =
+    joined_lines rest ∙ ap₂ (λ (ls : List (List ℕ)) (xs : List ℕ). joined ls ++ xs) lines_is tail_is
+
+pub wrong_behind : (c : Printed) (bytes rest : List ℕ) (passed : ℕ) → IsAt (AtEnd c) bytes rest passed → 0 < length rest →
+    IsFirstWrong bytes (passed + 1)
+wrong_behind c bytes rest passed at some = record {
+  before = lines c;
+  rest = (cut_text rest).lines;
+  is = at.lines;
+  number = ap (λ (n : ℕ). n + 1) at.count;
+  begins = record { certificate = c; is_certificate = at.is_stage; more = []; is = sym (append-nil (lines c)) };
+  wrong = λ line after here begun.
+      let same : (begun.certificate ≡ c) × (line ∷ begun.more ≡ []) =
+      lines_same begun.certificate c (line ∷ begun.more) begun.is_certificate at.is_stage
+      (begun.is ∙ append_assoc (lines c) (line ∷ []) begun.more) in
+      let none : line ∷ begun.more ≡ [] = same.1 in
+      absurd cc;
+  no_text = λ d good e.
+      let cut : ((cut_text bytes).lines ≡ lines d) × ((cut_text bytes).tail ≡ []) = cut_of_text d bytes good e in
+      let same : (d ≡ c) × ((cut_text rest).lines ≡ []) =
+      lines_same d c (cut_text rest).lines good at.is_stage (sym cut.0 ∙ at.lines) in
+      let nothing : rest ≡ [] = empty_text rest same.1 (sym at.tail ∙ cut.1) in
+      let len : length rest ≡ 0 = ap length nothing in
+      absurd (omega arith);
+}
+
+-- a good line more
+pub at_next : (s r : Stage) (bytes rest line after : List ℕ) (passed : ℕ) → IsAt s bytes rest passed → IsFirstLine rest line after →
+    IsStage r → front r ≡ front s ++ (line ∷ []) → IsAt r bytes after (passed + 1)
+at_next s r bytes rest line after passed at first good longer = record {
+  is_stage = good;
+  lines = at.lines ∙ ap (λ (ls : List (List ℕ)). front s ++ ls) first.lines
+      ∙ sym (append_assoc (front s) (line ∷ []) (cut_text after).lines)
+      ∙ ap (λ (ls : List (List ℕ)). ls ++ (cut_text after).lines) (sym longer);
+  tail = at.tail ∙ first.tail;
+  count = ap (λ (n : ℕ). n + 1) at.count ∙ sym (length-append (front s) (line ∷ [])) ∙ ap length (sym longer);
+}
+
+pub at_start : (bytes : List ℕ) → IsAt AtHeader bytes bytes 0
+at_start bytes = record { is_stage = tt; lines = refl; tail = refl; count = refl }
+
+-- the laws
+pub text_is_told : (c d : Printed) → IsCertificate c → IsCertificate d → text c ≡ text d → c ≡ d
+text_is_told c d c_good d_good e =
+    let here : ((cut_text (text c)).lines ≡ lines c) × ((cut_text (text c)).tail ≡ []) = cut_of_text c (text c) c_good refl in
+    let there : ((cut_text (text c)).lines ≡ lines d) × ((cut_text (text c)).tail ≡ []) = cut_of_text d (text c) d_good e in
+    (lines_same c d [] c_good d_good (sym here.0 ∙ there.0 ∙ sym (append-nil (lines d)))).0
+
+pub gives : (bytes : List ℕ) (c : Printed) (result : Result Printed CertFault) → IsReading bytes result → IsCertificate c →
+    bytes ≡ text c → Gives c result
+gives bytes c (Ok d) reading good e = text_is_told d c reading.0 good (sym reading.1 ∙ e)
+gives bytes c (Err (Form n)) reading good e = reading.no_text c good e
+gives bytes c (Err Memory) reading good e = tt
+gives bytes c (Err (TableNotSorted place)) reading good e = absurd reading
+gives bytes c (Err PlanEnds) reading good e = absurd reading
+gives bytes c (Err (PlanStep p q)) reading good e = absurd reading
+gives bytes c (Err PlanCost) reading good e = absurd reading
+gives bytes c (Err PriceStart) reading good e = absurd reading
+gives bytes c (Err (PriceStep p q)) reading good e = absurd reading
+gives bytes c (Err EndReached) reading good e = absurd reading
+
+-- of two cuts of one list the longer goes on with the next element
+record Longer (before rest longer : List (List ℕ)) : Type 0 where
+  line : List ℕ
+  after : List (List ℕ)
+  more : List (List ℕ)
+  rest_is : rest ≡ line ∷ after
+  longer_is : longer ≡ before ++ (line ∷ more)
+
+longer_cut : (before rest longer others : List (List ℕ)) → length before < length longer →
+    before ++ rest ≡ longer ++ others → Longer before rest longer
+longer_cut [] rest [] others h e = absurd (omega arith)
+longer_cut [] rest (line ∷ longer) others h e =
+    record { line = line; after = longer ++ others; more = longer; rest_is = e; longer_is = refl }
+longer_cut (x ∷ before) rest [] others h e = absurd (omega arith)
+longer_cut (x ∷ before) rest (y ∷ longer) others h e =
+    let tails : before ++ rest ≡ longer ++ others = ap (drop 1) e in
+    let first : x ≡ y = cc in
+    let next : Longer before rest longer = longer_cut before rest longer others (omega arith) tails in
+    record {
+      line = next.line;
+      after = next.after;
+      more = next.more;
+      rest_is = next.rest_is;
+      longer_is = ap₂ (λ (z : List ℕ) (zs : List (List ℕ)). z ∷ zs) (sym first) next.longer_is;
+    }
+
+split : (xs : List (List ℕ)) (x : List ℕ) (ys zs : List (List ℕ)) → (xs ++ (x ∷ ys)) ++ zs ≡ (xs ++ (x ∷ [])) ++ (ys ++ zs)
+split xs x ys zs = simp append_assoc
+
+none_before : (bytes : List ℕ) (m n : ℕ) (a : IsFirstWrong bytes m) (b : IsFirstWrong bytes n) →
+    length a.before < length b.before → ⊥
+none_before bytes m n a b h =
+    let next : Longer a.before a.rest b.before = longer_cut a.before a.rest b.before b.rest h (sym a.is ∙ b.is) in
+    a.wrong next.line next.after next.rest_is
+    (record {
+      certificate = b.begins.certificate;
+      is_certificate = b.begins.is_certificate;
+      more = next.more ++ b.begins.more;
+      is = b.begins.is ∙ ap (λ (ls : List (List ℕ)). ls ++ b.begins.more) next.longer_is ∙ split a.before next.line next.more b.begins.more;
+    })
+
+pub wrong_is_one : (bytes : List ℕ) (m n : ℕ) → IsFirstWrong bytes m → IsFirstWrong bytes n → m ≡ n
+wrong_is_one bytes m n a b =
+    elim (cases_order (length a.before) (length b.before)) [
+      | inl same ↦ a.number ∙ ap (λ (k : ℕ). k + 1) same ∙ sym b.number
+      | inr other ↦
+          elim other [
+            | inl less ↦ absurd (none_before bytes m n a b less)
+            | inr more ↦ absurd (none_before bytes n m b a more)
+          ]
+    ]
+
+-- places that were read one after the other
+pub record PlacesRead (h : Head) (text : List ℕ) (places : List (List Spot)) (rest : List ℕ) (p : ℕ) : Type 0 where
+  pub count : length places ≡ p
+  pub good : All (IsPlaceOf h.renditions) places
+  pub shorter : p + length rest ≤ length text
+  pub lines : (cut_text text).lines ≡ map place_line places ++ (cut_text rest).lines
+  pub tail : (cut_text text).tail ≡ (cut_text rest).tail
+
+pub no_place_read : (h : Head) (text : List ℕ) → PlacesRead h text [] text 0
+no_place_read h text = record { count = refl; good = All-nil (IsPlaceOf h.renditions); shorter = omega arith; lines = refl; tail = refl }
+
+pub place_more : (h : Head) (text : List ℕ) (places : List (List Spot)) (rest : List ℕ) (p : ℕ) (place : List Spot) (after : List ℕ) →
+    PlacesRead h text places rest p → IsPlaceOf h.renditions place → IsFirstLine rest (place_line place) after → length after < length rest →
+    PlacesRead h text (places ++ (place ∷ [])) after (p + 1)
+place_more h text places rest p place after read good first shorter =
+    let before : p + length rest ≤ length text = read.shorter in
+    record {
+      count = length-append places (place ∷ []) ∙ ap (λ (n : ℕ). n + 1) read.count;
+      good = All-append (IsPlaceOf h.renditions) places (place ∷ []) read.good
+          (All-cons (IsPlaceOf h.renditions) place [] good (All-nil (IsPlaceOf h.renditions)));
+      shorter = omega arith;
+      lines = read.lines ∙ ap (λ (ls : List (List ℕ)). map place_line places ++ ls) first.lines
+          ∙ sym (append_assoc (map place_line places) (place_line place ∷ []) (cut_text after).lines)
+          ∙ ap (λ (ls : List (List ℕ)). ls ++ (cut_text after).lines) (sym (map-append place_line places (place ∷ [])));
+      tail = read.tail ∙ first.tail;
+    }
+
+-- while places are to come
+pub at_place : (h : Head) (bytes whole : List ℕ) (places : List (List Spot)) (rest : List ℕ) (p : ℕ) →
+    IsAt (AtPlace h []) bytes whole 5 → PlacesRead h whole places rest p → p < h.count → IsAt (AtPlace h places) bytes rest (5 + p)
+at_place h bytes whole places rest p at read more = record {
+  is_stage = record { head = at.is_stage.head; room = subst (λ (n : ℕ). n < h.count) (sym read.count) more; each = read.good };
+  lines = at.lines ∙ ap (λ (ls : List (List ℕ)). lines_of h ++ ls) read.lines
+      ∙ sym (append_assoc (lines_of h) (map place_line places) (cut_text rest).lines);
+  tail = at.tail ∙ read.tail;
+  count = ap (λ (n : ℕ). 5 + n) (sym read.count ∙ sym (length-map places place_line)) ∙ sym (length-append (lines_of h) (map place_line places));
+}
+
+-- and when all have come
+pub at_claim : (h : Head) (bytes whole : List ℕ) (places : List (List Spot)) (rest : List ℕ) →
+    IsAt (AtPlace h []) bytes whole 5 → PlacesRead h whole places rest h.count → IsAt (AtClaim (table_of h places)) bytes rest (5 + h.count)
+unfolding table_lines
+at_claim h bytes whole places rest at read =
+    let good : IsHead h = at.is_stage.head in
+    let counted : lines_of h ≡ head_lines h.target h.preferred h.renditions (length places) =
+    ap (λ (n : ℕ). head_lines h.target h.preferred h.renditions n) (sym read.count) in
+    record {
+      is_stage = record {
+        target = good.target;
+        preferred = good.preferred;
+        renditions = good.renditions;
+        count = (subst (λ (n : ℕ). 2 ≤ n) (sym read.count) good.count.0, subst (λ (n : ℕ). n ≤ 16384) (sym read.count) good.count.1);
+        places = read.good;
+      };
+      lines = at.lines ∙ ap (λ (ls : List (List ℕ)). lines_of h ++ ls) read.lines
+          ∙ sym (append_assoc (lines_of h) (map place_line places) (cut_text rest).lines)
+          ∙ ap (λ (ls : List (List ℕ)). (ls ++ map place_line places) ++ (cut_text rest).lines) counted;
+      tail = at.tail ∙ read.tail;
+      count = ap (λ (n : ℕ). 5 + n) (sym read.count ∙ sym (length-map places place_line))
+          ∙ sym (length-append (lines_of h) (map place_line places))
+          ∙ ap (λ (ls : List (List ℕ)). length (ls ++ map place_line places)) counted;
+    }
+
+-- the lines above the places, one by one
+pub at_target : (bytes after : List ℕ) → IsFirstLine bytes header_line after → IsAt AtTarget bytes after 1
+at_target bytes after first = at_next AtHeader AtTarget bytes bytes header_line after 0 (at_start bytes) first tt refl
+
+pub at_preferred : (bytes rest after : List ℕ) (t : ℕ) → IsAt AtTarget bytes rest 1 →
+    (1 ≤ t) × (t ≤ 3600) × IsFirstLine rest (target_line t) after → IsAt (AtPreferred t) bytes after 2
+at_preferred bytes rest after t at read =
+    at_next AtTarget (AtPreferred t) bytes rest (target_line t) after 1 at read.2 (read.0, read.1) refl
+
+pub at_renditions : (bytes rest after : List ℕ) (t p : ℕ) → IsAt (AtPreferred t) bytes rest 2 →
+    (1 ≤ p) × (p ≤ 3600000000) × IsFirstLine rest (preferred_line p) after → IsAt (AtRenditions t p) bytes after 3
+at_renditions bytes rest after t p at read =
+    at_next (AtPreferred t) (AtRenditions t p) bytes rest (preferred_line p) after 2 at read.2 (at.is_stage, (read.0, read.1)) refl
+
+pub at_count : (bytes rest after : List ℕ) (t p r : ℕ) → IsAt (AtRenditions t p) bytes rest 3 →
+    (1 ≤ r) × (r ≤ 16) × IsFirstLine rest (renditions_line r) after → IsAt (AtCount t p r) bytes after 4
+at_count bytes rest after t p r at read =
+    at_next (AtRenditions t p) (AtCount t p r) bytes rest (renditions_line r) after 3 at read.2
+    (at.is_stage.0, at.is_stage.1, (read.0, read.1)) refl
+
+pub at_places : (bytes rest after : List ℕ) (h : Head) → IsAt (AtCount h.target h.preferred h.renditions) bytes rest 4 →
+    (2 ≤ h.count) × (h.count ≤ 16384) × IsFirstLine rest (places_line h.count) after → IsAt (AtPlace h []) bytes after 5
+at_places bytes rest after h at read =
+    at_next (AtCount h.target h.preferred h.renditions) (AtPlace h []) bytes rest (places_line h.count) after 4 at read.2
+    (record {
+      head = record { target = at.is_stage.0; preferred = at.is_stage.1; renditions = at.is_stage.2; count = (read.0, read.1) };
+      room = omega (arith, read.0);
+      each = All-nil (IsPlaceOf h.renditions);
+    }) refl

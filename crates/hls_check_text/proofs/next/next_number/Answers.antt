@@ -1,0 +1,19 @@
+use Rattle.std.proofs.Common.{◌<◌, ◌≤◌, arith}
+use Rattle.hls_check_text.proofs.LineKinds.{out_of_range}
+use Rattle.hls_check_text.proofs.next.next_number.Goals as goal
+
+pub returns-then-number-low-clause-line : goal.returns-then-number-low-clause-line
+returns-then-number-low-clause-line c =
+    out_of_range c.args.word.now c.args.rest.now c.in-Some.line.now c.in-Some.after.now c.in-Some-number_in.number c.args.low c.args.high c.args.passed
+    c.in-Some.ensures.line c.in-Some-number_in.ensures c.requires.range
+    (λ range. let above : c.args.low ≤ c.in-Some-number_in.number = range.0 in
+    let below : c.in-Some-number_in.number < c.args.low = c.if-number-low.true in
+    omega arith)
+
+pub returns-then-number-high-clause-line : goal.returns-then-number-high-clause-line
+returns-then-number-high-clause-line c =
+    out_of_range c.args.word.now c.args.rest.now c.in-Some.line.now c.in-Some.after.now c.in-Some-number_in.number c.args.low c.args.high c.args.passed
+    c.in-Some.ensures.line c.in-Some-number_in.ensures c.requires.range
+    (λ range. let within : c.in-Some-number_in.number ≤ c.args.high = range.1 in
+    let above : c.args.high < c.in-Some-number_in.number = c.if-number-high.true in
+    omega arith)

@@ -1,0 +1,22 @@
+use Rattle.std.proofs.Common.{◌≡◌, ◌<◌, length, sym, arith}
+use Rattle.std.proofs.lemmas.Bool.Decides.{nat_tests}
+use Rattle.hls_check_laws.specs.Certificates.{NoneShown}
+use Rattle.hls_check_text.specs.Stages.{IsAt, AtEnd, printed}
+use Rattle.hls_check_text.proofs.Wrongs.{wrong_behind}
+use Rattle.hls_check_text.proofs.Claims.{read_whole}
+use Rattle.hls_check_text.proofs.reader.read_none.Goals as goal
+
+pub returns-then-not-is_empty : goal.returns-then-not-is_empty
+returns-then-not-is_empty c = λ bytes at.
+    let read : IsAt (AtEnd (printed c.args.table (NoneShown c.in-Ok.found.0.items))) bytes c.in-Ok.found.1.now c.in-Ok.found.2 =
+    c.in-Ok.ensures.at bytes c.args.table (sym c.len.ensures.len) at in
+    let some : 0 < length c.in-Ok.found.1.now = grind (arith, nat_tests) in
+    wrong_behind (printed c.args.table (NoneShown c.in-Ok.found.0.items)) bytes c.in-Ok.found.1.now c.in-Ok.found.2 read some
+
+pub returns : goal.returns
+returns c = λ bytes at.
+    let read : IsAt (AtEnd (printed c.args.table (NoneShown c.in-Ok.found.0.items))) bytes c.in-Ok.found.1.now c.in-Ok.found.2 =
+    c.in-Ok.ensures.at bytes c.args.table (sym c.len.ensures.len) at in
+    let none : length c.in-Ok.found.1.now ≡ 0 = grind (arith, nat_tests) in
+    read_whole bytes c.in-Ok.found.1.now (printed c.args.table (NoneShown c.in-Ok.found.0.items)) c.new.result c.in-Ok.found.2
+    c.new.ensures read none

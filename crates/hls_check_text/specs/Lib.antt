@@ -1,0 +1,4 @@
+pub mod Text
+pub mod Wrong
+pub mod Stages
+pub mod Laws

@@ -1,0 +1,179 @@
+-- How far a reader has come: the lines that it has passed, and which lines may come next.
+use Rattle.std.specs.Prelude.{◌≡◌, ℕ, ◌+◌, ◌^◌, ◌<◌, ◌≤◌, List, [], ◌∷◌, ◌++◌, length, map, All, Option, Bool, ◌⊎◌}
+use Rattle.hls_check_laws.specs.declared.spot.Spot.{Spot}
+use Rattle.hls_check_laws.specs.declared.cert_fault.CertFault.{CertFault}
+use Rattle.hls_check_laws.specs.declared.cert_fault.CertFault.TheVariants.{Form, TableNotSorted, PlanEnds, PlanStep, PlanCost, PriceStart, PriceStep, EndReached, Memory}
+use Rattle.hls_check_laws.specs.Tables.{Table, IsTable, IsPlaceOf}
+use Rattle.hls_check_laws.specs.Certificates.{Printed, Shown, IsCertificate, IsPriceInRange}
+use Rattle.hls_text.specs.Lines.{cut_text}
+use Rattle.hls_check_text.specs.declared.head.Head.{Head}
+use Rattle.hls_check_text.specs.Text.{header_line, target_line, preferred_line, renditions_line, places_line, cut_line, none_line, end_line, plan_line, price_line, closed_line, place_line, head_lines, table_lines, lines, Priced, priced_from, members_from}
+
+-- the lines above the places
+abbrev pub lines_of : Head → List (List ℕ)
+lines_of h = head_lines h.target h.preferred h.renditions h.count
+
+-- the table of these places
+abbrev pub table_of : Head → List (List Spot) → Table
+table_of h places =
+    record { target = h.target; preferred = h.preferred; renditions = h.renditions; places = places }
+
+abbrev pub printed : Table → Shown → Printed
+printed t shown = record { table = t; shown = shown }
+
+pub data Stage : Type 0 where
+  AtHeader : Stage
+  AtTarget : Stage
+  AtPreferred : (target : ℕ) → Stage
+  AtRenditions : (target preferred : ℕ) → Stage
+  AtCount : (target preferred renditions : ℕ) → Stage
+  AtPlace : (head : Head) (places : List (List Spot)) → Stage
+  AtClaim : (table : Table) → Stage
+  AtPlan : (table : Table) (total : ℕ) → Stage
+  AtPrice : (table : Table) (total : ℕ) (plan : List ℕ) (prices : List (Option ℕ)) → Stage
+  AtClosed : (table : Table) (closed : List Bool) → Stage
+  AtEnd : (certificate : Printed) → Stage
+
+-- the lines that were passed
+abbrev pub front : Stage → List (List ℕ)
+front AtHeader = []
+front AtTarget = header_line ∷ []
+front (AtPreferred target) = header_line ∷ target_line target ∷ []
+front (AtRenditions target preferred) = header_line ∷ target_line target ∷ preferred_line preferred ∷ []
+front (AtCount target preferred renditions) =
+    header_line ∷ target_line target ∷ preferred_line preferred ∷ renditions_line renditions ∷ []
+front (AtPlace head places) = lines_of head ++ map place_line places
+front (AtClaim table) = table_lines table
+front (AtPlan table total) = table_lines table ++ (cut_line total ∷ [])
+front (AtPrice table total plan prices) =
+    table_lines table ++ (cut_line total ∷ plan_line plan ∷ map price_line (priced_from 0 prices))
+front (AtClosed table closed) = table_lines table ++ (none_line ∷ map closed_line (members_from 0 closed))
+front (AtEnd certificate) = lines certificate
+
+abbrev pub IsTarget : ℕ → Type 0
+IsTarget n = (1 ≤ n) × (n ≤ 3600)
+
+abbrev pub IsPreferred : ℕ → Type 0
+IsPreferred n = (1 ≤ n) × (n ≤ 3600000000)
+
+abbrev pub IsRenditions : ℕ → Type 0
+IsRenditions n = (1 ≤ n) × (n ≤ 16)
+
+abbrev pub IsCount : ℕ → Type 0
+IsCount n = (2 ≤ n) × (n ≤ 16384)
+
+pub record IsHead (h : Head) : Type 0 where
+  pub target : IsTarget h.target
+  pub preferred : IsPreferred h.preferred
+  pub renditions : IsRenditions h.renditions
+  pub count : IsCount h.count
+
+pub record ArePlaces (h : Head) (places : List (List Spot)) : Type 0 where
+  pub head : IsHead h
+  pub room : length places < h.count
+  pub each : All (IsPlaceOf h.renditions) places
+
+-- one more than the last place that has a price, the first entry being place p
+abbrev pub past_priced : ℕ → List Priced → ℕ
+past_priced p [] = p
+past_priced p (q ∷ rest) = past_priced (q.place + 1) rest
+
+-- one more than the last of these places, or p
+abbrev pub past_members : ℕ → List ℕ → ℕ
+past_members p [] = p
+past_members p (q ∷ rest) = past_members (q + 1) rest
+
+pub record IsPlanned (count total : ℕ) (plan : List ℕ) : Type 0 where
+  pub total_small : total < 2 ^ 53
+  pub not_empty : 0 < length plan
+  pub in_range : All (λ p. p < count) plan
+
+-- prices up to the last that was read, and no further
+pub record ArePrices (count : ℕ) (prices : List (Option ℕ)) : Type 0 where
+  pub within : length prices ≤ count
+  pub just : length prices ≡ past_priced 0 (priced_from 0 prices)
+  pub small : All IsPriceInRange prices
+
+pub record IsClosing (count : ℕ) (closed : List Bool) : Type 0 where
+  pub within : length closed ≤ count
+  pub just : length closed ≡ past_members 0 (members_from 0 closed)
+
+abbrev pub IsStage : Stage → Type 0
+IsStage AtHeader = Unit {0}
+IsStage AtTarget = Unit {0}
+IsStage (AtPreferred target) = IsTarget target
+IsStage (AtRenditions target preferred) = IsTarget target × IsPreferred preferred
+IsStage (AtCount target preferred renditions) = IsTarget target × IsPreferred preferred × IsRenditions renditions
+IsStage (AtPlace head places) = ArePlaces head places
+IsStage (AtClaim table) = IsTable table
+IsStage (AtPlan table total) = IsTable table × (total < 2 ^ 53)
+IsStage (AtPrice table total plan prices) =
+    IsTable table × IsPlanned (length table.places) total plan × ArePrices (length table.places) prices
+IsStage (AtClosed table closed) = IsTable table × IsClosing (length table.places) closed
+IsStage (AtEnd certificate) = IsCertificate certificate
+
+-- a line of a word and a number in a range
+pub record IsNumberLine (spelling : ℕ → List ℕ) (IsGood : ℕ → Type 0) (line : List ℕ) : Type 0 where
+  pub number : ℕ
+  pub good : IsGood number
+  pub is : line ≡ spelling number
+
+pub record IsPlaceLine (renditions : ℕ) (line : List ℕ) : Type 0 where
+  pub place : List Spot
+  pub good : IsPlaceOf renditions place
+  pub is : line ≡ place_line place
+
+pub record IsPlanLine (count : ℕ) (line : List ℕ) : Type 0 where
+  pub plan : List ℕ
+  pub not_empty : 0 < length plan
+  pub in_range : All (λ p. p < count) plan
+  pub is : line ≡ plan_line plan
+
+pub record IsPriceLine (low count : ℕ) (line : List ℕ) : Type 0 where
+  pub priced : Priced
+  pub above : low ≤ priced.place
+  pub below : priced.place < count
+  pub small : priced.price < 2 ^ 53
+  pub is : line ≡ price_line priced
+
+pub record IsClosedLine (low count : ℕ) (line : List ℕ) : Type 0 where
+  pub place : ℕ
+  pub above : low ≤ place
+  pub below : place < count
+  pub is : line ≡ closed_line place
+
+-- which line may come next
+abbrev pub IsNext : Stage → List ℕ → Type 0
+IsNext AtHeader line = line ≡ header_line
+IsNext AtTarget line = IsNumberLine target_line IsTarget line
+IsNext (AtPreferred target) line = IsNumberLine preferred_line IsPreferred line
+IsNext (AtRenditions target preferred) line = IsNumberLine renditions_line IsRenditions line
+IsNext (AtCount target preferred renditions) line = IsNumberLine places_line IsCount line
+IsNext (AtPlace head places) line = IsPlaceLine head.renditions line
+IsNext (AtClaim table) line = (line ≡ none_line) ⊎ IsNumberLine cut_line (λ n. n < 2 ^ 53) line
+IsNext (AtPlan table total) line = IsPlanLine (length table.places) line
+IsNext (AtPrice table total plan prices) line =
+    (line ≡ end_line) ⊎ IsPriceLine (length prices) (length table.places) line
+IsNext (AtClosed table closed) line =
+    (line ≡ end_line) ⊎ IsClosedLine (length closed) (length table.places) line
+IsNext (AtEnd certificate) line = ⊥
+
+-- a text of which some lines were passed, and what is left of it
+pub record IsAt (s : Stage) (bytes rest : List ℕ) (passed : ℕ) : Type 0 where
+  pub is_stage : IsStage s
+  pub lines : (cut_text bytes).lines ≡ front s ++ (cut_text rest).lines
+  pub tail : (cut_text bytes).tail ≡ (cut_text rest).tail
+  pub count : passed ≡ length (front s)
+
+-- a reader's answer where the line behind `passed` lines isn't there, or isn't good
+abbrev pub Refuses : (List ℕ → Type 0) → List ℕ → ℕ → CertFault → Type 0
+Refuses IsGood rest passed (Form n) =
+    (n ≡ passed + 1) × ((line : List ℕ) (after : List (List ℕ)) → (cut_text rest).lines ≡ line ∷ after → IsGood line → ⊥)
+Refuses IsGood rest passed Memory = Unit {0}
+Refuses IsGood rest passed (TableNotSorted place) = ⊥
+Refuses IsGood rest passed PlanEnds = ⊥
+Refuses IsGood rest passed (PlanStep p q) = ⊥
+Refuses IsGood rest passed PlanCost = ⊥
+Refuses IsGood rest passed PriceStart = ⊥
+Refuses IsGood rest passed (PriceStep p q) = ⊥
+Refuses IsGood rest passed EndReached = ⊥

@@ -1,0 +1,95 @@
+-- The one text of a certificate: its lines, each of one spelling.
+use Rattle.std.specs.Prelude.{ℕ, ◌+◌, ◌<◌, List, [], ◌∷◌, ◌++◌, length, map, codes, Option, Some, None, Bool, true, false}
+use Rattle.hls_check_laws.specs.declared.spot.Spot.{Spot}
+use Rattle.hls_check_laws.specs.declared.certificate.Claim.{Claim}
+use Rattle.hls_check_laws.specs.declared.certificate.Claim.TheVariants.{Cut, NoCut}
+use Rattle.hls_check_laws.specs.Tables.{Table}
+use Rattle.hls_check_laws.specs.Certificates.{Printed, Shown, CutShown, NoneShown}
+use Rattle.hls_text.specs.Lines.{joined}
+use Rattle.hls_text.specs.Numbers.{words, number_line}
+
+abbrev pub header_line : List ℕ
+header_line = codes "HLS-CUT-CERTIFICATE 1"
+
+abbrev pub none_line : List ℕ
+none_line = codes "none"
+
+abbrev pub end_line : List ℕ
+end_line = codes "end"
+
+abbrev pub target_line : ℕ → List ℕ
+target_line n = number_line (codes "target ") n
+
+abbrev pub preferred_line : ℕ → List ℕ
+preferred_line n = number_line (codes "preferred ") n
+
+abbrev pub renditions_line : ℕ → List ℕ
+renditions_line n = number_line (codes "renditions ") n
+
+abbrev pub places_line : ℕ → List ℕ
+places_line n = number_line (codes "places ") n
+
+abbrev pub cut_line : ℕ → List ℕ
+cut_line n = number_line (codes "cut ") n
+
+abbrev pub closed_line : ℕ → List ℕ
+closed_line p = number_line (codes "closed ") p
+
+abbrev pub plan_line : List ℕ → List ℕ
+plan_line plan = codes "plan " ++ words plan
+
+-- a place and its price
+pub record Priced : Type 0 where
+  pub place : ℕ
+  pub price : ℕ
+
+abbrev pub priced : ℕ → ℕ → Priced
+priced place price = record { place = place; price = price }
+
+abbrev pub price_line : Priced → List ℕ
+price_line p = codes "price " ++ words (p.place ∷ p.price ∷ [])
+
+-- the numbers of a place's line, spot by spot
+unfoldable pub place_numbers : List Spot → List ℕ
+place_numbers [] = []
+place_numbers (s ∷ spots) =
+    s.fragment ∷ s.prev_end ∷ s.start ∷ s.run_in ∷ s.run_out ∷ place_numbers spots
+
+abbrev pub place_line : List Spot → List ℕ
+place_line place = words (place_numbers place)
+
+-- the places that have a price, the first entry being place p
+unfoldable pub priced_from : ℕ → List (Option ℕ) → List Priced
+priced_from p [] = []
+priced_from p (None ∷ prices) = priced_from (p + 1) prices
+priced_from p (Some v ∷ prices) = record { place = p; price = v } ∷ priced_from (p + 1) prices
+
+-- the places of a set, the first entry being place p
+unfoldable pub members_from : ℕ → List Bool → List ℕ
+members_from p [] = []
+members_from p (false ∷ closed) = members_from (p + 1) closed
+members_from p (true ∷ closed) = p ∷ members_from (p + 1) closed
+
+abbrev pub head_lines : ℕ → ℕ → ℕ → ℕ → List (List ℕ)
+head_lines target preferred renditions count =
+    header_line ∷ target_line target ∷ preferred_line preferred ∷ renditions_line renditions ∷ places_line count ∷ []
+
+unfoldable pub table_lines : Table → List (List ℕ)
+table_lines t = head_lines t.target t.preferred t.renditions (length t.places) ++ map place_line t.places
+
+unfoldable pub shown_lines : Shown → List (List ℕ)
+shown_lines (CutShown total plan prices) =
+    cut_line total ∷ plan_line plan ∷ (map price_line (priced_from 0 prices) ++ (end_line ∷ []))
+shown_lines (NoneShown closed) = none_line ∷ (map closed_line (members_from 0 closed) ++ (end_line ∷ []))
+
+unfoldable pub lines : Printed → List (List ℕ)
+lines c = table_lines c.table ++ shown_lines c.shown
+
+-- the certificate's text
+unfoldable pub text : Printed → List ℕ
+text c = joined (lines c)
+
+-- a claim that has lines: a plan isn't empty
+abbrev pub IsShowable : Claim → Type 0
+IsShowable (Cut cost plan prices) = 0 < length plan.items
+IsShowable (NoCut closed) = Unit {0}

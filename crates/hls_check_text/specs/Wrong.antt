@@ -1,0 +1,52 @@
+-- What a text that is no certificate's is refused by: its first line that isn't as said.
+use Rattle.std.specs.Prelude.{◌≡◌, ℕ, ◌+◌, List, [], ◌∷◌, ◌++◌, length, Result, Ok, Err}
+use Rattle.hls_check_laws.specs.declared.cert_fault.CertFault.{CertFault}
+use Rattle.hls_check_laws.specs.declared.cert_fault.CertFault.TheVariants.{Form, TableNotSorted, PlanEnds, PlanStep, PlanCost, PriceStart, PriceStep, EndReached, Memory}
+use Rattle.hls_check_laws.specs.Certificates.{Printed, IsCertificate}
+use Rattle.hls_text.specs.Lines.{cut_text}
+use Rattle.hls_check_text.specs.Text.{lines, text}
+
+-- some certificate's text begins with these lines
+pub record Begins (front : List (List ℕ)) : Type 0 where
+  pub certificate : Printed
+  pub is_certificate : IsCertificate certificate
+  pub more : List (List ℕ)
+  pub is : lines certificate ≡ front ++ more
+
+-- Line n, from 1, is the first that isn't as said: those before it begin a certificate's text, and
+-- with it, if it is there with its end, they begin none. Where it isn't there, it is missing, or it
+-- lacks its end.
+pub record IsFirstWrong (bytes : List ℕ) (n : ℕ) : Type 0 where
+  pub before : List (List ℕ)
+  pub rest : List (List ℕ)
+  pub is : (cut_text bytes).lines ≡ before ++ rest
+  pub number : n ≡ length before + 1
+  pub begins : Begins before
+  pub wrong : (line : List ℕ) (after : List (List ℕ)) → rest ≡ line ∷ after → Begins (before ++ (line ∷ [])) → ⊥
+  pub no_text : (c : Printed) → IsCertificate c → bytes ≡ text c → ⊥
+
+-- what reading a text answers: the certificate whose text it is, or its first wrong line
+abbrev pub IsReading : List ℕ → Result Printed CertFault → Type 0
+IsReading bytes (Ok c) = IsCertificate c × (bytes ≡ text c)
+IsReading bytes (Err (Form n)) = IsFirstWrong bytes n
+IsReading bytes (Err Memory) = Unit {0}
+IsReading bytes (Err (TableNotSorted place)) = ⊥
+IsReading bytes (Err PlanEnds) = ⊥
+IsReading bytes (Err (PlanStep p q)) = ⊥
+IsReading bytes (Err PlanCost) = ⊥
+IsReading bytes (Err PriceStart) = ⊥
+IsReading bytes (Err (PriceStep p q)) = ⊥
+IsReading bytes (Err EndReached) = ⊥
+
+-- the certificate itself, unless memory was refused
+abbrev pub Gives : Printed → Result Printed CertFault → Type 0
+Gives c (Ok d) = d ≡ c
+Gives c (Err Memory) = Unit {0}
+Gives c (Err (Form n)) = ⊥
+Gives c (Err (TableNotSorted place)) = ⊥
+Gives c (Err PlanEnds) = ⊥
+Gives c (Err (PlanStep p q)) = ⊥
+Gives c (Err PlanCost) = ⊥
+Gives c (Err PriceStart) = ⊥
+Gives c (Err (PriceStep p q)) = ⊥
+Gives c (Err EndReached) = ⊥

@@ -1,0 +1,17 @@
+ghost use Rattle.hls_check_text.specs.Laws.{WrongLineIsOne, TextHasNoWrongLine, TextIsOfOne};
+
+/// A text has at most one first wrong line.
+pub fn wrong_line_is_one()
+    ensures { WrongLineIsOne }
+{}
+
+/// A certificate's text has no wrong line.
+pub fn text_has_no_wrong_line()
+    ensures { TextHasNoWrongLine }
+{}
+
+/// A text is that of at most one certificate.
+#[tactic(auto, using(crate::proofs::Wrongs::text_is_told))]
+pub fn text_is_of_one()
+    ensures { TextIsOfOne }
+{}

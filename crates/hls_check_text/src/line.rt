@@ -1,0 +1,158 @@
+// One line of each kind, by itself.
+ghost use Rattle.std.specs.Prelude.{◌≡◌, ◌++◌, ◌*◌, ◌^◌, ◌<◌, ◌≤◌, ℕ, [], ◌∷◌, length, All, MatchOption, IfOk, IsTrue, ◌↔◌, codes};
+ghost use Rattle.hls_text.specs.Numbers.{words};
+ghost use Rattle.hls_check_laws.specs.Tables.{IsPlaceOf};
+ghost use Rattle.hls_check_text.specs.Text.{place_numbers, place_line, plan_line, closed_line};
+ghost use Rattle.hls_check_text.specs.Stages.{IsPlaceLine, IsPlanLine, IsPriceLine, IsClosedLine};
+
+use hls_check_laws::{Spot, Spots};
+use hls_text::{numbers_of, take_number, take_prefix};
+use std::alloc::{AllocError, Global};
+
+/// Whether a line is just this word.
+pub fn is_word(line: &[u8], word: &[u8]) -> bool
+    ensures { IsTrue result ↔ (line.now ≡ word.now) }
+{
+    line == word
+}
+
+/// The number of a line that is a word and one number; None where the line isn't that.
+pub fn number_in(line: &[u8], word: &[u8]) -> Option<u64>
+    ensures { MatchOption result ((n : ℕ) → n < 2 ^ 53 → line.now ≡ word.now ++ words (n ∷ []) → ⊥) (λ n. (n < 2 ^ 53) × (line.now ≡ word.now ++ words (n ∷ []))) }
+{
+    let Some(digits) = take_prefix(line, word) else {
+        return None;
+    };
+    let Some((number, rest)) = take_number(digits) else {
+        return None;
+    };
+    if rest.is_empty() { Some(number) } else { None }
+}
+
+// Spots by their numbers, five each.
+fn spots_of(alloc: Global, numbers: &[u64], renditions: usize) -> Result<Vec<Spot>, AllocError>
+    requires { length numbers.now ≡ 5 * renditions }
+    ensures numbers { IfOk result (λ spots. place_numbers spots.items ≡ numbers.now) }
+    ensures count { IfOk result (λ spots. length spots.items ≡ renditions) }
+{
+    let mut spots = Vec::new(alloc);
+    for r in 0..renditions {
+        let spot = Spot {
+            fragment: numbers[5 * r],
+            prev_end: numbers[5 * r + 1],
+            start: numbers[5 * r + 2],
+            run_in: numbers[5 * r + 3],
+            run_out: numbers[5 * r + 4],
+        };
+        spots.push(spot)?;
+    }
+    Ok(spots)
+}
+
+/// A place's line of five numbers a rendition; None where the line isn't that.
+pub fn place_in(alloc: Global, line: &[u8], renditions: usize) -> Result<Option<Spots>, AllocError>
+    requires { (1 ≤ renditions) × (renditions ≤ 16) }
+    ensures { IfOk result (λ place. MatchOption place (IsPlaceLine renditions line.now → ⊥) (λ spots. IsPlaceOf renditions spots × (line.now ≡ place_line spots))) }
+{
+    let Some(numbers) = numbers_of(alloc, line)? else {
+        return Ok(None);
+    };
+    if numbers.len() != 5 * renditions {
+        return Ok(None);
+    }
+    let spots = spots_of(alloc, &numbers, renditions)?;
+    Ok(Some(Spots::new(spots)))
+}
+
+// Place numbers, if each is below the count.
+fn places_below(
+    alloc: Global,
+    numbers: &[u64],
+    count: usize,
+) -> Result<Option<Vec<usize>>, AllocError>
+    ensures { IfOk result (λ places. MatchOption places (All (λ p. p < count) numbers.now → ⊥) (λ v. All (λ p. p < count) numbers.now × (v.items ≡ numbers.now))) }
+{
+    let mut places = Vec::new(alloc);
+    for number in numbers {
+        if *number >= count as u64 {
+            return Ok(None);
+        }
+        places.push(*number as usize)?;
+    }
+    Ok(Some(places))
+}
+
+/// The plan's line; None where the line isn't one over that many places.
+pub fn plan_in(alloc: Global, line: &[u8], count: usize) -> Result<Option<Vec<usize>>, AllocError>
+    requires { count ≤ 16384 }
+    ensures { IfOk result (λ plan. MatchOption plan (IsPlanLine count line.now → ⊥) (λ v. (0 < length v.items) × All (λ p. p < count) v.items × (line.now ≡ plan_line v.items))) }
+{
+    let Some(rest) = take_prefix(line, b"plan ") else {
+        return Ok(None);
+    };
+    let Some(numbers) = numbers_of(alloc, rest)? else {
+        return Ok(None);
+    };
+    let plan = places_below(alloc, &numbers, count)?;
+    match plan {
+        Some(plan) => Ok(Some(plan)),
+        None => Ok(None),
+    }
+}
+
+// The two numbers of a line that is a word and these.
+fn two_numbers_in(line: &[u8], word: &[u8]) -> Option<(u64, u64)>
+    ensures { MatchOption result ((m n : ℕ) → m < 2 ^ 53 → n < 2 ^ 53 → line.now ≡ word.now ++ words (m ∷ n ∷ []) → ⊥) (λ f. (f.0 < 2 ^ 53) × (f.1 < 2 ^ 53) × (line.now ≡ word.now ++ words (f.0 ∷ f.1 ∷ []))) }
+{
+    let Some(numbers) = take_prefix(line, word) else {
+        return None;
+    };
+    let Some((first, space)) = take_number(numbers) else {
+        return None;
+    };
+    let Some(rest) = take_prefix(space, b" ") else {
+        return None;
+    };
+    match number_in(rest, b"") {
+        Some(second) => Some((first, second)),
+        None => None,
+    }
+}
+
+/// The line of a place's price, of a place from `low` on and below the count; None where the line isn't one.
+pub fn price_in(line: &[u8], low: usize, count: usize) -> Option<(usize, u64)>
+    requires { count ≤ 16384 }
+    ensures { MatchOption result (IsPriceLine low count line.now → ⊥) (λ f. (low ≤ f.0) × (f.0 < count) × (f.1 < 2 ^ 53) × (line.now ≡ codes "price " ++ words (f.0 ∷ f.1 ∷ []))) }
+{
+    match two_numbers_in(line, b"price ") {
+        Some((place, price)) => {
+            if place < low as u64 {
+                return None;
+            }
+            if place >= count as u64 {
+                return None;
+            }
+            Some((place as usize, price))
+        }
+        None => None,
+    }
+}
+
+/// The line of a place of the closed set, from `low` on and below the count; None where the line isn't one.
+pub fn closed_in(line: &[u8], low: usize, count: usize) -> Option<usize>
+    requires { count ≤ 16384 }
+    ensures { MatchOption result (IsClosedLine low count line.now → ⊥) (λ p. (low ≤ p) × (p < count) × (line.now ≡ closed_line p)) }
+{
+    match number_in(line, b"closed ") {
+        Some(place) => {
+            if place < low as u64 {
+                return None;
+            }
+            if place >= count as u64 {
+                return None;
+            }
+            Some(place as usize)
+        }
+        None => None,
+    }
+}

@@ -1,0 +1,101 @@
+//! Texts from outside: read, written, and refused by their first wrong line.
+
+use crate::{read, write};
+use hls_check_laws::CertFault;
+use std::alloc::{AllocError, Global};
+use std::test::Fail;
+
+const FIVE_UNITS: &str =
+    "HLS-CUT-CERTIFICATE 1\ntarget 6\npreferred 4000000\nrenditions 1\nplaces 5\n0 0 0 0 0\n1 3000000 3000000 0 0\n2 6000000 6000000 0 0\n3 7000000 7000000 0 0\n4 11000000 11000000 0 0\ncut 1000000\nplan 0 1 3 4\nprice 0 0\nprice 1 1000000\nprice 2 2000000\nprice 3 1000000\nprice 4 1000000\nend\n";
+
+const NO_CUT: &str =
+    "HLS-CUT-CERTIFICATE 1\ntarget 6\npreferred 4000000\nrenditions 1\nplaces 2\n0 0 0 0 0\n1 7000000 7000000 0 0\nnone\nclosed 0\nend\n";
+
+// The first wrong line, 0 where there is none, or 99 for another fault.
+fn wrong_line(alloc: Global, text: &[u8]) -> usize {
+    match read(alloc, text) {
+        Ok(_) => 0,
+        Err(CertFault::Form { line }) => line,
+        Err(_) => 99,
+    }
+}
+
+// The text with another line in the place of one.
+fn with_line(alloc: Global, text: &str, number: usize, line: &str) -> Result<String, AllocError> {
+    let mut out = String::new(alloc);
+    let mut at = 0u64;
+    for old in text.lines() {
+        at = at.wrapping_add(1);
+        out.push_str(if at == number as u64 { line } else { old })?;
+        out.push_str("\n")?;
+    }
+    Ok(out)
+}
+
+// Where the text with another line is wrong.
+fn wrong_with(alloc: Global, text: &str, number: usize, line: &str) -> Result<usize, AllocError> {
+    let changed = with_line(alloc, text, number, line)?;
+    Ok(wrong_line(alloc, changed.as_bytes()))
+}
+
+#[test]
+fn a_text_is_written_as_it_was_read(rt: HostRuntime) -> Result<(), Fail> {
+    for text in [FIVE_UNITS, NO_CUT] {
+        let certificate = read(rt.alloc(), text.as_bytes())?;
+        let written = write(rt.alloc(), &certificate)?;
+        assert!(rt; written.as_slice() == text.as_bytes());
+    }
+    Ok(())
+}
+
+#[test]
+fn a_wrong_line_is_named(rt: HostRuntime) -> Result<(), Fail> {
+    let alloc = rt.alloc();
+    assert!(rt; wrong_with(alloc, FIVE_UNITS, 5, "places 16385")? == 5);
+    assert!(rt; wrong_with(alloc, FIVE_UNITS, 11, "cut 01000000")? == 11);
+    assert!(rt; wrong_with(alloc, FIVE_UNITS, 7, "1  3000000 3000000 0 0")? == 7);
+    assert!(rt; wrong_with(alloc, FIVE_UNITS, 7, "1 3000000 3000000 0 0 ")? == 7);
+    assert!(rt; wrong_with(alloc, FIVE_UNITS, 2, "target 6\r")? == 2);
+    assert!(rt; wrong_with(alloc, FIVE_UNITS, 2, "target 3601")? == 2);
+    assert!(rt; wrong_with(alloc, FIVE_UNITS, 3, "preferred 04000000")? == 3);
+    assert!(rt; wrong_with(alloc, FIVE_UNITS, 11, "cut 9007199254740992")? == 11);
+    assert!(rt; wrong_with(alloc, FIVE_UNITS, 12, "plan 0 1 3 5")? == 12);
+    assert!(rt; wrong_with(alloc, FIVE_UNITS, 15, "price 1 2000000")? == 15);
+    assert!(rt; wrong_with(alloc, NO_CUT, 9, "closed 2")? == 9);
+    Ok(())
+}
+
+#[test]
+fn what_follows_or_lacks_is_named(rt: HostRuntime) -> Result<(), Fail> {
+    let alloc = rt.alloc();
+    let unended = FIVE_UNITS.strip_suffix("\n").ok_or("no line feed")?;
+    assert!(rt; wrong_line(alloc, unended.as_bytes()) == 18);
+    let endless = FIVE_UNITS.strip_suffix("end\n").ok_or("no end")?;
+    assert!(rt; wrong_line(alloc, endless.as_bytes()) == 18);
+    let longer = format!(in alloc; "{NO_CUT}x")?;
+    assert!(rt; wrong_line(alloc, longer.as_bytes()) == 11);
+    assert!(rt; wrong_line(alloc, b"") == 1);
+    Ok(())
+}
+
+// Every shorter beginning is refused at the line that it lacks.
+fn beginnings_are_refused(alloc: Global, text: &str) -> bool {
+    let bytes = text.as_bytes();
+    let mut lines = 1u64;
+    for (front, byte) in bytes.iter().enumerate() {
+        if wrong_line(alloc, &bytes[..front]) as u64 != lines {
+            return false;
+        }
+        if *byte == b'\n' {
+            lines = lines.wrapping_add(1);
+        }
+    }
+    true
+}
+
+#[test]
+fn each_shorter_beginning_is_refused(rt: HostRuntime) -> Result<(), Fail> {
+    assert!(rt; beginnings_are_refused(rt.alloc(), FIVE_UNITS));
+    assert!(rt; beginnings_are_refused(rt.alloc(), NO_CUT));
+    Ok(())
+}
