@@ -1,0 +1,4 @@
+pub mod PricedRows
+pub mod WaysBack
+pub mod LeastCosts
+pub mod Results

@@ -1,0 +1,62 @@
+use Rattle.std.proofs.Common.{◌≡◌, ℕ, ◌+◌, ◌-◌, List, [], ◌∷◌, ◌++◌, length, reverse, is_some, true, Option, Some, None, arith, refl, sym, ap, ◌∙◌, subst}
+use Rattle.std.proofs.lemmas.List.{reverse-append}
+use Rattle.hls_check_laws.specs.Tables.{Table}
+use Rattle.hls_check_laws.specs.Steps.{cost}
+use Rattle.hls_check_laws.specs.Plans.{cost_from, IsPlan, plan_cost}
+use Rattle.hls_check_laws.specs.Certificates.{price_at}
+use Rattle.hls_plan.specs.Pricing.{IsReached, IsWayBack}
+
+-- the last place alone is a way, where it has a price
+way_alone : (t : Table) (prices : List (Option ℕ)) (at : ℕ) (way : List ℕ) (last : Option ℕ) →
+    at ≡ length t.places - 1 → way ≡ [] → price_at prices at ≡ last → is_some last ≡ true →
+    IsWayBack t prices at (way ++ at ∷ [])
+way_alone t prices at way None is_last none priced some = cc
+way_alone t prices at way (Some total) is_last none priced some =
+    let paid : price_at prices (length t.places - 1) ≡ Some (total + 0) =
+    ap (price_at prices) (sym is_last) ∙ priced ∙ ap (λ (x : ℕ). Some x) (omega arith) in
+    record {
+      rest = [];
+      is = ap (λ (xs : List ℕ). reverse (xs ++ at ∷ [])) none;
+      leads = tt;
+      ends = is_last;
+      price = total;
+      priced = priced;
+      paid = paid;
+    }
+
+pub way_start : (t : Table) (prices : List (Option ℕ)) (at : ℕ) (way : List ℕ) → at ≡ length t.places - 1 → way ≡ [] →
+    is_some (price_at prices (length t.places - 1)) ≡ true → IsWayBack t prices at (way ++ at ∷ [])
+way_start t prices at way is_last none some =
+    way_alone t prices at way (price_at prices at) is_last none refl (ap (λ (x : ℕ). is_some (price_at prices x)) is_last ∙ some)
+
+-- one step further back, to the origin
+pub way_more : (t : Table) (prices : List (Option ℕ)) (at origin : ℕ) (way : List ℕ) (back : IsWayBack t prices at way) →
+    IsReached t prices at back.price origin → IsWayBack t prices origin (way ++ origin ∷ [])
+way_more t prices at origin way back reached =
+    let sum : back.price + cost_from t at back.rest ≡ reached.before + (cost t origin at + cost_from t at back.rest) =
+    omega (arith, reached.sum) in
+    record {
+      rest = at ∷ back.rest;
+      is = reverse-append way (origin ∷ []) ∙ ap (λ (xs : List ℕ). origin ∷ xs) back.is;
+      leads = (reached.allowed, back.leads);
+      ends = back.ends;
+      price = reached.before;
+      priced = reached.priced;
+      paid = back.paid ∙ ap (λ (x : ℕ). Some x) sum;
+    }
+
+-- at the first place the way is a plan, and the last place's price is its cost
+pub plan_from_way : (t : Table) (prices : List (Option ℕ)) (at : ℕ) (way : List ℕ) → at ≡ 0 → price_at prices 0 ≡ Some 0 →
+    IsWayBack t prices at way →
+    IsPlan t (reverse way) × (price_at prices (length t.places - 1) ≡ Some (plan_cost t (reverse way)))
+plan_from_way t prices at way is_first start back =
+    let first : price_at prices at ≡ Some 0 = ap (price_at prices) is_first ∙ start in
+    let priced : price_at prices at ≡ Some back.price = back.priced in
+    let free : back.price ≡ 0 = cc in
+    let P : List ℕ → Type 0 = λ xs.
+    IsPlan t xs × (price_at prices (length t.places - 1) ≡ Some (plan_cost t xs)) in
+    let whole : P (at ∷ back.rest) = (
+      (is_first, back.ends, back.leads),
+      back.paid ∙ ap (λ (x : ℕ). Some x) (omega (arith, free)),
+    ) in
+    subst P (sym back.is) whole

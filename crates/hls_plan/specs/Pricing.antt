@@ -1,0 +1,70 @@
+use Rattle.std.specs.Prelude.{◌≡◌, ℕ, ◌+◌, ◌-◌, ◌*◌, ◌<◌, ◌≤◌, List, ◌∷◌, length, reverse, slice_index, map, is_some, nat_lt, Option, Some, None, Bool, true}
+use Rattle.hls_plan.specs.declared.planned.Planned.{Planned}
+use Rattle.hls_plan.specs.declared.planned.Planned.TheVariants.{Cut, NoCut}
+use Rattle.hls_check_laws.specs.Tables.{Table}
+use Rattle.hls_check_laws.specs.Steps.{Allowed, cost}
+use Rattle.hls_check_laws.specs.Plans.{Leads, end_of, cost_from, IsPlan, plan_cost}
+use Rattle.hls_check_laws.specs.Certificates.{price_at, Keeps}
+
+-- Prices are found row by row: the steps from place 0, from place 1, and so on. Steps go forward,
+-- so a place's price is its least when its own row begins.
+
+-- a price is below the one found so far, if there is one
+abbrev pub is_lower : ℕ → Option ℕ → Bool
+is_lower price None = true
+is_lower price (Some found) = nat_lt price found
+
+-- place q was reached at this price by a step from an origin that is priced itself
+pub record IsReached (t : Table) (prices : List (Option ℕ)) (q price origin : ℕ) : Type 0 where
+  pub earlier : origin < q
+  pub allowed : Allowed t origin q
+  pub before : ℕ
+  pub priced : price_at prices origin ≡ Some before
+  pub sum : price ≡ before + cost t origin q
+
+-- a step from i to j keeps to the prices
+abbrev pub StepKeeps : Table → List (Option ℕ) → ℕ → ℕ → Type 0
+StepKeeps t prices i j =
+    i < j → Allowed t i j → Keeps (cost t i j) (price_at prices i) (price_at prices j)
+
+-- the prices before row p is looked at from place q on
+pub record IsPricing (t : Table) (p q : ℕ) (prices : List (Option ℕ)) (origins : List ℕ) : Type 0 where
+  pub one_each : length prices ≡ length t.places
+  pub origin_each : length origins ≡ length t.places
+  pub start : price_at prices 0 ≡ Some 0
+  pub reached : (k price : ℕ) → 0 < k → price_at prices k ≡ Some price →
+      IsReached t prices k price (slice_index origins k)
+  pub origin_done : (k price : ℕ) → 0 < k → price_at prices k ≡ Some price → slice_index origins k ≤ p
+  pub bound : (k price : ℕ) → price_at prices k ≡ Some price → price ≤ k * 3600499999
+  pub rows : (i j : ℕ) → i < p → StepKeeps t prices i j
+  pub row : (j : ℕ) → j < q → StepKeeps t prices p j
+
+-- the way that was walked back from the last place to this one, with what it costs
+pub record IsWayBack (t : Table) (prices : List (Option ℕ)) (at : ℕ) (way : List ℕ) : Type 0 where
+  pub rest : List ℕ
+  pub is : reverse way ≡ at ∷ rest
+  pub leads : Leads t at rest
+  pub ends : end_of at rest ≡ length t.places - 1
+  pub price : ℕ
+  pub priced : price_at prices at ≡ Some price
+  pub paid : price_at prices (length t.places - 1) ≡ Some (price + cost_from t at rest)
+
+-- what a plan and its prices come from
+pub record IsCutFound (t : Table) (plan : List ℕ) (prices : List (Option ℕ)) : Type 0 where
+  pub origins : List ℕ
+  pub pricing : IsPricing t (length t.places) 0 prices origins
+  pub is_plan : IsPlan t plan
+  pub paid : price_at prices (length t.places - 1) ≡ Some (plan_cost t plan)
+
+-- what a closed set comes from
+pub record IsNoneFound (t : Table) (closed : List Bool) : Type 0 where
+  pub prices : List (Option ℕ)
+  pub origins : List ℕ
+  pub pricing : IsPricing t (length t.places) 0 prices origins
+  pub unpriced : price_at prices (length t.places - 1) ≡ None
+  pub is : closed ≡ map is_some prices
+
+-- what a planner found comes from prices
+abbrev pub IsFound : Table → Planned → Type 0
+IsFound t (Cut plan prices) = IsCutFound t plan.items prices.items
+IsFound t (NoCut closed) = IsNoneFound t closed.items

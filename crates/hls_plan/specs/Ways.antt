@@ -1,0 +1,32 @@
+use Rattle.std.specs.Prelude.{◌≡◌, ℕ, ◌<◌, ◌≤◌, List, length, Option, MatchOption, Bool}
+use Rattle.std.specs.Bool.{MatchBool}
+use Rattle.hls_check_laws.specs.Tables.{Table}
+use Rattle.hls_check_laws.specs.Plans.{Leads, end_of, cost_from}
+use Rattle.hls_check_laws.specs.Certificates.{price_at, is_closed}
+
+-- a way from the first place of a table to place q, by allowed steps
+pub record IsWay (t : Table) (q : ℕ) (way : List ℕ) : Type 0 where
+  pub ends : end_of 0 way ≡ q
+  pub leads : Leads t 0 way
+
+-- place q can be reached
+pub record IsReachable (t : Table) (q : ℕ) : Type 0 where
+  pub way : List ℕ
+  pub is_way : IsWay t q way
+
+-- the least cost of a way to place q
+pub record IsLeastCost (t : Table) (q price : ℕ) : Type 0 where
+  pub way : List ℕ
+  pub is_way : IsWay t q way
+  pub costs : cost_from t 0 way ≡ price
+  pub least : (other : List ℕ) → IsWay t q other → price ≤ cost_from t 0 other
+
+-- each place that can be reached has its least cost as price, and no other has a price
+abbrev pub HasLeastPrices : Table → List (Option ℕ) → Type 0
+HasLeastPrices t prices =
+    (q : ℕ) → q < length t.places → MatchOption (price_at prices q) (¬ IsReachable t q) (IsLeastCost t q)
+
+-- the set has just the places that can be reached
+abbrev pub HasReachable : Table → List Bool → Type 0
+HasReachable t closed =
+    (q : ℕ) → q < length t.places → MatchBool (is_closed closed q) (IsReachable t q) (¬ IsReachable t q)

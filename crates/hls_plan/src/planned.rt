@@ -1,0 +1,36 @@
+ghost use Rattle.std.specs.Prelude.{◌≡◌};
+ghost use Rattle.hls_check_laws.specs.Certificates.{IsGood};
+ghost use Rattle.hls_plan.specs.Planned.{CanBeShown, certificate_of};
+
+use hls_check_laws::{Certificate, Claim, PlaceTable};
+
+/// What a planner found. Places are numbered from 0, and costs are in microseconds.
+#[derive(Debug, Drop)]
+pub enum Planned {
+    /// A least plan, and for each place the least cost at which it can be reached, or none.
+    Cut {
+        plan: Vec<usize>,
+        prices: Vec<Option<u64>>,
+    },
+
+    /// No plan exists. For each place, whether it can be reached.
+    NoCut {
+        closed: Vec<bool>,
+    },
+}
+
+/// The certificate of what was planned over this very table. It takes no memory.
+pub fn certificate(table: PlaceTable, planned: Planned) -> Certificate
+    requires good { IsGood (certificate_of table planned) }
+    requires shown { CanBeShown table planned }
+    ensures { result ≡ certificate_of table planned }
+{
+    match planned {
+        Planned::Cut { plan, prices } => {
+            let last = table.len() - 1;
+            let cost = prices[last].unwrap_or(0);
+            Certificate::new(table.into_table(), Claim::Cut { cost, plan, prices })
+        }
+        Planned::NoCut { closed } => Certificate::new(table.into_table(), Claim::NoCut { closed }),
+    }
+}

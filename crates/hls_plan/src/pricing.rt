@@ -1,0 +1,81 @@
+ghost use Rattle.std.specs.Prelude.{◌≡◌, ℕ, ◌+◌, ◌<◌, ◌≤◌, length, slice_set, IfOk, IsTrue, Option, Some, if◌then◌else◌};
+ghost use Rattle.hls_check_laws.specs.Certificates.{price_at};
+ghost use Rattle.hls_plan.specs.Pricing.{is_lower, IsPricing};
+
+use hls_check_laws::PlaceTable;
+use std::alloc::{AllocError, Global};
+
+/// The price of each place, and the place from which a priced one was reached.
+#[derive(Debug, Drop)]
+pub struct Pricing {
+    pub prices: Vec<Option<u64>>,
+    pub origins: Vec<usize>,
+}
+
+/// The price of place `p`, if it has one.
+#[inline(always)]
+pub fn price_of(prices: &[Option<u64>], p: usize) -> Option<u64>
+    requires { p < length prices.now }
+    ensures { result ≡ price_at prices.now p }
+{
+    prices[p]
+}
+
+#[inline(always)]
+fn lower(price: u64, found: Option<u64>) -> bool
+    ensures { result ≡ is_lower price found }
+{
+    match found {
+        None => true,
+        Some(found) => price < found,
+    }
+}
+
+/// Takes a price of place `q` that is lower than the one found so far, with the place that it
+/// comes from.
+#[inline(always)]
+fn offer(prices: &mut [Option<u64>], origins: &mut [usize], p: usize, q: usize, price: u64)
+    requires price_in { q < length prices.old }
+    requires origin_in { q < length origins.old }
+    ensures price { prices.new ≡ (if is_lower price (price_at prices.old q) then slice_set prices.old q (Some price) else prices.old) }
+    ensures origin { origins.new ≡ (if is_lower price (price_at prices.old q) then slice_set origins.old q p else origins.old) }
+{
+    if lower(price, price_of(prices, q)) {
+        prices[q] = Some(price);
+        origins[q] = p;
+    }
+}
+
+/// Offers to each later place the price of place `p` and its step. The row ends where the order of
+/// the table says that no later place can follow.
+fn price_row(table: &PlaceTable, prices: &mut [Option<u64>], origins: &mut [usize], p: usize)
+    requires in_range { p < length table.now.places }
+    requires priced { IsPricing table.now p 0 prices.old origins.old }
+    ensures { IsPricing table.now (p + 1) 0 prices.new origins.new }
+{
+    let _ = table.len();
+    let Some(price) = price_of(prices, p) else {
+        return;
+    };
+    for q in p + 1..table.len() {
+        if table.allowed(p, q) {
+            offer(prices, origins, p, q, price + table.cost(p, q));
+        } else if table.is_row_end(p, q) {
+            return;
+        }
+    }
+}
+
+/// The least cost of each place that can be reached from the first.
+pub fn price_places(alloc: Global, table: &PlaceTable) -> Result<Pricing, AllocError>
+    ensures { IfOk result (λ pricing. IsPricing table.now (length table.now.places) 0 pricing.prices.items pricing.origins.items) }
+{
+    let count = table.len();
+    let mut prices = vec![in alloc; None; count]?;
+    let mut origins = vec![in alloc; 0; count]?;
+    prices[0] = Some(0);
+    for p in 0..count {
+        price_row(table, prices.as_mut_slice(), origins.as_mut_slice(), p);
+    }
+    Ok(Pricing { prices, origins })
+}

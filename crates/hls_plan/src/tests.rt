@@ -1,0 +1,166 @@
+use crate::{Planned, certificate, plan};
+use hls_check_laws::{Claim, PlaceTable, PrintedTable, Spot, Spots};
+use std::alloc::Global;
+use std::process::Abort;
+use std::test::Fail;
+
+const SECOND: u64 = 1_000_000;
+
+/// A spot without gaps before it.
+const fn spot(fragment: u64, time: u64) -> Spot {
+    Spot {
+        fragment,
+        prev_end: time,
+        start: time,
+        run_in: 0,
+        run_out: 0,
+    }
+}
+
+/// A table of places with the spots of each, target 6 s, preferred 4 s.
+fn table_of(alloc: Global, renditions: usize, places: &[&[Spot]]) -> Result<PlaceTable, Fail> {
+    let mut copies = Vec::new(alloc);
+    for spots in places {
+        copies.push(Spots::new(Vec::from_slice(alloc, spots)?))?;
+    }
+    let printed = PrintedTable::try_new(6, 4 * SECOND, renditions, copies);
+    Ok(PlaceTable::try_new(printed.ok_or("out of range")?).ok_or("not in order")?)
+}
+
+fn assert_cut(rt: &impl Abort, planned: &Planned, plan: &[usize], prices: &[Option<u64>]) {
+    match planned {
+        Planned::Cut {
+            plan: found,
+            prices: priced,
+        } => {
+            assert_eq!(rt; found.as_slice(), plan);
+            assert_eq!(rt; priced.as_slice(), prices);
+        }
+        Planned::NoCut { .. } => assert!(rt; false, "no cut"),
+    }
+}
+
+fn assert_none(rt: &impl Abort, planned: &Planned, closed: &[bool]) {
+    match planned {
+        Planned::Cut { .. } => assert!(rt; false, "a cut"),
+        Planned::NoCut { closed: found } => assert_eq!(rt; found.as_slice(), closed),
+    }
+}
+
+#[test]
+fn cuts_five_units(rt: HostRuntime) -> Result<(), Fail> {
+    let table = table_of(
+        rt.alloc(),
+        1,
+        &[
+            &[spot(0, 0)],
+            &[spot(1, 3 * SECOND)],
+            &[spot(2, 6 * SECOND)],
+            &[spot(3, 7 * SECOND)],
+            &[spot(4, 11 * SECOND)],
+        ],
+    )?;
+    let planned = plan(rt.alloc(), &table)?;
+    let prices = [
+        Some(0),
+        Some(SECOND),
+        Some(2 * SECOND),
+        Some(SECOND),
+        Some(SECOND),
+    ];
+    assert_cut(&rt, &planned, &[0, 1, 3, 4], &prices);
+    let printed = table.printed(rt.alloc())?;
+    assert_eq!(rt; printed.len(), 5);
+    assert_eq!(rt; printed.place(4).get(0), spot(4, 11 * SECOND));
+    let certificate = certificate(table, planned);
+    match certificate.claim() {
+        Claim::Cut { cost, plan, .. } => {
+            assert_eq!(rt; *cost, SECOND);
+            assert_eq!(rt; plan.as_slice(), [0, 1, 3, 4].as_slice());
+        }
+        Claim::NoCut { .. } => assert!(rt; false, "no cut"),
+    }
+    Ok(())
+}
+
+#[test]
+fn finds_no_cut_of_one_long_unit(rt: HostRuntime) -> Result<(), Fail> {
+    let table = table_of(rt.alloc(), 1, &[&[spot(0, 0)], &[spot(1, 7 * SECOND)]])?;
+    assert_none(&rt, &plan(rt.alloc(), &table)?, &[true, false]);
+    Ok(())
+}
+
+#[test]
+fn cuts_at_a_gap_of_both_renditions(rt: HostRuntime) -> Result<(), Fail> {
+    let after_gap = Spot {
+        fragment: 1,
+        prev_end: 4 * SECOND,
+        start: 6 * SECOND,
+        run_in: 0,
+        run_out: 1,
+    };
+    let end = Spot {
+        fragment: 2,
+        prev_end: 10 * SECOND,
+        start: 10 * SECOND,
+        run_in: 1,
+        run_out: 1,
+    };
+    let table = table_of(
+        rt.alloc(),
+        2,
+        &[
+            &[spot(0, 0), spot(0, 0)],
+            &[after_gap, after_gap],
+            &[end, end],
+        ],
+    )?;
+    let planned = plan(rt.alloc(), &table)?;
+    assert_cut(&rt, &planned, &[0, 1, 2], &[Some(0), Some(0), Some(0)]);
+    Ok(())
+}
+
+#[test]
+fn finds_no_cut_across_a_gap_of_one_rendition(rt: HostRuntime) -> Result<(), Fail> {
+    let audio = Spot {
+        fragment: 2,
+        prev_end: 4 * SECOND,
+        start: 4 * SECOND,
+        run_in: 1,
+        run_out: 1,
+    };
+    let audio_end = Spot {
+        fragment: 3,
+        prev_end: 8 * SECOND,
+        start: 8 * SECOND,
+        run_in: 1,
+        run_out: 1,
+    };
+    let table = table_of(
+        rt.alloc(),
+        2,
+        &[
+            &[spot(0, 0), spot(0, 0)],
+            &[spot(1, 4 * SECOND), audio],
+            &[spot(2, 8 * SECOND), audio_end],
+        ],
+    )?;
+    assert_none(&rt, &plan(rt.alloc(), &table)?, &[true, false, false]);
+    Ok(())
+}
+
+#[test]
+fn cuts_uneven_ends(rt: HostRuntime) -> Result<(), Fail> {
+    let table = table_of(
+        rt.alloc(),
+        2,
+        &[
+            &[spot(0, 0), spot(0, 0)],
+            &[spot(1, 4 * SECOND), spot(1, 4_010_666)],
+            &[spot(2, 8 * SECOND), spot(2, 8_021_333)],
+        ],
+    )?;
+    let planned = plan(rt.alloc(), &table)?;
+    assert_cut(&rt, &planned, &[0, 1, 2], &[Some(0), Some(0), Some(0)]);
+    Ok(())
+}
