@@ -1,0 +1,11 @@
+pub mod InitData
+pub mod FaultName
+pub mod Lists
+pub mod Fields
+pub mod Trafs
+pub mod Runs
+pub mod TrafFacts
+pub mod Layout
+pub mod UnitFacts
+pub mod Inits
+pub mod Meaning
