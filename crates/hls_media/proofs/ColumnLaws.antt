@@ -1,0 +1,46 @@
+-- Columns of numbers, and values by defaults.
+use Rattle.std.proofs.Common.{◌≡◌, ℕ, zero, suc, ◌+◌, ◌-◌, ◌*◌, ◌<◌, ◌≤◌, nat_lt, false, List, [], ◌∷◌, map, drop, replicate, sum, Option, Some, None, unwrap_or, refl, sym, ◌∙◌, ap, arith}
+use Rattle.std.specs.Int.{w32}
+use Rattle.std.proofs.lemmas.Bool.{lt-ltb}
+use Rattle.std.proofs.lemmas.List.Sums.{sum_by-cons}
+use Rattle.std.proofs.lemmas.List.Folds.{sum_by-replicate}
+use Rattle.hls_boxes_laws.specs.Boxes.{number_at}
+use Rattle.hls_media_laws.specs.Fields.{column, total, lacks}
+
+-- a row less
+pub rows_less : (n row len : ℕ) → 0 < n → n * row ≤ len → (n - 1) * row ≤ len - row
+rows_less zero row len some fits = absurd (omega arith)
+rows_less (suc n) row len some fits = let e : suc n - 1 ≡ n = omega arith in rw e (omega arith)
+
+pub row_fits : (n row len : ℕ) → 0 < n → n * row ≤ len → row ≤ len
+row_fits zero row len some fits = absurd (omega arith)
+row_fits (suc n) row len some fits = grind arith
+
+pub column-step : (n row at : ℕ) (bytes : List ℕ) → 0 < n → sum (column n row at bytes) ≡ number_at w32 at bytes + sum (column (n - 1) row at (drop row bytes))
+unfolding column
+column-step zero row at bytes some = absurd (omega arith)
+column-step (suc n) row at bytes some = let e : suc n - 1 ≡ n = omega arith in rw e (sum_by-cons (λ (v : ℕ). v) (number_at w32 at bytes) (column n row at (drop row bytes)))
+
+pub column-none : (n row at : ℕ) (bytes : List ℕ) → n ≡ 0 → sum (column n row at bytes) ≡ 0
+unfolding column
+column-none zero row at bytes none = refl
+column-none (suc n) row at bytes none = absurd (omega arith)
+
+pub total-fields : (xs : List ℕ) → total (map Some xs) ≡ sum xs
+total-fields [] = refl
+total-fields (x ∷ xs) = sum_by-cons (λ (v : Option ℕ). unwrap_or v 0) (Some x) (map Some xs) ∙ ap (λ (n : ℕ). x + n) (total-fields xs) ∙ sym (sum_by-cons (λ (v : ℕ). v) x xs)
+
+pub lacks-fields : (xs : List ℕ) → lacks (map Some xs) ≡ false
+lacks-fields [] = refl
+lacks-fields (x ∷ xs) = lacks-fields xs
+
+pub total-defaults : (n : ℕ) (o : Option ℕ) → total (replicate n o) ≡ n * unwrap_or o 0
+total-defaults n o = sum_by-replicate (λ (v : Option ℕ). unwrap_or v 0) n o
+
+pub lacks-defaults : (n : ℕ) (v : ℕ) → lacks (replicate n (Some v)) ≡ false
+lacks-defaults zero v = refl
+lacks-defaults (suc n) v = lacks-defaults n v
+
+pub lacks-none : (n : ℕ) → lacks (replicate n None) ≡ nat_lt 0 n
+lacks-none zero = refl
+lacks-none (suc n) = sym (lt-ltb 0 (suc n) (omega arith))

@@ -1,0 +1,30 @@
+-- What walks over an `mdia` and a `trak` come to.
+use Rattle.std.proofs.Common.{◌≡◌, ℕ, List, Option, Some, None, refl}
+use Rattle.hls_media_laws.specs.declared.kinds.TheConstants.{MDHD, HDLR, TKHD, MDIA}
+use Rattle.hls_media_laws.specs.declared.track.Media.{Media}
+use Rattle.hls_media_laws.specs.Inits.{versioned_field, handler_field, media_from, media_of, track_from, track_at}
+use Rattle.hls_media.specs.Folds.{over}
+use Rattle.hls_media.specs.Firsts.{first_step, both}
+use Rattle.hls_media.proofs.FirstLaws.{over-firsts}
+
+no_scale : (handler : Option ℕ) → media_from None handler ≡ None
+no_scale handler = refl
+
+no_handler : (scale : Option ℕ) → media_from scale None ≡ None
+no_handler None = refl
+no_handler (Some s) = refl
+
+no_id : (media : Option Media) → track_from None media ≡ None
+no_id media = refl
+
+no_media : (id : Option ℕ) → track_from id None ≡ None
+no_media None = refl
+no_media (Some i) = refl
+
+pub over-media_of : (content : List ℕ) → over (first_step versioned_field handler_field MDHD HDLR) (both media_from) (None, None) content ≡ media_of content
+unfolding media_of
+over-media_of content = over-firsts versioned_field handler_field MDHD HDLR media_from refl no_scale no_handler content
+
+pub over-track_at : (content : List ℕ) → over (first_step versioned_field media_of TKHD MDIA) (both track_from) (None, None) content ≡ track_at content
+unfolding track_at
+over-track_at content = over-firsts versioned_field media_of TKHD MDIA track_from refl no_id no_media content

@@ -1,0 +1,17 @@
+pub mod Overs
+pub mod TrafLaws
+pub mod RunLaws
+pub mod ColumnLaws
+pub mod NearLaws
+pub mod Slices
+pub mod BridgeLaws
+pub mod ReadLaws
+pub mod FactLaws
+pub mod UnitLaws
+pub mod FirstLaws
+pub mod InitLaws
+pub mod GatherLaws
+pub mod MoovLaws
+pub mod TracksLaws
+pub mod MoovPlace
+pub mod InitReads

@@ -1,0 +1,246 @@
+-- The tracks of a `moov`, from what walks over its boxes gathered.
+use Rattle.std.proofs.Common.{◌≡◌, ℕ, ◌+◌, ◌≤◌, ◌==◌, nat_lt, Bool, true, false, cond, List, [], ◌∷◌, ◌++◌, length, map, fold, slice_get, Option, Some, None, is_none, option_map, option_and_then, refl, sym, ◌∙◌, ap, subst, inl, inr, append_assoc, arith}
+use Rattle.std.proofs.lemmas.Bool.{cases_Bool, lt-ltb}
+use Rattle.std.proofs.lemmas.List.{append-nil, length-append, length-map}
+use Rattle.hls_boxes_laws.specs.Boxes.{Child, children, named}
+use Rattle.hls_media_laws.specs.declared.kinds.TheConstants.{TRAK, MVEX, TREX, TKHD, MDIA}
+use Rattle.hls_media_laws.specs.declared.track.Track.{Track}
+use Rattle.hls_media_laws.specs.declared.track.Trex.{Trex}
+use Rattle.hls_media_laws.specs.declared.track.Media.{Media}
+use Rattle.hls_media_laws.specs.Lists.{all_of, all_differ}
+use Rattle.hls_media_laws.specs.Inits.{track_at, track_by, track_from, first_with, versioned_field, media_of, trex_at, trexes_of, trexes_by, with_defaults, tracks_with, tracks_by, tracks_of}
+use Rattle.hls_media.specs.Folds.{along, over}
+use Rattle.hls_media.specs.Given.{given, given_step, kept}
+use Rattle.hls_media.specs.Gathered.{Gathered, nothing_yet, gather_step, AreTracks}
+use Rattle.hls_media.proofs.MoovLaws.{gathered, after, over-gather}
+
+-- the defaults of a track, one `trex` after the other
+gave : List Trex → Track → Track
+gave xs t = fold (λ (t : Track) (x : Trex). given x t) t xs
+
+-- tracks as yet without defaults
+abbrev Fresh : List Track → Type 0
+Fresh [] = Unit {0}
+Fresh (t ∷ ts) = (t.defaults ≡ None) × Fresh ts
+
+fresh_from : (id : Option ℕ) (media : Option Media) (t : Track) → track_from id media ≡ Some t → t.defaults ≡ None
+fresh_from None media t is = absurd (cc)
+fresh_from (Some i) None t is = absurd (cc)
+fresh_from (Some i) (Some m) t is =
+    let same : (record { id = i; scale = m.scale; handler = m.handler; defaults = None }) ≡ t = cc in
+    sym (ap (λ (t : Track). t.defaults) same)
+
+fresh_by : (boxes : Option (List Child)) (t : Track) → option_and_then track_by boxes ≡ Some t → t.defaults ≡ None
+fresh_by None t is = absurd (cc)
+fresh_by (Some cs) t is = fresh_from (first_with versioned_field TKHD cs) (first_with media_of MDIA cs) t is
+
+fresh_at : (content : List ℕ) (t : Track) → track_at content ≡ Some t → t.defaults ≡ None
+unfolding track_at
+fresh_at content t is = fresh_by (children content) t is
+
+fresh_more : (o : Option Track) (others : Option (List Track)) (ts : List Track) → ((t : Track) → o ≡ Some t → t.defaults ≡ None) → ((us : List Track) → others ≡ Some us → Fresh us)
+    → option_and_then (λ (y : Track). option_map (λ (ys : List Track). y ∷ ys) others) o ≡ Some ts → Fresh ts
+fresh_more None others ts one more is = absurd (cc)
+fresh_more (Some t) None ts one more is = absurd (cc)
+fresh_more (Some t) (Some us) ts one more is =
+    let same : t ∷ us ≡ ts = cc in
+    subst Fresh same (one t refl, more us refl)
+
+fresh : (contents : List (List ℕ)) (ts : List Track) → all_of track_at contents ≡ Some ts → Fresh ts
+fresh [] ts is = let same : [] ≡ ts = cc in subst Fresh same tt
+fresh (x ∷ xs) ts is = fresh_more (track_at x) (all_of track_at xs) ts (λ t e. fresh_at x t e) (λ us e. fresh xs us e) is
+
+-- the first `trex` of a track counts
+no_gift : (x : Trex) (t : Track) → is_none t.defaults ≡ false → given x t ≡ t
+no_gift x t some = elim (cases_Bool (x.id == t.id)) [ inl e ↦ rw (e, some) refl | inr e ↦ rw e refl ]
+
+gave-stays : (xs : List Trex) (t : Track) → is_none t.defaults ≡ false → gave xs t ≡ t
+unfolding gave
+gave-stays [] t some = refl
+gave-stays (x ∷ xs) t some =
+    ap (λ (t : Track). gave xs t) (no_gift x t some) ∙ gave-stays xs t some
+
+gave-with : (xs : List Trex) (t : Track) → t.defaults ≡ None → gave xs t ≡ with_defaults xs t
+unfolding gave
+gave-with [] t none = ap (λ d. record t { defaults = d }) none
+gave-with (x ∷ xs) t none =
+    elim (cases_Bool (x.id == t.id)) [
+      | inl e ↦
+          let gift : given x t ≡ record t { defaults = Some x.defaults } = rw (e, none) refl in
+          ap (λ (t : Track). gave xs t) gift ∙ gave-stays xs (record t { defaults = Some x.defaults }) refl ∙ rw e refl
+      | inr e ↦
+          let same : given x t ≡ t = rw e refl in
+          ap (λ (t : Track). gave xs t) same ∙ gave-with xs t none ∙ rw e refl
+    ]
+
+all-gave : (xs : List Trex) (ts : List Track) → Fresh ts → map (gave xs) ts ≡ map (with_defaults xs) ts
+all-gave xs [] none = refl
+all-gave xs (t ∷ ts) none = rw (gave-with xs t none.0, all-gave xs ts none.1) refl
+
+no-gifts : (ts : List Track) → ts ≡ map (gave []) ts
+unfolding gave
+no-gifts [] = refl
+no-gifts (t ∷ ts) = ap (λ (ts : List Track). t ∷ ts) (no-gifts ts)
+
+one-gift : (x : Trex) (xs : List Trex) (ts : List Track) → map (gave xs) (map (given x) ts) ≡ map (gave (x ∷ xs)) ts
+unfolding gave
+one-gift x xs [] = refl
+one-gift x xs (t ∷ ts) = ap (λ (ts : List Track). gave xs (given x t) ∷ ts) (one-gift x xs ts)
+
+-- a walk over an `mvex`
+one_trex : (ts : List Track) (x : Trex) (others : Option (List Trex)) → option_map (λ (xs : List Trex). map (gave xs) (map (given x) ts)) others ≡ option_map (λ (xs : List Trex). map (gave xs) ts) (option_map (λ (xs : List Trex). x ∷ xs) others)
+one_trex ts x None = refl
+one_trex ts x (Some xs) = ap Some (one-gift x xs ts)
+
+a_trex : (ts : List Track) (o : Option Trex) (cs : List Child) → ((ts : List Track) → along given_step Some ts cs ≡ option_map (λ (xs : List Trex). map (gave xs) ts) (all_of trex_at (named TREX cs)))
+    → option_and_then (λ (ts : List Track). along given_step Some ts cs) (option_map (λ (x : Trex). map (given x) ts) o)
+    ≡ option_map (λ (xs : List Trex). map (gave xs) ts) (option_and_then (λ (x : Trex). option_map (λ (xs : List Trex). x ∷ xs) (all_of trex_at (named TREX cs))) o)
+a_trex ts None cs ih = refl
+a_trex ts (Some x) cs ih = ih (map (given x) ts) ∙ one_trex ts x (all_of trex_at (named TREX cs))
+
+along-given : (cs : List Child) (ts : List Track) → along given_step Some ts cs ≡ option_map (λ (xs : List Trex). map (gave xs) ts) (all_of trex_at (named TREX cs))
+unfolding along
+along-given [] ts = ap Some (no-gifts ts)
+along-given (c ∷ cs) ts =
+    elim (cases_Bool (c.kind == TREX)) [
+      | inl e ↦ rw e (a_trex ts (trex_at c.content) cs (along-given cs))
+      | inr e ↦ rw e (along-given cs ts)
+    ]
+
+given_boxes : (boxes : Option (List Child)) (ts : List Track) → option_and_then (along given_step Some ts) boxes ≡ option_map (λ (xs : List Trex). map (gave xs) ts) (option_and_then (λ (cs : List Child). all_of trex_at (named TREX cs)) boxes)
+given_boxes None ts = refl
+given_boxes (Some cs) ts = along-given cs ts
+
+over-given : (mvex : List ℕ) (ts : List Track) → over given_step Some ts mvex ≡ option_map (λ (xs : List Trex). map (gave xs) ts) (trexes_of mvex)
+unfolding over trexes_of
+over-given mvex ts = given_boxes (children mvex) ts
+
+-- eight tracks at most are kept whole
+kept-fold : (ts acc : List Track) → length acc + length ts ≤ 8 → fold kept acc ts ≡ acc ++ ts
+kept-fold [] acc few = sym (append-nil acc)
+kept-fold (t ∷ ts) acc few =
+    let room : nat_lt (length acc) 8 ≡ true = lt-ltb (length acc) 8 (omega arith) in
+    let step : kept acc t ≡ acc ++ t ∷ [] = rw room refl in
+    ap (λ (ts' : List Track). fold kept ts' ts) step
+    ∙ kept-fold ts (acc ++ t ∷ []) (omega (arith, length-append acc (t ∷ [])))
+    ∙ append_assoc acc (t ∷ []) ts
+
+-- what was gathered of a `moov`
+pub record Gathering (moov : List ℕ) (s : Gathered) : Type 0 where
+  pub boxes : List Child
+  pub tracks : List Track
+  pub filled : children moov ≡ Some boxes
+  pub read : all_of track_at (named TRAK boxes) ≡ Some tracks
+  pub differ : all_differ (map (λ (t : Track). t.id) tracks) ≡ true
+  pub ids_are : s.ids ≡ map (λ (t : Track). t.id) tracks
+  pub tracks_are : s.tracks ≡ fold kept [] tracks
+  pub mvex_is : s.mvex ≡ slice_get (named MVEX boxes) 0
+
+gathering_so : (moov : List ℕ) (cs : List Child) (ts : List Track) → children moov ≡ Some cs → all_of track_at (named TRAK cs) ≡ Some ts → all_differ (map (λ (t : Track). t.id) ts) ≡ true → Gathering moov (after nothing_yet (slice_get (named MVEX cs) 0) ts)
+unfolding after
+gathering_so moov cs ts filled read differ = record {
+  boxes = cs;
+  tracks = ts;
+  filled = filled;
+  read = read;
+  differ = differ;
+  ids_are = refl;
+  tracks_are = refl;
+  mvex_is = refl;
+}
+
+gathering_from : (moov : List ℕ) (cs : List Child) (ts : List Track) (s : Gathered) (differs : Bool) → children moov ≡ Some cs → all_of track_at (named TRAK cs) ≡ Some ts → all_differ (map (λ (t : Track). t.id) ts) ≡ differs
+    → cond differs (Some (after nothing_yet (slice_get (named MVEX cs) 0) ts)) None ≡ Some s → Gathering moov s
+gathering_from moov cs ts s false filled read differ is = absurd (cc)
+gathering_from moov cs ts s true filled read differ is =
+    let same : after nothing_yet (slice_get (named MVEX cs) 0) ts ≡ s = cc in
+    subst (Gathering moov) same (gathering_so moov cs ts filled read differ)
+
+gathering_tracks : (moov : List ℕ) (cs : List Child) (ts : Option (List Track)) (s : Gathered) → children moov ≡ Some cs → all_of track_at (named TRAK cs) ≡ ts → option_and_then (gathered nothing_yet (slice_get (named MVEX cs) 0)) ts ≡ Some s → Gathering moov s
+unfolding gathered
+gathering_tracks moov cs None s filled read is = absurd (cc)
+gathering_tracks moov cs (Some ts) s filled read is = gathering_from moov cs ts s (all_differ (map (λ (t : Track). t.id) ts)) filled read refl is
+
+gathering_boxes : (moov : List ℕ) (boxes : Option (List Child)) (s : Gathered) → children moov ≡ boxes → option_and_then (λ (cs : List Child). option_and_then (gathered nothing_yet (slice_get (named MVEX cs) 0)) (all_of track_at (named TRAK cs))) boxes ≡ Some s → Gathering moov s
+gathering_boxes moov None s filled is = absurd (cc)
+gathering_boxes moov (Some cs) s filled is = gathering_tracks moov cs (all_of track_at (named TRAK cs)) s filled refl is
+
+pub gathering : (moov : List ℕ) (s : Gathered) → over gather_step Some nothing_yet moov ≡ Some s → Gathering moov s
+gathering moov s is = gathering_boxes moov (children moov) s refl (sym (over-gather moov) ∙ is)
+
+-- nothing was gathered where a box is no good or two tracks have one number
+no_differ : (ts : List Track) (s : Gathered) (differs : Bool) → all_differ (map (λ (t : Track). t.id) ts) ≡ differs → cond differs (Some s) None ≡ None → (trexes : Option (List Trex)) → option_and_then (tracks_with ts) trexes ≡ None
+no_differ ts s true e is trexes = absurd (cc)
+no_differ ts s false e is None = refl
+no_differ ts s false e is (Some xs) = rw e refl
+
+no_tracks : (cs : List Child) (ts : Option (List Track)) → option_and_then (gathered nothing_yet (slice_get (named MVEX cs) 0)) ts ≡ None → option_and_then (λ (tracks : List Track). option_and_then (tracks_with tracks) (trexes_by (named MVEX cs))) ts ≡ None
+unfolding gathered
+no_tracks cs None is = refl
+no_tracks cs (Some ts) is = no_differ ts (after nothing_yet (slice_get (named MVEX cs) 0) ts) (all_differ (map (λ (t : Track). t.id) ts)) refl is (trexes_by (named MVEX cs))
+
+no_boxes : (boxes : Option (List Child)) → option_and_then (λ (cs : List Child). option_and_then (gathered nothing_yet (slice_get (named MVEX cs) 0)) (all_of track_at (named TRAK cs))) boxes ≡ None → option_and_then tracks_by boxes ≡ None
+no_boxes None is = refl
+no_boxes (Some cs) is = no_tracks cs (all_of track_at (named TRAK cs)) is
+
+nothing-gathered : (moov : List ℕ) → over gather_step Some nothing_yet moov ≡ None → tracks_of moov ≡ None
+unfolding tracks_of
+nothing-gathered moov is = no_boxes (children moov) (sym (over-gather moov) ∙ is)
+
+pub read-nothing : (moov ids : List ℕ) (tracks : List Track) → over gather_step Some nothing_yet moov ≡ None → AreTracks false (tracks_of moov) ids tracks
+read-nothing moov ids tracks is = subst (λ (o : Option (List Track)). AreTracks false o ids tracks) (sym (nothing-gathered moov is)) tt
+
+-- the tracks of the `moov`, by the `trex` boxes of its first `mvex`
+trexes_in : Option (List ℕ) → Option (List Trex)
+trexes_in None = Some []
+trexes_in (Some mvex) = trexes_of mvex
+
+trexes-first : (mvexes : List (List ℕ)) → trexes_by mvexes ≡ trexes_in (slice_get mvexes 0)
+unfolding trexes_in
+trexes-first [] = refl
+trexes-first (x ∷ xs) = refl
+
+with_trexes : (ts : List Track) (trexes : Option (List Trex)) → all_differ (map (λ (t : Track). t.id) ts) ≡ true → option_and_then (tracks_with ts) trexes ≡ option_map (λ (xs : List Trex). map (with_defaults xs) ts) trexes
+with_trexes ts None differ = refl
+with_trexes ts (Some xs) differ = rw differ refl
+
+tracks-gathered : (moov : List ℕ) (s : Gathered) (g : Gathering moov s) → tracks_of moov ≡ option_map (λ (xs : List Trex). map (with_defaults xs) g.tracks) (trexes_in s.mvex)
+unfolding tracks_of
+tracks-gathered moov s g =
+    ap (option_and_then tracks_by) g.filled
+    ∙ ap (option_and_then (λ (tracks : List Track). option_and_then (tracks_with tracks) (trexes_by (named MVEX g.boxes)))) g.read
+    ∙ ap (option_and_then (tracks_with g.tracks)) (trexes-first (named MVEX g.boxes) ∙ ap trexes_in (sym g.mvex_is))
+    ∙ with_trexes g.tracks (trexes_in s.mvex) g.differ
+
+-- what was gathered, given these defaults
+are-tracks : (moov : List ℕ) (s : Gathered) (g : Gathering moov s) (xs : List Trex) (tracks : List Track) → tracks ≡ map (gave xs) s.tracks → AreTracks true (Some (map (with_defaults xs) g.tracks)) s.ids tracks
+are-tracks moov s g xs tracks is = (
+  ap length g.ids_are ∙ length-map g.tracks (λ (t : Track). t.id) ∙ sym (length-map g.tracks (with_defaults xs)),
+  λ few.
+      let count : length (map (with_defaults xs) g.tracks) ≡ length g.tracks = length-map g.tracks (with_defaults xs) in
+      is ∙ ap (map (gave xs)) (g.tracks_are ∙ kept-fold g.tracks [] (omega (arith, few, count)))
+      ∙ all-gave xs g.tracks (fresh (named TRAK g.boxes) g.tracks g.read),
+)
+
+pub read-alone : (moov : List ℕ) (s : Gathered) → over gather_step Some nothing_yet moov ≡ Some s → s.mvex ≡ None → AreTracks true (tracks_of moov) s.ids s.tracks
+unfolding trexes_in
+read-alone moov s is none =
+    let g : Gathering moov s = gathering moov s is in
+    let e : tracks_of moov ≡ Some (map (with_defaults []) g.tracks) = tracks-gathered moov s g ∙ ap (λ (m : Option (List ℕ)). option_map (λ (xs : List Trex). map (with_defaults xs) g.tracks) (trexes_in m)) none in
+    subst (λ (o : Option (List Track)). AreTracks true o s.ids s.tracks) (sym e) (are-tracks moov s g [] s.tracks (no-gifts s.tracks))
+
+by_trexes : (moov : List ℕ) (s : Gathered) (g : Gathering moov s) (trexes : Option (List Trex)) (good : Bool) (tracks : List Track) → option_map (λ (xs : List Trex). map (gave xs) s.tracks) trexes ≡ cond good (Some tracks) None
+    → AreTracks good (option_map (λ (xs : List Trex). map (with_defaults xs) g.tracks) trexes) s.ids tracks
+by_trexes moov s g None true tracks is = absurd (cc)
+by_trexes moov s g None false tracks is = tt
+by_trexes moov s g (Some xs) true tracks is =
+    let same : map (gave xs) s.tracks ≡ tracks = cc in
+    are-tracks moov s g xs tracks (sym same)
+by_trexes moov s g (Some xs) false tracks is = absurd (cc)
+
+pub read-given : (moov : List ℕ) (s : Gathered) (content : List ℕ) (good : Bool) (tracks : List Track) → over gather_step Some nothing_yet moov ≡ Some s → s.mvex ≡ Some content → over given_step Some s.tracks content ≡ cond good (Some tracks) None → AreTracks good (tracks_of moov) s.ids tracks
+unfolding trexes_in
+read-given moov s content good tracks is some given_is =
+    let g : Gathering moov s = gathering moov s is in
+    let e : tracks_of moov ≡ option_map (λ (xs : List Trex). map (with_defaults xs) g.tracks) (trexes_of content) = tracks-gathered moov s g ∙ ap (λ (m : Option (List ℕ)). option_map (λ (xs : List Trex). map (with_defaults xs) g.tracks) (trexes_in m)) some in
+    subst (λ (o : Option (List Track)). AreTracks good o s.ids tracks) (sym e) (by_trexes moov s g (trexes_of content) good tracks (sym (over-given content s.tracks) ∙ given_is))

@@ -1,0 +1,20 @@
+use Rattle.std.proofs.Common.{◌≡◌, ◌<◌, length, arith}
+use Rattle.std.proofs.lemmas.List.{take_rest, length-drop}
+use Rattle.hls_media.proofs.ColumnLaws.{rows_less, column-step, column-none}
+use Rattle.hls_media.proofs.columns.column_sum.Goals as goal
+
+pub rows-preserved : goal.rows-preserved
+rows-preserved c =
+    let some : 0 < c.rows.left = omega arith in
+    rw (take_rest c.rows.rest.now c.args.row)
+    (record {
+      value = omega (arith, c.rows.invariant.value, column-step c.rows.left c.args.row c.args.at c.rows.rest.now some, c.u32_at.ensures, c.from-total.ensures);
+      room = omega (arith, rows_less c.rows.left c.args.row (length c.rows.rest.now) some c.rows.invariant.room, length-drop c.args.row c.rows.rest.now);
+      bound = omega (arith, c.rows.invariant.bound, c.from-total.ensures);
+      counted = omega (arith, c.rows.invariant.counted);
+    })
+
+pub returns : goal.returns
+returns c =
+    let none : c.rows.left ≡ 0 = omega arith in
+    omega (arith, c.rows.invariant.value, column-none c.rows.left c.args.row c.args.at c.rows.rest.now none)

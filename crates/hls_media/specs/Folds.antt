@@ -1,0 +1,11 @@
+-- A walk over the boxes that fill a text, each looked at once.
+use Rattle.std.specs.Prelude.{ℕ, List, [], ◌∷◌, Option, option_and_then}
+use Rattle.hls_boxes_laws.specs.Boxes.{Child, children}
+
+unfoldable pub along : {S R : Type 0} → (S → Child → Option S) → (S → Option R) → S → List Child → Option R
+along step finish s [] = finish s
+along step finish s (c ∷ cs) = option_and_then (λ s'. along step finish s' cs) (step s c)
+
+-- none where no boxes fill the text, or a step gives none
+unfoldable pub over : {S R : Type 0} → (S → Child → Option S) → (S → Option R) → S → List ℕ → Option R
+over step finish s bytes = option_and_then (along step finish s) (children bytes)

@@ -1,0 +1,54 @@
+-- What the code keeps of a `moov`, one box after the other.
+use Rattle.std.specs.Prelude.{Bool, true, false, ◌≡◌, ℕ, ◌-◌, ◌*◌, ◌≤◌, ◌==◌, if◌then◌else◌, Option, Some, None, IfSome, is_some, option_map, option_and_then, List, [], ◌∷◌, ◌++◌, length, drop, slice_range}
+use Rattle.std.specs.List.{list_any}
+use Rattle.hls_boxes_laws.specs.Boxes.{Child}
+use Rattle.hls_media_laws.specs.declared.kinds.TheConstants.{TRAK, MVEX}
+use Rattle.hls_media_laws.specs.declared.track.Track.{Track}
+use Rattle.hls_media_laws.specs.Inits.{track_at}
+use Rattle.hls_media.specs.declared.moovs.Span.{Span}
+use Rattle.hls_media.specs.Folds.{over}
+use Rattle.hls_media.specs.Given.{kept}
+
+-- the numbers of all tracks, the first eight tracks, and the content of the first `mvex`
+pub record Gathered : Type 0 where
+  pub ids : List ℕ
+  pub tracks : List Track
+  pub mvex : Option (List ℕ)
+
+abbrev pub nothing_yet : Gathered
+nothing_yet = record { ids = []; tracks = []; mvex = None }
+
+-- one more track, unless its number came before
+abbrev pub with_track : Gathered → Track → Option Gathered
+with_track s t = if list_any (λ (m : ℕ). m == t.id) s.ids then None else Some (record s { ids = s.ids ++ t.id ∷ []; tracks = kept s.tracks t })
+
+-- whether a track was added to these lists, and what they are then
+abbrev pub Added : Bool → Option Track → List ℕ → List Track → List ℕ → List Track → Type 0
+Added true None ids tracks new_ids new_tracks = ⊥
+Added true (Some t) ids tracks new_ids new_tracks = (list_any (λ (m : ℕ). m == t.id) ids ≡ false) × (new_ids ≡ ids ++ t.id ∷ []) × (new_tracks ≡ kept tracks t)
+Added false None ids tracks new_ids new_tracks = Unit {0}
+Added false (Some t) ids tracks new_ids new_tracks = list_any (λ (m : ℕ). m == t.id) ids ≡ true
+
+abbrev pub gather_step : Gathered → Child → Option Gathered
+gather_step s c =
+    if c.kind == TRAK then option_and_then (with_track s) (track_at c.content)
+    else (if c.kind == MVEX then (if is_some s.mvex then Some s else Some (record s { mvex = Some c.content }))
+    else Some s)
+
+-- whether these are the numbers of all tracks, and the tracks where they are at most eight
+abbrev pub AreTracks : Bool → Option (List Track) → List ℕ → List Track → Type 0
+AreTracks true None ids tracks = ⊥
+AreTracks true (Some ts) ids tracks = (length ids ≡ length ts) × (length ts ≤ 8 → tracks ≡ ts)
+AreTracks false None ids tracks = Unit {0}
+AreTracks false (Some ts) ids tracks = ⊥
+
+-- what was gathered, seen with the content of the `mvex`
+abbrev pub seen_with : List ℕ → List ℕ → List Track → Option Span → Gathered
+seen_with moov ids tracks mvex = record { ids = ids; tracks = tracks; mvex = option_map (λ (s : Span). slice_range moov s.from s.to) mvex }
+
+pub record GatheredSoFar (moov : List ℕ) (ids : List ℕ) (tracks : List Track) (mvex : Option Span) (rest : List ℕ) : Type 0 where
+  pub value : over gather_step Some nothing_yet moov ≡ over gather_step Some (seen_with moov ids tracks mvex) rest
+  pub room : length ids * 64 ≤ length moov - length rest
+  pub within : length rest ≤ length moov
+  pub rest_is : rest ≡ drop (length moov - length rest) moov
+  pub mvex_is : IfSome mvex (λ s. (s.from ≤ s.to) × (s.to ≤ length moov))

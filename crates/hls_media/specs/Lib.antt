@@ -1,0 +1,13 @@
+pub mod Kept
+pub mod Folds
+pub mod Noted
+pub mod Valued
+pub mod Summed
+pub mod Placed
+pub mod Walked
+pub mod Timed
+pub mod Tallies
+pub mod Shapes
+pub mod Firsts
+pub mod Given
+pub mod Gathered

@@ -1,0 +1,7 @@
+-- What the values of samples come to.
+use Rattle.std.specs.Prelude.{ℕ, List, Option}
+use Rattle.hls_media_laws.specs.Fields.{total, lacks}
+use Rattle.hls_media.specs.declared.columns.Values.{Values}
+
+abbrev pub valued : List (Option ℕ) → Values
+valued vs = record { total = total vs; lacking = lacks vs }

@@ -1,0 +1,94 @@
+//! The values of a run's samples: from the fields of its rows, or by defaults (ISO/IEC 14496-12 8.8.8).
+
+ghost use Rattle.std.specs.Prelude.{◌≡◌, ◌+◌, ◌*◌, ◌^◌, ◌<◌, ◌≤◌, Option, true, length, sum};
+ghost use Rattle.hls_media_laws.specs.Fields.{column, values, durations, sizes};
+ghost use Rattle.hls_media_laws.specs.Runs.{first_sample_flags};
+ghost use Rattle.hls_media.specs.Kept.{IsRun};
+ghost use Rattle.hls_media.specs.Valued.{valued};
+
+use crate::flags::{field_if, field_len};
+use crate::numbers::u32_at;
+use crate::trun::Run;
+
+/// What the values of a run's samples come to.
+#[derive(Clone, Copy)]
+pub struct Values {
+    /// The sum of those that are there.
+    pub total: u64,
+    /// Whether one stands nowhere.
+    pub lacking: bool,
+}
+
+/// The sum of the numbers that stand at `at` in the first `count` rows of `row` bytes.
+pub fn column_sum(rows: &[u8], count: u32, row: usize, at: usize) -> u64
+    requires in_row { at + 4 ≤ row }
+    requires in_rows { count * row ≤ length rows.now }
+    ensures { result ≡ sum (column count row at rows.now) }
+{
+    let mut total: u64 = 0;
+    let mut rest = rows;
+    let mut left = count;
+    'rows: while left > 0 {
+        total += u64::from(u32_at(rest, at));
+        rest = &rest[row..];
+        left -= 1;
+    }
+    total
+}
+
+/// The values of the samples of a run: the fields at `at` where rows have them, else the default.
+pub fn values_of(content: &[u8], run: Run, there: bool, at: usize, default: Option<u32>) -> Values
+    requires is_run { IsRun run content.now }
+    requires in_row { there ≡ true → at + 4 ≤ run.row }
+    ensures { result ≡ valued (values there at default content.now) }
+{
+    if there {
+        return Values {
+            total: column_sum(&content[run.rows..], run.count, run.row, at),
+            lacking: false,
+        };
+    }
+    let Some(value) = default else {
+        return Values {
+            total: 0,
+            lacking: run.count > 0,
+        };
+    };
+    Values {
+        total: u64::from(run.count) * u64::from(value),
+        lacking: false,
+    }
+}
+
+/// The durations of a run's samples.
+pub fn durations_of(content: &[u8], run: Run, default: Option<u32>) -> Values
+    requires { IsRun run content.now }
+    ensures { result ≡ valued (durations default content.now) }
+{
+    values_of(content, run, run.flags & 256 != 0, 0, default)
+}
+
+/// The sizes of a run's samples.
+pub fn sizes_of(content: &[u8], run: Run, default: Option<u32>) -> Values
+    requires { IsRun run content.now }
+    ensures { result ≡ valued (sizes default content.now) }
+{
+    values_of(
+        content,
+        run,
+        run.flags & 512 != 0,
+        field_len(run.flags, 256),
+        default,
+    )
+}
+
+/// The flags of the first sample of a run that has one.
+pub fn first_flags(content: &[u8], run: Run, default: Option<u32>) -> Option<u32>
+    requires is_run { IsRun run content.now }
+    requires some { 0 < run.count }
+    ensures { result ≡ first_sample_flags default content.now }
+{
+    let at = run.rows + field_len(run.flags, 256) + field_len(run.flags, 512);
+    run.first_flags
+        .or(field_if(content, run.flags, 1024, at).or(default))
+}

@@ -1,0 +1,27 @@
+//! Reads init sections and the facts of units (ISO/IEC 14496-12), exactly by the definitions of `hls_media_laws`.
+#![tactic(auto)]
+
+mod columns;
+mod flags;
+mod headers;
+mod headings;
+mod ids;
+mod inits;
+mod medias;
+mod moovs;
+mod numbers;
+mod places;
+mod tallies;
+#[cfg(test)]
+mod tests;
+mod tfdt;
+mod tfhd;
+mod times;
+mod tracks;
+mod trafs;
+mod trun;
+mod units;
+mod verdict;
+
+pub use inits::read_init;
+pub use units::read_facts;

@@ -1,0 +1,61 @@
+//! Refused memory, and the names of the faults.
+
+use crate::read_init;
+use hls_media_laws::fault::MediaFault;
+use std::test::Fail;
+
+/// A `moov` with a video track of 90000 ticks a second.
+const ONE_TRACK: &[u8; 92] =
+    b"\x00\x00\x00\x5cmoov\x00\x00\x00\x54trak\x00\x00\x00\x18tkhd\x00\x00\x00\x00\x00\x00\x00\x00\x00\x00\
+\x00\x00\x00\x00\x00\x01\x00\x00\x00\x34mdia\x00\x00\x00\x18mdhd\x00\x00\x00\x00\x00\x00\x00\x00\x00\
+\x00\x00\x00\x00\x01\x5f\x90\x00\x00\x00\x14hdlr\x00\x00\x00\x00\x00\x00\x00\x00vide";
+
+/// The same without a timescale.
+const NO_SCALE: &[u8; 92] =
+    b"\x00\x00\x00\x5cmoov\x00\x00\x00\x54trak\x00\x00\x00\x18tkhd\x00\x00\x00\x00\x00\x00\x00\x00\x00\x00\
+\x00\x00\x00\x00\x00\x01\x00\x00\x00\x34mdia\x00\x00\x00\x18mdhd\x00\x00\x00\x00\x00\x00\x00\x00\x00\
+\x00\x00\x00\x00\x00\x00\x00\x00\x00\x00\x14hdlr\x00\x00\x00\x00\x00\x00\x00\x00vide";
+
+/// All memory here is that of the init section, so this is the test to run with each allocation refused in turn: a refusal
+/// stands in place of a value alone, and a second try gives it.
+#[test]
+fn refused_memory(rt: HostRuntime) -> Result<(), Fail> {
+    let alloc = rt.alloc();
+    assert_eq!(rt;
+        read_init(alloc, NO_SCALE).err(),
+        Some(MediaFault::ZeroScale)
+    );
+    let init = match read_init(alloc, ONE_TRACK) {
+        Err(MediaFault::Memory) => read_init(alloc, ONE_TRACK)?,
+        answer => answer?,
+    };
+    assert_eq!(rt; init.tracks().len(), 1);
+    assert_eq!(rt; init.timing_track().scale, 90000);
+    Ok(())
+}
+
+/// The names are the printed texts as well.
+#[test]
+fn names(rt: HostRuntime) -> Result<(), Fail> {
+    let cases = [
+        (MediaFault::BadBox, "BadBox"),
+        (MediaFault::NoTrack, "NoTrack"),
+        (MediaFault::TooManyTracks, "TooManyTracks"),
+        (MediaFault::ZeroScale, "ZeroScale"),
+        (MediaFault::NoDefault, "NoDefault"),
+        (MediaFault::NoTimingTraf, "NoTimingTraf"),
+        (MediaFault::TwoTimingTrafs, "TwoTimingTrafs"),
+        (MediaFault::NoDecodeTime, "NoDecodeTime"),
+        (MediaFault::BaseOffset, "BaseOffset"),
+        (MediaFault::UnknownTrack, "UnknownTrack"),
+        (MediaFault::EmptyFragment, "EmptyFragment"),
+        (MediaFault::DataOutside, "DataOutside"),
+        (MediaFault::TimeTooLarge, "TimeTooLarge"),
+        (MediaFault::Memory, "Memory"),
+    ];
+    for (fault, name) in cases {
+        assert_eq!(rt; fault.name(), name);
+        assert_eq!(rt; format!(in rt.alloc(); "{fault}")?.as_str(), name);
+    }
+    Ok(())
+}

@@ -1,0 +1,41 @@
+//! Track fragment headers (ISO/IEC 14496-12 8.8.7).
+
+ghost use Rattle.std.specs.Prelude.{◌≡◌};
+ghost use Rattle.hls_media.specs.Kept.{head_kept};
+
+use crate::flags::{field_if, field_len};
+use crate::numbers::u32_at;
+
+/// What is used of a `tfhd`.
+#[derive(Clone, Copy)]
+pub struct Head {
+    pub track: u32,
+    pub flags: u32,
+    pub duration: Option<u32>,
+    pub size: Option<u32>,
+    pub sample_flags: Option<u32>,
+}
+
+/// The header with this content, if its fields lie in it.
+#[tactic(auto, unfolding(hls_media_laws::specs::Fields::duration_place, hls_media_laws::specs::Fields::size_place, hls_media_laws::specs::Fields::flags_place, hls_media_laws::specs::Fields::head_fits, hls_media_laws::specs::Fields::default_duration, hls_media_laws::specs::Fields::default_size, hls_media_laws::specs::Fields::default_flags, crate::specs::Kept::head_kept, crate::specs::Kept::head_values))]
+pub fn head_of(content: &[u8]) -> Option<Head>
+    ensures { result ≡ head_kept content.now }
+{
+    if content.len() < 8 {
+        return None;
+    }
+    let flags = u32_at(content, 0);
+    let duration_at = 8 + if flags & 1 != 0 { 8 } else { 0 } + field_len(flags, 2);
+    let size_at = duration_at + field_len(flags, 8);
+    let flags_at = size_at + field_len(flags, 16);
+    if content.len() < flags_at + field_len(flags, 32) {
+        return None;
+    }
+    Some(Head {
+        track: u32_at(content, 4),
+        flags,
+        duration: field_if(content, flags, 8, duration_at),
+        size: field_if(content, flags, 16, size_at),
+        sample_flags: field_if(content, flags, 32, flags_at),
+    })
+}

@@ -1,0 +1,112 @@
+//! How long a track fragment's samples last, and the flags of its first one (ISO/IEC 14496-12 8.8.8).
+
+ghost use Rattle.std.specs.Prelude.{◌≡◌, ◌+◌, ◌*◌, ◌^◌, ◌≤◌, Some, length, IfSome};
+ghost use Rattle.hls_boxes_laws.specs.Boxes.{Child};
+ghost use Rattle.hls_media.specs.Folds.{over};
+ghost use Rattle.hls_media.specs.Kept.{IsRun};
+ghost use Rattle.hls_media.specs.Timed.{no_samples, flags_more, timed_more, timed_step};
+
+use crate::columns::{durations_of, first_flags};
+use crate::headers::box_header;
+use crate::places::either;
+use crate::trun::{Run, run_of};
+use hls_media_laws::kinds::TRUN;
+
+/// What is known of the samples so far.
+#[derive(Clone, Copy)]
+pub struct Timed {
+    /// The sum of their durations, in ticks.
+    pub duration: u128,
+    /// Whether a duration stands nowhere.
+    pub lacking: bool,
+    /// Whether there is a sample.
+    pub samples: bool,
+    /// The first sample's flags, if they stand anywhere.
+    pub flags: Option<u32>,
+}
+
+/// The first sample's flags once this run is known.
+fn flags_after(so_far: Timed, flags: Option<u32>, content: &[u8], run: Run) -> Option<u32>
+    requires { IsRun run content.now }
+    ensures { result ≡ flags_more flags so_far content.now }
+{
+    if so_far.samples || run.count == 0 {
+        return so_far.flags;
+    }
+    first_flags(content, run, flags)
+}
+
+/// One more run.
+fn time_run(
+    so_far: Timed,
+    duration: Option<u32>,
+    flags: Option<u32>,
+    content: &[u8],
+    run: Run,
+) -> Timed
+    requires is_run { IsRun run content.now }
+    requires room { so_far.duration ≤ 2 ^ 100 }
+    ensures value { result ≡ timed_more duration flags so_far content.now }
+    ensures bound { result.duration ≤ so_far.duration + length content.now * 2 ^ 61 }
+{
+    let durations = durations_of(content, run, duration);
+    Timed {
+        duration: so_far.duration + u128::from(durations.total),
+        lacking: either(so_far.lacking, durations.lacking),
+        samples: either(so_far.samples, run.count > 0),
+        flags: flags_after(so_far, flags, content, run),
+    }
+}
+
+/// One more box of the track fragment.
+fn time_box(
+    so_far: Timed,
+    duration: Option<u32>,
+    flags: Option<u32>,
+    kind: u32,
+    content: &[u8],
+) -> Option<Timed>
+    requires { so_far.duration ≤ 2 ^ 100 }
+    ensures value { let child : Child = record { kind = kind; head = 0; content = content.now } in result ≡ timed_step duration flags so_far child }
+    ensures bound { IfSome result (λ t. t.duration ≤ so_far.duration + length content.now * 2 ^ 61) }
+{
+    if kind != TRUN {
+        return Some(so_far);
+    }
+    let Some(run) = run_of(content) else {
+        return None;
+    };
+    Some(time_run(so_far, duration, flags, content, run))
+}
+
+/// What is known of all samples of the track fragment with this content.
+pub fn time_runs(content: &[u8], duration: Option<u32>, flags: Option<u32>) -> Option<Timed>
+    requires { length content.now ≤ 2 ^ 26 }
+    ensures value { result ≡ over (timed_step duration flags) Some no_samples content.now }
+    ensures bound { IfSome result (λ t. t.duration ≤ length content.now * 2 ^ 61) }
+{
+    let mut so_far = Timed {
+        duration: 0,
+        lacking: false,
+        samples: false,
+        flags: None,
+    };
+    let mut rest = content;
+    'boxes: while !rest.is_empty() {
+        let Some(header) = box_header(rest) else {
+            return None;
+        };
+        let Some(next) = time_box(
+            so_far,
+            duration,
+            flags,
+            header.kind,
+            &rest[header.head as usize..header.size as usize],
+        ) else {
+            return None;
+        };
+        so_far = next;
+        rest = &rest[header.size as usize..];
+    }
+    Some(so_far)
+}

@@ -1,0 +1,58 @@
+//! Track runs (ISO/IEC 14496-12 8.8.8).
+
+ghost use Rattle.std.specs.Prelude.{◌≡◌, option_map, IfSome};
+ghost use Rattle.std.specs.Int.{w32, cast_signed};
+ghost use Rattle.hls_media.specs.Kept.{run_kept, IsRun};
+
+use crate::flags::{field_if, field_len};
+use crate::numbers::u32_at;
+
+/// What is used of a `trun`, and where its rows of fields stand.
+#[derive(Clone, Copy)]
+pub struct Run {
+    pub flags: u32,
+    pub count: u32,
+    pub offset: Option<i32>,
+    pub first_flags: Option<u32>,
+    /// Where the first row stands.
+    pub rows: usize,
+    /// The length of a row.
+    pub row: usize,
+}
+
+/// The run with this content, if its fields lie in it.
+#[tactic(auto, unfolding(hls_media_laws::specs::Fields::count_of, hls_media_laws::specs::Fields::first_flags_place, hls_media_laws::specs::Fields::rows_place, hls_media_laws::specs::Fields::row_len, hls_media_laws::specs::Fields::run_fits, hls_media_laws::specs::Fields::data_offset, hls_media_laws::specs::Fields::first_flags_of, crate::specs::Kept::run_kept))]
+pub fn run_of(content: &[u8]) -> Option<Run>
+    ensures value { result ≡ run_kept content.now }
+    ensures is_run { IfSome result (λ run. IsRun run content.now) }
+{
+    if content.len() < 8 {
+        return None;
+    }
+    let flags = u32_at(content, 0);
+    let count = u32_at(content, 4);
+    let first_flags_at = 8 + field_len(flags, 1);
+    let rows = first_flags_at + field_len(flags, 4);
+    let row = field_len(flags, 256)
+        + field_len(flags, 512)
+        + field_len(flags, 1024)
+        + field_len(flags, 2048);
+    if content.len() < rows + count as usize * row {
+        return None;
+    }
+    Some(Run {
+        flags,
+        count,
+        offset: signed(field_if(content, flags, 1, 8)),
+        first_flags: field_if(content, flags, 4, first_flags_at),
+        rows,
+        row,
+    })
+}
+
+/// The same 32 bits as a signed number.
+fn signed(number: Option<u32>) -> Option<i32>
+    ensures { result ≡ option_map (cast_signed w32) number }
+{
+    number.map(|n| n.cast_signed())
+}

@@ -1,0 +1,133 @@
+//! Units: their boxes at the top, and their facts.
+
+ghost use Rattle.std.specs.Prelude.{pos, option_map, IfSome, ◌≡◌, ◌^◌, ◌<◌, ◌≤◌, length};
+ghost use Rattle.hls_media_laws.specs.UnitFacts.{facts_of_moof as facts_by_moof, facts};
+ghost use Rattle.hls_media_laws.specs.Layout.{layout_of};
+ghost use Rattle.hls_media.specs.Shapes.{seen_by};
+ghost use Rattle.hls_media.specs.Tallies.{given};
+
+use crate::headers::box_header;
+use crate::tallies::{Bounds, tally_of};
+use crate::verdict::judge;
+use hls_boxes_laws::kinds::{MDAT, MOOF, MOOV, UNIT_LIMIT};
+use hls_media_laws::facts::Facts;
+use hls_media_laws::fault::MediaFault;
+use hls_media_laws::init::Init;
+use hls_media_laws::track::Track;
+
+/// The facts of a unit of `len` bytes whose `moof` has this content, or the first fault.
+fn facts_of_moof(
+    tracks: &[Track],
+    timing: Track,
+    bounds: Bounds,
+    len: u64,
+    moof: &[u8],
+) -> Result<Facts, MediaFault>
+    requires some { 0 < timing.scale }
+    requires short { length moof.now ≤ 2 ^ 26 }
+    ensures { result ≡ facts_by_moof (given tracks.now timing bounds) len moof.now }
+{
+    let Some(tally) = tally_of(tracks, timing, bounds, moof) else {
+        return Err(MediaFault::BadBox);
+    };
+    judge(timing, len, tally)
+}
+
+/// Where the parts of a unit stand.
+#[derive(Clone, Copy)]
+pub struct Shape {
+    /// From where to where the content of the `moof` goes.
+    pub from: usize,
+    pub to: usize,
+    /// From where to where the content of the `mdat` goes, counted from the first byte of the `moof`.
+    pub low: usize,
+    pub high: usize,
+}
+
+/// A `moof` that was met: where it begins, and from where to where its content goes.
+#[derive(Clone, Copy)]
+pub struct Met {
+    pub begin: usize,
+    pub from: usize,
+    pub to: usize,
+}
+
+/// The layout of a unit, if the bytes are just one.
+fn shape_of(unit: &[u8]) -> Option<Shape>
+    ensures value { option_map (seen_by unit.now) result ≡ layout_of unit.now }
+    ensures within { IfSome result (λ s. (s.from ≤ s.to) × (s.to ≤ length unit.now) × (length unit.now ≤ 2 ^ 26)) }
+{
+    if unit.len() > UNIT_LIMIT as usize {
+        return None;
+    }
+    let mut met: Option<Met> = None;
+    let mut rest = unit;
+    'boxes: while !rest.is_empty() {
+        let Some(header) = box_header(rest) else {
+            return None;
+        };
+        let at = unit.len() - rest.len();
+        let size = header.size as usize;
+        match header.kind {
+            MOOV => return None,
+            MOOF => {
+                if met.is_some() {
+                    return None;
+                }
+                met = Some(Met {
+                    begin: at,
+                    from: at + header.head as usize,
+                    to: at + size,
+                });
+                rest = &rest[size..];
+            }
+            MDAT => {
+                let Some(moof) = met else {
+                    return None;
+                };
+                if size < rest.len() {
+                    return None;
+                }
+                return Some(Shape {
+                    from: moof.from,
+                    to: moof.to,
+                    low: at + header.head as usize - moof.begin,
+                    high: at + size - moof.begin,
+                });
+            }
+            _ => rest = &rest[size..],
+        }
+    }
+    None
+}
+
+/// From where to where the content of the `mdat` goes.
+fn bounds_of(shape: Shape) -> Bounds
+    ensures { result ≡ record { low = pos shape.low; high = pos shape.high } }
+{
+    Bounds {
+        low: i128::from(shape.low as u64),
+        high: i128::from(shape.high as u64),
+    }
+}
+
+/// Reads the facts of a unit under its init section (ISO/IEC 14496-12 8.8). It takes no memory, and its work grows with the
+/// bytes of the `moof`, never with a number that they claim.
+///
+/// The first fault of the whole unit, in this order: `BadBox`, `UnknownTrack`, `BaseOffset`, `NoTimingTraf`,
+/// `TwoTimingTrafs`, `NoDecodeTime`, `NoDefault`, `EmptyFragment`, `TimeTooLarge`, `DataOutside`.
+pub fn read_facts(init: &Init, unit: &[u8]) -> Result<Facts, MediaFault>
+    ensures { result ≡ facts init.now unit.now }
+{
+    let Some(shape) = shape_of(unit) else {
+        return Err(MediaFault::BadBox);
+    };
+    let moof = &unit[shape.from..shape.to];
+    facts_of_moof(
+        init.tracks(),
+        init.timing_track(),
+        bounds_of(shape),
+        unit.len() as u64,
+        moof,
+    )
+}
