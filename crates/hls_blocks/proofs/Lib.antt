@@ -1,0 +1,3 @@
+pub mod Runs
+pub mod Chained
+pub mod Held

@@ -1,0 +1,27 @@
+-- What the nodes of each level are seen as, and what holds of them.
+use Rattle.std.specs.Prelude.{ℕ, ◌+◌, ◌<◌, ◌≤◌, length, map}
+use Rattle.hls_blocks.specs.Numbered.{Numbered}
+use Rattle.hls_blocks.specs.Chain.{joined, IsNode}
+use Rattle.hls_blocks.specs.declared.leaf.Leaf.{Leaf}
+use Rattle.hls_blocks.specs.declared.branch.Branch.{Branch}
+
+abbrev pub leaf_seen : {T : Type 0} → Leaf T → Numbered T
+leaf_seen s = record { first = s.first; items = map (λ x. x.value) s.items.items }
+
+abbrev pub IsLeaf : {T : Type 0} → Leaf T → Type 0
+IsLeaf s = (0 < length s.items.items) × (s.first + length s.items.items ≤ 64)
+
+abbrev pub branch_seen : {C T : Type 0} → ℕ → (C → Numbered T) → Branch C → Numbered T
+branch_seen places seen s = joined s.slot places (map seen (map (λ x. x.value) s.children.items))
+
+abbrev pub IsBranch : {C T : Type 0} → ℕ → (C → Numbered T) → (C → Type 0) → Branch C → Type 0
+IsBranch places seen sound s = IsNode s.slot places seen sound (map (λ x. x.value) s.children.items)
+
+-- the tree of four levels
+abbrev pub root_seen : {T : Type 0} → Branch (Branch (Branch (Leaf T))) → Numbered T
+root_seen = branch_seen 262144 (branch_seen 4096 (branch_seen 64 leaf_seen))
+
+abbrev pub IsRoot : {T : Type 0} → Branch (Branch (Branch (Leaf T))) → Type 0
+IsRoot =
+    IsBranch 262144 (branch_seen 4096 (branch_seen 64 leaf_seen))
+    (IsBranch 4096 (branch_seen 64 leaf_seen) (IsBranch 64 leaf_seen IsLeaf))

@@ -1,0 +1,74 @@
+//! The slots of a new node are written here, and nowhere else.
+ghost use Rattle.std.specs.Prelude.{◌≡◌, ◌+◌, ◌^◌, ◌<◌, ◌≤◌, [], ◌∷◌, ◌++◌, length, map, IfOk, OnOk};
+
+use hls_time::Ticks;
+use std::alloc::{AllocError, Global};
+use std::sync::Arc;
+
+/// The entries and one more behind them, each slot counted.
+pub fn with_last<X: Drop>(
+    alloc: Global,
+    entries: &[Arc<X>],
+    last: Arc<X>,
+    ticks: &mut Ticks,
+) -> Result<Vec<Arc<X>>, AllocError>
+    requires room { length entries.now < 16777216 }
+    requires count { ticks.old + length entries.now < 2 ^ 63 }
+    ensures values { IfOk result (λ v. map (λ x. x.value) v.items ≡ map (λ x. x.value) entries.now ++ last.value ∷ []) }
+    ensures counted { OnOk result (ticks.new ≡ ticks.old + length entries.now + 1) }
+    ensures count { ticks.new ≤ ticks.old + length entries.now + 1 }
+{
+    let mut all = Vec::with_capacity(alloc, entries.len() + 1)?;
+    for entry in entries {
+        all.push(entry.clone()?)?;
+        ticks.tick();
+    }
+    all.push(last)?;
+    ticks.tick();
+    Ok(all)
+}
+
+/// One entry, counted.
+pub fn only<X: Drop>(
+    alloc: Global,
+    entry: Arc<X>,
+    ticks: &mut Ticks,
+) -> Result<Vec<Arc<X>>, AllocError>
+    requires { ticks.old < 2 ^ 63 }
+    ensures values { IfOk result (λ v. map (λ x. x.value) v.items ≡ entry.value ∷ []) }
+    ensures counted { OnOk result (ticks.new ≡ ticks.old + 1) }
+    ensures count { ticks.new ≤ ticks.old + 1 }
+{
+    let mut all = Vec::with_capacity(alloc, 1)?;
+    all.push(entry)?;
+    ticks.tick();
+    Ok(all)
+}
+
+/// An entry, and the entries behind it.
+pub fn with_first<X: Drop>(
+    alloc: Global,
+    first: Arc<X>,
+    entries: &[Arc<X>],
+) -> Result<Vec<Arc<X>>, AllocError>
+    requires { length entries.now < 64 }
+    ensures { IfOk result (λ v. map (λ x. x.value) v.items ≡ first.value ∷ map (λ x. x.value) entries.now) }
+{
+    let mut all = Vec::with_capacity(alloc, entries.len() + 1)?;
+    all.push(first)?;
+    for entry in entries {
+        all.push(entry.clone()?)?;
+    }
+    Ok(all)
+}
+
+/// The same entries in a node of their own.
+pub fn copied<X: Drop>(alloc: Global, entries: &[Arc<X>]) -> Result<Vec<Arc<X>>, AllocError>
+    ensures { IfOk result (λ v. map (λ x. x.value) v.items ≡ map (λ x. x.value) entries.now) }
+{
+    let mut all = Vec::with_capacity(alloc, entries.len())?;
+    for entry in entries {
+        all.push(entry.clone()?)?;
+    }
+    Ok(all)
+}

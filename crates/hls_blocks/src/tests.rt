@@ -1,0 +1,127 @@
+//! What no clause says: that old values live on beside new ones, and that calls succeed; on the tree and on the plain list alike.
+ghost use Rattle.std.specs.Prelude.{◌≡◌, ◌≤◌, IfOk};
+ghost use Rattle.hls_blocks.specs.Numbered.{next_of};
+
+use crate::plain::Plain;
+use crate::shared::Shared;
+use hls_time::Ticks;
+use std::alloc::{AllocError, Global};
+use std::process::Abort;
+use std::test::Fail;
+
+// The list with each number below `to` pushed as its own item.
+fn tree_to(alloc: Global, list: &Shared<u64>, to: u64) -> Result<Shared<u64>, AllocError>
+    requires low { next_of list.now ≤ to }
+    requires high { to ≤ 16777216 }
+    ensures { IfOk result (λ s. next_of s ≡ to) }
+{
+    let mut all = list.share(alloc)?;
+    for n in list.next()..to {
+        all = all.pushed(alloc, n)?;
+    }
+    Ok(all)
+}
+
+fn plain_to(alloc: Global, list: &Plain<u64>, to: u64) -> Result<Plain<u64>, AllocError>
+    requires low { next_of list.now ≤ to }
+    requires high { to ≤ 16777216 }
+    ensures { IfOk result (λ s. next_of s ≡ to) }
+{
+    let mut all = list.share(alloc)?;
+    for n in list.next()..to {
+        all = all.pushed(alloc, n)?;
+    }
+    Ok(all)
+}
+
+fn assert_tree(rt: &impl Abort, list: &Shared<u64>, first: u64, next: u64) {
+    assert_eq!(rt; list.first(), first);
+    assert_eq!(rt; list.next(), next);
+    for n in 0..4170 {
+        let item = list.get(n).copied();
+        assert_eq!(rt;
+            item,
+            if first <= n && n < next {
+                Some(n)
+            } else {
+                None
+            },
+            "item {n}"
+        );
+    }
+}
+
+fn assert_plain(rt: &impl Abort, list: &Plain<u64>, first: u64, next: u64) {
+    assert_eq!(rt; list.first(), first);
+    assert_eq!(rt; list.next(), next);
+    for n in 0..4170 {
+        let item = list.get(n).copied();
+        assert_eq!(rt;
+            item,
+            if first <= n && n < next {
+                Some(n)
+            } else {
+                None
+            },
+            "item {n}"
+        );
+    }
+}
+
+#[test]
+fn old_trees_keep_their_items(rt: HostRuntime) -> Result<(), Fail> {
+    let alloc = rt.alloc();
+    let short = tree_to(alloc, &Shared::empty(alloc), 64)?;
+    let middle = tree_to(alloc, &short, 4096)?;
+    let all = tree_to(alloc, &middle, 4161)?;
+    assert_eq!(rt; all.first(), 0);
+    let rest = all.dropped_front(alloc, 4100)?;
+    assert_tree(&rt, &short, 0, 64);
+    assert_tree(&rt, &middle, 0, 4096);
+    assert_tree(&rt, &all, 0, 4161);
+    assert_tree(&rt, &rest, 4100, 4161);
+    let none = rest.dropped_front(alloc, 4161)?;
+    assert_tree(&rt, &none, 4161, 4161);
+    Ok(())
+}
+
+#[test]
+fn old_plain_lists_keep_their_items(rt: HostRuntime) -> Result<(), Fail> {
+    let alloc = rt.alloc();
+    let short = plain_to(alloc, &Plain::empty(alloc), 64)?;
+    let middle = plain_to(alloc, &short, 4096)?;
+    let all = plain_to(alloc, &middle, 4161)?;
+    assert_eq!(rt; all.first(), 0);
+    let rest = all.dropped_front(alloc, 4100)?;
+    assert_plain(&rt, &short, 0, 64);
+    assert_plain(&rt, &middle, 0, 4096);
+    assert_plain(&rt, &all, 0, 4161);
+    assert_plain(&rt, &rest, 4100, 4161);
+    let none = rest.dropped_front(alloc, 4161)?;
+    assert_plain(&rt, &none, 4161, 4161);
+    Ok(())
+}
+
+// A push writes the entries of each node on its way, and one more where a node grows.
+#[test]
+fn pushes_count_their_slots(rt: HostRuntime) -> Result<(), Fail> {
+    let alloc = rt.alloc();
+    let list = tree_to(alloc, &Shared::empty(alloc), 4095)?;
+    let mut ticks = Ticks::new();
+    let full = list.pushed_counted(alloc, 4095, &mut ticks)?;
+    assert_eq!(rt; ticks.count(), 64 + 64 + 1 + 1);
+    assert_eq!(rt; full.next(), 4096);
+    let mut ticks = Ticks::new();
+    let grown = full.pushed_counted(alloc, 4096, &mut ticks)?;
+    assert_eq!(rt; ticks.count(), 1 + 1 + 2 + 1);
+    assert_eq!(rt; grown.first(), 0);
+    let rest = grown.dropped_front(alloc, 4090)?;
+    let mut wanted = 4091;
+    for item in rest.iter_from(4091) {
+        assert!(rt; wanted < 4097);
+        assert_eq!(rt; *item, wanted);
+        wanted += 1;
+    }
+    assert_eq!(rt; wanted, 4097);
+    Ok(())
+}
