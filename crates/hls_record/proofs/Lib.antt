@@ -1,0 +1,11 @@
+pub mod Lists
+pub mod Search
+pub mod Kept
+pub mod Twins
+pub mod Offsets
+pub mod Pieces
+pub mod Places
+pub mod Ranges
+pub mod Scales
+pub mod Stays
+pub mod Samples

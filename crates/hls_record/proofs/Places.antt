@@ -1,0 +1,100 @@
+-- In which kept unit a byte of the resource stands.
+use Rattle.std.proofs.Common.{◌≡◌, ℕ, ◌+◌, ◌-◌, ◌<◌, ◌≤◌, List, length, map, take, drop, Some, None, inl, inr, refl, sym, ◌∙◌, subst, arith}
+use Rattle.std.specs.Prelude.{slice_get}
+use Rattle.std.specs.List.{concat}
+use Rattle.std.proofs.lemmas.Bool.{cases_lt, le-ltb}
+use Rattle.std.proofs.lemmas.List.{length-map, take_all}
+use Rattle.hls_media_laws.proofs.Bounds.{units_are_bounded}
+use Rattle.hls_blocks.specs.Numbered.{Numbered, item_at}
+use Rattle.hls_record.specs.declared.item.Key.TheVariants as keys
+use Rattle.hls_record.specs.declared.recording.Recording.TheInside.{Inside}
+use Rattle.hls_record.specs.Recorded.{Recorded, offset_at, total_of, piece_at}
+use Rattle.hls_record.specs.Valid.{IsRecorded}
+use Rattle.hls_record.specs.Search.{IsFirst, Stands}
+use Rattle.hls_record.specs.Kept.{seen, IsKept}
+use Rattle.hls_record.proofs.Lists.{some_at, within_of}
+use Rattle.hls_record.proofs.Offsets.{next_offset, kept_before, kept_length}
+use Rattle.hls_record.proofs.Pieces.{piece_of_unit, no_piece}
+
+pub item_kept : {T : Type 0} (s : Numbered T) (n : ℕ) → s.first ≤ n → item_at s n ≡ slice_get s.items (n - s.first)
+item_kept s n low = rw (le-ltb n s.first low) refl
+
+-- at or past the count, the offset is the total
+pub offset_past : (r : Recorded) (n : ℕ) → length r.facts ≤ n → offset_at r n ≡ total_of r
+offset_past r n past = rw (take_all n r.facts past) refl
+
+pub unit_found : (i : Inside) (at after : ℕ) → IsKept i → IsFirst keys.Offset i.items.items i.units.first (at + 1) after
+    → offset_at (seen i) i.units.first ≤ at → at < total_of (seen i) → (0 < after) × Stands (seen i) at (after - 1)
+unit_found i at after kept found low high =
+    let count : length (map (λ x. x.facts) i.items.items) ≡ length i.items.items = length-map i.items.items (λ x. x.facts) in
+    let below : i.units.first < length i.items.items =
+    elim (cases_lt i.units.first (length i.items.items)) [
+      | inl h ↦ h
+      | inr past ↦ absurd (omega (arith, offset_past (seen i) i.units.first (omega arith)))
+    ] in
+    let floor = some_at i.items.items i.units.first below in
+    let later : i.units.first < after =
+    elim (cases_lt i.units.first after) [
+      | inl h ↦ h
+      | inr not_after ↦ absurd (omega (arith, found.after i.units.first floor.0 not_after floor.1, kept.offsets i.units.first floor.0 floor.1))
+    ] in
+    let before : after - 1 < length i.items.items = omega (arith, found.high) in
+    let here = some_at i.items.items (after - 1) before in
+    let from : offset_at (seen i) (after - 1) ≤ at =
+    omega (arith, found.before (after - 1) here.0 (omega arith) (omega arith) here.1, kept.offsets (after - 1) here.0 here.1) in
+    let after_is : after - 1 + 1 ≡ after = omega arith in
+    let until : at < offset_at (seen i) after =
+    elim (cases_lt after (length i.items.items)) [
+      | inl h ↦
+          (let next = some_at i.items.items after h in
+          omega (arith, found.after after next.0 (omega arith) next.1, kept.offsets after next.0 next.1))
+      | inr past ↦ omega (arith, offset_past (seen i) after (omega arith))
+    ] in (
+      omega arith,
+      record {
+        low = omega arith;
+        high = omega arith;
+        from = from;
+        until = rw after_is until;
+      },
+    )
+
+-- a kept unit is as long as its offsets say
+pub unit_length : (r : Recorded) (n : ℕ) (u : List ℕ) → IsRecorded r → r.floor ≤ n → slice_get r.units (n - r.floor) ≡ Some u
+    → offset_at r (n + 1) ≡ offset_at r n + length u
+unit_length r n u valid low at =
+    let within : n - r.floor < length r.units = within_of r.units (n - r.floor) u at in
+    let f = some_at r.facts n (omega (arith, valid.kept)) in
+    let n_is : r.floor + (n - r.floor) ≡ n = omega arith in
+    let is = valid.fits (n - r.floor) f.0 u (rw n_is f.1) at in
+    rw (← (units_are_bounded r.init u f.0 is).len_is) (next_offset r n f.0 f.1)
+
+-- the piece from a byte that stands in a kept unit is the rest of that unit
+pub piece_there : (r : Recorded) (at n : ℕ) (u : List ℕ) → IsRecorded r → Stands r at n → slice_get r.units (n - r.floor) ≡ Some u
+    → Some (drop (at - offset_at r n) u) ≡ piece_at r at
+piece_there r at n u valid there is =
+    let long = unit_length r n u valid there.low is in
+    let n_is : r.floor + (n - r.floor) ≡ n = omega (arith, there.low) in
+    let before : offset_at r n ≡ offset_at r r.floor + length (concat (take (n - r.floor) r.units)) = subst (λ (m : ℕ). offset_at r m ≡ offset_at r r.floor + length (concat (take (n - r.floor) r.units))) n_is (kept_before r (n - r.floor) valid) in
+    let inside : at - offset_at r n < length u = omega (arith, there.from, there.until) in
+    let place : at - offset_at r r.floor ≡ length (concat (take (n - r.floor) r.units)) + (at - offset_at r n) = omega (arith, there.from) in
+    rw (le-ltb at (length r.head) (omega (arith, there.from)), le-ltb at (offset_at r r.floor) (omega (arith, there.from)), place)
+    (sym (piece_of_unit r.units (n - r.floor) (at - offset_at r n) u is inside))
+
+-- past the end there is no piece
+pub none_there : (r : Recorded) (at : ℕ) → IsRecorded r → length r.head ≤ at → offset_at r r.floor ≤ at → total_of r ≤ at → None ≡ piece_at r at
+none_there r at valid behind kept past =
+    rw (le-ltb at (length r.head) behind, le-ltb at (offset_at r r.floor) kept)
+    (sym (no_piece r.units (at - offset_at r r.floor) (omega (arith, kept_length r valid))))
+
+-- the unit that the code reads at number n
+pub unit_read : (i : Inside) (n : ℕ) (u : List ℕ) → i.units.first ≤ n → Some u ≡ item_at i.units n → slice_get i.units.items (n - i.units.first) ≡ Some u
+unit_read i n u low is = sym (is ∙ item_kept i.units n low)
+
+-- a kept unit is there to be read
+pub unit_there : (i : Inside) (n : ℕ) → IsKept i → i.units.first ≤ n → n < length (seen i).facts → None ≡ item_at i.units n → ⊥
+unit_there i n kept low high none =
+    let valid = kept.valid in
+    let there = some_at i.units.items (n - i.units.first) (omega (arith, valid.kept)) in
+    let missing : None ≡ slice_get i.units.items (n - i.units.first) = none ∙ item_kept i.units n low in
+    let wrong : None ≡ Some there.0 = missing ∙ there.1 in cc

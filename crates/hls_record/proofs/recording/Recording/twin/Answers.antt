@@ -1,0 +1,19 @@
+use Rattle.std.proofs.Common.{◌∙◌, sym}
+use Rattle.hls_record.proofs.Offsets.{rising_starts}
+use Rattle.hls_record.proofs.Twins.{twin_is, twin_missing}
+use Rattle.hls_record.proofs.recording.Recording.twin.Goals as goal
+
+pub first_from-n-requires-clause-rising : goal.first_from-n-requires-clause-rising
+first_from-n-requires-clause-rising c = rising_starts c.self.inside c.self.invariant
+
+pub returns-then-not-starts : goal.returns-then-not-starts
+returns-then-not-starts c =
+    let found = rw c.first.ensures.value at c.first_from-n.ensures in
+    rw (← c.self.view_is)
+    (twin_missing c.self.inside c.args.start c.first_from-n.result c.self.invariant (rising_starts c.self.inside c.self.invariant) found (sym c.if-not-starts.ensures))
+
+pub returns : goal.returns
+returns c =
+    let found = rw c.first.ensures.value at c.first_from-n.ensures in
+    let unit = rw (← c.self.view_is) at c.unit.ensures in
+    rw (← c.self.view_is) (unit ∙ twin_is c.self.inside c.args.start c.first_from-n.result c.self.invariant found (sym c.if-not-starts.ensures))

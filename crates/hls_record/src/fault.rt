@@ -1,0 +1,59 @@
+//! The refusals of a recording.
+ghost use Rattle.std.specs.Prelude.{◌≡◌};
+ghost use Rattle.hls_record.specs.FaultName.{record_fault_name, range_fault_name};
+
+use thiserror::Error;
+
+/// Why a unit isn't appended, in the order in which they are looked at.
+#[derive(Clone, Copy, Debug, PartialEq, Eq, Error)]
+pub enum RecordFault {
+    /// The unit starts, in ticks, before the end of the last one.
+    #[error("Overlap")]
+    Overlap,
+    /// The init section and all units ever appended would pass 2^40 bytes.
+    #[error("Full")]
+    Full,
+    /// A growth was refused.
+    #[error("Memory")]
+    Memory,
+}
+
+impl RecordFault {
+    /// The variant's name, as programs and replies print it.
+    pub fn name(&self) -> &'static str
+        ensures { result.now ≡ record_fault_name self.now }
+    {
+        match self {
+            RecordFault::Overlap => "Overlap",
+            RecordFault::Full => "Full",
+            RecordFault::Memory => "Memory",
+        }
+    }
+}
+
+/// Why a range isn't copied, in the order in which they are looked at.
+#[derive(Clone, Copy, Debug, PartialEq, Eq, Error)]
+pub enum RangeFault {
+    /// The range ends before it begins, or past the total.
+    #[error("Outside")]
+    Outside,
+    /// A byte of the range is trimmed.
+    #[error("Gone")]
+    Gone,
+    /// A growth was refused.
+    #[error("Memory")]
+    Memory,
+}
+
+impl RangeFault {
+    /// The variant's name, as programs and replies print it.
+    pub fn name(&self) -> &'static str
+        ensures { result.now ≡ range_fault_name self.now }
+    {
+        match self {
+            RangeFault::Outside => "Outside",
+            RangeFault::Gone => "Gone",
+            RangeFault::Memory => "Memory",
+        }
+    }
+}

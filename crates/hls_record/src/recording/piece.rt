@@ -1,0 +1,55 @@
+//! The bytes of a recording, from a place to the end of its init section or unit.
+ghost use Rattle.std.specs.Prelude.{◌≡◌, ◌+◌, ◌<◌, ◌≤◌, length, Some};
+ghost use Rattle.std.specs.Option.{option_copied};
+ghost use Rattle.hls_record.specs.Recorded.{offset_at, total_of, piece_at};
+ghost use Rattle.hls_record.specs.Search.{Stands};
+
+use super::Recording;
+use crate::find::first_from;
+use crate::item::Key;
+
+impl Recording {
+    /// The bytes from byte `at` of the resource to the end of the init section or the unit in which it stands.
+    ///
+    /// None where that byte is trimmed, or `at` is the total or above. Found in logarithmic time.
+    pub fn piece(&self, at: u64) -> Option<&[u8]>
+        ensures { option_copied result ≡ piece_at self.now at }
+    {
+        let head = self.head.as_slice();
+        if at < head.len() as u64 {
+            return Some(&head[at as usize..]);
+        }
+        if at < self.offset(self.units.first()) {
+            return None;
+        }
+        if self.total <= at {
+            return None;
+        }
+        let n = self.unit_of(at);
+        Some(self.piece_of(n, at))
+    }
+
+    // The number of the kept unit in which byte `at` stands.
+    fn unit_of(&self, at: u64) -> u64
+        requires low { offset_at self.now self.now.floor ≤ at }
+        requires high { at < total_of self.now }
+        ensures { Stands self.now at result }
+    {
+        first_from(&self.items, Key::Offset, self.units.first(), at + 1) - 1
+    }
+
+    // The bytes from byte `at`, which stands in the kept unit `n`, to the end of that unit.
+    fn piece_of(&self, n: u64, at: u64) -> &[u8]
+        requires { Stands self.now at n }
+        ensures { Some result.now ≡ piece_at self.now at }
+    {
+        let from = (at - self.offset(n)) as usize;
+        match self.units.get(n) {
+            Some(unit) => {
+                let unit = unit.as_slice();
+                &unit[from..]
+            }
+            None => unreachable!(),
+        }
+    }
+}

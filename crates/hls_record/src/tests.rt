@@ -1,0 +1,288 @@
+//! Recordings of three sample units: offsets, pieces and ranges at every boundary, trimmed and not.
+ghost use Rattle.std.specs.Prelude.{◌≡◌, ◌+◌, ◌^◌, ◌<◌, ◌≤◌, length, IfOk};
+ghost use Rattle.hls_record.specs.Samples.{sample_init, sample_unit, IsSample};
+
+use crate::fault::{RangeFault, RecordFault};
+use crate::recording::Recording;
+use bytes::Bytes;
+use hls_media_laws::facts::Facts;
+use hls_media_laws::init::Init;
+use hls_media_laws::track::{Defaults, Track};
+use hls_samples::{init_bytes, unit_bytes};
+use std::alloc::{AllocError, Global};
+use std::process::Abort;
+use std::test::Fail;
+
+// A recording over the sample init section of 600 bytes.
+fn begun(alloc: Global) -> Result<Recording, AllocError>
+    ensures { IfOk result (λ r. (r.init ≡ sample_init) × (length r.facts ≡ 0)) }
+{
+    let defaults = Defaults {
+        duration: 0,
+        size: 0,
+        flags: 0,
+    };
+    let track = Track {
+        id: 1,
+        scale: 90000,
+        handler: 1986618469,
+        defaults: Some(defaults),
+    };
+    let init = Init::new(alloc, &[track], 0)?;
+    let head = Bytes::from_vec(init_bytes(alloc, b"vide", 90000)?)?;
+    Ok(Recording::begin(alloc, init, head))
+}
+
+fn unit_of(alloc: Global, start: u64, len: u32) -> Result<Bytes, AllocError>
+    requires { 108 ≤ len }
+    ensures { IfOk result (λ b. b ≡ sample_unit start len) }
+{
+    Ok(Bytes::from_vec(unit_bytes(alloc, start, 360000, true, len)?)?)
+}
+
+// The recording with a sample unit of 4 s and `len` bytes at `start` ticks.
+fn with_sample(
+    alloc: Global,
+    recording: &Recording,
+    start: u64,
+    len: u32,
+) -> Result<Recording, RecordFault>
+    requires init { recording.now.init ≡ sample_init }
+    requires room { length recording.now.facts < 16777216 }
+    requires long { 108 ≤ len }
+    requires sample { IsSample start len }
+    requires early { start < 2 ^ 40 }
+    ensures { IfOk result (λ r. (r.init ≡ sample_init) × (length r.facts ≡ length recording.now.facts + 1)) }
+{
+    let unit = match unit_of(alloc, start, len) {
+        Ok(unit) => unit,
+        Err(_) => return Err(RecordFault::Memory),
+    };
+    let facts = Facts {
+        start,
+        duration: 360000,
+        scale: 90000,
+        start_us: start * 1000000 / 90000,
+        end_us: (start + 360000) * 1000000 / 90000,
+        sync: true,
+        len: len as u64,
+    };
+    recording.appended(alloc, facts, unit)
+}
+
+// The init section and units of 116, 120 and 130 bytes at 0, 4 and 8 s.
+fn recorded(alloc: Global) -> Result<Recording, RecordFault> {
+    let none = match begun(alloc) {
+        Ok(none) => none,
+        Err(_) => return Err(RecordFault::Memory),
+    };
+    let one = with_first(alloc, &none)?;
+    let two = with_sample(alloc, &one, 360000, 120)?;
+    with_sample(alloc, &two, 720000, 130)
+}
+
+// The whole resource, from the builders.
+fn resource(alloc: Global) -> Result<Vec<u8>, AllocError> {
+    let mut all = init_bytes(alloc, b"vide", 90000)?;
+    all.extend_from_slice(&unit_bytes(alloc, 0, 360000, true, 116)?)?;
+    all.extend_from_slice(&unit_bytes(alloc, 360000, 360000, true, 120)?)?;
+    all.extend_from_slice(&unit_bytes(alloc, 720000, 360000, true, 130)?)?;
+    Ok(all)
+}
+
+fn assert_piece(rt: &impl Abort, recording: &Recording, all: &[u8], at: u64, end: u64) {
+    assert!(rt; at <= end, "at {at}");
+    assert!(rt; end <= all.len() as u64, "at {at}");
+    let wanted = &all[at as usize..end as usize];
+    match recording.piece(at) {
+        Some(piece) => assert!(rt; piece == wanted, "at {at}"),
+        None => assert!(rt; false, "no piece at {at}"),
+    }
+}
+
+fn assert_range(
+    rt: &impl Abort,
+    alloc: Global,
+    recording: &Recording,
+    all: &[u8],
+    a: u64,
+    b: u64,
+) -> Result<(), RangeFault> {
+    assert!(rt; a <= b, "from {a}");
+    assert!(rt; b <= all.len() as u64, "to {b}");
+    let wanted = &all[a as usize..b as usize];
+    let copied = recording.copy_range(alloc, a, b)?;
+    assert!(rt; copied.as_slice() == wanted, "from {a} to {b}");
+    Ok(())
+}
+
+#[test]
+fn pieces_end_with_their_unit(rt: HostRuntime) -> Result<(), Fail> {
+    let alloc = rt.alloc();
+    let all = resource(alloc)?;
+    let whole = recorded(alloc)?;
+    assert_eq!(rt; whole.count(), 3);
+    assert_eq!(rt; whole.floor(), 0);
+    assert_eq!(rt; whole.total(), 966);
+    for (n, offset) in [(0, 600), (1, 716), (2, 836), (3, 966), (4, 966)] {
+        assert_eq!(rt; whole.offset(n), offset, "of unit {n}");
+    }
+    for (at, end) in [
+        (0, 600),
+        (599, 600),
+        (600, 716),
+        (715, 716),
+        (716, 836),
+        (835, 836),
+        (836, 966),
+        (965, 966),
+    ] {
+        assert_piece(&rt, &whole, &all, at, end);
+    }
+    assert!(rt; whole.piece(966).is_none());
+    assert!(rt; whole.piece(18446744073709551615).is_none());
+    Ok(())
+}
+
+// What is left of the sample recording without its first two units.
+fn assert_rest(rt: &impl Abort, rest: &Recording, all: &[u8]) {
+    assert_eq!(rt; rest.count(), 3);
+    assert_eq!(rt; rest.floor(), 2);
+    assert_eq!(rt; rest.total(), 966);
+    for (n, offset) in [(0, 600), (1, 716), (2, 836), (3, 966)] {
+        assert_eq!(rt; rest.offset(n), offset, "of unit {n}");
+    }
+    for (at, end) in [(0, 600), (599, 600), (836, 966), (965, 966)] {
+        assert_piece(rt, rest, all, at, end);
+    }
+    for at in [600, 715, 716, 835, 966] {
+        assert!(rt; rest.piece(at).is_none(), "at {at}");
+    }
+    for (n, len) in [(0, 116), (1, 120), (2, 130)] {
+        assert!(rt; rest.facts(n).is_some_and(|f| f.len == len), "of unit {n}");
+        assert!(rt; rest.unit(n).is_some() == (n == 2), "unit {n}");
+    }
+    assert!(rt; rest.facts(3).is_none());
+    for (start, kept) in [(0, false), (360000, false), (720000, true), (720001, false)] {
+        assert!(rt; rest.twin(start).is_some() == kept, "from {start}");
+    }
+    assert_eq!(rt; rest.last_end(), 1080000);
+}
+
+#[test]
+fn trimmed_bytes_are_gone_and_nothing_moves(rt: HostRuntime) -> Result<(), Fail> {
+    let alloc = rt.alloc();
+    let all = resource(alloc)?;
+    let whole = recorded(alloc)?;
+    assert_eq!(rt; whole.count(), 3);
+    assert_eq!(rt; whole.floor(), 0);
+    let rest = whole.trimmed(alloc, 2)?;
+    assert_rest(&rt, &rest, &all);
+
+    // The old value stays as it was.
+    assert_piece(&rt, &whole, &all, 600, 716);
+    assert!(rt; whole.twin(360000).is_some());
+    Ok(())
+}
+
+#[test]
+fn ranges_are_copied_or_refused(rt: HostRuntime) -> Result<(), Fail> {
+    let alloc = rt.alloc();
+    let all = resource(alloc)?;
+    let whole = recorded(alloc)?;
+    for (a, b) in [
+        (0, 966),
+        (0, 600),
+        (599, 601),
+        (600, 966),
+        (715, 837),
+        (965, 966),
+        (0, 0),
+        (700, 700),
+        (966, 966),
+    ] {
+        assert_range(&rt, alloc, &whole, &all, a, b)?;
+    }
+    assert_eq!(rt; whole.count(), 3);
+    assert_eq!(rt; whole.floor(), 0);
+    let rest = whole.trimmed(alloc, 2)?;
+    for (a, b) in [
+        (0, 600),
+        (836, 966),
+        (900, 901),
+        (600, 600),
+        (700, 700),
+        (836, 836),
+        (966, 966),
+    ] {
+        assert_range(&rt, alloc, &rest, &all, a, b)?;
+    }
+    for (a, b) in [
+        (599, 601),
+        (600, 601),
+        (835, 836),
+        (835, 837),
+        (0, 966),
+        (599, 837),
+        (700, 701),
+    ] {
+        assert!(rt;
+            rest.copy_range(alloc, a, b).err() == Some(RangeFault::Gone),
+            "from {a} to {b}"
+        );
+    }
+    for (a, b) in [
+        (0, 967),
+        (967, 967),
+        (5, 4),
+        (701, 700),
+        (18446744073709551615, 0),
+        (0, 18446744073709551615),
+    ] {
+        assert!(rt;
+            rest.copy_range(alloc, a, b).err() == Some(RangeFault::Outside),
+            "from {a} to {b}"
+        );
+    }
+    Ok(())
+}
+
+// The recording with the first sample unit.
+fn with_first(alloc: Global, recording: &Recording) -> Result<Recording, RecordFault>
+    requires init { recording.now.init ≡ sample_init }
+    requires room { length recording.now.facts < 16777216 }
+    ensures { IfOk result (λ r. (r.init ≡ sample_init) × (length r.facts ≡ length recording.now.facts + 1)) }
+{
+    with_sample(alloc, recording, 0, 116)
+}
+
+#[test]
+fn a_unit_comes_behind(rt: HostRuntime) -> Result<(), Fail> {
+    let alloc = rt.alloc();
+    let none = begun(alloc)?;
+    let one = with_first(alloc, &none)?;
+    assert!(rt; with_first(alloc, &one).err() == Some(RecordFault::Overlap));
+    assert_eq!(rt; none.count(), 0);
+    assert_eq!(rt; none.last_end(), 0);
+    assert_eq!(rt; none.head().len(), 600);
+    assert_eq!(rt; none.init().timing(), 0);
+    assert_eq!(rt; none.total(), 600);
+    assert_eq!(rt; one.total(), 716);
+    Ok(())
+}
+
+#[test]
+fn a_shared_recording_is_the_same(rt: HostRuntime) -> Result<(), Fail> {
+    let alloc = rt.alloc();
+    let all = resource(alloc)?;
+    let copy = recorded(alloc)?.share(alloc)?;
+    assert_eq!(rt; copy.total(), 966);
+    assert_piece(&rt, &copy, &all, 716, 836);
+    Ok(())
+}
+
+#[test]
+fn names_are_the_variants(rt: HostRuntime) {
+    assert_eq!(rt; RecordFault::Full.name(), "Full");
+    assert_eq!(rt; RangeFault::Gone.name(), "Gone");
+}
