@@ -1,0 +1,10 @@
+pub mod Filters
+pub mod Prefixes
+pub mod Appends
+pub mod Search
+pub mod Sides
+pub mod Timelines
+pub mod Sorted
+pub mod Ordered
+pub mod Tables
+pub mod Growths

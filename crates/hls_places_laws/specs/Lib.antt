@@ -1,0 +1,9 @@
+pub mod Sources
+pub mod Gaps
+pub mod Spots
+pub mod Places
+pub mod Positions
+pub mod Growth
+pub mod Order
+pub mod FaultName
+pub mod Programmes

@@ -1,0 +1,26 @@
+ghost use Rattle.std.specs.Prelude.{◌≡◌, IfOk};
+
+use hls_check_laws::Spots;
+use std::alloc::{AllocError, Global};
+
+/// Where one may cut in every rendition at once.
+#[derive(Debug, Drop)]
+pub struct Place {
+    /// One spot for each rendition, in the order of the renditions.
+    pub spots: Spots,
+
+    /// Whether this is the end of all renditions, and not the start of a fragment in each.
+    pub closing: bool,
+}
+
+impl Place {
+    /// A copy of its own.
+    pub fn copied(&self, alloc: Global) -> Result<Place, AllocError>
+        ensures { IfOk result (λ copy. copy ≡ self.now) }
+    {
+        Ok(Place {
+            spots: self.spots.copied(alloc)?,
+            closing: self.closing,
+        })
+    }
+}
