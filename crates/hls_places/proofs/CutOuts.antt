@@ -1,0 +1,24 @@
+-- A range of the places that a programme is given.
+use Rattle.std.proofs.Common.{◌≡◌, ℕ, ◌+◌, ◌-◌, ◌<◌, List, [], ◌∷◌, length, map, take, drop, get_or, arith, refl, sym, ap, ◌∙◌}
+use Rattle.std.specs.List.{slice_range, take-map}
+use Rattle.std.proofs.lemmas.List.{drop-map}
+use Rattle.hls_check_laws.specs.declared.spot.Spot.{Spot}
+use Rattle.hls_check_laws.specs.Tables.{table_of}
+use Rattle.hls_places_laws.specs.declared.place.Place.{Place}
+use Rattle.hls_places_laws.specs.Order.{spots_of, renditions_in}
+use Rattle.hls_places_laws.specs.Programmes.{cut_out}
+
+first-count : {X : Type 0} (f : X → Place) (xs : List X) (d : X) → 0 < length xs →
+    length (f (get_or xs 0 d)).spots ≡ renditions_in (map f xs)
+first-count f [] d some = absurd (omega arith)
+first-count f (y ∷ ys) d some = refl
+
+pub cut_out-is : {X : Type 0} (f : X → Place) (xs : List X) (d : X) (target preferred from to renditions : ℕ)
+    (spots : List (List Spot)) → 0 < length xs → renditions ≡ length (f (get_or xs 0 d)).spots →
+    spots ≡ spots_of (map f (take (to + 1 - from) (drop from xs))) →
+    table_of target preferred renditions spots ≡ cut_out target preferred (map f xs) from to
+cut_out-is f xs d target preferred from to renditions spots some count spots_are =
+    let first = first-count f xs d some in
+    let range : map f (take (to + 1 - from) (drop from xs)) ≡ slice_range (map f xs) from (to + 1) =
+        sym (ap (take (to + 1 - from)) (drop-map f from xs) ∙ take-map f (to + 1 - from) (drop from xs)) in
+    rw (count, first, spots_are, range) refl

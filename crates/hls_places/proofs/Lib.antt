@@ -1,0 +1,4 @@
+pub mod Lookings
+pub mod Walks
+pub mod CutOuts
+pub mod Lines

@@ -1,0 +1,41 @@
+-- A recording's units are in order.
+use Rattle.std.proofs.Common.{◌≡◌, ℕ, ◌+◌, ◌<◌, ◌≤◌, List, length, map, get_or, Bool, Some, arith, refl, ◌∙◌}
+use Rattle.std.specs.Prelude.{slice_get}
+use Rattle.std.proofs.lemmas.Option.{slice_get-get_or}
+use Rattle.hls_media_laws.specs.declared.facts.Facts.{Facts}
+use Rattle.hls_record.specs.Recorded.{Recorded}
+use Rattle.hls_record.specs.Valid.{IsRecorded}
+use Rattle.hls_record.proofs.Stays.{units_are_in_time}
+use Rattle.hls_places_laws.specs.Sources.{Source, fact_at, no_facts, IsTimeline, sources_of}
+use Rattle.hls_places_laws.specs.Places.{places_of}
+use Rattle.hls_places_laws.specs.Order.{ArePlaces}
+use Rattle.hls_places_laws.proofs.Sides.{length-sides, side-of}
+use Rattle.hls_places_laws.proofs.Ordered.{places-ordered, ordered-places}
+use Rattle.hls_places.specs.Searches.{AreInOrder}
+
+there : (fs : List Facts) (k : ℕ) → k < length fs → slice_get fs k ≡ Some (fact_at fs k)
+there fs k h = slice_get-get_or fs k no_facts h
+
+pub timeline-of : (r : Recorded) → IsRecorded r → IsTimeline r.facts
+timeline-of r valid =
+    let line = units_are_in_time r valid in
+    let fs : List Facts = r.facts in
+    record {
+        lasts = λ k h. line.forward k (fact_at fs k) (there fs k h);
+        follows = λ k h. line.follows k (fact_at fs k) (fact_at fs (k + 1)) (there fs k (omega arith)) (there fs (k + 1) h);
+        small = λ k h. line.small k (fact_at fs k) (there fs k h) }
+
+-- so the common places of renditions side by side are in order
+pub places-in_order : {X : Type 0} (f : X → List Facts) (xs : List X) (tolerances : List ℕ) (finished : List Bool) →
+    1 ≤ length xs → length xs ≤ 16 → length tolerances ≡ length xs → length finished ≡ length xs → get_or tolerances 0 0 ≡ 0 →
+    AreInOrder (sources_of (map f xs) tolerances finished) → ArePlaces (places_of (sources_of (map f xs) tolerances finished))
+places-in_order f xs tolerances finished some few same also exact order =
+    let sources : List Source = sources_of (map f xs) tolerances finished in
+    let count = length-sides f xs tolerances finished same also sources refl in
+    let first = side-of f xs tolerances finished same also sources refl 0 in
+    ordered-places (length sources) (places_of sources) (omega (arith, count, some)) (omega (arith, count, few))
+        (places-ordered sources (record {
+            some = omega (arith, count, some);
+            few = omega (arith, count, few);
+            exact = first.tolerance_is ∙ exact;
+            timelines = order }))

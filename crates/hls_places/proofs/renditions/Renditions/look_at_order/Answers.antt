@@ -1,0 +1,8 @@
+use Rattle.std.proofs.Common.{ℕ, ◌<◌, below_more}
+use Rattle.hls_places_laws.specs.Sources.{source_at, IsTimeline}
+use Rattle.hls_places.proofs.Lines.{timeline-of}
+use Rattle.hls_places.proofs.renditions.Renditions.look_at_order.Goals as goal
+
+pub loop-r-preserved : goal.loop-r-preserved
+loop-r-preserved c = below_more _ _ c.loop-r.invariant
+    (rw (← c.recording.ensures) (timeline-of c.recording.result.now c.count-count.ensures.valid))

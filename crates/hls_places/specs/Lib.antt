@@ -1,0 +1,3 @@
+pub mod Searches
+pub mod Decisions
+pub mod Advances

@@ -1,0 +1,99 @@
+ghost use Rattle.std.specs.Prelude.{◌≡◌, ◌≤◌, length, map, slice_index, IfOk};
+ghost use Rattle.hls_places_laws.specs.Sources.{sources_of};
+ghost use Rattle.hls_places_laws.specs.Positions.{first_position, IsCursor};
+ghost use Rattle.hls_places.specs.Advances.{IsAdvance, IsWalk};
+
+use crate::closing::closing;
+use crate::decide::decide;
+use crate::renditions::Renditions;
+use hls_places_laws::{Mark, Place};
+use hls_record::Recording;
+use std::alloc::{AllocError, Global};
+use std::marker::Model;
+
+/// How far the search for common places has come: in rendition 0, and by a mark in each rendition.
+#[derive(Debug, Drop)]
+pub struct Cursor {
+    done: u64,
+    marks: Vec<Mark>,
+}
+
+/// A cursor moved on, and the common places that it passed.
+#[derive(Debug, Drop)]
+pub struct Advance {
+    pub cursor: Cursor,
+    pub places: Vec<Place>,
+}
+
+impl Model for Cursor {
+    ghost use Rattle.hls_places_laws.specs.Positions.{Position};
+
+    ghost Value = { Position };
+
+    ghost view = { λ c. record { done = c.done; marks = c.marks.items } };
+}
+
+impl Cursor {
+    /// Before all fragments of so many renditions.
+    pub fn first(alloc: Global, renditions: usize) -> Result<Cursor, AllocError>
+        ensures { IfOk result (λ cursor. cursor ≡ first_position renditions) }
+    {
+        Ok(Cursor {
+            done: 0,
+            marks: vec![in alloc; Mark { at: 0, runs: 0 }; renditions]?,
+        })
+    }
+
+    /// The common places that are decided by now and weren't when this cursor stopped, and a cursor after them.
+    /// Along a channel's life, moved on after each event, it looks at each fragment of each rendition once.
+    ///
+    /// `tolerances` are microseconds, `finished` says of which rendition no unit comes any more.
+    pub fn advanced(
+        &self,
+        alloc: Global,
+        recordings: &[&Recording],
+        tolerances: &[u64],
+        finished: &[bool],
+    ) -> Result<Advance, AllocError>
+        requires some { 1 ≤ length recordings.now }
+        requires few { length recordings.now ≤ 16 }
+        requires tolerances { length tolerances.now ≡ length recordings.now }
+        requires finished { length finished.now ≡ length recordings.now }
+        requires cursor { IsCursor self.now (sources_of (map (λ r. r.now.facts) recordings.now) tolerances.now finished.now) }
+        ensures {
+            IfOk result
+                (IsAdvance (sources_of (map (λ r. r.now.facts) recordings.now) tolerances.now finished.now) self.now.done)
+        }
+    {
+        let renditions = Renditions::new(recordings, tolerances, finished);
+        let marks = Vec::from_slice(alloc, self.marks.as_slice())?;
+        let mut advance = walk(&renditions, alloc, self.done, marks)?;
+        if let Some(place) = closing(&renditions, alloc, advance.cursor.marks.as_slice())? {
+            advance.places.push(place)?;
+        }
+        Ok(advance)
+    }
+}
+
+// The common places of rendition 0's fragments from number `start` on.
+fn walk(renditions: &Renditions, alloc: Global, start: u64, marks: Vec<Mark>) -> Result<Advance, AllocError>
+    requires some { 1 ≤ length renditions.now }
+    requires cursor { IsCursor (record { done = start; marks = marks.items }) renditions.now }
+    ensures { IfOk result (IsWalk renditions.now start) }
+{
+    let first = renditions.recording(0);
+    let count = first.count();
+    let mut done = start;
+    let mut marks = marks;
+    let mut places = Vec::new(alloc);
+    while done < count {
+        if !decide(renditions, alloc, done, &mut marks, &mut places)? {
+            break;
+        }
+        done += 1;
+    }
+    Ok(Advance {
+        cursor: Cursor { done, marks },
+        places,
+    })
+}

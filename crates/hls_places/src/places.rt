@@ -1,0 +1,36 @@
+ghost use Rattle.std.specs.Prelude.{◌≡◌, ◌≤◌, length, map, slice_index, IfOk};
+ghost use Rattle.hls_places_laws.specs.Sources.{sources_of};
+ghost use Rattle.hls_places_laws.specs.Places.{places_of};
+ghost use Rattle.hls_places_laws.specs.Order.{ArePlaces};
+
+use crate::cursor::Cursor;
+use crate::renditions::Renditions;
+use hls_places_laws::Place;
+use hls_record::Recording;
+use std::alloc::{AllocError, Global};
+
+/// The common places of a channel's renditions, in order of time, the closing place included once all are finished.
+///
+/// `tolerances` are microseconds, `finished` says of which rendition no unit comes any more.
+pub fn common(
+    alloc: Global,
+    recordings: &[&Recording],
+    tolerances: &[u64],
+    finished: &[bool],
+) -> Result<Vec<Place>, AllocError>
+    requires some { 1 ≤ length recordings.now }
+    requires few { length recordings.now ≤ 16 }
+    requires tolerances { length tolerances.now ≡ length recordings.now }
+    requires finished { length finished.now ≡ length recordings.now }
+    requires exact { slice_index tolerances.now 0 ≡ 0 }
+    ensures value {
+        IfOk result (λ places. places.items
+            ≡ places_of (sources_of (map (λ r. r.now.facts) recordings.now) tolerances.now finished.now))
+    }
+    ensures order { IfOk result (λ places. ArePlaces places.items) }
+{
+    Renditions::new(recordings, tolerances, finished).look_at_order();
+    let start = Cursor::first(alloc, recordings.len())?;
+    let advance = start.advanced(alloc, recordings, tolerances, finished)?;
+    Ok(advance.places)
+}
