@@ -1,0 +1,11 @@
+pub mod Lists
+pub mod Logs
+pub mod Follows
+pub mod Causes
+pub mod Advance
+pub mod Workers
+pub mod Fitting
+pub mod Runs
+pub mod Theorems
+pub mod Rows
+pub mod Sources
