@@ -1,0 +1,155 @@
+-- What the code has found out of an event makes it New, and the side that it puts in makes the state that the move says.
+use Rattle.std.proofs.Common.{arith, ◌≡◌, ℕ, ◌+◌, ◌^◌, ◌<◌, ◌≤◌, Bool, true, false, List, [], ◌∷◌, ◌++◌, Option, Some, None, length, refl, sym, ap, subst, ◌∙◌}
+use Rattle.std.specs.Prelude.{slice_get, slice_set, nat_le}
+use Rattle.std.proofs.lemmas.Bool.{le-ltb, lt-ltb, lt-leb, leb-false}
+use Rattle.hls_media_laws.specs.InitData.{InitData}
+use Rattle.hls_media_laws.specs.declared.facts.Facts.{Facts}
+use Rattle.hls_media_laws.specs.Meaning.{IsInit}
+use Rattle.hls_record.specs.Recorded.{Recorded, total_of, last_end, begun, with_unit, twin_of}
+use Rattle.hls_core_laws.specs.declared.event.Event.{Event}
+use Rattle.hls_core_laws.specs.declared.event.Event.TheVariants.{Begin, Accept, Finish}
+use Rattle.hls_core_laws.specs.declared.refusal.Refusal.TheVariants.{RecordingFull}
+use Rattle.hls_core_laws.specs.Channel.{Lane, no_lane, lane, after, begun_with, with_facts, finish_of}
+use Rattle.hls_core_laws.specs.State.{State, Held, no_held, channel}
+use Rattle.hls_core_laws.specs.IsState.{IsState}
+use Rattle.hls_core_laws.specs.Outcome.{New, Refused, outcome_of, held, accept, accept_beside, accept_later}
+use Rattle.hls_core_laws.specs.Moves.{logged, entry_of, advanced, more_bytes, IsFitting}
+use Rattle.hls_core_laws.proofs.Lists.{at_or, at_below, set_same}
+use Rattle.hls_core_laws.proofs.Logs.{facts_few}
+use Rattle.hls_core_laws.proofs.Advance.{advanced_state, advanced_continues}
+use Rattle.hls_core_laws.proofs.Sources.{sources_count, source_of}
+use Rattle.hls_record.specs.Valid.{IsRecorded}
+use Rattle.hls_core_laws.specs.Follows.{Continues}
+use Rattle.hls_core.specs.declared.side.Side.{Side}
+use Rattle.hls_core.specs.Sides.{lane_of, lane_from, held_of, held_from, IsAt, with_side, MayTake, IsGood}
+
+pub record Goes (s : State) (by : ℕ) (event : Event) (r : ℕ) (side : Side) : Type 0 where
+  pub new : outcome_of s event ≡ New
+  pub is : with_side s (entry_of by event) r side ≡ advanced s by event
+  pub take : MayTake s (entry_of by event) r side
+
+valid : (s : State) (by : ℕ) (event : Event) (r : ℕ) (side : Side) → IsState s → IsFitting s event → outcome_of s event ≡ New → with_side s (entry_of by event) r side ≡ advanced s by event → IsState (with_side s (entry_of by event) r side)
+valid s by event r side state fits new is = subst (λ (x : State). IsState x) (sym is) (advanced_state s by event state fits new)
+
+lane_finished : (o : Option Recorded) (finished : Bool) → (lane_from o finished).finished ≡ finished
+lane_finished None finished = refl
+lane_finished (Some rec) finished = refl
+
+lane_begun : (o : Option Recorded) (finished : Bool) → o ≡ None → (lane_from o finished).init ≡ None
+lane_begun None finished e = refl
+lane_begun (Some rec) finished e = cc
+
+-- a rendition that hasn't begun isn't finished
+not_finished : (s : State) (r : ℕ) (old : Side) → IsState s → IsAt s r old → old.recording ≡ None → old.finished ≡ false
+not_finished s r old state at first =
+    sym (lane_finished old.recording old.finished)
+        ∙ ((state.fits r (lane_of old) (held_of old) at.lane at.held).none (lane_begun old.recording old.finished first)).3
+
+good_side : (next : Recorded) (finished : Bool) → IsRecorded next → IsGood (record { recording = Some next; finished = finished })
+good_side next finished good = λ rec e. let is : next ≡ rec = cc in subst (λ (x : Recorded). IsRecorded x) is good
+
+may_take : (s : State) (by : ℕ) (event : Event) (r : ℕ) (old side : Side) → IsState s → IsFitting s event → outcome_of s event ≡ New → with_side s (entry_of by event) r side ≡ advanced s by event → (after (logged event) (channel s)).lanes ≡ slice_set (channel s).lanes r (lane_of side) → IsAt s r old → old.finished ≡ false → IsGood side → MayTake s (entry_of by event) r side
+may_take s by event r old side state fits new is lanes at open_ended good = record {
+  valid = valid s by event r side state fits new is;
+  lanes = lanes;
+  continues = subst (λ (x : State). Continues s x) (sym is) (advanced_continues s by event state fits new);
+  live = record {
+    rendition = r;
+    within = omega (arith, sources_count s, at_below (channel s).lanes r (lane_of old) at.lane);
+    goes_on = (source_of s r (lane_of old) at.lane).finished ∙ lane_finished old.recording old.finished ∙ open_ended;
+  };
+  good = good;
+}
+
+lane_is : (s : State) (r : ℕ) (side : Side) (o : Option Recorded) → IsAt s r side → side.recording ≡ o → lane (channel s) r ≡ lane_from o side.finished
+lane_is s r side o at begun =
+    at_or (channel s).lanes r no_lane (lane_of side) at.lane ∙ ap (λ (x : Option Recorded). lane_from x side.finished) begun
+
+held_is : (s : State) (r : ℕ) (side : Side) (o : Option Recorded) → IsAt s r side → side.recording ≡ o → held s r ≡ held_from o
+held_is s r side o at begun = at_or s.bytes r no_held (held_of side) at.held ∙ ap held_from begun
+
+lane_at : (s : State) (r : ℕ) (side : Side) (o : Option Recorded) → IsAt s r side → side.recording ≡ o → slice_get (channel s).lanes r ≡ Some (lane_from o side.finished)
+lane_at s r side o at begun = at.lane ∙ ap (λ (x : Option Recorded). Some (lane_from x side.finished)) begun
+
+-- a log that isn't full has room for one more entry
+pub room_of : (s : State) (full : Bool) → full ≡ nat_le 4194304 (length s.log) → full ≡ false → length s.log < 4194304
+room_of s full is isnt = leb-false 4194304 (length s.log) (sym is ∙ isnt)
+
+pub within : (s : State) (r : ℕ) (side : Side) → IsAt s r side → r < length s.bytes
+within s r side at = at_below s.bytes r (held_of side) at.held
+
+-- a recording has room for one more unit where the log isn't full
+pub units_few : (s : State) (r : ℕ) (side : Side) (rec : Recorded) → IsState s → IsAt s r side → side.recording ≡ Some rec → length rec.facts ≤ length s.log
+units_few s r side rec state at begun =
+    facts_few s.config s.log state.legal r (lane_from (Some rec) side.finished) (lane_at s r side (Some rec) at begun)
+
+-- Begin
+pub begin_goes : (s : State) (by : ℕ) (r : ℕ) (old : Side) (init : InitData) (bytes : List ℕ) → IsState s → IsAt s r old → old.recording ≡ None → length s.log < 4194304 → IsInit bytes init → IsRecorded (begun init bytes) → Goes s by (Begin r init bytes) r (record { recording = Some (begun init bytes); finished = old.finished })
+begin_goes s by r old init bytes state at first room read good =
+    let at_lane = lane_at s r old None at first in
+    let lane_was = lane_is s r old None at first in
+    let full : nat_le 4194304 (length s.log) ≡ false = lt-leb 4194304 (length s.log) room in
+    let new : outcome_of s (Begin r init bytes) ≡ New = rw (at_lane, full) refl in
+    record {
+      new = new;
+      is = refl;
+      take = may_take s by (Begin r init bytes) r old (record { recording = Some (begun init bytes); finished = old.finished }) state read new refl
+          (ap (λ (l : Lane). slice_set (channel s).lanes r (begun_with init (length bytes) l)) lane_was) at
+          (not_finished s r old state at first) (good_side (begun init bytes) old.finished good);
+    }
+
+-- Accept
+accept_chain : (s : State) (r : ℕ) (old : Side) (rec : Recorded) (f : Facts) (bytes : List ℕ) → IsAt s r old → old.recording ≡ Some rec → twin_of rec f.start ≡ None → outcome_of s (Accept r f bytes) ≡ accept_later (lane_from (Some rec) old.finished) f (length s.log)
+accept_chain s r old rec f bytes at begun apart =
+    let at_lane = lane_at s r old (Some rec) at begun in
+    let held_was = held_is s r old (Some rec) at begun in
+    ap (λ (l : Option Lane). accept l (held s r) f bytes (length s.log)) at_lane
+        ∙ ap (λ (h : Held). accept (Some (lane_from (Some rec) old.finished)) h f bytes (length s.log)) held_was
+        ∙ ap (λ (twin : Option (List ℕ)). accept_beside twin (lane_from (Some rec) old.finished) f bytes (length s.log)) apart
+
+pub accept_new : (s : State) (r : ℕ) (old : Side) (rec : Recorded) (f : Facts) (bytes : List ℕ) → IsAt s r old → old.recording ≡ Some rec → twin_of rec f.start ≡ None → last_end rec.facts ≤ f.start → old.finished ≡ false → length s.log < 4194304 → total_of rec + f.len ≤ 2 ^ 40 → outcome_of s (Accept r f bytes) ≡ New
+accept_new s r old rec f bytes at begun apart later open_ended room small =
+    accept_chain s r old rec f bytes at begun apart
+        ∙ rw (le-ltb f.start (last_end rec.facts) later, open_ended, lt-leb 4194304 (length s.log) room, le-ltb (2 ^ 40) (total_of rec + f.len) small) refl
+
+pub accept_full : (s : State) (r : ℕ) (old : Side) (rec : Recorded) (f : Facts) (bytes : List ℕ) → IsAt s r old → old.recording ≡ Some rec → twin_of rec f.start ≡ None → last_end rec.facts ≤ f.start → old.finished ≡ false → length s.log < 4194304 → 2 ^ 40 < total_of rec + f.len → outcome_of s (Accept r f bytes) ≡ Refused RecordingFull
+accept_full s r old rec f bytes at begun apart later open_ended room large =
+    accept_chain s r old rec f bytes at begun apart
+        ∙ rw (le-ltb f.start (last_end rec.facts) later, open_ended, lt-leb 4194304 (length s.log) room, lt-ltb (2 ^ 40) (total_of rec + f.len) large) refl
+
+pub accept_goes : (s : State) (by : ℕ) (r : ℕ) (old : Side) (rec next : Recorded) (f : Facts) (bytes : List ℕ) → IsState s → IsAt s r old → old.recording ≡ Some rec → IsFitting s (Accept r f bytes) → outcome_of s (Accept r f bytes) ≡ New → next ≡ with_unit rec f bytes → old.finished ≡ false → IsRecorded next → Goes s by (Accept r f bytes) r (record { recording = Some next; finished = old.finished })
+accept_goes s by r old rec next f bytes state at begun fits new next_is open_ended good =
+    let lane_was = lane_is s r old (Some rec) at begun in
+    let held_was = held_is s r old (Some rec) at begun in
+    let held_now : held_from (Some next) ≡ more_bytes (held s r) bytes = rw (next_is, held_was) refl in
+    let bytes_are : slice_set s.bytes r (held_from (Some next)) ≡ slice_set s.bytes r (more_bytes (held s r) bytes) =
+        ap (λ (h : Held). slice_set s.bytes r h) held_now in
+    let is : with_side s (entry_of by (Accept r f bytes)) r (record { recording = Some next; finished = old.finished }) ≡ advanced s by (Accept r f bytes) =
+        λ k. record { config = s.config; log = s.log ++ entry_of by (Accept r f bytes) ∷ []; bytes = bytes_are k } in
+    let lane_now : with_facts f (lane (channel s) r) ≡ lane_from (Some next) old.finished = rw (next_is, lane_was) refl in
+    record {
+      new = new;
+      is = is;
+      take = may_take s by (Accept r f bytes) r old (record { recording = Some next; finished = old.finished }) state fits new is
+          (ap (λ (l : Lane). slice_set (channel s).lanes r l) lane_now) at open_ended (good_side next old.finished good);
+    }
+
+-- Finish
+pub finish_goes : (s : State) (by : ℕ) (r : ℕ) (old : Side) (rec next : Recorded) → IsState s → IsAt s r old → old.recording ≡ Some rec → old.finished ≡ false → length s.log < 4194304 → next ≡ rec → IsRecorded next → Goes s by (Finish r) r (record { recording = Some next; finished = true })
+finish_goes s by r old rec next state at begun open_ended room next_is good =
+    let at_lane = lane_at s r old (Some rec) at begun in
+    let lane_was = lane_is s r old (Some rec) at begun in
+    let held_at : slice_get s.bytes r ≡ Some (held_from (Some next)) =
+        at.held ∙ ap (λ (o : Option Recorded). Some (held_from o)) (begun ∙ ap (λ (x : Recorded). Some x) (sym next_is)) in
+    let full : nat_le 4194304 (length s.log) ≡ false = lt-leb 4194304 (length s.log) room in
+    let new : outcome_of s (Finish r) ≡ New = rw (at_lane, open_ended, full) refl in
+    let bytes_are : slice_set s.bytes r (held_from (Some next)) ≡ s.bytes = set_same s.bytes r (held_from (Some next)) held_at in
+    let is : with_side s (entry_of by (Finish r)) r (record { recording = Some next; finished = true }) ≡ advanced s by (Finish r) =
+        λ k. record { config = s.config; log = s.log ++ entry_of by (Finish r) ∷ []; bytes = bytes_are k } in
+    let lane_now : finish_of (lane (channel s) r) ≡ lane_from (Some next) true = rw (next_is, lane_was) refl in
+    record {
+      new = new;
+      is = is;
+      take = may_take s by (Finish r) r old (record { recording = Some next; finished = true }) state tt new is
+          (ap (λ (l : Lane). slice_set (channel s).lanes r l) lane_now) at open_ended (good_side next true good);
+    }

@@ -1,0 +1,7 @@
+pub mod Names
+pub mod Taken
+pub mod Goes
+pub mod Compared
+pub mod Moved
+pub mod Growing
+pub mod Sources

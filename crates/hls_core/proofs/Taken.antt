@@ -1,0 +1,232 @@
+-- A snapshot's parts stay one state: at the opening, and where one side is put in place of another.
+use Rattle.std.proofs.Common.{◌≡◌, ℕ, suc, ◌+◌, ◌<◌, ◌≤◌, Bool, true, false, List, [], ◌∷◌, ◌++◌, Option, Some, None, length, map, refl, sym, ap, subst, inl, inr, ◌∙◌, arith, length-append}
+use Rattle.std.specs.Prelude.{slice_get, slice_set, if◌then◌else◌}
+use Rattle.std.specs.List.{filter_map, cons_option, list_all}
+use Rattle.hls_blocks.specs.Numbered.{next_of}
+use Rattle.hls_places_laws.specs.declared.place.Place.{Place}
+use Rattle.hls_places_laws.specs.Sources.{Source, source_at, sources_of, first_facts}
+use Rattle.hls_places_laws.specs.Places.{places_after, place_at, closing_of, is_over, end_of}
+use Rattle.hls_places_laws.specs.Positions.{Position, first_position, IsCursor, IsThrough}
+use Rattle.hls_places_laws.specs.Growth.{Continues as PlacesContinue}
+use Rattle.hls_places_laws.proofs.Appends.{continues}
+use Rattle.hls_places_laws.proofs.Growths.{after-without, found-without}
+use Rattle.hls_places.proofs.Walks.{first-cursor}
+use Rattle.hls_core_laws.specs.Places.{facts_of, is_finished, tolerance_of, sources, places}
+use Rattle.hls_core_laws.proofs.Sources.{sources_grow, sources_count, source_of, lanes_count}
+use Rattle.std.proofs.lemmas.List.{map-set, length-map}
+use Rattle.hls_core_laws.specs.declared.event.Entry.{Entry}
+use Rattle.hls_core_laws.specs.declared.rendition.Rendition.{Rendition}
+use Rattle.hls_core_laws.specs.Config.{ConfigData, IsConfig}
+use Rattle.hls_core_laws.specs.Channel.{Channel, Lane, no_lane, fresh, after, opening, channel_from}
+use Rattle.hls_core_laws.specs.State.{State, no_held, channel}
+use Rattle.hls_core_laws.specs.IsState.{IsState}
+use Rattle.hls_core_laws.specs.Runs.{first_state, nothing_held}
+use Rattle.hls_core_laws.proofs.Lists.{at_map, at_set, at_some, at_below, mapped_at, past_end, length_set}
+use Rattle.hls_core_laws.proofs.Logs.{channel_from-snoc, facts_few}
+use Rattle.hls_core_laws.proofs.Runs.{first_is_state}
+use Rattle.hls_core.specs.declared.side.Side.{Side}
+use Rattle.hls_core.specs.declared.snapshot.Snapshot.TheInside.{Inside}
+use Rattle.hls_core.specs.Sides.{lane_of, held_of, fresh_side, sources_by, IsAt, IsGood, with_side, MayTake}
+use Rattle.hls_core.specs.Kept.{sides_of, seen, IsKept}
+
+filtered : {X Y : Type 0} (f : X → Option Y) (xs : List X) → length (filter_map f xs) ≤ length xs
+filtered f [] = omega arith
+filtered f (x ∷ xs) = elim (f x) as (λ o. length (cons_option o (filter_map f xs)) ≤ suc (length xs)) [
+    None ↦ omega (arith, filtered f xs)
+  | Some y ↦ omega (arith, filtered f xs)
+  ]
+
+closed : (b : Bool) (p : Place) → length (if b then p ∷ [] else []) ≤ 1
+closed true p = omega arith
+closed false p = omega arith
+
+-- a state has no more common places than entries and one
+places_few : (s : State) → IsState s → length (places s) ≤ 4194305
+places_few s state =
+    let lane_at = at_some (channel s).lanes 0 (omega (arith, lanes_count s.config s.log, state.configured.renditions.some)) in
+    let facts : length (first_facts (sources s)) ≡ length lane_at.0.facts = ap length (source_of s 0 lane_at.0 lane_at.1).facts in
+    let found = filtered (place_at (sources s)) (first_facts (sources s)) in
+    let end = closed (list_all is_over (sources s)) (record { spots = map end_of (sources s); closing = true }) in
+    omega (arith, facts, found, end, state.few, facts_few s.config s.log state.legal 0 lane_at.0 lane_at.1, length-append (filter_map (place_at (sources s)) (first_facts (sources s))) (closing_of (sources s)))
+
+-- what a cursor that is moved on needs, where a side is put in place of another
+pub record Ahead (i : Inside) (config : ConfigData) (sides : List Side) : Type 0 where
+  pub cursor : IsCursor i.cursor.value (sources_by config sides)
+  pub room : next_of i.places + length (places_after (sources_by config sides) i.cursor.value.done) < 16777216
+  pub count : length config.renditions ≡ length sides
+  pub some : 1 ≤ length sides
+  pub few : length sides ≤ 16
+
+sources_put : (i : Inside) (entry : Entry) (r : ℕ) (side : Side) → IsKept i → MayTake (seen i) entry r side → sources_by i.config (slice_set (sides_of i) r side) ≡ sources (with_side (seen i) entry r side)
+sources_put i entry r side kept take =
+    let now : channel (with_side (seen i) entry r side) ≡ after entry.event (channel (seen i)) =
+        channel_from-snoc (opening i.config) i.log.items entry in
+    let lanes : map lane_of (slice_set (sides_of i) r side) ≡ (channel (with_side (seen i) entry r side)).lanes =
+        map-set lane_of (sides_of i) r side ∙ ap (λ (ls : List Lane). slice_set ls r (lane_of side)) kept.lanes ∙ sym take.lanes
+            ∙ ap (λ (ch : Channel). ch.lanes) (sym now) in
+    ap (λ (ls : List Lane). sources_of (map facts_of ls) (map tolerance_of i.config.renditions) (map is_finished ls)) lanes
+
+moved : (i : Inside) (entry : Entry) (r : ℕ) (side : Side) → IsKept i → MayTake (seen i) entry r side → PlacesContinue (sources (seen i)) (sources (with_side (seen i) entry r side)) i.cursor.value
+moved i entry r side kept take =
+    continues (sources (seen i)) (sources (with_side (seen i) entry r side)) i.cursor.value
+        (sources_grow (seen i) (with_side (seen i) entry r side) take.valid take.continues) take.live kept.cursor kept.through
+
+ahead_put : (i : Inside) (entry : Entry) (r : ℕ) (side : Side) → IsKept i → MayTake (seen i) entry r side → Ahead i i.config (slice_set (sides_of i) r side)
+ahead_put i entry r side kept take =
+    let on = moved i entry r side kept take in
+    let is = sources_put i entry r side kept take in
+    let s : State = with_side (seen i) entry r side in
+    let few = places_few s take.valid in
+    let told : length i.places.items ≡ length (places (seen i)) = ap (λ p. length p.items) kept.places in
+    let zero_first : i.places.first ≡ 0 = ap (λ p. p.first) kept.places in
+    let whole : length (places s) ≡ length (places (seen i)) + length (places_after (sources s) i.cursor.value.done) =
+        ap length on.places ∙ length-append (places (seen i)) (places_after (sources s) i.cursor.value.done) in
+    let room : next_of i.places + length (places_after (sources s) i.cursor.value.done) < 16777216 = omega arith in
+    let sides : length (slice_set (sides_of i) r side) ≡ length i.config.renditions =
+        length_set (sides_of i) r side ∙ sym (length-map (sides_of i) lane_of) ∙ ap length kept.lanes ∙ lanes_count i.config i.log.items in
+    let rs = kept.valid.configured.renditions in
+    record {
+      cursor = subst (λ (x : List Source). IsCursor i.cursor.value x) (sym is) on.cursor;
+      room = subst (λ (x : List Source). next_of i.places + length (places_after x i.cursor.value.done) < 16777216) (sym is) room;
+      count = sym sides;
+      some = omega (arith, rs.some);
+      few = omega (arith, rs.few);
+    }
+
+pub ahead : (i : Inside) (s : State) (entry : Entry) (r : ℕ) (side : Side) (config : ConfigData) (sides : List Side) → seen i ≡ s → IsKept i → MayTake s entry r side → config ≡ i.config → sides ≡ slice_set (sides_of i) r side → Ahead i config sides
+ahead i s entry r side config sides is kept take same_config same_sides =
+    let take_seen = subst (λ (x : State). MayTake x entry r side) (sym is) take in
+    subst (λ (c : ConfigData). Ahead i c sides) (sym same_config)
+        (subst (λ (xs : List Side). Ahead i i.config xs) (sym same_sides) (ahead_put i entry r side kept take_seen))
+
+-- the parts n are the parts i with one more entry and this side at number r, and with the places moved on
+pub record Puts (i n : Inside) (entry : Entry) (r : ℕ) (side : Side) : Type 0 where
+  pub config : n.config ≡ i.config
+  pub log : n.log ≡ record { first = i.log.first; items = i.log.items ++ entry ∷ [] }
+  pub sides : sides_of n ≡ slice_set (sides_of i) r side
+  pub places : n.places ≡ record { first = i.places.first; items = i.places.items ++ places_after (sources_by n.config (sides_of n)) i.cursor.value.done }
+  pub cursor : IsCursor n.cursor.value (sources_by n.config (sides_of n))
+  pub through : IsThrough n.cursor.value (sources_by n.config (sides_of n))
+
+seen_puts : (i n : Inside) (entry : Entry) (r : ℕ) (side : Side) → Puts i n entry r side → seen n ≡ with_side (seen i) entry r side
+seen_puts i n entry r side p =
+    let log : n.log.items ≡ i.log.items ++ entry ∷ [] = ap (λ l. l.items) p.log in
+    let bytes : map held_of (sides_of n) ≡ slice_set (map held_of (sides_of i)) r (held_of side) =
+        ap (map held_of) p.sides ∙ map-set held_of (sides_of i) r side in
+    λ k. record { config = p.config k; log = log k; bytes = bytes k }
+
+pub seen_put : (i n : Inside) (s : State) (entry : Entry) (r : ℕ) (side : Side) → seen i ≡ s → Puts i n entry r side → seen n ≡ with_side s entry r side
+seen_put i n s entry r side is p =
+    subst (λ (x : State). seen n ≡ with_side x entry r side) is (seen_puts i n entry r side p)
+
+good_puts : (i n : Inside) (entry : Entry) (r : ℕ) (side : Side) → IsKept i → IsGood side → sides_of n ≡ slice_set (sides_of i) r side → (q : ℕ) (x : Side) → slice_get (sides_of n) q ≡ Some x → IsGood x
+good_puts i n entry r side kept good sides q x at =
+    let there : slice_get (slice_set (sides_of i) r side) q ≡ Some x = subst (λ (xs : List Side). slice_get xs q ≡ Some x) sides at in
+    elim (at_set (sides_of i) r side q x there) [
+      inl here ↦ subst (λ (y : Side). IsGood y) here.1 good
+    | inr other ↦ kept.good q x other.1
+    ]
+
+kept_puts : (i n : Inside) (entry : Entry) (r : ℕ) (side : Side) → IsKept i → MayTake (seen i) entry r side → Puts i n entry r side → IsKept n
+kept_puts i n entry r side kept take p =
+    let is : seen n ≡ with_side (seen i) entry r side = seen_puts i n entry r side p in
+    let now : channel (with_side (seen i) entry r side) ≡ after entry.event (channel (seen i)) =
+        channel_from-snoc (opening i.config) i.log.items entry in
+    let lanes : map lane_of (sides_of n) ≡ slice_set (map lane_of (sides_of i)) r (lane_of side) =
+        ap (map lane_of) p.sides ∙ map-set lane_of (sides_of i) r side in
+    let lanes_now : map lane_of (sides_of n) ≡ (channel (seen n)).lanes =
+        lanes ∙ ap (λ (ls : List Lane). slice_set ls r (lane_of side)) kept.lanes ∙ sym take.lanes
+          ∙ ap (λ ch. ch.lanes) (sym now) ∙ ap (λ (s : State). (channel s).lanes) (sym is) in
+    let by : sources_by n.config (sides_of n) ≡ sources (seen n) =
+        ap (λ (ls : List Lane). sources_of (map facts_of ls) (map tolerance_of n.config.renditions) (map is_finished ls)) lanes_now in
+    let on : PlacesContinue (sources (seen i)) (sources (seen n)) i.cursor.value =
+        subst (λ (s : State). PlacesContinue (sources (seen i)) (sources s) i.cursor.value) (sym is) (moved i entry r side kept take) in
+    let first : n.places.first ≡ 0 = ap (λ l. l.first) p.places ∙ ap (λ l. l.first) kept.places in
+    let items : n.places.items ≡ places (seen n) =
+        ap (λ l. l.items) p.places
+          ∙ ap (λ l. l.items ++ places_after (sources_by n.config (sides_of n)) i.cursor.value.done) kept.places
+          ∙ ap (λ (x : List Source). places (seen i) ++ places_after x i.cursor.value.done) by
+          ∙ sym on.places in
+    record {
+      all = ap (λ l. l.first) p.log ∙ kept.all;
+      lanes = lanes_now;
+      valid = subst (λ (s : State). IsState s) (sym is) take.valid;
+      good = good_puts i n entry r side kept take.good p.sides;
+      places = λ k. record { first = first k; items = items k };
+      cursor = subst (λ (x : List Source). IsCursor n.cursor.value x) by p.cursor;
+      through = subst (λ (x : List Source). IsThrough n.cursor.value x) by p.through;
+    }
+
+pub kept_put : (i n : Inside) (s : State) (entry : Entry) (r : ℕ) (side : Side) → seen i ≡ s → IsKept i → MayTake s entry r side → Puts i n entry r side → IsKept n
+kept_put i n s entry r side is kept take p =
+    kept_puts i n entry r side kept (subst (λ (x : State). MayTake x entry r side) (sym is) take) p
+
+-- a side stands where its lane and its bytes stand
+pub side_at : (i : Inside) (s : State) (r : ℕ) (side : Side) → seen i ≡ s → IsKept i → slice_get (sides_of i) r ≡ Some side → IsAt s r side
+side_at i s r side is kept at =
+    let here : IsAt (seen i) r side =
+        record {
+          lane = subst (λ (ls : List Lane). slice_get ls r ≡ Some (lane_of side)) kept.lanes (at_map lane_of (sides_of i) r side at);
+          held = at_map held_of (sides_of i) r side at;
+        } in
+    subst (λ (x : State). IsAt x r side) is here
+
+pub side_past : (i : Inside) (s : State) (r : ℕ) → seen i ≡ s → IsKept i → length i.sides.items ≤ r → slice_get (channel s).lanes r ≡ None
+side_past i s r is kept past =
+    let count : length (channel (seen i)).lanes ≡ length i.sides.items =
+        ap length (sym kept.lanes) ∙ length-map (sides_of i) lane_of ∙ length-map i.sides.items (λ a. a.value) in
+    let none : slice_get (channel (seen i)).lanes r ≡ None = past_end (channel (seen i)).lanes r (omega arith) in
+    subst (λ (x : State). slice_get (channel x).lanes r ≡ None) is none
+
+-- the opening
+fresh_lanes : (rs : List Rendition) → map lane_of (map fresh_side rs) ≡ map fresh rs
+fresh_lanes [] = refl
+fresh_lanes (r ∷ rs) = ap (λ ls. fresh r ∷ ls) (fresh_lanes rs)
+
+fresh_bytes : (rs : List Rendition) → map held_of (map fresh_side rs) ≡ map nothing_held rs
+fresh_bytes [] = refl
+fresh_bytes (r ∷ rs) = ap (λ hs. no_held ∷ hs) (fresh_bytes rs)
+
+pub seen_first : (n : Inside) (config : ConfigData) → n.config ≡ config → n.log ≡ record { first = 0; items = [] } → sides_of n ≡ map fresh_side config.renditions → seen n ≡ first_state config
+seen_first n config is log sides =
+    let items : n.log.items ≡ [] = ap (λ l. l.items) log in
+    let bytes : map held_of (sides_of n) ≡ map nothing_held config.renditions = ap (map held_of) sides ∙ fresh_bytes config.renditions in
+    λ k. record { config = is k; log = items k; bytes = bytes k }
+
+-- before any entry there is no common place
+opening_source : (config : ConfigData) → IsConfig config → (0 < length (sources (first_state config))) × ((source_at (sources (first_state config)) 0).facts ≡ [])
+unfolding channel_from
+opening_source config good =
+    let s : State = first_state config in
+    let first = at_some config.renditions 0 (omega (arith, good.renditions.some)) in
+    let lane_at : slice_get (channel s).lanes 0 ≡ Some no_lane = at_map fresh config.renditions 0 first.0 first.1 in
+    (omega (arith, sources_count s, at_below (channel s).lanes 0 no_lane lane_at), (source_of s 0 no_lane lane_at).facts)
+
+pub kept_first : (n : Inside) (config : ConfigData) → IsConfig config → n.config ≡ config → n.log ≡ record { first = 0; items = [] } → sides_of n ≡ map fresh_side config.renditions → n.places ≡ record { first = 0; items = [] } → n.cursor.value ≡ first_position (length config.renditions) → IsKept n
+unfolding channel_from
+kept_first n config good is log sides no_places cursor =
+    let whole : seen n ≡ first_state config = seen_first n config is log sides in
+    let source = opening_source config good in
+    let none : places (first_state config) ≡ [] = after-without (sources (first_state config)) 0 source.0 source.1 0 in
+    let through : IsThrough (first_position (length config.renditions)) (sources (first_state config)) =
+        found-without (sources (first_state config)) 0 source.0 source.1 (first_facts (sources (first_state config))) in
+    let fits : IsCursor (first_position (length config.renditions)) (sources (first_state config)) =
+        first-cursor (length config.renditions) (sources (first_state config))
+            (sym (sources_count (first_state config) ∙ lanes_count config [])) in
+    let items : n.places.items ≡ places (seen n) =
+        ap (λ p. p.items) no_places ∙ sym none ∙ ap (λ (s : State). places s) (sym whole) in
+    let first : n.places.first ≡ 0 = ap (λ p. p.first) no_places in
+    record {
+      all = ap (λ l. l.first) log;
+      lanes = ap (map lane_of) sides ∙ fresh_lanes config.renditions ∙ ap (λ (s : State). (channel s).lanes) (sym whole);
+      valid = subst (λ (s : State). IsState s) (sym whole) (first_is_state config good);
+      good = λ r side at rec begun.
+        let fresh_at = mapped_at fresh_side config.renditions r side (subst (λ (xs : List Side). slice_get xs r ≡ Some side) sides at) in
+        let bare : side.recording ≡ None = ap (λ (x : Side). x.recording) (sym fresh_at.2) in
+        cc;
+      places = λ k. record { first = first k; items = items k };
+      cursor = subst (λ (p : Position). IsCursor p (sources (seen n))) (sym cursor)
+          (subst (λ (s : State). IsCursor (first_position (length config.renditions)) (sources s)) (sym whole) fits);
+      through = subst (λ (p : Position). IsThrough p (sources (seen n))) (sym cursor)
+          (subst (λ (s : State). IsThrough (first_position (length config.renditions)) (sources s)) (sym whole) through);
+    }

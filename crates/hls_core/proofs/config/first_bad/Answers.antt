@@ -1,0 +1,19 @@
+use Rattle.std.proofs.Common.{◌∙◌, sym, arith}
+use Rattle.std.proofs.lemmas.Bool.{eqb-false}
+use Rattle.hls_core_laws.proofs.Lists.{at_below, at_read}
+use Rattle.hls_core.proofs.Names.{good_more}
+use Rattle.hls_core.proofs.config.first_bad.Goals as goal
+
+pub loop-n-preserved : goal.loop-n-preserved
+loop-n-preserved c = record {
+  few = omega arith;
+  good = good_more _ _ _ c.loop-n.invariant.good (at_read _ _ _ c.loop-n-test.true c.index-renditions-n.is)
+      (c.is_rendition_at.ensures.0 c.if-not-is_rendition_at.false);
+}
+
+pub returns : goal.returns
+returns c = record {
+  some = omega (arith, eqb-false _ 0 (sym c.is_empty.ensures ∙ c.if-is_empty.false));
+  few = omega (arith, c.loop-n.invariant.few);
+  each = λ n r at. c.loop-n.invariant.good n r (omega (arith, at_below c.args.renditions.now n r at)) at;
+}

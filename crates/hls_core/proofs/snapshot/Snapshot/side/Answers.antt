@@ -1,0 +1,11 @@
+use Rattle.std.proofs.Common.{◌<◌, length, arith}
+use Rattle.hls_core_laws.proofs.Lists.{at_read, at_map}
+use Rattle.hls_core.proofs.Taken.{side_at}
+use Rattle.hls_core.proofs.snapshot.Snapshot.side.Goals as goal
+
+pub returns-clause-some : goal.returns-clause-some
+returns-clause-some c =
+    let below : c.args.rendition < length c.self.inside.sides.items = omega arith in
+    rw c.deref-side.ensures
+        (side_at c.self.inside _ c.args.rendition _ c.self.view_is c.self.invariant
+            (at_map (λ a. a.value) c.self.inside.sides.items c.args.rendition _ (at_read _ _ _ below c.index.ensures)))

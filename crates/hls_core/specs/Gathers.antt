@@ -1,0 +1,14 @@
+-- The recordings of all renditions, or one that has none.
+use Rattle.std.specs.Prelude.{◌≡◌, ℕ, List, Option, Some, None, slice_get}
+use Rattle.hls_record.specs.Recorded.{Recorded}
+use Rattle.hls_core.specs.declared.side.Side.{Side}
+
+-- a rendition that hasn't begun
+pub record Lacks (sides : List Side) : Type 0 where
+  pub number : ℕ
+  pub side : Side
+  pub at : slice_get sides number ≡ Some side
+  pub none : side.recording ≡ None
+
+abbrev pub recording_in : Side → Option Recorded
+recording_in side = side.recording

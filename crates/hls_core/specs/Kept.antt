@@ -1,0 +1,25 @@
+-- How a snapshot's parts make up its state.
+use Rattle.std.specs.Prelude.{◌≡◌, ℕ, List, Some, map, slice_get}
+use Rattle.hls_places_laws.specs.Positions.{IsCursor, IsThrough}
+use Rattle.hls_core_laws.specs.State.{State, channel}
+use Rattle.hls_core_laws.specs.IsState.{IsState}
+use Rattle.hls_core_laws.specs.Places.{sources, places}
+use Rattle.hls_core.specs.declared.side.Side.{Side}
+use Rattle.hls_core.specs.declared.snapshot.Snapshot.TheInside.{Inside}
+use Rattle.hls_core.specs.Sides.{lane_of, held_of, IsGood}
+
+abbrev pub sides_of : Inside → List Side
+sides_of i = map (λ a. a.value) i.sides.items
+
+abbrev pub seen : Inside → State
+seen i = record { config = i.config; log = i.log.items; bytes = map held_of (sides_of i) }
+
+pub record IsKept (i : Inside) : Type 0 where
+  pub all : i.log.first ≡ 0
+  pub lanes : map lane_of (sides_of i) ≡ (channel (seen i)).lanes
+  pub valid : IsState (seen i)
+  pub good : (r : ℕ) (side : Side) → slice_get (sides_of i) r ≡ Some side → IsGood side
+  -- the common places of the log, and a cursor behind the last of them
+  pub places : i.places ≡ record { first = 0; items = places (seen i) }
+  pub cursor : IsCursor i.cursor.value (sources (seen i))
+  pub through : IsThrough i.cursor.value (sources (seen i))

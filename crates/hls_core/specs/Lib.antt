@@ -1,0 +1,11 @@
+pub mod FirstBad
+pub mod ConfigFaultName
+pub mod Configures
+pub mod Sides
+pub mod Kept
+pub mod Reads
+pub mod Steps
+pub mod SameUnits
+pub mod Placed
+pub mod Gathers
+pub mod Appended

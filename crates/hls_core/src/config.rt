@@ -1,0 +1,191 @@
+ghost use Rattle.std.specs.Prelude.{◌≡◌, ℕ, ◌*◌, ◌<◌, ◌≤◌, ◌↔◌, length, IsTrue, IfOk, slice_get, Some, Any, MatchOption};
+ghost use Rattle.std.specs.Str.{bytes_eq};
+ghost use Rattle.hls_core_laws.specs.Config.{is_name_byte, IsName, IsRendition, IsRenditionAt, AreRenditions};
+ghost use Rattle.hls_core.specs.FirstBad.{IsFirstBad, bears_name};
+
+use bytes::Bytes;
+use hls_core_laws::rendition::Rendition;
+use std::alloc::{AllocError, Global};
+use std::marker::Model;
+use std::sync::Arc;
+use thiserror::Error;
+
+/// Why a channel can't be configured so.
+#[derive(Clone, Copy, Debug, PartialEq, Eq, Error)]
+pub enum ConfigFault {
+    /// The target isn't 1 to 3600 seconds.
+    #[error("BadTarget")]
+    BadTarget,
+    /// The preferred length isn't 1 microsecond to the target.
+    #[error("BadPreferred")]
+    BadPreferred,
+    /// The number of the first rendition that is outside its limits, or has an earlier one's name; 0 where there is no
+    /// rendition, and 16 where only the seventeenth is too many.
+    #[error("BadRendition")]
+    BadRendition(usize),
+    /// Memory ran out.
+    #[error("Memory")]
+    Memory,
+}
+
+/// What a channel is configured with: 1 to 16 renditions, a target of 1 to 3600 seconds, and a preferred segment length of
+/// 1 microsecond to the target. It never changes, and is shared by all states of the channel.
+#[derive(Drop)]
+pub struct Config {
+    target: u64,
+    preferred: u64,
+    renditions: Arc<Vec<Rendition>>,
+}
+
+impl Model for Config {
+    ghost use Rattle.hls_core_laws.specs.Config.{ConfigData, IsConfig};
+
+    ghost Value = { ConfigData };
+
+    ghost view = { λ c. record { target = c.target; preferred = c.preferred; renditions = c.renditions.value.items } };
+
+    ghost invariant = { λ c. IsConfig (record { target = c.target; preferred = c.preferred; renditions = c.renditions.value.items }) };
+}
+
+impl ConfigFault {
+    ghost use Rattle.hls_core.specs.ConfigFaultName.{name_of};
+
+    /// The variant's name, as programs print it.
+    pub fn name(&self) -> &'static str
+        ensures { result.now ≡ name_of self.now }
+    {
+        match self {
+            ConfigFault::BadTarget => "BadTarget",
+            ConfigFault::BadPreferred => "BadPreferred",
+            ConfigFault::BadRendition(_) => "BadRendition",
+            ConfigFault::Memory => "Memory",
+        }
+    }
+}
+
+impl Config {
+    ghost use Rattle.hls_core_laws.specs.Config.{IsConfig};
+    ghost use Rattle.hls_core.specs.Configures.{Configures};
+
+    /// A configuration of this target in seconds, this preferred length in microseconds, and these renditions in order.
+    pub fn new(alloc: Global, target: u64, preferred: u64, renditions: Vec<Rendition>) -> Result<Config, ConfigFault>
+        ensures { Configures target preferred renditions.items result }
+    {
+        if target == 0 || target > 3600 {
+            return Err(ConfigFault::BadTarget);
+        }
+        if preferred == 0 || preferred > target * 1000000 {
+            return Err(ConfigFault::BadPreferred);
+        }
+        if let Some(n) = first_bad(&renditions) {
+            return Err(ConfigFault::BadRendition(n));
+        }
+        match Arc::new(alloc, renditions) {
+            Ok(renditions) => Ok(Config {
+                target,
+                preferred,
+                renditions,
+            }),
+            Err(_) => Err(ConfigFault::Memory),
+        }
+    }
+
+    /// The same configuration once more, over the same memory.
+    pub fn share(&self) -> Result<Config, AllocError>
+        ensures { IfOk result (λ c. c ≡ self.now) }
+    {
+        Ok(Config {
+            target: self.target,
+            preferred: self.preferred,
+            renditions: Arc::try_clone(&self.renditions)?,
+        })
+    }
+
+    /// The target duration in seconds (RFC 8216 4.3.3.1).
+    pub fn target(&self) -> u64
+        ensures value { result ≡ self.now.target }
+        ensures valid { IsConfig self.now }
+    {
+        self.target
+    }
+
+    /// The preferred segment length in microseconds.
+    pub fn preferred(&self) -> u64
+        ensures value { result ≡ self.now.preferred }
+        ensures valid { IsConfig self.now }
+    {
+        self.preferred
+    }
+
+    /// The renditions in order.
+    pub fn renditions(&self) -> &[Rendition]
+        ensures value { result.now ≡ self.now.renditions }
+        ensures valid { IsConfig self.now }
+    {
+        &self.renditions
+    }
+}
+
+/// The number of the first rendition that may not stand where it stands, if any.
+fn first_bad(renditions: &[Rendition]) -> Option<usize>
+    ensures { MatchOption result (AreRenditions renditions.now) (λ n. IsFirstBad renditions.now n) }
+{
+    if renditions.is_empty() {
+        return Some(0);
+    }
+    for (n, rendition) in renditions.iter().enumerate() {
+        if n == 16 || !is_rendition_at(renditions, n, rendition) {
+            return Some(n);
+        }
+    }
+    None
+}
+
+fn is_rendition_at(renditions: &[Rendition], n: usize, rendition: &Rendition) -> bool
+    requires { n < length renditions.now }
+    ensures { IsTrue result ↔ IsRenditionAt renditions.now n rendition.now }
+{
+    if !is_rendition(rendition) {
+        return false;
+    }
+    if !may_tolerate(n, rendition.tolerance) {
+        return false;
+    }
+    !bears_name(&renditions[..n], &rendition.name)
+}
+
+/// Only the first rendition has no tolerance of its own.
+fn may_tolerate(n: usize, tolerance: u64) -> bool
+    ensures { IsTrue result ↔ (n ≡ 0 → tolerance ≡ 0) }
+{
+    n != 0 || tolerance == 0
+}
+
+/// Whether a rendition is within the limits that are its own.
+fn is_rendition(rendition: &Rendition) -> bool
+    ensures { IsTrue result ↔ IsRendition rendition.now }
+{
+    is_name(&rendition.name)
+        && 1 <= rendition.bandwidth
+        && rendition.bandwidth <= 1000000000000
+        && rendition.tolerance <= 500000
+}
+
+fn is_name(name: &[u8]) -> bool
+    ensures { IsTrue result ↔ IsName name.now }
+{
+    !name.is_empty() && name.len() <= 32 && name.iter().all(|byte| is_name_byte(*byte))
+}
+
+fn is_name_byte(byte: u8) -> bool
+    ensures { result ≡ is_name_byte byte }
+{
+    byte.is_ascii_digit() || byte.is_ascii_uppercase() || byte.is_ascii_lowercase() || byte == b'-' || byte == b'_'
+}
+
+/// Whether one of the renditions has this name.
+fn bears_name(renditions: &[Rendition], name: &[u8]) -> bool
+    ensures { result ≡ bears_name renditions.now name.now }
+{
+    renditions.iter().any(|rendition| &rendition.name[..] == name)
+}

@@ -1,0 +1,111 @@
+ghost use Rattle.std.specs.Prelude.{◌≡◌, ℕ, ◌+◌, ◌<◌, ◌≤◌, ◌++◌, List, Some, None, length, map, IfOk, MatchOption};
+ghost use Rattle.hls_blocks.specs.Numbered.{Numbered, next_of};
+ghost use Rattle.hls_places_laws.specs.Places.{places_after};
+ghost use Rattle.hls_places_laws.specs.Positions.{IsCursor};
+ghost use Rattle.hls_core_laws.specs.Places.{tolerance_of, is_finished};
+ghost use Rattle.hls_core.specs.Gathers.{Lacks};
+ghost use Rattle.hls_core.specs.Sides.{lane_of, sources_by};
+
+use crate::config::Config;
+use crate::side::Side;
+use hls_blocks::Shared;
+use hls_core_laws::rendition::Rendition;
+use hls_places::{Cursor, Place};
+use hls_record::Recording;
+use std::alloc::{AllocError, Global};
+use std::sync::Arc;
+
+/// The common places told so far, and how far the search has come.
+#[derive(Drop)]
+pub(crate) struct Placed {
+    pub(crate) places: Shared<Place>,
+    pub(crate) cursor: Arc<Cursor>,
+}
+
+impl Placed {
+    ghost use Rattle.hls_core.specs.Placed.{IsPlaced};
+
+    /// The places with those that are decided by now at their end. While some rendition hasn't begun there are none.
+    pub(crate) fn moved_on(
+        alloc: Global,
+        config: &Config,
+        sides: &[Arc<Side>],
+        places: &Shared<Place>,
+        cursor: &Arc<Cursor>,
+    ) -> Result<Placed, AllocError>
+        requires some { 1 ≤ length sides.now }
+        requires few { length sides.now ≤ 16 }
+        requires count { length config.now.renditions ≡ length sides.now }
+        requires cursor { IsCursor cursor.now.value (sources_by config.now (map (λ a. a.value) sides.now)) }
+        requires room {
+            next_of places.now + length (places_after (sources_by config.now (map (λ a. a.value) sides.now)) cursor.now.value.done) < 16777216
+        }
+        ensures { IfOk result (IsPlaced (sources_by config.now (map (λ a. a.value) sides.now)) places.now cursor.now.value.done) }
+    {
+        let gathered = recordings_of(alloc, sides)?;
+        let recordings = match gathered {
+            Some(recordings) => recordings,
+            None => {
+                return Ok(Placed {
+                    places: places.share(alloc)?,
+                    cursor: Arc::try_clone(cursor)?,
+                });
+            }
+        };
+        let tolerances = tolerances_of(alloc, config.renditions())?;
+        let finished = finished_of(alloc, sides)?;
+        let advance = cursor.advanced(alloc, &recordings, &tolerances, &finished)?;
+        Ok(Placed {
+            places: all_pushed(alloc, places, advance.places)?,
+            cursor: Arc::new(alloc, advance.cursor)?,
+        })
+    }
+}
+
+/// The recording of each rendition, or none where one hasn't begun.
+fn recordings_of<'a>(alloc: Global, sides: &'a [Arc<Side>]) -> Result<Option<Vec<&'a Recording>>, AllocError>
+    ensures {
+        IfOk result
+            (λ all. MatchOption all (Lacks (map (λ a. a.value) sides.entry.now))
+                (λ v. map (λ r. Some r.now) v.items ≡ map (λ a. a.value.recording) sides.entry.now))
+    }
+{
+    let mut recordings = Vec::with_capacity(alloc, sides.len())?;
+    for side in sides {
+        let side: &Side = side;
+        match &side.recording {
+            Some(recording) => recordings.push(recording)?,
+            None => return Ok(None),
+        }
+    }
+    Ok(Some(recordings))
+}
+
+fn tolerances_of(alloc: Global, renditions: &[Rendition]) -> Result<Vec<u64>, AllocError>
+    ensures { IfOk result (λ v. v.items ≡ map tolerance_of renditions.now) }
+{
+    renditions.iter().map(|rendition| rendition.tolerance).collect(alloc)
+}
+
+fn finished_of(alloc: Global, sides: &[Arc<Side>]) -> Result<Vec<bool>, AllocError>
+    ensures { IfOk result (λ v. v.items ≡ map (λ a. a.value.finished) sides.now) }
+{
+    let mut finished = Vec::with_capacity(alloc, sides.len())?;
+    for side in sides {
+        let side: &Side = side;
+        finished.push(side.finished)?;
+    }
+    Ok(finished)
+}
+
+/// The list with all of these at its end.
+fn all_pushed(alloc: Global, list: &Shared<Place>, more: Vec<Place>) -> Result<Shared<Place>, AllocError>
+    requires { next_of list.now + length more.items < 16777216 }
+    ensures { IfOk result (λ all. all ≡ record { first = list.now.first; items = list.now.items ++ more.items }) }
+{
+    let mut all = list.share(alloc)?;
+    for place in more {
+        all = all.pushed(alloc, place)?;
+    }
+    Ok(all)
+}

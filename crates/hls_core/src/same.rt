@@ -1,0 +1,115 @@
+//! Whether two values are the same, without memory.
+
+ghost use Rattle.std.specs.Prelude.{◌≡◌, ◌↔◌, IsTrue, length, take};
+ghost use Rattle.hls_blocks.specs.Numbered.{Numbered};
+
+use crate::config::Config;
+use hls_blocks::Shared;
+use hls_core_laws::event::{Entry, Logged};
+use hls_core_laws::rendition::Rendition;
+use hls_media_laws::init::Init;
+use hls_media_laws::track::Track;
+
+pub(crate) fn same_config(a: &Config, b: &Config) -> bool
+    ensures { IsTrue result ↔ (a.now ≡ b.now) }
+{
+    a.target() == b.target() && a.preferred() == b.preferred() && same_renditions(a.renditions(), b.renditions())
+}
+
+fn same_renditions(a: &[Rendition], b: &[Rendition]) -> bool
+    ensures { IsTrue result ↔ (a.now ≡ b.now) }
+{
+    if a.len() != b.len() {
+        return false;
+    }
+    for i in 0..a.len() {
+        if !same_rendition(&a[i], &b[i]) {
+            return false;
+        }
+    }
+    true
+}
+
+fn same_rendition(a: &Rendition, b: &Rendition) -> bool
+    ensures { IsTrue result ↔ (a.now ≡ b.now) }
+{
+    a.name == b.name && a.video == b.video && a.bandwidth == b.bandwidth && a.tolerance == b.tolerance
+}
+
+/// Whether the first log, all of it, begins the second.
+pub(crate) fn begins(a: &Shared<Entry>, b: &Shared<Entry>) -> bool
+    requires first { a.now.first ≡ 0 }
+    requires other { b.now.first ≡ 0 }
+    ensures { IsTrue result ↔ (take (length a.now.items) b.now.items ≡ a.now.items) }
+{
+    if b.next() < a.next() {
+        return false;
+    }
+    for n in 0..a.next() {
+        let Some(x) = a.get(n) else { unreachable!() };
+        let Some(y) = b.get(n) else { unreachable!() };
+        if !same_entry(x, y) {
+            return false;
+        }
+    }
+    true
+}
+
+fn same_entry(a: &Entry, b: &Entry) -> bool
+    ensures { IsTrue result ↔ (a.now ≡ b.now) }
+{
+    a.by == b.by && same_logged(&a.event, &b.event)
+}
+
+fn same_logged(a: &Logged, b: &Logged) -> bool
+    ensures { IsTrue result ↔ (a.now ≡ b.now) }
+{
+    match a {
+        Logged::Begun { rendition: r, init: x, len: n } => match b {
+            Logged::Begun { rendition: s, init: y, len: m } => *r == *s && same_init(x, y) && *n == *m,
+            _ => false,
+        },
+        Logged::Accepted { rendition: r, facts: f } => match b {
+            Logged::Accepted { rendition: s, facts: g } => *r == *s && *f == *g,
+            _ => false,
+        },
+        Logged::Finished { rendition: r } => match b {
+            Logged::Finished { rendition: s } => *r == *s,
+            _ => false,
+        },
+        Logged::Slid { count: n } => match b {
+            Logged::Slid { count: m } => *n == *m,
+            _ => false,
+        },
+        Logged::Trimmed { rendition: r, floor: n } => match b {
+            Logged::Trimmed { rendition: s, floor: m } => *r == *s && *n == *m,
+            _ => false,
+        },
+    }
+}
+
+fn same_init(a: &Init, b: &Init) -> bool
+    ensures { IsTrue result ↔ (a.now ≡ b.now) }
+{
+    a.timing() == b.timing() && same_tracks(a.tracks(), b.tracks())
+}
+
+fn same_tracks(a: &[Track], b: &[Track]) -> bool
+    ensures { IsTrue result ↔ (a.now ≡ b.now) }
+{
+    if a.len() != b.len() {
+        return false;
+    }
+    for i in 0..a.len() {
+        if !same_track(&a[i], &b[i]) {
+            return false;
+        }
+    }
+    true
+}
+
+fn same_track(a: &Track, b: &Track) -> bool
+    ensures { IsTrue result ↔ (a.now ≡ b.now) }
+{
+    *a == *b
+}

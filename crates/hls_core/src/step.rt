@@ -1,0 +1,187 @@
+ghost use Rattle.std.specs.Prelude.{◌≡◌, length};
+ghost use Rattle.hls_media_laws.specs.Meaning.{IsInit};
+ghost use Rattle.hls_core_laws.specs.declared.event.Event.TheVariants.{Begin, Accept, Finish, Slide, Trim};
+ghost use Rattle.hls_core_laws.specs.Moves.{IsFitting};
+ghost use Rattle.hls_core.specs.Steps.{Steps};
+
+use crate::side::Side;
+use crate::snapshot::Snapshot;
+use crate::stepped::Stepped;
+use bytes::Bytes;
+use hls_core_laws::event::{Entry, Event, Logged};
+use hls_core_laws::refusal::Refusal;
+use hls_media_laws::facts::Facts;
+use hls_media_laws::init::Init;
+use hls_record::{RecordFault, Recording};
+use std::alloc::Global;
+
+/// What an event of the worker `by` does to a channel: a new snapshot, a repeat, or the first cause to refuse it.
+///
+/// The tests come in this order, and want of memory comes last.
+///
+/// | Event | Answers |
+/// |---|---|
+/// | `Begin` | `UnknownRendition`; the same bytes: `Repeat`; other bytes: `InitChanged`; `LedgerFull` |
+/// | `Accept` | `UnknownRendition`; `NoInit`; a kept unit of the same start: `Repeat` if the bytes are equal, else `Overlap`; a start before the last end: `Overlap`; `Finished`; `LedgerFull`; `RecordingFull` |
+/// | `Finish` | `UnknownRendition`; `NoInit`; already finished: `Repeat`; `LedgerFull` |
+/// | `Slide` | `SlideTooMany`, since no segment was closed yet |
+/// | `Trim` | `UnknownRendition`; at or below the floor: `Repeat`; `TrimTooFar`, since there is no front place yet |
+///
+/// The snapshot itself never changes, and the new one shares with it what the event doesn't touch.
+pub fn step(snapshot: &Snapshot, alloc: Global, by: u16, event: Event) -> Result<Stepped, Refusal>
+    requires { IsFitting snapshot.now event }
+    ensures { Steps snapshot.now by event result }
+{
+    match event {
+        Event::Begin {
+            rendition,
+            init,
+            bytes,
+        } => begin(snapshot, alloc, by, rendition, init, bytes),
+        Event::Accept {
+            rendition,
+            facts,
+            bytes,
+        } => accept(snapshot, alloc, by, rendition, facts, bytes),
+        Event::Finish { rendition } => finish(snapshot, alloc, by, rendition),
+        Event::Slide { count } => slide(snapshot, by, count),
+        Event::Trim { rendition, floor } => trim(snapshot, by, rendition, floor),
+    }
+}
+
+fn begin(
+    snapshot: &Snapshot,
+    alloc: Global,
+    by: u16,
+    rendition: usize,
+    init: Init,
+    bytes: Bytes,
+) -> Result<Stepped, Refusal>
+    requires { IsInit bytes init }
+    ensures { Steps snapshot.now by (Begin rendition init bytes) result }
+{
+    let Some(old) = snapshot.side(rendition) else {
+        return Err(Refusal::UnknownRendition);
+    };
+    match &old.recording {
+        Some(recording) if *recording.head() == bytes => return Ok(Stepped::Repeat),
+        Some(_) => return Err(Refusal::InitChanged),
+        None => {}
+    }
+    if snapshot.is_full() {
+        return Err(Refusal::LedgerFull);
+    }
+    let Ok(logged) = init.share() else {
+        return Err(Refusal::Memory);
+    };
+    let event = Logged::Begun {
+        rendition,
+        init: logged,
+        len: bytes.len() as u64,
+    };
+    let side = Side {
+        recording: Some(Recording::begin(alloc, init, bytes)),
+        finished: old.finished,
+    };
+    match snapshot.with_side(alloc, Entry { by, event }, rendition, side) {
+        Ok(next) => Ok(Stepped::New(next)),
+        Err(_) => Err(Refusal::Memory),
+    }
+}
+
+fn accept(
+    snapshot: &Snapshot,
+    alloc: Global,
+    by: u16,
+    rendition: usize,
+    facts: Facts,
+    bytes: Bytes,
+) -> Result<Stepped, Refusal>
+    requires { IsFitting snapshot.now (Accept rendition facts bytes) }
+    ensures { Steps snapshot.now by (Accept rendition facts bytes) result }
+{
+    let Some(old) = snapshot.side(rendition) else {
+        return Err(Refusal::UnknownRendition);
+    };
+    let Some(recording) = &old.recording else {
+        return Err(Refusal::NoInit);
+    };
+    match recording.twin(facts.start) {
+        Some(twin) if *twin == bytes => return Ok(Stepped::Repeat),
+        Some(_) => return Err(Refusal::Overlap),
+        None => {}
+    }
+    if facts.start < recording.last_end() {
+        return Err(Refusal::Overlap);
+    }
+    if old.finished {
+        return Err(Refusal::Finished);
+    }
+    if snapshot.is_full() {
+        return Err(Refusal::LedgerFull);
+    }
+    let recording = match recording.appended(alloc, facts, bytes) {
+        Ok(recording) => recording,
+        Err(RecordFault::Overlap) => return Err(Refusal::Overlap),
+        Err(RecordFault::Full) => return Err(Refusal::RecordingFull),
+        Err(RecordFault::Memory) => return Err(Refusal::Memory),
+    };
+    let event = Logged::Accepted { rendition, facts };
+    let side = Side {
+        recording: Some(recording),
+        finished: old.finished,
+    };
+    match snapshot.with_side(alloc, Entry { by, event }, rendition, side) {
+        Ok(next) => Ok(Stepped::New(next)),
+        Err(_) => Err(Refusal::Memory),
+    }
+}
+
+fn finish(snapshot: &Snapshot, alloc: Global, by: u16, rendition: usize) -> Result<Stepped, Refusal>
+    ensures { Steps snapshot.now by (Finish rendition) result }
+{
+    let Some(old) = snapshot.side(rendition) else {
+        return Err(Refusal::UnknownRendition);
+    };
+    let Some(recording) = &old.recording else {
+        return Err(Refusal::NoInit);
+    };
+    if old.finished {
+        return Ok(Stepped::Repeat);
+    }
+    if snapshot.is_full() {
+        return Err(Refusal::LedgerFull);
+    }
+    let Ok(recording) = recording.share(alloc) else {
+        return Err(Refusal::Memory);
+    };
+    let event = Logged::Finished { rendition };
+    let side = Side {
+        recording: Some(recording),
+        finished: true,
+    };
+    match snapshot.with_side(alloc, Entry { by, event }, rendition, side) {
+        Ok(next) => Ok(Stepped::New(next)),
+        Err(_) => Err(Refusal::Memory),
+    }
+}
+
+/// No segment was closed yet, so none can be removed.
+fn slide(snapshot: &Snapshot, by: u16, count: u64) -> Result<Stepped, Refusal>
+    ensures { Steps snapshot.now by (Slide count) result }
+{
+    Err(Refusal::SlideTooMany)
+}
+
+/// There is no front place yet, so no floor can rise.
+fn trim(snapshot: &Snapshot, by: u16, rendition: usize, floor: u64) -> Result<Stepped, Refusal>
+    ensures { Steps snapshot.now by (Trim rendition floor) result }
+{
+    let Some(side) = snapshot.side(rendition) else {
+        return Err(Refusal::UnknownRendition);
+    };
+    if floor <= side.floor() {
+        return Ok(Stepped::Repeat);
+    }
+    Err(Refusal::TrimTooFar)
+}
