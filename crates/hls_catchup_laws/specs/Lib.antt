@@ -1,0 +1,4 @@
+pub mod Media
+pub mod Jobs
+pub mod Segments
+pub mod Laws

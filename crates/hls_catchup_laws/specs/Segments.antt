@@ -1,0 +1,54 @@
+-- The segments of a plan in one rendition.
+use Rattle.std.specs.Prelude.{ℕ, ◌+◌, ◌-◌, ◌==◌, Bool, false, not, List, [], ◌∷◌, Some}
+use Rattle.std.specs.List.{list_any}
+use Rattle.hls_media_laws.specs.declared.facts.Facts.{Facts}
+use Rattle.hls_check_laws.specs.declared.spot.Spot.{Spot}
+use Rattle.hls_check_laws.specs.Tables.{spot_in, place_at}
+use Rattle.hls_m3u8.specs.declared.playlist.ByteRange.{ByteRange}
+use Rattle.hls_m3u8.specs.declared.playlist.Segment.{Segment}
+use Rattle.hls_catchup_laws.specs.Jobs.{bytes_between}
+
+-- where the segments of one rendition come from: the URI of the resource, the length of the init section at its front,
+-- the number of the first unit that follows there, and the facts of all units ever accepted
+pub record Cutting : Type 0 where
+  pub rendition : ℕ
+  pub uri : List ℕ
+  pub init_length : ℕ
+  pub first : ℕ
+  pub facts : List Facts
+
+-- the gap count before the spot's fragment isn't the one after its start
+abbrev pub is_gap_at : Spot → Bool
+is_gap_at spot = not (spot.run_in == spot.run_out)
+
+-- in some rendition a gap lies just before the place
+abbrev pub is_break : List Spot → Bool
+is_break place = list_any is_gap_at place
+
+-- the units from one spot's fragment to the one before the other's
+abbrev pub range_between : Cutting → Spot → Spot → ByteRange
+range_between cut from to = record {
+  length = bytes_between cut.facts from.fragment to.fragment;
+  offset = cut.init_length + bytes_between cut.facts cut.first from.fragment;
+}
+
+-- the segment of a step from one place to another
+abbrev pub segment_between : Cutting → Bool → List Spot → List Spot → Segment
+segment_between cut mark from to = record {
+  mark = mark;
+  us = (spot_in to cut.rendition).prev_end - (spot_in from cut.rendition).start;
+  range = Some (range_between cut (spot_in from cut.rendition) (spot_in to cut.rendition));
+  uri = cut.uri;
+}
+
+-- one segment a step, from place p along the rest of a plan; the first has the given mark, and each later one has a
+-- mark where a gap lies just before its start
+abbrev pub segments_from : Cutting → List (List Spot) → ℕ → Bool → List ℕ → List Segment
+segments_from cut places p mark [] = []
+segments_from cut places p mark (q ∷ rest) =
+    segment_between cut mark (place_at places p) (place_at places q) ∷ segments_from cut places q (is_break (place_at places q)) rest
+
+-- the segments of a plan: the first has no mark
+abbrev pub segments_of : Cutting → List (List Spot) → List ℕ → List Segment
+segments_of cut places [] = []
+segments_of cut places (p ∷ rest) = segments_from cut places p false rest
