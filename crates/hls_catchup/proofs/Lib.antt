@@ -1,0 +1,11 @@
+pub mod Offsets
+pub mod Places
+pub mod Pieces
+pub mod Uris
+pub mod ListLoop
+pub mod Right
+pub mod Bounded
+pub mod Covered
+pub mod States
+pub mod Tables
+pub mod Spans

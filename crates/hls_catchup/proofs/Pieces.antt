@@ -1,0 +1,93 @@
+-- The bytes of a job's resource, as a recording has them.
+use Rattle.std.proofs.Common.{◌≡◌, ℕ, zero, suc, ◌+◌, ◌-◌, ◌<◌, ◌≤◌, List, [], ◌∷◌, ◌++◌, length, map, take, drop, Some, None, refl, sym, ◌∙◌, ap, arith, length-append, length-drop, inl, inr, zero-add}
+use Rattle.std.proofs.lemmas.Bool.{cases_lt, lt-ltb, le-ltb}
+use Rattle.std.specs.Prelude.{slice_get}
+use Rattle.std.specs.List.{concat}
+use Rattle.hls_media_laws.specs.declared.facts.Facts.{Facts}
+use Rattle.hls_media_laws.proofs.Bounds.{units_are_bounded}
+use Rattle.hls_record.specs.Recorded.{Recorded, offset_at, unit_piece, piece_at}
+use Rattle.hls_record.specs.Valid.{IsRecorded}
+use Rattle.hls_record.proofs.Lists.{at_drop}
+use Rattle.hls_record.proofs.Pieces.{no_piece}
+use Rattle.hls_catchup_laws.specs.Jobs.{len_of, bytes_between, units_between, resource_of, HaveLengths}
+use Rattle.hls_catchup_laws.proofs.Ranges.{bytes_are}
+use Rattle.hls_catchup.proofs.Offsets.{offsets_add}
+
+-- lengths side by side
+same_lengths : (fs : List Facts) (us : List (List ℕ)) →
+    ((k : ℕ) (f : Facts) (u : List ℕ) → slice_get fs k ≡ Some f → slice_get us k ≡ Some u → f.len ≡ length u) → length us ≡ length fs →
+    map len_of fs ≡ map length us
+same_lengths [] [] lens long = refl
+same_lengths [] (u ∷ us) lens long = absurd (omega arith)
+same_lengths (f ∷ fs) [] lens long = absurd (omega arith)
+same_lengths (f ∷ fs) (u ∷ us) lens long =
+    let here : f.len ≡ length u = lens 0 f u refl refl in
+    let rest : map len_of fs ≡ map length us = same_lengths fs us (λ k g v at_g at_v. lens (suc k) g v at_g at_v) (omega arith) in
+    ap (λ n. n ∷ map len_of fs) here ∙ ap (λ ns. length u ∷ ns) rest
+
+-- a recording's kept units are as long as their facts say
+pub have_lengths : (r : Recorded) → IsRecorded r → HaveLengths r.facts r.floor r.units
+have_lengths r valid =
+    let count : length (drop r.floor r.facts) ≡ length r.facts - r.floor = length-drop r.floor r.facts in
+    same_lengths (drop r.floor r.facts) r.units
+    (λ k f u at_f at_u. (units_are_bounded r.init u f (valid.fits k f u (sym (at_drop r.facts r.floor k) ∙ at_f) at_u)).len_is)
+    (omega (arith, valid.kept))
+
+pub resource_long : (r : Recorded) (first end : ℕ) → IsRecorded r → r.floor ≤ first →
+    length (resource_of r.head r.floor r.units first end) ≡ length r.head + bytes_between r.facts first end
+resource_long r first end valid kept =
+    length-append r.head (concat (units_between r.floor r.units first end))
+    ∙ ap (λ n. length r.head + n) (sym (bytes_are r.facts r.floor r.units first end kept (have_lengths r valid)))
+
+-- a piece behind the first i units is one of the units after them
+behind : (us : List (List ℕ)) (i y : ℕ) → unit_piece us (length (concat (take i us)) + y) ≡ unit_piece (drop i us) y
+behind us zero y = ap (unit_piece us) (zero-add y)
+behind [] (suc i) y = refl
+behind (u ∷ us) (suc i) y =
+    let long : length (u ++ concat (take i us)) + y ≡ length u + (length (concat (take i us)) + y) = omega (arith, length-append u (concat (take i us))) in
+    let rest : length u + (length (concat (take i us)) + y) - length u ≡ length (concat (take i us)) + y = omega arith in
+    rw (long, le-ltb (length u + (length (concat (take i us)) + y)) (length u) (omega arith), rest) (behind us i y)
+
+-- a piece within the first d units doesn't see those after them
+within_first : (us : List (List ℕ)) (d y : ℕ) → y < length (concat (take d us)) → unit_piece us y ≡ unit_piece (take d us) y
+within_first us zero y inside = absurd (omega arith)
+within_first [] (suc d) y inside = refl
+within_first (u ∷ us) (suc d) y inside =
+    elim (cases_lt y (length u)) [
+      | inl here ↦ rw (lt-ltb y (length u) here) refl
+      | inr past ↦ (
+          let long = length-append u (concat (take d us)) in
+          rw (le-ltb y (length u) past) (within_first us d (y - length u) (omega arith))
+          )
+    ]
+
+-- past the units there is nothing
+pub piece_past : (r : Recorded) (first end at : ℕ) → IsRecorded r → r.floor ≤ first → length r.head ≤ at →
+    bytes_between r.facts first end ≤ at - length r.head →
+    unit_piece (r.head ∷ units_between r.floor r.units first end) at ≡ None
+piece_past r first end at valid kept behind_head past =
+    let long : bytes_between r.facts first end ≡ length (concat (units_between r.floor r.units first end)) =
+    bytes_are r.facts r.floor r.units first end kept (have_lengths r valid) in
+    rw (le-ltb at (length r.head) behind_head) (no_piece (units_between r.floor r.units first end) (at - length r.head) (omega arith))
+
+-- within them the recording has the piece, further back
+pub piece_there : (r : Recorded) (first end at : ℕ) → IsRecorded r → r.floor ≤ first → length r.head ≤ at →
+    at - length r.head < bytes_between r.facts first end →
+    piece_at r (offset_at r first + (at - length r.head)) ≡ unit_piece (r.head ∷ units_between r.floor r.units first end) at
+piece_there r first end at valid kept behind_head inside =
+    let y : ℕ = at - length r.head in
+    let i : ℕ = first - r.floor in
+    let lens = have_lengths r valid in
+    let moved : offset_at r first ≡ offset_at r r.floor + bytes_between r.facts r.floor first = offsets_add r r.floor first kept in
+    let skipped : bytes_between r.facts r.floor first ≡ length (concat (units_between r.floor r.units r.floor first)) =
+    bytes_are r.facts r.floor r.units r.floor first (omega arith) lens in
+    let front : units_between r.floor r.units r.floor first ≡ take i r.units =
+    ap (λ n. take i (drop n r.units)) (let none : r.floor - r.floor ≡ 0 = omega arith in none) in
+    let back : offset_at r first + y - offset_at r r.floor ≡ length (concat (take i r.units)) + y =
+    (let same : length (concat (units_between r.floor r.units r.floor first)) ≡ length (concat (take i r.units)) = ap (λ xs. length (concat xs)) front in omega arith) in
+    let span : bytes_between r.facts first end ≡ length (concat (take (end - first) (drop i r.units))) = bytes_are r.facts r.floor r.units first end kept lens in
+    let found : unit_piece r.units (length (concat (take i r.units)) + y) ≡ unit_piece (take (end - first) (drop i r.units)) y =
+    behind r.units i y ∙ within_first (drop i r.units) (end - first) y (omega arith) in
+    let past_head : length r.head ≤ offset_at r first + y = omega arith in
+    let past_floor : offset_at r r.floor ≤ offset_at r first + y = omega arith in
+    rw (le-ltb (offset_at r first + y) (length r.head) past_head, le-ltb (offset_at r first + y) (offset_at r r.floor) past_floor, back, le-ltb at (length r.head) behind_head) found

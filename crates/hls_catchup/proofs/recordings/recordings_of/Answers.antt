@@ -1,0 +1,29 @@
+use Rattle.std.proofs.Common.{◌≡◌, ◌∷◌, [], length, arith, ap, sym, ◌∙◌, length-append}
+use Rattle.hls_core.specs.Reads.{recording_of}
+use Rattle.hls_catchup.proofs.States.{lanes_long, one_recording_more, are_recordings}
+use Rattle.hls_catchup.proofs.recordings.recordings_of.Goals as goal
+
+pub returns-in-None : goal.returns-in-None
+returns-in-None c =
+    let renditions = c.renditions-rendition-end.ensures.value in
+    let config = c.config.ensures.value in
+    let count : length c.renditions-rendition-end.result.now ≡ length c.args.snapshot.now.config.renditions = cc in
+    let lanes = lanes_long c.args.snapshot.now in
+    record { rendition = c.loop-rendition.rendition; within = omega arith; unbegun = sym c.in-None.ensures.value }
+
+pub loop-rendition-preserved : goal.loop-rendition-preserved
+loop-rendition-preserved c =
+    let long = length-append c.loop-rendition.recordings.items (c.in-Some.recording ∷ []) in
+    rw c.in_ok-push-in-Some.ensures.items (record {
+      count = omega (arith, c.loop-rendition.invariant.count);
+      each = one_recording_more c.args.snapshot.now c.loop-rendition.recordings.items c.in-Some.recording c.loop-rendition.invariant.each
+          (ap (recording_of c.args.snapshot.now) c.loop-rendition.invariant.count ∙ sym c.in-Some.ensures.value);
+    })
+
+pub returns : goal.returns
+returns c =
+    let renditions = c.renditions-rendition-end.ensures.value in
+    let config = c.config.ensures.value in
+    let count : length c.renditions-rendition-end.result.now ≡ length c.args.snapshot.now.config.renditions = cc in
+    let end = c.loop-rendition.auto.rendition-end in
+    are_recordings c.args.snapshot.now c.loop-rendition.recordings.items (omega (arith, c.loop-rendition.invariant.count)) c.loop-rendition.invariant.each

@@ -1,0 +1,14 @@
+use Rattle.std.proofs.Common.{◌≡◌, ◌<◌, ◌++◌, false, length, drop, All}
+use Rattle.hls_check_laws.specs.Tables.{IsTable}
+use Rattle.hls_catchup_laws.specs.Segments.{segments_from}
+use Rattle.hls_catchup.specs.Lists.{cutting}
+use Rattle.hls_catchup.proofs.segments.segments_of.Given as goal
+
+abbrev pub invariant-loop-to : goal.invariant-loop-to
+invariant-loop-to l = record {
+  valid : IsTable l.table;
+  from_in : l.from < length l.table.places;
+  rest_in : All (λ p. p < length l.table.places) l.rest;
+  done : l.segments.items ++ segments_from (cutting l.recording l.rendition l.uri l.first) l.table.places l.from l.mark (drop l.to-index l.rest)
+      ≡ segments_from (cutting l.recording l.rendition l.uri l.first) l.table.places l.initial.from false l.rest;
+}

@@ -1,0 +1,48 @@
+ghost use Rattle.std.specs.Prelude.{◌≡◌, length, map, IfOk};
+ghost use Rattle.hls_catchup.specs.Answers.{AreCovered, IsRightCutout};
+
+use crate::lists::job_lists;
+use hls_check_laws::{Certificate, PlaceTable};
+use hls_m3u8::MediaPlaylist;
+use hls_plan::{Planned, certificate, plan};
+use hls_record::Recording;
+use std::alloc::{AllocError, Global};
+
+/// What a programme was cut into. The certificate holds the programme's table and the plan, or the closed set.
+#[derive(Debug, Drop)]
+pub enum Cutout {
+    /// A least plan: one playlist for each rendition, in order.
+    Cut {
+        playlists: Vec<MediaPlaylist>,
+        certificate: Certificate,
+    },
+    /// The table has no plan.
+    NoCut {
+        certificate: Certificate,
+    },
+}
+
+/// Cuts the programme of a table: a least plan with its playlists, or the proof that there is no plan.
+pub fn cut(
+    alloc: Global,
+    recordings: &[&Recording],
+    table: PlaceTable,
+) -> Result<Cutout, AllocError>
+    requires { AreCovered table (map (λ r. r.now) recordings.now) }
+    ensures { IfOk result (IsRightCutout (map (λ r. r.now) recordings.now) table) }
+{
+    let _ = table.len();
+    let planned = plan(alloc, &table)?;
+    match &planned {
+        Planned::Cut { plan, .. } => {
+            let playlists = job_lists(alloc, recordings, &table, plan.as_slice())?;
+            Ok(Cutout::Cut {
+                playlists,
+                certificate: certificate(table, planned),
+            })
+        }
+        Planned::NoCut { .. } => Ok(Cutout::NoCut {
+            certificate: certificate(table, planned),
+        }),
+    }
+}

@@ -1,0 +1,26 @@
+//! Catch-up answers: a programme of one channel, cut from what one snapshot recorded, as a playlist and a resource for each
+//! rendition, with a certificate that no other plan comes nearer to the preferred length.
+#![tactic(auto)]
+
+pub use cutout::{Cutout, cut};
+pub use lists::job_lists;
+pub use programme::{Renditions, programme_table};
+pub use reply::{Reply, answer};
+pub use request::{CatchFault, Request};
+pub use resource::{resource_piece, resource_total};
+pub use segments::{bytes_between, segments_of};
+pub use span::{reply_piece, reply_total};
+pub use table::table_of;
+
+mod cutout;
+mod lists;
+mod programme;
+mod recordings;
+mod reply;
+mod request;
+mod resource;
+mod segments;
+mod span;
+mod table;
+#[cfg(test)]
+mod tests;

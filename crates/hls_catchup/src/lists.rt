@@ -1,0 +1,60 @@
+ghost use Rattle.std.specs.Prelude.{◌≡◌, ◌<◌, length, map, All, IfOk};
+ghost use Rattle.hls_record.specs.Valid.{IsRecorded};
+ghost use Rattle.hls_m3u8.specs.Playlist.{playlist_of};
+ghost use Rattle.hls_catchup.specs.Lists.{job_uri, job_list, job_lists};
+
+use crate::segments::segments_of;
+use bytes::ByteStr;
+use hls_check_laws::PlaceTable;
+use hls_m3u8::MediaPlaylist;
+use hls_record::Recording;
+use std::alloc::{AllocError, Global};
+
+/// The URI of a rendition's resource, as the playlists of a job name it.
+fn job_uri(alloc: Global, rendition: usize) -> Result<ByteStr, AllocError>
+    ensures { IfOk result (λ uri. uri ≡ job_uri rendition) }
+{
+    ByteStr::from_string(format!(in alloc; "{rendition}.mp4")?)
+}
+
+/// The list of VOD of one rendition with the plan's steps as its segments (RFC 8216 4.3.3.5).
+#[tactic(auto, using(crate::proofs::Places::place_long))]
+fn job_list(
+    alloc: Global,
+    recording: &Recording,
+    rendition: usize,
+    table: &PlaceTable,
+    plan: &[usize],
+) -> Result<MediaPlaylist, AllocError>
+    requires rendition { rendition < table.now.renditions }
+    requires plan { All (λ p. p < length table.now.places) plan.now }
+    ensures list { IfOk result (λ list. playlist_of list ≡ job_list recording.now rendition table.now plan.now) }
+    ensures valid { IsRecorded recording.now }
+{
+    let _ = recording.count();
+    let _ = table.len();
+    let uri = job_uri(alloc, rendition)?;
+    let first = table.place(0).get(rendition).fragment;
+    let segments = segments_of(alloc, recording, rendition, &uri, first, table, plan)?;
+    let init_length = recording.head().len() as u64;
+    Ok(MediaPlaylist::vod(table.target(), uri, init_length, segments))
+}
+
+/// One list for each rendition, in order.
+pub fn job_lists(
+    alloc: Global,
+    recordings: &[&Recording],
+    table: &PlaceTable,
+    plan: &[usize],
+) -> Result<Vec<MediaPlaylist>, AllocError>
+    requires renditions { length recordings.now ≡ table.now.renditions }
+    requires plan { All (λ p. p < length table.now.places) plan.now }
+    ensures lists { IfOk result (λ lists. map playlist_of lists.items ≡ job_lists 0 (map (λ r. r.now) recordings.now) table.now plan.now) }
+    ensures valid { IfOk result (λ lists. All (λ r. IsRecorded r.now) recordings.now) }
+{
+    let mut lists = Vec::new(alloc);
+    for (rendition, recording) in recordings.iter().enumerate() {
+        lists.push(job_list(alloc, recording, rendition, table, plan)?)?;
+    }
+    Ok(lists)
+}

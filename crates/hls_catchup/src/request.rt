@@ -1,0 +1,88 @@
+ghost use Rattle.std.specs.Prelude.{◌≡◌};
+ghost use Rattle.hls_catchup.specs.declared.request.CatchFault.TheVariants.{Memory};
+ghost use Rattle.hls_catchup.specs.Requests.{fault_of, name_of};
+
+use hls_places::ProgrammeFault;
+use std::alloc::{AllocError, AllocFailed};
+use thiserror::Error;
+
+/// What a client asks to see again: the programme from `start_us` to `stop_us`, cut into segments near to the `preferred`
+/// length; all in microseconds.
+#[derive(Clone, Copy, Debug, PartialEq, Eq)]
+pub struct Request {
+    pub start_us: u64,
+    pub stop_us: u64,
+    pub preferred: u64,
+}
+
+/// Why a request has no answer, in the order in which the causes are looked at.
+#[derive(Clone, Copy, Debug, PartialEq, Eq, Error)]
+pub enum CatchFault {
+    /// The stop isn't after the start.
+    #[error("BadRange")]
+    BadRange,
+    /// The preferred length isn't 1 microsecond to the channel's target.
+    #[error("BadPreferred")]
+    BadPreferred,
+    /// No kept place lies at or before the start.
+    #[error("BeforeRecording")]
+    BeforeRecording,
+    /// The stop is after the last place, and more may come.
+    #[error("NotYet")]
+    NotYet,
+    /// The stop is after the last place of a channel that is finished.
+    #[error("AfterRecording")]
+    AfterRecording,
+    /// More than 16384 places.
+    #[error("ProgrammeTooLong")]
+    ProgrammeTooLong,
+    /// Memory ran out.
+    #[error("Memory")]
+    Memory,
+}
+
+impl CatchFault {
+    /// The variant's name, as replies print it.
+    pub fn name(&self) -> &'static str
+        ensures { result.now ≡ name_of self.now }
+    {
+        match self {
+            CatchFault::BadRange => "BadRange",
+            CatchFault::BadPreferred => "BadPreferred",
+            CatchFault::BeforeRecording => "BeforeRecording",
+            CatchFault::NotYet => "NotYet",
+            CatchFault::AfterRecording => "AfterRecording",
+            CatchFault::ProgrammeTooLong => "ProgrammeTooLong",
+            CatchFault::Memory => "Memory",
+        }
+    }
+}
+
+/// A programme's fault, as the answer to a request.
+pub(crate) fn fault_of(fault: ProgrammeFault) -> CatchFault
+    ensures { result ≡ fault_of fault }
+{
+    match fault {
+        ProgrammeFault::BeforeRecording => CatchFault::BeforeRecording,
+        ProgrammeFault::NotYet => CatchFault::NotYet,
+        ProgrammeFault::AfterRecording => CatchFault::AfterRecording,
+        ProgrammeFault::ProgrammeTooLong => CatchFault::ProgrammeTooLong,
+        ProgrammeFault::Memory => CatchFault::Memory,
+    }
+}
+
+impl From<AllocError> for CatchFault {
+    ghost from_gives = { λ _ e. e ≡ Memory };
+
+    fn from(_error: AllocError) -> CatchFault {
+        CatchFault::Memory
+    }
+}
+
+impl<T: Drop> From<AllocFailed<T>> for CatchFault {
+    ghost from_gives = { λ _ e. e ≡ Memory };
+
+    fn from(_error: AllocFailed<T>) -> CatchFault {
+        CatchFault::Memory
+    }
+}

@@ -1,0 +1,54 @@
+ghost use Rattle.std.specs.Prelude.{◌≡◌, IfNone, IfSome, None};
+ghost use Rattle.std.specs.Option.{option_copied};
+ghost use Rattle.hls_catchup.specs.Resources.{parts_in, total_of, piece_of, IsSpan};
+
+use crate::cutout::Cutout;
+use crate::reply::Reply;
+use crate::resource::{resource_piece, resource_total};
+use hls_record::Recording;
+
+/// Which units of a recording a reply's resource has: those from number `first` to the one before `end`.
+#[derive(Clone, Copy)]
+struct Span<'a> {
+    recording: &'a Recording,
+    first: u64,
+    end: u64,
+}
+
+#[tactic(auto, using(crate::proofs::Places::place_long))]
+fn span_of(reply: &Reply, rendition: usize) -> Option<Span<'_>>
+    ensures some { IfSome result (IsSpan reply.now rendition) }
+    ensures none { IfNone result (parts_in reply.now rendition ≡ None) }
+{
+    match reply.cutout() {
+        Cutout::Cut { certificate, .. } => {
+            let recording = reply.snapshot().recording(rendition)?;
+            let table = certificate.table();
+            let last = table.len() - 1;
+            Some(Span {
+                recording,
+                first: table.place(0).get(rendition).fragment,
+                end: table.place(last).get(rendition).fragment,
+            })
+        }
+        Cutout::NoCut { .. } => None,
+    }
+}
+
+/// The length of a rendition's resource: its init section, then the units of the programme. None where the channel has no
+/// such rendition, or the reply no cut. Takes no memory.
+pub fn reply_total(reply: &Reply, rendition: usize) -> Option<u64>
+    ensures { result ≡ total_of (parts_in reply.now rendition) }
+{
+    let span = span_of(reply, rendition)?;
+    Some(resource_total(span.recording, span.first, span.end))
+}
+
+/// The bytes of that resource from byte `at` to the end of the init section or the unit in which it stands; None at or past
+/// the end as well. No byte is copied, and no memory taken.
+pub fn reply_piece(reply: &Reply, rendition: usize, at: u64) -> Option<&[u8]>
+    ensures { option_copied result ≡ piece_of (parts_in reply.now rendition) at }
+{
+    let span = span_of(reply, rendition)?;
+    resource_piece(span.recording, span.first, span.end, at)
+}
