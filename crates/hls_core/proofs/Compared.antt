@@ -2,7 +2,7 @@
 use Rattle.std.proofs.Common.{◌≡◌, ℕ, ◌+◌, ◌-◌, ◌<◌, true, false, List, [], ◌∷◌, ◌++◌, Some, length, take, drop, refl, sym, ap, subst, inl, inr, ◌∙◌, arith, length-append}
 use Rattle.std.specs.Prelude.{slice_get, nat_lt, ◌==◌}
 use Rattle.std.proofs.lemmas.Bool.{le-ltb, eq-eqb, ne_eqb, cases_eq}
-use Rattle.std.proofs.lemmas.List.{take_at, take-append-drop}
+use Rattle.std.proofs.lemmas.List.{take-append-drop}
 use Rattle.hls_blocks.specs.Numbered.{Numbered, item_at}
 use Rattle.hls_core_laws.specs.declared.event.Entry.{Entry}
 use Rattle.hls_core_laws.specs.Channel.{Lane, no_lane, lane}
@@ -90,14 +90,6 @@ follows_when a b is_a is_b config front same =
     let whole : b.log ≡ a.log ++ drop (length a.log) b.log =
         sym (take-append-drop (length a.log) b.log) ∙ ap (λ (xs : List Entry). xs ++ drop (length a.log) b.log) front in
     follows_of a b is_a is_b (record { config = sym config; rest = drop (length a.log) b.log; log = whole; same = same })
-
-pub config_of : (a b : State) → Follows a b → a.config ≡ b.config
-config_of a b follows = sym (continues_of a b follows).config
-
-pub front_of : (a b : State) → Follows a b → take (length a.log) b.log ≡ a.log
-front_of a b follows =
-    let c = continues_of a b follows in
-    ap (λ (xs : List Entry). take (length a.log) xs) c.log ∙ take_at a.log c.rest (length a.log) refl
 
 pub same_of : (a b : State) → Follows a b → AreSame a b
 same_of a b follows = (continues_of a b follows).same

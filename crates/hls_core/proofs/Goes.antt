@@ -1,18 +1,17 @@
 -- What the code has found out of an event makes it New, and the side that it puts in makes the state that the move says.
 use Rattle.std.proofs.Common.{arith, ◌≡◌, ℕ, ◌+◌, ◌^◌, ◌<◌, ◌≤◌, Bool, true, false, List, [], ◌∷◌, ◌++◌, Option, Some, None, length, refl, sym, ap, subst, ◌∙◌}
 use Rattle.std.specs.Prelude.{slice_get, slice_set, nat_le}
-use Rattle.std.proofs.lemmas.Bool.{le-ltb, lt-ltb, lt-leb, leb-false}
+use Rattle.std.proofs.lemmas.Bool.{le-ltb, lt-leb, leb-false}
 use Rattle.hls_media_laws.specs.InitData.{InitData}
 use Rattle.hls_media_laws.specs.declared.facts.Facts.{Facts}
 use Rattle.hls_media_laws.specs.Meaning.{IsInit}
 use Rattle.hls_record.specs.Recorded.{Recorded, total_of, last_end, begun, with_unit, twin_of}
 use Rattle.hls_core_laws.specs.declared.event.Event.{Event}
 use Rattle.hls_core_laws.specs.declared.event.Event.TheVariants.{Begin, Accept, Finish}
-use Rattle.hls_core_laws.specs.declared.refusal.Refusal.TheVariants.{RecordingFull}
 use Rattle.hls_core_laws.specs.Channel.{Lane, no_lane, lane, after, begun_with, with_facts, finish_of}
 use Rattle.hls_core_laws.specs.State.{State, Held, no_held, channel}
 use Rattle.hls_core_laws.specs.IsState.{IsState}
-use Rattle.hls_core_laws.specs.Outcome.{New, Refused, outcome_of, held, accept, accept_beside, accept_later}
+use Rattle.hls_core_laws.specs.Outcome.{New, outcome_of, held, accept, accept_beside, accept_later}
 use Rattle.hls_core_laws.specs.Moves.{logged, entry_of, advanced, more_bytes, IsFitting}
 use Rattle.hls_core_laws.proofs.Lists.{at_or, at_below, set_same}
 use Rattle.hls_core_laws.proofs.Logs.{facts_few}
@@ -111,11 +110,6 @@ pub accept_new : (s : State) (r : ℕ) (old : Side) (rec : Recorded) (f : Facts)
 accept_new s r old rec f bytes at begun apart later open_ended room small =
     accept_chain s r old rec f bytes at begun apart
         ∙ rw (le-ltb f.start (last_end rec.facts) later, open_ended, lt-leb 4194304 (length s.log) room, le-ltb (2 ^ 40) (total_of rec + f.len) small) refl
-
-pub accept_full : (s : State) (r : ℕ) (old : Side) (rec : Recorded) (f : Facts) (bytes : List ℕ) → IsAt s r old → old.recording ≡ Some rec → twin_of rec f.start ≡ None → last_end rec.facts ≤ f.start → old.finished ≡ false → length s.log < 4194304 → 2 ^ 40 < total_of rec + f.len → outcome_of s (Accept r f bytes) ≡ Refused RecordingFull
-accept_full s r old rec f bytes at begun apart later open_ended room large =
-    accept_chain s r old rec f bytes at begun apart
-        ∙ rw (le-ltb f.start (last_end rec.facts) later, open_ended, lt-leb 4194304 (length s.log) room, lt-ltb (2 ^ 40) (total_of rec + f.len) large) refl
 
 pub accept_goes : (s : State) (by : ℕ) (r : ℕ) (old : Side) (rec next : Recorded) (f : Facts) (bytes : List ℕ) → IsState s → IsAt s r old → old.recording ≡ Some rec → IsFitting s (Accept r f bytes) → outcome_of s (Accept r f bytes) ≡ New → next ≡ with_unit rec f bytes → old.finished ≡ false → IsRecorded next → Goes s by (Accept r f bytes) r (record { recording = Some next; finished = old.finished })
 accept_goes s by r old rec next f bytes state at begun fits new next_is open_ended good =

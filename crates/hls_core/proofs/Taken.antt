@@ -21,7 +21,7 @@ use Rattle.hls_core_laws.specs.Channel.{Channel, Lane, no_lane, fresh, after, op
 use Rattle.hls_core_laws.specs.State.{State, no_held, channel}
 use Rattle.hls_core_laws.specs.IsState.{IsState}
 use Rattle.hls_core_laws.specs.Runs.{first_state, nothing_held}
-use Rattle.hls_core_laws.proofs.Lists.{at_map, at_set, at_some, at_below, mapped_at, past_end, length_set}
+use Rattle.hls_core_laws.proofs.Lists.{at_map, at_set, at_some, at_below, mapped_at, length_set}
 use Rattle.hls_core_laws.proofs.Logs.{channel_from-snoc, facts_few}
 use Rattle.hls_core_laws.proofs.Runs.{first_is_state}
 use Rattle.hls_core.specs.declared.side.Side.{Side}
@@ -170,13 +170,6 @@ side_at i s r side is kept at =
           held = at_map held_of (sides_of i) r side at;
         } in
     subst (λ (x : State). IsAt x r side) is here
-
-pub side_past : (i : Inside) (s : State) (r : ℕ) → seen i ≡ s → IsKept i → length i.sides.items ≤ r → slice_get (channel s).lanes r ≡ None
-side_past i s r is kept past =
-    let count : length (channel (seen i)).lanes ≡ length i.sides.items =
-        ap length (sym kept.lanes) ∙ length-map (sides_of i) lane_of ∙ length-map i.sides.items (λ a. a.value) in
-    let none : slice_get (channel (seen i)).lanes r ≡ None = past_end (channel (seen i)).lanes r (omega arith) in
-    subst (λ (x : State). slice_get (channel x).lanes r ≡ None) is none
 
 -- the opening
 fresh_lanes : (rs : List Rendition) → map lane_of (map fresh_side rs) ≡ map fresh rs

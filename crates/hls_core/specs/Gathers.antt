@@ -1,6 +1,5 @@
 -- The recordings of all renditions, or one that has none.
-use Rattle.std.specs.Prelude.{◌≡◌, ℕ, List, Option, Some, None, slice_get}
-use Rattle.hls_record.specs.Recorded.{Recorded}
+use Rattle.std.specs.Prelude.{◌≡◌, ℕ, List, Some, None, slice_get}
 use Rattle.hls_core.specs.declared.side.Side.{Side}
 
 -- a rendition that hasn't begun
@@ -9,6 +8,3 @@ pub record Lacks (sides : List Side) : Type 0 where
   pub side : Side
   pub at : slice_get sides number ≡ Some side
   pub none : side.recording ≡ None
-
-abbrev pub recording_in : Side → Option Recorded
-recording_in side = side.recording
