@@ -1,0 +1,41 @@
+-- The words after `cut`, as `clap` takes or refuses them.
+use Rattle.std.proofs.Common.{◌≡◌, ◌∙◌, ap, ap₂, refl, sym, codes, true, false, List, [], ◌∷◌, ℕ, Option, Some, None, ◌⊎◌, inl, inr}
+use Rattle.clap.specs.Words.{App, Row, Text, app_of, fault_of, first_of, first_value, found_of, is_simple, is_simple_and_free, kind_of, matches_of, rows_of, HasMatchesOf}
+use Rattle.clap.specs.Kinds.{Kinds, HasKind, IsAmong}
+use Rattle.clap.specs.declared.parser.matches.ArgMatches.{ArgMatches}
+use Rattle.clap.specs.declared.error.Error.{Error}
+use Rattle.clap.specs.declared.error.kind.ErrorKind.{ErrorKind}
+use Rattle.clap.specs.declared.error.kind.ErrorKind.TheVariants as kind
+use Rattle.clap.proofs.OnLiterals.{clap_on_literals}
+use Rattle.clap.proofs.WalkLemmas.{first_value-rows}
+use Rattle.hls_origin.specs.Options.{Choice, choice_in, choice_of, cut_app, options_of, unless_refused}
+
+pub cut_is_simple : is_simple cut_app ≡ true
+unfolding cut_app
+cut_is_simple = refl
+
+pub cut_is_simple_and_free : is_simple_and_free cut_app ≡ true
+unfolding cut_app
+cut_is_simple_and_free = refl
+
+-- words that were taken
+pub taken_words : (app : App) (words : List Text) (m : ArgMatches) → app ≡ cut_app → HasMatchesOf app words m → fault_of app words ≡ []
+    → choice_in (first_value (found_of m) (codes "target")) (first_value (found_of m) (codes "uri")) ≡ options_of words
+unfolding options_of
+taken_words app words m is has none =
+    let rows : rows_of (found_of m) ≡ matches_of cut_app words = (has (ap is_simple is ∙ cut_is_simple)).0 ∙ ap (λ (a : App). matches_of a words) is in
+    let target : first_value (found_of m) (codes "target") ≡ first_of (codes "target") (matches_of cut_app words) = first_value-rows (found_of m) (codes "target") ∙ ap (first_of (codes "target")) rows in
+    let uri : first_value (found_of m) (codes "uri") ≡ first_of (codes "uri") (matches_of cut_app words) = first_value-rows (found_of m) (codes "uri") ∙ ap (first_of (codes "uri")) rows in
+    let no_fault : fault_of cut_app words ≡ [] = sym (ap (λ (a : App). fault_of a words) is) ∙ none in
+    ap₂ choice_in target uri ∙ sym (ap (λ (ks : Kinds). unless_refused ks (choice_of (matches_of cut_app words))) no_fault)
+
+some_fault : (ks : Kinds) (k : ErrorKind) (choice : Option Choice) → IsAmong k ks → None ≡ unless_refused ks choice
+some_fault [] k choice among = absurd among
+some_fault (j ∷ ks) k choice among = refl
+
+-- words that were refused, for another reason than memory
+pub refused_words : (app : App) (words : List Text) (e : Error) → app ≡ cut_app → (kind_of e ≡ kind.OutOfMemory → ⊥) → HasKind (fault_of app words) e → None ≡ options_of words
+unfolding options_of
+refused_words app words e is other (inl memory) = absurd (other memory)
+refused_words app words e is other (inr among) =
+    some_fault _ (kind_of e) _ among ∙ ap (λ (a : App). unless_refused (fault_of a words) (choice_of (matches_of cut_app words))) is

@@ -1,0 +1,17 @@
+pub mod Accepts
+pub mod Counted
+pub mod FaultName
+pub mod Gather
+pub mod Listing
+pub mod Number
+pub mod Options
+pub mod Placed
+pub mod Places
+pub mod Recorded
+pub mod Rose
+pub mod Run
+pub mod Segments
+pub mod Then
+pub mod Timeline
+pub mod Units
+pub mod Writing

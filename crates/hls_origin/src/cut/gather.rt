@@ -1,0 +1,108 @@
+//! Reading a stream to its end, part by part.
+ghost use Rattle.std.specs.Prelude.{◌≡◌, ◌<◌, ◌≤◌, ℕ, List, Some, None, IfOk, OnOk, vec_len, length};
+ghost use Rattle.hls_boxes_laws.specs.Parts.{text_fault};
+ghost use Rattle.hls_origin.specs.Gather.{CountsReads, Drains, Gathers, IsDrained, IsSettled, Reached, TakesIn};
+ghost use Rattle.hls_origin.specs.Counted.{failures_of, inside_of};
+ghost use Rattle.hls_origin.specs.Recorded.{nothing};
+ghost use Rattle.hls_origin.specs.Accepts.{Told};
+
+use crate::counted::Counted;
+use crate::cut::fault::CutFault;
+use crate::cut::recorder::Recorder;
+use hls_boxes::UnitReader;
+use hls_boxes_laws::fault::BoxFault;
+use std::alloc::{AllocError, Global};
+use std::io::Read;
+
+/// How many bytes are asked of the reader at a time.
+const PIECE_LEN: usize = 65536;
+
+/// So many zero bytes.
+fn zeros(alloc: Global, len: usize) -> Result<Vec<u8>, AllocError>
+    ensures { IfOk result (λ bytes. vec_len bytes ≡ len) }
+{
+    vec![in alloc; 0; len]
+}
+
+/// Takes all whole parts out of what was fed, and records them.
+fn drain(alloc: Global, reader: &mut UnitReader, recorder: &mut Recorder) -> Result<(), CutFault>
+    ensures told { Told result }
+    ensures drains { (taken : List ℕ) → Reached taken reader.old recorder.old → Drains taken reader.new recorder.new result }
+    ensures settles { OnOk result (IsDrained reader.old reader.new) }
+{
+    while let Some(part) = reader.take()? {
+        match recorder.accept(alloc, part) {
+            Ok(()) => {}
+            Err(fault) => return Err(fault),
+        }
+    }
+    Ok(())
+}
+
+/// Takes in the next piece of the stream, up to the first refusal.
+fn take_in(alloc: Global, reader: &mut UnitReader, recorder: &mut Recorder, piece: &[u8]) -> Result<(), CutFault>
+    requires { text_fault reader.old ≡ None }
+    ensures told { Told result }
+    ensures takes_in { (taken : List ℕ) → Reached taken reader.old recorder.old → TakesIn taken piece.now reader.new recorder.new result }
+    ensures settles { OnOk result (IsSettled reader.new) }
+{
+    let fault = match reader.feed(piece) {
+        Ok(()) => return drain(alloc, reader, recorder),
+        Err(fault) => fault,
+    };
+    match fault {
+        BoxFault::Memory => Err(CutFault::Memory),
+        _ => match drain(alloc, reader, recorder) {
+            Ok(()) => Err(CutFault::Boxes(fault)),
+            Err(earlier) => Err(earlier),
+        },
+    }
+}
+
+/// Reads a stream by pieces that fit `piece`, to its end, a failed call or the first refusal, and
+/// records its parts. At the end `Truncated` is refused.
+fn read_parts<R: Read>(
+    alloc: Global,
+    input: &mut Counted<R>,
+    recorder: &mut Recorder,
+    piece: &mut [u8],
+) -> Result<(), CutFault>
+    requires none { recorder.old ≡ nothing }
+    requires room { 0 < length piece.old }
+    ensures gathers { (stream : List ℕ) → R.remaining (inside_of input.old) ≡ Some stream
+        → Gathers stream (R.remaining (inside_of input.new)) recorder.new result }
+    ensures counts { CountsReads result (failures_of input.old) (failures_of input.new) }
+{
+    let mut reader = UnitReader::new(alloc);
+    'pieces: loop {
+        let len = match input.read(piece) {
+            Some(len) => len,
+            None => return Err(CutFault::ReadFailed),
+        };
+        if len == 0 {
+            break 'pieces;
+        }
+        match take_in(alloc, &mut reader, recorder, &piece[..len]) {
+            Ok(()) => {}
+            Err(fault) => return Err(fault),
+        }
+    }
+    match reader.finish() {
+        Ok(()) => Ok(()),
+        Err(fault) => Err(CutFault::Boxes(fault)),
+    }
+}
+
+/// Reads a whole stream and records its parts. At the end `Truncated` is refused; every other
+/// refusal is the first in the stream.
+pub fn gather<R: Read>(alloc: Global, input: &mut Counted<R>, recorder: &mut Recorder) -> Result<(), CutFault>
+    requires { recorder.old ≡ nothing }
+    ensures gathers { (stream : List ℕ) → R.remaining (inside_of input.old) ≡ Some stream
+        → Gathers stream (R.remaining (inside_of input.new)) recorder.new result }
+    ensures counts { CountsReads result (failures_of input.old) (failures_of input.new) }
+{
+    match zeros(alloc, PIECE_LEN) {
+        Ok(mut piece) => read_parts(alloc, input, recorder, &mut piece),
+        Err(_) => Err(CutFault::Memory),
+    }
+}

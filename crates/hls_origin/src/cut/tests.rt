@@ -1,0 +1,283 @@
+//! Streams of the sample builders through the whole of `cut`: its text, its end, and what is left.
+
+use crate::counted::Counted;
+use crate::cut::fault::CutFault;
+use crate::cut::fakes::{Drips, Sink};
+use crate::cut::run::{CutEnd, run_cut};
+use hls_boxes_laws::fault::BoxFault;
+use hls_media_laws::fault::MediaFault;
+use hls_samples::{boxed, init_bytes, unit_bytes, word_box};
+use std::alloc::{AllocError, Global};
+use std::process::Abort;
+use std::test::Fail;
+
+const ONE_UNIT: &str = "#EXTM3U
+#EXT-X-VERSION:6
+#EXT-X-TARGETDURATION:6
+#EXT-X-MEDIA-SEQUENCE:0
+#EXT-X-DISCONTINUITY-SEQUENCE:0
+#EXT-X-PLAYLIST-TYPE:VOD
+#EXT-X-MAP:URI=\"media.mp4\",BYTERANGE=\"600@0\"
+#EXTINF:4.000000,
+#EXT-X-BYTERANGE:1000@600
+media.mp4
+#EXT-X-ENDLIST
+";
+
+const TWO_PLACES: &str = "#EXTINF:6.000000,
+#EXT-X-BYTERANGE:2000@600
+media.mp4
+#EXTINF:4.000000,
+#EXT-X-BYTERANGE:1000@2600
+media.mp4
+#EXT-X-ENDLIST
+";
+
+const AFTER_A_GAP: &str = "#EXTINF:4.000000,
+#EXT-X-BYTERANGE:1000@600
+media.mp4
+#EXT-X-DISCONTINUITY
+#EXTINF:4.000000,
+#EXT-X-BYTERANGE:1000@1600
+media.mp4
+#EXT-X-ENDLIST
+";
+
+/// A unit of 1000 bytes from a second on, for so many seconds.
+#[derive(Drop)]
+struct Second {
+    start: u32,
+    lasts: u32,
+    sync: bool,
+}
+
+fn sync(start: u32, lasts: u32) -> Second {
+    Second {
+        start,
+        lasts,
+        sync: true,
+    }
+}
+
+/// An init section of 600 bytes and these units.
+fn stream(alloc: Global, units: &[Second]) -> Result<Vec<u8>, AllocError> {
+    let mut bytes = init_bytes(alloc, b"vide", 90000)?;
+    for unit in units {
+        let start = u64::from(unit.start) * 90000;
+        let ticks = unit.lasts.saturating_mul(90000);
+        bytes.extend_from_slice(&unit_bytes(alloc, start, ticks, unit.sync, 1000)?)?;
+    }
+    Ok(bytes)
+}
+
+fn joined(alloc: Global, pieces: &[&[u8]]) -> Result<Vec<u8>, AllocError> {
+    let mut bytes = Vec::new(alloc);
+    for piece in pieces {
+        bytes.extend_from_slice(piece)?;
+    }
+    Ok(bytes)
+}
+
+/// A box of three pieces that are short.
+fn boxed_three(
+    alloc: Global,
+    kind: &[u8; 4],
+    one: &[u8],
+    two: &[u8],
+    three: &[u8],
+) -> Result<Vec<u8>, AllocError> {
+    let len = one.len().saturating_add(two.len()).saturating_add(three.len());
+    if len > 1000 {
+        return Err(AllocError);
+    }
+    boxed(alloc, kind, &[one, two, three])
+}
+
+/// What `cut` answers and writes when the stream comes in pieces of `step` bytes.
+fn cut(alloc: Global, words: &[&str], stream: &[u8], step: usize) -> (CutEnd, Vec<u8>) {
+    let mut input = Counted::new(Drips::new(stream, step, 0));
+    let mut output = Counted::new(Sink::new(alloc, usize::MAX, 0));
+    let end = run_cut(alloc, words, &mut input, &mut output);
+    (end, output.into_inner().into_taken())
+}
+
+fn ends(rt: &impl Abort, alloc: Global, stream: &[u8], wanted: CutEnd) {
+    let (end, text) = cut(alloc, &[], stream, 65536);
+    assert_eq!(rt; end, wanted);
+    assert!(rt; text.is_empty());
+}
+
+fn refuses(rt: &impl Abort, alloc: Global, stream: &[u8], fault: CutFault) {
+    ends(rt, alloc, stream, CutEnd::Refused(fault));
+}
+
+#[test]
+fn one_unit(rt: HostRuntime) -> Result<(), Fail> {
+    let alloc = rt.alloc();
+    let stream = stream(alloc, &[sync(0, 4)])?;
+    for step in [1, 7, 599, 600, 65536] {
+        let (end, text) = cut(alloc, &["--each"], &stream, step);
+        assert_eq!(rt; end, CutEnd::Done);
+        assert!(rt; text.as_slice() == ONE_UNIT.as_bytes());
+    }
+    Ok(())
+}
+
+#[test]
+fn several_units(rt: HostRuntime) -> Result<(), Fail> {
+    let alloc = rt.alloc();
+    let after = Second {
+        start: 4,
+        lasts: 2,
+        sync: false,
+    };
+    let places = stream(alloc, &[sync(0, 4), after, sync(6, 4)])?;
+    let (end, text) = cut(alloc, &["--target", "6"], &places, 65536);
+    assert_eq!(rt; end, CutEnd::Done);
+    assert!(rt; text.as_slice().ends_with(TWO_PLACES.as_bytes()));
+    let gap = stream(alloc, &[sync(0, 4), sync(6, 4)])?;
+    let (end, text) = cut(alloc, &[], &gap, 65536);
+    assert_eq!(rt; end, CutEnd::Done);
+    assert!(rt; text.as_slice().ends_with(AFTER_A_GAP.as_bytes()));
+    Ok(())
+}
+
+#[test]
+fn usual_files(rt: HostRuntime) -> Result<(), Fail> {
+    let alloc = rt.alloc();
+    let one = stream(alloc, &[sync(0, 4)])?;
+    let (init, unit) = one.as_slice().split_at_checked(600).ok_or("600 bytes")?;
+    let styp = boxed(alloc, b"styp", &[b"msdh", &[0; 4], b"msdhmsix"])?;
+    let (end, text) = cut(alloc, &[], &joined(alloc, &[init, &styp, unit])?, 65536);
+    assert_eq!(rt; end, CutEnd::Done);
+    assert!(rt; text.as_slice().ends_with(b"1024@600\nmedia.mp4\n#EXT-X-ENDLIST\n"));
+    let mfra = boxed(alloc, b"mfra", &[&[0; 8]])?;
+    let (end, text) = cut(alloc, &[], &joined(alloc, &[&one, &mfra])?, 65536);
+    assert_eq!(rt; end, CutEnd::Done);
+    assert!(rt; text.as_slice() == ONE_UNIT.as_bytes());
+    let (end, text) = cut(alloc, &[], &joined(alloc, &[&one, &one])?, 65536);
+    assert_eq!(rt; end, CutEnd::Done);
+    assert!(rt; text.as_slice() == ONE_UNIT.as_bytes());
+    Ok(())
+}
+
+#[test]
+fn refused_streams(rt: HostRuntime) -> Result<(), Fail> {
+    let alloc = rt.alloc();
+    refuses(&rt, alloc, &[], CutFault::NoInit);
+    refuses(&rt, alloc, &stream(alloc, &[])?, CutFault::NoPlace);
+    refuses(&rt, alloc, &stream(alloc, &[sync(0, 7)])?, CutFault::NotAllowed { place: 0 });
+    refuses(&rt, alloc, &stream(alloc, &[sync(0, 4), sync(1, 4)])?, CutFault::Overlap);
+    refuses(&rt, alloc, &stream(alloc, &[sync(0, 4), sync(0, 3)])?, CutFault::Overlap);
+    let one = stream(alloc, &[sync(0, 4)])?;
+    let other = init_bytes(alloc, b"vide", 48000)?;
+    refuses(&rt, alloc, &joined(alloc, &[&one, &other])?, CutFault::InitChanged);
+    let (init, unit) = one.as_slice().split_at_checked(600).ok_or("600 bytes")?;
+    refuses(&rt, alloc, unit, CutFault::NoInit);
+    let (moof, mdat) = unit.split_at_checked(100).ok_or("100 bytes")?;
+    let alone = joined(alloc, &[init, mdat])?;
+    refuses(&rt, alloc, &alone, CutFault::Boxes(BoxFault::MdatAlone));
+    let open = joined(alloc, &[init, moof, b"\0\0\0\0mdat"])?;
+    refuses(&rt, alloc, &open, CutFault::Boxes(BoxFault::OpenEnded));
+    Ok(())
+}
+
+#[test]
+fn refused_units(rt: HostRuntime) -> Result<(), Fail> {
+    let alloc = rt.alloc();
+    let init = init_bytes(alloc, b"vide", 90000)?;
+    let mfhd = word_box(alloc, b"mfhd", &[0, 1])?;
+    let tfdt = word_box(alloc, b"tfdt", &[0x0100_0000, 0, 0])?;
+    let mdat = boxed(alloc, b"mdat", &[&[0xaa; 892]])?;
+    let plain = word_box(alloc, b"tfhd", &[0x0002_0000, 1])?;
+    let based = word_box(alloc, b"tfhd", &[1, 1, 0, 0])?;
+    for (tfhd, offset, fault) in [
+        (&plain, 109, MediaFault::DataOutside),
+        (&based, 116, MediaFault::BaseOffset),
+    ] {
+        let trun = word_box(alloc, b"trun", &[0x701, 1, offset, 360000, 892, 0x0200_0000])?;
+        let traf = boxed_three(alloc, b"traf", tfhd, &tfdt, &trun)?;
+        let moof = boxed_three(alloc, b"moof", &mfhd, &traf, &[])?;
+        let broken = joined(alloc, &[&init, &moof, &mdat])?;
+        refuses(&rt, alloc, &broken, CutFault::Media(fault));
+    }
+    Ok(())
+}
+
+#[test]
+fn usage_faults(rt: HostRuntime) -> Result<(), Fail> {
+    let alloc = rt.alloc();
+    let stream = stream(alloc, &[sync(0, 4)])?;
+    let faults: [&[&str]; 12] = [
+        &["--bogus"],
+        &["x"],
+        &["--target", "0"],
+        &["--target", "3601"],
+        &["--target", "+6"],
+        &["--target", "00000000000000006"],
+        &["--uri", ""],
+        &["--uri", "#x"],
+        &["--uri", "a\nb"],
+        &["--uri", "a\"b"],
+        &["--preferred", "4000000"],
+        &["--certificate"],
+    ];
+    for words in faults {
+        let (end, text) = cut(alloc, words, &stream, 65536);
+        assert_eq!(rt; end, CutEnd::Usage);
+        assert!(rt; text.is_empty());
+    }
+    let (end, text) = cut(alloc, &["--target", "0000000000000006", "--uri", "a b,ü.mp4"], &stream, 65536);
+    assert_eq!(rt; end, CutEnd::Done);
+    assert!(rt; text.as_slice().ends_with("a b,ü.mp4\n#EXT-X-ENDLIST\n".as_bytes()));
+    Ok(())
+}
+
+#[test]
+fn failing_calls(rt: HostRuntime) -> Result<(), Fail> {
+    let alloc = rt.alloc();
+    let stream = stream(alloc, &[sync(0, 4)])?;
+    let words: [&str; 0] = [];
+    // 16 reads of 100 bytes, and one at the end
+    for call in 1..=18 {
+        let mut input = Counted::new(Drips::new(&stream, 100, call));
+        let mut output = Counted::new(Sink::new(alloc, usize::MAX, 0));
+        let end = run_cut(alloc, words.as_slice(), &mut input, &mut output);
+        let wanted = if call <= 17 {
+            CutEnd::Refused(CutFault::ReadFailed)
+        } else {
+            CutEnd::Done
+        };
+        assert_eq!(rt; end, wanted);
+        assert!(rt; output.into_inner().into_taken().is_empty() == (call <= 17));
+    }
+    let text = ONE_UNIT.as_bytes();
+    let calls = text.chunks(20).count();
+    for call in 1..=calls {
+        let mut input = Counted::new(Drips::new(&stream, 65536, 0));
+        let mut output = Counted::new(Sink::new(alloc, 20, call));
+        let end = run_cut(alloc, words.as_slice(), &mut input, &mut output);
+        assert_eq!(rt; end, CutEnd::Refused(CutFault::WriteFailed));
+        let taken = output.into_inner().into_taken();
+        assert_eq!(rt; taken.len(), (call - 1).saturating_mul(20));
+        assert!(rt; text.starts_with(&taken));
+    }
+    Ok(())
+}
+
+#[test]
+fn shorter_beginnings(rt: HostRuntime) -> Result<(), Fail> {
+    let alloc = rt.alloc();
+    let stream = stream(alloc, &[sync(0, 4)])?;
+    for len in 0..1600 {
+        let (front, _) = stream.as_slice().split_at_checked(len).ok_or("1600 bytes")?;
+        // behind `ftyp`, behind `free`, and behind the init section
+        let fault = match len {
+            0 | 16 | 379 => CutFault::NoInit,
+            600 => CutFault::NoPlace,
+            _ => CutFault::Boxes(BoxFault::Truncated),
+        };
+        refuses(&rt, alloc, front, fault);
+    }
+    Ok(())
+}
