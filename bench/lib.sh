@@ -1,0 +1,44 @@
+# The common part of the benchmarks: each runs in a repository of its own, made for the run, with
+# copies of this repository's crates and a program from its folder under bench/.
+#
+#   source bench/lib.sh
+#   bench_program NAME "CRATE CRATE .." "LIBRARY .."
+#
+# makes the program of bench/NAME/main.rt, which uses these crates of this repository (name those
+# below them too) and these libraries of the kit. It leaves in BENCH_PROGRAM the path of the built
+# program, and removes the folder when the script ends. BENCH_KEEP=1 keeps it.
+
+bench_root=$(cd "$(dirname "${BASH_SOURCE[0]}")/.." && pwd)
+
+bench_program() {
+    local name=$1 crates=$2 libraries=$3 crate
+    bench_work=$(mktemp -d)
+    [ -n "${BENCH_KEEP:-}" ] || trap 'rm -rf "$bench_work"' EXIT
+    local part
+    mkdir -p "$bench_work/crates/bench_$name/src" "$bench_work/crates/bench_$name/specs"
+    for crate in $crates; do
+        mkdir "$bench_work/crates/$crate"
+        # The must-fail edits aren't needed; what earlier checks kept in out/ saves time.
+        for part in src specs proofs out; do
+            if [ -e "$bench_root/crates/$crate/$part" ]; then
+                cp -a "$bench_root/crates/$crate/$part" "$bench_work/crates/$crate/"
+            fi
+        done
+        grep "^$crate:" "$bench_root/crates.txt" >> "$bench_work/crates.txt"
+    done
+    echo "bench_$name: $crates $libraries" >> "$bench_work/crates.txt"
+    cp "$bench_root/HANDLES" "$bench_work/HANDLES"
+    cp "$bench_root/bench/$name/main.rt" "$bench_work/crates/bench_$name/src/main.rt"
+    touch "$bench_work/crates/bench_$name/specs/Lib.antt"
+    if [ -d "$bench_root/bench/$name/proofs" ]; then
+        cp -a "$bench_root/bench/$name/proofs" "$bench_work/crates/bench_$name/"
+    fi
+    # Without arguments the program prints its usage; the run proves and builds it.
+    if ! (cd "$bench_work/crates/bench_$name" && rt run > "$bench_work/log" 2>&1); then
+        if [ ! -x "$bench_work/crates/bench_$name/out/bench_$name" ]; then
+            tail -40 "$bench_work/log" >&2
+            return 1
+        fi
+    fi
+    BENCH_PROGRAM="$bench_work/crates/bench_$name/out/bench_$name"
+}
