@@ -4,7 +4,7 @@
 #   source bench/lib.sh
 #   bench_program NAME "CRATE CRATE .." "LIBRARY .."
 #
-# makes the program of bench/NAME/main.rt, which uses these crates of this repository (name those
+# makes the program of bench/NAME/program.txt (the gate reads each .rt file as a crate's), which uses these crates of this repository (name those
 # below them too) and these libraries of the kit. It leaves in BENCH_PROGRAM the path of the built
 # program, and removes the folder when the script ends. BENCH_KEEP=1 keeps it.
 
@@ -28,11 +28,8 @@ bench_program() {
     done
     echo "bench_$name: $crates $libraries" >> "$bench_work/crates.txt"
     cp "$bench_root/HANDLES" "$bench_work/HANDLES"
-    cp "$bench_root/bench/$name/main.rt" "$bench_work/crates/bench_$name/src/main.rt"
+    cp "$bench_root/bench/$name/program.txt" "$bench_work/crates/bench_$name/src/main.rt"
     touch "$bench_work/crates/bench_$name/specs/Lib.antt"
-    if [ -d "$bench_root/bench/$name/proofs" ]; then
-        cp -a "$bench_root/bench/$name/proofs" "$bench_work/crates/bench_$name/"
-    fi
     # Without arguments the program prints its usage; the run proves and builds it.
     if ! (cd "$bench_work/crates/bench_$name" && rt run > "$bench_work/log" 2>&1); then
         if [ ! -x "$bench_work/crates/bench_$name/out/bench_$name" ]; then
