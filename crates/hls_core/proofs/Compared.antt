@@ -42,8 +42,8 @@ none_by by e isnt = let test : (e.by == by) ≡ false = ne_eqb e.by by isnt in r
 counted : (by : ℕ) (xs : List Entry) (n : ℕ) (e : Entry) → slice_get xs n ≡ Some e → length (events_by by (take (n + 1) xs)) ≡ length (events_by by (take n xs)) + length (events_by by (e ∷ []))
 counted by xs n e at =
     ap (λ (ys : List Entry). length (events_by by ys)) (lists.take_at xs n e at)
-        ∙ ap length (events_by-append by (take n xs) (e ∷ []))
-        ∙ length-append (events_by by (take n xs)) (events_by by (e ∷ []))
+    ∙ ap length (events_by-append by (take n xs) (e ∷ []))
+    ∙ length-append (events_by by (take n xs)) (events_by by (e ∷ []))
 
 pub counted_own : (by : ℕ) (xs : List Entry) (n : ℕ) (e : Entry) → slice_get xs n ≡ Some e → e.by ≡ by → length (events_by by (take (n + 1) xs)) ≡ length (events_by by (take n xs)) + 1
 counted_own by xs n e at is = counted by xs n e at ∙ ap (λ k. length (events_by by (take n xs)) + k) (one_by by e is)
@@ -59,36 +59,36 @@ sides_same a b r x y at_a at_b same ha hb held_a held_b =
     let lane_a : lane (channel a) r ≡ lane_of x = lists.at_or (channel a).lanes r no_lane (lane_of x) at_a.lane in
     let lane_b : lane (channel b) r ≡ lane_of y = lists.at_or (channel b).lanes r no_lane (lane_of y) at_b.lane in
     subst (λ (l : Lane). SameHeld l (lane (channel b) r) ha hb) (sym lane_a)
-        (subst (λ (l : Lane). SameHeld (lane_of x) l ha hb) (sym lane_b)
-            (subst (λ (h : Held). SameHeld (lane_of x) (lane_of y) h hb) a_is
-                (subst (λ (h : Held). SameHeld (lane_of x) (lane_of y) (held_of x) h) b_is same)))
+    (subst (λ (l : Lane). SameHeld (lane_of x) l ha hb) (sym lane_b)
+    (subst (λ (h : Held). SameHeld (lane_of x) (lane_of y) h hb) a_is
+    (subst (λ (h : Held). SameHeld (lane_of x) (lane_of y) (held_of x) h) b_is same)))
 
 pub same_at : (a b : State) (r : ℕ) (x y : Side) → IsAt a r x → IsAt b r y → AreSame a b → SameHeld (lane_of x) (lane_of y) (held_of x) (held_of y)
 same_at a b r x y at_a at_b same =
     let lane_a : lane (channel a) r ≡ lane_of x = lists.at_or (channel a).lanes r no_lane (lane_of x) at_a.lane in
     let lane_b : lane (channel b) r ≡ lane_of y = lists.at_or (channel b).lanes r no_lane (lane_of y) at_b.lane in
     subst (λ (l : Lane). SameHeld l (lane_of y) (held_of x) (held_of y)) lane_a
-        (subst (λ (l : Lane). SameHeld (lane (channel a) r) l (held_of x) (held_of y)) lane_b
-            (same r (held_of x) (held_of y) at_a.held at_b.held))
+    (subst (λ (l : Lane). SameHeld (lane (channel a) r) l (held_of x) (held_of y)) lane_b
+    (same r (held_of x) (held_of y) at_a.held at_b.held))
 
 -- one more rendition in which all that both keep is the same
 pub same_more : (a b : State) (n : ℕ) (x y : Side) → IsAt a n x → IsAt b n y → SameHeld (lane_of x) (lane_of y) (held_of x) (held_of y)
     → ((r : ℕ) (ha hb : Held) → r < n → slice_get a.bytes r ≡ Some ha → slice_get b.bytes r ≡ Some hb → SameHeld (lane (channel a) r) (lane (channel b) r) ha hb)
     → (r : ℕ) (ha hb : Held) → r < n + 1 → slice_get a.bytes r ≡ Some ha → slice_get b.bytes r ≡ Some hb → SameHeld (lane (channel a) r) (lane (channel b) r) ha hb
 same_more a b n x y at_a at_b same before r ha hb below held_a held_b = elim (cases_eq r n) [
-    inl here ↦
+  | inl here ↦
       let held_an : slice_get a.bytes n ≡ Some ha = subst (λ (k : ℕ). slice_get a.bytes k ≡ Some ha) here held_a in
       let held_bn : slice_get b.bytes n ≡ Some hb = subst (λ (k : ℕ). slice_get b.bytes k ≡ Some hb) here held_b in
       subst (λ (k : ℕ). SameHeld (lane (channel a) k) (lane (channel b) k) ha hb) (sym here)
-        (sides_same a b n x y at_a at_b same ha hb held_an held_bn)
+      (sides_same a b n x y at_a at_b same ha hb held_an held_bn)
   | inr other ↦ before r ha hb (omega arith) held_a held_b
-  ]
+]
 
 -- of two states, these three tests decide what it is to follow
 pub follows_when : (a b : State) → IsState a → IsState b → a.config ≡ b.config → take (length a.log) b.log ≡ a.log → AreSame a b → Follows a b
 follows_when a b is_a is_b config front same =
     let whole : b.log ≡ a.log ++ drop (length a.log) b.log =
-        sym (take-append-drop (length a.log) b.log) ∙ ap (λ (xs : List Entry). xs ++ drop (length a.log) b.log) front in
+    sym (take-append-drop (length a.log) b.log) ∙ ap (λ (xs : List Entry). xs ++ drop (length a.log) b.log) front in
     follows_of a b is_a is_b (record { config = sym config; rest = drop (length a.log) b.log; log = whole; same = same })
 
 pub same_of : (a b : State) → Follows a b → AreSame a b

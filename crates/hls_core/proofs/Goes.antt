@@ -42,7 +42,7 @@ lane_begun (Some rec) finished e = cc
 not_finished : (s : State) (r : ℕ) (old : Side) → IsState s → IsAt s r old → old.recording ≡ None → old.finished ≡ false
 not_finished s r old state at first =
     sym (lane_finished old.recording old.finished)
-        ∙ ((state.fits r (lane_of old) (held_of old) at.lane at.held).none (lane_begun old.recording old.finished first)).3
+    ∙ ((state.fits r (lane_of old) (held_of old) at.lane at.held).none (lane_begun old.recording old.finished first)).3
 
 good_side : (next : Recorded) (finished : Bool) → IsRecorded next → IsGood (record { recording = Some next; finished = finished })
 good_side next finished good = λ rec e. let is : next ≡ rec = cc in subst (λ (x : Recorded). IsRecorded x) is good
@@ -103,13 +103,13 @@ accept_chain s r old rec f bytes at begun apart =
     let at_lane = lane_at s r old (Some rec) at begun in
     let held_was = held_is s r old (Some rec) at begun in
     ap (λ (l : Option Lane). accept l (held s r) f bytes (length s.log)) at_lane
-        ∙ ap (λ (h : Held). accept (Some (lane_from (Some rec) old.finished)) h f bytes (length s.log)) held_was
-        ∙ ap (λ (twin : Option (List ℕ)). accept_beside twin (lane_from (Some rec) old.finished) f bytes (length s.log)) apart
+    ∙ ap (λ (h : Held). accept (Some (lane_from (Some rec) old.finished)) h f bytes (length s.log)) held_was
+    ∙ ap (λ (twin : Option (List ℕ)). accept_beside twin (lane_from (Some rec) old.finished) f bytes (length s.log)) apart
 
 pub accept_new : (s : State) (r : ℕ) (old : Side) (rec : Recorded) (f : Facts) (bytes : List ℕ) → IsAt s r old → old.recording ≡ Some rec → twin_of rec f.start ≡ None → last_end rec.facts ≤ f.start → old.finished ≡ false → length s.log < 4194304 → total_of rec + f.len ≤ 2 ^ 40 → outcome_of s (Accept r f bytes) ≡ New
 accept_new s r old rec f bytes at begun apart later open_ended room small =
     accept_chain s r old rec f bytes at begun apart
-        ∙ rw (le-ltb f.start (last_end rec.facts) later, open_ended, lt-leb 4194304 (length s.log) room, le-ltb (2 ^ 40) (total_of rec + f.len) small) refl
+    ∙ rw (le-ltb f.start (last_end rec.facts) later, open_ended, lt-leb 4194304 (length s.log) room, le-ltb (2 ^ 40) (total_of rec + f.len) small) refl
 
 pub accept_goes : (s : State) (by : ℕ) (r : ℕ) (old : Side) (rec next : Recorded) (f : Facts) (bytes : List ℕ) → IsState s → IsAt s r old → old.recording ≡ Some rec → IsFitting s (Accept r f bytes) → outcome_of s (Accept r f bytes) ≡ New → next ≡ with_unit rec f bytes → old.finished ≡ false → IsRecorded next → Goes s by (Accept r f bytes) r (record { recording = Some next; finished = old.finished })
 accept_goes s by r old rec next f bytes state at begun fits new next_is open_ended good =
@@ -117,9 +117,9 @@ accept_goes s by r old rec next f bytes state at begun fits new next_is open_end
     let held_was = held_is s r old (Some rec) at begun in
     let held_now : held_from (Some next) ≡ more_bytes (held s r) bytes = rw (next_is, held_was) refl in
     let bytes_are : slice_set s.bytes r (held_from (Some next)) ≡ slice_set s.bytes r (more_bytes (held s r) bytes) =
-        ap (λ (h : Held). slice_set s.bytes r h) held_now in
+    ap (λ (h : Held). slice_set s.bytes r h) held_now in
     let is : with_side s (entry_of by (Accept r f bytes)) r (record { recording = Some next; finished = old.finished }) ≡ advanced s by (Accept r f bytes) =
-        λ k. record { config = s.config; log = s.log ++ entry_of by (Accept r f bytes) ∷ []; bytes = bytes_are k } in
+    λ k. record { config = s.config; log = s.log ++ entry_of by (Accept r f bytes) ∷ []; bytes = bytes_are k } in
     let lane_now : with_facts f (lane (channel s) r) ≡ lane_from (Some next) old.finished = rw (next_is, lane_was) refl in
     record {
       new = new;
@@ -134,12 +134,12 @@ finish_goes s by r old rec next state at begun open_ended room next_is good =
     let at_lane = lane_at s r old (Some rec) at begun in
     let lane_was = lane_is s r old (Some rec) at begun in
     let held_at : slice_get s.bytes r ≡ Some (held_from (Some next)) =
-        at.held ∙ ap (λ (o : Option Recorded). Some (held_from o)) (begun ∙ ap (λ (x : Recorded). Some x) (sym next_is)) in
+    at.held ∙ ap (λ (o : Option Recorded). Some (held_from o)) (begun ∙ ap (λ (x : Recorded). Some x) (sym next_is)) in
     let full : nat_le 4194304 (length s.log) ≡ false = lt-leb 4194304 (length s.log) room in
     let new : outcome_of s (Finish r) ≡ New = rw (at_lane, open_ended, full) refl in
     let bytes_are : slice_set s.bytes r (held_from (Some next)) ≡ s.bytes = set_same s.bytes r (held_from (Some next)) held_at in
     let is : with_side s (entry_of by (Finish r)) r (record { recording = Some next; finished = true }) ≡ advanced s by (Finish r) =
-        λ k. record { config = s.config; log = s.log ++ entry_of by (Finish r) ∷ []; bytes = bytes_are k } in
+    λ k. record { config = s.config; log = s.log ++ entry_of by (Finish r) ∷ []; bytes = bytes_are k } in
     let lane_now : finish_of (lane (channel s) r) ≡ lane_from (Some next) true = rw (next_is, lane_was) refl in
     record {
       new = new;

@@ -30,9 +30,9 @@ live_or_over : (a : List Source) → IsLive a ⊎ Over a
 unfolding Over
 live_or_over [] = inr (λ r within. absurd (omega arith))
 live_or_over (s ∷ a) = elim s.finished as (λ b. s.finished ≡ b → IsLive (s ∷ a) ⊎ Over (s ∷ a)) [
-    true ↦ λ here. elim (live_or_over a) [ inl live ↦ inl (live_later s a live) | inr over ↦ inr (over_later s a here over) ]
+  | true ↦ λ here. elim (live_or_over a) [ inl live ↦ inl (live_later s a live) | inr over ↦ inr (over_later s a here over) ]
   | false ↦ λ here. inl (record { rendition = 0; within = omega arith; goes_on = here })
-  ] refl
+] refl
 
 -- where all are finished nothing grows
 same_over : (a b : List Source) → Grows a b → Over a → b ≡ a
@@ -42,9 +42,9 @@ same_over a b grows over =
 
 appended : (a b : List Source) (p : Position) → Grows a b → IsCursor p a → IsThrough p a → IsAppended (places_of a) (places_of b)
 appended a b p grows fits through = elim (live_or_over a) [
-    inl live ↦ let on = continues a b p grows live fits through in record { more = places_after b p.done; is = on.places }
+  | inl live ↦ let on = continues a b p grows live fits through in record { more = places_after b p.done; is = on.places }
   | inr over ↦ record { more = []; is = ap places_of (same_over a b grows over) ∙ sym (append-nil (places_of a)) }
-  ]
+]
 
 kept_appended : (i : Inside) (b : State) → IsKept i → Follows (seen i) b → IsAppended (places (seen i)) (places b)
 kept_appended i b kept (inl same) = record { more = []; is = ap places (sym same) ∙ sym (append-nil (places (seen i))) }
@@ -54,4 +54,4 @@ kept_appended i b kept (inr ab) =
 pub places_appended : (i : Inside) (a b : State) → seen i ≡ a → IsKept i → Follows a b → IsAppended (places a) (places b)
 places_appended i a b is kept follows =
     subst (λ (x : State). IsAppended (places x) (places b)) is
-        (kept_appended i b kept (subst (λ (x : State). Follows x b) (sym is) follows))
+    (kept_appended i b kept (subst (λ (x : State). Follows x b) (sym is) follows))

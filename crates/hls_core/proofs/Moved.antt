@@ -69,26 +69,27 @@ module _ {B X : Type 0} where
 bare : (config : ConfigData) (sides : List Side) → length config.renditions ≡ length sides → (l : Lacks sides) → (l.number < length (sources_by config sides)) × ((source_at (sources_by config sides) l.number).facts ≡ [])
 bare config sides count l =
     let lanes : length (map facts_of (map lane_of sides)) ≡ length sides =
-        length-map (map lane_of sides) facts_of ∙ length-map sides lane_of in
+    length-map (map lane_of sides) facts_of ∙ length-map sides lane_of in
     let tolerances : length (map tolerance_of config.renditions) ≡ length (map facts_of (map lane_of sides)) =
-        length-map config.renditions tolerance_of ∙ count ∙ sym lanes in
+    length-map config.renditions tolerance_of ∙ count ∙ sym lanes in
     let finished : length (map is_finished (map lane_of sides)) ≡ length (map facts_of (map lane_of sides)) =
-        length-map (map lane_of sides) is_finished ∙ length-map sides lane_of ∙ sym lanes in
+    length-map (map lane_of sides) is_finished ∙ length-map sides lane_of ∙ sym lanes in
     let whole = length-sources_of (map facts_of (map lane_of sides)) (map tolerance_of config.renditions) (map is_finished (map lane_of sides)) tolerances finished in
     let side = side-at (map facts_of (map lane_of sides)) (map tolerance_of config.renditions) (map is_finished (map lane_of sides)) tolerances finished l.number in
     let at : slice_get (map facts_of (map lane_of sides)) l.number ≡ Some (lane_of l.side).facts =
-        at_map facts_of (map lane_of sides) l.number (lane_of l.side) (at_map lane_of sides l.number l.side l.at) in
-    (omega (arith, whole, lanes, at_below sides l.number l.side l.at),
-      side.facts_are ∙ at_or (map facts_of (map lane_of sides)) l.number [] (lane_of l.side).facts at ∙ lane_bare l.side.recording l.side.finished l.none)
+    at_map facts_of (map lane_of sides) l.number (lane_of l.side) (at_map lane_of sides l.number l.side l.at) in (
+      omega (arith, whole, lanes, at_below sides l.number l.side l.at),
+      side.facts_are ∙ at_or (map facts_of (map lane_of sides)) l.number [] (lane_of l.side).facts at ∙ lane_bare l.side.recording l.side.finished l.none,
+    )
 
 pub placed_without : (config : ConfigData) (sides : List Side) (told : Numbered Place) (position : Position) (p : Placed) → length config.renditions ≡ length sides → Lacks sides → IsCursor position (sources_by config sides) → p.places ≡ told → p.cursor.value ≡ position → IsPlaced (sources_by config sides) told position.done p
 placed_without config sides told position p count l fits same_places same_cursor =
     let source = bare config sides count l in
     let none : places_after (sources_by config sides) position.done ≡ [] =
-        after-without (sources_by config sides) l.number source.0 source.1 position.done in
+    after-without (sources_by config sides) l.number source.0 source.1 position.done in
     let first : p.places.first ≡ told.first = ap (λ x. x.first) same_places in
     let items : p.places.items ≡ told.items ++ places_after (sources_by config sides) position.done =
-        ap (λ x. x.items) same_places ∙ sym (append-nil told.items) ∙ ap (λ (xs : List Place). told.items ++ xs) (sym none) in
+    ap (λ x. x.items) same_places ∙ sym (append-nil told.items) ∙ ap (λ (xs : List Place). told.items ++ xs) (sym none) in
     record {
       places = λ k. record { first = first k; items = items k };
       cursor = subst (λ (x : Position). IsCursor x (sources_by config sides)) (sym same_cursor) fits;
@@ -99,7 +100,7 @@ pub placed_on : (sources : List Source) (told : Numbered Place) (done : ℕ) (a 
 placed_on sources told done a p on places cursor =
     let first : p.places.first ≡ told.first = ap (λ x. x.first) places in
     let items : p.places.items ≡ told.items ++ places_after sources done =
-        ap (λ x. x.items) places ∙ ap (λ (xs : List Place). told.items ++ xs) on.places in
+    ap (λ x. x.items) places ∙ ap (λ (xs : List Place). told.items ++ xs) on.places in
     record {
       places = λ k. record { first = first k; items = items k };
       cursor = subst (λ (x : Position). IsCursor x sources) (sym cursor) on.cursor;

@@ -30,9 +30,9 @@ record Bears (rs : List Rendition) (name : List ℕ) : Type 0 where
 found : (rs : List Rendition) (name : List ℕ) → bears_name rs name ≡ true → Bears rs name
 found [] name h = cc
 found (r ∷ rs) name h = elim (or_cases (bytes_eq r.name name) (bears_name rs name) h) [
-    inl here ↦ record { number = 0; rendition = r; at = refl; same = (bytes_eq-Decides r.name name).0 here }
+  | inl here ↦ record { number = 0; rendition = r; at = refl; same = (bytes_eq-Decides r.name name).0 here }
   | inr there ↦ let f = found rs name there in record { number = suc f.number; rendition = f.rendition; at = f.at; same = f.same }
-  ]
+]
 
 or_right : (a b : Bool) → b ≡ true → (a || b) ≡ true
 or_right true b h = refl
@@ -55,19 +55,21 @@ not_found rs n r there true is =
 
 -- a rendition may stand at n exactly where the tests say so
 pub named_apart : (rs : List Rendition) (n : ℕ) (r : Rendition) → IsRendition r → (n ≡ 0 → r.tolerance ≡ 0) → IsTrue (not (bears_name (take n rs) r.name)) ↔ IsRenditionAt rs n r
-named_apart rs n r own first =
-    (λ apart. record {
-      own = own;
-      first = first;
-      name = λ k other below at same. both_ways (bears_name (take n rs) r.name) (not-true (bears_name (take n rs) r.name) apart) (listed (take n rs) r.name k other (at_take rs n k other below at) same);
-    }, λ there. not_found rs n r there (bears_name (take n rs) r.name) refl)
+named_apart rs n r own first = (
+  λ apart. record {
+    own = own;
+    first = first;
+    name = λ k other below at same. both_ways (bears_name (take n rs) r.name) (not-true (bears_name (take n rs) r.name) apart) (listed (take n rs) r.name k other (at_take rs n k other below at) same);
+  },
+  λ there. not_found rs n r there (bears_name (take n rs) r.name) refl,
+)
 
 -- one more rendition that may stand where it stands
 pub good_more : (rs : List Rendition) (n : ℕ) (x : Rendition) → ((k : ℕ) (r : Rendition) → k < n → slice_get rs k ≡ Some r → IsRenditionAt rs k r) → slice_get rs n ≡ Some x → IsRenditionAt rs n x → (k : ℕ) (r : Rendition) → k < n + 1 → slice_get rs k ≡ Some r → IsRenditionAt rs k r
 good_more rs n x good at_n good_n k r below at = elim (cases_eq k n) [
-    inl same ↦
+  | inl same ↦
       let at_k : slice_get rs n ≡ Some r = subst (λ (i : ℕ). slice_get rs i ≡ Some r) same at in
       let x_is : x ≡ r = cc in
       subst (λ (i : ℕ). IsRenditionAt rs i r) (sym same) (subst (λ (y : Rendition). IsRenditionAt rs n y) x_is good_n)
   | inr other ↦ good k r (omega arith) at
-  ]
+]

@@ -33,20 +33,20 @@ kept_sources i kept =
     let count = lanes_count s.config s.log in
     let first = at_some s.config.renditions 0 (omega (arith, rs.some)) in
     let exact : get_or (map tolerance_of s.config.renditions) 0 0 ≡ 0 =
-        at_or (map tolerance_of s.config.renditions) 0 0 (tolerance_of first.0) (at_map tolerance_of s.config.renditions 0 first.0 first.1)
-            ∙ (rs.each 0 first.0 first.1).first refl in
+    at_or (map tolerance_of s.config.renditions) 0 0 (tolerance_of first.0) (at_map tolerance_of s.config.renditions 0 first.0 first.1)
+    ∙ (rs.each 0 first.0 first.1).first refl in
     let lane_0 = at_some (channel s).lanes 0 (omega (arith, count, rs.some)) in
     record {
       some = omega (arith, sources_count s, count, rs.some);
       few = omega (arith, sources_count s, count, rs.few);
       exact = (source_of s 0 lane_0.0 lane_0.1).tolerance_is ∙ exact;
       timelines = λ r within.
-        let lane_r = at_some (channel s).lanes r (omega (arith, sources_count s)) in
-        let side_r = mapped_at lane_of (sides_of i) r lane_r.0 (subst (λ (ls : List Lane). slice_get ls r ≡ Some lane_r.0) (sym kept.lanes) lane_r.1) in
-        let line : IsTimeline (lane_of side_r.0).facts = lane_timeline side_r.0.recording side_r.0.finished (kept.good r side_r.0 side_r.1) in
-        let same : (lane_of side_r.0).facts ≡ (source_at (sources s) r).facts =
-            ap (λ (l : Lane). l.facts) side_r.2 ∙ sym (source_of s r lane_r.0 lane_r.1).facts in
-        subst (λ (fs : List Facts). IsTimeline fs) same line;
+          let lane_r = at_some (channel s).lanes r (omega (arith, sources_count s)) in
+          let side_r = mapped_at lane_of (sides_of i) r lane_r.0 (subst (λ (ls : List Lane). slice_get ls r ≡ Some lane_r.0) (sym kept.lanes) lane_r.1) in
+          let line : IsTimeline (lane_of side_r.0).facts = lane_timeline side_r.0.recording side_r.0.finished (kept.good r side_r.0 side_r.1) in
+          let same : (lane_of side_r.0).facts ≡ (source_at (sources s) r).facts =
+          ap (λ (l : Lane). l.facts) side_r.2 ∙ sym (source_of s r lane_r.0 lane_r.1).facts in
+          subst (λ (fs : List Facts). IsTimeline fs) same line;
     }
 
 pub are_sources : (i : Inside) (s : State) → seen i ≡ s → IsKept i → AreSources (sources s)

@@ -32,9 +32,9 @@ use Rattle.hls_core.specs.Kept.{sides_of, seen, IsKept}
 filtered : {X Y : Type 0} (f : X → Option Y) (xs : List X) → length (filter_map f xs) ≤ length xs
 filtered f [] = omega arith
 filtered f (x ∷ xs) = elim (f x) as (λ o. length (cons_option o (filter_map f xs)) ≤ suc (length xs)) [
-    None ↦ omega (arith, filtered f xs)
+  | None ↦ omega (arith, filtered f xs)
   | Some y ↦ omega (arith, filtered f xs)
-  ]
+]
 
 closed : (b : Bool) (p : Place) → length (if b then p ∷ [] else []) ≤ 1
 closed true p = omega arith
@@ -60,16 +60,16 @@ pub record Ahead (i : Inside) (config : ConfigData) (sides : List Side) : Type 0
 sources_put : (i : Inside) (entry : Entry) (r : ℕ) (side : Side) → IsKept i → MayTake (seen i) entry r side → sources_by i.config (slice_set (sides_of i) r side) ≡ sources (with_side (seen i) entry r side)
 sources_put i entry r side kept take =
     let now : channel (with_side (seen i) entry r side) ≡ after entry.event (channel (seen i)) =
-        channel_from-snoc (opening i.config) i.log.items entry in
+    channel_from-snoc (opening i.config) i.log.items entry in
     let lanes : map lane_of (slice_set (sides_of i) r side) ≡ (channel (with_side (seen i) entry r side)).lanes =
-        map-set lane_of (sides_of i) r side ∙ ap (λ (ls : List Lane). slice_set ls r (lane_of side)) kept.lanes ∙ sym take.lanes
-            ∙ ap (λ (ch : Channel). ch.lanes) (sym now) in
+    map-set lane_of (sides_of i) r side ∙ ap (λ (ls : List Lane). slice_set ls r (lane_of side)) kept.lanes ∙ sym take.lanes
+    ∙ ap (λ (ch : Channel). ch.lanes) (sym now) in
     ap (λ (ls : List Lane). sources_of (map facts_of ls) (map tolerance_of i.config.renditions) (map is_finished ls)) lanes
 
 moved : (i : Inside) (entry : Entry) (r : ℕ) (side : Side) → IsKept i → MayTake (seen i) entry r side → PlacesContinue (sources (seen i)) (sources (with_side (seen i) entry r side)) i.cursor.value
 moved i entry r side kept take =
     continues (sources (seen i)) (sources (with_side (seen i) entry r side)) i.cursor.value
-        (sources_grow (seen i) (with_side (seen i) entry r side) take.valid take.continues) take.live kept.cursor kept.through
+    (sources_grow (seen i) (with_side (seen i) entry r side) take.valid take.continues) take.live kept.cursor kept.through
 
 ahead_put : (i : Inside) (entry : Entry) (r : ℕ) (side : Side) → IsKept i → MayTake (seen i) entry r side → Ahead i i.config (slice_set (sides_of i) r side)
 ahead_put i entry r side kept take =
@@ -80,10 +80,10 @@ ahead_put i entry r side kept take =
     let told : length i.places.items ≡ length (places (seen i)) = ap (λ p. length p.items) kept.places in
     let zero_first : i.places.first ≡ 0 = ap (λ p. p.first) kept.places in
     let whole : length (places s) ≡ length (places (seen i)) + length (places_after (sources s) i.cursor.value.done) =
-        ap length on.places ∙ length-append (places (seen i)) (places_after (sources s) i.cursor.value.done) in
+    ap length on.places ∙ length-append (places (seen i)) (places_after (sources s) i.cursor.value.done) in
     let room : next_of i.places + length (places_after (sources s) i.cursor.value.done) < 16777216 = omega arith in
     let sides : length (slice_set (sides_of i) r side) ≡ length i.config.renditions =
-        length_set (sides_of i) r side ∙ sym (length-map (sides_of i) lane_of) ∙ ap length kept.lanes ∙ lanes_count i.config i.log.items in
+    length_set (sides_of i) r side ∙ sym (length-map (sides_of i) lane_of) ∙ ap length kept.lanes ∙ lanes_count i.config i.log.items in
     let rs = kept.valid.configured.renditions in
     record {
       cursor = subst (λ (x : List Source). IsCursor i.cursor.value x) (sym is) on.cursor;
@@ -97,7 +97,7 @@ pub ahead : (i : Inside) (s : State) (entry : Entry) (r : ℕ) (side : Side) (co
 ahead i s entry r side config sides is kept take same_config same_sides =
     let take_seen = subst (λ (x : State). MayTake x entry r side) (sym is) take in
     subst (λ (c : ConfigData). Ahead i c sides) (sym same_config)
-        (subst (λ (xs : List Side). Ahead i i.config xs) (sym same_sides) (ahead_put i entry r side kept take_seen))
+    (subst (λ (xs : List Side). Ahead i i.config xs) (sym same_sides) (ahead_put i entry r side kept take_seen))
 
 -- the parts n are the parts i with one more entry and this side at number r, and with the places moved on
 pub record Puts (i n : Inside) (entry : Entry) (r : ℕ) (side : Side) : Type 0 where
@@ -112,7 +112,7 @@ seen_puts : (i n : Inside) (entry : Entry) (r : ℕ) (side : Side) → Puts i n 
 seen_puts i n entry r side p =
     let log : n.log.items ≡ i.log.items ++ entry ∷ [] = ap (λ l. l.items) p.log in
     let bytes : map held_of (sides_of n) ≡ slice_set (map held_of (sides_of i)) r (held_of side) =
-        ap (map held_of) p.sides ∙ map-set held_of (sides_of i) r side in
+    ap (map held_of) p.sides ∙ map-set held_of (sides_of i) r side in
     λ k. record { config = p.config k; log = log k; bytes = bytes k }
 
 pub seen_put : (i n : Inside) (s : State) (entry : Entry) (r : ℕ) (side : Side) → seen i ≡ s → Puts i n entry r side → seen n ≡ with_side s entry r side
@@ -123,30 +123,30 @@ good_puts : (i n : Inside) (entry : Entry) (r : ℕ) (side : Side) → IsKept i 
 good_puts i n entry r side kept good sides q x at =
     let there : slice_get (slice_set (sides_of i) r side) q ≡ Some x = subst (λ (xs : List Side). slice_get xs q ≡ Some x) sides at in
     elim (at_set (sides_of i) r side q x there) [
-      inl here ↦ subst (λ (y : Side). IsGood y) here.1 good
-    | inr other ↦ kept.good q x other.1
+      | inl here ↦ subst (λ (y : Side). IsGood y) here.1 good
+      | inr other ↦ kept.good q x other.1
     ]
 
 kept_puts : (i n : Inside) (entry : Entry) (r : ℕ) (side : Side) → IsKept i → MayTake (seen i) entry r side → Puts i n entry r side → IsKept n
 kept_puts i n entry r side kept take p =
     let is : seen n ≡ with_side (seen i) entry r side = seen_puts i n entry r side p in
     let now : channel (with_side (seen i) entry r side) ≡ after entry.event (channel (seen i)) =
-        channel_from-snoc (opening i.config) i.log.items entry in
+    channel_from-snoc (opening i.config) i.log.items entry in
     let lanes : map lane_of (sides_of n) ≡ slice_set (map lane_of (sides_of i)) r (lane_of side) =
-        ap (map lane_of) p.sides ∙ map-set lane_of (sides_of i) r side in
+    ap (map lane_of) p.sides ∙ map-set lane_of (sides_of i) r side in
     let lanes_now : map lane_of (sides_of n) ≡ (channel (seen n)).lanes =
-        lanes ∙ ap (λ (ls : List Lane). slice_set ls r (lane_of side)) kept.lanes ∙ sym take.lanes
-          ∙ ap (λ ch. ch.lanes) (sym now) ∙ ap (λ (s : State). (channel s).lanes) (sym is) in
+    lanes ∙ ap (λ (ls : List Lane). slice_set ls r (lane_of side)) kept.lanes ∙ sym take.lanes
+    ∙ ap (λ ch. ch.lanes) (sym now) ∙ ap (λ (s : State). (channel s).lanes) (sym is) in
     let by : sources_by n.config (sides_of n) ≡ sources (seen n) =
-        ap (λ (ls : List Lane). sources_of (map facts_of ls) (map tolerance_of n.config.renditions) (map is_finished ls)) lanes_now in
+    ap (λ (ls : List Lane). sources_of (map facts_of ls) (map tolerance_of n.config.renditions) (map is_finished ls)) lanes_now in
     let on : PlacesContinue (sources (seen i)) (sources (seen n)) i.cursor.value =
-        subst (λ (s : State). PlacesContinue (sources (seen i)) (sources s) i.cursor.value) (sym is) (moved i entry r side kept take) in
+    subst (λ (s : State). PlacesContinue (sources (seen i)) (sources s) i.cursor.value) (sym is) (moved i entry r side kept take) in
     let first : n.places.first ≡ 0 = ap (λ l. l.first) p.places ∙ ap (λ l. l.first) kept.places in
     let items : n.places.items ≡ places (seen n) =
-        ap (λ l. l.items) p.places
-          ∙ ap (λ l. l.items ++ places_after (sources_by n.config (sides_of n)) i.cursor.value.done) kept.places
-          ∙ ap (λ (x : List Source). places (seen i) ++ places_after x i.cursor.value.done) by
-          ∙ sym on.places in
+    ap (λ l. l.items) p.places
+    ∙ ap (λ l. l.items ++ places_after (sources_by n.config (sides_of n)) i.cursor.value.done) kept.places
+    ∙ ap (λ (x : List Source). places (seen i) ++ places_after x i.cursor.value.done) by
+    ∙ sym on.places in
     record {
       all = ap (λ l. l.first) p.log ∙ kept.all;
       lanes = lanes_now;
@@ -165,10 +165,10 @@ kept_put i n s entry r side is kept take p =
 pub side_at : (i : Inside) (s : State) (r : ℕ) (side : Side) → seen i ≡ s → IsKept i → slice_get (sides_of i) r ≡ Some side → IsAt s r side
 side_at i s r side is kept at =
     let here : IsAt (seen i) r side =
-        record {
-          lane = subst (λ (ls : List Lane). slice_get ls r ≡ Some (lane_of side)) kept.lanes (at_map lane_of (sides_of i) r side at);
-          held = at_map held_of (sides_of i) r side at;
-        } in
+    record {
+      lane = subst (λ (ls : List Lane). slice_get ls r ≡ Some (lane_of side)) kept.lanes (at_map lane_of (sides_of i) r side at);
+      held = at_map held_of (sides_of i) r side at;
+    } in
     subst (λ (x : State). IsAt x r side) is here
 
 -- the opening
@@ -202,21 +202,21 @@ kept_first n config good is log sides no_places cursor =
     let source = opening_source config good in
     let none : places (first_state config) ≡ [] = after-without (sources (first_state config)) 0 source.0 source.1 0 in
     let through : IsThrough (first_position (length config.renditions)) (sources (first_state config)) =
-        found-without (sources (first_state config)) 0 source.0 source.1 (first_facts (sources (first_state config))) in
+    found-without (sources (first_state config)) 0 source.0 source.1 (first_facts (sources (first_state config))) in
     let fits : IsCursor (first_position (length config.renditions)) (sources (first_state config)) =
-        first-cursor (length config.renditions) (sources (first_state config))
-            (sym (sources_count (first_state config) ∙ lanes_count config [])) in
+    first-cursor (length config.renditions) (sources (first_state config))
+    (sym (sources_count (first_state config) ∙ lanes_count config [])) in
     let items : n.places.items ≡ places (seen n) =
-        ap (λ p. p.items) no_places ∙ sym none ∙ ap (λ (s : State). places s) (sym whole) in
+    ap (λ p. p.items) no_places ∙ sym none ∙ ap (λ (s : State). places s) (sym whole) in
     let first : n.places.first ≡ 0 = ap (λ p. p.first) no_places in
     record {
       all = ap (λ l. l.first) log;
       lanes = ap (map lane_of) sides ∙ fresh_lanes config.renditions ∙ ap (λ (s : State). (channel s).lanes) (sym whole);
       valid = subst (λ (s : State). IsState s) (sym whole) (first_is_state config good);
       good = λ r side at rec begun.
-        let fresh_at = mapped_at fresh_side config.renditions r side (subst (λ (xs : List Side). slice_get xs r ≡ Some side) sides at) in
-        let bare : side.recording ≡ None = ap (λ (x : Side). x.recording) (sym fresh_at.2) in
-        cc;
+          let fresh_at = mapped_at fresh_side config.renditions r side (subst (λ (xs : List Side). slice_get xs r ≡ Some side) sides at) in
+          let bare : side.recording ≡ None = ap (λ (x : Side). x.recording) (sym fresh_at.2) in
+          cc;
       places = λ k. record { first = first k; items = items k };
       cursor = subst (λ (p : Position). IsCursor p (sources (seen n))) (sym cursor)
           (subst (λ (s : State). IsCursor (first_position (length config.renditions)) (sources s)) (sym whole) fits);

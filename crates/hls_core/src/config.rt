@@ -68,7 +68,12 @@ impl Config {
     ghost use Rattle.hls_core.specs.Configures.{Configures};
 
     /// A configuration of this target in seconds, this preferred length in microseconds, and these renditions in order.
-    pub fn new(alloc: Global, target: u64, preferred: u64, renditions: Vec<Rendition>) -> Result<Config, ConfigFault>
+    pub fn new(
+        alloc: Global,
+        target: u64,
+        preferred: u64,
+        renditions: Vec<Rendition>,
+    ) -> Result<Config, ConfigFault>
         ensures { Configures target preferred renditions.items result }
     {
         if target == 0 || target > 3600 {
@@ -180,12 +185,18 @@ fn is_name(name: &[u8]) -> bool
 fn is_name_byte(byte: u8) -> bool
     ensures { result ≡ is_name_byte byte }
 {
-    byte.is_ascii_digit() || byte.is_ascii_uppercase() || byte.is_ascii_lowercase() || byte == b'-' || byte == b'_'
+    byte.is_ascii_digit()
+        || byte.is_ascii_uppercase()
+        || byte.is_ascii_lowercase()
+        || byte == b'-'
+        || byte == b'_'
 }
 
 /// Whether one of the renditions has this name.
 fn bears_name(renditions: &[Rendition], name: &[u8]) -> bool
     ensures { result ≡ bears_name renditions.now name.now }
 {
-    renditions.iter().any(|rendition| &rendition.name[..] == name)
+    renditions
+        .iter()
+        .any(|rendition| &rendition.name[..] == name)
 }

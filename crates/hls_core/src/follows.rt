@@ -27,8 +27,12 @@ fn same_sides(a: &Snapshot, b: &Snapshot) -> bool
     ensures { IsTrue result ↔ AreSame a.now b.now }
 {
     for rendition in 0..a.renditions().min(b.renditions()) {
-        let Some(x) = a.side(rendition) else { unreachable!() };
-        let Some(y) = b.side(rendition) else { unreachable!() };
+        let Some(x) = a.side(rendition) else {
+            unreachable!()
+        };
+        let Some(y) = b.side(rendition) else {
+            unreachable!()
+        };
         if !same_side(x, y) {
             return false;
         }

@@ -11,6 +11,5 @@ mod side;
 pub mod snapshot;
 pub mod step;
 pub mod stepped;
-
 #[cfg(test)]
 mod tests;

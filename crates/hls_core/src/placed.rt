@@ -37,9 +37,7 @@ impl Placed {
         requires few { length sides.now ≤ 16 }
         requires count { length config.now.renditions ≡ length sides.now }
         requires cursor { IsCursor cursor.now.value (sources_by config.now (map (λ a. a.value) sides.now)) }
-        requires room {
-            next_of places.now + length (places_after (sources_by config.now (map (λ a. a.value) sides.now)) cursor.now.value.done) < 16777216
-        }
+        requires room { next_of places.now + length (places_after (sources_by config.now (map (λ a. a.value) sides.now)) cursor.now.value.done) < 16777216 }
         ensures { IfOk result (IsPlaced (sources_by config.now (map (λ a. a.value) sides.now)) places.now cursor.now.value.done) }
     {
         let gathered = recordings_of(alloc, sides)?;
@@ -63,12 +61,13 @@ impl Placed {
 }
 
 /// The recording of each rendition, or none where one hasn't begun.
-fn recordings_of<'a>(alloc: Global, sides: &'a [Arc<Side>]) -> Result<Option<Vec<&'a Recording>>, AllocError>
-    ensures {
-        IfOk result
-            (λ all. MatchOption all (Lacks (map (λ a. a.value) sides.entry.now))
-                (λ v. map (λ r. Some r.now) v.items ≡ map (λ a. a.value.recording) sides.entry.now))
-    }
+fn recordings_of<'a>(
+    alloc: Global,
+    sides: &'a [Arc<Side>],
+) -> Result<Option<Vec<&'a Recording>>, AllocError>
+    ensures { IfOk result
+        (λ all. MatchOption all (Lacks (map (λ a. a.value) sides.entry.now))
+        (λ v. map (λ r. Some r.now) v.items ≡ map (λ a. a.value.recording) sides.entry.now)) }
 {
     let mut recordings = Vec::with_capacity(alloc, sides.len())?;
     for side in sides {
@@ -84,7 +83,10 @@ fn recordings_of<'a>(alloc: Global, sides: &'a [Arc<Side>]) -> Result<Option<Vec
 fn tolerances_of(alloc: Global, renditions: &[Rendition]) -> Result<Vec<u64>, AllocError>
     ensures { IfOk result (λ v. v.items ≡ map tolerance_of renditions.now) }
 {
-    renditions.iter().map(|rendition| rendition.tolerance).collect(alloc)
+    renditions
+        .iter()
+        .map(|rendition| rendition.tolerance)
+        .collect(alloc)
 }
 
 fn finished_of(alloc: Global, sides: &[Arc<Side>]) -> Result<Vec<bool>, AllocError>
@@ -99,7 +101,11 @@ fn finished_of(alloc: Global, sides: &[Arc<Side>]) -> Result<Vec<bool>, AllocErr
 }
 
 /// The list with all of these at its end.
-fn all_pushed(alloc: Global, list: &Shared<Place>, more: Vec<Place>) -> Result<Shared<Place>, AllocError>
+fn all_pushed(
+    alloc: Global,
+    list: &Shared<Place>,
+    more: Vec<Place>,
+) -> Result<Shared<Place>, AllocError>
     requires { next_of list.now + length more.items < 16777216 }
     ensures { IfOk result (λ all. all ≡ record { first = list.now.first; items = list.now.items ++ more.items }) }
 {

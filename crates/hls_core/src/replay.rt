@@ -14,7 +14,11 @@ use std::sync::Arc;
 /// The last state of a run: each event, brought by the worker beside it, is stepped in turn from the opening state.
 ///
 /// A refused event leaves the state as it was. Want of memory ends the call.
-pub fn replay(alloc: Global, config: Config, events: &[(u16, Event)]) -> Result<Arc<Snapshot>, AllocError>
+pub fn replay(
+    alloc: Global,
+    config: Config,
+    events: &[(u16, Event)],
+) -> Result<Arc<Snapshot>, AllocError>
     requires { AreFitting (first_state config) events.now }
     ensures { IfOk result (λ s. s.value ≡ replayed (first_state config) events.now) }
 {
@@ -26,7 +30,12 @@ pub fn replay(alloc: Global, config: Config, events: &[(u16, Event)]) -> Result<
 }
 
 /// The state after an event; the same one after a repeat or a refusal.
-fn next(alloc: Global, state: Arc<Snapshot>, by: u16, event: &Event) -> Result<Arc<Snapshot>, AllocError>
+fn next(
+    alloc: Global,
+    state: Arc<Snapshot>,
+    by: u16,
+    event: &Event,
+) -> Result<Arc<Snapshot>, AllocError>
     requires { IsFitting state.value event.now }
     ensures { IfOk result (λ next. next.value ≡ next_state state.value by event.now) }
 {

@@ -13,7 +13,9 @@ use hls_media_laws::track::Track;
 pub(crate) fn same_config(a: &Config, b: &Config) -> bool
     ensures { IsTrue result ↔ (a.now ≡ b.now) }
 {
-    a.target() == b.target() && a.preferred() == b.preferred() && same_renditions(a.renditions(), b.renditions())
+    a.target() == b.target()
+        && a.preferred() == b.preferred()
+        && same_renditions(a.renditions(), b.renditions())
 }
 
 fn same_renditions(a: &[Rendition], b: &[Rendition]) -> bool
@@ -33,7 +35,10 @@ fn same_renditions(a: &[Rendition], b: &[Rendition]) -> bool
 fn same_rendition(a: &Rendition, b: &Rendition) -> bool
     ensures { IsTrue result ↔ (a.now ≡ b.now) }
 {
-    a.name == b.name && a.video == b.video && a.bandwidth == b.bandwidth && a.tolerance == b.tolerance
+    a.name == b.name
+        && a.video == b.video
+        && a.bandwidth == b.bandwidth
+        && a.tolerance == b.tolerance
 }
 
 /// Whether the first log, all of it, begins the second.
@@ -65,12 +70,26 @@ fn same_logged(a: &Logged, b: &Logged) -> bool
     ensures { IsTrue result ↔ (a.now ≡ b.now) }
 {
     match a {
-        Logged::Begun { rendition: r, init: x, len: n } => match b {
-            Logged::Begun { rendition: s, init: y, len: m } => *r == *s && same_init(x, y) && *n == *m,
+        Logged::Begun {
+            rendition: r,
+            init: x,
+            len: n,
+        } => match b {
+            Logged::Begun {
+                rendition: s,
+                init: y,
+                len: m,
+            } => *r == *s && same_init(x, y) && *n == *m,
             _ => false,
         },
-        Logged::Accepted { rendition: r, facts: f } => match b {
-            Logged::Accepted { rendition: s, facts: g } => *r == *s && *f == *g,
+        Logged::Accepted {
+            rendition: r,
+            facts: f,
+        } => match b {
+            Logged::Accepted {
+                rendition: s,
+                facts: g,
+            } => *r == *s && *f == *g,
             _ => false,
         },
         Logged::Finished { rendition: r } => match b {
@@ -81,8 +100,14 @@ fn same_logged(a: &Logged, b: &Logged) -> bool
             Logged::Slid { count: m } => *n == *m,
             _ => false,
         },
-        Logged::Trimmed { rendition: r, floor: n } => match b {
-            Logged::Trimmed { rendition: s, floor: m } => *r == *s && *n == *m,
+        Logged::Trimmed {
+            rendition: r,
+            floor: n,
+        } => match b {
+            Logged::Trimmed {
+                rendition: s,
+                floor: m,
+            } => *r == *s && *n == *m,
             _ => false,
         },
     }

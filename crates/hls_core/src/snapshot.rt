@@ -123,7 +123,9 @@ impl Snapshot {
         let log = &self.log;
         let mut count = 0;
         for n in 0..log.next() {
-            let Some(entry) = log.get(n) else { unreachable!() };
+            let Some(entry) = log.get(n) else {
+                unreachable!()
+            };
             if entry.by == by {
                 count += 1;
             }
@@ -159,7 +161,13 @@ impl Snapshot {
     }
 
     /// The snapshot with one more entry, and this side of a rendition in place of the one that it had.
-    pub(crate) fn with_side(&self, alloc: Global, entry: Entry, rendition: usize, side: Side) -> Result<Arc<Snapshot>, AllocError>
+    pub(crate) fn with_side(
+        &self,
+        alloc: Global,
+        entry: Entry,
+        rendition: usize,
+        side: Side,
+    ) -> Result<Arc<Snapshot>, AllocError>
         requires room { length self.now.log < 4194304 }
         requires there { rendition < length self.now.bytes }
         requires take { MayTake self.now entry rendition side }
@@ -215,7 +223,12 @@ fn shared_sides(alloc: Global, sides: &[Arc<Side>]) -> Result<Vec<Arc<Side>>, Al
 }
 
 /// The sides with another one at the number r.
-fn replaced_side(alloc: Global, sides: &[Arc<Side>], r: usize, side: Side) -> Result<Vec<Arc<Side>>, AllocError>
+fn replaced_side(
+    alloc: Global,
+    sides: &[Arc<Side>],
+    r: usize,
+    side: Side,
+) -> Result<Vec<Arc<Side>>, AllocError>
     requires { r < length sides.now }
     ensures { IfOk result (λ v. map (λ a. a.value) v.items ≡ slice_set (map (λ a. a.value) sides.now) r side) }
 {

@@ -21,8 +21,16 @@ use std::test::Fail;
 /// What a test does to a channel. A unit goes from one second to another, and its last byte is `fill`.
 #[derive(Clone, Copy)]
 enum Act {
-    Begin { rendition: usize, handler: [u8; 4] },
-    Unit { rendition: usize, from: u32, to: u32, fill: u8 },
+    Begin {
+        rendition: usize,
+        handler: [u8; 4],
+    },
+    Unit {
+        rendition: usize,
+        from: u32,
+        to: u32,
+        fill: u8,
+    },
     Finish(usize),
     Slide(u64),
     Trim(usize, u64),
@@ -129,7 +137,12 @@ fn event_of(alloc: Global, snapshot: &Snapshot, act: Act) -> Result<Event, Fail>
 }
 
 /// The name of the outcome; the state is the next one.
-fn outcome(alloc: Global, state: &mut Arc<Snapshot>, by: u16, act: Act) -> Result<&'static str, Fail> {
+fn outcome(
+    alloc: Global,
+    state: &mut Arc<Snapshot>,
+    by: u16,
+    act: Act,
+) -> Result<&'static str, Fail> {
     let event = event_of(alloc, state, act)?;
     match step(state, alloc, by, event) {
         Ok(Stepped::New(next)) => {
@@ -276,7 +289,13 @@ fn places_come_as_they_are_decided(rt: HostRuntime) -> Result<(), Fail> {
     Ok(())
 }
 
-fn fault_of(alloc: Global, target: u64, preferred: u64, names: &[&[u8]], tolerance: u64) -> Result<Option<ConfigFault>, Fail> {
+fn fault_of(
+    alloc: Global,
+    target: u64,
+    preferred: u64,
+    names: &[&[u8]],
+    tolerance: u64,
+) -> Result<Option<ConfigFault>, Fail> {
     let mut renditions = Vec::new(alloc);
     for name in names {
         renditions.push(rendition(alloc, name, tolerance)?)?;
@@ -305,8 +324,14 @@ fn configures(rt: HostRuntime) -> Result<(), Fail> {
         ([b"v1", long], 0, 1),
         ([b"v1", b"en"], 1, 0),
     ] {
-        assert_eq!(rt; fault_of(rt.alloc(), 6, 1, &names, tolerance)?, Some(ConfigFault::BadRendition(want)));
+        assert_eq!(rt;
+            fault_of(rt.alloc(), 6, 1, &names, tolerance)?,
+            Some(ConfigFault::BadRendition(want))
+        );
     }
-    assert_eq!(rt; fault_of(rt.alloc(), 6, 1, &[], 0)?, Some(ConfigFault::BadRendition(0)));
+    assert_eq!(rt;
+        fault_of(rt.alloc(), 6, 1, &[], 0)?,
+        Some(ConfigFault::BadRendition(0))
+    );
     Ok(())
 }

@@ -18,7 +18,6 @@ use Rattle.hls_core_laws.proofs.Logs.{channel_from-snoc, legal_snoc, lanes_after
 use Rattle.hls_core_laws.proofs.Follows.{follows_of}
 use Rattle.hls_core_laws.proofs.Causes.{begins, accepts, finishes, trims, slides}
 
-
 -- what is New may be added to the log
 pub may_add : (s : State) (event : Event) → IsFitting s event → outcome_of s event ≡ New → MayAdd s.config (channel s) (logged event)
 may_add s (Begin r init bytes) fitting new =
@@ -82,51 +81,51 @@ same_held l h = record { head = λ i begun. refl; units = λ n x y a b at_x at_y
 fit_set : (lanes : List Lane) (bytes : List Held) (q : ℕ) (new : Lane) (new_held : Held) → AllFit lanes bytes → Fits new new_held → AllFit (slice_set lanes q new) (slice_set bytes q new_held)
 unfolding AllFit
 fit_set lanes bytes q new new_held fit fits r l h at_l at_h = elim (at_set lanes q new r l at_l) [
-    inl here ↦ elim (at_set bytes q new_held r h at_h) [
-      inl also ↦ subst (λ (x : Lane). Fits x h) here.1 (subst (λ (x : Held). Fits new x) also.1 fits)
+  | inl here ↦ elim (at_set bytes q new_held r h at_h) [
+    | inl also ↦ subst (λ (x : Lane). Fits x h) here.1 (subst (λ (x : Held). Fits new x) also.1 fits)
     | inr other ↦ absurd (other.0 here.0)
-    ]
-  | inr there ↦ elim (at_set bytes q new_held r h at_h) [
-      inl here ↦ absurd (there.0 here.0)
-    | inr also ↦ fit r l h there.1 also.1
-    ]
   ]
+  | inr there ↦ elim (at_set bytes q new_held r h at_h) [
+    | inl here ↦ absurd (there.0 here.0)
+    | inr also ↦ fit r l h there.1 also.1
+  ]
+]
 
 all_fit : (lanes lanes' : List Lane) (bytes bytes' : List Held) → AllFit lanes bytes → OneChange lanes lanes' bytes bytes' → AllFit lanes' bytes'
 all_fit lanes lanes' bytes bytes' fit c =
     subst (λ (x : List Lane). AllFit x bytes') (sym c.lanes_are)
-        (subst (λ (x : List Held). AllFit (slice_set lanes c.r c.new) x) (sym c.bytes_are)
-            (fit_set lanes bytes c.r c.new c.new_held fit c.fits))
+    (subst (λ (x : List Held). AllFit (slice_set lanes c.r c.new) x) (sym c.bytes_are)
+    (fit_set lanes bytes c.r c.new c.new_held fit c.fits))
 
 same_set : (lanes : List Lane) (bytes : List Held) (q : ℕ) (old new : Lane) (old_held new_held : Held) → slice_get lanes q ≡ Some old → slice_get bytes q ≡ Some old_held → SameHeld old new old_held new_held → AllSame lanes (slice_set lanes q new) bytes (slice_set bytes q new_held)
 unfolding AllSame
 same_set lanes bytes q old new old_held new_held at at_held same r l l' h h' at_l at_l' at_h at_h' = elim (at_set lanes q new r l' at_l') [
-    inl here ↦ elim (at_set bytes q new_held r h' at_h') [
-      inl also ↦
+  | inl here ↦ elim (at_set bytes q new_held r h' at_h') [
+    | inl also ↦
         let l_at : slice_get lanes q ≡ Some l = subst (λ (k : ℕ). slice_get lanes k ≡ Some l) here.0 at_l in
         let h_at : slice_get bytes q ≡ Some h = subst (λ (k : ℕ). slice_get bytes k ≡ Some h) here.0 at_h in
         let l_is : old ≡ l = cc in
         let h_is : old_held ≡ h = cc in
         subst (λ (x : Lane). SameHeld l x h h') here.1
-          (subst (λ (x : Held). SameHeld l new h x) also.1
-            (subst (λ (x : Lane). SameHeld x new h new_held) l_is
-              (subst (λ (x : Held). SameHeld old new x new_held) h_is same)))
+        (subst (λ (x : Held). SameHeld l new h x) also.1
+        (subst (λ (x : Lane). SameHeld x new h new_held) l_is
+        (subst (λ (x : Held). SameHeld old new x new_held) h_is same)))
     | inr other ↦ absurd (other.0 here.0)
-    ]
+  ]
   | inr there ↦ elim (at_set bytes q new_held r h' at_h') [
-      inl here ↦ absurd (there.0 here.0)
+    | inl here ↦ absurd (there.0 here.0)
     | inr also ↦
         let l_is : l ≡ l' = cc in
         let h_is : h ≡ h' = cc in
         subst (λ (x : Lane). SameHeld l x h h') l_is (subst (λ (x : Held). SameHeld l l h x) h_is (same_held l h))
-    ]
   ]
+]
 
 all_same : (lanes lanes' : List Lane) (bytes bytes' : List Held) → OneChange lanes lanes' bytes bytes' → AllSame lanes lanes' bytes bytes'
 all_same lanes lanes' bytes bytes' c =
     subst (λ (x : List Lane). AllSame lanes x bytes bytes') (sym c.lanes_are)
-        (subst (λ (x : List Held). AllSame lanes (slice_set lanes c.r c.new) bytes x) (sym c.bytes_are)
-            (same_set lanes bytes c.r c.old c.new c.old_held c.new_held c.at c.at_held c.same))
+    (subst (λ (x : List Held). AllSame lanes (slice_set lanes c.r c.new) bytes x) (sym c.bytes_are)
+    (same_set lanes bytes c.r c.old c.new c.old_held c.new_held c.at c.at_held c.same))
 
 -- the four changes of a rendition
 begun_fits : (l : Lane) (h : Held) (init : InitData) (bytes : List ℕ) → Fits l h → l.init ≡ None → IsInit bytes init → Fits (begun_with init (length bytes) l) (record { head = bytes; units = [] })
@@ -154,28 +153,28 @@ accepted_fits l h init f bytes fits begun read = record {
   size = fits.size;
   kept = omega (arith, fits.kept, length-append h.units (bytes ∷ []), length-append l.facts (f ∷ []));
   units = λ i k g b e at_g at_b.
-    elim (at_snoc h.units bytes k b at_b) [
-      inl old ↦
-        let below : l.floor + k < length l.facts = omega (arith, fits.kept, at_below h.units k b old) in
-        fits.units i k g b e (at_back l.facts (f ∷ []) (l.floor + k) g below at_g) old
-    | inr end ↦
-        let last : l.floor + k ≡ length l.facts = omega (arith, fits.kept, end.0) in
-        let at_last : slice_get (l.facts ++ f ∷ []) (length l.facts) ≡ Some g =
+      elim (at_snoc h.units bytes k b at_b) [
+        | inl old ↦
+            let below : l.floor + k < length l.facts = omega (arith, fits.kept, at_below h.units k b old) in
+            fits.units i k g b e (at_back l.facts (f ∷ []) (l.floor + k) g below at_g) old
+        | inr end ↦
+            let last : l.floor + k ≡ length l.facts = omega (arith, fits.kept, end.0) in
+            let at_last : slice_get (l.facts ++ f ∷ []) (length l.facts) ≡ Some g =
             subst (λ (n : ℕ). slice_get (l.facts ++ f ∷ []) n ≡ Some g) last at_g in
-        let at_f : slice_get (l.facts ++ f ∷ []) (length l.facts) ≡ Some f = at_end l.facts f in
-        let f_is : f ≡ g = cc in
-        let i_is : init ≡ i = cc in
-        subst (λ (x : InitData). IsUnit x b g) i_is
-          (subst (λ (x : List ℕ). IsUnit init x g) end.1
+            let at_f : slice_get (l.facts ++ f ∷ []) (length l.facts) ≡ Some f = at_end l.facts f in
+            let f_is : f ≡ g = cc in
+            let i_is : init ≡ i = cc in
+            subst (λ (x : InitData). IsUnit x b g) i_is
+            (subst (λ (x : List ℕ). IsUnit init x g) end.1
             (subst (λ (x : Facts). IsUnit init bytes x) f_is read))
-    ];
+      ];
 }
 
 accepted_same : (l : Lane) (h : Held) (f : Facts) (bytes : List ℕ) → SameHeld l (with_facts f l) h (more_bytes h bytes)
 accepted_same l h f bytes = record {
   head = λ i begun. refl;
   units = λ n x y a b at_x at_y.
-    let also : slice_get (h.units ++ bytes ∷ []) (n - l.floor) ≡ Some x = at_front h.units (bytes ∷ []) (n - l.floor) x at_x in cc;
+      let also : slice_get (h.units ++ bytes ∷ []) (n - l.floor) ≡ Some x = at_front h.units (bytes ∷ []) (n - l.floor) x at_x in cc;
 }
 
 finished_fits : (l : Lane) (h : Held) (init : InitData) → l.init ≡ Some init → Fits l h → Fits (finish_of l) h
@@ -194,21 +193,21 @@ trimmed_fits l h floor fits rises within =
       size = fits.size;
       kept = omega (arith, fits.kept, length-drop (floor - l.floor) h.units);
       units = λ i k f b e at_f at_b.
-        let from : slice_get h.units (floor - l.floor + k) ≡ Some b = sym (at_drop h.units (floor - l.floor) k) ∙ at_b in
-        let number : floor + k ≡ l.floor + (floor - l.floor + k) = omega arith in
-        let at_old : slice_get l.facts (l.floor + (floor - l.floor + k)) ≡ Some f =
-            subst (λ (n : ℕ). slice_get l.facts n ≡ Some f) number at_f in
-        fits.units i (floor - l.floor + k) f b e at_old from;
+          let from : slice_get h.units (floor - l.floor + k) ≡ Some b = sym (at_drop h.units (floor - l.floor) k) ∙ at_b in
+          let number : floor + k ≡ l.floor + (floor - l.floor + k) = omega arith in
+          let at_old : slice_get l.facts (l.floor + (floor - l.floor + k)) ≡ Some f =
+          subst (λ (n : ℕ). slice_get l.facts n ≡ Some f) number at_f in
+          fits.units i (floor - l.floor + k) f b e at_old from;
     }
 
 trimmed_same : (l : Lane) (h : Held) (floor : ℕ) → l.floor < floor → SameHeld l (with_floor floor l) h (less_bytes h (floor - l.floor))
 trimmed_same l h floor rises = record {
   head = λ i begun. refl;
   units = λ n x y a b at_x at_y.
-    let from : slice_get h.units (floor - l.floor + (n - floor)) ≡ Some y = sym (at_drop h.units (floor - l.floor) (n - floor)) ∙ at_y in
-    let number : floor - l.floor + (n - floor) ≡ n - l.floor = omega arith in
-    let at_old : slice_get h.units (n - l.floor) ≡ Some y = subst (λ (k : ℕ). slice_get h.units k ≡ Some y) number from in
-    cc;
+      let from : slice_get h.units (floor - l.floor + (n - floor)) ≡ Some y = sym (at_drop h.units (floor - l.floor) (n - floor)) ∙ at_y in
+      let number : floor - l.floor + (n - floor) ≡ n - l.floor = omega arith in
+      let at_old : slice_get h.units (n - l.floor) ≡ Some y = subst (λ (k : ℕ). slice_get h.units k ≡ Some y) number from in
+      cc;
 }
 
 -- a rendition's lane beside the bytes that are kept of it
@@ -225,7 +224,7 @@ beside s r l state at =
 Changes : State → Event → Type 0
 Changes s event =
     ((after (logged event) (channel s)).lanes ≡ (channel s).lanes) × (bytes_after s event ≡ s.bytes)
-        ⊎ OneChange (channel s).lanes (after (logged event) (channel s)).lanes s.bytes (bytes_after s event)
+    ⊎ OneChange (channel s).lanes (after (logged event) (channel s)).lanes s.bytes (bytes_after s event)
 
 changes : (s : State) (event : Event) → IsState s → IsFitting s event → outcome_of s event ≡ New → Changes s event
 unfolding Changes
@@ -316,7 +315,7 @@ fits_after : (s : State) (event : Event) → IsState s → Changes s event → A
 unfolding AllFit Changes
 fits_after s event state (inl same) =
     subst (λ (x : List Lane). AllFit x (bytes_after s event)) (sym same.0)
-        (subst (λ (x : List Held). AllFit (channel s).lanes x) (sym same.1) state.fits)
+    (subst (λ (x : List Held). AllFit (channel s).lanes x) (sym same.1) state.fits)
 fits_after s event state (inr change) =
     all_fit (channel s).lanes (after (logged event) (channel s)).lanes s.bytes (bytes_after s event) state.fits change
 
@@ -338,7 +337,7 @@ advanced_state s by event state fitting new =
     let ch : channel (advanced s by event) ≡ after (logged event) (channel s) = channel_advanced s by event in
     let room : length s.log < 4194304 = room_in s event new in
     let sides : length (bytes_after s event) ≡ length (after (logged event) (channel s)).lanes =
-        bytes_stay s event ∙ state.sides ∙ sym (lanes_after (logged event) (channel s)) in
+    bytes_stay s event ∙ state.sides ∙ sym (lanes_after (logged event) (channel s)) in
     record {
       configured = state.configured;
       legal = legal_snoc s.config (opening s.config) s.log (entry_of by event) state.legal (may_add s event fitting new);
@@ -353,21 +352,21 @@ unfolding AllSame
 advanced_continues s by event state fitting new =
     let ch : channel (advanced s by event) ≡ after (logged event) (channel s) = channel_advanced s by event in
     let same : AllSame (channel s).lanes (channel (advanced s by event)).lanes s.bytes (bytes_after s event) =
-        subst (λ (c : Channel). AllSame (channel s).lanes c.lanes s.bytes (bytes_after s event)) (sym ch)
-            (same_after s event (changes s event state fitting new)) in
+    subst (λ (c : Channel). AllSame (channel s).lanes c.lanes s.bytes (bytes_after s event)) (sym ch)
+    (same_after s event (changes s event state fitting new)) in
     let sides : length (channel (advanced s by event)).lanes ≡ length s.bytes =
-        ap (λ (c : Channel). length c.lanes) ch ∙ lanes_after (logged event) (channel s) ∙ sym state.sides in
+    ap (λ (c : Channel). length c.lanes) ch ∙ lanes_after (logged event) (channel s) ∙ sym state.sides in
     record {
       config = refl;
       rest = entry_of by event ∷ [];
       log = refl;
       same = λ r ha hb at_a at_b.
-        let la = at_beside s.bytes (channel s).lanes r ha (sym state.sides) at_a in
-        let lb = at_beside s.bytes (channel (advanced s by event)).lanes r ha sides at_a in
-        let a_is : lane (channel s) r ≡ la.0 = at_or (channel s).lanes r no_lane la.0 la.1 in
-        let b_is : lane (channel (advanced s by event)) r ≡ lb.0 = at_or (channel (advanced s by event)).lanes r no_lane lb.0 lb.1 in
-        subst (λ (l : Lane). SameHeld (lane (channel s) r) l ha hb) (sym b_is)
-            (subst (λ (l : Lane). SameHeld l lb.0 ha hb) (sym a_is) (same r la.0 lb.0 ha hb la.1 lb.1 at_a at_b));
+          let la = at_beside s.bytes (channel s).lanes r ha (sym state.sides) at_a in
+          let lb = at_beside s.bytes (channel (advanced s by event)).lanes r ha sides at_a in
+          let a_is : lane (channel s) r ≡ la.0 = at_or (channel s).lanes r no_lane la.0 la.1 in
+          let b_is : lane (channel (advanced s by event)) r ≡ lb.0 = at_or (channel (advanced s by event)).lanes r no_lane lb.0 lb.1 in
+          subst (λ (l : Lane). SameHeld (lane (channel s) r) l ha hb) (sym b_is)
+          (subst (λ (l : Lane). SameHeld l lb.0 ha hb) (sym a_is) (same r la.0 lb.0 ha hb la.1 lb.1 at_a at_b));
     }
 
 pub advanced_follows : (s : State) (by : ℕ) (event : Event) → IsState s → IsFitting s event → outcome_of s event ≡ New → Follows s (advanced s by event)

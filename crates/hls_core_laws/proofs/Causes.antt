@@ -108,11 +108,11 @@ pub record Trims (o : Option Lane) (limit floor entries : ℕ) : Type 0 where
 pub trims : (o : Option Lane) (limit floor entries : ℕ) → trim o limit floor entries ≡ New → Trims o limit floor entries
 trims None limit floor entries h = cc
 trims (Some l) limit floor entries h = elim (nat_le floor l.floor) as (λ b. (nat_le floor l.floor ≡ b) → (if b then Repeated else (if nat_lt limit floor then Refused TrimTooFar else logged_by entries)) ≡ New → Trims (Some l) limit floor entries) [
-    true ↦ λ e is. cc
+  | true ↦ λ e is. cc
   | false ↦ λ e is.
-    let far = passed (nat_lt limit floor) TrimTooFar (logged_by entries) is in
-    record { lane = l; at = refl; rises = leb-false floor l.floor e; far = ltb-false limit floor far.0; room = room_of entries far.1 }
-  ] refl h
+      let far = passed (nat_lt limit floor) TrimTooFar (logged_by entries) is in
+      record { lane = l; at = refl; rises = leb-false floor l.floor e; far = ltb-false limit floor far.0; room = room_of entries far.1 }
+] refl h
 
 neither : (a b : Bool) → (a || b) ≡ false → (a ≡ false) × (b ≡ false)
 neither true b h = cc

@@ -59,7 +59,7 @@ pub grows_on : (a b c : Lane) → LaneGrows a b → LaneGrows b c → LaneGrows 
 grows_on a b c ab bc =
     let joined : b.facts ++ bc.more ≡ a.facts ++ (ab.more ++ bc.more) = rw ab.facts (append_assoc a.facts ab.more bc.more) in
     let none : a.finished ≡ true → ab.more ++ bc.more ≡ [] =
-        λ h. rw ((ab.finished h).1, (bc.finished ((ab.finished h).0)).1) refl in
+    λ h. rw ((ab.finished h).1, (bc.finished ((ab.finished h).0)).1) refl in
     record {
       init = λ i h. ((bc.init i ((ab.init i h).0)).0, (bc.init i ((ab.init i h).0)).1 ∙ (ab.init i h).1);
       more = ab.more ++ bc.more;
@@ -112,39 +112,39 @@ pub record Grown (a : Lane) (lanes : List Lane) (r : ℕ) : Type 0 where
 
 set_grows : (lanes : List Lane) (q : ℕ) (old new : Lane) → slice_get lanes q ≡ Some old → LaneGrows old new → (r : ℕ) (a : Lane) → slice_get lanes r ≡ Some a → Grown a (slice_set lanes q new) r
 set_grows lanes q old new was grows r a at = elim (cases_eq r q) [
-    inl same ↦
-    let here : slice_get lanes q ≡ Some a = subst (λ (k : ℕ). slice_get lanes k ≡ Some a) same at in
-    let is_old : old ≡ a = cc in
-    record {
-      lane = new;
-      at = subst (λ (k : ℕ). slice_get (slice_set lanes q new) k ≡ Some new) (sym same) (set_here lanes q old new was);
-      grows = subst (λ (l : Lane). LaneGrows l new) is_old grows;
-    }
+  | inl same ↦
+      let here : slice_get lanes q ≡ Some a = subst (λ (k : ℕ). slice_get lanes k ≡ Some a) same at in
+      let is_old : old ≡ a = cc in
+      record {
+        lane = new;
+        at = subst (λ (k : ℕ). slice_get (slice_set lanes q new) k ≡ Some new) (sym same) (set_here lanes q old new was);
+        grows = subst (λ (l : Lane). LaneGrows l new) is_old grows;
+      }
   | inr other ↦ record { lane = a; at = set_else lanes q new r other ∙ at; grows = same_lane a }
-  ]
+]
 
 -- each lane after one more event of the log
 pub lane_after : (config : ConfigData) (ch : Channel) (e : Logged) → MayAdd config ch e → (r : ℕ) (a : Lane) → slice_get ch.lanes r ≡ Some a → Grown a (after e ch).lanes r
 lane_after config ch (Begun q init len) may r a at =
     let is : lane ch q ≡ may.lane = at_or ch.lanes q no_lane may.lane may.at in
     let grows : LaneGrows may.lane (begun_with init len (lane ch q)) =
-        subst (λ (l : Lane). LaneGrows may.lane (begun_with init len l)) (sym is) (begun_grows may.lane init len may.first) in
+    subst (λ (l : Lane). LaneGrows may.lane (begun_with init len l)) (sym is) (begun_grows may.lane init len may.first) in
     set_grows ch.lanes q may.lane (begun_with init len (lane ch q)) may.at grows r a at
 lane_after config ch (Accepted q f) may r a at =
     let is : lane ch q ≡ may.lane = at_or ch.lanes q no_lane may.lane may.at in
     let grows : LaneGrows may.lane (with_facts f (lane ch q)) =
-        subst (λ (l : Lane). LaneGrows may.lane (with_facts f l)) (sym is) (accepted_grows may.lane f may.open_ended) in
+    subst (λ (l : Lane). LaneGrows may.lane (with_facts f l)) (sym is) (accepted_grows may.lane f may.open_ended) in
     set_grows ch.lanes q may.lane (with_facts f (lane ch q)) may.at grows r a at
 lane_after config ch (Finished q) may r a at =
     let is : lane ch q ≡ may.lane = at_or ch.lanes q no_lane may.lane may.at in
     let grows : LaneGrows may.lane (finish_of (lane ch q)) =
-        subst (λ (l : Lane). LaneGrows may.lane (finish_of l)) (sym is) (finished_grows may.lane) in
+    subst (λ (l : Lane). LaneGrows may.lane (finish_of l)) (sym is) (finished_grows may.lane) in
     set_grows ch.lanes q may.lane (finish_of (lane ch q)) may.at grows r a at
 lane_after config ch (Slid n) may r a at = record { lane = a; at = at; grows = same_lane a }
 lane_after config ch (Trimmed q floor) may r a at =
     let is : lane ch q ≡ may.lane = at_or ch.lanes q no_lane may.lane may.at in
     let grows : LaneGrows may.lane (with_floor floor (lane ch q)) =
-        subst (λ (l : Lane). LaneGrows may.lane (with_floor floor l)) (sym is) (trimmed_grows may.lane floor may.rises) in
+    subst (λ (l : Lane). LaneGrows may.lane (with_floor floor l)) (sym is) (trimmed_grows may.lane floor may.rises) in
     set_grows ch.lanes q may.lane (with_floor floor (lane ch q)) may.at grows r a at
 
 -- each lane after more legal entries
@@ -176,9 +176,9 @@ FewIn n lanes = (r : ℕ) (l : Lane) → slice_get lanes r ≡ Some l → length
 few_set : (n : ℕ) (lanes : List Lane) (q : ℕ) (new : Lane) → FewIn n lanes → length new.facts ≤ n + 1 → FewIn (n + 1) (slice_set lanes q new)
 unfolding FewIn
 few_set n lanes q new few newly r l at = elim (at_set lanes q new r l at) [
-    inl h ↦ subst (λ (x : Lane). length x.facts ≤ n + 1) h.1 newly
+  | inl h ↦ subst (λ (x : Lane). length x.facts ≤ n + 1) h.1 newly
   | inr h ↦ omega (arith, few r l h.1)
-  ]
+]
 
 few_after : (n : ℕ) (config : ConfigData) (ch : Channel) (e : Logged) → MayAdd config ch e → FewIn n ch.lanes → FewIn (n + 1) (after e ch).lanes
 unfolding FewIn
@@ -212,5 +212,5 @@ pub facts_few : (config : ConfigData) (log : List Entry) → IsLegal config log 
 unfolding FewIn
 facts_few config log legal r l at =
     let none : FewIn 0 (opening config).lanes =
-        λ k x here. let m = mapped_at fresh config.renditions k x here in rw (← m.2) (omega arith) in
+    λ k x here. let m = mapped_at fresh config.renditions k x here in rw (← m.2) (omega arith) in
     omega (arith, few_from 0 config (opening config) log legal none r l at)

@@ -33,9 +33,9 @@ first_is_state config configured = record {
   few = omega arith;
   sides = length-map config.renditions nothing_held ∙ sym (length-map config.renditions fresh);
   fits = λ r l h at_l at_h.
-    let lane_is = mapped_at fresh config.renditions r l at_l in
-    let held_is = mapped_at nothing_held config.renditions r h at_h in
-    subst (λ (x : Lane). Fits x h) lane_is.2 (subst (λ (x : Held). Fits no_lane x) held_is.2 bare_fits);
+      let lane_is = mapped_at fresh config.renditions r l at_l in
+      let held_is = mapped_at nothing_held config.renditions r h at_h in
+      subst (λ (x : Lane). Fits x h) lane_is.2 (subst (λ (x : Held). Fits no_lane x) held_is.2 bare_fits);
 }
 
 next_by : (s : State) (by : ℕ) (event : Event) (o : Outcome) → outcome_of s event ≡ o → IsState s → IsFitting s event → IsState (moved_by o (advanced s by event) s) × Follows s (moved_by o (advanced s by event) s)
@@ -54,4 +54,4 @@ pub run_follows : (s : State) (events : List (ℕ × Event)) → IsState s → A
 run_follows s [] state fits = follows_refl s
 run_follows s (e ∷ es) state fits =
     follows_trans s (next_state s e.0 e.1) (replayed (next_state s e.0 e.1) es) (next_follows s e.0 e.1 state fits.0)
-        (run_follows (next_state s e.0 e.1) es (next_is_state s e.0 e.1 state fits.0) fits.1)
+    (run_follows (next_state s e.0 e.1) es (next_is_state s e.0 e.1 state fits.0) fits.1)

@@ -49,32 +49,32 @@ source_of s r l at =
 source_grows : (s t : Source) (a b : Lane) (tolerance : ℕ) → IsOf s a tolerance → IsOf t b tolerance → LaneGrows a b → SourceGrows s t
 source_grows s t a b tolerance is_a is_b grows =
     let facts : t.facts ≡ s.facts ++ grows.more =
-        is_b.facts ∙ grows.facts ∙ ap (λ (fs : List Facts). fs ++ grows.more) (sym is_a.facts) in
+    is_b.facts ∙ grows.facts ∙ ap (λ (fs : List Facts). fs ++ grows.more) (sym is_a.facts) in
     record {
       more = grows.more;
       facts = facts;
       tolerance = is_b.tolerance_is ∙ sym is_a.tolerance_is;
       stays = λ over.
-        let was : a.finished ≡ true = sym is_a.finished ∙ over in
-        let still = grows.finished was in
-        let same_facts : t.facts ≡ s.facts = facts ∙ ap (λ (fs : List Facts). s.facts ++ fs) still.1 ∙ append-nil s.facts in
-        let same_tolerance : t.tolerance ≡ s.tolerance = is_b.tolerance_is ∙ sym is_a.tolerance_is in
-        let same_end : t.finished ≡ s.finished = is_b.finished ∙ still.0 ∙ sym over in
-        λ i. record { facts = same_facts i; tolerance = same_tolerance i; finished = same_end i };
+          let was : a.finished ≡ true = sym is_a.finished ∙ over in
+          let still = grows.finished was in
+          let same_facts : t.facts ≡ s.facts = facts ∙ ap (λ (fs : List Facts). s.facts ++ fs) still.1 ∙ append-nil s.facts in
+          let same_tolerance : t.tolerance ≡ s.tolerance = is_b.tolerance_is ∙ sym is_a.tolerance_is in
+          let same_end : t.finished ≡ s.finished = is_b.finished ∙ still.0 ∙ sym over in
+          λ i. record { facts = same_facts i; tolerance = same_tolerance i; finished = same_end i };
     }
 
 -- each rendition of a state has grown in one that continues it
 pub sources_grow : (a b : State) → IsState b → Continues a b → Grows (sources a) (sources b)
 sources_grow a b later c = record {
   same =
-    sources_count b ∙ lanes_count b.config b.log ∙ ap (λ (config : ConfigData). length config.renditions) c.config
+      sources_count b ∙ lanes_count b.config b.log ∙ ap (λ (config : ConfigData). length config.renditions) c.config
       ∙ sym (lanes_count a.config a.log) ∙ sym (sources_count a);
   each = λ r within.
-    let lane_a = at_some (channel a).lanes r (omega (arith, sources_count a)) in
-    let grown = lane_grown a b later c r lane_a.0 lane_a.1 in
-    let is_a = source_of a r lane_a.0 lane_a.1 in
-    let is_b : IsOf (source_at (sources b) r) grown.lane (get_or (map tolerance_of a.config.renditions) r 0) =
-        subst (λ (config : ConfigData). IsOf (source_at (sources b) r) grown.lane (get_or (map tolerance_of config.renditions) r 0)) c.config
-          (source_of b r grown.lane grown.at) in
-    source_grows (source_at (sources a) r) (source_at (sources b) r) lane_a.0 grown.lane (get_or (map tolerance_of a.config.renditions) r 0) is_a is_b grown.grows;
+      let lane_a = at_some (channel a).lanes r (omega (arith, sources_count a)) in
+      let grown = lane_grown a b later c r lane_a.0 lane_a.1 in
+      let is_a = source_of a r lane_a.0 lane_a.1 in
+      let is_b : IsOf (source_at (sources b) r) grown.lane (get_or (map tolerance_of a.config.renditions) r 0) =
+      subst (λ (config : ConfigData). IsOf (source_at (sources b) r) grown.lane (get_or (map tolerance_of config.renditions) r 0)) c.config
+      (source_of b r grown.lane grown.at) in
+      source_grows (source_at (sources a) r) (source_at (sources b) r) lane_a.0 grown.lane (get_or (map tolerance_of a.config.renditions) r 0) is_a is_b grown.grows;
 }

@@ -27,7 +27,7 @@ follows_is_continuing = follows_of
 pub moves_follow : laws.MovesFollow
 moves_follow a b by event New state fits moves =
     subst (λ (s : State). IsState s × Follows a s) (sym moves.1)
-        (advanced_state a by event state fits moves.0, advanced_follows a by event state fits moves.0)
+    (advanced_state a by event state fits moves.0, advanced_follows a by event state fits moves.0)
 moves_follow a b by event Repeated state fits moves =
     subst (λ (s : State). IsState s × Follows a s) (sym moves.1) (state, follows_refl a)
 moves_follow a b by event (Refused r) state fits moves =

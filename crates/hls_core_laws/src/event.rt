@@ -21,11 +21,18 @@ pub enum Event {
         bytes: Bytes,
     },
     /// No unit of the rendition will come any more.
-    Finish { rendition: usize },
+    Finish {
+        rendition: usize,
+    },
     /// `count` segments leave the front of the live line.
-    Slide { count: u64 },
+    Slide {
+        count: u64,
+    },
     /// The units of the rendition below the number `floor` are given up.
-    Trim { rendition: usize, floor: u64 },
+    Trim {
+        rendition: usize,
+        floor: u64,
+    },
 }
 
 /// An accepted event without its bytes, as the log has it.
@@ -37,10 +44,20 @@ pub enum Logged {
         init: Init,
         len: u64,
     },
-    Accepted { rendition: usize, facts: Facts },
-    Finished { rendition: usize },
-    Slid { count: u64 },
-    Trimmed { rendition: usize, floor: u64 },
+    Accepted {
+        rendition: usize,
+        facts: Facts,
+    },
+    Finished {
+        rendition: usize,
+    },
+    Slid {
+        count: u64,
+    },
+    Trimmed {
+        rendition: usize,
+        floor: u64,
+    },
 }
 
 /// An entry of the log: which worker brought which event.

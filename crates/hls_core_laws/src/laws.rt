@@ -5,59 +5,49 @@ ghost use Rattle.hls_core_laws.specs.Laws.{FollowsItself, FollowsThrough, Follow
 /// A state follows itself.
 pub fn follows_itself()
     ensures { FollowsItself }
-{
-}
+{}
 
 /// What follows a state that follows a third follows the third.
 pub fn follows_through()
     ensures { FollowsThrough }
-{
-}
+{}
 
 /// Of two states, one that continues the other follows it.
 pub fn follows_is_continuing()
     ensures { FollowsIsContinuing }
-{
-}
+{}
 
 /// A move takes a state to a state that follows it.
 pub fn moves_follow()
     ensures { MovesFollow }
-{
-}
+{}
 
 /// Every run from an opening state ends in a state that follows it.
 pub fn runs_follow()
     ensures { RunsFollow }
-{
-}
+{}
 
 /// A rendition keeps its init section.
 pub fn inits_stay()
     ensures { InitsStay }
-{
-}
+{}
 
 /// Facts under an init section that was seen are good in each state that follows the one where it was seen.
 pub fn seen_suffices()
     ensures { SeenSuffices }
-{
-}
+{}
 
 /// A worker's accepted event stands at the end of its own events, and changes no other worker's.
 pub fn workers_apart()
     ensures { WorkersApart }
-{
-}
+{}
 
 /// Equally many events of a worker in two states, one of which follows the other, are the same events.
 pub fn workers_settled()
     ensures { WorkersSettled }
-{
-}
+{}
 
 /// No rendition has more units than the log has entries.
 pub fn units_are_logged()
     ensures { UnitsAreLogged }
-{
-}
+{}

@@ -59,7 +59,7 @@ reached_part taken old held r next part h first is = record {
   done = h.done ++ part ∷ [];
   accepted = done_then h.done (part ∷ []) r h.accepted ∙ with_one r part ∙ is;
   follows = λ more. h.follows more ∙ ap (after_parts h.done) (first.follows more)
-    ∙ ap (λ (ps : List Part). record { parts = ps; left = (cut_of (held ++ more)).left }) (sym (append_assoc h.done (part ∷ []) (cut_of (held ++ more)).parts));
+      ∙ ap (λ (ps : List Part). record { parts = ps; left = (cut_of (held ++ more)).left }) (sym (append_assoc h.done (part ∷ []) (cut_of (held ++ more)).parts));
 }
 
 -- a part that is refused
@@ -70,7 +70,7 @@ refused_part taken old held r part f h first is choice more =
     let rest = (cut_of (held ++ more)).parts in
     ap (outcome_of choice) cut
     ∙ ap (λ y. y >>= (λ n. unless_left choice n (fault_at_end (cut_of (held ++ more)).left)))
-      (done_then h.done (part ∷ rest) r h.accepted ∙ then_refused r part rest f is)
+    (done_then h.done (part ∷ rest) r h.accepted ∙ then_refused r part rest f is)
 
 -- a piece more
 pub reached_piece : (taken held piece : List ℕ) (r : Recorded) → Reached taken held r → Reached (taken ++ piece) (held ++ piece) r
@@ -242,7 +242,10 @@ pub gather_done : (stream held : List ℕ) (old new : Option (List ℕ)) (r : Re
     → Gathers stream new r (Ok tt)
 gather_done stream held old new r h settled gave end clean =
     let left = at_end h.rest old new h.left_is gave end in record {
-      taken = h.taken; rest = []; left_is = left.0; split = h.split ∙ ap (λ xs. h.taken ++ xs) left.1;
+      taken = h.taken;
+      rest = [];
+      left_is = left.0;
+      split = h.split ∙ ap (λ xs. h.taken ++ xs) left.1;
       comes = (refl, λ choice. outcome_now choice h.taken held r h.reached settled.no_part ∙ ap (unless_left choice r) clean);
     }
 
@@ -250,7 +253,10 @@ pub gather_left : (stream held : List ℕ) (old new : Option (List ℕ)) (r : Re
     → Gathers stream new r (Err (fault.Boxes f))
 gather_left stream held old new r f h settled gave end found =
     let left = at_end h.rest old new h.left_is gave end in record {
-      taken = h.taken; rest = []; left_is = left.0; split = h.split ∙ ap (λ xs. h.taken ++ xs) left.1;
+      taken = h.taken;
+      rest = [];
+      left_is = left.0;
+      split = h.split ∙ ap (λ xs. h.taken ++ xs) left.1;
       comes = inl (refl, λ choice. outcome_now choice h.taken held r h.reached settled.no_part ∙ ap (unless_left choice r) found);
     }
 

@@ -71,7 +71,11 @@ answers_err choice stream taken rest f split h = record { taken = taken; split =
 
 pub runs_err : (choice : Choice) (stream held : List ℕ) (left contents : Option (List ℕ)) (f : CutFault) → Texts choice stream left (Err f) → contents ≡ Some held → Runs (Some choice) stream held left contents (Refused f)
 runs_err choice stream held left contents f h is = record {
-  rest = h.rest; text = []; left_is = h.left_is; contents_are = is ∙ ap Some (sym (append-nil held)); answers = answers_err choice stream h.taken h.rest f h.split h.comes;
+  rest = h.rest;
+  text = [];
+  left_is = h.left_is;
+  contents_are = is ∙ ap Some (sym (append-nil held));
+  answers = answers_err choice stream h.taken h.rest f h.split h.comes;
 }
 
 whole_stream : (stream taken rest : List ℕ) → stream ≡ taken ++ rest → rest ≡ [] → stream ≡ taken
@@ -79,17 +83,27 @@ whole_stream stream taken rest split none = split ∙ ap (λ xs. taken ++ xs) no
 
 pub runs_done : (choice : Choice) (stream held : List ℕ) (left contents : Option (List ℕ)) (text : Vec ℕ Global) → Texts choice stream left (Ok text) → Writes held text.items contents true → Runs (Some choice) stream held left contents Done
 runs_done choice stream held left contents text h w = record {
-  rest = h.rest; text = w.written; left_is = h.left_is; contents_are = w.contents_are;
-  answers = (h.comes.0, ap (outcome choice) (whole_stream stream h.taken h.rest h.split h.comes.0) ∙ h.comes.1
-    ∙ ap Ok (w.split ∙ ap (λ xs. w.written ++ xs) (w.whole refl) ∙ append-nil w.written));
+  rest = h.rest;
+  text = w.written;
+  left_is = h.left_is;
+  contents_are = w.contents_are;
+  answers = (
+    h.comes.0,
+    ap (outcome choice) (whole_stream stream h.taken h.rest h.split h.comes.0) ∙ h.comes.1
+        ∙ ap Ok (w.split ∙ ap (λ xs. w.written ++ xs) (w.whole refl) ∙ append-nil w.written),
+  );
 }
 
 pub runs_unwritten : (choice : Choice) (stream held : List ℕ) (left contents : Option (List ℕ)) (text : Vec ℕ Global) → Texts choice stream left (Ok text) → Writes held text.items contents false
     → Runs (Some choice) stream held left contents (Refused fault.WriteFailed)
 runs_unwritten choice stream held left contents text h w = record {
-  rest = h.rest; text = w.written; left_is = h.left_is; contents_are = w.contents_are;
+  rest = h.rest;
+  text = w.written;
+  left_is = h.left_is;
+  contents_are = w.contents_are;
   answers = record {
-    missing = w.left; whole = h.comes.0;
+    missing = w.left;
+    whole = h.comes.0;
     text_is = ap (outcome choice) (whole_stream stream h.taken h.rest h.split h.comes.0) ∙ h.comes.1 ∙ ap Ok w.split;
   };
 }

@@ -38,9 +38,9 @@ narrowed_up units start low high middle u line h below is less = record {
   in_order = (omega arith, h.in_order.1);
   earlier = λ k d l. elim (cases_lt k middle) [
     | inl lt ↦ let rises = line.rising k middle d lt (omega (arith, h.in_order)) in
-      let same : (slice_index_or units middle d).facts.start ≡ u.facts.start = ap (λ (v : KeptUnit). v.facts.start) (get_or_default units middle d u (omega (arith, h.in_order)) ∙ sym is) in omega arith
+        let same : (slice_index_or units middle d).facts.start ≡ u.facts.start = ap (λ (v : KeptUnit). v.facts.start) (get_or_default units middle d u (omega (arith, h.in_order)) ∙ sym is) in omega arith
     | inr ge ↦ let same : k ≡ middle = omega arith in
-      let there : (slice_index_or units k d).facts.start ≡ u.facts.start = rw same (ap (λ (v : KeptUnit). v.facts.start) (get_or_default units middle d u (omega (arith, h.in_order)) ∙ sym is)) in omega arith
+        let there : (slice_index_or units k d).facts.start ≡ u.facts.start = rw same (ap (λ (v : KeptUnit). v.facts.start) (get_or_default units middle d u (omega (arith, h.in_order)) ∙ sym is)) in omega arith
   ];
   later = h.later;
 }
@@ -52,18 +52,18 @@ narrowed_down units start low high middle u line h above below is more = record 
   earlier = h.earlier;
   later = λ k d ge l. elim (cases_lt middle k) [
     | inl lt ↦ let rises = line.rising middle k d lt l in
-      let same : (slice_index_or units middle d).facts.start ≡ u.facts.start = ap (λ (v : KeptUnit). v.facts.start) (get_or_default units middle d u (omega (arith, h.in_order)) ∙ sym is) in omega arith
+        let same : (slice_index_or units middle d).facts.start ≡ u.facts.start = ap (λ (v : KeptUnit). v.facts.start) (get_or_default units middle d u (omega (arith, h.in_order)) ∙ sym is) in omega arith
     | inr le ↦ let same : k ≡ middle = omega arith in
-      let there : (slice_index_or units k d).facts.start ≡ u.facts.start = rw same (ap (λ (v : KeptUnit). v.facts.start) (get_or_default units middle d u (omega (arith, h.in_order)) ∙ sym is)) in omega arith
+        let there : (slice_index_or units k d).facts.start ≡ u.facts.start = rw same (ap (λ (v : KeptUnit). v.facts.start) (get_or_default units middle d u (omega (arith, h.in_order)) ∙ sym is)) in omega arith
   ];
 }
 
 pub kept_here : (units : List KeptUnit) (start i : ℕ) (u : KeptUnit) → IsTimeline units → i < length units → u ≡ slice_index_or units i u → u.facts.start ≡ start → kept_at start units ≡ Some u
 kept_here units start i u line below is hit =
     find_first (λ (v : KeptUnit). v.facts.start == start) units i u below (rw (← is) (eq-eqb _ _ hit)) (λ k l.
-      let rises = line.rising k i u l below in
-      let same : (slice_index_or units i u).facts.start ≡ start = ap (λ (v : KeptUnit). v.facts.start) (sym is) ∙ hit in
-      ne_eqb _ _ (λ e. absurd (omega arith)))
+    let rises = line.rising k i u l below in
+    let same : (slice_index_or units i u).facts.start ≡ start = ap (λ (v : KeptUnit). v.facts.start) (sym is) ∙ hit in
+    ne_eqb _ _ (λ e. absurd (omega arith)))
     ∙ ap Some (sym is)
 
 pub kept_nowhere : (units : List KeptUnit) (start low high : ℕ) → IsNarrowed units start low high → high ≤ low → kept_at start units ≡ None

@@ -55,11 +55,13 @@ offset_rises_more init_len units j k line lt below =
     omega (arith, more, rises, bounded.len_is, bounded.some_bytes)
 
 pub offsets_rise : (init_len : ℕ) (units : List KeptUnit) (found : List CutPlace) → All (IsPlaced init_len units) found → OffsetsRise found
-offsets_rise init_len units found all = record { rise = λ i j d a b le.
-  let p = all i d a in
-  let q = all j d b in
-  let rises = offset_rises init_len units (slice_index_or found i d).spot.fragment (slice_index_or found j d).spot.fragment le in
-  omega (arith, rises, p.offset_is, q.offset_is) }
+offsets_rise init_len units found all = record {
+  rise = λ i j d a b le.
+      let p = all i d a in
+      let q = all j d b in
+      let rises = offset_rises init_len units (slice_index_or found i d).spot.fragment (slice_index_or found j d).spot.fragment le in
+      omega (arith, rises, p.offset_is, q.offset_is);
+}
 
 -- ---- segments
 
@@ -104,12 +106,12 @@ made uri i p q from to = record {
 pub segments_are : (uri : List ℕ) (init_len : ℕ) (units : List KeptUnit) (found : List CutPlace) (n : ℕ) → All (IsPlaced init_len units) found → n < length found
     → placed_segments uri found n ≡ map (segment_at uri init_len units (spots_in found)) (range_with_len 0 n)
 segments_are uri init_len units found n all below = map_same (placed_segment_at uri found) (segment_at uri init_len units (spots_in found)) 0 n (λ i ge lt.
-  let p = all i no_place (omega arith) in
-  let q = all (i + 1) no_place (omega arith) in
-  let from : (slice_index_or found i no_place).spot ≡ spot (spots_in found) i = sym (spot_is found i no_place (omega arith)) in
-  let to : (slice_index_or found (i + 1) no_place).spot ≡ spot (spots_in found) (i + 1) = sym (spot_is found (i + 1) no_place (omega arith)) in
-  ap₂ (λ (a b : Spot). made uri i a b (slice_index_or found i no_place).offset (slice_index_or found (i + 1) no_place).offset) from to
-  ∙ ap₂ (λ (a b : ℕ). made uri i (spot (spots_in found) i) (spot (spots_in found) (i + 1)) a b) (p.offset_is ∙ ap (λ (s : Spot). offset_of init_len units s.fragment) from) (q.offset_is ∙ ap (λ (s : Spot). offset_of init_len units s.fragment) to))
+    let p = all i no_place (omega arith) in
+    let q = all (i + 1) no_place (omega arith) in
+    let from : (slice_index_or found i no_place).spot ≡ spot (spots_in found) i = sym (spot_is found i no_place (omega arith)) in
+    let to : (slice_index_or found (i + 1) no_place).spot ≡ spot (spots_in found) (i + 1) = sym (spot_is found (i + 1) no_place (omega arith)) in
+    ap₂ (λ (a b : Spot). made uri i a b (slice_index_or found i no_place).offset (slice_index_or found (i + 1) no_place).offset) from to
+    ∙ ap₂ (λ (a b : ℕ). made uri i (spot (spots_in found) i) (spot (spots_in found) (i + 1)) a b) (p.offset_is ∙ ap (λ (s : Spot). offset_of init_len units s.fragment) from) (q.offset_is ∙ ap (λ (s : Spot). offset_of init_len units s.fragment) to))
 
 good_segment : (uri : List ℕ) (init_len target : ℕ) (units : List KeptUnit) (found : List CutPlace) (k : ℕ) → All (IsPlaced init_len units) found → IsTimeline units → k + 1 < length found
     → target ≤ 3600 → init_len + units_len units < 10 ^ 15 → refuses target found k ≡ false → IsSegment uri (placed_segment_at uri found k)

@@ -81,15 +81,15 @@ timeline_push units u line bounded later =
     let len : length (units ++ u ∷ []) ≡ length units + 1 = length-append units (u ∷ []) in record {
       rising = λ i j d lt below. elim (cases_lt j (length units)) [
         | inl inside ↦
-          let a : slice_index_or (units ++ u ∷ []) i d ≡ slice_index_or units i d = get_or_append_left units (u ∷ []) d i (omega arith) in
-          let b : slice_index_or (units ++ u ∷ []) j d ≡ slice_index_or units j d = get_or_append_left units (u ∷ []) d j inside in
-          rw (a, b) (line.rising i j d lt inside)
+            let a : slice_index_or (units ++ u ∷ []) i d ≡ slice_index_or units i d = get_or_append_left units (u ∷ []) d i (omega arith) in
+            let b : slice_index_or (units ++ u ∷ []) j d ≡ slice_index_or units j d = get_or_append_left units (u ∷ []) d j inside in
+            rw (a, b) (line.rising i j d lt inside)
         | inr past ↦
-          let at : j ≡ length units = omega (arith, len) in
-          let a : slice_index_or (units ++ u ∷ []) i d ≡ slice_index_or units i d = get_or_append_left units (u ∷ []) d i (omega arith) in
-          let b : slice_index_or (units ++ u ∷ []) j d ≡ u = ap (λ n. slice_index_or (units ++ u ∷ []) n d) at ∙ get_or-append_seam units u [] d in
-          let before = (line.bounded i d (omega arith)).before in
-          rw (a, b) (omega (arith, before))
+            let at : j ≡ length units = omega (arith, len) in
+            let a : slice_index_or (units ++ u ∷ []) i d ≡ slice_index_or units i d = get_or_append_left units (u ∷ []) d i (omega arith) in
+            let b : slice_index_or (units ++ u ∷ []) j d ≡ u = ap (λ n. slice_index_or (units ++ u ∷ []) n d) at ∙ get_or-append_seam units u [] d in
+            let before = (line.bounded i d (omega arith)).before in
+            rw (a, b) (omega (arith, before))
       ];
       bounded = rw end_is (All-append (IsBefore (end_of u.facts)) units (u ∷ []) (before_later units (last_end units) (end_of u.facts) (omega arith) line.bounded) (All-one u (record { bounded = bounded; before = omega arith })));
     }

@@ -1,5 +1,7 @@
 //! The command `cut`: a recorded stream in, its playlist out.
 
+#[cfg(test)]
+mod fakes;
 pub mod fault;
 pub mod gather;
 pub mod kept;
@@ -8,10 +10,7 @@ pub mod options;
 pub mod places;
 pub mod recorder;
 pub mod run;
-pub mod units;
-pub mod write;
-
-#[cfg(test)]
-mod fakes;
 #[cfg(test)]
 mod tests;
+pub mod units;
+pub mod write;

@@ -12,9 +12,8 @@ mod number;
 use crate::counted::Counted;
 use crate::cut::fault::CutFault;
 use crate::cut::run::{CutEnd, run_cut};
-use std::env;
-use std::io;
 use std::process::ExitCode;
+use std::{env, io};
 
 const USAGE: &str = "usage: hls_origin [cut [--each] [--target N] [--uri TEXT]] < STREAM > PLAYLIST
   --each        one segment for each place where the stream may be cut (the default)

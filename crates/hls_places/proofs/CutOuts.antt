@@ -20,5 +20,5 @@ pub cut_out-is : {X : Type 0} (f : X → Place) (xs : List X) (d : X) (target pr
 cut_out-is f xs d target preferred from to renditions spots some count spots_are =
     let first = first-count f xs d some in
     let range : map f (take (to + 1 - from) (drop from xs)) ≡ slice_range (map f xs) from (to + 1) =
-        sym (ap (take (to + 1 - from)) (drop-map f from xs) ∙ take-map f (to + 1 - from) (drop from xs)) in
+    sym (ap (take (to + 1 - from)) (drop-map f from xs) ∙ take-map f (to + 1 - from) (drop from xs)) in
     rw (count, first, spots_are, range) refl

@@ -21,9 +21,10 @@ timeline-of r valid =
     let line = units_are_in_time r valid in
     let fs : List Facts = r.facts in
     record {
-        lasts = λ k h. line.forward k (fact_at fs k) (there fs k h);
-        follows = λ k h. line.follows k (fact_at fs k) (fact_at fs (k + 1)) (there fs k (omega arith)) (there fs (k + 1) h);
-        small = λ k h. line.small k (fact_at fs k) (there fs k h) }
+      lasts = λ k h. line.forward k (fact_at fs k) (there fs k h);
+      follows = λ k h. line.follows k (fact_at fs k) (fact_at fs (k + 1)) (there fs k (omega arith)) (there fs (k + 1) h);
+      small = λ k h. line.small k (fact_at fs k) (there fs k h);
+    }
 
 -- so the common places of renditions side by side are in order
 pub places-in_order : {X : Type 0} (f : X → List Facts) (xs : List X) (tolerances : List ℕ) (finished : List Bool) →
@@ -34,8 +35,9 @@ places-in_order f xs tolerances finished some few same also exact order =
     let count = length-sides f xs tolerances finished same also sources refl in
     let first = side-of f xs tolerances finished same also sources refl 0 in
     ordered-places (length sources) (places_of sources) (omega (arith, count, some)) (omega (arith, count, few))
-        (places-ordered sources (record {
-            some = omega (arith, count, some);
-            few = omega (arith, count, few);
-            exact = first.tolerance_is ∙ exact;
-            timelines = order }))
+    (places-ordered sources (record {
+      some = omega (arith, count, some);
+      few = omega (arith, count, few);
+      exact = first.tolerance_is ∙ exact;
+      timelines = order;
+    }))

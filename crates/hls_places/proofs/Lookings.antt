@@ -1,19 +1,18 @@
 -- What looking at one fragment of rendition 0 shows.
-use Rattle.std.proofs.Common.{◌≡◌, ℕ, ◌+◌, ◌-◌, ◌<◌, ◌≤◌, ◌⊎◌, List, [], ◌∷◌, ◌++◌, length, drop, Option, Some, None, Bool, true, false, arith, refl, sym, ap, subst, inl, inr, ◌∙◌}
+use Rattle.std.proofs.Common.{◌≡◌, ℕ, ◌+◌, ◌-◌, ◌<◌, List, [], ◌∷◌, ◌++◌, length, Some, None, true, arith, refl, sym, ap, subst, inl, inr, ◌∙◌}
 use Rattle.std.proofs.lemmas.List.{append-nil}
 use Rattle.std.specs.Prelude.{option_map}
-use Rattle.std.specs.Option.{option_to_list}
 use Rattle.std.proofs.lemmas.Bool.{cases_lt, cond-true}
 use Rattle.hls_media_laws.specs.declared.facts.Facts.{Facts}
 use Rattle.hls_check_laws.specs.declared.spot.Spot.{Spot}
 use Rattle.hls_places_laws.specs.declared.mark.Mark.{Mark}
 use Rattle.hls_places_laws.specs.declared.place.Place.{Place}
 use Rattle.hls_places_laws.specs.Sources.{Source, fact_at, source_at, first_facts, IsTimeline}
-use Rattle.hls_places_laws.specs.Spots.{is_entry, first_entry}
+use Rattle.hls_places_laws.specs.Spots.{first_entry}
 use Rattle.hls_places_laws.specs.Places.{spots, place_of, place_at}
-use Rattle.hls_places_laws.specs.Positions.{Position, mark_at, IsAsked, IsMark, IsDecided, IsCursor, IsThrough}
+use Rattle.hls_places_laws.specs.Positions.{IsAsked, IsDecided, IsCursor}
 use Rattle.hls_places_laws.proofs.Search.{starts-never_fall, before_entry, entry-later, none-left}
-use Rattle.hls_places.specs.Searches.{IsAtEntry, AreEarly, AreAtEntries, AllSettled, IsUnsettled}
+use Rattle.hls_places.specs.Searches.{AreEarly, AreAtEntries, AllSettled, IsUnsettled}
 use Rattle.hls_places.specs.Decisions.{IsToldOf, IsLeftAt}
 
 -- what is known when fragment `done`, with the facts f, is looked at
@@ -31,51 +30,53 @@ pub marks-early : (sources : List Source) (done : ℕ) (marks : List Mark) (f : 
     AreEarly f.start_us sources marks
 marks-early sources done marks f looking r within j before =
     rw looking.facts_are ((looking.cursor.marks r within).passed (fact_at (first_facts sources) done).start_us j
-        (asked-here (first_facts sources) done looking.order looking.more) before)
+    (asked-here (first_facts sources) done looking.order looking.more) before)
 
 -- marks that were moved to the first entries are marks
 pub cursor-sought : (sources : List Source) (done : ℕ) (marks moved : List Mark) (f : Facts) →
     IsLooking sources done marks f → length moved ≡ length sources → AreAtEntries f.start_us sources moved →
     IsCursor (record { done = done; marks = moved }) sources
 cursor-sought sources done marks moved f looking count found = record {
-    count = count;
-    within = looking.cursor.within;
-    decided = looking.cursor.decided;
-    marks = λ r within.
-        let at = found r within in
-        let low : ℕ = f.start_us - (source_at sources r).tolerance in
-        record {
-            within = at.run.within;
-            runs = at.run.runs;
-            passed = λ t j asked before.
-                let start : f.start_us ≡ (fact_at (first_facts sources) done).start_us =
-                    ap (λ (x : Facts). x.start_us) looking.facts_are in
-                let here = asked done (omega arith) looking.more in
-                entry-later low (t - (source_at sources r).tolerance) (fact_at (source_at sources r).facts j)
-                    (omega (arith, start, here))
-                    (before_entry low (source_at sources r).facts j (omega (arith, at.found, before)))
-        } }
+  count = count;
+  within = looking.cursor.within;
+  decided = looking.cursor.decided;
+  marks = λ r within.
+      let at = found r within in
+      let low : ℕ = f.start_us - (source_at sources r).tolerance in
+      record {
+        within = at.run.within;
+        runs = at.run.runs;
+        passed = λ t j asked before.
+            let start : f.start_us ≡ (fact_at (first_facts sources) done).start_us =
+            ap (λ (x : Facts). x.start_us) looking.facts_are in
+            let here = asked done (omega arith) looking.more in
+            entry-later low (t - (source_at sources r).tolerance) (fact_at (source_at sources r).facts j)
+            (omega (arith, start, here))
+            (before_entry low (source_at sources r).facts j (omega (arith, at.found, before)));
+      };
+}
 
 -- a decided fragment is passed
 pub cursor-next : (sources : List Source) (done : ℕ) (marks : List Mark) → IsCursor (record { done = done; marks = marks }) sources →
     done < length (first_facts sources) → IsDecided sources done → IsCursor (record { done = done + 1; marks = marks }) sources
 cursor-next sources done marks cursor more decided = record {
-    count = cursor.count;
-    within = omega arith;
-    decided = λ i before. elim (cases_lt i done) [
-      inl earlier ↦ cursor.decided i earlier
+  count = cursor.count;
+  within = omega arith;
+  decided = λ i before. elim (cases_lt i done) [
+    | inl earlier ↦ cursor.decided i earlier
     | inr at_end ↦
         let same : done ≡ i = omega arith in
         let P : ℕ → Type 0 = λ x. IsDecided sources x in
         subst P same decided
-    ];
-    marks = λ r within.
-        let mark = cursor.marks r within in
-        record {
-            within = mark.within;
-            runs = mark.runs;
-            passed = λ t j asked before. mark.passed t j (λ i below inside. asked i (omega arith) inside) before
-        } }
+  ];
+  marks = λ r within.
+      let mark = cursor.marks r within in
+      record {
+        within = mark.within;
+        runs = mark.runs;
+        passed = λ t j asked before. mark.passed t j (λ i below inside. asked i (omega arith) inside) before;
+      };
+}
 
 -- where each rendition is settled, the fragment is decided
 pub decided-settled : (sources : List Source) (done : ℕ) (marks moved : List Mark) (f : Facts) →
@@ -83,10 +84,10 @@ pub decided-settled : (sources : List Source) (done : ℕ) (marks moved : List M
 decided-settled sources done marks moved f looking found settled sync r within =
     let at = found r within in
     let start : f.start_us ≡ (fact_at (first_facts sources) done).start_us =
-        ap (λ (x : Facts). x.start_us) looking.facts_are in
+    ap (λ (x : Facts). x.start_us) looking.facts_are in
     elim (settled r within) [
-      inl over ↦ inl over
-    | inr here ↦ inr (rw (← start) (omega (arith, at.found, here)))
+      | inl over ↦ inl over
+      | inr here ↦ inr (rw (← start) (omega (arith, at.found, here)))
     ]
 
 pub left-at : (sources : List Source) (done r : ℕ) (marks moved : List Mark) (f : Facts) (places : List Place) →
@@ -95,32 +96,35 @@ pub left-at : (sources : List Source) (done r : ℕ) (marks moved : List Mark) (
 left-at sources done r marks moved f places looking count found unsettled =
     let at = found r unsettled.within in
     let start : f.start_us ≡ (fact_at (first_facts sources) done).start_us =
-        ap (λ (x : Facts). x.start_us) looking.facts_are in
+    ap (λ (x : Facts). x.start_us) looking.facts_are in
     let none : first_entry (f.start_us - (source_at sources r).tolerance) (source_at sources r).facts
-            ≡ length (source_at sources r).facts = omega (arith, at.found, unsettled.over) in
+    ≡ length (source_at sources r).facts = omega (arith, at.found, unsettled.over) in
     record {
-        places = refl;
-        cursor = cursor-sought sources done marks moved f looking count found;
-        through = none-left sources done r looking.order unsettled.within (rw start at none) }
+      places = refl;
+      cursor = cursor-sought sources done marks moved f looking count found;
+      through = none-left sources done r looking.order unsettled.within (rw start at none);
+    }
 
 pub told-some : (sources : List Source) (done : ℕ) (marks moved : List Mark) (f : Facts) (found : List Spot) (before after : List Place) →
     IsLooking sources done marks f → length moved ≡ length sources → AreAtEntries f.start_us sources moved →
     AllSettled sources moved → f.sync ≡ true → spots sources f.start_us ≡ Some found → after ≡ before ++ place_of found ∷ [] →
     IsToldOf sources done moved before after
 told-some sources done marks moved f found before after looking count entries settled sync is after_is = record {
-    places =
-        let place : place_at sources f ≡ Some (place_of found) =
-            cond-true f.sync _ _ sync ∙ ap (option_map place_of) is in
-        rw (← looking.facts_are, place) after_is;
-    cursor = cursor-next sources done moved (cursor-sought sources done marks moved f looking count entries) looking.more
-        (decided-settled sources done marks moved f looking entries settled) }
+  places =
+      let place : place_at sources f ≡ Some (place_of found) =
+      cond-true f.sync _ _ sync ∙ ap (option_map place_of) is in
+      rw (← looking.facts_are, place) after_is;
+  cursor = cursor-next sources done moved (cursor-sought sources done marks moved f looking count entries) looking.more
+      (decided-settled sources done marks moved f looking entries settled);
+}
 
 pub told-none : (sources : List Source) (done : ℕ) (marks moved : List Mark) (f : Facts) (places : List Place) →
     IsLooking sources done marks f → length moved ≡ length sources → AreAtEntries f.start_us sources moved →
     AllSettled sources moved → f.sync ≡ true → spots sources f.start_us ≡ None → IsToldOf sources done moved places places
 told-none sources done marks moved f places looking count entries settled sync is = record {
-    places =
-        let place : place_at sources f ≡ None = cond-true f.sync _ _ sync ∙ ap (option_map place_of) is in
-        rw (← looking.facts_are, place) (sym (append-nil places));
-    cursor = cursor-next sources done moved (cursor-sought sources done marks moved f looking count entries) looking.more
-        (decided-settled sources done marks moved f looking entries settled) }
+  places =
+      let place : place_at sources f ≡ None = cond-true f.sync _ _ sync ∙ ap (option_map place_of) is in
+      rw (← looking.facts_are, place) (sym (append-nil places));
+  cursor = cursor-next sources done moved (cursor-sought sources done marks moved f looking count entries) looking.more
+      (decided-settled sources done marks moved f looking entries settled);
+}

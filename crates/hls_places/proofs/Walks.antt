@@ -1,5 +1,5 @@
 -- Walking along rendition 0, and the cursor before all.
-use Rattle.std.proofs.Common.{◌≡◌, ℕ, zero, suc, ◌+◌, ◌-◌, ◌<◌, ◌≤◌, List, [], ◌∷◌, ◌++◌, length, take, drop, get_or, replicate, Option, Some, None, Bool, true, false, arith, refl, sym, ap, subst, ◌∙◌}
+use Rattle.std.proofs.Common.{◌≡◌, ℕ, suc, ◌+◌, ◌<◌, List, [], ◌++◌, length, take, drop, replicate, Option, Some, None, Bool, true, false, arith, refl, ◌∙◌}
 use Rattle.std.specs.List.{filter_map, cons_option}
 use Rattle.std.specs.Option.{option_to_list}
 use Rattle.std.proofs.Math.Seq.{drop-cons}
@@ -7,9 +7,9 @@ use Rattle.std.proofs.lemmas.List.{append-nil, append_assoc, take_all, drop_all,
 use Rattle.hls_media_laws.specs.declared.facts.Facts.{Facts}
 use Rattle.hls_places_laws.specs.declared.mark.Mark.{Mark}
 use Rattle.hls_places_laws.specs.declared.place.Place.{Place}
-use Rattle.hls_places_laws.specs.Sources.{Source, fact_at, no_facts, source_at, first_facts}
+use Rattle.hls_places_laws.specs.Sources.{Source, fact_at, no_facts, first_facts}
 use Rattle.hls_places_laws.specs.Places.{place_at}
-use Rattle.hls_places_laws.specs.Positions.{Position, no_mark, mark_at, first_position, IsMark, IsCursor}
+use Rattle.hls_places_laws.specs.Positions.{no_mark, mark_at, first_position, IsCursor}
 use Rattle.hls_places.specs.Decisions.{HasDecided, IsToldOf, IsLeftAt}
 
 pub was-told : (sources : List Source) (done : ℕ) (marks : List Mark) (before after : List Place) (told : Bool) →
@@ -40,9 +40,9 @@ pub walk-on : (sources : List Source) (done : ℕ) (marks : List Mark) (before a
 walk-on sources done marks before after whole more told so_far =
     let step = filter_map-step (place_at sources) (first_facts sources) done more in
     rw told.places
-        (append_assoc before (option_to_list (place_at sources (fact_at (first_facts sources) done)))
-            (filter_map (place_at sources) (drop (done + 1) (first_facts sources)))
-            ∙ (rw (← step) so_far))
+    (append_assoc before (option_to_list (place_at sources (fact_at (first_facts sources) done)))
+    (filter_map (place_at sources) (drop (done + 1) (first_facts sources)))
+    ∙ (rw (← step) so_far))
 
 -- what a slice of a vector wrote back
 pub written-back : (len : ℕ) (items new : List Mark) → length items ≡ len → length new ≡ len →
@@ -53,9 +53,10 @@ written-back len items new same also =
 
 pub first-cursor : (n : ℕ) (sources : List Source) → n ≡ length sources → IsCursor (first_position n) sources
 first-cursor n sources count = record {
-    count = length-replicate n no_mark ∙ count;
-    within = omega arith;
-    decided = λ i before. absurd (omega arith);
-    marks = λ r within.
-        let fresh : mark_at (replicate n no_mark) r ≡ no_mark = get_or-replicate n r no_mark no_mark (omega (arith, count)) in
-        rw fresh (record { within = omega arith; runs = refl; passed = λ t j asked before. absurd (omega arith) }) }
+  count = length-replicate n no_mark ∙ count;
+  within = omega arith;
+  decided = λ i before. absurd (omega arith);
+  marks = λ r within.
+      let fresh : mark_at (replicate n no_mark) r ≡ no_mark = get_or-replicate n r no_mark no_mark (omega (arith, count)) in
+      rw fresh (record { within = omega arith; runs = refl; passed = λ t j asked before. absurd (omega arith) });
+}

@@ -37,7 +37,11 @@ fn end_spots(renditions: &Renditions, alloc: Global, marks: &[Mark]) -> Result<S
 }
 
 /// The place after all fragments, once every rendition is over.
-pub(crate) fn closing(renditions: &Renditions, alloc: Global, marks: &[Mark]) -> Result<Option<Place>, AllocError>
+pub(crate) fn closing(
+    renditions: &Renditions,
+    alloc: Global,
+    marks: &[Mark],
+) -> Result<Option<Place>, AllocError>
     requires count { length marks.now ≡ length renditions.now }
     requires runs { AreRunsAt renditions.now marks.now }
     ensures { IfOk result (λ place. option_to_list place ≡ closing_of renditions.now) }
@@ -46,5 +50,8 @@ pub(crate) fn closing(renditions: &Renditions, alloc: Global, marks: &[Mark]) ->
         return Ok(None);
     }
     let spots = end_spots(renditions, alloc, marks)?;
-    Ok(Some(Place { spots, closing: true }))
+    Ok(Some(Place {
+        spots,
+        closing: true,
+    }))
 }

@@ -60,10 +60,8 @@ impl Cursor {
         requires tolerances { length tolerances.now ≡ length recordings.now }
         requires finished { length finished.now ≡ length recordings.now }
         requires cursor { IsCursor self.now (sources_of (map (λ r. r.now.facts) recordings.now) tolerances.now finished.now) }
-        ensures {
-            IfOk result
-                (IsAdvance (sources_of (map (λ r. r.now.facts) recordings.now) tolerances.now finished.now) self.now.done)
-        }
+        ensures { IfOk result
+            (IsAdvance (sources_of (map (λ r. r.now.facts) recordings.now) tolerances.now finished.now) self.now.done) }
     {
         let renditions = Renditions::new(recordings, tolerances, finished);
         let marks = Vec::from_slice(alloc, self.marks.as_slice())?;
@@ -76,7 +74,12 @@ impl Cursor {
 }
 
 // The common places of rendition 0's fragments from number `start` on.
-fn walk(renditions: &Renditions, alloc: Global, start: u64, marks: Vec<Mark>) -> Result<Advance, AllocError>
+fn walk(
+    renditions: &Renditions,
+    alloc: Global,
+    start: u64,
+    marks: Vec<Mark>,
+) -> Result<Advance, AllocError>
     requires some { 1 ≤ length renditions.now }
     requires cursor { IsCursor (record { done = start; marks = marks.items }) renditions.now }
     ensures { IfOk result (IsWalk renditions.now start) }

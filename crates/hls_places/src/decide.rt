@@ -33,7 +33,10 @@ pub(crate) fn decide(
         return Ok(false);
     }
     if let Some(spots) = marks::spots(renditions, alloc, facts.start_us, marks)? {
-        places.push(Place { spots, closing: false })?;
+        places.push(Place {
+            spots,
+            closing: false,
+        })?;
     }
     Ok(true)
 }

@@ -19,6 +19,5 @@ mod programmes;
 mod renditions;
 mod search;
 mod steps;
-
 #[cfg(test)]
 mod tests;

@@ -50,7 +50,12 @@ pub(crate) fn spots(
 {
     let mut spots = Vec::new(alloc);
     for r in 0..marks.len() {
-        match search::near(renditions.recording(r), renditions.tolerance(r), time, marks[r]) {
+        match search::near(
+            renditions.recording(r),
+            renditions.tolerance(r),
+            time,
+            marks[r],
+        ) {
             Some(spot) => spots.push(spot)?,
             None => return Ok(None),
         }

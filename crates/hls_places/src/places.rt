@@ -23,10 +23,8 @@ pub fn common(
     requires tolerances { length tolerances.now ≡ length recordings.now }
     requires finished { length finished.now ≡ length recordings.now }
     requires exact { slice_index tolerances.now 0 ≡ 0 }
-    ensures value {
-        IfOk result (λ places. places.items
-            ≡ places_of (sources_of (map (λ r. r.now.facts) recordings.now) tolerances.now finished.now))
-    }
+    ensures value { IfOk result (λ places. places.items
+        ≡ places_of (sources_of (map (λ r. r.now.facts) recordings.now) tolerances.now finished.now)) }
     ensures order { IfOk result (λ places. ArePlaces places.items) }
 {
     Renditions::new(recordings, tolerances, finished).look_at_order();

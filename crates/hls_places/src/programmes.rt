@@ -35,7 +35,11 @@ pub fn programme(
     }
     let to = first_from(places, stop_us);
     if places.len() <= to {
-        return Err(if finished { ProgrammeFault::AfterRecording } else { ProgrammeFault::NotYet });
+        return Err(if finished {
+            ProgrammeFault::AfterRecording
+        } else {
+            ProgrammeFault::NotYet
+        });
     }
     let from = after - 1;
     if PLACE_LIMIT < to + 1 - from {

@@ -21,20 +21,26 @@ impl<'a> Model for Renditions<'a> {
 
     ghost view = { λ r. sources_of (map (λ x. x.now.facts) r.recordings.now) r.tolerances.now r.finished.now };
 
-    ghost invariant = {
-        λ r. (length r.tolerances.now ≡ length r.recordings.now) × (length r.finished.now ≡ length r.recordings.now)
-            × (length r.recordings.now ≤ 16)
-    };
+    ghost invariant = { λ r. (length r.tolerances.now ≡ length r.recordings.now) × (length r.finished.now ≡ length r.recordings.now)
+        × (length r.recordings.now ≤ 16) };
 }
 
 impl<'a> Renditions<'a> {
-    pub(crate) fn new(recordings: &'a [&'a Recording], tolerances: &'a [u64], finished: &'a [bool]) -> Renditions<'a>
+    pub(crate) fn new(
+        recordings: &'a [&'a Recording],
+        tolerances: &'a [u64],
+        finished: &'a [bool],
+    ) -> Renditions<'a>
         requires tolerances { length tolerances.now ≡ length recordings.now }
         requires finished { length finished.now ≡ length recordings.now }
         requires few { length recordings.now ≤ 16 }
         ensures { result ≡ sources_of (map (λ r. r.now.facts) recordings.now) tolerances.now finished.now }
     {
-        Renditions { recordings, tolerances, finished }
+        Renditions {
+            recordings,
+            tolerances,
+            finished,
+        }
     }
 
     pub(crate) fn len(&self) -> usize

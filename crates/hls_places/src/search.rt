@@ -37,14 +37,22 @@ fn gap_before(recording: &Recording, k: u64) -> u64
     if k == 0 {
         return 0;
     }
-    if is_apart(fact(recording, k - 1), fact(recording, k)) { 1 } else { 0 }
+    if is_apart(fact(recording, k - 1), fact(recording, k)) {
+        1
+    } else {
+        0
+    }
 }
 
 fn prev_end(recording: &Recording, k: u64) -> u64
     requires { k < length recording.now.facts }
     ensures { result ≡ prev_end recording.now.facts k }
 {
-    if k == 0 { fact(recording, 0).start_us } else { fact(recording, k - 1).end_us }
+    if k == 0 {
+        fact(recording, 0).start_us
+    } else {
+        fact(recording, k - 1).end_us
+    }
 }
 
 fn is_entry(low: u64, facts: Facts) -> bool

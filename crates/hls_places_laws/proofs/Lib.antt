@@ -8,3 +8,4 @@ pub mod Sorted
 pub mod Ordered
 pub mod Tables
 pub mod Growths
+mod Examples

@@ -1,5 +1,5 @@
 -- The order of a list of common places.
-use Rattle.std.specs.Prelude.{◌≡◌, ℕ, ◌+◌, ◌<◌, ◌≤◌, false, List, [], length, map, slice_index_or, All}
+use Rattle.std.specs.Prelude.{ℕ, ◌<◌, ◌≤◌, false, List, [], length, map, All}
 use Rattle.std.specs.List.{AllPairs}
 use Rattle.hls_check_laws.specs.declared.spot.Spot.{Spot}
 use Rattle.hls_check_laws.specs.Tables.{IsPlaceOf, spot_in, place_at, table_of}

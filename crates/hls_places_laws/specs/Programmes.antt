@@ -1,5 +1,5 @@
 -- The table that a programme is cut from.
-use Rattle.std.specs.Prelude.{◌≡◌, ℕ, ◌+◌, ◌-◌, ◌==◌, Bool, true, nat_lt, nat_le, if◌then◌else◌, List, [], ◌∷◌, ◌&&◌, length, Result, Ok, Err, is_ok, IsOk}
+use Rattle.std.specs.Prelude.{◌≡◌, ℕ, ◌+◌, ◌-◌, ◌==◌, Bool, true, nat_lt, nat_le, if◌then◌else◌, List, [], ◌∷◌, ◌&&◌, length, Result, Ok, Err, is_ok}
 use Rattle.std.specs.List.{filter, position_or_len, slice_range}
 use Rattle.hls_check_laws.specs.declared.spot.Spot.{Spot}
 use Rattle.hls_check_laws.specs.Tables.{Table, table_of}

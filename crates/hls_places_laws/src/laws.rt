@@ -5,12 +5,10 @@ ghost use Rattle.hls_places_laws.specs.Order.{PlacesAreOrdered};
 /// that the last search has left.
 pub fn places_grow()
     ensures { PlacesGrow }
-{
-}
+{}
 
 /// Common places are in order: a later one is later in rendition 0, and in no rendition at an earlier
 /// fragment, end or gap count.
 pub fn places_are_ordered()
     ensures { PlacesAreOrdered }
-{
-}
+{}

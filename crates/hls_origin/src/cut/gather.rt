@@ -40,7 +40,12 @@ fn drain(alloc: Global, reader: &mut UnitReader, recorder: &mut Recorder) -> Res
 }
 
 /// Takes in the next piece of the stream, up to the first refusal.
-fn take_in(alloc: Global, reader: &mut UnitReader, recorder: &mut Recorder, piece: &[u8]) -> Result<(), CutFault>
+fn take_in(
+    alloc: Global,
+    reader: &mut UnitReader,
+    recorder: &mut Recorder,
+    piece: &[u8],
+) -> Result<(), CutFault>
     requires { text_fault reader.old ≡ None }
     ensures told { Told result }
     ensures takes_in { (taken : List ℕ) → Reached taken reader.old recorder.old → TakesIn taken piece.now reader.new recorder.new result }
@@ -95,7 +100,11 @@ fn read_parts<R: Read>(
 
 /// Reads a whole stream and records its parts. At the end `Truncated` is refused; every other
 /// refusal is the first in the stream.
-pub fn gather<R: Read>(alloc: Global, input: &mut Counted<R>, recorder: &mut Recorder) -> Result<(), CutFault>
+pub fn gather<R: Read>(
+    alloc: Global,
+    input: &mut Counted<R>,
+    recorder: &mut Recorder,
+) -> Result<(), CutFault>
     requires { recorder.old ≡ nothing }
     ensures gathers { (stream : List ℕ) → R.remaining (inside_of input.old) ≡ Some stream
         → Gathers stream (R.remaining (inside_of input.new)) recorder.new result }

@@ -34,7 +34,12 @@ fn segment_between(uri: ByteStr, is_first: bool, from: &CutPlace, to: &CutPlace)
 
 /// The segments from each place to the next. `NotAllowed` has the number of the first place from
 /// which none may reach the next.
-fn segments(alloc: Global, target: u64, uri: &ByteStr, places: &[CutPlace]) -> Result<Vec<Segment>, CutFault>
+fn segments(
+    alloc: Global,
+    target: u64,
+    uri: &ByteStr,
+    places: &[CutPlace],
+) -> Result<Vec<Segment>, CutFault>
     requires target { target ≤ 3600 }
     requires some { 0 < length places.now }
     requires rise { OffsetsRise places.now }

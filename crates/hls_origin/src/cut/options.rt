@@ -8,8 +8,8 @@ ghost use Rattle.hls_m3u8.specs.Uri.{IsUri};
 
 use crate::number;
 use clap::error::ErrorKind;
-use hls_m3u8::is_uri;
 use clap::{Arg, ArgAction, ArgMatches, Command};
+use hls_m3u8::is_uri;
 use std::alloc::{AllocError, Global};
 use std::convert::AsStr;
 use std::marker::Model;
@@ -96,7 +96,10 @@ fn options_in<'a>(matches: &ArgMatches<'a>) -> Option<Options<'a>>
 
 /// Reads the words after `cut`. `None` is a usage fault: a word that `clap` refuses, or a value
 /// outside its range. `AllocError` comes only where memory was refused.
-pub fn read_options<'a, S: AsStr>(alloc: Global, words: &'a [S]) -> Result<Option<Options<'a>>, AllocError>
+pub fn read_options<'a, S: AsStr>(
+    alloc: Global,
+    words: &'a [S],
+) -> Result<Option<Options<'a>>, AllocError>
     ensures { IfOk result (λ options. options ≡ options_of (map S.text words.entry.now)) }
 {
     match command(alloc)?.try_get_matches_from(words) {

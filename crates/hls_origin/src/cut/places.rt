@@ -77,7 +77,11 @@ fn closing_spot(units: &[KeptUnit], runs: u64) -> Spot
 
 /// The places of a stream that has ended, in a resource that begins with `init_len` bytes: one for
 /// each sync unit, and one after all units.
-pub fn places_of(alloc: Global, init_len: u64, units: &[KeptUnit]) -> Result<Vec<CutPlace>, AllocError>
+pub fn places_of(
+    alloc: Global,
+    init_len: u64,
+    units: &[KeptUnit],
+) -> Result<Vec<CutPlace>, AllocError>
     requires timeline { IsTimeline units.now }
     requires room { init_len + units_len units.now < 2 ^ 50 }
     ensures spots { IfOk result (λ found. spots_in found.items ≡ places (facts_in units.now)) }

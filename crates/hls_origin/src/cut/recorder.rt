@@ -115,7 +115,12 @@ impl Recorder {
                 if self.units.is_full() {
                     return Err(CutFault::LedgerFull);
                 }
-                list_text(alloc, options, init.bytes.len() as u64, self.units.as_slice())
+                list_text(
+                    alloc,
+                    options,
+                    init.bytes.len() as u64,
+                    self.units.as_slice(),
+                )
             }
         }
     }

@@ -27,7 +27,11 @@ pub enum CutEnd {
 }
 
 /// Reads a stream, and gives the text of its playlist.
-fn cut_text<R: Read>(alloc: Global, options: &Options<'_>, input: &mut Counted<R>) -> Result<Vec<u8>, CutFault>
+fn cut_text<R: Read>(
+    alloc: Global,
+    options: &Options<'_>,
+    input: &mut Counted<R>,
+) -> Result<Vec<u8>, CutFault>
     ensures texts { (stream : List ℕ) → R.remaining (inside_of input.old) ≡ Some stream
         → Texts options.now stream (R.remaining (inside_of input.new)) result }
     ensures counts { CountsReads result (failures_of input.old) (failures_of input.new) }

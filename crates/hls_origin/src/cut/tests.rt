@@ -1,8 +1,8 @@
 //! Streams of the sample builders through the whole of `cut`: its text, its end, and what is left.
 
 use crate::counted::Counted;
-use crate::cut::fault::CutFault;
 use crate::cut::fakes::{Drips, Sink};
+use crate::cut::fault::CutFault;
 use crate::cut::run::{CutEnd, run_cut};
 use hls_boxes_laws::fault::BoxFault;
 use hls_media_laws::fault::MediaFault;
@@ -86,7 +86,10 @@ fn boxed_three(
     two: &[u8],
     three: &[u8],
 ) -> Result<Vec<u8>, AllocError> {
-    let len = one.len().saturating_add(two.len()).saturating_add(three.len());
+    let len = one
+        .len()
+        .saturating_add(two.len())
+        .saturating_add(three.len());
     if len > 1000 {
         return Err(AllocError);
     }
@@ -150,7 +153,10 @@ fn usual_files(rt: HostRuntime) -> Result<(), Fail> {
     let styp = boxed(alloc, b"styp", &[b"msdh", &[0; 4], b"msdhmsix"])?;
     let (end, text) = cut(alloc, &[], &joined(alloc, &[init, &styp, unit])?, 65536);
     assert_eq!(rt; end, CutEnd::Done);
-    assert!(rt; text.as_slice().ends_with(b"1024@600\nmedia.mp4\n#EXT-X-ENDLIST\n"));
+    assert!(rt;
+        text.as_slice()
+            .ends_with(b"1024@600\nmedia.mp4\n#EXT-X-ENDLIST\n")
+    );
     let mfra = boxed(alloc, b"mfra", &[&[0; 8]])?;
     let (end, text) = cut(alloc, &[], &joined(alloc, &[&one, &mfra])?, 65536);
     assert_eq!(rt; end, CutEnd::Done);
@@ -166,12 +172,32 @@ fn refused_streams(rt: HostRuntime) -> Result<(), Fail> {
     let alloc = rt.alloc();
     refuses(&rt, alloc, &[], CutFault::NoInit);
     refuses(&rt, alloc, &stream(alloc, &[])?, CutFault::NoPlace);
-    refuses(&rt, alloc, &stream(alloc, &[sync(0, 7)])?, CutFault::NotAllowed { place: 0 });
-    refuses(&rt, alloc, &stream(alloc, &[sync(0, 4), sync(1, 4)])?, CutFault::Overlap);
-    refuses(&rt, alloc, &stream(alloc, &[sync(0, 4), sync(0, 3)])?, CutFault::Overlap);
+    refuses(
+        &rt,
+        alloc,
+        &stream(alloc, &[sync(0, 7)])?,
+        CutFault::NotAllowed { place: 0 },
+    );
+    refuses(
+        &rt,
+        alloc,
+        &stream(alloc, &[sync(0, 4), sync(1, 4)])?,
+        CutFault::Overlap,
+    );
+    refuses(
+        &rt,
+        alloc,
+        &stream(alloc, &[sync(0, 4), sync(0, 3)])?,
+        CutFault::Overlap,
+    );
     let one = stream(alloc, &[sync(0, 4)])?;
     let other = init_bytes(alloc, b"vide", 48000)?;
-    refuses(&rt, alloc, &joined(alloc, &[&one, &other])?, CutFault::InitChanged);
+    refuses(
+        &rt,
+        alloc,
+        &joined(alloc, &[&one, &other])?,
+        CutFault::InitChanged,
+    );
     let (init, unit) = one.as_slice().split_at_checked(600).ok_or("600 bytes")?;
     refuses(&rt, alloc, unit, CutFault::NoInit);
     let (moof, mdat) = unit.split_at_checked(100).ok_or("100 bytes")?;
@@ -195,7 +221,11 @@ fn refused_units(rt: HostRuntime) -> Result<(), Fail> {
         (&plain, 109, MediaFault::DataOutside),
         (&based, 116, MediaFault::BaseOffset),
     ] {
-        let trun = word_box(alloc, b"trun", &[0x701, 1, offset, 360000, 892, 0x0200_0000])?;
+        let trun = word_box(
+            alloc,
+            b"trun",
+            &[0x701, 1, offset, 360000, 892, 0x0200_0000],
+        )?;
         let traf = boxed_three(alloc, b"traf", tfhd, &tfdt, &trun)?;
         let moof = boxed_three(alloc, b"moof", &mfhd, &traf, &[])?;
         let broken = joined(alloc, &[&init, &moof, &mdat])?;
@@ -227,9 +257,17 @@ fn usage_faults(rt: HostRuntime) -> Result<(), Fail> {
         assert_eq!(rt; end, CutEnd::Usage);
         assert!(rt; text.is_empty());
     }
-    let (end, text) = cut(alloc, &["--target", "0000000000000006", "--uri", "a b,ü.mp4"], &stream, 65536);
+    let (end, text) = cut(
+        alloc,
+        &["--target", "0000000000000006", "--uri", "a b,ü.mp4"],
+        &stream,
+        65536,
+    );
     assert_eq!(rt; end, CutEnd::Done);
-    assert!(rt; text.as_slice().ends_with("a b,ü.mp4\n#EXT-X-ENDLIST\n".as_bytes()));
+    assert!(rt;
+        text.as_slice()
+            .ends_with("a b,ü.mp4\n#EXT-X-ENDLIST\n".as_bytes())
+    );
     Ok(())
 }
 

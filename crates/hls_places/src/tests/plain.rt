@@ -21,7 +21,11 @@ fn end_of(unit: &Unit) -> u64 {
 /// How many of the first `count` units, but for the very first, don't start where the one before ends.
 fn gaps(units: &[Unit], count: usize) -> u64 {
     let mut gaps = 0u64;
-    for (before, here) in units.iter().zip(units.iter().skip(1)).take(count.saturating_sub(1)) {
+    for (before, here) in units
+        .iter()
+        .zip(units.iter().skip(1))
+        .take(count.saturating_sub(1))
+    {
         if end_of(before) != here.start {
             gaps = gaps.saturating_add(1);
         }
@@ -59,35 +63,79 @@ fn plain_end(rendition: &Plain) -> Option<Spot> {
     if !rendition.finished {
         return None;
     }
-    Some(Spot { fragment: rendition.units.len() as u64, prev_end: end, start: end, run_in: runs, run_out: runs })
+    Some(Spot {
+        fragment: rendition.units.len() as u64,
+        prev_end: end,
+        start: end,
+        run_in: runs,
+        run_out: runs,
+    })
 }
 
-/// Whether a place that was found is at these spots, one a rendition, all of which are there.
-fn is_at(found: &Place, closing: bool, spots: [Option<Spot>; 3]) -> bool {
-    found.closing == closing && found.spots.as_slice().iter().map(|spot| Some(*spot)).eq(spots)
+/// A place, where each rendition has a spot.
+fn plain_place(
+    alloc: Global,
+    spots: [Option<Spot>; 3],
+    closing: bool,
+) -> Result<Option<Place>, AllocError> {
+    let mut all = Vec::new(alloc);
+    for spot in spots {
+        match spot {
+            Some(spot) => all.push(spot)?,
+            None => return Ok(None),
+        }
+    }
+    Ok(Some(Place {
+        spots: Spots::new(all),
+        closing,
+    }))
 }
 
-/// Whether the places that were found are those of the definition.
-fn are_right(found: &[Place], renditions: [Plain; 3]) -> bool {
-    let [first, second, third] = renditions;
-    let mut rest = found.iter();
+fn plain_closing(
+    alloc: Global,
+    first: Plain,
+    second: Plain,
+    third: Plain,
+) -> Result<Option<Place>, AllocError> {
+    plain_place(
+        alloc,
+        [plain_end(&first), plain_end(&second), plain_end(&third)],
+        true,
+    )
+}
+
+fn plain_places(
+    alloc: Global,
+    first: Plain,
+    second: Plain,
+    third: Plain,
+) -> Result<Vec<Place>, AllocError> {
+    let mut places = Vec::new(alloc);
     for unit in first.units {
-        let spots = [plain_near(&first, unit.start), plain_near(&second, unit.start), plain_near(&third, unit.start)];
-        if unit.sync && spots.iter().all(|spot| spot.is_some()) {
-            match rest.next() {
-                Some(place) if is_at(place, false, spots) => (),
-                _ => return false,
-            }
+        let time = unit.start;
+        let spots = [
+            plain_near(&first, time),
+            plain_near(&second, time),
+            plain_near(&third, time),
+        ];
+        if unit.sync {
+            places.extend(plain_place(alloc, spots, false)?)?;
         }
     }
-    let ends = [plain_end(&first), plain_end(&second), plain_end(&third)];
-    if ends.iter().all(|spot| spot.is_some()) {
-        match rest.next() {
-            Some(place) if is_at(place, true, ends) => (),
-            _ => return false,
-        }
-    }
-    rest.next().is_none()
+    places.extend(plain_closing(alloc, first, second, third)?)?;
+    Ok(places)
+}
+
+fn is_same(found: &Place, plain: &Place) -> bool {
+    found.closing == plain.closing && found.spots.as_slice() == plain.spots.as_slice()
+}
+
+fn are_same(found: &[Place], plain: &[Place]) -> bool {
+    found.len() == plain.len()
+        && found
+            .iter()
+            .zip(plain)
+            .all(|(found, plain)| is_same(found, plain))
 }
 
 /// A unit of one microsecond in each of four slots, or none, by the digits of a number to base 3.
@@ -98,7 +146,11 @@ fn units_of(alloc: Global, code: u32) -> Result<Vec<Unit>, AllocError> {
         match digits % 3 {
             0 => (),
             1 => units.push(sync_unit(slot, 1))?,
-            _ => units.push(Unit { start: slot, ticks: 1, sync: false })?,
+            _ => units.push(Unit {
+                start: slot,
+                ticks: 1,
+                sync: false,
+            })?,
         }
         digits /= 3;
     }
@@ -114,65 +166,108 @@ struct Small {
 
 fn small_of(alloc: Global, code: u32) -> Result<Small, Fail> {
     let units = units_of(alloc, code)?;
-    Ok(Small { recording: recorded(alloc, 1000000, &units)?, units })
+    Ok(Small {
+        recording: recorded(alloc, 1000000, &units)?,
+        units,
+    })
 }
 
-fn compare(rt: &impl Abort, alloc: Global, renditions: [&Small; 3], tolerances: [u64; 2], finished: [bool; 3]) -> Result<(), Fail> {
-    let [first, second, third] = renditions;
+/// The three renditions of a case.
+#[derive(Clone, Copy)]
+struct Case<'a> {
+    first: &'a Small,
+    second: &'a Small,
+    third: &'a Small,
+}
+
+fn compare(
+    rt: &impl Abort,
+    alloc: Global,
+    case: Case,
+    tolerances: (u64, u64),
+    finished: [bool; 3],
+) -> Result<(), Fail> {
     let found = common(
         alloc,
-        &[&first.recording, &second.recording, &third.recording],
-        &[0, tolerances[0], tolerances[1]],
+        &[
+            &case.first.recording,
+            &case.second.recording,
+            &case.third.recording,
+        ],
+        &[0, tolerances.0, tolerances.1],
         &finished,
     )?;
-    let plain = [
-        Plain { units: &first.units, tolerance: 0, finished: finished[0] },
-        Plain { units: &second.units, tolerance: tolerances[0], finished: finished[1] },
-        Plain { units: &third.units, tolerance: tolerances[1], finished: finished[2] },
-    ];
-    assert!(rt; are_right(&found, plain));
+    let first = Plain {
+        units: &case.first.units,
+        tolerance: 0,
+        finished: finished[0],
+    };
+    let second = Plain {
+        units: &case.second.units,
+        tolerance: tolerances.0,
+        finished: finished[1],
+    };
+    let third = Plain {
+        units: &case.third.units,
+        tolerance: tolerances.1,
+        finished: finished[2],
+    };
+    let plain = plain_places(alloc, first, second, third)?;
+    assert!(rt; are_same(&found, &plain));
     Ok(())
 }
 
-fn compare_finished(rt: &impl Abort, alloc: Global, renditions: [&Small; 3], tolerances: [u64; 2]) -> Result<(), Fail> {
+fn compare_finished(
+    rt: &impl Abort,
+    alloc: Global,
+    case: Case,
+    tolerances: (u64, u64),
+) -> Result<(), Fail> {
     for first in [false, true] {
         for second in [false, true] {
-            compare(rt, alloc, renditions, tolerances, [first, second, false])?;
-            compare(rt, alloc, renditions, tolerances, [first, second, true])?;
+            compare(rt, alloc, case, tolerances, [first, second, false])?;
+            compare(rt, alloc, case, tolerances, [first, second, true])?;
         }
     }
     Ok(())
 }
 
-fn compare_tolerances(rt: &impl Abort, alloc: Global, renditions: [&Small; 3]) -> Result<(), Fail> {
+fn compare_tolerances(rt: &impl Abort, alloc: Global, case: Case) -> Result<(), Fail> {
     for tolerance in [0, 1, 2] {
-        compare_finished(rt, alloc, renditions, [tolerance, 0])?;
-        compare_finished(rt, alloc, renditions, [tolerance, 1])?;
+        compare_finished(rt, alloc, case, (tolerance, 0))?;
+        compare_finished(rt, alloc, case, (tolerance, 1))?;
     }
     Ok(())
 }
 
-/// The renditions of all units that are sync.
-fn all_sync(alloc: Global) -> Result<Vec<Small>, Fail> {
+/// All renditions of at most four units.
+fn all_small(alloc: Global) -> Result<Vec<Small>, Fail> {
     let mut all = Vec::new(alloc);
     for code in 0..81 {
-        let one = small_of(alloc, code)?;
-        if one.units.iter().all(|unit| unit.sync) {
-            all.push(one)?;
-        }
+        all.push(small_of(alloc, code)?)?;
     }
     Ok(all)
 }
 
+fn is_all_sync(small: &Small) -> bool {
+    small.units.iter().all(|unit| unit.sync)
+}
+
 #[test]
 fn common_places_of_all_small_cases(rt: HostRuntime) -> Result<(), Fail> {
-    let others = all_sync(rt.alloc())?;
-    assert_eq!(rt; others.len(), 16);
-    for code in 0..3 {
-        let first = small_of(rt.alloc(), code)?;
-        for second in others.iter() {
-            for third in others.iter() {
-                compare_tolerances(&rt, rt.alloc(), [&first, second, third])?;
+    let all = all_small(rt.alloc())?;
+    for first in all.iter() {
+        for second in all.iter() {
+            for third in all.iter().filter(|small| is_all_sync(small)) {
+                compare_tolerances(
+                    &rt,
+                    rt.alloc(),
+                    Case {
+                        first,
+                        second,
+                        third,
+                    },
+                )?;
             }
         }
     }

@@ -16,7 +16,11 @@ pub struct Unit {
 
 /// A sync unit.
 pub fn sync_unit(start: u64, ticks: u32) -> Unit {
-    Unit { start, ticks, sync: true }
+    Unit {
+        start,
+        ticks,
+        sync: true,
+    }
 }
 
 /// A recording of these units, at so many ticks a second.
@@ -31,7 +35,10 @@ pub fn recorded(alloc: Global, scale: u32, units: &[Unit]) -> Result<Recording, 
 }
 
 fn with_unit(alloc: Global, recording: Recording, unit: Unit) -> Result<Recording, Fail> {
-    let bytes = Bytes::copy_from_slice(alloc, &unit_bytes(alloc, unit.start, unit.ticks, unit.sync, 108)?)?;
+    let bytes = Bytes::copy_from_slice(
+        alloc,
+        &unit_bytes(alloc, unit.start, unit.ticks, unit.sync, 108)?,
+    )?;
     let facts = read_facts(recording.init(), &bytes)?;
     if recording.count() == 16777216 {
         return Err(Fail::new("full"));

@@ -4,17 +4,21 @@ use Rattle.hls_core.proofs.Compared.{same_at, same_more}
 use Rattle.hls_core.proofs.follows.same_sides.Goals as goal
 
 pub returns-then-not-same_side : goal.returns-then-not-same_side
-returns-then-not-same_side c =
-    (λ isnt. cc, λ same.
+returns-then-not-same_side c = (
+  λ isnt. cc,
+  λ same.
       sym c.if-not-same_side.true ∙ c.same_side.ensures.1 (same_at c.args.a.now c.args.b.now c.loop-rendition.rendition c.in-Some.x.now c.in-Some-side.y.now
-          c.in-Some.ensures.some c.in-Some-side.ensures.some same))
+      c.in-Some.ensures.some c.in-Some-side.ensures.some same),
+)
 
 pub loop-rendition-preserved : goal.loop-rendition-preserved
 loop-rendition-preserved c =
     same_more c.args.a.now c.args.b.now c.loop-rendition.rendition c.in-Some.x.now c.in-Some-side.y.now c.in-Some.ensures.some
-        c.in-Some-side.ensures.some (c.same_side.ensures.0 c.if-not-same_side.false) c.loop-rendition.invariant
+    c.in-Some-side.ensures.some (c.same_side.ensures.0 c.if-not-same_side.false) c.loop-rendition.invariant
 
 pub returns : goal.returns
-returns c =
-    (λ yes r ha hb at_a at_b. c.loop-rendition.invariant r ha hb
-        (omega (arith, at_below c.args.a.now.bytes r ha at_a, at_below c.args.b.now.bytes r hb at_b)) at_a at_b, λ same. refl)
+returns c = (
+  λ yes r ha hb at_a at_b. c.loop-rendition.invariant r ha hb
+      (omega (arith, at_below c.args.a.now.bytes r ha at_a, at_below c.args.b.now.bytes r hb at_b)) at_a at_b,
+  λ same. refl,
+)

@@ -5,9 +5,11 @@ use Rattle.hls_core.proofs.step.accept.Goals as goal
 
 pub appended-requires-clause-room : goal.appended-requires-clause-room
 appended-requires-clause-room c =
-    omega (arith,
+    omega (
+      arith,
       room_of c.args.snapshot.now c.is_full.result c.is_full.ensures c.if-is_full.false,
-      units_few c.args.snapshot.now c.args.rendition c.in-Some.old.now c.in-Some-recording.recording c.side.ensures.valid c.in-Some.ensures.some c.in-Some-recording.is)
+      units_few c.args.snapshot.now c.args.rendition c.in-Some.old.now c.in-Some-recording.recording c.side.ensures.valid c.in-Some.ensures.some c.in-Some-recording.is,
+    )
 
 pub with_side-requires-clause-there : goal.with_side-requires-clause-there
 with_side-requires-clause-there c =
@@ -18,20 +20,20 @@ with_side-requires-clause-take c =
     let room = room_of c.args.snapshot.now c.is_full.result c.is_full.ensures c.if-is_full.false in
     let apart : twin_of c.in-Some-recording.recording c.args.facts.start ≡ None = sym c.in-None.ensures in
     let new = accept_new c.args.snapshot.now c.args.rendition c.in-Some.old.now c.in-Some-recording.recording c.args.facts
-        c.args.bytes c.in-Some.ensures.some c.in-Some-recording.is apart c.in-Ok.ensures.cases.0.0 c.if-old.false room c.in-Ok.ensures.cases.0.1 in
+    c.args.bytes c.in-Some.ensures.some c.in-Some-recording.is apart c.in-Ok.ensures.cases.0.0 c.if-old.false room c.in-Ok.ensures.cases.0.1 in
     (accept_goes c.args.snapshot.now c.args.by c.args.rendition c.in-Some.old.now c.in-Some-recording.recording c.in-Ok.recording
-        c.args.facts c.args.bytes c.side.ensures.valid c.in-Some.ensures.some c.in-Some-recording.is c.requires new c.in-Ok.ensures.cases.1
-        c.if-old.false c.in-Ok.ensures.valid).take
+    c.args.facts c.args.bytes c.side.ensures.valid c.in-Some.ensures.some c.in-Some-recording.is c.requires new c.in-Ok.ensures.cases.1
+    c.if-old.false c.in-Ok.ensures.valid).take
 
 pub returns-in-Ok-with_side : goal.returns-in-Ok-with_side
 returns-in-Ok-with_side c =
     let room = room_of c.args.snapshot.now c.is_full.result c.is_full.ensures c.if-is_full.false in
     let apart : twin_of c.in-Some-recording.recording c.args.facts.start ≡ None = sym c.in-None.ensures in
     let new = accept_new c.args.snapshot.now c.args.rendition c.in-Some.old.now c.in-Some-recording.recording c.args.facts
-        c.args.bytes c.in-Some.ensures.some c.in-Some-recording.is apart c.in-Ok.ensures.cases.0.0 c.if-old.false room c.in-Ok.ensures.cases.0.1 in
+    c.args.bytes c.in-Some.ensures.some c.in-Some-recording.is apart c.in-Ok.ensures.cases.0.0 c.if-old.false room c.in-Ok.ensures.cases.0.1 in
     let goes = accept_goes c.args.snapshot.now c.args.by c.args.rendition c.in-Some.old.now c.in-Some-recording.recording c.in-Ok.recording
-        c.args.facts c.args.bytes c.side.ensures.valid c.in-Some.ensures.some c.in-Some-recording.is c.requires new c.in-Ok.ensures.cases.1
-        c.if-old.false c.in-Ok.ensures.valid in
+    c.args.facts c.args.bytes c.side.ensures.valid c.in-Some.ensures.some c.in-Some-recording.is c.requires new c.in-Ok.ensures.cases.1
+    c.if-old.false c.in-Ok.ensures.valid in
     (goes.new, c.in-Ok-with_side.ensures ∙ goes.is)
 
 pub returns-in-Err : goal.returns-in-Err
@@ -39,5 +41,5 @@ returns-in-Err c =
     let room = room_of c.args.snapshot.now c.is_full.result c.is_full.ensures c.if-is_full.false in
     let apart : twin_of c.in-Some-recording.recording c.args.facts.start ≡ None = sym c.in-None.ensures in
     let new = accept_new c.args.snapshot.now c.args.rendition c.in-Some.old.now c.in-Some-recording.recording c.args.facts
-        c.args.bytes c.in-Some.ensures.some c.in-Some-recording.is apart c.in-Ok.ensures.cases.0.0 c.if-old.false room c.in-Ok.ensures.cases.0.1 in
+    c.args.bytes c.in-Some.ensures.some c.in-Some-recording.is apart c.in-Ok.ensures.cases.0.0 c.if-old.false room c.in-Ok.ensures.cases.0.1 in
     (new, refl)

@@ -29,11 +29,11 @@ pub loop-byte-preserved : goal.loop-byte-preserved
 loop-byte-preserved c = record {
   digits = rw add-one (more_digits c.args.text.now c.loop-byte.byte-index c.loop-byte-test.true c.loop-byte.invariant.digits (grind arith));
   value = let digit = digit_range (get_or c.args.text.now c.loop-byte.byte-index 0) (grind arith) in
-    let more = more_value c.args.text.now c.loop-byte.byte-index c.loop-byte-test.true (grind arith) in
-    let value = c.loop-byte.invariant.value in
-    omega (arith, more, value, c.from.ensures);
+      let more = more_value c.args.text.now c.loop-byte.byte-index c.loop-byte-test.true (grind arith) in
+      let value = c.loop-byte.invariant.value in
+      omega (arith, more, value, c.from.ensures);
   small = let digit = digit_range (get_or c.args.text.now c.loop-byte.byte-index 0) (grind arith) in
-    rw add-one (room c.loop-byte.number c.from.result c.loop-byte.byte-index c.loop-byte.invariant.small (omega (arith, digit, c.from.ensures)));
+      rw add-one (room c.loop-byte.number c.from.result c.loop-byte.byte-index c.loop-byte.invariant.small (omega (arith, digit, c.from.ensures)));
   few = c.loop-byte.invariant.few;
   some = c.loop-byte.invariant.some;
 }

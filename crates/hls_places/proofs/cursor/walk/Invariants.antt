@@ -1,4 +1,4 @@
-use Rattle.std.proofs.Common.{◌≡◌, ℕ, ◌-◌, ◌++◌, drop}
+use Rattle.std.proofs.Common.{◌≡◌, ◌-◌, ◌++◌, drop}
 use Rattle.std.specs.List.{filter_map}
 use Rattle.hls_places_laws.specs.Sources.{first_facts}
 use Rattle.hls_places_laws.specs.Places.{place_at}
@@ -9,7 +9,8 @@ abbrev pub invariant-loop-done : goal.invariant-loop-done
 invariant-loop-done l = record {
   cursor : IsCursor (record { done = l.done; marks = l.marks.items }) l.renditions;
   told : l.places.items ++ filter_map (place_at l.renditions) (drop l.done (first_facts l.renditions))
-    ≡ filter_map (place_at l.renditions) (drop l.initial.done (first_facts l.renditions)) }
+      ≡ filter_map (place_at l.renditions) (drop l.initial.done (first_facts l.renditions));
+}
 
 abbrev pub decreases-loop-done : goal.decreases-loop-done
 decreases-loop-done l = l.count - l.done

@@ -1,47 +1,49 @@
-use Rattle.std.proofs.Common.{◌≡◌, ◌∙◌, sym, ap, length, arith}
+use Rattle.std.proofs.Common.{◌∙◌, sym, arith}
 use Rattle.std.proofs.lemmas.Bool.{not-false}
-use Rattle.hls_media_laws.specs.declared.facts.Facts.{Facts}
-use Rattle.hls_places_laws.specs.Sources.{first_facts, fact_at}
 use Rattle.hls_places.proofs.Lookings.{marks-early, left-at, told-some, told-none}
 use Rattle.hls_places.proofs.decide.decide.Goals as goal
 
 pub seek-requires-clause-early : goal.seek-requires-clause-early
 seek-requires-clause-early c =
     marks-early c.args.renditions.now c.args.done c.args.marks.now c.fact-facts.result (record {
-        order = c.requires.order;
-        more = c.requires.more;
-        cursor = c.requires.cursor;
-        facts_are = rw (← c.recording.ensures) c.fact-facts.ensures })
+      order = c.requires.order;
+      more = c.requires.more;
+      cursor = c.requires.cursor;
+      facts_are = rw (← c.recording.ensures) c.fact-facts.ensures;
+    })
 
 pub returns-in-Some : goal.returns-in-Some
 returns-in-Some c =
     left-at c.args.renditions.now c.args.done c.in-Some.field-0 c.args.marks.now c.seek.new.marks c.fact-facts.result
-        c.args.places.now.items (record {
-        order = c.requires.order;
-        more = c.requires.more;
-        cursor = c.requires.cursor;
-        facts_are = rw (← c.recording.ensures) c.fact-facts.ensures })
-        (omega (arith, c.seek.auto.marks, c.requires.cursor.count)) c.seek.ensures c.in-Some.ensures
+    c.args.places.now.items (record {
+      order = c.requires.order;
+      more = c.requires.more;
+      cursor = c.requires.cursor;
+      facts_are = rw (← c.recording.ensures) c.fact-facts.ensures;
+    })
+    (omega (arith, c.seek.auto.marks, c.requires.cursor.count)) c.seek.ensures c.in-Some.ensures
 
 pub returns-in_ok-push : goal.returns-in_ok-push
 returns-in_ok-push c =
     told-some c.args.renditions.now c.args.done c.args.marks.now c.seek.new.marks c.fact-facts.result c.in-Some-2.spots
-        c.args.places.now.items c.push.new.self.items (record {
-        order = c.requires.order;
-        more = c.requires.more;
-        cursor = c.requires.cursor;
-        facts_are = rw (← c.recording.ensures) c.fact-facts.ensures })
-        (omega (arith, c.seek.auto.marks, c.requires.cursor.count)) c.seek.ensures c.in_default.ensures
-        (not-false c.fact-facts.result.sync c.if-not-facts.false)
-        (sym c.in_ok-spots.ensures ∙ c.in-Some-2.is) c.in_ok-push.ensures.items
+    c.args.places.now.items c.push.new.self.items (record {
+      order = c.requires.order;
+      more = c.requires.more;
+      cursor = c.requires.cursor;
+      facts_are = rw (← c.recording.ensures) c.fact-facts.ensures;
+    })
+    (omega (arith, c.seek.auto.marks, c.requires.cursor.count)) c.seek.ensures c.in_default.ensures
+    (not-false c.fact-facts.result.sync c.if-not-facts.false)
+    (sym c.in_ok-spots.ensures ∙ c.in-Some-2.is) c.in_ok-push.ensures.items
 
 pub returns-in_default-2 : goal.returns-in_default-2
 returns-in_default-2 c =
     told-none c.args.renditions.now c.args.done c.args.marks.now c.seek.new.marks c.fact-facts.result
-        c.args.places.now.items (record {
-        order = c.requires.order;
-        more = c.requires.more;
-        cursor = c.requires.cursor;
-        facts_are = rw (← c.recording.ensures) c.fact-facts.ensures })
-        (omega (arith, c.seek.auto.marks, c.requires.cursor.count)) c.seek.ensures c.in_default.ensures
-        (not-false c.fact-facts.result.sync c.if-not-facts.false) (sym c.in_ok-spots.ensures ∙ c.in_default-2.is)
+    c.args.places.now.items (record {
+      order = c.requires.order;
+      more = c.requires.more;
+      cursor = c.requires.cursor;
+      facts_are = rw (← c.recording.ensures) c.fact-facts.ensures;
+    })
+    (omega (arith, c.seek.auto.marks, c.requires.cursor.count)) c.seek.ensures c.in_default.ensures
+    (not-false c.fact-facts.result.sync c.if-not-facts.false) (sym c.in_ok-spots.ensures ∙ c.in_default-2.is)

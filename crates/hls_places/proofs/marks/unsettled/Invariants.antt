@@ -1,4 +1,4 @@
-use Rattle.std.proofs.Common.{◌≡◌, ℕ, ◌<◌, length}
+use Rattle.std.proofs.Common.{ℕ, ◌<◌}
 use Rattle.hls_places_laws.specs.Sources.{source_at}
 use Rattle.hls_places_laws.specs.Positions.{mark_at}
 use Rattle.hls_places.specs.Searches.{IsSettledAt}

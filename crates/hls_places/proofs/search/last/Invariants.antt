@@ -1,4 +1,4 @@
-use Rattle.std.proofs.Common.{◌≡◌, ℕ, ◌-◌, length}
+use Rattle.std.proofs.Common.{◌-◌}
 use Rattle.hls_places.specs.Searches.{IsRunAt}
 use Rattle.hls_places.proofs.search.last.Given as goal
 

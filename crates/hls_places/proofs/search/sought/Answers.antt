@@ -1,4 +1,4 @@
-use Rattle.std.proofs.Common.{◌≡◌, length, arith}
+use Rattle.std.proofs.Common.{arith}
 use Rattle.hls_places_laws.proofs.Search.{first_entry-is}
 use Rattle.hls_places.proofs.search.sought.Goals as goal
 
@@ -6,10 +6,12 @@ pub returns-then-is_entry : goal.returns-then-is_entry
 returns-then-is_entry c = record {
   run = c.loop-mark.invariant.run;
   found = first_entry-is c.args.low c.args.recording.now.facts c.loop-mark.mark.at
-    c.loop-mark.invariant.run.within c.loop-mark.invariant.early (λ within. rw (← c.fact.ensures, ← c.is_entry.ensures) c.if-is_entry.true) }
+      c.loop-mark.invariant.run.within c.loop-mark.invariant.early (λ within. rw (← c.fact.ensures, ← c.is_entry.ensures) c.if-is_entry.true);
+}
 
 pub returns : goal.returns
 returns c = record {
   run = c.loop-mark.invariant.run;
   found = first_entry-is c.args.low c.args.recording.now.facts c.loop-mark.mark.at
-    c.loop-mark.invariant.run.within c.loop-mark.invariant.early (λ within. absurd (omega (arith, c.count-count.ensures.value))) }
+      c.loop-mark.invariant.run.within c.loop-mark.invariant.early (λ within. absurd (omega (arith, c.count-count.ensures.value)));
+}

@@ -6,12 +6,18 @@ use Rattle.hls_places.proofs.search.spot.Goals as goal
 
 pub overflow_add-result : goal.overflow_add-result
 overflow_add-result c =
-    omega (arith, gaps-run_in c.args.recording.now.facts c.args.mark.at, gaps-le c.args.recording.now.facts c.args.mark.at,
-        c.requires.run.runs, c.gap_before.ensures, c.count-count.ensures.value)
+    omega (
+      arith,
+      gaps-run_in c.args.recording.now.facts c.args.mark.at,
+      gaps-le c.args.recording.now.facts c.args.mark.at,
+      c.requires.run.runs,
+      c.gap_before.ensures,
+      c.count-count.ensures.value,
+    )
 
 pub returns : goal.returns
 returns c =
     let out : c.args.mark.runs + c.gap_before.result ≡ gaps c.args.recording.now.facts c.args.mark.at =
-        omega (arith, gaps-run_in c.args.recording.now.facts c.args.mark.at, c.requires.run.runs, c.gap_before.ensures) in
+    omega (arith, gaps-run_in c.args.recording.now.facts c.args.mark.at, c.requires.run.runs, c.gap_before.ensures) in
     let start = ap (λ (f : Facts). f.start_us) c.fact.ensures in
     rw (out, c.prev_end.ensures, start, c.requires.run.runs) refl

@@ -4,8 +4,14 @@ use Rattle.hls_places.proofs.search.stepped.Goals as goal
 
 pub overflow_add-result-2 : goal.overflow_add-result-2
 overflow_add-result-2 c =
-    omega (arith, gaps-run_in c.args.recording.now.facts c.args.mark.at, gaps-le c.args.recording.now.facts c.args.mark.at,
-        c.requires.run.runs, c.gap_before.ensures, c.count-count.ensures.value)
+    omega (
+      arith,
+      gaps-run_in c.args.recording.now.facts c.args.mark.at,
+      gaps-le c.args.recording.now.facts c.args.mark.at,
+      c.requires.run.runs,
+      c.gap_before.ensures,
+      c.count-count.ensures.value,
+    )
 
 pub returns-clause-run : goal.returns-clause-run
 returns-clause-run c =
@@ -13,4 +19,5 @@ returns-clause-run c =
     let here = gaps-run_in c.args.recording.now.facts c.args.mark.at in
     record {
       within = omega arith;
-      runs = omega (arith, next, here, c.requires.run.runs, c.gap_before.ensures) }
+      runs = omega (arith, next, here, c.requires.run.runs, c.gap_before.ensures);
+    }

@@ -10,25 +10,25 @@ use Rattle.hls_core.proofs.placed.Placed.moved_on.Goals as goal
 pub returns-in-None : goal.returns-in-None
 returns-in-None c =
     placed_without c.args.config.now (map (λ a. a.value) c.args.sides.now) c.args.places.now c.args.cursor.now.value
-        (record { places = c.in_ok-share-in-None.field-0; cursor = c.in_ok-try_clone-in-None.field-0 })
-        (c.requires.count ∙ sym (length-map c.args.sides.now (λ a. a.value))) (rw c.in-None.is at c.in_ok-gathered.ensures)
-        c.requires.cursor c.in_ok-share-in-None.ensures c.in_ok-try_clone-in-None.ensures
+    (record { places = c.in_ok-share-in-None.field-0; cursor = c.in_ok-try_clone-in-None.field-0 })
+    (c.requires.count ∙ sym (length-map c.args.sides.now (λ a. a.value))) (rw c.in-None.is at c.in_ok-gathered.ensures)
+    c.requires.cursor c.in_ok-share-in-None.ensures c.in_ok-try_clone-in-None.ensures
 
 pub advanced-requires-clause-cursor : goal.advanced-requires-clause-cursor
 advanced-requires-clause-cursor c =
     let all = rw c.in-Some.is at c.in_ok-gathered.ensures in
     let are = sources_are (λ r. r.now) (λ a. a.value) c.in-Some.recordings.items c.args.sides.now c.args.config.now
-        c.in_ok-tolerances.tolerances.items c.in_ok-finished.finished.items all
-        (c.in_ok-tolerances.ensures ∙ ap (map tolerance_of) c.renditions.ensures.value) c.in_ok-finished.ensures in
+    c.in_ok-tolerances.tolerances.items c.in_ok-finished.finished.items all
+    (c.in_ok-tolerances.ensures ∙ ap (map tolerance_of) c.renditions.ensures.value) c.in_ok-finished.ensures in
     rw (c.deref.ensures, c.deref-2.ensures.value, c.deref-3.ensures.value, c.deref-4.ensures.value)
-        (subst (λ (s : List Source). IsCursor c.args.cursor.now.value s) (sym are) c.requires.cursor)
+    (subst (λ (s : List Source). IsCursor c.args.cursor.now.value s) (sym are) c.requires.cursor)
 
 pub all_pushed-requires : goal.all_pushed-requires
 all_pushed-requires c =
     let all = rw c.in-Some.is at c.in_ok-gathered.ensures in
     let are = sources_are (λ r. r.now) (λ a. a.value) c.in-Some.recordings.items c.args.sides.now c.args.config.now
-        c.in_ok-tolerances.tolerances.items c.in_ok-finished.finished.items all
-        (c.in_ok-tolerances.ensures ∙ ap (map tolerance_of) c.renditions.ensures.value) c.in_ok-finished.ensures in
+    c.in_ok-tolerances.tolerances.items c.in_ok-finished.finished.items all
+    (c.in_ok-tolerances.ensures ∙ ap (map tolerance_of) c.renditions.ensures.value) c.in_ok-finished.ensures in
     let on = rw (c.deref.ensures, c.deref-2.ensures.value, c.deref-3.ensures.value, c.deref-4.ensures.value) at c.in_ok-advance.ensures in
     let there = subst (λ (s : List Source). IsAdvance s c.args.cursor.now.value.done c.in_ok-advance.advance) are on in
     omega (arith, ap length there.places, c.requires.room)
@@ -37,10 +37,10 @@ pub returns : goal.returns
 returns c =
     let all = rw c.in-Some.is at c.in_ok-gathered.ensures in
     let are = sources_are (λ r. r.now) (λ a. a.value) c.in-Some.recordings.items c.args.sides.now c.args.config.now
-        c.in_ok-tolerances.tolerances.items c.in_ok-finished.finished.items all
-        (c.in_ok-tolerances.ensures ∙ ap (map tolerance_of) c.renditions.ensures.value) c.in_ok-finished.ensures in
+    c.in_ok-tolerances.tolerances.items c.in_ok-finished.finished.items all
+    (c.in_ok-tolerances.ensures ∙ ap (map tolerance_of) c.renditions.ensures.value) c.in_ok-finished.ensures in
     let on = rw (c.deref.ensures, c.deref-2.ensures.value, c.deref-3.ensures.value, c.deref-4.ensures.value) at c.in_ok-advance.ensures in
     placed_on _ c.args.places.now c.args.cursor.now.value.done c.in_ok-advance.advance
-        (record { places = c.in_ok-all_pushed.field-0; cursor = c.in_ok-new.field-0 })
-        (subst (λ (s : List Source). IsAdvance s c.args.cursor.now.value.done c.in_ok-advance.advance) are on)
-        c.in_ok-all_pushed.ensures c.in_ok-new.ensures.ok
+    (record { places = c.in_ok-all_pushed.field-0; cursor = c.in_ok-new.field-0 })
+    (subst (λ (s : List Source). IsAdvance s c.args.cursor.now.value.done c.in_ok-advance.advance) are on)
+    c.in_ok-all_pushed.ensures c.in_ok-new.ensures.ok

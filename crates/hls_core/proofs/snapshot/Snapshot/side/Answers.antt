@@ -7,5 +7,5 @@ pub returns-clause-some : goal.returns-clause-some
 returns-clause-some c =
     let below : c.args.rendition < length c.self.inside.sides.items = omega arith in
     rw c.deref-side.ensures
-        (side_at c.self.inside _ c.args.rendition _ c.self.view_is c.self.invariant
-            (at_map (λ a. a.value) c.self.inside.sides.items c.args.rendition _ (at_read _ _ _ below c.index.ensures)))
+    (side_at c.self.inside _ c.args.rendition _ c.self.view_is c.self.invariant
+    (at_map (λ a. a.value) c.self.inside.sides.items c.args.rendition _ (at_read _ _ _ below c.index.ensures)))

@@ -20,7 +20,7 @@ returns-in-None-clause-gathers g c = λ stream known. gather_failed stream c.pie
 pub pieces-preserved : goal.pieces-preserved
 pieces-preserved g c = record {
   reading = λ stream known. reading_more stream c.pieces.reader (take c.in-Some.len c.read.new.buf) c.take_in.new.reader _ c.pieces.recorder c.take_in.new.recorder
-    (took stream c.pieces.reader (take c.in-Some.len c.read.new.buf) _ _ c.pieces.recorder (c.pieces.invariant.reading stream known) c.in-Some.ensures.bytes) c.in-Ok.ensures.takes_in;
+      (took stream c.pieces.reader (take c.in-Some.len c.read.new.buf) _ _ c.pieces.recorder (c.pieces.invariant.reading stream known) c.in-Some.ensures.bytes) c.in-Ok.ensures.takes_in;
   settled = c.in-Ok.ensures.settles;
   room = omega (arith, c.pieces.invariant.room, c.read.auto.buf);
   quiet = c.in-Some.ensures.quiet refl ∙ c.pieces.invariant.quiet;

@@ -12,8 +12,8 @@ pub loop-i-preserved : goal.loop-i-preserved
 loop-i-preserved c =
     let uri : c.in_ok-uri.uri ≡ c.args.uri.now = search rules in record {
       found = segments_more c.args.uri.now c.args.places.now c.loop-i.i c.loop-i.found.items c.push.new.self.items c.segment_between.result no_place no_place (omega arith) c.loop-i.invariant.found
-      (c.segment_between.ensures ∙ ap (λ (u : List ℕ). placed_segment u (c.loop-i.i == 0) (slice_index_or c.args.places.now c.loop-i.i no_place) (slice_index_or c.args.places.now (c.loop-i.i + 1) no_place)) uri)
-      c.in_ok-push.ensures.items;
+          (c.segment_between.ensures ∙ ap (λ (u : List ℕ). placed_segment u (c.loop-i.i == 0) (slice_index_or c.args.places.now c.loop-i.i no_place) (slice_index_or c.args.places.now (c.loop-i.i + 1) no_place)) uri)
+          c.in_ok-push.ensures.items;
       none = refused_not_yet c.args.target c.args.places.now c.loop-i.i c.loop-i.invariant.none
-      (refuses_is c.args.target c.args.places.now c.loop-i.i no_place no_place c.is_allowed.result (omega arith) c.is_allowed.ensures ∙ ap not c.if-not-is_allowed.false);
+          (refuses_is c.args.target c.args.places.now c.loop-i.i no_place no_place c.is_allowed.result (omega arith) c.is_allowed.ensures ∙ ap not c.if-not-is_allowed.false);
     }

@@ -17,9 +17,9 @@ loop-k-preserved c =
     let placed = placed_at c.args.init_len units c.loop-k.k c.loop-k.offset c.spot_of-spot.result (omega arith) c.loop-k.invariant.offset at in record {
       spots = elim c.if-units-k.branch [
         | then-units-k+in_ok-push w ↦ places_sync units c.loop-k.k c.index-units-k.result (spots_in c.loop-k.found.items) (spots_in c.if-units-k.found.items) c.spot_of-spot.result true c.loop-k-test.true c.loop-k.invariant.spots c.spot_of-spot.ensures.spot w.if-units-k.true
-          (spots_push c.loop-k.found.items c.if-units-k.found.items _ (ap (λ (v : Vec CutPlace Global). v.items) w.found-is ∙ w.in_ok-push.ensures.items))
+            (spots_push c.loop-k.found.items c.if-units-k.found.items _ (ap (λ (v : Vec CutPlace Global). v.items) w.found-is ∙ w.in_ok-push.ensures.items))
         | else-units-k w ↦ places_sync units c.loop-k.k c.index-units-k.result (spots_in c.loop-k.found.items) (spots_in c.if-units-k.found.items) c.spot_of-spot.result false c.loop-k-test.true c.loop-k.invariant.spots c.spot_of-spot.ensures.spot w.if-units-k.false
-          (ap (λ (v : Vec CutPlace Global). spots_in v.items) w.found-is ∙ sym (append-nil (spots_in c.loop-k.found.items)))
+            (ap (λ (v : Vec CutPlace Global). spots_in v.items) w.found-is ∙ sym (append-nil (spots_in c.loop-k.found.items)))
       ];
       placed = elim c.if-units-k.branch [
         | then-units-k+in_ok-push w ↦ placed_push c.args.init_len units c.loop-k.found.items c.if-units-k.found.items _ (ap (λ (v : Vec CutPlace Global). v.items) w.found-is ∙ w.in_ok-push.ensures.items) c.loop-k.invariant.placed placed
@@ -37,14 +37,14 @@ returns c =
     record {
       spots = elim c.if-not-is_empty.branch [
         | then-not-is_empty+in_ok-push-2 w ↦ places_end units c.loop-k.k (spots_in c.loop-k.found.items) (spots_in c.if-not-is_empty.found.items) w.closing_spot-spot.result end (grind arith) c.loop-k.invariant.spots w.closing_spot-spot.ensures
-          (spots_push c.loop-k.found.items c.if-not-is_empty.found.items _ (ap (λ (v : Vec CutPlace Global). v.items) w.found-is ∙ w.in_ok-push-2.ensures.items))
+            (spots_push c.loop-k.found.items c.if-not-is_empty.found.items _ (ap (λ (v : Vec CutPlace Global). v.items) w.found-is ∙ w.in_ok-push-2.ensures.items))
         | else-not-is_empty w ↦ ap (λ (v : Vec CutPlace Global). spots_in v.items) w.found-is ∙ places_empty units c.loop-k.k (spots_in c.loop-k.found.items) end (grind arith) c.loop-k.invariant.spots
       ];
       placed = elim c.if-not-is_empty.branch [
         | then-not-is_empty+in_ok-push-2 w ↦
-          let at : w.closing_spot-spot.result.fragment ≡ c.loop-k.k = ap (λ (s : Spot). s.fragment) w.closing_spot-spot.ensures ∙ sym end in
-          placed_push c.args.init_len units c.loop-k.found.items c.if-not-is_empty.found.items _ (ap (λ (v : Vec CutPlace Global). v.items) w.found-is ∙ w.in_ok-push-2.ensures.items) c.loop-k.invariant.placed
-          (placed_at c.args.init_len units c.loop-k.k c.loop-k.offset w.closing_spot-spot.result (omega arith) c.loop-k.invariant.offset at)
+            let at : w.closing_spot-spot.result.fragment ≡ c.loop-k.k = ap (λ (s : Spot). s.fragment) w.closing_spot-spot.ensures ∙ sym end in
+            placed_push c.args.init_len units c.loop-k.found.items c.if-not-is_empty.found.items _ (ap (λ (v : Vec CutPlace Global). v.items) w.found-is ∙ w.in_ok-push-2.ensures.items) c.loop-k.invariant.placed
+            (placed_at c.args.init_len units c.loop-k.k c.loop-k.offset w.closing_spot-spot.result (omega arith) c.loop-k.invariant.offset at)
         | else-not-is_empty w ↦ rw w.found-is c.loop-k.invariant.placed
       ];
     }

@@ -1,16 +1,15 @@
-use Rattle.std.proofs.Common.{◌≡◌, length, sym, arith, ◌∙◌}
-use Rattle.std.proofs.lemmas.List.{get_or-map}
+use Rattle.std.proofs.Common.{sym, arith}
 use Rattle.hls_places_laws.proofs.Sides.{length-sides, side-of}
 use Rattle.hls_places.proofs.renditions.Renditions.is_finished.Goals as goal
 
 pub bounds-finished-r : goal.bounds-finished-r
 bounds-finished-r c =
     let count = length-sides (λ x. x.now.facts) c.self.inside.recordings.now c.self.inside.tolerances.now
-        c.self.inside.finished.now c.self.invariant.0 c.self.invariant.1 c.args.self.now c.self.view_is in
+    c.self.inside.finished.now c.self.invariant.0 c.self.invariant.1 c.args.self.now c.self.view_is in
     omega (arith, count, c.self.invariant.0, c.self.invariant.1, c.requires)
 
 pub returns : goal.returns
 returns c =
     let side = side-of (λ x. x.now.facts) c.self.inside.recordings.now c.self.inside.tolerances.now
-        c.self.inside.finished.now c.self.invariant.0 c.self.invariant.1 c.args.self.now c.self.view_is c.args.r in
+    c.self.inside.finished.now c.self.invariant.0 c.self.invariant.1 c.args.self.now c.self.view_is c.args.r in
     sym side.finished_is

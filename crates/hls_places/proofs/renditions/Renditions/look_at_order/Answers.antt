@@ -1,5 +1,4 @@
-use Rattle.std.proofs.Common.{ℕ, ◌<◌, below_more}
-use Rattle.hls_places_laws.specs.Sources.{source_at, IsTimeline}
+use Rattle.std.proofs.Common.{below_more}
 use Rattle.hls_places.proofs.Lines.{timeline-of}
 use Rattle.hls_places.proofs.renditions.Renditions.look_at_order.Goals as goal
 
