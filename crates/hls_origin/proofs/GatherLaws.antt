@@ -1,5 +1,5 @@
 -- How the reading of a stream goes on: a piece more, a part more, a refusal.
-use Rattle.std.proofs.Common.{◌≡◌, ◌∙◌, ℕ, List, [], ◌∷◌, ◌++◌, Option, Some, None, Result, Ok, Err, length, refl, sym, ap, ap₂, subst, append_assoc, append-nil, inl, inr, true≢false, false}
+use Rattle.std.proofs.Common.{◌≡◌, ◌∙◌, ℕ, List, [], ◌∷◌, ◌++◌, Option, Some, None, Result, Ok, Err, refl, sym, ap, ap₂, subst, append_assoc, append-nil, inl, inr, true≢false, false}
 use Rattle.hls_origin.proofs.Told.{told_outcome}
 use Rattle.std.specs.Io.KnownBytes.{Consumes, IsAtEnd, Keeps}
 use Rattle.hls_boxes_laws.specs.declared.part.Part.{Part}
@@ -13,7 +13,7 @@ use Rattle.hls_origin.specs.declared.cut.fault.CutFault.TheVariants as fault
 use Rattle.hls_origin.specs.Accepts.{Becomes, Told, is_failure}
 use Rattle.hls_origin.specs.Gather.{CountsReads, Drains, Gathers, GathersOf, IsDrained, IsOpen, IsRefused, IsSettled, Reached, TakesIn}
 use Rattle.hls_origin.specs.Options.{Choice}
-use Rattle.hls_origin.specs.Recorded.{Recorded, ended, nothing, outcome, outcome_of, unless_left, with_part, with_parts}
+use Rattle.hls_origin.specs.Recorded.{Recorded, nothing, outcome, outcome_of, unless_left, with_part, with_parts}
 use Rattle.hls_origin.specs.Then.{◌>>=◌}
 
 -- ---- parts, one after the other

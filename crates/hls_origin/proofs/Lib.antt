@@ -1,4 +1,5 @@
 pub mod AcceptLaws
+mod Examples
 pub mod GatherLaws
 pub mod ListLaws
 pub mod Numbers

@@ -1,13 +1,12 @@
 -- The segments from place to place, one after the other.
-use Rattle.std.proofs.Common.{◌≡◌, ◌∙◌, ℕ, suc, zero, ◌+◌, ◌-◌, ◌*◌, ◌==◌, ◌<◌, ◌≤◌, nat_lt, List, [], ◌∷◌, ◌++◌, Bool, true, false, not, cond, length, map, refl, sym, ap, ap₂, arith, add-one, Some, None, true≢false}
+use Rattle.std.proofs.Common.{◌≡◌, ◌∙◌, ℕ, suc, zero, ◌+◌, ◌-◌, ◌==◌, ◌<◌, List, [], ◌∷◌, ◌++◌, Bool, true, false, not, cond, length, refl, sym, ap, ap₂, arith, add-one, Some, None}
 use Rattle.std.specs.List.{find, range_with_len}
 use Rattle.std.specs.Prelude.{slice_index_or}
-use Rattle.std.proofs.lemmas.List.{length-map, get_or_default}
+use Rattle.std.proofs.lemmas.List.{get_or_default}
 use Rattle.std.proofs.lemmas.List.FromFn.{map-range_with_len_more}
-use Rattle.hls_check_laws.specs.declared.spot.Spot.{Spot}
 use Rattle.hls_m3u8.specs.declared.playlist.Segment.{Segment}
 use Rattle.hls_origin.specs.declared.cut.places.CutPlace.{CutPlace}
-use Rattle.hls_origin.specs.Listing.{OffsetsRise, no_place, placed_segment, placed_segment_at, placed_segments}
+use Rattle.hls_origin.specs.Listing.{no_place, placed_segment, placed_segment_at, placed_segments}
 use Rattle.hls_origin.specs.Placed.{spots_in}
 use Rattle.hls_origin.specs.Places.{allows}
 use Rattle.hls_origin.specs.Segments.{refused_among, spot}

@@ -1,12 +1,12 @@
 -- The places, one fragment after the other.
-use Rattle.std.proofs.Common.{◌≡◌, ◌∙◌, ℕ, suc, zero, ◌+◌, ◌-◌, ◌<◌, ◌≤◌, List, [], ◌∷◌, ◌++◌, Bool, true, false, cond, length, map, refl, sym, ap, arith, add-one}
+use Rattle.std.proofs.Common.{◌≡◌, ◌∙◌, ℕ, suc, zero, ◌+◌, ◌<◌, ◌≤◌, List, [], ◌∷◌, ◌++◌, Bool, true, false, cond, length, map, refl, sym, ap, arith, add-one}
 use Rattle.std.specs.List.{filter, range_with_len}
 use Rattle.std.specs.Prelude.{slice_index_or}
 use Rattle.std.proofs.lemmas.List.{length-map, map-append}
 use Rattle.hls_check_laws.specs.declared.spot.Spot.{Spot}
 use Rattle.hls_media_laws.specs.declared.facts.Facts.{Facts}
 use Rattle.hls_origin.specs.declared.cut.kept.KeptUnit.{KeptUnit}
-use Rattle.hls_origin.specs.Places.{closing, closing_spot, fragment, gaps, places, spot_at, sync_fragments}
+use Rattle.hls_origin.specs.Places.{closing_spot, fragment, gaps, places, spot_at, sync_fragments}
 use Rattle.hls_origin.specs.Units.{facts_in, units_len}
 use Rattle.hls_origin.specs.Placed.{IsPlaced, spots_in}
 use Rattle.hls_origin.specs.Segments.{offset_of}

@@ -1,19 +1,17 @@
 -- From what was gathered to what is answered.
-use Rattle.std.proofs.Common.{◌≡◌, ◌∙◌, ℕ, List, [], ◌++◌, Option, Some, None, Result, Ok, Err, Vec, refl, sym, ap, subst, inl, inr, ◌⊎◌, true≢false, true, false, append-nil}
+use Rattle.std.proofs.Common.{◌≡◌, ◌∙◌, ℕ, List, [], ◌++◌, Option, Some, Result, Ok, Err, Vec, refl, sym, ap, subst, inl, inr, true≢false, true, false, append-nil}
 use Rattle.std.specs.Global.{Global}
 use Rattle.hls_boxes_laws.specs.Parts.{cut_of}
 use Rattle.hls_origin.specs.declared.cut.fault.CutFault.{CutFault}
 use Rattle.hls_origin.specs.declared.cut.fault.CutFault.TheVariants as fault
-use Rattle.hls_origin.specs.declared.cut.run.CutEnd.{CutEnd}
-use Rattle.hls_origin.specs.declared.cut.run.CutEnd.TheVariants.{Done, Refused, Usage}
+use Rattle.hls_origin.specs.declared.cut.run.CutEnd.TheVariants.{Done, Refused}
 use Rattle.hls_origin.specs.Accepts.{Told, is_failure}
 use Rattle.hls_origin.specs.Gather.{CountsReads, EndsReading, Gathers, GathersOf}
 use Rattle.hls_origin.specs.Listing.{ListsText}
 use Rattle.hls_origin.specs.Options.{Choice}
 use Rattle.hls_origin.specs.Recorded.{Recorded, ended, outcome}
-use Rattle.hls_origin.specs.Rose.{Rose}
-use Rattle.hls_origin.specs.Run.{Answers, AnswersWords, CountsFailures, EndsCut, Runs, Texts, TextsOf}
-use Rattle.hls_origin.specs.Writing.{CountsWrite, Writes}
+use Rattle.hls_origin.specs.Run.{Answers, CountsFailures, EndsCut, Runs, Texts, TextsOf}
+use Rattle.hls_origin.specs.Writing.{Writes}
 use Rattle.hls_origin.proofs.Told.{told_ended, told_outcome}
 
 ends_at : (choice : Choice) (f : CutFault) (taken rest : List ℕ) → EndsReading f taken rest → EndsCut choice f taken rest

@@ -1,8 +1,8 @@
 -- The kept unit with a start, among units whose starts rise.
-use Rattle.std.proofs.Common.{◌≡◌, ◌∙◌, ℕ, suc, zero, ◌+◌, ◌<◌, ◌≤◌, ◌==◌, nat_lt, List, [], ◌∷◌, Bool, true, false, cond, Some, None, length, refl, sym, ap, arith, inl, inr, subst, Option, Bor}
+use Rattle.std.proofs.Common.{◌≡◌, ◌∙◌, ℕ, suc, zero, ◌+◌, ◌<◌, ◌≤◌, ◌==◌, List, [], ◌∷◌, Bool, true, false, Some, None, length, refl, sym, ap, arith, inl, inr, subst, Option, Bor}
 use Rattle.hls_origin.specs.Accepts.{FindsKept}
 use Rattle.std.proofs.lemmas.Bool.{cases_lt}
-use Rattle.std.specs.List.{find, slice_index_or, All}
+use Rattle.std.specs.List.{find, slice_index_or}
 use borrow.Author.Tests.{eq-eqb, ne_eqb}
 use Rattle.std.proofs.lemmas.List.{get_or_default}
 use Rattle.hls_origin.specs.declared.cut.kept.KeptUnit.{KeptUnit}

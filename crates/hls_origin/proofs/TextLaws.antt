@@ -1,18 +1,17 @@
 -- The playlist's text from places with their offsets.
-use Rattle.std.proofs.Common.{◌≡◌, ◌∙◌, ℕ, suc, zero, ◌+◌, ◌-◌, ◌*◌, ◌^◌, ◌==◌, ◌<◌, ◌≤◌, nat_lt, nat_le, List, [], ◌∷◌, ◌++◌, Bool, true, false, not, ◌&&◌, cond, length, map, take, refl, sym, ap, ap₂, subst, arith, add-one, Some, None, Ok, Err, Result, Option, inl, inr}
+use Rattle.std.proofs.Common.{◌≡◌, ◌∙◌, ℕ, suc, zero, ◌+◌, ◌-◌, ◌*◌, ◌^◌, ◌==◌, ◌<◌, ◌≤◌, nat_lt, List, [], ◌∷◌, Bool, true, false, not, ◌&&◌, cond, length, map, take, refl, sym, ap, ap₂, subst, arith, Some, None, Ok, Err, inl, inr}
 use Rattle.std.proofs.lemmas.Bool.{cases_lt}
 use Rattle.std.specs.List.{All, find, range_with_len}
 use Rattle.std.specs.Prelude.{slice_index_or}
-use Rattle.std.proofs.lemmas.List.{length-map, get_or_default}
+use Rattle.std.proofs.lemmas.List.{length-map}
 use Rattle.std.proofs.lemmas.List.FromFn.{get_or-map-range_with_len, length-map-range_with_len}
-use Rattle.std.proofs.lemmas.List.Sums.{sum_by-take-le, sum_by_more}
+use Rattle.std.proofs.lemmas.List.Sums.{sum_by-take-le}
 use Rattle.hls_check_laws.specs.declared.spot.Spot.{Spot}
 use Rattle.hls_m3u8.specs.declared.playlist.Segment.{Segment}
 use Rattle.hls_m3u8.specs.Forms.{vod_list}
 use Rattle.hls_m3u8.specs.HasText.{HasText, IsSegment}
 use Rattle.hls_m3u8.specs.Lines.{media_text}
 use Rattle.hls_m3u8.specs.Playlist.{Playlist}
-use Rattle.hls_m3u8.specs.Uri.{IsUri}
 use Rattle.hls_origin.specs.declared.cut.fault.CutFault.{CutFault}
 use Rattle.hls_origin.specs.declared.cut.fault.CutFault.TheVariants as fault
 use Rattle.hls_origin.specs.declared.cut.kept.KeptUnit.{KeptUnit}
@@ -21,7 +20,7 @@ use Rattle.hls_origin.specs.Listing.{ListsPlaylist, ListsText, OffsetsRise, no_p
 use Rattle.hls_origin.specs.Options.{Choice, IsGood}
 use Rattle.hls_origin.specs.Placed.{IsPlaced, spots_in}
 use Rattle.hls_origin.specs.Places.{allows, no_facts, places}
-use Rattle.hls_origin.specs.Segments.{listed, listed_between, offset_of, refused_among, segment_at, segment_between, spot, text_between, unless_refused_at}
+use Rattle.hls_origin.specs.Segments.{listed, listed_between, offset_of, refused_among, segment_at, spot, text_between, unless_refused_at}
 use Rattle.hls_origin.specs.Timeline.{IsTimeline}
 use Rattle.hls_origin.specs.Units.{facts_in, units_len}
 use Rattle.hls_origin.proofs.ListLaws.{refuses, spot_is}

@@ -1,5 +1,5 @@
 -- No refusal of a stream tells of a failed read or write.
-use Rattle.std.proofs.Common.{◌≡◌, ℕ, List, [], ◌∷◌, Bool, true, false, Option, Some, None, Result, Ok, Err, refl, length, subst, nat_lt, ◌+◌, ◌-◌}
+use Rattle.std.proofs.Common.{ℕ, List, [], ◌∷◌, Bool, true, false, Option, Some, None, Result, Ok, Err, refl, length, subst, nat_lt, ◌+◌, ◌-◌}
 use Rattle.std.specs.Str.{bytes_eq}
 use Rattle.hls_media_laws.specs.declared.facts.Facts.{Facts}
 use Rattle.std.specs.Prelude.{if◌then◌else◌}
@@ -7,14 +7,13 @@ use Rattle.hls_boxes_laws.specs.declared.part.Part.{Part}
 use Rattle.hls_boxes_laws.specs.declared.part.Part.TheVariants as parts
 use Rattle.hls_boxes_laws.specs.declared.fault.BoxFault.{BoxFault}
 use Rattle.hls_boxes_laws.specs.Parts.{Cut, fault_at_end}
-use Rattle.hls_check_laws.specs.declared.spot.Spot.{Spot}
 use Rattle.hls_media_laws.specs.declared.fault.MediaFault.{MediaFault}
 use Rattle.hls_media_laws.specs.Inits.{init_of}
 use Rattle.hls_media_laws.specs.UnitFacts.{facts}
 use Rattle.hls_media_laws.specs.InitData.{InitData}
 use Rattle.hls_origin.specs.declared.cut.fault.CutFault.{CutFault}
 use Rattle.hls_origin.specs.declared.cut.fault.CutFault.TheVariants as fault
-use Rattle.hls_origin.specs.Accepts.{Becomes, Told, is_failure}
+use Rattle.hls_origin.specs.Accepts.{Becomes, Told}
 use Rattle.hls_origin.specs.declared.cut.kept.KeptInit.{KeptInit}
 use Rattle.hls_origin.specs.declared.cut.kept.KeptUnit.{KeptUnit}
 use Rattle.hls_origin.specs.Options.{Choice}

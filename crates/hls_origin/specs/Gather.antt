@@ -1,7 +1,7 @@
 -- How far the reading of a stream has come.
-use Rattle.std.specs.Prelude.{◌≡◌, ℕ, List, [], ◌∷◌, ◌++◌, Option, Some, None, Result, Ok, Err, ◌⊎◌}
+use Rattle.std.specs.Prelude.{◌≡◌, ℕ, List, [], ◌++◌, Option, Some, None, Result, Ok, Err, ◌⊎◌}
 use Rattle.hls_boxes_laws.specs.declared.part.Part.{Part}
-use Rattle.hls_boxes_laws.specs.Parts.{after_parts, cut_of, fault_at_end, text_fault}
+use Rattle.hls_boxes_laws.specs.Parts.{after_parts, cut_of, text_fault}
 use Rattle.hls_origin.specs.declared.cut.fault.CutFault.{CutFault}
 use Rattle.hls_origin.specs.declared.cut.fault.CutFault.TheVariants as fault
 use Rattle.hls_origin.specs.Options.{Choice}

@@ -1,5 +1,5 @@
 -- What the calls that list a recorded stream answer.
-use Rattle.std.specs.Prelude.{◌≡◌, ℕ, ◌+◌, ◌-◌, ◌==◌, ◌<◌, ◌≤◌, Bool, not, ◌&&◌, List, length, map, Option, Some, None, Result, Ok, Err, Vec, slice_index_or}
+use Rattle.std.specs.Prelude.{◌≡◌, ℕ, ◌+◌, ◌-◌, ◌==◌, ◌<◌, ◌≤◌, Bool, not, ◌&&◌, List, length, map, Some, None, Result, Ok, Err, Vec, slice_index_or}
 use Rattle.std.specs.Global.{Global}
 use Rattle.std.specs.List.{range_with_len}
 use Rattle.hls_check_laws.specs.Tables.{no_spot}

@@ -1,5 +1,5 @@
 -- Numbers among the words of the command line.
-use Rattle.std.specs.Prelude.{ℕ, List, [], ◌∷◌, Option, Some, None, cond, length, Bool, ◌&&◌, true, false}
+use Rattle.std.specs.Prelude.{ℕ, List, [], ◌∷◌, Option, Some, None, cond, length, Bool, ◌&&◌, false}
 use Rattle.std.specs.Prelude.{nat_lt}
 use Rattle.std.specs.Str.{all_ascii_digits}
 use Rattle.std.specs.Str.Parse.{digits_value}

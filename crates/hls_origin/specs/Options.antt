@@ -1,9 +1,8 @@
 -- What the words after `cut` ask for.
-use Rattle.std.specs.Prelude.{ℕ, List, [], ◌∷◌, Option, Some, None, Bool, ◌≤◌, ◌&&◌, cond, codes, true}
+use Rattle.std.specs.Prelude.{ℕ, List, [], ◌∷◌, Option, Some, None, ◌≤◌, ◌&&◌, cond, codes, true}
 use Rattle.std.specs.Prelude.{nat_lt, option_and_then, option_map}
 use Rattle.clap.specs.Words.{App, Row, Rule, Text, fault_of, first_of, matches_of, new_app, new_rule, with_rule}
 use Rattle.clap.specs.Kinds.{Kinds}
-use Rattle.clap.specs.Simple.{Shape}
 use Rattle.clap.specs.declared.builder.action.ArgAction.TheVariants.{SetTrue}
 use Rattle.hls_m3u8.specs.Uri.{IsUri, is_uri_text}
 use Rattle.hls_origin.specs.Number.{number_of}

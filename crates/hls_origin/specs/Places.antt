@@ -1,5 +1,5 @@
 -- Where the units of one rendition may be cut, and the steps between such places.
-use Rattle.std.specs.Prelude.{ℕ, zero, suc, ◌+◌, ◌-◌, ◌*◌, ◌==◌, nat_lt, nat_le, Bool, true, false, if◌then◌else◌, not, ◌&&◌, List, [], ◌∷◌, ◌++◌, length, map, filter, slice_index_or}
+use Rattle.std.specs.Prelude.{ℕ, zero, suc, ◌+◌, ◌-◌, ◌*◌, ◌==◌, nat_lt, nat_le, Bool, false, if◌then◌else◌, not, ◌&&◌, List, [], ◌∷◌, ◌++◌, length, map, filter, slice_index_or}
 use Rattle.std.specs.List.{range_with_len}
 use Rattle.hls_check_laws.specs.declared.spot.Spot.{Spot}
 use Rattle.hls_media_laws.specs.declared.facts.Facts.{Facts}

@@ -1,5 +1,5 @@
 -- The segments between next places, and the playlist that names them.
-use Rattle.std.specs.Prelude.{ℕ, ◌+◌, ◌-◌, ◌==◌, nat_lt, Bool, if◌then◌else◌, not, ◌&&◌, List, length, map, take, Option, Some, None, Result, Ok, Err, slice_index_or}
+use Rattle.std.specs.Prelude.{ℕ, ◌+◌, ◌-◌, ◌==◌, nat_lt, if◌then◌else◌, not, ◌&&◌, List, length, map, take, Option, Some, None, Result, Ok, Err, slice_index_or}
 use Rattle.std.specs.List.{find, range_with_len}
 use Rattle.hls_check_laws.specs.declared.spot.Spot.{Spot}
 use Rattle.hls_check_laws.specs.Tables.{no_spot}

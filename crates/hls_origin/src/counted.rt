@@ -1,6 +1,7 @@
 //! Readers and writers whose failed calls are counted.
-ghost use Rattle.std.specs.Prelude.{◌≡◌, ◌+◌, ◌^◌, ◌<◌, ◌≤◌, length, take, IsSome, IfSome, IfNone};
+ghost use Rattle.std.specs.Prelude.{◌≡◌, ◌+◌, ◌^◌, ◌<◌, ◌≤◌, length, take, IsSome, IfSome, IfNone, IsTrue, ◌↔◌, true};
 ghost use Rattle.std.specs.Io.KnownBytes.{Appends, Consumes, IsAtEnd, Keeps};
+ghost use Rattle.hls_origin.specs.Rose.{Rose};
 
 use std::io::{Read, Write};
 
@@ -54,6 +55,7 @@ impl<T> Counted<T> {
     fn starts_call(&mut self) -> bool
         ensures inside { inside_of self.new ≡ inside_of self.old }
         ensures failures { failures_of self.new ≡ failures_of self.old }
+        ensures passes { IsTrue result ↔ (0 < calls_left self.old) }
         ensures calls { result ≡ true → calls_left self.new + 1 ≡ calls_left self.old }
     {
         if self.calls >= MOST_CALLS {
@@ -73,9 +75,6 @@ impl<T> Counted<T> {
         }
     }
 }
-
-ghost use Rattle.std.specs.Prelude.{true};
-ghost use Rattle.hls_origin.specs.Rose.{Rose};
 
 impl<R: Read> Counted<R> {
     ghost use Rattle.hls_origin.specs.Counted.{calls_left, failures_of, inside_of};

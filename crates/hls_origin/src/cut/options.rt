@@ -1,9 +1,7 @@
 //! What the words after `cut` ask for.
-ghost use Rattle.std.specs.Prelude.{◌≡◌, map, ◌≤◌, option_map, IfOk, IfSome, true};
-ghost use Rattle.clap.specs.Words.{app_of};
+ghost use Rattle.std.specs.Prelude.{◌≡◌, map, ◌≤◌, option_map, IfOk, IfSome, true, codes};
+ghost use Rattle.clap.specs.Words.{app_of, first_value, found_of};
 ghost use Rattle.hls_origin.specs.Options.{Choice, IsGood, checked_uri, choice_in, cut_app, options_of, target_in, uri_in};
-ghost use Rattle.clap.specs.Words.{first_value, found_of};
-ghost use Rattle.std.specs.Prelude.{codes};
 ghost use Rattle.hls_m3u8.specs.Uri.{IsUri};
 
 use crate::number;

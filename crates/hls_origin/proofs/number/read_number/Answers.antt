@@ -1,6 +1,4 @@
-use Rattle.std.proofs.Common.{◌≡◌, ℕ, ◌+◌, ◌*◌, ◌-◌, ◌<◌, ◌≤◌, arith, rules, true, refl, sym, take, get_or, length, add-one}
-use Rattle.std.proofs.Common.{ap, ◌∙◌, length}
-use Rattle.std.specs.Str.{all_ascii_digits}
+use Rattle.std.proofs.Common.{◌≡◌, arith, take, get_or, add-one}
 use Rattle.hls_origin.proofs.Numbers.{bad_digit, bad_number, digit_range, below_most, empty_number, good_number, long_number, more_digits, more_value, room}
 use Rattle.hls_origin.proofs.number.read_number.Goals as goal
 use Rattle.hls_origin.proofs.number.read_number.Goals.{then-is_empty-via-then-is_empty, then-is_empty-via-else-is_empty+then-text-gt-MOST_DIGITS}

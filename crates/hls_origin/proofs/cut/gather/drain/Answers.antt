@@ -1,6 +1,6 @@
-use Rattle.std.proofs.Common.{◌≡◌, ◌∙◌, rules, ap, sym, Err}
+use Rattle.std.proofs.Common.{◌∙◌, ap, sym, Err}
 use Rattle.hls_origin.proofs.Told.{told_accept}
-use Rattle.hls_boxes_laws.specs.Parts.{cut_of, fault_left, Cut}
+use Rattle.hls_boxes_laws.specs.Parts.{fault_left, Cut}
 use Rattle.hls_boxes.specs.Reader.{IsFirst}
 use Rattle.hls_origin.proofs.GatherLaws.{drains_refused, reached_part}
 use Rattle.hls_origin.proofs.cut.gather.drain.Goals as goal

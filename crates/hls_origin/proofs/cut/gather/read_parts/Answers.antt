@@ -1,8 +1,7 @@
-use Rattle.std.proofs.Common.{◌≡◌, ◌∙◌, ◌<◌, List, ℕ, take, rules, ap, sym, arith, subst, refl, Err, []}
-use Rattle.std.specs.Io.KnownBytes.{Consumes, IsAtEnd, Keeps}
-use Rattle.std.proofs.lemmas.Grind.{common_steps}
-use Rattle.hls_origin.specs.Counted.{failures_of, inside_of}
-use Rattle.hls_origin.specs.Gather.{IsSettled, TakesIn}
+use Rattle.std.proofs.Common.{◌≡◌, ◌∙◌, List, ℕ, take, ap, sym, arith, subst, refl, []}
+use Rattle.std.specs.Io.KnownBytes.{Consumes}
+use Rattle.hls_origin.specs.Counted.{inside_of}
+use Rattle.hls_origin.specs.Gather.{IsSettled}
 use Rattle.hls_origin.proofs.GatherLaws.{counts_refused, gather_done, gather_failed, gather_left, gather_refused, reading_more, reading_none, settled_none, took}
 use Rattle.hls_origin.proofs.cut.gather.read_parts.Goals as goal
 

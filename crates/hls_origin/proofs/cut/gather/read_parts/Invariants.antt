@@ -1,4 +1,4 @@
-use Rattle.std.proofs.Common.{◌≡◌, ◌<◌, ℕ, List, ◌++◌, Some, length}
+use Rattle.std.proofs.Common.{◌≡◌, ◌<◌, ℕ, List, Some, length}
 use Rattle.hls_origin.specs.Counted.{calls_left, failures_of, inside_of}
 use Rattle.hls_origin.specs.Gather.{IsSettled}
 use Rattle.hls_origin.proofs.GatherLaws.{Reading}

@@ -1,5 +1,4 @@
-use Rattle.std.proofs.Common.{rules}
-use Rattle.hls_origin.proofs.GatherLaws.{refusal_is, settled_ok, takes_fault, takes_ok}
+use Rattle.hls_origin.proofs.GatherLaws.{refusal_is, takes_fault, takes_ok}
 use Rattle.std.proofs.Common.{Err}
 use Rattle.hls_origin.proofs.cut.gather.take_in.Goals as goal
 

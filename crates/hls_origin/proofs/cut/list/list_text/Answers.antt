@@ -1,9 +1,7 @@
-use Rattle.std.proofs.Common.{◌≡◌, ◌^◌, ◌+◌, ◌<◌, ◌≤◌, length, List, rules, arith, sym, subst, Err}
-use Rattle.std.specs.List.{All}
+use Rattle.std.proofs.Common.{◌≡◌, List, subst, Err}
 use Rattle.hls_m3u8.specs.Playlist.{playlist_of}
 use Rattle.hls_origin.specs.declared.cut.places.CutPlace.{CutPlace}
 use Rattle.hls_origin.specs.Listing.{ListsPlaylist}
-use Rattle.hls_origin.specs.Placed.{IsPlaced}
 use Rattle.hls_origin.proofs.TextLaws.{has_text, listed_text, lists_err, offsets_rise}
 use Rattle.hls_origin.proofs.cut.list.list_text.Goals as goal
 

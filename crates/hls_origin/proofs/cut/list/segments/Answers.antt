@@ -1,4 +1,4 @@
-use Rattle.std.proofs.Common.{◌≡◌, ◌∙◌, ◌+◌, ◌==◌, ap, not, true, rules, arith, slice_index_or, List, ℕ}
+use Rattle.std.proofs.Common.{◌≡◌, ◌∙◌, ◌+◌, ◌==◌, ap, not, rules, arith, slice_index_or, List, ℕ}
 use Rattle.hls_origin.specs.Listing.{no_place, placed_segment}
 use Rattle.hls_origin.proofs.ListLaws.{refused_here, refused_not_yet, refuses_is, segments_more}
 use Rattle.hls_origin.proofs.cut.list.segments.Goals as goal

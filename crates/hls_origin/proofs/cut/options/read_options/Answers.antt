@@ -1,9 +1,9 @@
-use Rattle.std.proofs.Common.{◌≡◌, ◌∙◌, ap, sym, refl, true, rules, map, List, ℕ, Option, true≢false}
-use Rattle.clap.specs.Words.{Text, is_simple, is_simple_and_free, matches_of, rows_of, found_of, fault_of, app_of, kind_of}
+use Rattle.std.proofs.Common.{◌≡◌, ◌∙◌, ap, sym, true≢false}
+use Rattle.clap.specs.Words.{is_simple_and_free, app_of, kind_of}
 use Rattle.clap.specs.declared.error.kind.ErrorKind.TheVariants as kind
 use Rattle.clap.specs.contracts.error.kind.ErrorKind.{the_type}
 use denote.Enum.Bare.{sameb}
-use Rattle.hls_origin.proofs.Words.{cut_is_simple, cut_is_simple_and_free, taken_words, refused_words}
+use Rattle.hls_origin.proofs.Words.{cut_is_simple_and_free, taken_words, refused_words}
 use Rattle.hls_origin.specs.Options.{cut_app}
 use Rattle.hls_origin.proofs.cut.options.read_options.Goals as goal
 

@@ -1,10 +1,10 @@
-use Rattle.std.proofs.Common.{◌≡◌, ◌∙◌, ◌-◌, ◌+◌, ◌<◌, ◌++◌, ◌∷◌, [], true, false, length, map, sym, ap, refl, rules, arith, append-nil, Vec, Global}
+use Rattle.std.proofs.Common.{◌≡◌, ◌∙◌, ◌-◌, ◌+◌, true, false, length, sym, ap, arith, append-nil, Vec, Global}
 use Rattle.hls_check_laws.specs.declared.spot.Spot.{Spot}
 use Rattle.hls_origin.specs.declared.cut.places.CutPlace.{CutPlace}
-use Rattle.hls_origin.specs.Placed.{IsPlaced, spots_in}
-use Rattle.hls_origin.specs.Places.{gaps, spot_at, sync_fragments}
+use Rattle.hls_origin.specs.Placed.{spots_in}
+use Rattle.hls_origin.specs.Places.{gaps}
 use Rattle.hls_origin.specs.Units.{facts_in}
-use Rattle.hls_origin.proofs.PlaceLaws.{gaps_few, offset_more, offset_next_most, placed_at, placed_push, places_empty, places_end, places_sync, spots_push}
+use Rattle.hls_origin.proofs.PlaceLaws.{gaps_few, offset_more, placed_at, placed_push, places_empty, places_end, places_sync, spots_push}
 use Rattle.hls_origin.proofs.cut.places.places_of.Goals as goal
 use Rattle.hls_origin.proofs.cut.places.places_of.Goals.{then-units-k+in_ok-push, else-units-k, then-not-is_empty+in_ok-push-2, else-not-is_empty}
 

@@ -1,4 +1,3 @@
-use Rattle.std.proofs.Common.{◌≡◌, ◌∙◌, rules}
 use Rattle.hls_origin.proofs.RunLaws.{counts_text, texts_err, texts_ok}
 use Rattle.hls_origin.proofs.cut.run.cut_text.Goals as goal
 

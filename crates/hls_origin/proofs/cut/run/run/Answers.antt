@@ -1,5 +1,5 @@
-use Rattle.std.proofs.Common.{◌≡◌, ◌∙◌, ℕ, List, true, false, rules, refl, subst}
-use Rattle.hls_origin.specs.Counted.{failures_of, inside_of}
+use Rattle.std.proofs.Common.{ℕ, List, true, false, refl, subst}
+use Rattle.hls_origin.specs.Counted.{inside_of}
 use Rattle.hls_origin.specs.Writing.{Writes}
 use Rattle.hls_origin.proofs.RunLaws.{counts_err, runs_done, runs_err, runs_unwritten}
 use Rattle.hls_origin.proofs.cut.run.run.Goals as goal

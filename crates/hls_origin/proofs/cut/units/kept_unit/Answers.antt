@@ -1,4 +1,4 @@
-use Rattle.std.proofs.Common.{rules, ◌≡◌, ◌<◌, arith}
+use Rattle.std.proofs.Common.{arith}
 use Rattle.hls_origin.proofs.Search.{finds, finds_none, kept_here, kept_nowhere, narrowed_down, narrowed_up}
 use Rattle.hls_origin.proofs.cut.units.kept_unit.Goals as goal
 

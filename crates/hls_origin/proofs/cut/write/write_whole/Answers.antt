@@ -1,5 +1,5 @@
-use Rattle.std.proofs.Common.{◌≡◌, ◌∙◌, ℕ, List, length, rules, arith, sym, ap, refl}
-use Rattle.hls_origin.proofs.WriteLaws.{empty_list, writes_part, writes_whole, writing_more, writing_none}
+use Rattle.std.proofs.Common.{◌≡◌, ◌∙◌, length, arith, refl}
+use Rattle.hls_origin.proofs.WriteLaws.{empty_list, writes_part, writes_whole, writing_more}
 use Rattle.hls_origin.proofs.cut.write.write_whole.Goals as goal
 
 pub loop-rest-preserved : goal.loop-rest-preserved

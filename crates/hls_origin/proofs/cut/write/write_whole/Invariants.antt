@@ -1,4 +1,4 @@
-use Rattle.std.proofs.Common.{◌≡◌, ℕ, List, ◌++◌, Some, length}
+use Rattle.std.proofs.Common.{◌≡◌, ℕ, List, Some, length}
 use Rattle.hls_origin.specs.Counted.{failures_of, inside_of}
 use Rattle.hls_origin.proofs.WriteLaws.{Writing}
 use Rattle.hls_origin.proofs.cut.write.write_whole.Given as goal

@@ -1,4 +1,4 @@
-use Rattle.std.proofs.Common.{◌≡◌, ◌∙◌, ap, sym, rules, List, ℕ, Ok}
+use Rattle.std.proofs.Common.{◌≡◌, ◌∙◌, ap, sym, rules}
 use Rattle.hls_media_laws.specs.UnitFacts.{facts}
 use Rattle.hls_media_laws.proofs.Bounds.{units_are_bounded}
 use Rattle.hls_origin.proofs.cut.recorder.Recorder.accept_unit.Goals as goal

@@ -1,4 +1,4 @@
-use Rattle.std.proofs.Common.{◌≡◌, ◌∙◌, sym, ap, rules, true, Ok, Err, Bool, false, Some}
+use Rattle.std.proofs.Common.{◌≡◌, ◌∙◌, sym, ap, rules, Ok, Err, Bool, false}
 use Rattle.std.specs.Prelude.{if◌then◌else◌, Result}
 use Rattle.hls_origin.specs.declared.cut.fault.CutFault.{CutFault}
 use Rattle.hls_origin.specs.declared.cut.fault.CutFault.TheVariants as fault

@@ -1,4 +1,4 @@
-use Rattle.std.proofs.Common.{rules, sym, ap, ◌∙◌, Ok}
+use Rattle.std.proofs.Common.{sym, ap, ◌∙◌, Ok}
 use Rattle.hls_origin.proofs.UnitLaws.{admitted_true}
 use Rattle.hls_origin.proofs.cut.units.Units.keep.Goals as goal
 
