@@ -1,0 +1,5 @@
+pub mod Walked
+pub mod Good
+pub mod Whole
+pub mod Singles
+pub mod Made

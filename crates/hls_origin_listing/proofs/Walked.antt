@@ -1,0 +1,101 @@
+-- Places one after another, as a walk meets them.
+use Rattle.std.proofs.Common.{◌≡◌, ℕ, zero, suc, ◌+◌, ◌-◌, ◌<◌, Bool, false, List, [], ◌∷◌, length, drop, refl, sym, ap, ◌∙◌, arith, inl, inr, subst, add-one, ◌++◌, append_assoc, append-nil}
+use Rattle.std.specs.List.{range_with_len}
+use Rattle.std.specs.Prelude.{All}
+use Rattle.std.proofs.lemmas.Bool.{cases_lt}
+use Rattle.std.proofs.lemmas.List.Elements.{All-head, All-tail}
+use Rattle.hls_check_laws.specs.Tables.{IsPlaceOf, place_at}
+use Rattle.hls_check_laws.specs.declared.spot.Spot.{Spot}
+use Rattle.hls_m3u8.specs.declared.playlist.Segment.{Segment}
+use Rattle.hls_places_laws.specs.Order.{spots_of}
+use Rattle.hls_places_laws.specs.declared.place.Place.{Place}
+use Rattle.hls_catchup_laws.specs.Segments.{Cutting, is_break, segment_between, segments_from, segments_of}
+use Rattle.hls_origin_listing.specs.Each.{each_place, ReachesNext}
+
+-- the segments from a place to the first of the rest, and from each of the rest to the next
+abbrev pub along : Cutting → Bool → List Spot → List (List Spot) → List Segment
+along cut mark from [] = []
+along cut mark from (to ∷ rest) = segment_between cut mark from to ∷ along cut (is_break to) to rest
+
+next_from : (places : List (List Spot)) (i : ℕ) (to : List Spot) (rest : List (List Spot)) → drop i places ≡ to ∷ rest →
+    (place_at places i ≡ to) × (drop (suc i) places ≡ rest)
+next_from [] zero to rest is = absurd (cc)
+next_from [] (suc i) to rest is = absurd (cc)
+next_from (p ∷ places) zero to rest is = (cc, cc)
+next_from (p ∷ places) (suc i) to rest is = next_from places i to rest is
+
+-- what is left behind place i begins with the next place
+pub at_next : (places : List (List Spot)) (i : ℕ) (to : List Spot) (rest : List (List Spot)) → drop (i + 1) places ≡ to ∷ rest →
+    (place_at places (i + 1) ≡ to) × (drop (i + 1 + 1) places ≡ rest)
+at_next places i to rest is =
+    let next = next_from places (i + 1) to rest is in
+    (next.0, ap (λ (n : ℕ). drop n places) (add-one (i + 1)) ∙ next.1)
+
+along_from : (cut : Cutting) (places : List (List Spot)) (i : ℕ) (mark : Bool) (rest : List (List Spot)) → drop (i + 1) places ≡ rest →
+    along cut mark (place_at places i) rest ≡ segments_from cut places i mark (range_with_len (i + 1) (length rest))
+along_from cut places i mark [] is = refl
+along_from cut places i mark (to ∷ rest) is =
+    let next = at_next places i to rest is in
+    let p : List Spot = place_at places i in
+    ap (λ (x : List Spot). segment_between cut mark p x ∷ along cut (is_break x) x rest) (sym next.0)
+    ∙ ap (λ (ss : List Segment). segment_between cut mark p (place_at places (i + 1)) ∷ ss)
+    (along_from cut places (i + 1) (is_break (place_at places (i + 1))) rest next.1)
+
+-- they are those of the plan that leaves no place out
+pub along_each : (cut : Cutting) (first : List Spot) (rest : List (List Spot)) →
+    along cut false first rest ≡ segments_of cut (first ∷ rest) (each_place (first ∷ rest))
+along_each cut first rest = along_from cut (first ∷ rest) 0 false rest refl
+
+-- what a list has from its first number on, which is 0
+pub from_first : (items walk : List Place) (first : ℕ) → walk ≡ drop (0 - first) items → first ≡ 0 → walk ≡ items
+from_first items walk first is zero_is = is ∙ ap (λ (n : ℕ). drop (0 - n) items) zero_is
+
+-- a walk's first place has one spot, and so have the others
+pub ones_of : (items : List Place) (first : Place) (rest walk : List Place) → items ≡ first ∷ rest → walk ≡ rest →
+    All (IsPlaceOf 1) (spots_of items) → IsPlaceOf 1 first.spots × All (IsPlaceOf 1) (spots_of walk)
+ones_of items first rest walk is same ones =
+    let split : All (IsPlaceOf 1) (first.spots ∷ spots_of rest) = subst (λ (ps : List Place). All (IsPlaceOf 1) (spots_of ps)) is ones in (
+      All-head (IsPlaceOf 1) first.spots (spots_of rest) split,
+      subst (λ (ps : List Place). All (IsPlaceOf 1) (spots_of ps)) (sym same) (All-tail (IsPlaceOf 1) first.spots (spots_of rest) split),
+    )
+
+-- one segment more
+pub one_more : (cut : Cutting) (made more : List Segment) (mark next : Bool) (from : List Spot) (walk : List Place) (to : Place) (rest : List Place)
+    (segment : Segment) (whole : List Segment) → walk ≡ to ∷ rest → more ≡ made ++ segment ∷ [] → segment ≡ segment_between cut mark from to.spots →
+    next ≡ is_break to.spots → made ++ along cut mark from (spots_of walk) ≡ whole → more ++ along cut next to.spots (spots_of rest) ≡ whole
+one_more cut made more mark next from walk to rest segment whole is pushed here break before =
+    ap (λ (ss : List Segment). ss ++ along cut next to.spots (spots_of rest)) pushed
+    ∙ append_assoc made (segment ∷ []) (along cut next to.spots (spots_of rest))
+    ∙ ap (λ (b : Bool). made ++ (segment ∷ along cut b to.spots (spots_of rest))) break
+    ∙ ap (λ (s : Segment). made ++ (s ∷ along cut (is_break to.spots) to.spots (spots_of rest))) here
+    ∙ ap (λ (ps : List Place). made ++ along cut mark from (spots_of ps)) (sym is) ∙ before
+
+-- all segments
+pub all_made : (cut : Cutting) (items : List Place) (first : Place) (rest walk left : List Place) (made : List Segment) (mark : Bool) (from : List Spot) →
+    items ≡ first ∷ rest → walk ≡ rest → left ≡ [] →
+    made ++ along cut mark from (spots_of left) ≡ along cut false first.spots (spots_of walk) →
+    made ≡ segments_of cut (spots_of items) (each_place (spots_of items))
+all_made cut items first rest walk left made mark from is same over done =
+    sym (append-nil made) ∙ ap (λ (ps : List Place). made ++ along cut mark from (spots_of ps)) (sym over) ∙ done
+    ∙ ap (λ (ps : List Place). along cut false first.spots (spots_of ps)) same
+    ∙ along_each cut first.spots (spots_of rest)
+    ∙ ap (λ (ps : List Place). segments_of cut (spots_of ps) (each_place (spots_of ps))) (sym is)
+
+-- without places there is no segment
+pub none_made : (cut : Cutting) (items : List Place) (made : List Segment) → items ≡ [] → made ≡ [] →
+    made ≡ segments_of cut (spots_of items) (each_place (spots_of items))
+none_made cut items made none empty = empty ∙ ap (λ (ps : List Place). segments_of cut (spots_of ps) (each_place (spots_of ps))) (sym none)
+
+-- one step more is allowed
+pub step_more : (target : ℕ) (places : List (List Spot)) (place : ℕ) → ((k : ℕ) → k < place → ReachesNext target places k) → ReachesNext target places place →
+    (k : ℕ) → k < place + 1 → ReachesNext target places k
+step_more target places place before here k within = elim (cases_lt k place) [
+  | inl earlier ↦ before k earlier
+  | inr last ↦ (let same : place ≡ k = omega arith in subst (ReachesNext target places) same here)
+]
+
+-- the next place of a walk
+pub next_place : (items walk rest : List Place) (place : ℕ) (to : Place) → drop (place + 1) (spots_of items) ≡ spots_of walk → walk ≡ to ∷ rest →
+    (place_at (spots_of items) (place + 1) ≡ to.spots) × (drop (place + 1 + 1) (spots_of items) ≡ spots_of rest)
+next_place items walk rest place to left is =
+    at_next (spots_of items) place to.spots (spots_of rest) (left ∙ ap spots_of is)

@@ -1,0 +1,58 @@
+-- The table of all places of a channel of one rendition.
+use Rattle.std.proofs.Common.{◌≡◌, ℕ, ◌≤◌, ◌-◌, List, length, sym, subst, arith, All, get_or}
+use Rattle.std.proofs.lemmas.List.{length-map}
+use Rattle.std.proofs.lemmas.List.Elements.{All-get_or}
+use Rattle.hls_record.specs.Recorded.{Recorded}
+use Rattle.hls_check_laws.specs.declared.spot.Spot.{Spot}
+use Rattle.hls_check_laws.specs.Tables.{IsTable, IsPlaceOf, spot_in, table_of}
+use Rattle.hls_check_laws.specs.Orders.{IsOrderly}
+use Rattle.hls_places_laws.specs.declared.place.Place.{Place}
+use Rattle.hls_places_laws.specs.Order.{no_place, spots_of, renditions_in, ArePlaces}
+use Rattle.hls_places_laws.proofs.Ordered.{table-place}
+use Rattle.hls_catchup_laws.specs.Laws.{end_fragment}
+use Rattle.hls_origin_listing.specs.Places.{ArePlacesOf}
+use Rattle.hls_origin_listing.proofs.Good.{NonePast}
+
+pub length_spots : (places : List Place) → length (spots_of places) ≡ length places
+length_spots places = length-map places (λ (p : Place). p.spots)
+
+-- each place has one spot
+pub one_each : (places : List Place) → ArePlaces places → renditions_in places ≡ 1 → All (IsPlaceOf 1) (spots_of places)
+one_each places are single = subst (λ (n : ℕ). All (IsPlaceOf n) (spots_of places)) single are.each
+
+pub whole_is_table : (target preferred : ℕ) (places : List Place) → ArePlaces places → renditions_in places ≡ 1 →
+    (1 ≤ target) × (target ≤ 3600) → (1 ≤ preferred) × (preferred ≤ 3600000000) → 2 ≤ length places → length places ≤ 16384 →
+    IsTable (table_of target preferred 1 (spots_of places))
+whole_is_table target preferred places are single target_fits preferred_fits some few =
+    let count : length (spots_of places) ≡ length places = length_spots places in
+    record {
+      target = target_fits;
+      preferred = preferred_fits;
+      renditions = (omega arith, omega arith);
+      count = (omega arith, omega arith);
+      places = one_each places are single;
+    }
+
+pub whole_is_orderly : (target preferred : ℕ) (places : List Place) → ArePlaces places → renditions_in places ≡ 1 →
+    IsOrderly (table_of target preferred 1 (spots_of places))
+whole_is_orderly target preferred places are single =
+    let orderly : IsOrderly (table_of 0 0 1 (spots_of places)) =
+    subst (λ (n : ℕ). IsOrderly (table_of 0 0 n (spots_of places))) single are.orderly in
+    record {
+      sorted = λ p h. let there = orderly.sorted p h in record { spots = there.spots; after = there.after };
+      rising = orderly.rising;
+    }
+
+-- no place is past the last unit's end
+pub none_past : (recorded : Recorded) (places : List Place) → ArePlacesOf recorded places → NonePast (length recorded.facts) (spots_of places)
+none_past recorded places are i within =
+    let count : length (spots_of places) ≡ length places = length_spots places in
+    let there : (spot_in (get_or places i no_place).spots 0).fragment ≤ length recorded.facts =
+    All-get_or (λ (p : Place). (spot_in p.spots 0).fragment ≤ length recorded.facts) places i no_place (omega arith) are.ever in
+    subst (λ (p : List Spot). (spot_in p 0).fragment ≤ length recorded.facts) (sym (table-place places i)) there
+
+pub end_within : (target preferred : ℕ) (recorded : Recorded) (places : List Place) → ArePlacesOf recorded places → 2 ≤ length places →
+    end_fragment (table_of target preferred 1 (spots_of places)) 0 ≤ length recorded.facts
+end_within target preferred recorded places are some =
+    let count : length (spots_of places) ≡ length places = length_spots places in
+    none_past recorded places are (length (spots_of places) - 1) (omega arith)

@@ -1,0 +1,22 @@
+use Rattle.std.proofs.Common.{List, ℕ, length, subst, sym}
+use Rattle.hls_m3u8.specs.declared.playlist.Segment.{Segment}
+use Rattle.hls_m3u8.specs.HasText.{HasText}
+use Rattle.hls_m3u8.specs.Forms.{vod_list}
+use Rattle.hls_catchup_laws.specs.Segments.{segments_of}
+use Rattle.hls_catchup.specs.Lists.{cutting}
+use Rattle.hls_places_laws.specs.Order.{spots_of}
+use Rattle.hls_origin_listing.specs.Each.{each_place}
+use Rattle.hls_origin_listing.proofs.Good.{each_has_text}
+use Rattle.hls_origin_listing.proofs.Whole.{one_each, none_past}
+use Rattle.hls_origin_listing.proofs.each.list_each.Goals as goal
+
+pub vod_text-requires : goal.vod_text-requires
+vod_text-requires c =
+    let r = c.args.recording.now in
+    let spots = spots_of c.args.places.now.items in
+    let good : HasText (vod_list c.args.target c.args.uri.now (length r.head) (segments_of (cutting r 0 c.args.uri.now 0) spots (each_place spots))) =
+    each_has_text r c.args.target c.args.uri.now spots c.requires.places.valid c.requires.target c.requires.uri
+    (one_each c.args.places.now.items c.requires.places.ordered c.requires.places.single)
+    (none_past r c.args.places.now.items c.requires.places) c.in_default.ensures in
+    subst (λ (ss : List Segment). HasText (vod_list c.args.target c.in_ok-uri.uri (length r.head) ss)) (sym c.in_ok-segments.ensures)
+    (subst (λ (u : List ℕ). HasText (vod_list c.args.target u (length r.head) (segments_of (cutting r 0 u 0) spots (each_place spots)))) (sym c.in_ok-uri.ensures) good)

@@ -1,0 +1,10 @@
+use Rattle.std.proofs.Common.{◌≤◌, length, subst, sym}
+use Rattle.hls_check_laws.specs.Tables.{Table}
+use Rattle.hls_catchup_laws.specs.Laws.{end_fragment}
+use Rattle.hls_origin_listing.proofs.Whole.{end_within}
+use Rattle.hls_origin_listing.proofs.plans.list_planned.Goals as goal
+
+pub played-requires-clause-ever : goal.played-requires-clause-ever
+played-requires-clause-ever c =
+    subst (λ (t : Table). end_fragment t 0 ≤ length c.args.recording.now.facts) (sym c.in_ok-table.ensures)
+    (end_within c.args.target c.args.preferred c.args.recording.now c.args.places.now.items c.requires.places c.requires.count)

@@ -1,0 +1,14 @@
+use Rattle.std.proofs.Common.{◌≡◌, ◌++◌, All, false}
+use Rattle.hls_check_laws.specs.Tables.{IsPlaceOf}
+use Rattle.hls_places_laws.specs.Order.{spots_of}
+use Rattle.hls_catchup.specs.Lists.{cutting}
+use Rattle.hls_origin_listing.proofs.Walked.{along}
+use Rattle.hls_origin_listing.proofs.segments.each_segment.Given as goal
+
+abbrev pub invariant-loop-to : goal.invariant-loop-to
+invariant-loop-to l = record {
+  one : IsPlaceOf 1 l.from.spots;
+  ones : All (IsPlaceOf 1) (spots_of l.to-iterator);
+  done : l.segments.items ++ along (cutting l.recording 0 l.uri 0) l.mark l.from.spots (spots_of l.to-iterator)
+      ≡ along (cutting l.recording 0 l.uri 0) false l.initial.from.spots (spots_of l.initial.to-iterator);
+}

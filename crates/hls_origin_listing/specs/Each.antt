@@ -1,0 +1,49 @@
+-- The playlist with one segment from each place to the next.
+use Rattle.std.specs.Prelude.{◌≡◌, ℕ, ◌+◌, ◌<◌, ◌≤◌, List, length, Result, Ok, Err}
+use Rattle.std.specs.List.{range_with_len}
+use Rattle.hls_record.specs.Recorded.{Recorded}
+use Rattle.hls_check_laws.specs.declared.spot.Spot.{Spot}
+use Rattle.hls_check_laws.specs.Tables.{place_at}
+use Rattle.hls_check_laws.specs.Steps.{IsPlaceStep}
+use Rattle.hls_m3u8.specs.Forms.{vod_list}
+use Rattle.hls_m3u8.specs.Lines.{media_text}
+use Rattle.hls_catchup_laws.specs.Segments.{segments_of}
+use Rattle.hls_catchup.specs.Lists.{cutting}
+use Rattle.hls_origin_listing.specs.declared.forms.Listed.{Listed}
+use Rattle.hls_origin_listing.specs.declared.forms.Listed.TheVariants.{Text, NoCut}
+use Rattle.hls_origin_listing.specs.declared.fault.ListFault.{ListFault}
+use Rattle.hls_origin_listing.specs.declared.fault.ListFault.TheVariants.{NoPlace, ProgrammeTooLong, NotAllowed, Memory}
+
+-- the text of the list of VOD with a plan's steps as segments, in a resource that is the recording's init section and then
+-- all units
+abbrev pub text_by : ℕ → Recorded → List ℕ → List (List Spot) → List ℕ → List ℕ
+text_by target recorded uri places plan =
+    media_text (vod_list target uri (length recorded.head) (segments_of (cutting recorded 0 uri 0) places plan))
+
+-- the plan that leaves no place out
+abbrev pub each_place : List (List Spot) → List ℕ
+each_place places = range_with_len 0 (length places)
+
+-- one segment may reach from place i to the next
+abbrev pub ReachesNext : ℕ → List (List Spot) → ℕ → Type 0
+ReachesNext target places i = IsPlaceStep target (place_at places i) (place_at places (i + 1))
+
+-- so from each place but the last
+abbrev pub AllReach : ℕ → List (List Spot) → Type 0
+AllReach target places = (i : ℕ) → i + 1 < length places → ReachesNext target places i
+
+-- the first place from which none may
+pub record IsFirstRefused (target : ℕ) (places : List (List Spot)) (i : ℕ) : Type 0 where
+  pub within : i + 1 < length places
+  pub refused : ReachesNext target places i → ⊥
+  pub before : (k : ℕ) → k < i → ReachesNext target places k
+
+-- the list's text, where each place reaches the next; want of memory may come in its place alone
+abbrev pub ListsEach : ℕ → Recorded → List (List Spot) → List ℕ → Result Listed ListFault → Type 0
+ListsEach target recorded places uri (Ok (Text text)) =
+    (2 ≤ length places) × AllReach target places × (text.items ≡ text_by target recorded uri places (each_place places))
+ListsEach target recorded places uri (Ok (NoCut text)) = ⊥
+ListsEach target recorded places uri (Err NoPlace) = length places < 2
+ListsEach target recorded places uri (Err ProgrammeTooLong) = ⊥
+ListsEach target recorded places uri (Err (NotAllowed place)) = IsFirstRefused target places place
+ListsEach target recorded places uri (Err Memory) = (2 ≤ length places) × AllReach target places

@@ -1,0 +1,34 @@
+-- What is listed of a channel of one rendition.
+use Rattle.std.specs.Prelude.{◌≡◌, ℕ, List, length, IsSome, Some, Result}
+use Rattle.hls_record.specs.Recorded.{Recorded}
+use Rattle.hls_check_laws.specs.declared.spot.Spot.{Spot}
+use Rattle.hls_check_laws.specs.Tables.{table_of}
+use Rattle.hls_places_laws.specs.Order.{spots_of}
+use Rattle.hls_core_laws.specs.State.{State}
+use Rattle.hls_core_laws.specs.Places.{places}
+use Rattle.hls_core.specs.Reads.{recording_of}
+use Rattle.hls_origin_listing.specs.declared.forms.Listing.{Listing}
+use Rattle.hls_origin_listing.specs.declared.forms.Listing.TheVariants.{Each, Planned}
+use Rattle.hls_origin_listing.specs.declared.forms.Listed.{Listed}
+use Rattle.hls_origin_listing.specs.declared.fault.ListFault.{ListFault}
+use Rattle.hls_origin_listing.specs.Each.{ListsEach}
+use Rattle.hls_origin_listing.specs.Plans.{ListsPlanned}
+
+-- the channel has one rendition, and it has begun
+pub record IsSingle (s : State) : Type 0 where
+  pub one : length s.config.renditions ≡ 1
+  pub begun : IsSome (recording_of s 0)
+
+-- all places, as a table has them
+abbrev pub all_places : State → List (List Spot)
+all_places s = spots_of (places s)
+
+-- what is listed of a recording with the state's target, preferred length and places
+abbrev pub ListsOf : State → Recorded → List ℕ → Listing → Result Listed ListFault → Type 0
+ListsOf s recorded uri Each result = ListsEach s.config.target recorded (all_places s) uri result
+ListsOf s recorded uri (Planned certificate) result =
+    ListsPlanned certificate (table_of s.config.target s.config.preferred 1 (all_places s)) recorded uri result
+
+-- what is listed of the state's one recording
+abbrev pub Lists : State → List ℕ → Listing → Result Listed ListFault → Type 0
+Lists s uri listing result = (recorded : Recorded) → recording_of s 0 ≡ Some recorded → ListsOf s recorded uri listing result

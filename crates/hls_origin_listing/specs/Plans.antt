@@ -1,0 +1,70 @@
+-- What is listed by a least plan of all places.
+use Rattle.std.specs.Prelude.{◌≡◌, ℕ, ◌<◌, ◌≤◌, Bool, true, false, List, [], length, Option, Result, Ok, Err}
+use Rattle.hls_record.specs.Recorded.{Recorded}
+use Rattle.hls_check_laws.specs.Tables.{Table}
+use Rattle.hls_check_laws.specs.Plans.{IsLeast, HasNoPlan}
+use Rattle.hls_check_laws.specs.Certificates.{Shown, CutShown, NoneShown, IsCertificate, IsGood}
+use Rattle.hls_check_text.specs.Text.{text}
+use Rattle.hls_origin_listing.specs.declared.forms.Listed.{Listed}
+use Rattle.hls_origin_listing.specs.declared.forms.Listed.TheVariants.{Text, NoCut}
+use Rattle.hls_origin_listing.specs.declared.fault.ListFault.{ListFault}
+use Rattle.hls_origin_listing.specs.declared.fault.ListFault.TheVariants.{NoPlace, ProgrammeTooLong, NotAllowed, Memory}
+use Rattle.hls_origin_listing.specs.Each.{text_by}
+
+-- the text of a good certificate over this very table that shows this
+pub record IsGoodText (t : Table) (shown : Shown) (bytes : List ℕ) : Type 0 where
+  pub form : IsCertificate (record { table = t; shown = shown })
+  pub good : IsGood (record { table = t; shown = shown })
+  pub is : bytes ≡ text (record { table = t; shown = shown })
+
+-- the playlist by a least plan
+pub record IsLeastPlaylist (t : Table) (recorded : Recorded) (uri : List ℕ) (bytes : List ℕ) : Type 0 where
+  pub plan : List ℕ
+  pub least : IsLeast t plan
+  pub is : bytes ≡ text_by t.target recorded uri t.places plan
+
+-- the certificate of a least plan, with its cost and prices
+pub record IsLeastCertificate (t : Table) (bytes : List ℕ) : Type 0 where
+  pub plan : List ℕ
+  pub cost : ℕ
+  pub prices : List (Option ℕ)
+  pub least : IsLeast t plan
+  pub text : IsGoodText t (CutShown cost plan prices) bytes
+
+-- the certificate that there is no plan
+pub record IsNoCertificate (t : Table) (bytes : List ℕ) : Type 0 where
+  pub closed : List Bool
+  pub text : IsGoodText t (NoneShown closed) bytes
+
+-- what is listed by a least plan: its certificate where that was asked for, else its playlist
+abbrev pub IsLeastText : Bool → Table → Recorded → List ℕ → List ℕ → Type 0
+IsLeastText true t recorded uri bytes = IsLeastCertificate t bytes
+IsLeastText false t recorded uri bytes = IsLeastPlaylist t recorded uri bytes
+
+-- what is listed where there is no plan: the certificate of that, else no byte
+abbrev pub IsNoneText : Bool → Table → List ℕ → Type 0
+IsNoneText true t bytes = IsNoCertificate t bytes
+IsNoneText false t bytes = bytes ≡ []
+
+-- a least plan's playlist, or no byte
+abbrev pub IsPlayed : Table → Recorded → List ℕ → Listed → Type 0
+IsPlayed t recorded uri (Text bytes) = IsLeastPlaylist t recorded uri bytes.items
+IsPlayed t recorded uri (NoCut bytes) = HasNoPlan t × (bytes.items ≡ [])
+
+-- a certificate
+abbrev pub IsCertified : Table → Listed → Type 0
+IsCertified t (Text bytes) = IsLeastCertificate t bytes.items
+IsCertified t (NoCut bytes) = HasNoPlan t × IsNoCertificate t bytes.items
+
+-- so many places that they make up a table
+abbrev pub HasTable : Table → Type 0
+HasTable t = (2 ≤ length t.places) × (length t.places ≤ 16384)
+
+-- what is listed of a table of all places; want of memory may come in place of a text alone
+abbrev pub ListsPlanned : Bool → Table → Recorded → List ℕ → Result Listed ListFault → Type 0
+ListsPlanned certificate t recorded uri (Ok (Text bytes)) = HasTable t × IsLeastText certificate t recorded uri bytes.items
+ListsPlanned certificate t recorded uri (Ok (NoCut bytes)) = HasTable t × HasNoPlan t × IsNoneText certificate t bytes.items
+ListsPlanned certificate t recorded uri (Err NoPlace) = length t.places < 2
+ListsPlanned certificate t recorded uri (Err ProgrammeTooLong) = 16384 < length t.places
+ListsPlanned certificate t recorded uri (Err (NotAllowed place)) = ⊥
+ListsPlanned certificate t recorded uri (Err Memory) = HasTable t

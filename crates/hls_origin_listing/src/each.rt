@@ -1,0 +1,40 @@
+ghost use Rattle.std.specs.Prelude.{◌≡◌, ◌≤◌, length};
+ghost use Rattle.hls_m3u8.specs.Uri.{IsUri};
+ghost use Rattle.hls_places_laws.specs.Order.{spots_of};
+ghost use Rattle.hls_origin_listing.specs.Each.{ListsEach};
+ghost use Rattle.hls_origin_listing.specs.Places.{ArePlacesOf};
+
+use crate::fault::ListFault;
+use crate::forms::Listed;
+use crate::segments::each_segment;
+use crate::steps::first_refused;
+use crate::text::vod_text;
+use bytes::ByteStr;
+use hls_blocks::Shared;
+use hls_places::Place;
+use hls_record::Recording;
+use std::alloc::Global;
+
+/// The playlist with one segment from each place to the next, of which there are at least two. The target is in seconds.
+pub fn list_each(
+    alloc: Global,
+    target: u64,
+    recording: &Recording,
+    places: &Shared<Place>,
+    uri: &str,
+) -> Result<Listed, ListFault>
+    requires first { places.now.first ≡ 0 }
+    requires target { target ≤ 3600 }
+    requires places { ArePlacesOf recording.now places.now.items }
+    requires count { 2 ≤ length places.now.items }
+    requires uri { IsUri uri.now }
+    ensures { ListsEach target recording.now (spots_of places.now.items) uri.now result }
+{
+    if let Some(place) = first_refused(target, places) {
+        return Err(ListFault::NotAllowed { place });
+    }
+    let uri = ByteStr::copy_from_str(alloc, uri)?;
+    let segments = each_segment(alloc, recording, &uri, places)?;
+    let text = vod_text(alloc, target, recording, uri, segments)?;
+    Ok(Listed::Text(text))
+}

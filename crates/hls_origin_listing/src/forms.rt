@@ -1,0 +1,17 @@
+/// How a recorded stream is listed.
+#[derive(Clone, Copy, Debug, PartialEq, Eq)]
+pub enum Listing {
+    /// A playlist with one segment from each place to the next.
+    Each,
+    /// A least plan of all places: its playlist, or its certificate.
+    Planned { certificate: bool },
+}
+
+/// What is listed, byte by byte.
+#[derive(Debug, Drop)]
+pub enum Listed {
+    /// The playlist, or the certificate of a least plan.
+    Text(Vec<u8>),
+    /// There is no plan: its certificate where that was asked for, else no byte.
+    NoCut(Vec<u8>),
+}

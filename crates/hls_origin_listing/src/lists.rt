@@ -1,0 +1,49 @@
+ghost use Rattle.hls_m3u8.specs.Uri.{IsUri};
+ghost use Rattle.hls_origin_listing.specs.Lists.{IsSingle, Lists};
+
+use crate::each::list_each;
+use crate::fault::ListFault;
+use crate::forms::{Listed, Listing};
+use crate::plans::list_planned;
+use hls_core::snapshot::Snapshot;
+use std::alloc::Global;
+
+/// What is printed of a channel of one rendition that has begun, over its resource `uri`: its init section, then all units.
+/// The target and the preferred length are the channel's.
+///
+/// `Each` gives the playlist with one segment from each place to the next (RFC 8216 section 4.3.3.5), or `NotAllowed` with
+/// the number of the first place from which no segment may reach the next. `Planned` gives a least plan's playlist or its
+/// certificate, `NoCut` where there is no plan, or `ProgrammeTooLong` for more than 16384 places. With less than two places
+/// both give `NoPlace`. `Memory` comes only where a growth was refused, and after every other fault.
+pub fn list(
+    alloc: Global,
+    snapshot: &Snapshot,
+    uri: &str,
+    listing: Listing,
+) -> Result<Listed, ListFault>
+    requires single { IsSingle snapshot.now }
+    requires uri { IsUri uri.now }
+    ensures { Lists snapshot.now uri.now listing result }
+{
+    let Some(recording) = snapshot.recording(0) else {
+        unreachable!()
+    };
+    let places = snapshot.places();
+    if places.next() < 2 {
+        return Err(ListFault::NoPlace);
+    }
+    let _ = recording.count();
+    let config = snapshot.config();
+    match listing {
+        Listing::Each => list_each(alloc, config.target(), recording, places, uri),
+        Listing::Planned { certificate } => list_planned(
+            alloc,
+            config.target(),
+            config.preferred(),
+            recording,
+            places,
+            uri,
+            certificate,
+        ),
+    }
+}

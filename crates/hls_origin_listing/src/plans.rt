@@ -1,0 +1,116 @@
+ghost use Rattle.std.specs.Prelude.{◌≡◌, ◌≤◌, length, IfOk};
+ghost use Rattle.hls_m3u8.specs.Uri.{IsUri};
+ghost use Rattle.hls_check_laws.specs.Tables.{table_of};
+ghost use Rattle.hls_check_laws.specs.Plans.{IsPlan};
+ghost use Rattle.hls_check_laws.specs.Certificates.{IsGood};
+ghost use Rattle.hls_places_laws.specs.Order.{spots_of};
+ghost use Rattle.hls_plan.specs.Planned.{IsBest, CanBeShown, certificate_of};
+ghost use Rattle.hls_catchup_laws.specs.Laws.{end_fragment};
+ghost use Rattle.hls_origin_listing.specs.Each.{text_by};
+ghost use Rattle.hls_origin_listing.specs.Plans.{ListsPlanned, IsCertified, IsPlayed};
+ghost use Rattle.hls_origin_listing.specs.Places.{ArePlacesOf};
+
+use crate::fault::ListFault;
+use crate::forms::Listed;
+use crate::table::whole_table;
+use crate::text::vod_text;
+use bytes::ByteStr;
+use hls_blocks::Shared;
+use hls_catchup::segments_of;
+use hls_check_laws::{Claim, PlaceTable};
+use hls_check_text::write;
+use hls_places::Place;
+use hls_plan::{Planned, certificate, plan};
+use hls_record::Recording;
+use std::alloc::{AllocError, Global};
+
+// The most places of one programme.
+const PLACE_LIMIT: u64 = 16384;
+
+/// The playlist by a plan's steps.
+fn plan_text(
+    alloc: Global,
+    recording: &Recording,
+    uri: &str,
+    table: &PlaceTable,
+    plan: &[usize],
+) -> Result<Vec<u8>, AllocError>
+    requires uri { IsUri uri.now }
+    requires plan { IsPlan table.now plan.now }
+    requires ever { end_fragment table.now 0 ≤ length recording.now.facts }
+    ensures { IfOk result (λ text. text.items ≡ text_by table.now.target recording.now uri.now table.now.places plan.now) }
+{
+    let _ = recording.count();
+    let _ = table.len();
+    let uri = ByteStr::copy_from_str(alloc, uri)?;
+    let segments = segments_of(alloc, recording, 0, &uri, 0, table, plan)?;
+    vod_text(alloc, table.target(), recording, uri, segments)
+}
+
+/// The playlist of what was planned.
+fn played(
+    alloc: Global,
+    recording: &Recording,
+    uri: &str,
+    table: &PlaceTable,
+    planned: &Planned,
+) -> Result<Listed, AllocError>
+    requires uri { IsUri uri.now }
+    requires best { IsBest table.now planned.now }
+    requires ever { end_fragment table.now 0 ≤ length recording.now.facts }
+    ensures { IfOk result (IsPlayed table.now recording.now uri.now) }
+{
+    match planned {
+        Planned::Cut { plan, .. } => {
+            let text = plan_text(alloc, recording, uri, table, plan.as_slice())?;
+            Ok(Listed::Text(text))
+        }
+        Planned::NoCut { .. } => Ok(Listed::NoCut(Vec::new(alloc))),
+    }
+}
+
+/// The certificate of what was planned.
+fn certified(alloc: Global, table: PlaceTable, planned: Planned) -> Result<Listed, AllocError>
+    requires good { IsGood (certificate_of table planned) }
+    requires best { IsBest table planned }
+    requires shown { CanBeShown table planned }
+    ensures { IfOk result (IsCertified table) }
+{
+    let certificate = certificate(table, planned);
+    let text = write(alloc, &certificate)?;
+    match certificate.claim() {
+        Claim::Cut { .. } => Ok(Listed::Text(text)),
+        Claim::NoCut { .. } => Ok(Listed::NoCut(text)),
+    }
+}
+
+/// What a least plan of all places gives, of which there are at least two: its playlist, or its certificate. The target is
+/// in seconds, the preferred length in microseconds.
+pub fn list_planned(
+    alloc: Global,
+    target: u64,
+    preferred: u64,
+    recording: &Recording,
+    places: &Shared<Place>,
+    uri: &str,
+    certificate: bool,
+) -> Result<Listed, ListFault>
+    requires first { places.now.first ≡ 0 }
+    requires target { (1 ≤ target) × (target ≤ 3600) }
+    requires preferred { (1 ≤ preferred) × (preferred ≤ 3600000000) }
+    requires places { ArePlacesOf recording.now places.now.items }
+    requires count { 2 ≤ length places.now.items }
+    requires uri { IsUri uri.now }
+    ensures { ListsPlanned certificate (table_of target preferred 1 (spots_of places.now.items)) recording.now uri.now result }
+{
+    if PLACE_LIMIT < places.next() {
+        return Err(ListFault::ProgrammeTooLong);
+    }
+    let table = whole_table(alloc, target, preferred, places)?;
+    let planned = plan(alloc, &table)?;
+    if certificate {
+        Ok(certified(alloc, table, planned)?)
+    } else {
+        Ok(played(alloc, recording, uri, &table, &planned)?)
+    }
+}

@@ -1,0 +1,28 @@
+ghost use Rattle.std.specs.Prelude.{◌≡◌, MatchOption};
+ghost use Rattle.hls_places_laws.specs.Order.{spots_of};
+ghost use Rattle.hls_origin_listing.specs.Each.{AllReach, IsFirstRefused};
+
+use hls_blocks::Shared;
+use hls_places::{Place, pair_allowed};
+
+/// The number of the first place from which no segment of at most `target` seconds may reach the next. It takes no memory.
+pub fn first_refused(target: u64, places: &Shared<Place>) -> Option<usize>
+    requires { places.now.first ≡ 0 }
+    ensures { MatchOption result (AllReach target (spots_of places.now.items)) (IsFirstRefused target (spots_of places.now.items)) }
+{
+    let _ = places.next();
+    let mut walk = places.iter_from(0);
+    let Some(first) = walk.next() else {
+        return None;
+    };
+    let mut from = first;
+    let mut place = 0;
+    for to in walk {
+        if !pair_allowed(target, from, to) {
+            return Some(place);
+        }
+        from = to;
+        place += 1;
+    }
+    None
+}

@@ -1,0 +1,25 @@
+ghost use Rattle.std.specs.Prelude.{◌≡◌, length, IfOk};
+ghost use Rattle.hls_m3u8.specs.Forms.{vod_list};
+ghost use Rattle.hls_m3u8.specs.HasText.{HasText};
+ghost use Rattle.hls_m3u8.specs.Lines.{media_text};
+
+use bytes::ByteStr;
+use hls_m3u8::{MediaPlaylist, Segment, write_media};
+use hls_record::Recording;
+use std::alloc::{AllocError, Global};
+
+/// The text of the list of VOD with these segments of the recording's resource.
+pub fn vod_text(
+    alloc: Global,
+    target: u64,
+    recording: &Recording,
+    uri: ByteStr,
+    segments: Vec<Segment>,
+) -> Result<Vec<u8>, AllocError>
+    requires { HasText (vod_list target uri (length recording.now.head) segments.items) }
+    ensures { IfOk result (λ text. text.items ≡ media_text (vod_list target uri (length recording.now.head) segments.items)) }
+{
+    let init_length = recording.head().len() as u64;
+    let list = MediaPlaylist::vod(target, uri, init_length, segments);
+    write_media(alloc, &list)
+}
