@@ -1,13 +1,12 @@
 pub mod AcceptLaws
+pub mod AnswerLaws
+pub mod Begun
+mod CheckExamples
 mod Examples
 pub mod GatherLaws
-pub mod ListLaws
 pub mod Numbers
-pub mod PlaceLaws
+pub mod PrintLaws
+pub mod ReadLaws
 pub mod RunLaws
-pub mod Search
-pub mod TextLaws
 pub mod Told
-pub mod UnitLaws
 pub mod Words
-pub mod WriteLaws

@@ -1,73 +1,119 @@
 -- From what was gathered to what is answered.
-use Rattle.std.proofs.Common.{◌≡◌, ◌∙◌, ℕ, List, [], ◌++◌, Option, Some, Result, Ok, Err, Vec, refl, sym, ap, subst, inl, inr, true≢false, true, false, append-nil}
-use Rattle.std.specs.Global.{Global}
+use Rattle.std.proofs.Common.{◌≡◌, ◌≢◌, ◌∙◌, ℕ, List, [], ◌++◌, Option, Some, Result, Ok, Err, Bool, refl, sym, ap, subst, inl, inr, true≢false, true, false, append-nil}
 use Rattle.hls_boxes_laws.specs.Parts.{cut_of}
+use Rattle.hls_core_laws.specs.State.{State}
+use Rattle.hls_http.specs.Writing.{CountsWrite, Writes}
+use Rattle.hls_origin_listing.specs.declared.fault.ListFault.{ListFault}
+use Rattle.hls_origin_listing.specs.declared.fault.ListFault.TheVariants as list
+use Rattle.hls_origin_listing.specs.declared.forms.Listed.{Listed}
 use Rattle.hls_origin.specs.declared.cut.fault.CutFault.{CutFault}
 use Rattle.hls_origin.specs.declared.cut.fault.CutFault.TheVariants as fault
-use Rattle.hls_origin.specs.declared.cut.run.CutEnd.TheVariants.{Done, Refused}
-use Rattle.hls_origin.specs.Accepts.{Told, is_failure}
+use Rattle.hls_origin.specs.declared.cut.run.CutEnd.{CutEnd}
+use Rattle.hls_origin.specs.declared.cut.run.CutEnd.TheVariants as end
+use Rattle.hls_origin.specs.Accepts.{Becomes, Told, is_failure}
+use Rattle.hls_origin.specs.Channel.{opening_of}
 use Rattle.hls_origin.specs.Gather.{CountsReads, EndsReading, Gathers, GathersOf}
-use Rattle.hls_origin.specs.Listing.{ListsText}
 use Rattle.hls_origin.specs.Options.{Choice}
-use Rattle.hls_origin.specs.Recorded.{Recorded, ended, outcome}
-use Rattle.hls_origin.specs.Run.{Answers, CountsFailures, EndsCut, Runs, Texts, TextsOf}
-use Rattle.hls_origin.specs.Writing.{Writes}
-use Rattle.hls_origin.proofs.Told.{told_ended, told_outcome}
+use Rattle.hls_origin.specs.Recorded.{ended, recorded}
+use Rattle.hls_origin.specs.Run.{Answers, Comes, CountsFailures, CountsPrint, EndsCut, IsListing, ListsAtEnd, Outcome, Prints, Runs, Takes, TakesOf, bytes_of, ended_by, is_cut}
+use Rattle.hls_origin.proofs.Told.{told_ended, told_recorded}
 
-ends_at : (choice : Choice) (f : CutFault) (taken rest : List ℕ) → EndsReading f taken rest → EndsCut choice f taken rest
-ends_at choice f taken rest (inl h) = inl (h.0, h.1 choice)
-ends_at choice f taken rest (inr h) = inr (h choice)
+-- ---- refusals of the stream
 
--- no outcome tells of a failed read or write
-no_failure : (choice : Choice) (stream : List ℕ) (f : CutFault) → outcome choice stream ≡ Err f → is_failure f ≡ false
-no_failure choice stream f is =
-    let told : Told (outcome choice stream) = told_outcome choice (cut_of stream) in
-    let P : Result (List ℕ) CutFault → Type 0 = Told in
+refused_comes : (choice : Choice) (x : Result State CutFault) (f : CutFault) → x ≡ Err f → Comes choice x (Err f)
+refused_comes choice (Ok s) f is = cc
+refused_comes choice (Err g) f is = cc
+
+ends_at : (choice : Choice) (f : CutFault) (taken rest : List ℕ) → EndsReading (opening_of choice) f taken rest → EndsCut choice f taken rest
+ends_at choice f taken rest (inl h) = inl (h.0, refused_comes choice (recorded (opening_of choice) taken) f h.1)
+ends_at choice f taken rest (inr h) = inr (λ more. refused_comes choice (recorded (opening_of choice) (taken ++ more)) f (h more))
+
+-- no refusal of a stream tells of a failed read or write
+no_failure : (o : State) (stream : List ℕ) (f : CutFault) → recorded o stream ≡ Err f → is_failure f ≡ false
+no_failure o stream f is =
+    let told : Told (recorded o stream) = told_recorded o (cut_of stream) in
+    let P : Result State CutFault → Type 0 = Told in
     subst P is told
 
-ends_no_failure : (f : CutFault) (taken rest : List ℕ) → EndsReading f taken rest → is_failure f ≡ false
-ends_no_failure f taken rest (inl h) = let choice : Choice = record { target = 0; uri = [] } in no_failure choice taken f (h.1 choice)
-ends_no_failure f taken rest (inr h) = let choice : Choice = record { target = 0; uri = [] } in no_failure choice (taken ++ []) f (h choice [])
+ends_no_failure : (o : State) (f : CutFault) (taken rest : List ℕ) → EndsReading o f taken rest → is_failure f ≡ false
+ends_no_failure o f taken rest (inl h) = no_failure o taken f h.1
+ends_no_failure o f taken rest (inr h) = no_failure o (taken ++ []) f (h [])
 
-texts_of_err : (choice : Choice) (taken rest : List ℕ) (r : Recorded) (f : CutFault) → GathersOf taken rest r (Err f) → TextsOf choice taken rest (Err f)
-texts_of_err choice taken rest r fault.Memory h = tt
-texts_of_err choice taken rest r fault.ReadFailed h = h
-texts_of_err choice taken rest r fault.WriteFailed h = absurd (true≢false (ends_no_failure fault.WriteFailed taken rest h))
-texts_of_err choice taken rest r f h = ends_at choice f taken rest h
+takes_of_err : (choice : Choice) (taken rest : List ℕ) (s : State) (f : CutFault) → GathersOf (opening_of choice) taken rest s (Err f) → TakesOf choice taken rest (Err f)
+takes_of_err choice taken rest s fault.Memory h = tt
+takes_of_err choice taken rest s fault.ReadFailed h = h
+takes_of_err choice taken rest s fault.WriteFailed h = absurd (true≢false (ends_no_failure (opening_of choice) fault.WriteFailed taken rest h))
+takes_of_err choice taken rest s f h = ends_at choice f taken rest h
 
-pub texts_err : (choice : Choice) (stream : List ℕ) (left : Option (List ℕ)) (r : Recorded) (f : CutFault) → Gathers stream left r (Err f) → Texts choice stream left (Err f)
-texts_err choice stream left r f h = record { taken = h.taken; rest = h.rest; left_is = h.left_is; split = h.split; comes = texts_of_err choice h.taken h.rest r f h.comes }
+pub takes_err : (choice : Choice) (stream : List ℕ) (left : Option (List ℕ)) (o s : State) (f : CutFault) → o ≡ opening_of choice → Gathers o stream left s (Err f) → Takes choice stream left (Err f)
+takes_err choice stream left o s f is h =
+    let P : State → Type 0 = λ x. GathersOf x h.taken h.rest s (Err f) in
+    record { taken = h.taken; rest = h.rest; left_is = h.left_is; split = h.split; comes = takes_of_err choice h.taken h.rest s f (subst P is h.comes) }
 
--- the text of what was gathered
-no_ended_failure : (choice : Choice) (r : Recorded) (f : CutFault) → ended choice r ≡ Err f → is_failure f ≡ false
-no_ended_failure choice r f is = let P : Result (List ℕ) CutFault → Type 0 = Told in subst P is (told_ended choice r)
+-- before anything is read
+pub takes_none : (choice : Choice) (stream : List ℕ) (left : Option (List ℕ)) → left ≡ Some stream → Takes choice stream left (Err fault.Memory)
+takes_none choice stream left is = record { taken = []; rest = stream; left_is = is; split = refl; comes = tt }
 
-texts_of_ok : (choice : Choice) (taken rest : List ℕ) (r : Recorded) (result : Result (Vec ℕ Global) CutFault) → GathersOf taken rest r (Ok tt) → ListsText (ended choice r) result → TextsOf choice taken rest result
-texts_of_ok choice taken rest r (Ok text) h is = (h.0, h.1 choice ∙ is)
-texts_of_ok choice taken rest r (Err fault.Memory) h is = tt
-texts_of_ok choice taken rest r (Err fault.ReadFailed) h is = absurd (true≢false (no_ended_failure choice r fault.ReadFailed is))
-texts_of_ok choice taken rest r (Err fault.WriteFailed) h is = absurd (true≢false (no_ended_failure choice r fault.WriteFailed is))
-texts_of_ok choice taken rest r (Err f) h is = inl (h.0, h.1 choice ∙ is)
+-- ---- what is listed
 
-pub texts_ok : (choice : Choice) (stream : List ℕ) (left : Option (List ℕ)) (r : Recorded) (result : Result (Vec ℕ Global) CutFault) → Gathers stream left r (Ok tt) → ListsText (ended choice r) result → Texts choice stream left result
-texts_ok choice stream left r result h is = record { taken = h.taken; rest = h.rest; left_is = h.left_is; split = h.split; comes = texts_of_ok choice h.taken h.rest r result h.comes is }
+comes_no_failure : (choice : Choice) (x : Result State CutFault) (f : CutFault) → Told x → Comes choice x (Err f) → is_failure f ≡ false
+comes_no_failure choice (Err g) f told is = subst (λ (e : CutFault). is_failure e ≡ false) is told
+comes_no_failure choice (Ok s) (fault.Listing f) told is = refl
+comes_no_failure choice (Ok s) fault.ReadFailed told is = absurd is
+comes_no_failure choice (Ok s) fault.WriteFailed told is = absurd is
+comes_no_failure choice (Ok s) f told is = refl
 
-pub counts_text : (choice : Choice) (r : Recorded) (old new : ℕ) (result : Result (Vec ℕ Global) CutFault) → ListsText (ended choice r) result → new ≡ old → CountsReads {A = Vec ℕ Global} result old new
-counts_text choice r old new (Ok text) is quiet = quiet
-counts_text choice r old new (Err fault.Memory) is quiet = quiet
-counts_text choice r old new (Err fault.ReadFailed) is quiet = absurd (true≢false (no_ended_failure choice r fault.ReadFailed is))
-counts_text choice r old new (Err fault.WriteFailed) is quiet = absurd (true≢false (no_ended_failure choice r fault.WriteFailed is))
-counts_text choice r old new (Err f) is quiet = quiet
+lists_no_failure : (choice : Choice) (s : State) (f : CutFault) → Comes choice (ended s) (Err f) → is_failure f ≡ false
+lists_no_failure choice s f is = comes_no_failure choice (ended s) f (told_ended s) is
+
+comes_as : (choice : Choice) (x y : Result State CutFault) (result : Result Listed CutFault) → x ≡ y → Comes choice y result → Comes choice x result
+comes_as choice x y result is h = let P : Result State CutFault → Type 0 = λ z. Comes choice z result in subst P (sym is) h
+
+takes_of_ok : (choice : Choice) (taken rest : List ℕ) (s : State) (result : Result Listed CutFault) → GathersOf (opening_of choice) taken rest s (Ok tt) → ListsAtEnd choice (ended s) result → TakesOf choice taken rest result
+takes_of_ok choice taken rest s (Ok listed) h is = (h.0, comes_as choice _ (ended s) (Ok listed) h.1 is)
+takes_of_ok choice taken rest s (Err fault.Memory) h is = tt
+takes_of_ok choice taken rest s (Err fault.ReadFailed) h is = absurd (true≢false (lists_no_failure choice s fault.ReadFailed is))
+takes_of_ok choice taken rest s (Err fault.WriteFailed) h is = absurd (true≢false (lists_no_failure choice s fault.WriteFailed is))
+takes_of_ok choice taken rest s (Err f) h is = inl (h.0, comes_as choice _ (ended s) (Err f) h.1 is)
+
+pub takes_ok : (choice : Choice) (stream : List ℕ) (left : Option (List ℕ)) (o s : State) (result : Result Listed CutFault) → o ≡ opening_of choice → Gathers o stream left s (Ok tt)
+    → ListsAtEnd choice (ended s) result → Takes choice stream left result
+takes_ok choice stream left o s result is h lists =
+    let P : State → Type 0 = λ x. GathersOf x h.taken h.rest s (Ok tt) in
+    record { taken = h.taken; rest = h.rest; left_is = h.left_is; split = h.split; comes = takes_of_ok choice h.taken h.rest s result (subst P is h.comes) lists }
+
+pub counts_listed : (choice : Choice) (s : State) (old new : ℕ) (result : Result Listed CutFault) → ListsAtEnd choice (ended s) result → new ≡ old → CountsReads {A = Listed} result old new
+counts_listed choice s old new (Ok listed) is quiet = quiet
+counts_listed choice s old new (Err fault.Memory) is quiet = quiet
+counts_listed choice s old new (Err fault.ReadFailed) is quiet = absurd (true≢false (lists_no_failure choice s fault.ReadFailed is))
+counts_listed choice s old new (Err fault.WriteFailed) is quiet = absurd (true≢false (lists_no_failure choice s fault.WriteFailed is))
+counts_listed choice s old new (Err f) is quiet = quiet
+
+-- ---- the end of a recorded stream
+
+pub ends_refused : (choice : Choice) (defined : Result State CutFault) (new : State) (f : CutFault) → Becomes defined new (Err f) → ListsAtEnd choice defined (Err f)
+ends_refused choice defined new fault.Memory is = tt
+ends_refused choice defined new f is = refused_comes choice defined f is
+
+pub ends_listed : (choice : Choice) (defined : Result State CutFault) (new : State) (listed : Listed) → defined ≡ Ok new → IsListing choice new (Ok listed) → ListsAtEnd choice defined (Ok listed)
+ends_listed choice defined new listed is lists = comes_as choice defined (Ok new) (Ok listed) is lists
+
+listing_fault : (choice : Choice) (s : State) (f : ListFault) → (f ≡ list.Memory → ⊥) → IsListing choice s (Err f) → Comes choice (Ok s) (Err (fault.Listing f))
+listing_fault choice s list.Memory other is = absurd (other refl)
+listing_fault choice s f other is = is
+
+pub ends_unlisted : (choice : Choice) (defined : Result State CutFault) (new : State) (f : ListFault) → (f ≡ list.Memory → ⊥) → defined ≡ Ok new → IsListing choice new (Err f) → ListsAtEnd choice defined (Err (fault.Listing f))
+ends_unlisted choice defined new f other is lists = comes_as choice defined (Ok new) (Err (fault.Listing f)) is (listing_fault choice new f other lists)
 
 -- ---- the run
 
-answers_err : (choice : Choice) (stream taken rest : List ℕ) (f : CutFault) → stream ≡ taken ++ rest → TextsOf choice taken rest (Err f) → Answers choice stream rest [] (Refused f)
+answers_err : (choice : Choice) (stream taken rest : List ℕ) (f : CutFault) → stream ≡ taken ++ rest → TakesOf choice taken rest (Err f) → Answers choice stream rest [] (end.Refused f)
 answers_err choice stream taken rest fault.Memory split h = refl
 answers_err choice stream taken rest fault.ReadFailed split h = record { taken = taken; split = split; ends = h; no_text = refl }
 answers_err choice stream taken rest fault.WriteFailed split h = absurd h
 answers_err choice stream taken rest f split h = record { taken = taken; split = split; ends = h; no_text = refl }
 
-pub runs_err : (choice : Choice) (stream held : List ℕ) (left contents : Option (List ℕ)) (f : CutFault) → Texts choice stream left (Err f) → contents ≡ Some held → Runs (Some choice) stream held left contents (Refused f)
+pub runs_err : (choice : Choice) (stream held : List ℕ) (left contents : Option (List ℕ)) (f : CutFault) → Takes choice stream left (Err f) → contents ≡ Some held → Runs (Some choice) stream held left contents (end.Refused f)
 runs_err choice stream held left contents f h is = record {
   rest = h.rest;
   text = [];
@@ -79,34 +125,64 @@ runs_err choice stream held left contents f h is = record {
 whole_stream : (stream taken rest : List ℕ) → stream ≡ taken ++ rest → rest ≡ [] → stream ≡ taken
 whole_stream stream taken rest split none = split ∙ ap (λ xs. taken ++ xs) none ∙ append-nil taken
 
-pub runs_done : (choice : Choice) (stream held : List ℕ) (left contents : Option (List ℕ)) (text : Vec ℕ Global) → Texts choice stream left (Ok text) → Writes held text.items contents true → Runs (Some choice) stream held left contents Done
-runs_done choice stream held left contents text h w = record {
-  rest = h.rest;
-  text = w.written;
-  left_is = h.left_is;
-  contents_are = w.contents_are;
-  answers = (
-    h.comes.0,
-    ap (outcome choice) (whole_stream stream h.taken h.rest h.split h.comes.0) ∙ h.comes.1
-        ∙ ap Ok (w.split ∙ ap (λ xs. w.written ++ xs) (w.whole refl) ∙ append-nil w.written),
-  );
-}
+-- what ends a run that lists this
+abbrev pub end_of : Bool → CutEnd
+end_of true = end.Done
+end_of false = end.NoCut
 
-pub runs_unwritten : (choice : Choice) (stream held : List ℕ) (left contents : Option (List ℕ)) (text : Vec ℕ Global) → Texts choice stream left (Ok text) → Writes held text.items contents false
-    → Runs (Some choice) stream held left contents (Refused fault.WriteFailed)
-runs_unwritten choice stream held left contents text h w = record {
-  rest = h.rest;
-  text = w.written;
-  left_is = h.left_is;
-  contents_are = w.contents_are;
-  answers = record {
-    missing = w.left;
-    whole = h.comes.0;
-    text_is = ap (outcome choice) (whole_stream stream h.taken h.rest h.split h.comes.0) ∙ h.comes.1 ∙ ap Ok w.split;
-  };
-}
+answers_done : (choice : Choice) (stream rest text : List ℕ) (listed : Listed) (cut : Bool) → rest ≡ [] → Outcome choice stream (Ok listed) → bytes_of listed ≡ text → is_cut listed ≡ cut
+    → Answers choice stream rest text (end_of cut)
+answers_done choice stream rest text listed true none outcome is cut = record { whole = none; listed = listed; outcome = outcome; text_is = is; cut_is = cut }
+answers_done choice stream rest text listed false none outcome is cut = record { whole = none; listed = listed; outcome = outcome; text_is = is; cut_is = cut }
 
-pub counts_err : (f : CutFault) (read_old read_new write_old write_new : ℕ) → CountsReads {A = Vec ℕ Global} (Err f) read_old read_new → write_new ≡ write_old → CountsFailures (Refused f) read_old read_new write_old write_new
+answers_printed : (choice : Choice) (stream rest written left : List ℕ) (listed : Listed) (cut done : Bool) → rest ≡ [] → Outcome choice stream (Ok listed) → bytes_of listed ≡ written ++ left → is_cut listed ≡ cut
+    → (done ≡ true → left ≡ []) → Answers choice stream rest written (ended_by done (end_of cut))
+answers_printed choice stream rest written left listed cut true none outcome is of whole =
+    answers_done choice stream rest written listed cut none outcome (is ∙ ap (λ xs. written ++ xs) (whole refl) ∙ append-nil written) of
+answers_printed choice stream rest written left listed cut false none outcome is of whole =
+    record { missing = left; whole = none; listed = listed; outcome = outcome; text_is = is }
+
+pub runs_printed : (choice : Choice) (stream held text : List ℕ) (left contents : Option (List ℕ)) (listed : Listed) (cut : Bool) (answer : CutEnd) → Takes choice stream left (Ok listed) → bytes_of listed ≡ text → is_cut listed ≡ cut
+    → Prints held text contents (end_of cut) answer → Runs (Some choice) stream held left contents answer
+runs_printed choice stream held text left contents listed cut answer h is of w =
+    let outcome : Outcome choice stream (Ok listed) =
+    subst (λ (xs : List ℕ). Outcome choice xs (Ok listed)) (sym (whole_stream stream h.taken h.rest h.split h.comes.0)) h.comes.1 in
+    record {
+      rest = h.rest;
+      text = w.writes.written;
+      left_is = h.left_is;
+      contents_are = w.writes.contents_are;
+      answers = let P : CutEnd → Type 0 = Answers choice stream h.rest w.writes.written in
+          subst P (sym w.answer_is) (answers_printed choice stream h.rest w.writes.written w.writes.left listed cut w.done h.comes.0 outcome (is ∙ w.writes.split) of w.writes.whole);
+    }
+
+pub counts_err : (f : CutFault) (read_old read_new write_old write_new : ℕ) → CountsReads {A = Listed} (Err f) read_old read_new → write_new ≡ write_old → CountsFailures (end.Refused f) read_old read_new write_old write_new
 counts_err fault.ReadFailed read_old read_new write_old write_new h quiet = (h, quiet)
 counts_err fault.WriteFailed read_old read_new write_old write_new h quiet = absurd h
 counts_err f read_old read_new write_old write_new h quiet = (h, quiet)
+
+counts_done : (cut : Bool) (done : Bool) (read_old read_new write_old write_new : ℕ) → read_new ≡ read_old → CountsWrite done write_old write_new → CountsFailures (ended_by done (end_of cut)) read_old read_new write_old write_new
+counts_done true true read_old read_new write_old write_new quiet h = (quiet, h)
+counts_done false true read_old read_new write_old write_new quiet h = (quiet, h)
+counts_done cut false read_old read_new write_old write_new quiet h = (quiet, h)
+
+pub counts_printed : (cut : Bool) (answer : CutEnd) (read_old read_new write_old write_new : ℕ) → read_new ≡ read_old → CountsPrint (end_of cut) answer write_old write_new → CountsFailures answer read_old read_new write_old write_new
+counts_printed cut answer read_old read_new write_old write_new quiet h =
+    let P : CutEnd → Type 0 = λ e. CountsFailures e read_old read_new write_old write_new in
+    subst P (sym h.answer_is) (counts_done cut h.done read_old read_new write_old write_new quiet h.counts)
+
+not_usage : (cut done : Bool) → ended_by done (end_of cut) ≢ end.Usage
+not_usage true true is = cc
+not_usage false true is = cc
+not_usage cut false is = cc
+
+pub printed_is_used : (cut : Bool) (answer : CutEnd) (old new : ℕ) → CountsPrint (end_of cut) answer old new → answer ≢ end.Usage
+printed_is_used cut answer old new h is = not_usage cut h.done (sym h.answer_is ∙ is)
+
+-- ---- the writing
+
+pub prints : (held text : List ℕ) (contents : Option (List ℕ)) (ending : CutEnd) (done : Bool) → Writes held text contents done → Prints held text contents ending (ended_by done ending)
+prints held text contents ending done w = record { done = done; writes = w; answer_is = refl }
+
+pub counts_print : (ending : CutEnd) (done : Bool) (old new : ℕ) → CountsWrite done old new → CountsPrint ending (ended_by done ending) old new
+counts_print ending done old new h = record { done = done; counts = h; answer_is = refl }

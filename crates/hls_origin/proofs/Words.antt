@@ -17,16 +17,27 @@ pub cut_is_simple_and_free : is_simple_and_free cut_app ≡ true
 unfolding cut_app
 cut_is_simple_and_free = refl
 
+first_in_rows : (app : App) (words : List Text) (m : ArgMatches) (name : Text) → app ≡ cut_app → HasMatchesOf app words m
+    → first_value (found_of m) name ≡ first_of name (matches_of cut_app words)
+first_in_rows app words m name is has =
+    let rows : rows_of (found_of m) ≡ matches_of cut_app words = (has (ap is_simple is ∙ cut_is_simple)).0 ∙ ap (λ (a : App). matches_of a words) is in
+    first_value-rows (found_of m) name ∙ ap (first_of name) rows
+
 -- words that were taken
 pub taken_words : (app : App) (words : List Text) (m : ArgMatches) → app ≡ cut_app → HasMatchesOf app words m → fault_of app words ≡ []
-    → choice_in (first_value (found_of m) (codes "target")) (first_value (found_of m) (codes "uri")) ≡ options_of words
+    → choice_in (first_value (found_of m) (codes "each")) (first_value (found_of m) (codes "preferred")) (first_value (found_of m) (codes "certificate"))
+    (first_value (found_of m) (codes "target")) (first_value (found_of m) (codes "uri")) ≡ options_of words
 unfolding options_of
 taken_words app words m is has none =
-    let rows : rows_of (found_of m) ≡ matches_of cut_app words = (has (ap is_simple is ∙ cut_is_simple)).0 ∙ ap (λ (a : App). matches_of a words) is in
-    let target : first_value (found_of m) (codes "target") ≡ first_of (codes "target") (matches_of cut_app words) = first_value-rows (found_of m) (codes "target") ∙ ap (first_of (codes "target")) rows in
-    let uri : first_value (found_of m) (codes "uri") ≡ first_of (codes "uri") (matches_of cut_app words) = first_value-rows (found_of m) (codes "uri") ∙ ap (first_of (codes "uri")) rows in
     let no_fault : fault_of cut_app words ≡ [] = sym (ap (λ (a : App). fault_of a words) is) ∙ none in
-    ap₂ choice_in target uri ∙ sym (ap (λ (ks : Kinds). unless_refused ks (choice_of (matches_of cut_app words))) no_fault)
+    same_five _ _ _ _ _ _ _ _ _ _ (first_in_rows app words m (codes "each") is has) (first_in_rows app words m (codes "preferred") is has)
+    (first_in_rows app words m (codes "certificate") is has) (first_in_rows app words m (codes "target") is has) (first_in_rows app words m (codes "uri") is has)
+    ∙ sym (ap (λ (ks : Kinds). unless_refused ks (choice_of (matches_of cut_app words))) no_fault)
+  where
+    same_five : (a a' b b' c c' d d' e e' : Option Text) → a ≡ a' → b ≡ b' → c ≡ c' → d ≡ d' → e ≡ e' → choice_in a b c d e ≡ choice_in a' b' c' d' e'
+    same_five a a' b b' c c' d d' e e' p q r s t =
+        ap (λ x. choice_in x b c d e) p ∙ ap (λ x. choice_in a' x c d e) q ∙ ap (λ x. choice_in a' b' x d e) r
+        ∙ ap₂ (choice_in a' b' c') s t
 
 some_fault : (ks : Kinds) (k : ErrorKind) (choice : Option Choice) → IsAmong k ks → None ≡ unless_refused ks choice
 some_fault [] k choice among = absurd among

@@ -1,22 +1,31 @@
 -- What the words after `cut` ask for.
-use Rattle.std.specs.Prelude.{ℕ, List, [], ◌∷◌, Option, Some, None, ◌≤◌, ◌&&◌, cond, codes, true}
-use Rattle.std.specs.Prelude.{nat_lt, option_and_then, option_map}
+use Rattle.std.specs.Prelude.{ℕ, ◌*◌, List, [], ◌∷◌, Option, Some, None, Bool, true, false, not, ◌≤◌, ◌&&◌, ◌||◌, cond, codes, is_some}
+use Rattle.std.specs.Prelude.{nat_lt, option_and_then}
+use Rattle.std.specs.Str.{bytes_eq}
 use Rattle.clap.specs.Words.{App, Row, Rule, Text, fault_of, first_of, matches_of, new_app, new_rule, with_rule}
 use Rattle.clap.specs.Kinds.{Kinds}
 use Rattle.clap.specs.declared.builder.action.ArgAction.TheVariants.{SetTrue}
 use Rattle.hls_m3u8.specs.Uri.{IsUri, is_uri_text}
 use Rattle.hls_origin.specs.Number.{number_of}
 
--- the options: the target duration in seconds, and the URI's bytes
+-- the options: the target duration in seconds, the URI's bytes, the preferred length in µs where a least plan is wanted,
+-- and whether its certificate is wanted in place of the playlist
 pub record Choice : Type 0 where
   pub target : ℕ
   pub uri : List ℕ
+  pub preferred : Option ℕ
+  pub certificate : Bool
 
--- both are in their ranges
-pub record IsGood (target : ℕ) (uri : List ℕ) : Type 0 where
-  pub least : 1 ≤ target
-  pub most : target ≤ 3600
-  pub is_uri : IsUri uri
+abbrev pub IsPreferred : ℕ → Option ℕ → Type 0
+IsPreferred target None = Unit {0}
+IsPreferred target (Some length) = (1 ≤ length) × (length ≤ target * 1000000)
+
+-- all are in their ranges
+pub record IsGood (choice : Choice) : Type 0 where
+  pub least : 1 ≤ choice.target
+  pub most : choice.target ≤ 3600
+  pub is_uri : IsUri choice.uri
+  pub preferred : IsPreferred choice.target choice.preferred
 
 -- an option that takes a value, by its long name
 abbrev pub value_rule : Text → Rule
@@ -30,9 +39,14 @@ flag_rule name = record (new_rule name) { long = Some name; action = Some SetTru
 abbrev pub without_name : App → App
 without_name app = record app { top = record app.top { no_binary_name = true } }
 
--- the command: `--each`, `--target N`, `--uri TEXT`
+abbrev pub named_app : App
+named_app = without_name (new_app (codes "cut"))
+
+-- the command: `--each`, `--preferred N`, `--certificate`, `--target N`, `--uri TEXT`
 unfoldable pub cut_app : App
-cut_app = with_rule (with_rule (with_rule (without_name (new_app (codes "cut"))) (flag_rule (codes "each"))) (value_rule (codes "target"))) (value_rule (codes "uri"))
+cut_app =
+    with_rule (with_rule (with_rule (with_rule (with_rule named_app (flag_rule (codes "each"))) (value_rule (codes "preferred"))) (flag_rule (codes "certificate")))
+    (value_rule (codes "target"))) (value_rule (codes "uri"))
 
 -- a target duration in its range of 1 to 3600 seconds
 abbrev pub in_range : ℕ → Option ℕ
@@ -43,6 +57,15 @@ abbrev pub target_in : Option Text → Option ℕ
 target_in None = Some 6
 target_in (Some text) = option_and_then in_range (number_of text)
 
+-- a preferred length in its range of 1 µs to the target
+abbrev pub preferred_at : ℕ → ℕ → Option (Option ℕ)
+preferred_at target length = cond (nat_lt 0 length && not (nat_lt (target * 1000000) length)) (Some (Some length)) None
+
+-- the preferred length, where one is given
+abbrev pub preferred_in : ℕ → Option Text → Option (Option ℕ)
+preferred_in target None = Some None
+preferred_in target (Some text) = option_and_then (preferred_at target) (number_of text)
+
 -- one that a playlist can name
 abbrev pub checked_uri : List ℕ → Option (List ℕ)
 checked_uri text = cond (is_uri_text text) (Some text) None
@@ -52,16 +75,31 @@ abbrev pub uri_in : Option Text → Option (List ℕ)
 uri_in None = checked_uri (codes "media.mp4")
 uri_in (Some text) = checked_uri text
 
--- both, where both are good
-abbrev pub choice_in : Option Text → Option Text → Option Choice
-choice_in target uri = option_and_then (λ t. option_map (λ u. record { target = t; uri = u }) (uri_in uri)) (target_in target)
+-- an option without a value that is given
+abbrev pub is_set : Option Text → Bool
+is_set None = false
+is_set (Some text) = bytes_eq text (codes "true")
+
+-- `--each` stands alone, and `--certificate` beside `--preferred`
+abbrev pub agrees : Bool → Bool → Bool → Bool
+agrees each preferred certificate = not (each && (preferred || certificate)) && not (certificate && not preferred)
+
+-- what the values come to, where all are good
+abbrev pub chosen : ℕ → List ℕ → Option ℕ → Bool → Bool → Option Choice
+chosen target uri preferred each certificate =
+    cond (agrees each (is_some preferred) certificate) (Some (record { target = target; uri = uri; preferred = preferred; certificate = certificate })) None
+
+abbrev pub choice_in : Option Text → Option Text → Option Text → Option Text → Option Text → Option Choice
+choice_in each preferred certificate target uri =
+    option_and_then (λ t. option_and_then (λ u. option_and_then (λ p. chosen t u p (is_set each) (is_set certificate)) (preferred_in t preferred)) (uri_in uri)) (target_in target)
 
 abbrev pub unless_refused : Kinds → Option Choice → Option Choice
 unless_refused [] choice = choice
 unless_refused (k ∷ ks) choice = None
 
 abbrev pub choice_of : List Row → Option Choice
-choice_of rows = choice_in (first_of (codes "target") rows) (first_of (codes "uri") rows)
+choice_of rows =
+    choice_in (first_of (codes "each") rows) (first_of (codes "preferred") rows) (first_of (codes "certificate") rows) (first_of (codes "target") rows) (first_of (codes "uri") rows)
 
 -- the options that the words give; none is a usage fault
 unfoldable pub options_of : List Text → Option Choice

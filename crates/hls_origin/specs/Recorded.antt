@@ -1,75 +1,61 @@
--- What a stream comes to: the init section and the units that are kept of it, or its first refusal.
-use Rattle.std.specs.Prelude.{ℕ, if◌then◌else◌, List, [], ◌∷◌, length, Option, Some, None, Result, Ok, Err}
-use Rattle.std.specs.Str.{bytes_eq}
+-- What a stream comes to: the state of its channel, or its first refusal.
+use Rattle.std.specs.Prelude.{ℕ, List, [], ◌∷◌, Option, Some, None, Result, Ok, Err}
 use Rattle.hls_boxes_laws.specs.declared.part.Part.{Part}
 use Rattle.hls_boxes_laws.specs.declared.part.Part.TheVariants as parts
 use Rattle.hls_boxes_laws.specs.declared.fault.BoxFault.{BoxFault}
 use Rattle.hls_boxes_laws.specs.Parts.{Cut, cut_of, fault_at_end}
-use Rattle.hls_media_laws.specs.InitData.{InitData}
 use Rattle.hls_media_laws.specs.Inits.{init_of}
 use Rattle.hls_media_laws.specs.UnitFacts.{facts}
+use Rattle.hls_record.specs.Recorded.{Recorded}
+use Rattle.hls_core_laws.specs.declared.event.Event.{Event}
+use Rattle.hls_core_laws.specs.declared.event.Event.TheVariants.{Begin, Accept, Finish}
+use Rattle.hls_core_laws.specs.declared.refusal.Refusal.TheVariants as refusal
+use Rattle.hls_core_laws.specs.State.{State}
+use Rattle.hls_core_laws.specs.Outcome.{Outcome, New, Repeated, Refused, outcome_of}
+use Rattle.hls_core_laws.specs.Moves.{advanced}
+use Rattle.hls_core.specs.Reads.{recording_of}
 use Rattle.hls_origin.specs.declared.cut.fault.CutFault.{CutFault}
 use Rattle.hls_origin.specs.declared.cut.fault.CutFault.TheVariants as fault
-use Rattle.hls_origin.specs.declared.cut.kept.KeptInit.{KeptInit}
-use Rattle.hls_origin.specs.declared.cut.kept.KeptUnit.{KeptUnit}
-use Rattle.hls_origin.specs.Options.{Choice}
-use Rattle.hls_origin.specs.Segments.{listed}
 use Rattle.hls_origin.specs.Then.{◌>>=◌, or_refused_as}
-use Rattle.hls_origin.specs.Units.{log_is_full, with_kept}
 
--- what is recorded of a stream: its init section, if it came, and its units
-pub record Recorded : Type 0 where
-  pub init : Option KeptInit
-  pub units : List KeptUnit
+-- a new event leads on, one that comes again adds nothing, and a refused one ends the stream
+abbrev pub moved_to : Outcome → State → State → Result State CutFault
+moved_to New new old = Ok new
+moved_to Repeated new old = Ok old
+moved_to (Refused r) new old = Err (fault.Core r)
 
-abbrev pub nothing : Recorded
-nothing = record { init = None; units = [] }
-
-abbrev pub with_facts : KeptInit → List KeptUnit → KeptUnit → Result Recorded CutFault
-with_facts init units u =
-    with_kept (length init.bytes) units u >>= (λ more. Ok (record { init = Some init; units = more }))
+-- the state after an event
+abbrev pub stepped : State → Event → Result State CutFault
+stepped s event = moved_to (outcome_of s event) (advanced s 0 event) s
 
 -- one more unit; its facts are those under the init section
-abbrev pub with_unit : Option KeptInit → List KeptUnit → List ℕ → Result Recorded CutFault
-with_unit None units bytes = Err fault.NoInit
-with_unit (Some init) units bytes =
-    or_refused_as fault.Media (facts init.meaning bytes)
-    >>= (λ f. with_facts init units (record { facts = f; bytes = bytes }))
+abbrev pub with_unit : Option Recorded → State → List ℕ → Result State CutFault
+with_unit None s bytes = Err (fault.Core refusal.NoInit)
+with_unit (Some recorded) s bytes = or_refused_as fault.Media (facts recorded.init bytes) >>= (λ f. stepped s (Accept 0 f bytes))
 
--- an init section that comes again with its bytes is dropped; it takes the log's first entry
-abbrev pub with_meaning : Option KeptInit → List KeptUnit → List ℕ → InitData → Result Recorded CutFault
-with_meaning None units bytes meaning = Ok (record { init = Some (record { meaning = meaning; bytes = bytes }); units = units })
-with_meaning (Some init) units bytes meaning =
-    if bytes_eq init.bytes bytes then Ok (record { init = Some init; units = units }) else Err fault.InitChanged
-
--- one more part
-unfoldable pub with_part : Recorded → Part → Result Recorded CutFault
-with_part r (parts.Init bytes) = or_refused_as fault.Media (init_of bytes) >>= with_meaning r.init r.units bytes
-with_part r (parts.Unit bytes) = with_unit r.init r.units bytes
+-- one more part, of the one rendition
+unfoldable pub with_part : State → Part → Result State CutFault
+with_part s (parts.Init bytes) = or_refused_as fault.Media (init_of bytes) >>= (λ init. stepped s (Begin 0 init bytes))
+with_part s (parts.Unit bytes) = with_unit (recording_of s 0) s bytes
 
 -- the parts, one after the other
-unfoldable pub with_parts : Recorded → List Part → Result Recorded CutFault
-with_parts r [] = Ok r
-with_parts r (p ∷ ps) = with_part r p >>= (λ next. with_parts next ps)
+unfoldable pub with_parts : State → List Part → Result State CutFault
+with_parts s [] = Ok s
+with_parts s (p ∷ ps) = with_part s p >>= (λ next. with_parts next ps)
 
--- the end of a stream: the log's last entry, and the playlist
-abbrev pub ended_with : Choice → Option KeptInit → List KeptUnit → Result (List ℕ) CutFault
-ended_with choice None units = Err fault.NoInit
-ended_with choice (Some init) units =
-    if log_is_full units then Err fault.LedgerFull else listed choice (length init.bytes) units
-
-unfoldable pub ended : Choice → Recorded → Result (List ℕ) CutFault
-ended choice r = ended_with choice r.init r.units
+-- the end of a stream: no unit will come any more
+unfoldable pub ended : State → Result State CutFault
+ended s = stepped s (Finish 0)
 
 -- the end, where what is left of the stream is none of a part
-abbrev pub unless_left : Choice → Recorded → Option BoxFault → Result (List ℕ) CutFault
-unless_left choice r (Some f) = Err (fault.Boxes f)
-unless_left choice r None = ended choice r
+abbrev pub unless_left : State → Option BoxFault → Result State CutFault
+unless_left s (Some f) = Err (fault.Boxes f)
+unless_left s None = ended s
 
--- what the parts and the end come to: the playlist's text, or the first refusal in the stream's order
-unfoldable pub outcome_of : Choice → Cut → Result (List ℕ) CutFault
-outcome_of choice c = with_parts nothing c.parts >>= (λ r. unless_left choice r (fault_at_end c.left))
+-- what the parts and the end come to from an opening state: the state, or the first refusal in the stream's order
+unfoldable pub state_of : State → Cut → Result State CutFault
+state_of opening c = with_parts opening c.parts >>= (λ s. unless_left s (fault_at_end c.left))
 
 -- what a whole stream comes to
-abbrev pub outcome : Choice → List ℕ → Result (List ℕ) CutFault
-outcome choice stream = outcome_of choice (cut_of stream)
+abbrev pub recorded : State → List ℕ → Result State CutFault
+recorded opening stream = state_of opening (cut_of stream)

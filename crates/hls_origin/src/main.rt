@@ -1,26 +1,41 @@
 //! `hls_origin`: a live HLS origin over fragmented MP4.
 //!
-//! `hls_origin cut [--each] [--target N] [--uri TEXT]` reads a recorded stream of one rendition from
-//! standard input and writes its playlist (RFC 8216) to standard output. Without a word it does
-//! `cut --each`. Status 0 is a playlist, 1 a refusal, 2 a usage fault.
+//! `hls_origin cut [--each] [--preferred N] [--certificate] [--target N] [--uri TEXT]` reads a recorded
+//! stream of one rendition from standard input and writes its playlist (RFC 8216), or its least
+//! plan's certificate, to standard output. Without a word it does `cut --each`. Status 0 is a
+//! playlist or a plan's certificate, 1 a refusal, 2 a usage fault, 3 that no plan exists.
+//!
+//! `hls_origin check` reads a certificate from standard input and writes the answer to it to standard
+//! output: `cut` and its cost, `none`, or `refused` and why. Status 0 is a good certificate, 1 a
+//! refused one or a failed call, 2 a usage fault.
 #![tactic(auto)]
 
-mod counted;
+mod check;
 mod cut;
+#[cfg(test)]
+mod fakes;
 mod number;
 
-use crate::counted::Counted;
+use crate::check::run::{CheckEnd, run_check};
 use crate::cut::fault::CutFault;
 use crate::cut::run::{CutEnd, run_cut};
+use hls_http::Counted;
+use hls_origin_listing::ListFault;
 use std::process::ExitCode;
 use std::{env, io};
 
 const USAGE: &str = "usage: hls_origin [cut [--each] [--target N] [--uri TEXT]] < STREAM > PLAYLIST
-  --each        one segment for each place where the stream may be cut (the default)
-  --target N    the target duration in whole seconds, 1 to 3600, at most 16 digits; 6 if not given
-  --uri TEXT    the media file as the playlist names it: not empty, not beginning with #, without
-                line ends and quotation marks; media.mp4 if not given
-Each option may stand once, after the word cut; other words are not known.
+       hls_origin cut --preferred N [--certificate] [--target N] [--uri TEXT] < STREAM > OUTPUT
+       hls_origin check < CERTIFICATE
+  --each         one segment for each place where the stream may be cut (the default)
+  --preferred N  a least plan: segments whose lengths come nearest to N microseconds in sum; N is 1 to
+                 the target, at most 16 digits
+  --certificate  the plan's certificate in place of the playlist; it needs --preferred
+  --target N     the target duration in whole seconds, 1 to 3600, at most 16 digits; 6 if not given
+  --uri TEXT     the media file as the playlist names it: not empty, not beginning with #, without
+                 line ends and quotation marks; media.mp4 if not given
+Each option may stand once, after the word cut; --each excludes --preferred and --certificate.
+No word may follow check, and other words are not known.
 ";
 
 /// The words after the program's own name.
@@ -32,24 +47,18 @@ fn words_of(rt: &HostRuntime) -> io::Result<Vec<String>> {
     Ok(words)
 }
 
-/// What the program does: without a word `cut`, else what the first word names.
-fn run_words(rt: &HostRuntime, words: &[String]) -> CutEnd {
-    let mut input = Counted::new(rt.stdin());
-    let mut output = Counted::new(io::writer(rt));
-    let Some(first) = words.first() else {
-        return run_cut(rt.alloc(), words, &mut input, &mut output);
-    };
-    if first.as_str() == "cut" {
-        run_cut(rt.alloc(), &words[1..], &mut input, &mut output)
-    } else {
-        CutEnd::Usage
-    }
+/// Tells how the program is used.
+fn usage_fault(rt: &HostRuntime) -> ExitCode {
+    let _ = eprint!(rt; "{USAGE}");
+    ExitCode::from(2)
 }
 
 /// Prints why a stream was refused.
 fn print_refusal(rt: &HostRuntime, fault: CutFault) -> io::Result<()> {
     match fault {
-        CutFault::NotAllowed { place } => eprintln!(rt; "cut: NotAllowed {place}"),
+        CutFault::Listing(ListFault::NotAllowed { place }) => {
+            eprintln!(rt; "cut: NotAllowed {place}")
+        }
         _ => {
             let name = fault.name();
             eprintln!(rt; "cut: {name}")
@@ -57,20 +66,65 @@ fn print_refusal(rt: &HostRuntime, fault: CutFault) -> io::Result<()> {
     }
 }
 
-fn main(rt: HostRuntime) -> ExitCode {
-    let end = match words_of(&rt) {
-        Ok(words) => run_words(&rt, words.as_slice()),
-        Err(_) => CutEnd::Refused(CutFault::Memory),
-    };
+/// Ends the program as `cut` ended.
+fn end_cut(rt: &HostRuntime, end: CutEnd) -> ExitCode {
     match end {
         CutEnd::Done => ExitCode::SUCCESS,
+        CutEnd::NoCut => {
+            let _ = eprintln!(rt; "cut: NoCut");
+            ExitCode::from(3)
+        }
         CutEnd::Refused(fault) => {
-            let _ = print_refusal(&rt, fault);
+            let _ = print_refusal(rt, fault);
             ExitCode::from(1)
         }
-        CutEnd::Usage => {
-            let _ = eprint!(rt; "{USAGE}");
-            ExitCode::from(2)
-        }
+        CutEnd::Usage => usage_fault(rt),
+    }
+}
+
+/// Does `cut` with the words after it.
+fn run_cut_words(rt: &HostRuntime, words: &[String]) -> ExitCode {
+    let mut input = Counted::new(rt.stdin());
+    let mut output = Counted::new(io::writer(rt));
+    end_cut(rt, run_cut(rt.alloc(), words, &mut input, &mut output))
+}
+
+/// Tells which call of `check` failed.
+fn check_failed(rt: &HostRuntime, name: &str) -> ExitCode {
+    let _ = eprintln!(rt; "check: {name}");
+    ExitCode::from(1)
+}
+
+/// Does `check`, after which no word may stand.
+fn run_check_words(rt: &HostRuntime, words: &[String]) -> ExitCode {
+    if !words.is_empty() {
+        return usage_fault(rt);
+    }
+    let mut input = Counted::new(rt.stdin());
+    let mut output = Counted::new(io::writer(rt));
+    match run_check(rt.alloc(), &mut input, &mut output) {
+        CheckEnd::Yes => ExitCode::SUCCESS,
+        CheckEnd::Refused => ExitCode::from(1),
+        CheckEnd::ReadFailed => check_failed(rt, "ReadFailed"),
+        CheckEnd::WriteFailed => check_failed(rt, "WriteFailed"),
+    }
+}
+
+/// Does what the first word names; without a word `cut`.
+fn run_words(rt: &HostRuntime, words: &[String]) -> ExitCode {
+    let Some((first, rest)) = words.split_first() else {
+        return run_cut_words(rt, words);
+    };
+    match first.as_str() {
+        "cut" => run_cut_words(rt, rest),
+        "check" => run_check_words(rt, rest),
+        _ => usage_fault(rt),
+    }
+}
+
+fn main(rt: HostRuntime) -> ExitCode {
+    match words_of(&rt) {
+        Ok(words) => run_words(&rt, words.as_slice()),
+        Err(_) => end_cut(&rt, CutEnd::Refused(CutFault::Memory)),
     }
 }

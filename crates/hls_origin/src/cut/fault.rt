@@ -4,7 +4,9 @@ ghost use Rattle.hls_origin.specs.FaultName.{name_of};
 ghost use Rattle.hls_origin.specs.declared.cut.fault.CutFault.TheVariants.{Memory};
 
 use hls_boxes_laws::fault::BoxFault;
+use hls_core_laws::refusal::Refusal;
 use hls_media_laws::fault::MediaFault;
+use hls_origin_listing::ListFault;
 use std::alloc::{AllocError, AllocFailed};
 use thiserror::Error;
 
@@ -17,27 +19,13 @@ pub enum CutFault {
     /// An init section or a unit is no good.
     #[error("{0}")]
     Media(MediaFault),
-    /// A unit came, or the stream ended, before any init section.
-    #[error("NoInit")]
-    NoInit,
-    /// A second init section with other bytes.
-    #[error("InitChanged")]
-    InitChanged,
-    /// A unit that starts before the end of the last one, and is no repeat of a kept one.
-    #[error("Overlap")]
-    Overlap,
-    /// More than 4194304 entries: the init section, each unit and the end are one each.
-    #[error("LedgerFull")]
-    LedgerFull,
-    /// The init section and all units together would pass 2^40 bytes.
-    #[error("RecordingFull")]
-    RecordingFull,
-    /// The stream has less than two places where it may be cut.
-    #[error("NoPlace")]
-    NoPlace,
-    /// From this place, counted from 0, no segment may reach the next one.
-    #[error("NotAllowed {place}")]
-    NotAllowed { place: usize },
+    /// The channel refuses what comes: `NoInit` for a unit or the end before any init section,
+    /// `InitChanged`, `Overlap`, `LedgerFull` or `RecordingFull`.
+    #[error("{0}")]
+    Core(Refusal),
+    /// The recorded stream can't be listed.
+    #[error("{0}")]
+    Listing(ListFault),
     /// A read failed.
     #[error("ReadFailed")]
     ReadFailed,
@@ -57,13 +45,8 @@ impl CutFault {
         match self {
             CutFault::Boxes(fault) => fault.name(),
             CutFault::Media(fault) => fault.name(),
-            CutFault::NoInit => "NoInit",
-            CutFault::InitChanged => "InitChanged",
-            CutFault::Overlap => "Overlap",
-            CutFault::LedgerFull => "LedgerFull",
-            CutFault::RecordingFull => "RecordingFull",
-            CutFault::NoPlace => "NoPlace",
-            CutFault::NotAllowed { .. } => "NotAllowed",
+            CutFault::Core(refusal) => refusal.name(),
+            CutFault::Listing(fault) => fault.name(),
             CutFault::ReadFailed => "ReadFailed",
             CutFault::WriteFailed => "WriteFailed",
             CutFault::Memory => "Memory",

@@ -2,15 +2,15 @@
 ghost use Rattle.std.specs.Prelude.{◌≡◌, ◌<◌, ◌≤◌, ℕ, List, Some, None, IfOk, OnOk, vec_len, length};
 ghost use Rattle.hls_boxes_laws.specs.Parts.{text_fault};
 ghost use Rattle.hls_origin.specs.Gather.{CountsReads, Drains, Gathers, IsDrained, IsSettled, Reached, TakesIn};
-ghost use Rattle.hls_origin.specs.Counted.{failures_of, inside_of};
-ghost use Rattle.hls_origin.specs.Recorded.{nothing};
+ghost use Rattle.hls_http.specs.Counted.{failures_of, inside_of};
+ghost use Rattle.hls_core_laws.specs.State.{State};
 ghost use Rattle.hls_origin.specs.Accepts.{Told};
 
-use crate::counted::Counted;
 use crate::cut::fault::CutFault;
 use crate::cut::recorder::Recorder;
 use hls_boxes::UnitReader;
 use hls_boxes_laws::fault::BoxFault;
+use hls_http::Counted;
 use std::alloc::{AllocError, Global};
 use std::io::Read;
 
@@ -27,7 +27,7 @@ fn zeros(alloc: Global, len: usize) -> Result<Vec<u8>, AllocError>
 /// Takes all whole parts out of what was fed, and records them.
 fn drain(alloc: Global, reader: &mut UnitReader, recorder: &mut Recorder) -> Result<(), CutFault>
     ensures told { Told result }
-    ensures drains { (taken : List ℕ) → Reached taken reader.old recorder.old → Drains taken reader.new recorder.new result }
+    ensures drains { (opening : State) (taken : List ℕ) → Reached opening taken reader.old recorder.old → Drains opening taken reader.new recorder.new result }
     ensures settles { OnOk result (IsDrained reader.old reader.new) }
 {
     while let Some(part) = reader.take()? {
@@ -48,7 +48,7 @@ fn take_in(
 ) -> Result<(), CutFault>
     requires { text_fault reader.old ≡ None }
     ensures told { Told result }
-    ensures takes_in { (taken : List ℕ) → Reached taken reader.old recorder.old → TakesIn taken piece.now reader.new recorder.new result }
+    ensures takes_in { (opening : State) (taken : List ℕ) → Reached opening taken reader.old recorder.old → TakesIn opening taken piece.now reader.new recorder.new result }
     ensures settles { OnOk result (IsSettled reader.new) }
 {
     let fault = match reader.feed(piece) {
@@ -72,10 +72,9 @@ fn read_parts<R: Read>(
     recorder: &mut Recorder,
     piece: &mut [u8],
 ) -> Result<(), CutFault>
-    requires none { recorder.old ≡ nothing }
-    requires room { 0 < length piece.old }
+    requires { 0 < length piece.old }
     ensures gathers { (stream : List ℕ) → R.remaining (inside_of input.old) ≡ Some stream
-        → Gathers stream (R.remaining (inside_of input.new)) recorder.new result }
+        → Gathers recorder.old stream (R.remaining (inside_of input.new)) recorder.new result }
     ensures counts { CountsReads result (failures_of input.old) (failures_of input.new) }
 {
     let mut reader = UnitReader::new(alloc);
@@ -105,9 +104,8 @@ pub fn gather<R: Read>(
     input: &mut Counted<R>,
     recorder: &mut Recorder,
 ) -> Result<(), CutFault>
-    requires { recorder.old ≡ nothing }
     ensures gathers { (stream : List ℕ) → R.remaining (inside_of input.old) ≡ Some stream
-        → Gathers stream (R.remaining (inside_of input.new)) recorder.new result }
+        → Gathers recorder.old stream (R.remaining (inside_of input.new)) recorder.new result }
     ensures counts { CountsReads result (failures_of input.old) (failures_of input.new) }
 {
     match zeros(alloc, PIECE_LEN) {

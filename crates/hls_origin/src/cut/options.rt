@@ -1,13 +1,16 @@
 //! What the words after `cut` ask for.
-ghost use Rattle.std.specs.Prelude.{◌≡◌, map, ◌≤◌, option_map, IfOk, IfSome, true, codes};
-ghost use Rattle.clap.specs.Words.{app_of, first_value, found_of};
-ghost use Rattle.hls_origin.specs.Options.{Choice, IsGood, checked_uri, choice_in, cut_app, options_of, target_in, uri_in};
+ghost use Rattle.std.specs.Prelude.{◌≡◌, ◌≤◌, ◌*◌, map, option_map, is_some, IfOk, IfSome, true, false, codes};
+ghost use Rattle.clap.specs.Words.{app_of, first_value, found_of, rule_of};
+ghost use Rattle.hls_core_laws.specs.Config.{ConfigData};
 ghost use Rattle.hls_m3u8.specs.Uri.{IsUri};
+ghost use Rattle.hls_origin.specs.Channel.{config_of, listing_of};
+ghost use Rattle.hls_origin.specs.Options.{IsPreferred, agrees, checked_uri, choice_in, cut_app, flag_rule, is_set, options_of, preferred_in, target_in, uri_in, value_rule};
 
 use crate::number;
 use clap::error::ErrorKind;
 use clap::{Arg, ArgAction, ArgMatches, Command};
 use hls_m3u8::is_uri;
+use hls_origin_listing::Listing;
 use std::alloc::{AllocError, Global};
 use std::convert::AsStr;
 use std::marker::Model;
@@ -25,30 +28,64 @@ pub struct Options<'a> {
     pub target: u64,
     /// The URI of the media file, as each segment and the map name it.
     pub uri: &'a str,
+    /// The preferred length of a segment in microseconds, 1 to the target, where a least plan is
+    /// wanted; without it each place begins a segment.
+    pub preferred: Option<u64>,
+    /// Whether the plan's certificate is wanted in place of the playlist.
+    pub certificate: bool,
 }
 
 impl<'a> Model for Options<'a> {
+    ghost use Rattle.hls_origin.specs.Options.{Choice, IsGood};
+
     ghost Value = { Choice };
 
-    ghost view = { λ options. record { target = options.target; uri = options.uri.now } };
+    ghost view = { λ options. record { target = options.target; uri = options.uri.now; preferred = options.preferred; certificate = options.certificate } };
 
-    ghost invariant = { λ options. IsGood options.target options.uri.now };
+    ghost invariant = { λ options. IsGood (record { target = options.target; uri = options.uri.now; preferred = options.preferred; certificate = options.certificate }) };
+}
+
+impl<'a> Options<'a> {
+    /// How the recorded stream is to be listed.
+    pub fn listing(&self) -> Listing
+        ensures { result ≡ listing_of self.now }
+    {
+        if self.preferred.is_none() {
+            return Listing::Each;
+        }
+        Listing::Planned {
+            certificate: self.certificate,
+        }
+    }
+}
+
+/// An option that takes none, by its long name.
+fn flag<'a>(alloc: Global, name: &'a str) -> Arg<'a>
+    ensures rule { rule_of result ≡ flag_rule name.entry.now }
+    ensures local { result.global ≡ false }
+{
+    Arg::new(alloc, name).long(name).action(ArgAction::SetTrue)
+}
+
+/// An option that takes a value, by its long name.
+fn valued<'a>(alloc: Global, name: &'a str) -> Arg<'a>
+    ensures rule { rule_of result ≡ value_rule name.entry.now }
+    ensures local { result.global ≡ false }
+{
+    Arg::new(alloc, name).long(name)
 }
 
 /// The command as `clap` reads it.
 fn command<'a>(alloc: Global) -> Result<Command<'a>, AllocError>
     ensures { IfOk result (λ made. app_of made ≡ cut_app) }
 {
-    let each = Arg::new(alloc, "each")
-        .long("each")
-        .action(ArgAction::SetTrue);
-    let target = Arg::new(alloc, "target").long("target");
-    let uri = Arg::new(alloc, "uri").long("uri");
     Command::new(alloc, "cut")
         .no_binary_name(true)
-        .arg(each)?
-        .arg(target)?
-        .arg(uri)
+        .arg(flag(alloc, "each"))?
+        .arg(valued(alloc, "preferred"))?
+        .arg(flag(alloc, "certificate"))?
+        .arg(valued(alloc, "target"))?
+        .arg(valued(alloc, "uri"))
 }
 
 /// The target duration that was given, or the default; `None` where it isn't 1 to 3600 seconds.
@@ -62,6 +99,24 @@ fn target_of(text: Option<&str>) -> Option<u64>
     let target = number::read_number(text.as_bytes())?;
     if target >= 1 && target <= MOST_TARGET {
         Some(target)
+    } else {
+        None
+    }
+}
+
+/// The preferred length that was given, if one was; `None` where it isn't 1 microsecond to the
+/// target.
+fn preferred_of(target: u64, text: Option<&str>) -> Option<Option<u64>>
+    requires { target ≤ 3600 }
+    ensures value { result ≡ preferred_in target (option_map (λ t. t.now) text.entry) }
+    ensures in_range { IfSome result (λ preferred. IsPreferred target preferred) }
+{
+    let Some(text) = text else {
+        return Some(None);
+    };
+    let length = number::read_number(text.as_bytes())?;
+    if length >= 1 && length <= target * 1_000_000 {
+        Some(Some(length))
     } else {
         None
     }
@@ -83,17 +138,48 @@ fn uri_of<'a>(text: Option<&'a str>) -> Option<&'a str>
     checked_uri(text.unwrap_or("media.mp4"))
 }
 
-/// The options among what `clap` found; `None` where a value is outside its range.
+/// Whether an option without a value was given, by the text that `clap` has for it.
+fn is_set(text: Option<&str>) -> bool
+    ensures { result ≡ is_set (option_map (λ t. t.now) text.entry) }
+{
+    match text {
+        Some(text) => text == "true",
+        None => false,
+    }
+}
+
+/// Whether `--each` stands alone, and `--certificate` beside `--preferred`.
+fn agrees(each: bool, preferred: bool, certificate: bool) -> bool
+    ensures { result ≡ agrees each preferred certificate }
+{
+    !(each && (preferred || certificate)) && !(certificate && !preferred)
+}
+
+/// The options among what `clap` found; `None` where a value is outside its range, or two options
+/// exclude each other.
 fn options_in<'a>(matches: &ArgMatches<'a>) -> Option<Options<'a>>
-    ensures { result ≡ choice_in (first_value (found_of matches.now) (codes "target")) (first_value (found_of matches.now) (codes "uri")) }
+    ensures { result ≡ choice_in (first_value (found_of matches.now) (codes "each")) (first_value (found_of matches.now) (codes "preferred"))
+        (first_value (found_of matches.now) (codes "certificate")) (first_value (found_of matches.now) (codes "target")) (first_value (found_of matches.now) (codes "uri")) }
 {
     let target = target_of(matches.get_str("target"))?;
     let uri = uri_of(matches.get_str("uri"))?;
-    Some(Options { target, uri })
+    let preferred = preferred_of(target, matches.get_str("preferred"))?;
+    let each = is_set(matches.get_str("each"));
+    let certificate = is_set(matches.get_str("certificate"));
+    if !agrees(each, preferred.is_some(), certificate) {
+        return None;
+    }
+    Some(Options {
+        target,
+        uri,
+        preferred,
+        certificate,
+    })
 }
 
-/// Reads the words after `cut`. `None` is a usage fault: a word that `clap` refuses, or a value
-/// outside its range. `AllocError` comes only where memory was refused.
+/// Reads the words after `cut`. `None` is a usage fault: a word that `clap` refuses, a value
+/// outside its range, or options that exclude each other. `AllocError` comes only where memory was
+/// refused.
 pub fn read_options<'a, S: AsStr>(
     alloc: Global,
     words: &'a [S],

@@ -1,94 +1,132 @@
-//! The recorder: it keeps a stream's init section and its units, part by part.
-ghost use Rattle.std.specs.Prelude.{◌≡◌};
-ghost use Rattle.hls_origin.specs.Accepts.{Becomes, MeansInit};
+//! The recorder: it takes a stream into a channel of one rendition, part by part.
+ghost use Rattle.std.specs.Prelude.{◌≡◌, length, IfOk};
 ghost use Rattle.hls_media_laws.specs.Inits.{init_of};
-ghost use Rattle.hls_media_laws.specs.Meaning.{IsBounded};
-ghost use Rattle.hls_origin.specs.Listing.{ListsText};
-ghost use Rattle.hls_origin.specs.Recorded.{ended, nothing, with_meaning, with_part, with_unit};
+ghost use Rattle.hls_media_laws.specs.UnitFacts.{facts};
+ghost use Rattle.hls_core_laws.specs.Moves.{IsFitting};
+ghost use Rattle.hls_core_laws.specs.Runs.{first_state};
+ghost use Rattle.hls_core.specs.Reads.{recording_of};
+ghost use Rattle.hls_origin.specs.declared.cut.fault.CutFault.TheVariants.{Media};
+ghost use Rattle.hls_origin.specs.Accepts.{Becomes, Means};
+ghost use Rattle.hls_origin.specs.Recorded.{ended, stepped, with_part};
+ghost use Rattle.hls_origin.specs.Then.{or_refused_as};
 
 use crate::cut::fault::CutFault;
-use crate::cut::kept::{KeptInit, KeptUnit};
-use crate::cut::list::list_text;
-use crate::cut::options::Options;
-use crate::cut::units::Units;
 use bytes::Bytes;
 use hls_boxes_laws::part::Part;
+use hls_core::config::Config;
+use hls_core::snapshot::Snapshot;
+use hls_core::step::step;
+use hls_core::stepped::Stepped;
+use hls_core_laws::event::Event;
+use hls_core_laws::refusal::Refusal;
 use hls_media::{read_facts, read_init};
 use hls_media_laws::fault::MediaFault;
 use hls_media_laws::init::Init;
-use std::alloc::Global;
+use std::alloc::{AllocError, Global};
 use std::marker::Model;
+use std::sync::Arc;
 
-/// Keeps a stream's init section and units.
+/// The number of the one worker whose events these are.
+const WORKER: u16 = 0;
+
+/// The number of the one rendition.
+pub const RENDITION: usize = 0;
+
+/// Takes a stream into a channel of one rendition. A contract sees it as the channel's state.
 #[derive(Drop)]
 pub struct Recorder {
-    init: Option<KeptInit>,
-    units: Units,
+    snapshot: Arc<Snapshot>,
 }
 
 impl Model for Recorder {
-    ghost use Rattle.hls_origin.specs.Recorded.{Recorded};
-    ghost use Rattle.hls_origin.specs.Timeline.{HasSmallInit};
+    ghost use Rattle.std.specs.Prelude.{◌≡◌, length};
+    ghost use Rattle.hls_core_laws.specs.State.{State};
 
-    ghost Value = { Recorded };
+    ghost Value = { State };
 
-    ghost view = { λ r. record { init = r.init; units = r.units } };
+    ghost view = { λ r. r.snapshot.value };
 
-    ghost invariant = { λ r. HasSmallInit r.init };
+    ghost invariant = { λ r. length r.snapshot.value.config.renditions ≡ 1 };
 }
 
 /// What the bytes of an init section mean.
 fn meaning_of(alloc: Global, bytes: &[u8]) -> Result<Init, CutFault>
-    ensures { MeansInit (init_of bytes.now) result }
+    ensures { Means (or_refused_as Media (init_of bytes.now)) result }
 {
-    let fault = match read_init(alloc, bytes) {
-        Ok(meaning) => return Ok(meaning),
-        Err(fault) => fault,
-    };
-    match fault {
-        MediaFault::Memory => Err(CutFault::Memory),
-        _ => Err(CutFault::Media(fault)),
+    match read_init(alloc, bytes) {
+        Ok(meaning) => Ok(meaning),
+        Err(MediaFault::Memory) => Err(CutFault::Memory),
+        Err(fault) => Err(CutFault::Media(fault)),
     }
 }
 
 impl Recorder {
-    /// Nothing recorded yet.
-    pub fn new(alloc: Global) -> Recorder
-        ensures { result ≡ nothing }
+    /// A channel of this configuration, with nothing recorded.
+    pub fn new(alloc: Global, config: Config) -> Result<Recorder, AllocError>
+        requires { length config.renditions ≡ 1 }
+        ensures { IfOk result (λ recorder. recorder ≡ first_state config) }
     {
-        Recorder {
-            init: None,
-            units: Units::new(alloc),
+        let snapshot = Arc::new(alloc, Snapshot::first(alloc, config)?)?;
+        Ok(Recorder { snapshot })
+    }
+
+    /// The channel as it is recorded so far.
+    pub fn snapshot(&self) -> &Snapshot
+        ensures value { result.now ≡ self.now }
+        ensures one { length self.now.config.renditions ≡ 1 }
+    {
+        &self.snapshot
+    }
+
+    /// Takes an event; one that comes again adds nothing.
+    fn take(&mut self, alloc: Global, event: Event) -> Result<(), CutFault>
+        requires { IsFitting self.old event }
+        ensures { Becomes (stepped self.old event) self.new result }
+    {
+        match step(&self.snapshot, alloc, WORKER, event) {
+            Ok(Stepped::New(next)) => {
+                self.snapshot = next;
+                Ok(())
+            }
+            Ok(Stepped::Repeat) => Ok(()),
+            Err(Refusal::Memory) => Err(CutFault::Memory),
+            Err(refusal) => Err(CutFault::Core(refusal)),
         }
     }
 
-    /// Takes an init section that was read.
-    fn accept_init(&mut self, meaning: Init, bytes: Bytes) -> Result<(), CutFault>
-        requires { IsBounded meaning bytes }
-        ensures { Becomes (with_meaning self.old.init self.old.units bytes meaning) self.new result }
+    /// Takes an init section.
+    fn accept_init(&mut self, alloc: Global, bytes: Bytes) -> Result<(), CutFault>
+        ensures { Becomes (with_part self.old (Part.Init bytes)) self.new result }
     {
-        if let Some(kept) = &self.init {
-            return if kept.bytes == bytes {
-                Ok(())
-            } else {
-                Err(CutFault::InitChanged)
-            };
-        }
-        self.init = Some(KeptInit { meaning, bytes });
-        Ok(())
+        let init = match meaning_of(alloc, &bytes) {
+            Ok(init) => init,
+            Err(fault) => return Err(fault),
+        };
+        let event = Event::Begin {
+            rendition: RENDITION,
+            init,
+            bytes,
+        };
+        self.take(alloc, event)
     }
 
     /// Takes a unit.
-    fn accept_unit(&mut self, bytes: Bytes) -> Result<(), CutFault>
-        ensures { Becomes (with_unit self.old.init self.old.units bytes) self.new result }
+    fn accept_unit(&mut self, alloc: Global, bytes: Bytes) -> Result<(), CutFault>
+        ensures { Becomes (with_part self.old (Part.Unit bytes)) self.new result }
     {
-        match &self.init {
-            None => Err(CutFault::NoInit),
-            Some(init) => match read_facts(&init.meaning, &bytes) {
-                Ok(facts) => self.units.keep(init.bytes.len(), KeptUnit { facts, bytes }),
-                Err(fault) => Err(CutFault::Media(fault)),
-            },
-        }
+        let Some(recording) = self.snapshot.recording(RENDITION) else {
+            return Err(CutFault::Core(Refusal::NoInit));
+        };
+        let facts = match read_facts(recording.init(), &bytes) {
+            Ok(facts) => facts,
+            Err(fault) => return Err(CutFault::Media(fault)),
+        };
+        let event = Event::Accept {
+            rendition: RENDITION,
+            facts,
+            bytes,
+        };
+        self.take(alloc, event)
     }
 
     /// Takes one more part.
@@ -96,32 +134,19 @@ impl Recorder {
         ensures { Becomes (with_part self.old part) self.new result }
     {
         match part {
-            Part::Init(bytes) => match meaning_of(alloc, &bytes) {
-                Ok(meaning) => self.accept_init(meaning, bytes),
-                Err(fault) => Err(fault),
-            },
-            Part::Unit(bytes) => self.accept_unit(bytes),
+            Part::Init(bytes) => self.accept_init(alloc, bytes),
+            Part::Unit(bytes) => self.accept_unit(alloc, bytes),
         }
     }
 
-    /// Ends the stream, and gives the playlist's text.
+    /// Ends the stream: no unit will come any more.
     #[tactic(auto, unfolding(crate::specs::Recorded::ended))]
-    pub fn text(&self, alloc: Global, options: &Options<'_>) -> Result<Vec<u8>, CutFault>
-        ensures { ListsText (ended options.now self.now) result }
+    pub fn finish(&mut self, alloc: Global) -> Result<(), CutFault>
+        ensures { Becomes (ended self.old) self.new result }
     {
-        match &self.init {
-            None => Err(CutFault::NoInit),
-            Some(init) => {
-                if self.units.is_full() {
-                    return Err(CutFault::LedgerFull);
-                }
-                list_text(
-                    alloc,
-                    options,
-                    init.bytes.len() as u64,
-                    self.units.as_slice(),
-                )
-            }
-        }
+        let event = Event::Finish {
+            rendition: RENDITION,
+        };
+        self.take(alloc, event)
     }
 }

@@ -1,49 +1,95 @@
 //! `cut`, from the words and the bytes in to the bytes out.
-ghost use Rattle.std.specs.Prelude.{◌≡◌, ◌≢◌, Some, ℕ, List, map};
-ghost use Rattle.hls_origin.specs.Counted.{failures_of, inside_of};
+ghost use Rattle.std.specs.Prelude.{◌≡◌, ◌≢◌, Some, ℕ, List, map, IfOk};
+ghost use Rattle.hls_http.specs.Counted.{failures_of, inside_of};
+ghost use Rattle.hls_origin.specs.Channel.{opening_of};
 ghost use Rattle.hls_origin.specs.Gather.{CountsReads};
 ghost use Rattle.hls_origin.specs.Options.{options_of};
-ghost use Rattle.hls_origin.specs.Run.{CountsFailures, IsUsageFault, Runs, Texts};
+ghost use Rattle.hls_origin.specs.Recorded.{ended};
+ghost use Rattle.hls_origin.specs.Run.{CountsFailures, CountsPrint, IsUsageFault, ListsAtEnd, Prints, Runs, Takes};
 
-use crate::counted::Counted;
+use crate::cut::channel::config;
 use crate::cut::fault::CutFault;
 use crate::cut::gather::gather;
 use crate::cut::options::{Options, read_options};
 use crate::cut::recorder::Recorder;
-use crate::cut::write::write_whole;
-use std::alloc::Global;
+use hls_http::{Counted, write_whole};
+use hls_origin_listing::{ListFault, Listed, list};
+use std::alloc::{AllocError, Global};
 use std::convert::AsStr;
 use std::io::{Read, Write};
 
 /// How `cut` ended.
 #[derive(Clone, Copy, Debug, PartialEq, Eq)]
 pub enum CutEnd {
-    /// The playlist was written: status 0.
+    /// The playlist, or the certificate, was written: status 0.
     Done,
+    /// No plan exists: status 3. Its certificate was written, if it was asked for.
+    NoCut,
     /// The stream was refused, or a read or write failed: status 1.
     Refused(CutFault),
     /// The words ask for nothing that `cut` does; nothing was read or written: status 2.
     Usage,
 }
 
-/// Reads a stream, and gives the text of its playlist.
-fn cut_text<R: Read>(
+/// A recorder of the channel that the options ask for.
+fn recorder_for(alloc: Global, options: &Options<'_>) -> Result<Recorder, AllocError>
+    ensures { IfOk result (λ recorder. recorder ≡ opening_of options.now) }
+{
+    Recorder::new(alloc, config(alloc, options)?)
+}
+
+/// Ends a recorded stream, and lists it.
+fn list_recorded(
+    alloc: Global,
+    options: &Options<'_>,
+    recorder: &mut Recorder,
+) -> Result<Listed, CutFault>
+    ensures { ListsAtEnd options.now (ended recorder.old) result }
+{
+    match recorder.finish(alloc) {
+        Ok(()) => {}
+        Err(fault) => return Err(fault),
+    }
+    match list(alloc, recorder.snapshot(), options.uri, options.listing()) {
+        Ok(listed) => Ok(listed),
+        Err(ListFault::Memory) => Err(CutFault::Memory),
+        Err(fault) => Err(CutFault::Listing(fault)),
+    }
+}
+
+/// Reads a stream, and lists it.
+fn take_stream<R: Read>(
     alloc: Global,
     options: &Options<'_>,
     input: &mut Counted<R>,
-) -> Result<Vec<u8>, CutFault>
-    ensures texts { (stream : List ℕ) → R.remaining (inside_of input.old) ≡ Some stream
-        → Texts options.now stream (R.remaining (inside_of input.new)) result }
+) -> Result<Listed, CutFault>
+    ensures takes { (stream : List ℕ) → R.remaining (inside_of input.old) ≡ Some stream
+        → Takes options.now stream (R.remaining (inside_of input.new)) result }
     ensures counts { CountsReads result (failures_of input.old) (failures_of input.new) }
 {
-    let mut recorder = Recorder::new(alloc);
+    let Ok(mut recorder) = recorder_for(alloc, options) else {
+        return Err(CutFault::Memory);
+    };
     match gather(alloc, input, &mut recorder) {
-        Ok(()) => recorder.text(alloc, options),
+        Ok(()) => list_recorded(alloc, options, &mut recorder),
         Err(fault) => Err(fault),
     }
 }
 
-/// Reads a stream and writes its playlist, which is whole before the first write.
+/// Writes what was listed, and answers `end`, or that a write failed.
+fn print<W: Write>(output: &mut Counted<W>, text: &[u8], end: CutEnd) -> CutEnd
+    ensures writes { (held : List ℕ) → W.contents (inside_of output.old) ≡ Some held
+        → Prints held text.now (W.contents (inside_of output.new)) end result }
+    ensures counts { CountsPrint end result (failures_of output.old) (failures_of output.new) }
+{
+    if write_whole(output, text) {
+        end
+    } else {
+        CutEnd::Refused(CutFault::WriteFailed)
+    }
+}
+
+/// Reads a stream and writes what is listed of it, which is whole before the first write.
 fn run<R: Read, W: Write>(
     alloc: Global,
     options: &Options<'_>,
@@ -55,24 +101,21 @@ fn run<R: Read, W: Write>(
     ensures counts { CountsFailures result (failures_of input.old) (failures_of input.new) (failures_of output.old) (failures_of output.new) }
     ensures used { result ≢ CutEnd.Usage }
 {
-    let text = match cut_text(alloc, options, input) {
-        Ok(text) => text,
-        Err(fault) => return CutEnd::Refused(fault),
-    };
-    if write_whole(output, &text) {
-        CutEnd::Done
-    } else {
-        CutEnd::Refused(CutFault::WriteFailed)
+    match take_stream(alloc, options, input) {
+        Ok(Listed::Text(text)) => print(output, &text, CutEnd::Done),
+        Ok(Listed::NoCut(text)) => print(output, &text, CutEnd::NoCut),
+        Err(fault) => CutEnd::Refused(fault),
     }
 }
 
-/// Does what the words after `cut` ask for: reads a stream of one rendition and writes the playlist
-/// with one segment for each place and the next.
+/// Does what the words after `cut` ask for: reads a stream of one rendition, and writes its playlist
+/// (RFC 8216 section 4) or the certificate of its least plan.
 ///
-/// Reading ends at the reader's end, a failed call or the first refusal in the stream's order; at
-/// the end stands `Truncated` before `NoInit` before `LedgerFull` before `NoPlace` before
-/// `NotAllowed`. Nothing is written before the whole text is there. `Memory` is answered only where
-/// memory was refused.
+/// Without a preferred length each place begins a segment; with one the plan is least, and `NoCut`
+/// tells that there is none. Reading ends at the reader's end, a failed call or the first refusal
+/// in the stream's order; at the end stands `Truncated` before `NoInit` before `LedgerFull` before
+/// `NoPlace` before `ProgrammeTooLong` before `NotAllowed`. Nothing is written before the whole
+/// text is there. `Memory` is answered only where memory was refused.
 pub fn run_cut<'a, S: AsStr, R: Read, W: Write>(
     alloc: Global,
     words: &'a [S],

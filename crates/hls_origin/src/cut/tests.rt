@@ -1,11 +1,13 @@
 //! Streams of the sample builders through the whole of `cut`: its text, its end, and what is left.
 
-use crate::counted::Counted;
-use crate::cut::fakes::{Drips, Sink};
 use crate::cut::fault::CutFault;
 use crate::cut::run::{CutEnd, run_cut};
+use crate::fakes::{Drips, Sink};
 use hls_boxes_laws::fault::BoxFault;
+use hls_core_laws::refusal::Refusal;
+use hls_http::Counted;
 use hls_media_laws::fault::MediaFault;
+use hls_origin_listing::ListFault;
 use hls_samples::{boxed, init_bytes, unit_bytes, word_box};
 use std::alloc::{AllocError, Global};
 use std::process::Abort;
@@ -39,6 +41,50 @@ media.mp4
 #EXT-X-DISCONTINUITY
 #EXTINF:4.000000,
 #EXT-X-BYTERANGE:1000@1600
+media.mp4
+#EXT-X-ENDLIST
+";
+
+const FIVE_UNITS: &str = "HLS-CUT-CERTIFICATE 1
+target 6
+preferred 4000000
+renditions 1
+places 5
+0 0 0 0 0
+1 3000000 3000000 0 0
+2 6000000 6000000 0 0
+3 7000000 7000000 0 0
+4 11000000 11000000 0 0
+cut 1000000
+plan 0 1 3 4
+price 0 0
+price 1 1000000
+price 2 2000000
+price 3 1000000
+price 4 1000000
+end
+";
+
+const NO_CUT: &str = "HLS-CUT-CERTIFICATE 1
+target 6
+preferred 4000000
+renditions 1
+places 2
+0 0 0 0 0
+1 7000000 7000000 0 0
+none
+closed 0
+end
+";
+
+const LEAST: &str = "#EXTINF:3.000000,
+#EXT-X-BYTERANGE:1000@600
+media.mp4
+#EXTINF:4.000000,
+#EXT-X-BYTERANGE:2000@1600
+media.mp4
+#EXTINF:4.000000,
+#EXT-X-BYTERANGE:1000@3600
 media.mp4
 #EXT-X-ENDLIST
 ";
@@ -170,25 +216,30 @@ fn usual_files(rt: HostRuntime) -> Result<(), Fail> {
 #[test]
 fn refused_streams(rt: HostRuntime) -> Result<(), Fail> {
     let alloc = rt.alloc();
-    refuses(&rt, alloc, &[], CutFault::NoInit);
-    refuses(&rt, alloc, &stream(alloc, &[])?, CutFault::NoPlace);
+    refuses(&rt, alloc, &[], CutFault::Core(Refusal::NoInit));
+    refuses(
+        &rt,
+        alloc,
+        &stream(alloc, &[])?,
+        CutFault::Listing(ListFault::NoPlace),
+    );
     refuses(
         &rt,
         alloc,
         &stream(alloc, &[sync(0, 7)])?,
-        CutFault::NotAllowed { place: 0 },
+        CutFault::Listing(ListFault::NotAllowed { place: 0 }),
     );
     refuses(
         &rt,
         alloc,
         &stream(alloc, &[sync(0, 4), sync(1, 4)])?,
-        CutFault::Overlap,
+        CutFault::Core(Refusal::Overlap),
     );
     refuses(
         &rt,
         alloc,
         &stream(alloc, &[sync(0, 4), sync(0, 3)])?,
-        CutFault::Overlap,
+        CutFault::Core(Refusal::Overlap),
     );
     let one = stream(alloc, &[sync(0, 4)])?;
     let other = init_bytes(alloc, b"vide", 48000)?;
@@ -196,10 +247,10 @@ fn refused_streams(rt: HostRuntime) -> Result<(), Fail> {
         &rt,
         alloc,
         &joined(alloc, &[&one, &other])?,
-        CutFault::InitChanged,
+        CutFault::Core(Refusal::InitChanged),
     );
     let (init, unit) = one.as_slice().split_at_checked(600).ok_or("600 bytes")?;
-    refuses(&rt, alloc, unit, CutFault::NoInit);
+    refuses(&rt, alloc, unit, CutFault::Core(Refusal::NoInit));
     let (moof, mdat) = unit.split_at_checked(100).ok_or("100 bytes")?;
     let alone = joined(alloc, &[init, mdat])?;
     refuses(&rt, alloc, &alone, CutFault::Boxes(BoxFault::MdatAlone));
@@ -235,10 +286,38 @@ fn refused_units(rt: HostRuntime) -> Result<(), Fail> {
 }
 
 #[test]
+fn least_plans(rt: HostRuntime) -> Result<(), Fail> {
+    let alloc = rt.alloc();
+    let stream = stream(alloc, &[sync(0, 3), sync(3, 3), sync(6, 1), sync(7, 4)])?;
+    let words = ["--preferred", "4000000", "--certificate"];
+    let (end, text) = cut(alloc, &words, &stream, 65536);
+    assert_eq!(rt; end, CutEnd::Done);
+    assert!(rt; text.as_slice() == FIVE_UNITS.as_bytes());
+    let (end, text) = cut(alloc, &["--preferred", "4000000"], &stream, 65536);
+    assert_eq!(rt; end, CutEnd::Done);
+    assert!(rt; text.as_slice().ends_with(LEAST.as_bytes()));
+    Ok(())
+}
+
+#[test]
+fn no_plan(rt: HostRuntime) -> Result<(), Fail> {
+    let alloc = rt.alloc();
+    let stream = stream(alloc, &[sync(0, 7)])?;
+    let words = ["--preferred", "4000000", "--certificate"];
+    let (end, text) = cut(alloc, &words, &stream, 65536);
+    assert_eq!(rt; end, CutEnd::NoCut);
+    assert!(rt; text.as_slice() == NO_CUT.as_bytes());
+    let (end, text) = cut(alloc, &["--preferred", "4000000"], &stream, 65536);
+    assert_eq!(rt; end, CutEnd::NoCut);
+    assert!(rt; text.is_empty());
+    Ok(())
+}
+
+#[test]
 fn usage_faults(rt: HostRuntime) -> Result<(), Fail> {
     let alloc = rt.alloc();
     let stream = stream(alloc, &[sync(0, 4)])?;
-    let faults: [&[&str]; 12] = [
+    let faults: [&[&str]; 17] = [
         &["--bogus"],
         &["x"],
         &["--target", "0"],
@@ -249,8 +328,13 @@ fn usage_faults(rt: HostRuntime) -> Result<(), Fail> {
         &["--uri", "#x"],
         &["--uri", "a\nb"],
         &["--uri", "a\"b"],
-        &["--preferred", "4000000"],
+        &["--preferred", "0"],
+        &["--preferred", "6000001"],
+        &["--target", "3", "--preferred", "3000001"],
         &["--certificate"],
+        &["--each", "--preferred", "4000000"],
+        &["--each", "--certificate"],
+        &["--charge", "1"],
     ];
     for words in faults {
         let (end, text) = cut(alloc, words, &stream, 65536);
@@ -311,8 +395,8 @@ fn shorter_beginnings(rt: HostRuntime) -> Result<(), Fail> {
         let (front, _) = stream.as_slice().split_at_checked(len).ok_or("1600 bytes")?;
         // behind `ftyp`, behind `free`, and behind the init section
         let fault = match len {
-            0 | 16 | 379 => CutFault::NoInit,
-            600 => CutFault::NoPlace,
+            0 | 16 | 379 => CutFault::Core(Refusal::NoInit),
+            600 => CutFault::Listing(ListFault::NoPlace),
             _ => CutFault::Boxes(BoxFault::Truncated),
         };
         refuses(&rt, alloc, front, fault);

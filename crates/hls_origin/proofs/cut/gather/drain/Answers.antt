@@ -8,7 +8,7 @@ use Rattle.hls_origin.proofs.cut.gather.drain.Goals as goal
 pub loop-part-preserved : goal.loop-part-preserved
 loop-part-preserved c =
     let first : IsFirst c.in-Some.part c.loop-part.reader c.take.new.self = rw c.in-Some.is at c.in_ok-part.ensures.ok in record {
-      reached = λ taken start. reached_part taken c.loop-part.reader c.take.new.self c.loop-part.recorder c.accept.new.self c.in-Some.part (c.loop-part.invariant.reached taken start) first c.in-Ok.ensures;
+      reached = λ o taken start. reached_part o taken c.loop-part.reader c.take.new.self c.loop-part.recorder c.accept.new.self c.in-Some.part (c.loop-part.invariant.reached o taken start) first c.in-Ok.ensures;
       fault = sym (ap (λ (x : Cut). fault_left x.left) first.now) ∙ c.loop-part.invariant.fault;
     }
 
@@ -18,4 +18,4 @@ returns-in-Err-clause-told c = told_accept c.loop-part.recorder c.accept.new.sel
 pub returns-in-Err-clause-drains : goal.returns-in-Err-clause-drains
 returns-in-Err-clause-drains c =
     let first : IsFirst c.in-Some.part c.loop-part.reader c.take.new.self = rw c.in-Some.is at c.in_ok-part.ensures.ok in
-    λ taken start. drains_refused taken c.loop-part.reader c.take.new.self c.loop-part.recorder c.accept.new.self c.accept.new.self c.in-Some.part c.in-Err.fault (c.loop-part.invariant.reached taken start) first c.in-Err.ensures
+    λ o taken start. drains_refused o taken c.loop-part.reader c.take.new.self c.loop-part.recorder c.accept.new.self c.accept.new.self c.in-Some.part c.in-Err.fault (c.loop-part.invariant.reached o taken start) first c.in-Err.ensures

@@ -1,23 +1,16 @@
-use Rattle.std.proofs.Common.{ℕ, List, true, false, refl, subst}
-use Rattle.hls_origin.specs.Counted.{inside_of}
-use Rattle.hls_origin.specs.Writing.{Writes}
-use Rattle.hls_origin.proofs.RunLaws.{counts_err, runs_done, runs_err, runs_unwritten}
+use Rattle.std.proofs.Common.{◌∙◌, true, false, ap, sym}
+use Rattle.hls_origin.specs.Run.{bytes_of, is_cut}
+use Rattle.hls_origin.proofs.RunLaws.{runs_err, runs_printed}
 use Rattle.hls_origin.proofs.cut.run.run.Goals as goal
 
+pub returns-in-Ok-Text-clause-runs : goal.returns-in-Ok-Text-clause-runs
+returns-in-Ok-Text-clause-runs g c = λ stream held known empty.
+    runs_printed c.args.options.now stream held c.deref.result.now _ _ c.in-Ok-Text.field-0 true c.print.result (c.in-Ok-Text.ensures.takes stream known) (ap bytes_of c.in-Ok-Text.field-0-is ∙ sym c.deref.ensures.value) (ap is_cut c.in-Ok-Text.field-0-is) (c.print.ensures.writes held empty)
+
+pub returns-in-Ok-NoCut-clause-runs : goal.returns-in-Ok-NoCut-clause-runs
+returns-in-Ok-NoCut-clause-runs g c = λ stream held known empty.
+    runs_printed c.args.options.now stream held c.deref-in-Ok-NoCut.result.now _ _ c.in-Ok-NoCut.field-0 false c.print-in-Ok-NoCut.result (c.in-Ok-NoCut.ensures.takes stream known) (ap bytes_of c.in-Ok-NoCut.field-0-is ∙ sym c.deref-in-Ok-NoCut.ensures.value) (ap is_cut c.in-Ok-NoCut.field-0-is)
+    (c.print-in-Ok-NoCut.ensures.writes held empty)
+
 pub returns-in-Err-clause-runs : goal.returns-in-Err-clause-runs
-returns-in-Err-clause-runs g c = λ stream held known empty. runs_err c.args.options.now stream held _ _ c.in-Err.fault (c.in-Err.ensures.texts stream known) empty
-
-pub returns-in-Err-clause-counts : goal.returns-in-Err-clause-counts
-returns-in-Err-clause-counts g c = counts_err c.in-Err.fault _ _ _ _ c.in-Err.ensures.counts refl
-
-pub returns-then-write_whole-clause-runs : goal.returns-then-write_whole-clause-runs
-returns-then-write_whole-clause-runs g c = λ stream held known empty.
-    let wrote : Writes held c.in-Ok.text.items (g.W.Write.contents (inside_of c.write_whole.new.output)) true =
-    subst (λ (text : List ℕ). Writes held text (g.W.Write.contents (inside_of c.write_whole.new.output)) true) c.deref.ensures.value (c.if-write_whole.ensures.writes held empty) in
-    runs_done c.args.options.now stream held _ _ c.in-Ok.text (c.in-Ok.ensures.texts stream known) wrote
-
-pub returns-clause-runs : goal.returns-clause-runs
-returns-clause-runs g c = λ stream held known empty.
-    let wrote : Writes held c.in-Ok.text.items (g.W.Write.contents (inside_of c.write_whole.new.output)) false =
-    subst (λ (text : List ℕ). Writes held text (g.W.Write.contents (inside_of c.write_whole.new.output)) false) c.deref.ensures.value (c.if-write_whole.ensures.writes held empty) in
-    runs_unwritten c.args.options.now stream held _ _ c.in-Ok.text (c.in-Ok.ensures.texts stream known) wrote
+returns-in-Err-clause-runs g c = λ stream held known empty. runs_err c.args.options.now stream held _ _ c.in-Err.fault (c.in-Err.ensures.takes stream known) empty

@@ -1,0 +1,26 @@
+use Rattle.std.proofs.Common.{◌≡◌, ◌∙◌, List, ℕ, take, ap, sym, arith, subst, refl, []}
+use Rattle.std.specs.Io.KnownBytes.{Consumes}
+use Rattle.hls_http.specs.Counted.{inside_of}
+use Rattle.hls_origin.proofs.ReadLaws.{Reading, reading_more, reads_failed, reads_unkept, reads_whole}
+use Rattle.hls_origin.proofs.check.reading.read_pieces.Goals as goal
+
+pub returns-in-None-clause-reads : goal.returns-in-None-clause-reads
+returns-in-None-clause-reads g c = λ stream known. reads_failed stream c.pieces.bytes.items _ _ (c.pieces.invariant.reading stream known) c.in-None.ensures.kept
+
+pub pieces-preserved : goal.pieces-preserved
+pieces-preserved g c = record {
+  reading = λ stream known. subst (λ (bs : List ℕ). Reading stream (g.R.Read.remaining (inside_of c.read.new.self)) bs) (sym c.in-Ok.ensures.items)
+      (reading_more stream c.pieces.bytes.items (take c.in-Some.len c.read.new.buf) _ _ (c.pieces.invariant.reading stream known) c.in-Some.ensures.bytes);
+  room = omega (arith, c.pieces.invariant.room, c.read.auto.buf);
+  quiet = c.in-Some.ensures.quiet refl ∙ c.pieces.invariant.quiet;
+}
+
+pub returns-in-Err-clause-reads : goal.returns-in-Err-clause-reads
+returns-in-Err-clause-reads g c = λ stream known. reads_unkept stream c.pieces.bytes.items (take c.in-Some.len c.read.new.buf) _ _ (c.pieces.invariant.reading stream known) c.in-Some.ensures.bytes
+
+pub returns-clause-reads : goal.returns-clause-reads
+returns-clause-reads g c = λ stream known.
+    let none : take c.in-Some.len c.read.new.buf ≡ [] = ap (λ n. take n c.read.new.buf) c.if-len-eq0.true in
+    reads_whole stream c.pieces.bytes _ _ (c.pieces.invariant.reading stream known)
+    (subst (λ (bs : List ℕ). Consumes (g.R.Read.remaining (inside_of c.pieces.input)) (g.R.Read.remaining (inside_of c.read.new.self)) bs) none c.in-Some.ensures.bytes)
+    (c.in-Some.ensures.end c.if-len-eq0.true (omega (arith, c.pieces.invariant.room, c.read.auto.buf)))

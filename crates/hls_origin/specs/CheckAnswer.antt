@@ -1,0 +1,50 @@
+-- What the text of a certificate is answered, and how the answer is printed.
+use Rattle.std.specs.Prelude.{◌≡◌, ℕ, List, [], ◌∷◌, ◌++◌, codes, Result, Ok, Err, ◌⊎◌}
+use Rattle.hls_text.specs.Numbers.{spaced}
+use Rattle.hls_check_laws.specs.declared.cert_fault.CertFault.{CertFault}
+use Rattle.hls_check_laws.specs.declared.cert_fault.CertFault.TheVariants.{Form, TableNotSorted, PlanEnds, PlanStep, PlanCost, PriceStart, PriceStep, EndReached, Memory}
+use Rattle.hls_check_laws.specs.declared.verdict.Verdict.{Verdict}
+use Rattle.hls_check_laws.specs.declared.verdict.Verdict.TheVariants.{Cut, NoCut}
+use Rattle.hls_check_laws.specs.Certificates.{Printed, IsCertificate}
+use Rattle.hls_check_laws.specs.Faults.{fault_name}
+use Rattle.hls_check.specs.Answers.{IsAnswer}
+use Rattle.hls_check_text.specs.Text.{text}
+use Rattle.hls_check_text.specs.Wrong.{IsFirstWrong}
+
+-- the bytes are a certificate's text, and this is the answer to the certificate
+pub record AnswersCertificate (bytes : List ℕ) (answer : Result Verdict CertFault) : Type 0 where
+  pub certificate : Printed
+  pub is_certificate : IsCertificate certificate
+  pub text_is : bytes ≡ text certificate
+  pub answer_is : IsAnswer certificate answer
+
+-- the bytes are no certificate's text, and the answer names their first wrong line
+pub record NamesWrongLine (bytes : List ℕ) (answer : Result Verdict CertFault) : Type 0 where
+  pub line : ℕ
+  pub first_wrong : IsFirstWrong bytes line
+  pub answer_is : answer ≡ Err (Form line)
+
+-- the one answer to a text
+abbrev pub AnswerOf : List ℕ → Result Verdict CertFault → Type 0
+AnswerOf bytes answer = AnswersCertificate bytes answer ⊎ NamesWrongLine bytes answer
+
+abbrev pub fault_numbers : CertFault → List ℕ
+fault_numbers (Form line) = line ∷ []
+fault_numbers (TableNotSorted place) = place ∷ []
+fault_numbers PlanEnds = []
+fault_numbers (PlanStep p q) = p ∷ q ∷ []
+fault_numbers PlanCost = []
+fault_numbers PriceStart = []
+fault_numbers (PriceStep p q) = p ∷ q ∷ []
+fault_numbers EndReached = []
+fault_numbers Memory = []
+
+-- an answer without its line feed
+abbrev pub answer_words : Result Verdict CertFault → List ℕ
+answer_words (Ok (Cut cost)) = codes "cut" ++ spaced (cost ∷ [])
+answer_words (Ok NoCut) = codes "none"
+answer_words (Err f) = codes "refused " ++ (fault_name f ++ spaced (fault_numbers f))
+
+-- the line of an answer
+abbrev pub printed : Result Verdict CertFault → List ℕ
+printed answer = answer_words answer ++ (10 ∷ [])

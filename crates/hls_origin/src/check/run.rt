@@ -1,0 +1,85 @@
+//! `check`, from the bytes in to the bytes out.
+ghost use Rattle.std.specs.Prelude.{◌≡◌, ℕ, List, Some};
+ghost use Rattle.hls_http.specs.Counted.{failures_of, inside_of};
+ghost use Rattle.hls_origin.specs.CheckRun.{AnswersText, CountsFailures, CountsPrinting, CountsTelling, PrintsAnswer, Runs, TellsAnswer};
+
+use crate::check::printing::answer_line;
+use crate::check::reading::{Unread, read_whole};
+use hls_check_laws::{CertFault, Verdict};
+use hls_http::{Counted, write_whole};
+use std::alloc::Global;
+use std::io::{Read, Write};
+
+/// How `check` ended.
+#[derive(Clone, Copy, Debug, PartialEq, Eq)]
+pub enum CheckEnd {
+    /// The certificate is good, and its verdict was written: status 0.
+    Yes,
+    /// The certificate was refused, and why was written: status 1.
+    Refused,
+    /// A read failed, and nothing was written: status 1.
+    ReadFailed,
+    /// A write failed: status 1.
+    WriteFailed,
+}
+
+/// The answer to a text.
+fn answer_text(alloc: Global, bytes: &[u8]) -> Result<Verdict, CertFault>
+    ensures { AnswersText bytes.now result }
+{
+    match hls_check_text::read(alloc, bytes) {
+        Ok(certificate) => hls_check::check(&certificate),
+        Err(fault) => Err(fault),
+    }
+}
+
+/// The answer to the whole of a stream; None where a read failed.
+fn answer_stream<R: Read>(
+    alloc: Global,
+    input: &mut Counted<R>,
+) -> Option<Result<Verdict, CertFault>>
+    ensures tells { (stream : List ℕ) → R.remaining (inside_of input.old) ≡ Some stream → TellsAnswer stream (R.remaining (inside_of input.new)) result }
+    ensures counts { CountsTelling result (failures_of input.old) (failures_of input.new) }
+{
+    match read_whole(alloc, input) {
+        Ok(bytes) => Some(answer_text(alloc, &bytes)),
+        Err(Unread::ReadFailed) => None,
+        Err(Unread::Memory) => Some(Err(CertFault::Memory)),
+    }
+}
+
+/// Writes the line of an answer, which is whole before the first write.
+fn print_answer<W: Write>(output: &mut Counted<W>, answer: Result<Verdict, CertFault>) -> CheckEnd
+    ensures prints { (held : List ℕ) → W.contents (inside_of output.old) ≡ Some held → PrintsAnswer answer held (W.contents (inside_of output.new)) result }
+    ensures counts { CountsPrinting result (failures_of output.old) (failures_of output.new) }
+{
+    let line = answer_line(answer);
+    if !write_whole(output, line.as_str().as_bytes()) {
+        return CheckEnd::WriteFailed;
+    }
+    match answer {
+        Ok(_) => CheckEnd::Yes,
+        Err(_) => CheckEnd::Refused,
+    }
+}
+
+/// Reads a certificate's text to the reader's end, and writes the answer to it as one line: `cut`
+/// and the cost in microseconds where it is a good certificate of a cut, `none` where it is a good
+/// one of no cut, else `refused`, the name of its first fault, and the fault's numbers.
+///
+/// Nothing is written before the whole line is there. `refused Memory` is written only where memory
+/// was refused, and may then be written before the reader's end; writing it takes no memory.
+pub fn run_check<R: Read, W: Write>(
+    alloc: Global,
+    input: &mut Counted<R>,
+    output: &mut Counted<W>,
+) -> CheckEnd
+    ensures runs { (stream held : List ℕ) → R.remaining (inside_of input.old) ≡ Some stream → W.contents (inside_of output.old) ≡ Some held
+        → Runs stream held (R.remaining (inside_of input.new)) (W.contents (inside_of output.new)) result }
+    ensures counts { CountsFailures result (failures_of input.old) (failures_of input.new) (failures_of output.old) (failures_of output.new) }
+{
+    match answer_stream(alloc, input) {
+        Some(answer) => print_answer(output, answer),
+        None => CheckEnd::ReadFailed,
+    }
+}
