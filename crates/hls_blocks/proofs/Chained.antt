@@ -47,11 +47,11 @@ place_of {T = T} places (v ∷ w ∷ ws) (suc j) r chain inside low high =
 -- the next number stands behind the items of the last child, or at the beginning of a new one
 pub end_of : {T : Type 0} (places : ℕ) (vs : List (Numbered T)) (j r : ℕ) → IsChain places vs → 0 < length vs → r < places
     → j * places + r ≡ first_in vs + length (joined_items vs)
-    → (j ≤ length vs) × ((d : Numbered T) → j < length vs → r ≡ next_of (get_or vs j d))
+    → (j ≤ length vs) × ((d : Numbered T) → j < length vs → r ≡ next_of (get_or vs j d)) × (length vs ≤ suc j)
 end_of places [] j r chain some inside is_end = absurd (omega arith)
 end_of places (v ∷ []) zero r chain some inside is_end =
-    (omega arith, λ d within. omega (arith, is_end, length-append v.items []))
-end_of places (v ∷ []) (suc zero) r chain some inside is_end = (omega arith, λ d within. absurd (omega arith))
+    (omega arith, λ d within. omega (arith, is_end, length-append v.items []), omega arith)
+end_of places (v ∷ []) (suc zero) r chain some inside is_end = (omega arith, λ d within. absurd (omega arith), omega arith)
 end_of places (v ∷ []) (suc (suc j)) r chain some inside is_end =
     let more : suc (suc j) * places ≡ j * places + places + places = omega arith in
     let small : next_of v ≤ places = chain.1 in
@@ -66,7 +66,7 @@ end_of {T = T} places (v ∷ w ∷ ws) (suc j) r chain some inside is_end =
     let more : suc j * places ≡ j * places + places = omega arith in
     let long = length-append v.items (joined_items (w ∷ ws)) in
     let rest = end_of places (w ∷ ws) j r chain.3 (omega arith) inside (omega arith) in
-    (omega arith, λ d within. rest.1 d (omega arith))
+    (omega arith, λ d within. rest.1 d (omega arith), omega arith)
 
 -- what a push makes of the children: c stands in place of the last child, or behind all
 pub record IsPushed {T : Type 0} (places : ℕ) (vs : List (Numbered T)) (x : T) (ws : List (Numbered T)) : Type 0 where

@@ -1,6 +1,6 @@
 -- The lemmas on the children of a node, as what the code reads and writes: a list of children, each seen as a list.
 use Rattle.std.proofs.Common.{◌≡◌, ℕ, zero, suc, ◌+◌, ◌-◌, ◌*◌, ◌/◌, ◌%◌, ◌<◌, ◌≤◌, List, [], ◌∷◌, ◌++◌, length, get_or, take, drop, map, sym, ◌∙◌, ap, subst, inl, inr, arith, length-append, length-drop, append_assoc}
-use Rattle.std.proofs.lemmas.List.{map-append, take-map, drop-map, length-map, length-take-le, get_or_default}
+use Rattle.std.proofs.lemmas.List.{map-append, take-map, drop-map, length-map, length-take-le}
 use Rattle.std.proofs.lemmas.List.Elements.{All-get_or, All-append, All-cons, All-take, All-drop}
 use Rattle.std.proofs.lemmas.Nat.{div-add-mod'}
 use Rattle.std.proofs.Math.Nat.{mod-lt, le-div_iff_mul-le, mul-le-mul_right}
@@ -37,34 +37,29 @@ place {T = T} places slot n vs some any chain low =
           record { child = found.0; low = found.1; high = found.2 };
       ends = λ (high : n ≡ slot * places + first_in vs + length (joined_items vs)).
           let found = end_of places vs (n / places - slot) (n % places) chain any is.inside (omega arith) in
-          record { child = found.0; next = found.1 };
+          record { child = found.0; next = found.1; behind = found.2 };
     }
 
--- the child that the code reads at a place
-pub record IsChild {A T : Type 0} (seen : A → Numbered T) (sound : A → Type 0) (xs : List A) (at : ℕ) (child : A) : Type 0 where
+-- the child that the code reads at a place, where it holds a number
+pub record IsFound {A T : Type 0} (seen : A → Numbered T) (sound : A → Type 0) (xs : List A) (at there : ℕ) (child : A) : Type 0 where
+  pub within : at < length xs
   pub here : get_or (map seen xs) at (seen child) ≡ seen child
   pub is_sound : sound child
+  pub low : (seen child).first ≤ there
+  pub high : there < next_of (seen child)
 
-pub child_at : {E A T : Type 0} (seen : A → Numbered T) (sound : A → Type 0) (value : E → A) (es : List E) (at : ℕ) (e : E) (child : A)
-    → e ≡ get_or es at e → child ≡ value e → at < length es → All sound (map value es) → IsChild seen sound (map value es) at child
-child_at seen sound value es at e child entry is within all =
-    let held : get_or (map value es) at (value e) ≡ value e = get_or-map value es at e ∙ ap value (sym entry) in
-    let long : at < length (map value es) = simp length-map within in
-    rw is (record {
-      here = get_or-map seen (map value es) at (value e) ∙ ap seen held;
-      is_sound = subst sound held (All-get_or sound (map value es) at (value e) long all);
-    })
-
--- what the child that holds a number is seen as
-pub record Holds {T : Type 0} (v : Numbered T) (there : ℕ) : Type 0 where
-  pub low : v.first ≤ there
-  pub high : there < next_of v
-
-pub holds : {T : Type 0} (vs : List (Numbered T)) (at there : ℕ) (v : Numbered T) → get_or vs at v ≡ v → IsKept vs at there → Holds v there
-holds vs at there v is kept = record {
-  low = rw is at (kept.low v);
-  high = rw is at (kept.high v);
-}
+pub found : {A T : Type 0} (seen : A → Numbered T) (sound : A → Type 0) (xs : List A) (at there : ℕ) (child : A)
+    → get_or xs at child ≡ child → All sound xs → IsKept (map seen xs) at there → IsFound seen sound xs at there child
+found seen sound xs at there child is all kept =
+    let here : get_or (map seen xs) at (seen child) ≡ seen child = get_or-map seen xs at child ∙ ap seen is in
+    let within : at < length xs = simp length-map at kept.child in
+    record {
+      within = within;
+      here = here;
+      is_sound = subst sound is (All-get_or sound xs at child within all);
+      low = rw here at (kept.low (seen child));
+      high = rw here at (kept.high (seen child));
+    }
 
 -- the items from a number on: the rest of its child, and the children behind it
 pub rest_of : {T : Type 0} (places slot n : ℕ) (vs : List (Numbered T)) (at there : ℕ) (v : Numbered T) → IsChain places vs
@@ -89,7 +84,7 @@ all_one : {A : Type 0} (P : A → Type 0) (x : A) → P x → All P (x ∷ [])
 all_one P x is zero d within = is
 all_one P x is (suc k) d within = absurd (omega arith)
 
-below_all : (places s n : ℕ) → s * places ≤ n → n < 64 * places → s < 64
+pub below_all : (places s n : ℕ) → s * places ≤ n → n < 64 * places → s < 64
 below_all places s n low high = elim (cases_lt s 64) [ inl h ↦ h | inr h ↦ absurd (omega (arith, mul-le-mul_right places h)) ]
 
 -- the node after a push: `ws` are its children, of which `child` is the one that holds the item
@@ -150,12 +145,3 @@ left_node seen sound places slot n xs ws at there v child node number within her
         all = All-cons sound child (drop (suc at) xs) child_sound (All-drop sound (suc at) xs node.all);
       };
     })
-
-pub grown_old : {A T : Type 0} (seen : A → Numbered T) (xs : List A) (at there : ℕ) (x : T) (v c : Numbered T)
-    → get_or (map seen xs) at v ≡ v → at < length xs → c ≡ with_item v x → IsGrown (map seen xs) at there x c
-grown_old seen xs at there x v c here within is =
-    let long : at < length (map seen xs) = simp length-map within in
-    record {
-      old = λ d l. is ∙ ap (λ u. with_item u x) (sym here ∙ get_or_default (map seen xs) at v d long);
-      new = λ past. absurd (omega arith);
-    }

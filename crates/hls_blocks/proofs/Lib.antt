@@ -1,3 +1,4 @@
 pub mod Runs
 pub mod Chained
 pub mod Held
+pub mod Last

@@ -1,5 +1,5 @@
 -- Where a number stands in a node: in which child, and under which number inside it.
-use Rattle.std.specs.Prelude.{◌≡◌, ℕ, ◌+◌, ◌*◌, ◌<◌, ◌≤◌, List, [], ◌∷◌, length, slice_index_or}
+use Rattle.std.specs.Prelude.{◌≡◌, ℕ, suc, ◌+◌, ◌*◌, ◌<◌, ◌≤◌, List, [], ◌∷◌, length, slice_index_or}
 use Rattle.hls_blocks.specs.Numbered.{Numbered, next_of, with_item}
 use Rattle.hls_blocks.specs.Chain.{joined}
 
@@ -18,6 +18,7 @@ pub record IsKept {T : Type 0} (vs : List (Numbered T)) (at there : ℕ) : Type 
 pub record IsEnd {T : Type 0} (vs : List (Numbered T)) (at there : ℕ) : Type 0 where
   pub child : at ≤ length vs
   pub next : (d : Numbered T) → at < length vs → there ≡ next_of (slice_index_or vs at d)
+  pub behind : length vs ≤ suc at
 
 -- the child `at` after x was pushed, an old child or a new one
 pub record IsGrown {T : Type 0} (vs : List (Numbered T)) (at there : ℕ) (x : T) (c : Numbered T) : Type 0 where

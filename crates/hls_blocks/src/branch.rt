@@ -1,86 +1,115 @@
 //! A level over another: up to 64 children, filled from the left.
-ghost use Rattle.std.specs.Prelude.{◌≡◌, ℕ, ◌+◌, ◌*◌, ◌^◌, ◌<◌, ◌≤◌, [], ◌∷◌, ◌++◌, length, map, slice_index_or, IfOk};
-ghost use Rattle.std.specs.List.{All};
+ghost use Rattle.std.specs.Prelude.{◌≡◌, ℕ, ◌+◌, ◌*◌, ◌^◌, ◌<◌, ◌≤◌, [], ◌∷◌, ◌++◌, length, map, drop, suc, slice_index_or, IfOk};
 ghost use Rattle.hls_blocks.specs.Numbered.{Numbered, next_of, with_item, from_number, rest_at};
-ghost use Rattle.hls_blocks.specs.Chain.{joined, IsChain, IsNode};
-ghost use Rattle.hls_blocks.specs.Place.{IsPlace, IsEnd, IsGrown};
+ghost use Rattle.hls_blocks.specs.Tree.{children, HasChildren, branch_seen, IsBranch};
+ghost use Rattle.hls_blocks.specs.Place.{IsPlace};
 
-use crate::copy::{only, with_first, with_last};
+use crate::copy::{with_first, with_last};
 use crate::level::Level;
 use hls_time::Ticks;
 use std::alloc::{AllocError, Global};
 use std::sync::Arc;
 
 /// Up to 64 children, the first of which stands in the place `slot` of the 64.
+///
+/// The last child stands beside the others, which a push into it shares.
 #[derive(Drop)]
 pub struct Branch<C> {
     slot: u64,
-    children: Vec<Arc<C>>,
+    others: Arc<Vec<Arc<C>>>,
+    last: Arc<C>,
 }
 
 /// The child of number `n`, and the number that `n` has inside it.
-fn place_in<C: Level>(slot: u64, children: &[Arc<C>], n: u64) -> (usize, u64)
+fn place_in<C: Level>(node: &Branch<C>, n: u64) -> (usize, u64)
     requires small { C.places ≤ 16777216 }
-    requires some { 0 < length (map (λ x. x.value) children.now) }
-    requires chain { IsChain C.places (map C.seen (map (λ x. x.value) children.now)) }
-    requires low { (joined slot C.places (map C.seen (map (λ x. x.value) children.now))).first ≤ n }
-    requires high { n ≤ next_of (joined slot C.places (map C.seen (map (λ x. x.value) children.now))) }
-    ensures { IsPlace C.places slot (map C.seen (map (λ x. x.value) children.now)) n result.0 result.1 }
+    requires sound { IsBranch C.places C.seen C.sound node.now }
+    requires low { (branch_seen C.places C.seen node.now).first ≤ n }
+    requires high { n ≤ next_of (branch_seen C.places C.seen node.now) }
+    ensures { IsPlace C.places node.now.slot (map C.seen (children node.now)) n result.0 result.1 }
 {
     let width = C::width();
-    ((n / width - slot) as usize, n % width)
+    ((n / width - node.slot) as usize, n % width)
 }
 
 /// The child that holds the item of number `n`, with its place among the children and the item's number inside it.
-fn child_of<'a, C: Level>(slot: u64, children: &'a [Arc<C>], n: u64) -> (usize, u64, &'a C)
+fn child_of<C: Level>(node: &Branch<C>, n: u64) -> (usize, u64, &C)
     requires small { C.places ≤ 16777216 }
-    requires node { IsNode slot C.places C.seen C.sound (map (λ x. x.value) children.now) }
-    requires low { (joined slot C.places (map C.seen (map (λ x. x.value) children.now))).first ≤ n }
-    requires high { n < next_of (joined slot C.places (map C.seen (map (λ x. x.value) children.now))) }
-    ensures number { slot * C.places + (result.0 * C.places + result.1) ≡ n }
-    ensures within { result.0 < length children.now }
-    ensures here { slice_index_or (map C.seen (map (λ x. x.value) children.now)) result.0 (C.seen result.2.now) ≡ C.seen result.2.now }
+    requires sound { IsBranch C.places C.seen C.sound node.now }
+    requires low { (branch_seen C.places C.seen node.now).first ≤ n }
+    requires high { n < next_of (branch_seen C.places C.seen node.now) }
+    ensures number { node.now.slot * C.places + (result.0 * C.places + result.1) ≡ n }
+    ensures within { result.0 < length (children node.now) }
+    ensures here { slice_index_or (map C.seen (children node.now)) result.0 (C.seen result.2.now) ≡ C.seen result.2.now }
     ensures sound { C.sound result.2.now }
     ensures low { (C.seen result.2.now).first ≤ result.1 }
     ensures high { result.1 < next_of (C.seen result.2.now) }
 {
-    let (at, there) = place_in(slot, children, n);
-    let child: &C = &children[at];
-    (at, there, child)
+    let (at, there) = place_in(node, n);
+    let others = node.others.as_slice();
+    if at < others.len() {
+        return (at, there, &others[at]);
+    }
+    (at, there, &node.last)
 }
 
-/// The last child with the item at its end, or a new child with it alone.
-fn grown<C: Level>(
+/// The node with a new child behind its last.
+fn with_child<C: Level>(
+    node: &Branch<C>,
     alloc: Global,
-    children: &[Arc<C>],
-    at: usize,
-    there: u64,
-    item: Arc<C::Item>,
+    child: C,
     ticks: &mut Ticks,
-) -> Result<C, AllocError>
-    requires small { C.places ≤ 16777216 }
-    requires all { All C.sound (map (λ x. x.value) children.now) }
-    requires ends { IsEnd (map C.seen (map (λ x. x.value) children.now)) at there }
-    requires place { there < C.places }
-    requires count { ticks.old + C.writes ≤ 2 ^ 63 }
-    ensures seen { IfOk result (λ c. IsGrown (map C.seen (map (λ x. x.value) children.now)) at there item.value (C.seen c)) }
-    ensures sound { IfOk result C.sound }
-    ensures count { ticks.new ≤ ticks.old + C.writes }
+) -> Result<Branch<C>, AllocError>
+    requires few { length (children node.now) < 64 }
+    requires count { ticks.old + 64 ≤ 2 ^ 63 }
+    ensures all { IfOk result (HasChildren node.now.slot (children node.now ++ child ∷ [])) }
+    ensures count { ticks.new ≤ ticks.old + 64 }
 {
-    if at < children.len() {
-        let child: &C = &children[at];
-        let grown = child.pushed(alloc, there, item, ticks)?;
-        return Ok(grown);
+    let last = node.last.clone()?;
+    let others = with_last(alloc, node.others.as_slice(), last, ticks)?;
+    ticks.tick();
+    Ok(Branch {
+        slot: node.slot,
+        others: Arc::new(alloc, others)?,
+        last: Arc::new(alloc, child)?,
+    })
+}
+
+/// The node with `child` in place of the child `at`, and without those before it.
+fn from_child<C: Level>(
+    node: &Branch<C>,
+    alloc: Global,
+    at: usize,
+    child: C,
+) -> Result<Branch<C>, AllocError>
+    requires within { at < length (children node.now) }
+    requires few { node.now.slot + length (children node.now) ≤ 64 }
+    ensures { IfOk result (HasChildren (node.now.slot + at) (child ∷ drop (suc at) (children node.now))) }
+{
+    let slot = node.slot + at as u64;
+    let child = Arc::new(alloc, child)?;
+    let others = node.others.as_slice();
+    if at < others.len() {
+        let others = with_first(alloc, child, &others[at + 1..])?;
+        return Ok(Branch {
+            slot,
+            others: Arc::new(alloc, others)?,
+            last: node.last.clone()?,
+        });
     }
-    C::single(alloc, there, item, ticks)
+    Ok(Branch {
+        slot,
+        others: Arc::new(alloc, Vec::new(alloc))?,
+        last: child,
+    })
 }
 
 impl<C: Level> Level for Branch<C> {
     type Item = C::Item;
 
-    ghost seen = { λ s. joined s.slot C.places (map C.seen (map (λ x. x.value) s.children.items)) };
+    ghost seen = { λ s. branch_seen C.places C.seen s };
 
-    ghost sound = { λ s. IsNode s.slot C.places C.seen C.sound (map (λ x. x.value) s.children.items) };
+    ghost sound = { λ s. IsBranch C.places C.seen C.sound s };
 
     ghost places = { 64 * C.places };
 
@@ -105,10 +134,11 @@ impl<C: Level> Level for Branch<C> {
     {
         let width = C::width();
         let child = C::single(alloc, n % width, item, ticks)?;
-        let child = Arc::new(alloc, child)?;
+        ticks.tick();
         Ok(Branch {
             slot: n / width,
-            children: only(alloc, child, ticks)?,
+            others: Arc::new(alloc, Vec::new(alloc))?,
+            last: Arc::new(alloc, child)?,
         })
     }
 
@@ -128,29 +158,29 @@ impl<C: Level> Level for Branch<C> {
         ensures sound { IfOk result ⟦<Branch<C> as Level>⟧.sound }
         ensures count { ticks.new ≤ ticks.old + (64 + C.writes) }
     {
-        let old = self.children.as_slice();
-        let (at, there) = place_in(self.slot, old, n);
-        let child = grown(alloc, old, at, there, item, ticks)?;
-        let child = Arc::new(alloc, child)?;
+        let (at, there) = place_in(self, n);
+        let others = self.others.as_slice();
+        if at > others.len() {
+            let child = C::single(alloc, there, item, ticks)?;
+            return with_child(self, alloc, child, ticks);
+        }
+        let last = self.last.pushed(alloc, there, item, ticks)?;
+        ticks.tick();
         Ok(Branch {
             slot: self.slot,
-            children: with_last(alloc, &old[..at], child, ticks)?,
+            others: self.others.clone()?,
+            last: Arc::new(alloc, last)?,
         })
     }
 
     fn without_front(&self, alloc: Global, n: u64) -> Result<Branch<C>, AllocError> {
-        let old = self.children.as_slice();
-        let (at, there, child) = child_of(self.slot, old, n);
-        let child = Arc::new(alloc, child.without_front(alloc, there)?)?;
-        Ok(Branch {
-            slot: self.slot + at as u64,
-            children: with_first(alloc, child, &old[at + 1..])?,
-        })
+        let (at, there, child) = child_of(self, n);
+        let child = child.without_front(alloc, there)?;
+        from_child(self, alloc, at, child)
     }
 
     fn run_at(&self, n: u64) -> &[Arc<C::Item>] {
-        let children = self.children.as_slice();
-        let (_, there, child) = child_of(self.slot, children, n);
+        let (_, there, child) = child_of(self, n);
         child.run_at(there)
     }
 }

@@ -1,4 +1,4 @@
-//! The slots of a new node are written here, and nowhere else.
+//! The vectors of new nodes are written here, and nowhere else.
 ghost use Rattle.std.specs.Prelude.{◌≡◌, ◌+◌, ◌^◌, ◌<◌, ◌≤◌, [], ◌∷◌, ◌++◌, length, map, IfOk, OnOk};
 
 use hls_time::Ticks;

@@ -1,6 +1,6 @@
 //! What no clause says: that old values live on beside new ones, and that calls succeed; on the tree and on the plain list alike.
-ghost use Rattle.std.specs.Prelude.{◌≡◌, ◌≤◌, IfOk};
-ghost use Rattle.hls_blocks.specs.Numbered.{next_of};
+ghost use Rattle.std.specs.Prelude.{◌≡◌, ◌<◌, ◌≤◌, IfOk};
+ghost use Rattle.hls_blocks.specs.Numbered.{next_of, with_item, from_number};
 
 use crate::plain::Plain;
 use crate::shared::Shared;
@@ -102,14 +102,14 @@ fn old_plain_lists_keep_their_items(rt: HostRuntime) -> Result<(), Fail> {
     Ok(())
 }
 
-// A push writes the entries of each node on its way, and one more where a node grows.
+// A push writes its leaf's entries, and one slot on each level above where the last node there has room.
 #[test]
 fn pushes_count_their_slots(rt: HostRuntime) -> Result<(), Fail> {
     let alloc = rt.alloc();
     let list = tree_to(alloc, &Shared::empty(alloc), 4095)?;
     let mut ticks = Ticks::new();
     let full = list.pushed_counted(alloc, 4095, &mut ticks)?;
-    assert_eq!(rt; ticks.count(), 64 + 64 + 1 + 1);
+    assert_eq!(rt; ticks.count(), 64 + 1 + 1 + 1);
     assert_eq!(rt; full.next(), 4096);
     let mut ticks = Ticks::new();
     let grown = full.pushed_counted(alloc, 4096, &mut ticks)?;
@@ -123,5 +123,46 @@ fn pushes_count_their_slots(rt: HostRuntime) -> Result<(), Fail> {
         wanted += 1;
     }
     assert_eq!(rt; wanted, 4097);
+    Ok(())
+}
+
+// A push, tried again where memory was refused.
+fn pushed_again(alloc: Global, list: &Shared<u64>, item: u64) -> Result<Shared<u64>, AllocError>
+    requires { next_of list.now < 16777216 }
+    ensures { IfOk result (λ s. s ≡ with_item list.now item) }
+{
+    match list.pushed(alloc, item) {
+        Ok(next) => Ok(next),
+        Err(_) => list.pushed(alloc, item),
+    }
+}
+
+// The list from number `n` on, tried again where memory was refused.
+fn dropped_again(alloc: Global, list: &Shared<u64>, n: u64) -> Result<Shared<u64>, AllocError>
+    requires { (list.now.first ≤ n) × (n ≤ next_of list.now) }
+    ensures { IfOk result (λ s. s ≡ from_number list.now n) }
+{
+    match list.dropped_front(alloc, n) {
+        Ok(rest) => Ok(rest),
+        Err(_) => list.dropped_front(alloc, n),
+    }
+}
+
+// With any one allocation refused, a second try gives what was wanted, and the list before it is as it was.
+#[test]
+fn refused_memory_changes_nothing(rt: HostRuntime) -> Result<(), Fail> {
+    let alloc = rt.alloc();
+    let mut list = Shared::empty(alloc);
+    for n in 0..130 {
+        let next = pushed_again(alloc, &list, n)?;
+        assert_tree(&rt, &list, 0, n);
+        list = next;
+    }
+    let rest = dropped_again(alloc, &list, 60)?;
+    assert_eq!(rt; rest.next(), 130);
+    let last = dropped_again(alloc, &rest, 128)?;
+    assert_tree(&rt, &list, 0, 130);
+    assert_tree(&rt, &rest, 60, 130);
+    assert_tree(&rt, &last, 128, 130);
     Ok(())
 }
