@@ -110,6 +110,7 @@ impl<W: Write> Counted<W> {
     /// 0. A failed call is `None` and counted; so is one that took no byte.
     pub fn write(&mut self, buf: &[u8]) -> Option<usize>
         ensures quiet { IsSome result → failures_of self.new ≡ failures_of self.old }
+        ensures progress { IsSome result → calls_left self.new < calls_left self.old }
         ensures some { IfSome result (λ n. (0 < n) × (n ≤ length buf.now)) }
         ensures bytes { IfSome result (λ n. Appends (W.contents (inside_of self.old)) (W.contents (inside_of self.new)) (take n buf.now)) }
         ensures rose { IfNone result (Rose (failures_of self.old) (failures_of self.new)) }
