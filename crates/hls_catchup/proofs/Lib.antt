@@ -3,9 +3,10 @@ pub mod Places
 pub mod Pieces
 pub mod Uris
 pub mod ListLoop
+pub mod Walks
 pub mod Right
-pub mod Bounded
-pub mod Covered
 pub mod States
 pub mod Tables
+pub mod Bounded
+pub mod Covered
 pub mod Spans

@@ -1,12 +1,11 @@
 -- One list more in a loop over the renditions.
-use Rattle.std.proofs.Common.{◌≡◌, ℕ, suc, ◌+◌, ◌<◌, List, [], ◌∷◌, ◌++◌, length, map, take, drop, get_or, sym, ◌∙◌, ap, Bor, append_assoc, drop-cons, add-one}
-use Rattle.std.proofs.lemmas.List.{map-append, take_more}
+use Rattle.std.proofs.Common.{◌≡◌, ℕ, suc, ◌+◌, ◌<◌, List, [], ◌∷◌, ◌++◌, length, map, drop, get_or, sym, ◌∙◌, ap, Bor, append_assoc, drop-cons, add-one}
+use Rattle.std.proofs.lemmas.List.{map-append}
 use Rattle.hls_record.specs.Recorded.{Recorded}
 use Rattle.hls_check_laws.specs.Tables.{Table}
 use Rattle.hls_m3u8.specs.declared.playlist.MediaPlaylist.{MediaPlaylist}
 use Rattle.hls_m3u8.specs.Playlist.{Playlist, playlist_of}
 use Rattle.hls_catchup.specs.Lists.{job_list, job_lists}
-use Rattle.hls_catchup.specs.Programmes.{floors_of}
 
 pub one_list_more : (recordings : List (Bor Recorded)) (t : Table) (plan : List ℕ) (lists : List MediaPlaylist) (list : MediaPlaylist) (i : ℕ)
     (recording : Bor Recorded) (whole : List Playlist) →
@@ -25,16 +24,3 @@ one_list_more recordings t plan lists list i recording whole within here made be
     ap (λ ls. ls ++ rest) (map-append playlist_of lists (list ∷ []))
     ∙ append_assoc (map playlist_of lists) (playlist_of list ∷ []) rest
     ∙ ap (λ ls. map playlist_of lists ++ ls) (sym unrolled) ∙ before
-
--- one floor more
-pub one_floor_more : (recordings : List (Bor Recorded)) (floors : List ℕ) (i : ℕ) (recording : Bor Recorded) (floor : ℕ) →
-    i < length recordings → recording ≡ get_or recordings i recording → floor ≡ recording.now.floor →
-    floors ≡ floors_of (map (λ r. r.now) (take i recordings)) →
-    floors ++ floor ∷ [] ≡ floors_of (map (λ r. r.now) (take (i + 1) recordings))
-one_floor_more recordings floors i recording floor within here is before =
-    let more : take (i + 1) recordings ≡ take i recordings ++ recording ∷ [] =
-    take_more recordings i recording within ∙ ap (λ r. take i recordings ++ r ∷ []) (sym here) in
-    let mapped : map (λ r. r.now) (take (i + 1) recordings) ≡ map (λ r. r.now) (take i recordings) ++ recording.now ∷ [] =
-    ap (map (λ r. r.now)) more ∙ map-append (λ r. r.now) (take i recordings) (recording ∷ []) in
-    ap (λ fs. fs ++ floor ∷ []) before ∙ ap (λ f. floors_of (map (λ r. r.now) (take i recordings)) ++ f ∷ []) is
-    ∙ sym (ap floors_of mapped ∙ map-append (λ r. r.floor) (map (λ r. r.now) (take i recordings)) (recording.now ∷ []))

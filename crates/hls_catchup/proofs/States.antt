@@ -1,39 +1,33 @@
 -- What a state's lanes and recordings have to do with one another.
-use Rattle.std.proofs.Common.{◌≡◌, ℕ, zero, suc, ◌+◌, ◌<◌, ◌≤◌, List, [], ◌∷◌, ◌++◌, length, map, get_or, take, Option, Some, None, Bool, false, arith, refl, sym, ap, inl, inr, ◌∙◌, Bor}
+use Rattle.std.proofs.Common.{◌≡◌, ℕ, zero, suc, ◌+◌, ◌<◌, List, [], ◌∷◌, ◌++◌, length, map, get_or, Option, Some, None, Bool, false, ◌&&◌, take, drop, arith, refl, sym, ap, inl, inr, ◌∙◌, Bor}
 use Rattle.std.specs.Prelude.{slice_get, option_map, unwrap_or}
-use Rattle.std.proofs.lemmas.List.{length-map, map-append, take_more, take_all}
+use Rattle.std.specs.List.{list_all}
+use Rattle.std.proofs.lemmas.Bool.{cases_lt}
+use Rattle.std.proofs.lemmas.List.{length-map, map-append, get_or_past, get_or-map, at_drop_more}
 use Rattle.hls_media_laws.specs.InitData.{InitData}
 use Rattle.hls_record.specs.Recorded.{Recorded}
-use Rattle.hls_record.proofs.Lists.{at_snoc}
-use Rattle.hls_core_laws.specs.Channel.{Lane, opening, fresh}
+use Rattle.hls_record.proofs.Lists.{some_at, at_snoc}
+use Rattle.hls_core_laws.specs.Channel.{Lane, no_lane}
 use Rattle.hls_core_laws.specs.State.{State, Held, channel}
+use Rattle.hls_core_laws.specs.IsState.{IsState}
 use Rattle.hls_core_laws.specs.Outcome.{held}
-use Rattle.hls_core_laws.proofs.Logs.{lanes_from}
+use Rattle.hls_core_laws.specs.Places.{facts_of, is_finished, floor_of, sources, places, floors}
+use Rattle.hls_core_laws.proofs.Sources.{lanes_count, sources_count, source_of}
+use Rattle.hls_core_laws.proofs.Lists.{at_map, at_or}
+use Rattle.hls_places_laws.specs.Sources.{source_at}
+use Rattle.hls_places_laws.proofs.Growths.{after-without}
 use Rattle.hls_core.specs.Reads.{recorded_from, recorded_at, recording_of, finished_at}
-use Rattle.hls_catchup.specs.Requests.{finished_in, floors_in, AreRecordings}
+use Rattle.hls_places_laws.specs.declared.place.Place.{Place}
+use Rattle.hls_catchup.specs.Kept.{kept_in}
+use Rattle.hls_catchup.specs.Requests.{AreRecordings}
 
--- a lane for each rendition
-pub lanes_long : (s : State) → length (channel s).lanes ≡ length s.config.renditions
-lanes_long s = lanes_from (opening s.config) s.log ∙ length-map s.config.renditions fresh
-
-looked_up : (lanes : List Lane) (r : ℕ) → unwrap_or (option_map (λ (l : Lane). l.finished) (slice_get lanes r)) false ≡ get_or (map (λ (l : Lane). l.finished) lanes) r false
+looked_up : (lanes : List Lane) (r : ℕ) → unwrap_or (option_map (λ (l : Lane). l.finished) (slice_get lanes r)) false ≡ get_or (map is_finished lanes) r false
 looked_up [] r = refl
 looked_up (l ∷ lanes) zero = refl
 looked_up (l ∷ lanes) (suc r) = looked_up lanes r
 
-pub finished_there : (s : State) (r : ℕ) → unwrap_or (finished_at s r) false ≡ get_or (finished_in s) r false
+pub finished_there : (s : State) (r : ℕ) → unwrap_or (finished_at s r) false ≡ get_or (map is_finished (channel s).lanes) r false
 finished_there s r = looked_up (channel s).lanes r
-
-pub one_finished_more : (s : State) (made : List Bool) (r : ℕ) (over : Bool) → r < length s.config.renditions →
-    over ≡ get_or (finished_in s) r false → made ≡ take r (finished_in s) → made ++ over ∷ [] ≡ take (r + 1) (finished_in s)
-one_finished_more s made r over within is before =
-    let count : length (finished_in s) ≡ length s.config.renditions = length-map (channel s).lanes (λ (l : Lane). l.finished) ∙ lanes_long s in
-    ap (λ fs. fs ++ over ∷ []) before ∙ ap (λ f. take r (finished_in s) ++ f ∷ []) is ∙ sym (take_more (finished_in s) r false (omega arith))
-
-pub all_finished_made : (s : State) (made : List Bool) (r : ℕ) → length s.config.renditions ≤ r → made ≡ take r (finished_in s) → made ≡ finished_in s
-all_finished_made s made r past before =
-    let count : length (finished_in s) ≡ length s.config.renditions = length-map (channel s).lanes (λ (l : Lane). l.finished) ∙ lanes_long s in
-    before ∙ take_all r (finished_in s) (omega arith)
 
 -- one recording more
 pub one_recording_more : (s : State) (recordings : List (Bor Recorded)) (recording : Bor Recorded) →
@@ -55,7 +49,7 @@ pub are_recordings : (s : State) (recordings : List (Bor Recorded)) → length r
     ((r : ℕ) (recorded : Recorded) → slice_get (map (λ r. r.now) recordings) r ≡ Some recorded → recording_of s r ≡ Some recorded) →
     AreRecordings s (map (λ r. r.now) recordings)
 are_recordings s recordings count each = record {
-  count = length-map recordings (λ (r : Bor Recorded). r.now) ∙ count ∙ sym (lanes_long s);
+  count = length-map recordings (λ (r : Bor Recorded). r.now) ∙ count ∙ sym (lanes_count s.config s.log);
   each = each;
 }
 
@@ -76,6 +70,43 @@ of_lane s r l recorded at is =
     let there : recorded_at (Some l) (held s r) ≡ Some recorded = ap (λ o. recorded_at o (held s r)) (sym at) ∙ is in
     of_init l.init l (held s r) recorded there
 
+-- a rendition that hasn't begun has no facts, and nothing of it is trimmed
+no_init : (o : Option InitData) (l : Lane) (h : Held) → recorded_from o l h ≡ None → o ≡ None
+no_init None l h is = refl
+no_init (Some init) l h is = cc
+
+record IsBare (l : Lane) : Type 0 where
+  facts : l.facts ≡ []
+  floor : l.floor ≡ 0
+
+bare_lane : (s : State) → IsState s → (r : ℕ) (l : Lane) → r < length (channel s).lanes → slice_get (channel s).lanes r ≡ Some l → recording_of s r ≡ None → IsBare l
+bare_lane s valid r l within at unbegun =
+    let there : recorded_at (Some l) (held s r) ≡ None = ap (λ o. recorded_at o (held s r)) (sym at) ∙ unbegun in
+    let none : l.init ≡ None = no_init l.init l (held s r) there in
+    let bytes = some_at s.bytes r (omega (arith, valid.sides)) in
+    let bare = (valid.fits r l bytes.0 at bytes.1).none none in
+    record { facts = bare.0; floor = bare.1 }
+
+-- and so there is no place
+pub no_places : (s : State) → IsState s → (r : ℕ) → r < length (channel s).lanes → recording_of s r ≡ None → places s ≡ []
+no_places s valid r within unbegun =
+    let l = some_at (channel s).lanes r within in
+    let empty : (source_at (sources s) r).facts ≡ [] = (source_of s r l.0 l.1).facts ∙ (bare_lane s valid r l.0 within l.1 unbegun).facts in
+    after-without (sources s) r (omega (arith, sources_count s, within)) empty 0
+
+-- the floor of each rendition
+floor_at : (s : State) (r : ℕ) (l : Lane) → slice_get (channel s).lanes r ≡ Some l → get_or (floors s) r 0 ≡ l.floor
+floor_at s r l at = at_or (floors s) r 0 l.floor (at_map floor_of (channel s).lanes r l at)
+
+pub floor_unbegun : (s : State) → IsState s → (r : ℕ) → recording_of s r ≡ None → 0 ≡ get_or (floors s) r 0
+floor_unbegun s valid r unbegun =
+    elim (cases_lt r (length (channel s).lanes)) [
+      | inl within ↦
+          (let l = some_at (channel s).lanes r within in
+          sym (floor_at s r l.0 l.1 ∙ (bare_lane s valid r l.0 within l.1 unbegun).floor))
+      | inr past ↦ sym (get_or_past (floors s) r 0 (omega (arith, length-map (channel s).lanes floor_of)))
+    ]
+
 -- lists side by side whose elements give the same
 same_maps : {A B C : Type 0} (f : A → C) (g : B → C) (xs : List A) (ys : List B) → length xs ≡ length ys →
     ((r : ℕ) (x : A) (y : B) → slice_get xs r ≡ Some x → slice_get ys r ≡ Some y → f x ≡ g y) → map f xs ≡ map g ys
@@ -86,13 +117,28 @@ same_maps f g (x ∷ xs) (y ∷ ys) count each =
     ap (λ c. c ∷ map f xs) (each 0 x y refl refl) ∙ ap (λ cs. g y ∷ cs) (same_maps f g xs ys (omega arith) (λ r u v at_u at_v. each (suc r) u v at_u at_v))
 
 pub same_facts : (s : State) (recordings : List Recorded) → AreRecordings s recordings →
-    map (λ (r : Recorded). r.facts) recordings ≡ map (λ (l : Lane). l.facts) (channel s).lanes
+    map (λ (r : Recorded). r.facts) recordings ≡ map facts_of (channel s).lanes
 same_facts s recordings are =
-    same_maps (λ (r : Recorded). r.facts) (λ (l : Lane). l.facts) recordings (channel s).lanes are.count
+    same_maps (λ (r : Recorded). r.facts) facts_of recordings (channel s).lanes are.count
     (λ r recorded l at there. (of_lane s r l recorded there (are.each r recorded at)).facts)
 
 pub same_floors : (s : State) (recordings : List Recorded) → AreRecordings s recordings →
-    map (λ (r : Recorded). r.floor) recordings ≡ floors_in s
+    map (λ (r : Recorded). r.floor) recordings ≡ floors s
 same_floors s recordings are =
-    same_maps (λ (r : Recorded). r.floor) (λ (l : Lane). l.floor) recordings (channel s).lanes are.count
+    same_maps (λ (r : Recorded). r.floor) floor_of recordings (channel s).lanes are.count
     (λ r recorded l at there. (of_lane s r l recorded there (are.each r recorded at)).floor)
+
+-- one rendition more that is finished, or isn't
+pub all_finished_from : (s : State) (r : ℕ) → r < length (channel s).lanes →
+    list_all is_finished (drop r (channel s).lanes) ≡ (get_or (map is_finished (channel s).lanes) r false && list_all is_finished (drop (r + 1) (channel s).lanes))
+all_finished_from s r within =
+    at_drop_more (list_all is_finished) (channel s).lanes r no_lane within
+    ∙ ap (λ (b : Bool). b && list_all is_finished (drop (r + 1) (channel s).lanes)) (sym (get_or-map is_finished (channel s).lanes r no_lane false within))
+
+-- the kept places of a state, by its own places and as many floors as it has renditions
+pub kept_is : (s : State) (items : List Place) (above : List ℕ) (n : ℕ) → items ≡ places s → n ≡ length s.config.renditions →
+    take (length (channel s).lanes) above ≡ floors s → record { items = items; floors = take n above } ≡ kept_in s
+kept_is s items above n items_are count above_are =
+    let all : n ≡ length (channel s).lanes = count ∙ sym (lanes_count s.config s.log) in
+    let taken : take n above ≡ floors s = ap (λ (k : ℕ). take k above) all ∙ above_are in
+    rw (items_are, taken) refl

@@ -1,37 +1,33 @@
--- Which places a programme is taken from.
-use Rattle.std.specs.Prelude.{◌≡◌, ℕ, Bool, List, map, Result, Ok, Err, ⊤}
-use Rattle.hls_check_laws.specs.Tables.{Table}
-use Rattle.hls_record.specs.Recorded.{Recorded}
-use Rattle.hls_places_laws.specs.declared.place.Place.{Place}
-use Rattle.hls_places_laws.specs.declared.programme_fault.ProgrammeFault.{ProgrammeFault}
-use Rattle.hls_places_laws.specs.declared.programme_fault.ProgrammeFault.TheVariants.{BeforeRecording, NotYet, AfterRecording, ProgrammeTooLong, Memory}
-use Rattle.hls_places_laws.specs.Sources.{Source, sources_of}
-use Rattle.hls_places_laws.specs.Places.{places_of}
-use Rattle.hls_places_laws.specs.Programmes.{kept}
-use Rattle.hls_catchup.specs.declared.programme.Renditions.{Renditions}
+-- Where a request's programme stands among the places.
+use Rattle.std.specs.Prelude.{◌≡◌, ◌*◌, ◌<◌, ◌≤◌, length, take, Result, Ok, Err}
+use Rattle.hls_check_laws.specs.Tables.{Table, IsTable, table_of}
+use Rattle.hls_check_laws.specs.Orders.{IsOrderly}
+use Rattle.hls_places_laws.specs.Order.{spots_of}
+use Rattle.hls_core_laws.specs.State.{State}
+use Rattle.hls_catchup.specs.declared.programme.Programme.{Programme}
+use Rattle.hls_catchup.specs.declared.request.Request.{Request}
+use Rattle.hls_catchup.specs.declared.request.CatchFault.{CatchFault}
+use Rattle.hls_catchup.specs.Kept.{kept_from}
+use Rattle.hls_catchup.specs.Requests.{table_in, IsTableFor}
 
-abbrev pub floors_of : List Recorded → List ℕ
-floors_of recordings = map (λ r. r.floor) recordings
+-- the table of a programme's places
+abbrev pub table_at : State → Request → Programme → Table
+table_at s request p =
+    table_of s.config.target request.preferred (length s.config.renditions) (spots_of (take p.count (kept_from p.places p.from)))
 
--- the recordings side by side with the tolerances and with what is finished
-abbrev pub sources_with : List Recorded → List ℕ → List Bool → List Source
-sources_with recordings tolerances finished = sources_of (map (λ r. r.facts) recordings) tolerances finished
+-- what can be said of a request without its places is in order
+pub record IsInRange (s : State) (request : Request) : Type 0 where
+  pub order : request.start_us < request.stop_us
+  pub preferred : (1 ≤ request.preferred) × (request.preferred ≤ s.config.target * 1000000)
 
--- the common places with no trimmed fragment
-abbrev pub kept_with : List Recorded → List ℕ → List Bool → List Place
-kept_with recordings tolerances finished = kept (floors_of recordings) (places_of (sources_with recordings tolerances finished))
+-- the places of the table that a request asks for
+pub record IsProgramme (s : State) (request : Request) (p : Programme) : Type 0 where
+  pub within : p.from ≤ length p.places.items
+  pub defined : table_in s request ≡ Ok (table_at s request p)
+  pub valid : IsTable (table_at s request p)
+  pub orderly : IsOrderly (table_at s request p)
 
-abbrev pub recorded_in : Renditions → List Recorded
-recorded_in renditions = map (λ r. r.now) renditions.recordings.items
-
-abbrev pub kept_of : Renditions → List Place
-kept_of renditions = kept_with (recorded_in renditions) renditions.tolerances.items renditions.finished.items
-
--- the table that is defined, or the fault; want of memory may come in place of either
-abbrev pub IsProgrammeTable : Result Table ProgrammeFault → Result Table ProgrammeFault → Type 0
-IsProgrammeTable defined (Ok table) = defined ≡ Ok table
-IsProgrammeTable defined (Err BeforeRecording) = defined ≡ Err BeforeRecording
-IsProgrammeTable defined (Err NotYet) = defined ≡ Err NotYet
-IsProgrammeTable defined (Err AfterRecording) = defined ≡ Err AfterRecording
-IsProgrammeTable defined (Err ProgrammeTooLong) = defined ≡ Err ProgrammeTooLong
-IsProgrammeTable defined (Err Memory) = ⊤
+-- the programme, or the first fault
+abbrev pub IsFound : State → Request → Result Programme CatchFault → Type 0
+IsFound s request (Ok p) = IsProgramme s request p
+IsFound s request (Err fault) = IsTableFor s request (Err fault)

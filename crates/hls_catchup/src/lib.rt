@@ -4,7 +4,6 @@
 
 pub use cutout::{Cutout, cut};
 pub use lists::job_lists;
-pub use programme::{Renditions, programme_table};
 pub use reply::{Reply, answer};
 pub use request::{CatchFault, Request};
 pub use resource::{resource_piece, resource_total};
@@ -13,6 +12,8 @@ pub use span::{reply_piece, reply_total};
 pub use table::table_of;
 
 mod cutout;
+mod floors;
+mod kept;
 mod lists;
 mod programme;
 mod recordings;

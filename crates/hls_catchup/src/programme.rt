@@ -1,107 +1,68 @@
-ghost use Rattle.std.specs.Prelude.{◌≡◌, ◌≤◌, ◌<◌, length, map, slice_index, All, IfOk};
-ghost use Rattle.std.specs.List.{list_all};
-ghost use Rattle.hls_record.specs.Valid.{IsRecorded};
-ghost use Rattle.hls_places_laws.specs.Programmes.{kept, programme_of};
-ghost use Rattle.hls_catchup.specs.Answers.{AreCovered};
-ghost use Rattle.hls_catchup.specs.Programmes.{floors_of, kept_of, recorded_in, IsProgrammeTable};
+ghost use Rattle.std.specs.Prelude.{◌≡◌, if◌then◌else◌};
+ghost use Rattle.hls_catchup.specs.declared.request.CatchFault.TheVariants.{NotYet, AfterRecording};
+ghost use Rattle.hls_catchup.specs.Requests.{is_over};
+ghost use Rattle.hls_catchup.specs.Programmes.{IsInRange, IsFound};
 
-use hls_places::{Place, PlaceTable, ProgrammeFault, common, is_kept, programme};
-use hls_record::Recording;
-use std::alloc::{AllocError, Global};
+use crate::kept::KeptPlaces;
+use crate::recordings::is_over;
+use crate::request::{CatchFault, Request};
+use hls_core::snapshot::Snapshot;
 
-/// What a programme is taken from: of each rendition its recording, its tolerance in microseconds, and whether it is
-/// finished.
+/// The most places of one programme.
+const PLACE_LIMIT: usize = 16384;
+
+/// The places of a programme: the first `count` kept ones from number `from` on.
 #[derive(Drop)]
-pub struct Renditions<'a> {
-    pub recordings: Vec<&'a Recording>,
-    pub tolerances: Vec<u64>,
-    pub finished: Vec<bool>,
+pub struct Programme<'a> {
+    pub places: KeptPlaces<'a>,
+    pub from: u64,
+    pub count: usize,
 }
 
-/// Of each recording the number of the first unit that isn't trimmed.
-fn floors_of(alloc: Global, recordings: &[&Recording]) -> Result<Vec<u64>, AllocError>
-    ensures floors { IfOk result (λ floors. floors.items ≡ floors_of (map (λ r. r.now) recordings.now)) }
-    ensures valid { IfOk result (λ floors. All (λ r. IsRecorded r.now) recordings.now) }
+/// The programme that a request asks for, or the first fault. Takes no memory.
+pub fn programme_of(snapshot: &Snapshot, request: Request) -> Result<Programme<'_>, CatchFault>
+    ensures { IsFound snapshot.now request result }
 {
-    let mut floors = Vec::new(alloc);
-    for recording in recordings {
-        let _ = recording.count();
-        floors.push(recording.floor())?;
+    if request.stop_us <= request.start_us {
+        return Err(CatchFault::BadRange);
     }
-    Ok(floors)
-}
-
-/// The places with no trimmed fragment.
-fn kept_places<'a>(
-    alloc: Global,
-    places: &'a [Place],
-    floors: &[u64],
-) -> Result<Vec<&'a Place>, AllocError>
-    ensures { IfOk result (λ v. map (λ p. p.now) v.items ≡ kept floors.now places.now) }
-{
-    let mut kept = Vec::new(alloc);
-    for place in places {
-        if is_kept(place, floors) {
-            kept.push(place)?;
-        }
+    if request.preferred == 0 {
+        return Err(CatchFault::BadPreferred);
     }
-    Ok(kept)
-}
-
-/// Whether all renditions are finished.
-fn are_over(finished: &[bool]) -> bool
-    ensures { result ≡ list_all (λ f. f) finished.now }
-{
-    finished.iter().all(|over| *over)
-}
-
-/// The table of the programme from `start_us` to `stop_us`: the kept common places from the last one at or before its start
-/// to the first one at or after its stop, or the first of BeforeRecording, NotYet, AfterRecording and ProgrammeTooLong.
-pub fn programme_table(
-    alloc: Global,
-    renditions: &Renditions,
-    target: u64,
-    preferred: u64,
-    start_us: u64,
-    stop_us: u64,
-) -> Result<PlaceTable, ProgrammeFault>
-    requires some { 1 ≤ length renditions.now.recordings.items }
-    requires few { length renditions.now.recordings.items ≤ 16 }
-    requires tolerances { length renditions.now.tolerances.items ≡ length renditions.now.recordings.items }
-    requires finished { length renditions.now.finished.items ≡ length renditions.now.recordings.items }
-    requires exact { slice_index renditions.now.tolerances.items 0 ≡ 0 }
-    requires order { start_us < stop_us }
-    requires target { (1 ≤ target) × (target ≤ 3600) }
-    requires preferred { (1 ≤ preferred) × (preferred ≤ 3600000000) }
-    ensures table { IsProgrammeTable
-        (programme_of target preferred (kept_of renditions.now) (list_all (λ f. f) renditions.now.finished.items) start_us stop_us)
-        result }
-    ensures covered { IfOk result (λ table. AreCovered table (recorded_in renditions.now)) }
-{
-    let recordings = renditions.recordings.as_slice();
-    let finished = renditions.finished.as_slice();
-    let floors = floors_of(alloc, recordings)?;
-    let places = common(
-        alloc,
-        recordings,
-        renditions.tolerances.as_slice(),
-        finished,
-    )?;
-    let kept = kept_places(alloc, places.as_slice(), floors.as_slice())?;
-    let over = are_over(finished);
-    match programme(
-        alloc,
-        kept.as_slice(),
-        target,
-        preferred,
-        over,
-        start_us,
-        stop_us,
-    ) {
-        Ok(table) => {
-            let _ = table.len();
-            Ok(table)
-        }
-        Err(fault) => Err(fault),
+    if snapshot.config().target() * 1_000_000 < request.preferred {
+        return Err(CatchFault::BadPreferred);
     }
+    programme_within(snapshot, request)
+}
+
+/// The kept places from the last one at or before the start to the first one at or after the stop.
+fn programme_within(snapshot: &Snapshot, request: Request) -> Result<Programme<'_>, CatchFault>
+    requires { IsInRange snapshot.now request }
+    ensures { IsFound snapshot.now request result }
+{
+    let places = KeptPlaces::of(snapshot);
+    let Some(from) = places.last_by(request.start_us) else {
+        return Err(CatchFault::BeforeRecording);
+    };
+    let Some(count) = places.count_to(from, request.stop_us) else {
+        return Err(fault_past(snapshot));
+    };
+    if PLACE_LIMIT < count {
+        return Err(CatchFault::ProgrammeTooLong);
+    }
+    Ok(Programme {
+        places,
+        from,
+        count,
+    })
+}
+
+/// Why there is no place at or after a stop.
+fn fault_past(snapshot: &Snapshot) -> CatchFault
+    ensures { result ≡ (if is_over snapshot.now then AfterRecording else NotYet) }
+{
+    if is_over(snapshot) {
+        return CatchFault::AfterRecording;
+    }
+    CatchFault::NotYet
 }

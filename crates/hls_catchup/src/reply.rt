@@ -2,8 +2,9 @@ ghost use Rattle.std.specs.Prelude.{◌≡◌, ◌∷◌, length, IfSome, IfNone
 ghost use Rattle.hls_catchup.specs.Replies.{IsAnswer};
 
 use crate::cutout::{Cutout, cut};
+use crate::recordings::recordings_of;
 use crate::request::{CatchFault, Request};
-use crate::table::{Programme, programme_for};
+use crate::table::table_of;
 use hls_core::snapshot::Snapshot;
 use std::alloc::Global;
 use std::marker::Model;
@@ -62,9 +63,13 @@ pub fn answer(
 ) -> Result<Reply, CatchFault>
     ensures { IsAnswer snapshot.now.value request result }
 {
-    match programme_for(alloc, snapshot, request) {
-        Ok(Programme { renditions, table }) => {
-            let cutout = cut(alloc, renditions.recordings.as_slice(), table)?;
+    match table_of(alloc, snapshot, request) {
+        Ok(table) => {
+            let _ = table.len();
+            let Some(recordings) = recordings_of(alloc, snapshot)? else {
+                unreachable!()
+            };
+            let cutout = cut(alloc, recordings.as_slice(), table)?;
             Ok(Reply {
                 snapshot: Arc::try_clone(snapshot)?,
                 request,

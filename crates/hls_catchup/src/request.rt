@@ -1,8 +1,7 @@
 ghost use Rattle.std.specs.Prelude.{◌≡◌};
 ghost use Rattle.hls_catchup.specs.declared.request.CatchFault.TheVariants.{Memory};
-ghost use Rattle.hls_catchup.specs.Requests.{fault_of, name_of};
+ghost use Rattle.hls_catchup.specs.Requests.{name_of};
 
-use hls_places::ProgrammeFault;
 use std::alloc::{AllocError, AllocFailed};
 use thiserror::Error;
 
@@ -55,19 +54,6 @@ impl CatchFault {
             CatchFault::ProgrammeTooLong => "ProgrammeTooLong",
             CatchFault::Memory => "Memory",
         }
-    }
-}
-
-/// A programme's fault, as the answer to a request.
-pub(crate) fn fault_of(fault: ProgrammeFault) -> CatchFault
-    ensures { result ≡ fault_of fault }
-{
-    match fault {
-        ProgrammeFault::BeforeRecording => CatchFault::BeforeRecording,
-        ProgrammeFault::NotYet => CatchFault::NotYet,
-        ProgrammeFault::AfterRecording => CatchFault::AfterRecording,
-        ProgrammeFault::ProgrammeTooLong => CatchFault::ProgrammeTooLong,
-        ProgrammeFault::Memory => CatchFault::Memory,
     }
 }
 

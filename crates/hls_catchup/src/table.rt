@@ -1,56 +1,15 @@
-ghost use Rattle.std.specs.Prelude.{◌≡◌};
-ghost use Rattle.hls_catchup.specs.Requests.{IsProgrammeFor, IsTableFor};
+ghost use Rattle.std.specs.Prelude.{◌≡◌, IfOk};
+ghost use Rattle.hls_catchup.specs.Requests.{IsTableFor};
+ghost use Rattle.hls_catchup.specs.Programmes.{table_at, IsProgramme};
 
-use crate::programme::{Renditions, programme_table};
-use crate::recordings::renditions_of;
-use crate::request::{CatchFault, Request, fault_of};
+use crate::programme::{Programme, programme_of};
+use crate::request::{CatchFault, Request};
+use hls_check_laws::{PlaceTable, PrintedTable};
 use hls_core::snapshot::Snapshot;
-use hls_places::PlaceTable;
-use std::alloc::Global;
-
-/// A programme's table with what it was taken from.
-#[derive(Drop)]
-pub struct Programme<'a> {
-    pub renditions: Renditions<'a>,
-    pub table: PlaceTable,
-}
-
-/// The programme that a request asks for.
-pub fn programme_for(
-    alloc: Global,
-    snapshot: &Snapshot,
-    request: Request,
-) -> Result<Programme<'_>, CatchFault>
-    ensures { IsProgrammeFor snapshot.now request result }
-{
-    if request.stop_us <= request.start_us {
-        return Err(CatchFault::BadRange);
-    }
-    let target = snapshot.config().target();
-    if request.preferred == 0 {
-        return Err(CatchFault::BadPreferred);
-    }
-    if target * 1_000_000 < request.preferred {
-        return Err(CatchFault::BadPreferred);
-    }
-    let Some(renditions) = renditions_of(alloc, snapshot)? else {
-        return Err(CatchFault::BeforeRecording);
-    };
-    match programme_table(
-        alloc,
-        &renditions,
-        target,
-        request.preferred,
-        request.start_us,
-        request.stop_us,
-    ) {
-        Ok(table) => Ok(Programme { renditions, table }),
-        Err(fault) => Err(fault_of(fault)),
-    }
-}
+use std::alloc::{AllocError, Global};
 
 /// The table of the programme that a request asks for: the kept common places from the last one at or before its start to
-/// the first one at or after its stop, or the first fault.
+/// the first one at or after its stop, or the first fault. Every other fault is looked for before any memory is taken.
 pub fn table_of(
     alloc: Global,
     snapshot: &Snapshot,
@@ -58,8 +17,29 @@ pub fn table_of(
 ) -> Result<PlaceTable, CatchFault>
     ensures { IsTableFor snapshot.now request result }
 {
-    match programme_for(alloc, snapshot, request) {
-        Ok(programme) => Ok(programme.table),
+    match programme_of(snapshot, request) {
+        Ok(programme) => Ok(table(alloc, snapshot, request, &programme)?),
         Err(fault) => Err(fault),
     }
+}
+
+/// The table of a programme's places.
+fn table(
+    alloc: Global,
+    snapshot: &Snapshot,
+    request: Request,
+    programme: &Programme,
+) -> Result<PlaceTable, AllocError>
+    requires { IsProgramme snapshot.now request programme.now }
+    ensures { IfOk result (λ table. table ≡ table_at snapshot.now request programme.now) }
+{
+    let config = snapshot.config();
+    let places = &programme.places;
+    let spots = places.spots(alloc, programme.from, programme.count)?;
+    Ok(PlaceTable::new(PrintedTable::new(
+        config.target(),
+        request.preferred,
+        config.renditions().len(),
+        spots,
+    )))
 }

@@ -344,6 +344,64 @@ fn refuses_before_the_first_place(rt: HostRuntime) -> Result<(), Fail> {
     Ok(())
 }
 
+/// Units of 1 ms from 4 s on, not finished: so many places, one each millisecond.
+fn short_units(alloc: Global, count: u32) -> Result<Arc<Snapshot>, Fail> {
+    let none = single(alloc)?;
+    let mut state = begun(alloc, &none, 0, 90000)?;
+    for k in 0..count {
+        state = with_unit(alloc, &state, 0, 360000 + u64::from(k) * 90, 90)?;
+    }
+    Ok(state)
+}
+
+#[test]
+fn refuses_the_first_cause(rt: HostRuntime) -> Result<(), Fail> {
+    let alloc = rt.alloc();
+    let state = short_units(alloc, 2)?;
+    let unpreferred = Request {
+        preferred: 0,
+        ..request(0, SECOND)
+    };
+    let backwards = Request {
+        stop_us: 0,
+        ..unpreferred
+    };
+    assert_eq!(rt; fault(alloc, &state, backwards), Some(CatchFault::BadRange));
+    assert_eq!(rt;
+        fault(alloc, &state, unpreferred),
+        Some(CatchFault::BadPreferred)
+    );
+    let around = request(0, 5 * SECOND);
+    assert_eq!(rt;
+        fault(alloc, &state, around),
+        Some(CatchFault::BeforeRecording)
+    );
+    let over = finished(alloc, &state, 0)?;
+    assert_eq!(rt;
+        fault(alloc, &over, around),
+        Some(CatchFault::BeforeRecording)
+    );
+    Ok(())
+}
+
+#[test]
+fn refuses_a_long_programme(rt: HostRuntime) -> Result<(), Fail> {
+    let alloc = rt.alloc();
+    let state = short_units(alloc, 16385)?;
+    let stop = 4 * SECOND + 16_384_000;
+    assert_eq!(rt;
+        fault(alloc, &state, request(4 * SECOND, stop + 1)),
+        Some(CatchFault::NotYet)
+    );
+    assert_eq!(rt;
+        fault(alloc, &state, request(4 * SECOND, stop)),
+        Some(CatchFault::ProgrammeTooLong)
+    );
+    let table = table_of(alloc, &state, request(4 * SECOND + 1000, stop))?;
+    assert_eq!(rt; table.len(), 16384);
+    Ok(())
+}
+
 #[test]
 fn widens_to_places(rt: HostRuntime) -> Result<(), Fail> {
     let alloc = rt.alloc();

@@ -1,6 +1,7 @@
 use Rattle.std.proofs.Common.{◌≡◌, ◌∷◌, [], length, arith, ap, sym, ◌∙◌, length-append}
 use Rattle.hls_core.specs.Reads.{recording_of}
-use Rattle.hls_catchup.proofs.States.{lanes_long, one_recording_more, are_recordings}
+use Rattle.hls_core_laws.proofs.Sources.{lanes_count}
+use Rattle.hls_catchup.proofs.States.{no_places, one_recording_more, are_recordings}
 use Rattle.hls_catchup.proofs.recordings.recordings_of.Goals as goal
 
 pub returns-in-None : goal.returns-in-None
@@ -8,8 +9,8 @@ returns-in-None c =
     let renditions = c.renditions-rendition-end.ensures.value in
     let config = c.config.ensures.value in
     let count : length c.renditions-rendition-end.result.now ≡ length c.args.snapshot.now.config.renditions = cc in
-    let lanes = lanes_long c.args.snapshot.now in
-    record { rendition = c.loop-rendition.rendition; within = omega arith; unbegun = sym c.in-None.ensures.value }
+    let lanes = lanes_count c.args.snapshot.now.config c.args.snapshot.now.log in
+    no_places c.args.snapshot.now c.config.ensures.valid c.loop-rendition.rendition (omega arith) (sym c.in-None.ensures.value)
 
 pub loop-rendition-preserved : goal.loop-rendition-preserved
 loop-rendition-preserved c =

@@ -1,0 +1,25 @@
+use Rattle.std.proofs.Common.{◌≡◌, ◌∷◌, ◌++◌, ◌-◌, List, length, take, true, arith, ap, sym, ◌∙◌}
+use Rattle.hls_check_laws.specs.declared.spot.Spot.{Spot}
+use Rattle.hls_places_laws.specs.declared.place.Place.{Place}
+use Rattle.hls_places_laws.specs.Order.{spots_of}
+use Rattle.hls_places_laws.specs.Programmes.{is_kept, kept}
+use Rattle.hls_catchup.specs.Kept.{kept_from}
+use Rattle.hls_catchup.proofs.Walks.{one_copy_more}
+use Rattle.hls_catchup.proofs.kept.KeptPlaces.spots.Goals as goal
+
+pub loop-place-preserved-in_ok-push : goal.loop-place-preserved-in_ok-push
+loop-place-preserved-in_ok-push c =
+    let k = c.args.self.now in
+    let made : List (List Spot) = c.loop-place.spots.items in
+    let p : Place = c.in-Some.place.now in
+    let whole : List (List Spot) = spots_of (take c.args.count (kept_from k c.args.from)) in
+    let rest : c.loop-place.place-iterator ≡ p ∷ c.next.new.self = c.in-Some.ensures.steps in
+    let is : is_kept k.floors p ≡ true = sym c.has.ensures ∙ c.if-has.true in
+    let before : made ++ spots_of (take (c.args.count - length made) (kept k.floors (p ∷ c.next.new.self))) ≡ whole =
+    ap (λ (ps : List Place). made ++ spots_of (take (c.args.count - length made) (kept k.floors ps))) (sym rest) ∙ c.loop-place.invariant.copied in
+    rw c.in_ok-push.ensures.items (record {
+      can_next = tt;
+      is_finite = tt;
+      copied = one_copy_more made c.in_ok-copied.field-0 c.args.count k.floors p c.next.new.self whole
+          (omega (arith, c.len.ensures, c.if-len-count.false)) is c.in_ok-copied.ensures before;
+    })

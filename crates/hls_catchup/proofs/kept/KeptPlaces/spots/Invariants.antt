@@ -1,0 +1,12 @@
+use Rattle.std.proofs.Common.{◌≡◌, ◌-◌, ◌++◌, length, take}
+use Rattle.hls_places_laws.specs.Order.{spots_of}
+use Rattle.hls_places_laws.specs.Programmes.{kept}
+use Rattle.hls_catchup.specs.Kept.{kept_from}
+use Rattle.hls_catchup.proofs.kept.KeptPlaces.spots.Given as goal
+
+abbrev pub invariant-loop-place : goal.invariant-loop-place
+invariant-loop-place l = record {
+  can_next : (goal.iterator-loop-place).can_next l.place-iterator;
+  is_finite : (goal.iterator-loop-place).is_finite l.place-iterator;
+  copied : l.spots.items ++ spots_of (take (l.count - length l.spots.items) (kept l.self.floors l.place-iterator)) ≡ spots_of (take l.count (kept_from l.self l.from));
+}

@@ -1,0 +1,118 @@
+ghost use Rattle.std.specs.Prelude.{◌≡◌, ◌≤◌, length, take, IfOk, MatchOption};
+ghost use Rattle.hls_core_laws.specs.IsState.{IsState};
+ghost use Rattle.hls_core_laws.specs.Places.{sources};
+ghost use Rattle.hls_places_laws.specs.Sources.{AreSources};
+ghost use Rattle.hls_places_laws.specs.Order.{time_of, spots_of};
+ghost use Rattle.hls_places_laws.specs.Programmes.{is_kept, first_after};
+ghost use Rattle.hls_catchup.specs.Kept.{kept_in, all_kept, kept_from, IsLastBy, IsCountTo};
+
+use crate::floors::floors_of;
+use hls_blocks::Shared;
+use hls_core::snapshot::Snapshot;
+use hls_places::{Place, Spots, is_kept};
+use std::alloc::{AllocError, Global};
+use std::marker::Model;
+
+/// The common places of a snapshot with no trimmed fragment. Places count from 0, the trimmed ones too.
+#[derive(Drop)]
+pub struct KeptPlaces<'a> {
+    places: &'a Shared<Place>,
+    floors: [u64; 16],
+    renditions: usize,
+}
+
+impl<'a> Model for KeptPlaces<'a> {
+    ghost use Rattle.hls_catchup.specs.Kept.{Kept, seen, IsWhole};
+
+    ghost Value = { Kept };
+
+    ghost view = { seen };
+
+    ghost invariant = { IsWhole };
+}
+
+impl<'a> KeptPlaces<'a> {
+    /// The kept places of a snapshot. Takes no memory.
+    pub fn of(snapshot: &'a Snapshot) -> KeptPlaces<'a>
+        ensures value { result ≡ kept_in snapshot.now }
+        ensures valid { IsState snapshot.now }
+        ensures sources { AreSources (sources snapshot.now) }
+    {
+        let places = snapshot.places();
+        let _ = places.next();
+        KeptPlaces {
+            places,
+            floors: floors_of(snapshot),
+            renditions: snapshot.config().renditions().len(),
+        }
+    }
+
+    fn has(&self, place: &Place) -> bool
+        ensures { result ≡ is_kept self.now.floors place.now }
+    {
+        is_kept(place, &self.floors[..self.renditions])
+    }
+
+    /// The number of the last kept place at or before a time in microseconds; None where there is none.
+    pub fn last_by(&self, time: u64) -> Option<u64>
+        ensures { MatchOption result (first_after time (all_kept self.now) ≡ 0) (IsLastBy self.now time) }
+    {
+        let mut last = None;
+        let mut number = 0;
+        for place in self.places.iter_from(0) {
+            if self.has(place) {
+                if time < time_of(place) {
+                    return last;
+                }
+                last = Some(number);
+            }
+            number += 1;
+        }
+        last
+    }
+
+    /// How many kept places there are from number `from` to the first at or after a time in microseconds, that one included;
+    /// None where none is that late.
+    pub fn count_to(&self, from: u64, time: u64) -> Option<usize>
+        requires { from ≤ length self.now.items }
+        ensures { IsCountTo self.now from time result }
+    {
+        let mut count = 0;
+        for place in self.places.iter_from(from) {
+            if self.has(place) {
+                count += 1;
+                if time <= time_of(place) {
+                    return Some(count);
+                }
+            }
+        }
+        None
+    }
+
+    /// A copy of the spots of the first `count` kept places from number `from` on.
+    pub fn spots(&self, alloc: Global, from: u64, count: usize) -> Result<Vec<Spots>, AllocError>
+        requires { from ≤ length self.now.items }
+        ensures { IfOk result (λ spots. spots.items ≡ spots_of (take count (kept_from self.now from))) }
+    {
+        let mut spots = Vec::with_capacity(alloc, count)?;
+        for place in self.places.iter_from(from) {
+            if spots.len() >= count {
+                return Ok(spots);
+            }
+            if self.has(place) {
+                spots.push(place.spots.copied(alloc)?)?;
+            }
+        }
+        Ok(spots)
+    }
+}
+
+/// When a place starts in rendition 0.
+fn time_of(place: &Place) -> u64
+    ensures { result ≡ time_of place.now }
+{
+    match place.spots.as_slice().first() {
+        Some(spot) => spot.start,
+        None => 0,
+    }
+}
