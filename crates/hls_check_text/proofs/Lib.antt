@@ -5,5 +5,6 @@ pub mod Starts
 pub mod Sames
 pub mod Wrongs
 pub mod LineKinds
+pub mod PlaceTexts
 pub mod Claims
 pub mod Written

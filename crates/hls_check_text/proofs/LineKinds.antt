@@ -1,19 +1,17 @@
 -- One line of each kind: when it is one, and when it can't be.
-use Rattle.std.proofs.Common.{◌≡◌, refl, sym, ◌∙◌, ap, subst, ℕ, suc, ◌+◌, ◌*◌, ◌^◌, ◌<◌, ◌≤◌, List, [], ◌∷◌, ◌++◌, length, take, drop, get_or, All, arith, append_assoc, codes, add-one}
-use Rattle.std.proofs.Math.Seq.{drop-cons, take-suc}
+use Rattle.std.proofs.Common.{◌≡◌, refl, sym, ◌∙◌, ap, subst, ℕ, ◌+◌, ◌^◌, ◌<◌, ◌≤◌, List, [], ◌∷◌, ◌++◌, length, take, drop, get_or, All, arith, codes, add-one}
+use Rattle.std.proofs.Math.Seq.{take-suc}
 use Rattle.std.proofs.lemmas.List.{append_cancel_left, nil_from_length}
-use Rattle.hls_check_laws.specs.declared.spot.Spot.{Spot}
 use Rattle.std.specs.Fmt.{decimal}
-use Rattle.std.proofs.lemmas.List.Elements.{All-head, All-tail, All-cons, All-nil, All-append}
-use Rattle.hls_check_laws.specs.Tables.{IsSpotInRange, IsPlaceOf}
+use Rattle.std.proofs.lemmas.List.Elements.{All-cons, All-nil, All-append}
 use Rattle.hls_check_laws.specs.declared.cert_fault.CertFault.TheVariants.{Form}
 use Rattle.hls_text.specs.Lines.{cut_text, IsFirstLine}
-use Rattle.hls_text.specs.Numbers.{words, number_line, spaced, ArePrintable, IsNumber, HasNoNumber, AreNumbers}
+use Rattle.hls_text.specs.Numbers.{words, number_line, spaced, IsNumber, HasNoNumber, AreNumbers}
 use Rattle.hls_text.proofs.Digits.{same_number}
-use Rattle.hls_text.proofs.Words.{IsSmall, front_number}
-use Rattle.hls_check_text.specs.Text.{place_numbers, place_line, plan_line, closed_line}
-use Rattle.hls_check_text.specs.Stages.{Refuses, IsNumberLine, IsPlaceLine, IsPlanLine, IsPriceLine, IsClosedLine}
-use Rattle.hls_check_text.proofs.Spellings.{number_same, numbers_printable, priced_line_same}
+use Rattle.hls_text.proofs.Words.{front_number}
+use Rattle.hls_check_text.specs.Text.{plan_line, closed_line}
+use Rattle.hls_check_text.specs.Stages.{Refuses, IsNumberLine, IsPlanLine, IsPriceLine, IsClosedLine}
+use Rattle.hls_check_text.proofs.Spellings.{number_same, priced_line_same}
 use Rattle.hls_check_text.proofs.Sames.{words_all, below_small}
 
 its_number : (line word digits : List ℕ) (n : ℕ) → line ≡ word ++ digits → n < 2 ^ 53 → line ≡ word ++ words (n ∷ []) →
@@ -39,110 +37,6 @@ more_behind line word digits m rest is at some n small spelled =
     let same : (m ≡ n) × (rest ≡ []) = same_number digits m n rest [] at (its_number line word digits n is small spelled) in
     let none : length rest ≡ 0 = ap length same.1 in
     absurd (omega arith)
-
--- a spot more
-five_more : (numbers : List ℕ) (k : ℕ) → k + 5 ≤ length numbers →
-    drop k numbers ≡ get_or numbers k 0 ∷ get_or numbers (k + 1) 0 ∷ get_or numbers (k + 2) 0 ∷ get_or numbers (k + 3) 0
-    ∷ get_or numbers (k + 4) 0 ∷ drop (k + 5) numbers
-five_more numbers k h =
-    let a : drop k numbers ≡ get_or numbers k 0 ∷ drop (suc k) numbers = drop-cons numbers k 0 (omega arith) in
-    let b : drop (k + 1) numbers ≡ get_or numbers (k + 1) 0 ∷ drop (suc (k + 1)) numbers = drop-cons numbers (k + 1) 0 (omega arith) in
-    let c : drop (k + 2) numbers ≡ get_or numbers (k + 2) 0 ∷ drop (suc (k + 2)) numbers = drop-cons numbers (k + 2) 0 (omega arith) in
-    let d : drop (k + 3) numbers ≡ get_or numbers (k + 3) 0 ∷ drop (suc (k + 3)) numbers = drop-cons numbers (k + 3) 0 (omega arith) in
-    let e : drop (k + 4) numbers ≡ get_or numbers (k + 4) 0 ∷ drop (suc (k + 4)) numbers = drop-cons numbers (k + 4) 0 (omega arith) in
-    let one : suc k ≡ k + 1 = omega arith in
-    let two : suc (k + 1) ≡ k + 2 = omega arith in
-    let three : suc (k + 2) ≡ k + 3 = omega arith in
-    let four : suc (k + 3) ≡ k + 4 = omega arith in
-    let five : suc (k + 4) ≡ k + 5 = omega arith in
-    a ∙ ap (λ (j : ℕ). get_or numbers k 0 ∷ drop j numbers) one
-    ∙ ap (λ (xs : List ℕ). get_or numbers k 0 ∷ xs) (b ∙ ap (λ (j : ℕ). get_or numbers (k + 1) 0 ∷ drop j numbers) two
-    ∙ ap (λ (xs : List ℕ). get_or numbers (k + 1) 0 ∷ xs) (c ∙ ap (λ (j : ℕ). get_or numbers (k + 2) 0 ∷ drop j numbers) three
-    ∙ ap (λ (xs : List ℕ). get_or numbers (k + 2) 0 ∷ xs) (d ∙ ap (λ (j : ℕ). get_or numbers (k + 3) 0 ∷ drop j numbers) four
-    ∙ ap (λ (xs : List ℕ). get_or numbers (k + 3) 0 ∷ xs) (e ∙ ap (λ (j : ℕ). get_or numbers (k + 4) 0 ∷ drop j numbers) five))))
-
-numbers-append : (xs ys : List Spot) → place_numbers (xs ++ ys) ≡ place_numbers xs ++ place_numbers ys
-unfolding place_numbers
-numbers-append [] ys = refl
-numbers-append (x ∷ xs) ys =
-    ap (λ (ns : List ℕ). x.fragment ∷ x.prev_end ∷ x.start ∷ x.run_in ∷ x.run_out ∷ ns) (numbers-append xs ys)
-
-abbrev pub spot_at : List ℕ → ℕ → Spot
-spot_at numbers r = record {
-  fragment = get_or numbers (5 * r) 0;
-  prev_end = get_or numbers (5 * r + 1) 0;
-  start = get_or numbers (5 * r + 2) 0;
-  run_in = get_or numbers (5 * r + 3) 0;
-  run_out = get_or numbers (5 * r + 4) 0;
-}
-
-pub spot_more : (numbers : List ℕ) (spots : List Spot) (r renditions : ℕ) → length numbers ≡ 5 * renditions → r < renditions →
-    place_numbers spots ++ drop (5 * r) numbers ≡ numbers →
-    place_numbers (spots ++ (spot_at numbers r ∷ [])) ++ drop (5 * (r + 1)) numbers ≡ numbers
-unfolding place_numbers
-spot_more numbers spots r renditions count below read =
-    let further : 5 * (r + 1) ≡ 5 * r + 5 = omega arith in
-    ap (λ (xs : List ℕ). xs ++ drop (5 * (r + 1)) numbers) (numbers-append spots (spot_at numbers r ∷ []))
-    ∙ append_assoc (place_numbers spots) (place_numbers (spot_at numbers r ∷ [])) (drop (5 * (r + 1)) numbers)
-    ∙ ap (λ (xs : List ℕ). place_numbers spots ++ xs)
-    (rw (further) (sym (five_more numbers (5 * r) (omega arith))))
-    ∙ read
-
--- a place's line
-spots_in_range : (spots : List Spot) → ArePrintable (place_numbers spots) → All IsSpotInRange spots
-unfolding place_numbers
-spots_in_range [] small = All-nil IsSpotInRange
-spots_in_range (s ∷ spots) small =
-    let a : ArePrintable (s.prev_end ∷ s.start ∷ s.run_in ∷ s.run_out ∷ place_numbers spots) =
-    All-tail IsSmall s.fragment (s.prev_end ∷ s.start ∷ s.run_in ∷ s.run_out ∷ place_numbers spots) small in
-    let b : ArePrintable (s.start ∷ s.run_in ∷ s.run_out ∷ place_numbers spots) =
-    All-tail IsSmall s.prev_end (s.start ∷ s.run_in ∷ s.run_out ∷ place_numbers spots) a in
-    let c : ArePrintable (s.run_in ∷ s.run_out ∷ place_numbers spots) =
-    All-tail IsSmall s.start (s.run_in ∷ s.run_out ∷ place_numbers spots) b in
-    let d : ArePrintable (s.run_out ∷ place_numbers spots) = All-tail IsSmall s.run_in (s.run_out ∷ place_numbers spots) c in
-    All-cons IsSpotInRange s spots
-    (record {
-      fragment_small = All-head IsSmall s.fragment (s.prev_end ∷ s.start ∷ s.run_in ∷ s.run_out ∷ place_numbers spots) small;
-      prev_end_small = All-head IsSmall s.prev_end (s.start ∷ s.run_in ∷ s.run_out ∷ place_numbers spots) a;
-      start_small = All-head IsSmall s.start (s.run_in ∷ s.run_out ∷ place_numbers spots) b;
-      run_in_small = All-head IsSmall s.run_in (s.run_out ∷ place_numbers spots) c;
-      run_out_small = All-head IsSmall s.run_out (place_numbers spots) d;
-    })
-    (spots_in_range spots (All-tail IsSmall s.run_out (place_numbers spots) d))
-
-count_numbers : (spots : List Spot) → length (place_numbers spots) ≡ 5 * length spots
-unfolding place_numbers
-count_numbers [] = refl
-count_numbers (s ∷ spots) =
-    let rest : length (place_numbers spots) ≡ 5 * length spots = count_numbers spots in
-    omega arith
-
-pub place_read : (line ns : List ℕ) (spots : List Spot) (renditions : ℕ) → AreNumbers line ns → place_numbers spots ≡ ns →
-    length spots ≡ renditions → IsPlaceOf renditions spots × (line ≡ place_line spots)
-place_read line ns spots renditions are numbers count = (
-  record { count = count; spots = spots_in_range spots (subst ArePrintable (sym numbers) are.small) },
-  are.is ∙ ap words (sym numbers),
-)
-
-place_words : (line : List ℕ) (renditions : ℕ) → 1 ≤ renditions → (at : IsPlaceLine renditions line) → AreNumbers line (place_numbers at.place)
-place_words line renditions some at =
-    let count : length (place_numbers at.place) ≡ 5 * length at.place = count_numbers at.place in
-    let places : length at.place ≡ renditions = at.good.count in
-    record { some = omega arith; small = numbers_printable at.place at.good.spots; is = at.is }
-
-pub no_place : (line : List ℕ) (renditions : ℕ) → 1 ≤ renditions → ((ns : List ℕ) → AreNumbers line ns → ⊥) → IsPlaceLine renditions line → ⊥
-no_place line renditions some none at = none (place_numbers at.place) (place_words line renditions some at)
-
-pub other_count : (line ns : List ℕ) (renditions : ℕ) → 1 ≤ renditions → AreNumbers line ns → (length ns ≡ 5 * renditions → ⊥) →
-    IsPlaceLine renditions line → ⊥
-other_count line ns renditions some are other at =
-    let numbers : AreNumbers line (place_numbers at.place) = place_words line renditions some at in
-    let same : ns ≡ place_numbers at.place =
-    words_all ns (place_numbers at.place) are.small numbers.small are.some numbers.some (sym are.is ∙ numbers.is) in
-    let count : length (place_numbers at.place) ≡ 5 * length at.place = count_numbers at.place in
-    let places : length at.place ≡ renditions = at.good.count in
-    let len : length ns ≡ length (place_numbers at.place) = ap length same in
-    other (omega arith)
 
 -- the plan's line
 pub plan_read : (line rest ns plan : List ℕ) (count : ℕ) → line ≡ codes "plan " ++ rest → AreNumbers rest ns →

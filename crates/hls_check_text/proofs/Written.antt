@@ -134,7 +134,7 @@ plan_more plan i out new whole small new_is left =
     ∙ ap (λ (xs : List ℕ). out ++ xs) (ap spaced (sym (dropped plan i 0 small)))
     ∙ left
 
-spaced_spot : (s : Spot) (spots : List Spot) →
+pub spaced_spot : (s : Spot) (spots : List Spot) →
     spaced (place_numbers (s ∷ [])) ++ spaced (place_numbers spots) ≡ spaced (place_numbers (s ∷ spots))
 unfolding spaced place_numbers
 spaced_spot s spots = simp (append_assoc, append-nil)
@@ -185,7 +185,7 @@ four_more s xs =
     ∙ ap (λ (ys : List ℕ). decimal s.fragment ++ (32 ∷ (decimal s.prev_end ++ (32 ∷ (decimal s.start ++ (32 ∷ (decimal s.run_in ++ (32 ∷ (ys ++ xs)))))))))
     (append-nil (decimal s.run_out))
 
-spots_parts : (old : List ℕ) (s : Spot) (others : List Spot) →
+pub spots_parts : (old : List ℕ) (s : Spot) (others : List Spot) →
     (old ++ words (place_numbers (s ∷ []))) ++ spaced (place_numbers others) ≡ old ++ words (place_numbers (s ∷ others))
 unfolding words spaced place_numbers
 spots_parts old s others =

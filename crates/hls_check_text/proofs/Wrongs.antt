@@ -6,7 +6,7 @@ use Rattle.std.proofs.lemmas.List.{length-append, length-map, map-append}
 use Rattle.hls_check_laws.specs.declared.spot.Spot.{Spot}
 use Rattle.hls_check_laws.specs.declared.cert_fault.CertFault.{CertFault}
 use Rattle.hls_check_laws.specs.declared.cert_fault.CertFault.TheVariants.{Form, TableNotSorted, PlanEnds, PlanStep, PlanCost, PriceStart, PriceStep, EndReached, Memory}
-use Rattle.hls_check_laws.specs.Tables.{IsPlaceOf}
+use Rattle.hls_check_laws.specs.Tables.{IsPlaceOf, table_of}
 use Rattle.hls_check_laws.specs.Certificates.{Printed, Shown, CutShown, NoneShown, IsForm, IsCertificate}
 use Rattle.hls_text.specs.Lines.{cut_text, joined, IsFirstLine}
 use Rattle.hls_text.specs.Numbers.{words}
@@ -15,7 +15,7 @@ use Rattle.hls_text.proofs.Joins.{IsClean, clean-append, clean_words, lines_of_j
 use Rattle.hls_check_text.specs.Text.{header_line, target_line, preferred_line, renditions_line, places_line, cut_line, none_line, end_line, plan_line, price_line, closed_line, place_line, place_numbers, head_lines, table_lines, shown_lines, lines, text, Priced, priced_from, members_from}
 use Rattle.hls_check_text.specs.Wrong.{IsFirstWrong, IsReading, Gives}
 use Rattle.hls_check_text.specs.declared.head.Head.{Head}
-use Rattle.hls_check_text.specs.Stages.{Stage, AtHeader, AtTarget, AtPreferred, AtRenditions, AtCount, AtPlace, AtClaim, AtEnd, front, IsStage, IsNext, IsAt, Refuses, IsHead, lines_of, table_of}
+use Rattle.hls_check_text.specs.Stages.{Stage, AtHeader, AtTarget, AtPreferred, AtRenditions, AtCount, AtPlace, AtClaim, AtEnd, front, IsStage, IsNext, IsAt, Refuses, IsHead, lines_of}
 use Rattle.hls_check_text.proofs.Spellings.{one_small, numbers_printable, RisesFrom, ClimbsFrom, priced_rises, members_climb}
 use Rattle.hls_check_text.proofs.Nexts.{Next}
 use Rattle.hls_check_text.proofs.Stagings.{IsOpen, stage_next}
@@ -306,7 +306,7 @@ at_place h bytes whole places rest p at read more = record {
 
 -- and when all have come
 pub at_claim : (h : Head) (bytes whole : List ℕ) (places : List (List Spot)) (rest : List ℕ) →
-    IsAt (AtPlace h []) bytes whole 5 → PlacesRead h whole places rest h.count → IsAt (AtClaim (table_of h places)) bytes rest (5 + h.count)
+    IsAt (AtPlace h []) bytes whole 5 → PlacesRead h whole places rest h.count → IsAt (AtClaim (table_of h.target h.preferred h.renditions places)) bytes rest (5 + h.count)
 unfolding table_lines
 at_claim h bytes whole places rest at read =
     let good : IsHead h = at.is_stage.head in

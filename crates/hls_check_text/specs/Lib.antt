@@ -1,4 +1,5 @@
 pub mod Text
+pub mod SpotTexts
 pub mod Wrong
 pub mod Stages
 pub mod Laws

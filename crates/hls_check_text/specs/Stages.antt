@@ -13,11 +13,6 @@ use Rattle.hls_check_text.specs.Text.{header_line, target_line, preferred_line, 
 abbrev pub lines_of : Head → List (List ℕ)
 lines_of h = head_lines h.target h.preferred h.renditions h.count
 
--- the table of these places
-abbrev pub table_of : Head → List (List Spot) → Table
-table_of h places =
-    record { target = h.target; preferred = h.preferred; renditions = h.renditions; places = places }
-
 abbrev pub printed : Table → Shown → Printed
 printed t shown = record { table = t; shown = shown }
 

@@ -5,6 +5,7 @@ mod head;
 pub mod laws;
 mod line;
 mod next;
+mod place;
 mod reader;
 #[cfg(test)]
 mod tests;

@@ -1,11 +1,9 @@
 // One line of each kind, by itself.
-ghost use Rattle.std.specs.Prelude.{◌≡◌, ◌++◌, ◌*◌, ◌^◌, ◌<◌, ◌≤◌, ℕ, [], ◌∷◌, length, All, MatchOption, IfOk, IsTrue, ◌↔◌, codes};
+ghost use Rattle.std.specs.Prelude.{◌≡◌, ◌++◌, ◌^◌, ◌<◌, ◌≤◌, ℕ, [], ◌∷◌, length, All, MatchOption, IfOk, IsTrue, ◌↔◌, codes};
 ghost use Rattle.hls_text.specs.Numbers.{words};
-ghost use Rattle.hls_check_laws.specs.Tables.{IsPlaceOf};
-ghost use Rattle.hls_check_text.specs.Text.{place_numbers, place_line, plan_line, closed_line};
-ghost use Rattle.hls_check_text.specs.Stages.{IsPlaceLine, IsPlanLine, IsPriceLine, IsClosedLine};
+ghost use Rattle.hls_check_text.specs.Text.{plan_line, closed_line};
+ghost use Rattle.hls_check_text.specs.Stages.{IsPlanLine, IsPriceLine, IsClosedLine};
 
-use hls_check_laws::{Spot, Spots};
 use hls_text::{numbers_of, take_number, take_prefix};
 use std::alloc::{AllocError, Global};
 
@@ -27,41 +25,6 @@ pub fn number_in(line: &[u8], word: &[u8]) -> Option<u64>
         return None;
     };
     if rest.is_empty() { Some(number) } else { None }
-}
-
-// Spots by their numbers, five each.
-fn spots_of(alloc: Global, numbers: &[u64], renditions: usize) -> Result<Vec<Spot>, AllocError>
-    requires { length numbers.now ≡ 5 * renditions }
-    ensures numbers { IfOk result (λ spots. place_numbers spots.items ≡ numbers.now) }
-    ensures count { IfOk result (λ spots. length spots.items ≡ renditions) }
-{
-    let mut spots = Vec::new(alloc);
-    for r in 0..renditions {
-        let spot = Spot {
-            fragment: numbers[5 * r],
-            prev_end: numbers[5 * r + 1],
-            start: numbers[5 * r + 2],
-            run_in: numbers[5 * r + 3],
-            run_out: numbers[5 * r + 4],
-        };
-        spots.push(spot)?;
-    }
-    Ok(spots)
-}
-
-/// A place's line of five numbers a rendition; None where the line isn't that.
-pub fn place_in(alloc: Global, line: &[u8], renditions: usize) -> Result<Option<Spots>, AllocError>
-    requires { (1 ≤ renditions) × (renditions ≤ 16) }
-    ensures { IfOk result (λ place. MatchOption place (IsPlaceLine renditions line.now → ⊥) (λ spots. IsPlaceOf renditions spots × (line.now ≡ place_line spots))) }
-{
-    let Some(numbers) = numbers_of(alloc, line)? else {
-        return Ok(None);
-    };
-    if numbers.len() != 5 * renditions {
-        return Ok(None);
-    }
-    let spots = spots_of(alloc, &numbers, renditions)?;
-    Ok(Some(Spots::new(spots)))
 }
 
 // Place numbers, if each is below the count.

@@ -6,7 +6,8 @@ ghost use Rattle.hls_check_laws.specs.Tables.{IsPlaceOf};
 ghost use Rattle.hls_check_text.specs.Text.{place_line, plan_line};
 ghost use Rattle.hls_check_text.specs.Stages.{Refuses, IsNumberLine, IsPlaceLine, IsPlanLine};
 
-use crate::line::{number_in, place_in, plan_in};
+use crate::line::{number_in, plan_in};
+use crate::place::take_place;
 use hls_check_laws::{CertFault, Spots};
 use hls_text::take_line;
 use std::alloc::Global;
@@ -67,13 +68,10 @@ pub fn next_place(
     ensures line { MatchResult result (λ f. IsPlaceOf renditions f.0 × IsFirstLine rest.entry.now (place_line f.0) f.1.now) (λ fault. Refuses (IsPlaceLine renditions) rest.entry.now passed fault) }
     ensures shorter { IfOk result (λ f. length f.1.now < length rest.entry.now) }
 {
-    let Some((line, after)) = take_line(rest) else {
-        return Err(CertFault::Form { line: passed + 1 });
-    };
-    let Some(place) = place_in(alloc, line, renditions)? else {
-        return Err(CertFault::Form { line: passed + 1 });
-    };
-    Ok((place, after))
+    match take_place(alloc, rest, renditions)? {
+        Some(found) => Ok(found),
+        None => Err(CertFault::Form { line: passed + 1 }),
+    }
 }
 
 /// The plan's line.

@@ -1,11 +1,11 @@
 // A certificate's text, line by line. Each part speaks of the whole text, of which it is passed what is left.
 ghost use Rattle.std.specs.Prelude.{◌≡◌, ◌++◌, ◌+◌, ◌*◌, ◌^◌, ◌<◌, ◌≤◌, ℕ, List, [], ◌∷◌, length, MatchResult, IfOk, All, Err};
 ghost use Rattle.hls_check_laws.specs.declared.spot.Spot.{Spot};
-ghost use Rattle.hls_check_laws.specs.Tables.{Table, IsTable};
+ghost use Rattle.hls_check_laws.specs.Tables.{Table, IsTable, table_of};
 ghost use Rattle.hls_check_laws.specs.Certificates.{Printed, IsCertificate, CutShown, NoneShown, IsPriceInRange};
 ghost use Rattle.hls_check_text.specs.Text.{text};
 ghost use Rattle.hls_check_text.specs.Wrong.{IsReading, Gives};
-ghost use Rattle.hls_check_text.specs.Stages.{IsAt, AtPlace, AtClaim, AtPlan, AtPrice, AtClosed, AtEnd, IsHead, table_of, printed};
+ghost use Rattle.hls_check_text.specs.Stages.{IsAt, AtPlace, AtClaim, AtPlan, AtPrice, AtClosed, AtEnd, IsHead, printed};
 
 use crate::head::Head;
 use crate::line::{closed_in, is_word, number_in, price_in};
@@ -68,7 +68,7 @@ fn read_places<'a>(
 ) -> Result<(Vec<Spots>, &'a [u8]), CertFault>
     requires room { 5 + length text.now + 1 < 2 ^ 64 }
     requires head { IsHead head }
-    ensures at { (bytes : List ℕ) → IsAt (AtPlace head []) bytes text.entry.now 5 → MatchResult result (λ f. IsAt (AtClaim (table_of head f.0.items)) bytes f.1.now (5 + head.count)) (λ fault. IsReading bytes (Err fault)) }
+    ensures at { (bytes : List ℕ) → IsAt (AtPlace head []) bytes text.entry.now 5 → MatchResult result (λ f. IsAt (AtClaim (table_of head.target head.preferred head.renditions f.0.items)) bytes f.1.now (5 + head.count)) (λ fault. IsReading bytes (Err fault)) }
     ensures shorter { IfOk result (λ f. head.count + length f.1.now ≤ length text.entry.now) }
 {
     let mut places = Vec::new(alloc);

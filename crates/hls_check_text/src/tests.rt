@@ -11,6 +11,9 @@ const FIVE_UNITS: &str =
 const NO_CUT: &str =
     "HLS-CUT-CERTIFICATE 1\ntarget 6\npreferred 4000000\nrenditions 1\nplaces 2\n0 0 0 0 0\n1 7000000 7000000 0 0\nnone\nclosed 0\nend\n";
 
+const TWO_RENDITIONS: &str =
+    "HLS-CUT-CERTIFICATE 1\ntarget 6\npreferred 4000000\nrenditions 2\nplaces 2\n0 0 0 0 0 0 5000 5000 0 0\n1 3000000 3000000 0 0 2 2990000 3010000 0 1\ncut 1000000\nplan 0 1\nprice 0 0\nprice 1 1000000\nend\n";
+
 // The first wrong line, 0 where there is none, or 99 for another fault.
 fn wrong_line(alloc: Global, text: &[u8]) -> usize {
     match read(alloc, text) {
@@ -40,7 +43,7 @@ fn wrong_with(alloc: Global, text: &str, number: usize, line: &str) -> Result<us
 
 #[test]
 fn a_text_is_written_as_it_was_read(rt: HostRuntime) -> Result<(), Fail> {
-    for text in [FIVE_UNITS, NO_CUT] {
+    for text in [FIVE_UNITS, NO_CUT, TWO_RENDITIONS] {
         let certificate = read(rt.alloc(), text.as_bytes())?;
         let written = write(rt.alloc(), &certificate)?;
         assert!(rt; written.as_slice() == text.as_bytes());
@@ -62,6 +65,35 @@ fn a_wrong_line_is_named(rt: HostRuntime) -> Result<(), Fail> {
     assert!(rt; wrong_with(alloc, FIVE_UNITS, 12, "plan 0 1 3 5")? == 12);
     assert!(rt; wrong_with(alloc, FIVE_UNITS, 15, "price 1 2000000")? == 15);
     assert!(rt; wrong_with(alloc, NO_CUT, 9, "closed 2")? == 9);
+    Ok(())
+}
+
+// A place's line of two renditions is refused: too few numbers, too many, or other bytes between or behind them.
+fn wrong_places_are_named(alloc: Global) -> Result<bool, AllocError> {
+    for line in [
+        "",
+        "1 3000000 3000000 0 0",
+        "1 3000000 3000000 0 0 2 2990000 3010000 0",
+        "1 3000000 3000000 0 0 2 2990000 3010000 0 ",
+        "1 3000000 3000000 0 0 2 2990000 3010000 0 1 ",
+        "1 3000000 3000000 0 0 2 2990000 3010000 0 1 2",
+        "1 3000000 3000000 0 0  2 2990000 3010000 0 1",
+        "1 3000000 3000000 0 0\t2 2990000 3010000 0 1",
+        " 1 3000000 3000000 0 0 2 2990000 3010000 0 1",
+        "1 3000000 3000000 0 0 2 2990000 03010000 0 1",
+        "1 3000000 3000000 0 0 2 2990000 9007199254740992 0 1",
+        "1 3000000 3000000 0 0 2 2990000 10000000000000000000000 0 1",
+    ] {
+        if wrong_with(alloc, TWO_RENDITIONS, 7, line)? != 7 {
+            return Ok(false);
+        }
+    }
+    Ok(true)
+}
+
+#[test]
+fn a_place_has_five_numbers_a_rendition(rt: HostRuntime) -> Result<(), Fail> {
+    assert!(rt; wrong_places_are_named(rt.alloc())?);
     Ok(())
 }
 
@@ -97,5 +129,6 @@ fn beginnings_are_refused(alloc: Global, text: &str) -> bool {
 fn each_shorter_beginning_is_refused(rt: HostRuntime) -> Result<(), Fail> {
     assert!(rt; beginnings_are_refused(rt.alloc(), FIVE_UNITS));
     assert!(rt; beginnings_are_refused(rt.alloc(), NO_CUT));
+    assert!(rt; beginnings_are_refused(rt.alloc(), TWO_RENDITIONS));
     Ok(())
 }

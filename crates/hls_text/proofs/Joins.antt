@@ -52,7 +52,7 @@ clean_words [] small = refl
 clean_words (n ∷ ns) small =
     clean-append (decimal n) (spaced ns) (clean_decimal n (All-head IsSmall n ns small)) (clean_spaced ns (All-tail IsSmall n ns small))
 
-cut_line : (line rest : List ℕ) → IsClean line →
+pub cut_line : (line rest : List ℕ) → IsClean line →
     ((cut_text (line ++ (10 ∷ rest))).lines ≡ line ∷ (cut_text rest).lines)
     × ((cut_text (line ++ (10 ∷ rest))).tail ≡ (cut_text rest).tail)
 unfolding cut_text

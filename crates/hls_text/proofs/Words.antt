@@ -1,10 +1,10 @@
 -- Numbers with a space between: a text is that of one list at most, and how a reader comes through it.
-use Rattle.std.proofs.Common.{◌≡◌, refl, sym, ◌∙◌, ap, ap₂, subst, ℕ, ◌^◌, ◌<◌, false, List, [], ◌∷◌, ◌++◌, length, arith, append_assoc, append-nil}
+use Rattle.std.proofs.Common.{◌≡◌, refl, sym, ◌∙◌, ap, ap₂, subst, ℕ, ◌^◌, ◌<◌, false, List, [], ◌∷◌, ◌++◌, length, drop, arith, append_assoc, append-nil}
 use Rattle.std.specs.Fmt.{decimal}
 use Rattle.std.proofs.lemmas.List.Elements.{All-head, All-tail, All-cons, All-nil, All-append}
 use Rattle.std.proofs.lemmas.List.{nil_from_length}
 use Rattle.std.proofs.lemmas.List.{length-append}
-use Rattle.hls_text.specs.Numbers.{spaced, words, ArePrintable, begins_with_digit, IsNumber, HasNoNumber, AreNumbers}
+use Rattle.hls_text.specs.Numbers.{spaced, words, ArePrintable, begins_with_digit, IsNumber, HasNoNumber, IsSpaced, AreNumbers}
 use Rattle.hls_text.proofs.Digits.{same_number, not_empty}
 
 abbrev pub IsSmall : ℕ → Type 0
@@ -40,6 +40,27 @@ spaced_same (m ∷ ms) (n ∷ ns) ms_small ns_small e =
     same_number (decimal m ++ spaced ms) m n (spaced ms) (spaced ns) here there in
     ap₂ (λ (x : ℕ) (xs : List ℕ). x ∷ xs) same.0
     (spaced_same ms ns (All-tail IsSmall m ms ms_small) (All-tail IsSmall n ns ns_small) same.1)
+
+pub no_digit_behind : (ns rest : List ℕ) → begins_with_digit rest ≡ false → begins_with_digit (spaced ns ++ rest) ≡ false
+unfolding spaced
+no_digit_behind [] rest ends = ends
+no_digit_behind (n ∷ ns) rest ends = refl
+
+-- the first number of spaced numbers that something follows
+pub front_spaced : (n : ℕ) (ns rest : List ℕ) → n < 2 ^ 53 → begins_with_digit rest ≡ false →
+    IsSpaced (spaced (n ∷ ns) ++ rest) n (spaced ns ++ rest)
+unfolding spaced
+front_spaced n ns rest small ends = record {
+  small = small;
+  is = ap (λ (xs : List ℕ). 32 ∷ xs) (append_assoc (decimal n) (spaced ns) rest);
+  ends = no_digit_behind ns rest ends;
+}
+
+pub same_spaced : (text : List ℕ) (m n : ℕ) (xs ys : List ℕ) → IsSpaced text m xs → IsSpaced text n ys → (m ≡ n) × (xs ≡ ys)
+same_spaced text m n xs ys here there =
+    let tails : decimal m ++ xs ≡ decimal n ++ ys = ap (drop 1) (sym here.is ∙ there.is) in
+    same_number (decimal m ++ xs) m n xs ys (record { small = here.small; is = refl; ends = here.ends })
+    (record { small = there.small; is = tails; ends = there.ends })
 
 -- what is left of a line of numbers, some of which were read
 pub record IsRest (rest : List ℕ) : Type 0 where

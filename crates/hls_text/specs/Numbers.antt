@@ -34,6 +34,12 @@ pub record IsNumber (text : List ℕ) (n : ℕ) (rest : List ℕ) : Type 0 where
 abbrev pub HasNoNumber : List ℕ → Type 0
 HasNoNumber text = (n : ℕ) (rest : List ℕ) → IsNumber text n rest → ⊥
 
+-- a text that begins with a space and this number in its one spelling, and goes on with no digit
+pub record IsSpaced (text : List ℕ) (n : ℕ) (rest : List ℕ) : Type 0 where
+  pub small : n < 2 ^ 53
+  pub is : text ≡ 32 ∷ (decimal n ++ rest)
+  pub ends : begins_with_digit rest ≡ false
+
 -- numbers with one space between, and nothing else
 pub record AreNumbers (line : List ℕ) (ns : List ℕ) : Type 0 where
   pub some : 0 < length ns

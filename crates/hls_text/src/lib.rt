@@ -4,5 +4,5 @@
 mod line;
 mod number;
 
-pub use line::{take_line, take_prefix};
-pub use number::{numbers_of, take_number};
+pub use line::{take_byte, take_line, take_prefix};
+pub use number::{numbers_of, take_number, take_spaced};

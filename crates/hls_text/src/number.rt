@@ -3,12 +3,13 @@ ghost use Rattle.std.specs.Char.{is_ascii_digit};
 ghost use Rattle.std.specs.Fmt.{decimal};
 ghost use Rattle.std.specs.List.{prefix_len};
 ghost use Rattle.std.specs.Str.Parse.{AllDigits, digits_value};
-ghost use Rattle.hls_text.specs.Numbers.{IsNumber, HasNoNumber, AreNumbers};
+ghost use Rattle.hls_text.specs.Numbers.{IsNumber, HasNoNumber, IsSpaced, AreNumbers};
 
-use crate::line::take_prefix;
+use crate::line::{take_byte, take_prefix};
 use std::alloc::{AllocError, Global};
 
 // How many digits a text begins with.
+#[inline(always)]
 fn digits_len(text: &[u8]) -> usize
     ensures { result ≡ prefix_len is_ascii_digit text.now }
 {
@@ -16,7 +17,7 @@ fn digits_len(text: &[u8]) -> usize
 }
 
 // The number that digits write, of which there are few enough that it fits.
-
+#[inline(always)]
 fn value_of(digits: &[u8]) -> u64
     requires few { length digits.now ≤ 16 }
     requires digits { AllDigits 10 digits.now }
@@ -30,6 +31,7 @@ fn value_of(digits: &[u8]) -> u64
 }
 
 // The number whose one spelling these digits are.
+#[inline(always)]
 fn canonical(digits: &[u8]) -> Option<u64>
     requires { AllDigits 10 digits.now }
     ensures { MatchOption result ((n : ℕ) → n < 2 ^ 53 → digits.now ≡ decimal n → ⊥) (λ n. (n < 2 ^ 53) × (digits.now ≡ decimal n)) }
@@ -52,12 +54,28 @@ fn canonical(digits: &[u8]) -> Option<u64>
 
 /// The decimal number below 2^53 that a text begins with, in its one spelling, and what follows its last digit; None
 /// where the text begins with none.
+#[inline(always)]
 pub fn take_number(text: &[u8]) -> Option<(u64, &[u8])>
     ensures { MatchOption result (HasNoNumber text.now) (λ f. IsNumber text.now f.0 f.1.now) }
 {
     let len = digits_len(text);
     match canonical(&text[..len]) {
         Some(value) => Some((value, &text[len..])),
+        None => None,
+    }
+}
+
+/// The number behind a space at the front of a text, as of `take_number`, and what follows it; None where the text
+/// doesn't begin so.
+#[inline(always)]
+pub fn take_spaced(text: &[u8]) -> Option<(u64, &[u8])>
+    ensures { MatchOption result ((n : ℕ) (rest : List ℕ) → IsSpaced text.now n rest → ⊥) (λ f. IsSpaced text.now f.0 f.1.now) }
+{
+    let Some(digits) = take_byte(text, b' ') else {
+        return None;
+    };
+    match take_number(digits) {
+        Some(found) => Some(found),
         None => None,
     }
 }

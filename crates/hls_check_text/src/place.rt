@@ -1,0 +1,83 @@
+// A place's line, read number by number up to its end.
+ghost use Rattle.std.specs.Prelude.{◌≡◌, ◌++◌, ◌<◌, ◌≤◌, ℕ, List, ◌∷◌, length, MatchOption, IfOk};
+ghost use Rattle.hls_check_laws.specs.declared.spot.Spot.{Spot};
+ghost use Rattle.hls_check_laws.specs.Tables.{IsPlaceOf};
+ghost use Rattle.hls_check_text.specs.Text.{place_line};
+ghost use Rattle.hls_check_text.specs.SpotTexts.{IsFirstSpot, IsNextSpot};
+
+use hls_check_laws::{Spot, Spots};
+use hls_text::{take_byte, take_number, take_spaced};
+use std::alloc::{AllocError, Global};
+
+// A place's first spot, and what follows its numbers.
+#[inline(always)]
+fn take_spot(text: &[u8]) -> Option<(Spot, &[u8])>
+    ensures { MatchOption result ((s : Spot) (rest : List ℕ) → IsFirstSpot text.now s rest → ⊥) (λ f. IsFirstSpot text.now f.0 f.1.now) }
+{
+    let Some((fragment, after_fragment)) = take_number(text) else {
+        return None;
+    };
+    let Some((prev_end, after_prev_end)) = take_spaced(after_fragment) else {
+        return None;
+    };
+    let Some((start, after_start)) = take_spaced(after_prev_end) else {
+        return None;
+    };
+    let Some((run_in, after_run_in)) = take_spaced(after_start) else {
+        return None;
+    };
+    let Some((run_out, rest)) = take_spaced(after_run_in) else {
+        return None;
+    };
+    let spot = Spot {
+        fragment,
+        prev_end,
+        start,
+        run_in,
+        run_out,
+    };
+    Some((spot, rest))
+}
+
+// A place's next spot, and what follows its numbers.
+#[inline(always)]
+fn take_next_spot(text: &[u8]) -> Option<(Spot, &[u8])>
+    ensures { MatchOption result ((s : Spot) (rest : List ℕ) → IsNextSpot text.now s rest → ⊥) (λ f. IsNextSpot text.now f.0 f.1.now) }
+{
+    let Some(numbers) = take_byte(text, b' ') else {
+        return None;
+    };
+    match take_spot(numbers) {
+        Some((spot, rest)) => Some((spot, rest)),
+        None => None,
+    }
+}
+
+/// The place whose line a text begins with, of five numbers a rendition, and what follows the line's end; None where
+/// the text doesn't begin with such a line.
+pub fn take_place(
+    alloc: Global,
+    text: &[u8],
+    renditions: usize,
+) -> Result<Option<(Spots, &[u8])>, AllocError>
+    requires { (1 ≤ renditions) × (renditions ≤ 16) }
+    ensures { IfOk result (λ found. MatchOption found ((place : List Spot) (after : List ℕ) → IsPlaceOf renditions place → text.entry.now ≡ place_line place ++ (10 ∷ after) → ⊥) (λ f. IsPlaceOf renditions f.0 × (text.entry.now ≡ place_line f.0 ++ (10 ∷ f.1.now)))) }
+{
+    let Some((first, behind)) = take_spot(text) else {
+        return Ok(None);
+    };
+    let mut spots = Vec::with_capacity(alloc, renditions)?;
+    spots.push(first)?;
+    let mut rest = behind;
+    for _r in 1..renditions {
+        let Some((spot, after)) = take_next_spot(rest) else {
+            return Ok(None);
+        };
+        spots.push(spot)?;
+        rest = after;
+    }
+    match take_byte(rest, b'\n') {
+        Some(after) => Ok(Some((Spots::new(spots), after))),
+        None => Ok(None),
+    }
+}
