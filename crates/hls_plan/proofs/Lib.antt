@@ -1,3 +1,4 @@
+pub mod Between
 pub mod PricedRows
 pub mod WaysBack
 pub mod LeastCosts

@@ -19,20 +19,6 @@ Keeps-found : (step a price : ℕ) (found : Option ℕ) → price ≡ a + step �
 Keeps-found step a price None sum lower = cc
 Keeps-found step a price (Some y) sum lower = omega (arith, ltb-false price y lower, sum)
 
--- the row of place p begins behind it
-pub row_begin : (t : Table) (p : ℕ) (prices : List (Option ℕ)) (origins : List ℕ) →
-    IsPricing t p 0 prices origins → IsPricing t p (p + 1) prices origins
-row_begin t p prices origins pricing = record {
-  one_each = pricing.one_each;
-  origin_each = pricing.origin_each;
-  start = pricing.start;
-  reached = pricing.reached;
-  origin_done = pricing.origin_done;
-  bound = pricing.bound;
-  rows = pricing.rows;
-  row = λ j below rises allowed. absurd (omega arith);
-}
-
 -- place q is passed where the step to it keeps to the prices
 pub row_passed : (t : Table) (p q : ℕ) (prices : List (Option ℕ)) (origins : List ℕ) →
     IsPricing t p q prices origins → StepKeeps t prices p q → IsPricing t p (q + 1) prices origins
@@ -47,9 +33,23 @@ row_passed t p q prices origins pricing keeps = record {
   row = below_more (StepKeeps t prices p) q pricing.row keeps;
 }
 
+-- the places before the first that a step leads to are passed
+pub row_skipped : (t : Table) (p first : ℕ) (prices : List (Option ℕ)) (origins : List ℕ) →
+    IsPricing t p 0 prices origins → ((j : ℕ) → p < j → Allowed t p j → first ≤ j) → IsPricing t p first prices origins
+row_skipped t p first prices origins pricing from = record {
+  one_each = pricing.one_each;
+  origin_each = pricing.origin_each;
+  start = pricing.start;
+  reached = pricing.reached;
+  origin_done = pricing.origin_done;
+  bound = pricing.bound;
+  rows = pricing.rows;
+  row = λ j below rises allowed. let up : first ≤ j = from j rises allowed in absurd (omega arith);
+}
+
 -- a row is whole where no later step from it is allowed
 pub row_end : (t : Table) (p q : ℕ) (prices : List (Option ℕ)) (origins : List ℕ) →
-    IsPricing t p q prices origins → ((j : ℕ) → q ≤ j → Allowed t p j → ⊥) → IsPricing t (p + 1) 0 prices origins
+    IsPricing t p q prices origins → ((j : ℕ) → p < j → q ≤ j → Allowed t p j → ⊥) → IsPricing t (p + 1) 0 prices origins
 row_end t p q prices origins pricing none = record {
   one_each = pricing.one_each;
   origin_each = pricing.origin_each;
@@ -62,7 +62,7 @@ row_end t p q prices origins pricing none = record {
       (λ rises allowed.
       elim (cases_lt j q) [
         | inl before ↦ pricing.row j before rises allowed
-        | inr after ↦ absurd (none j after allowed)
+        | inr after ↦ absurd (none j rises after allowed)
       ])
       i below;
   row = λ j below. absurd (omega arith);

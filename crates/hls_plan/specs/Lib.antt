@@ -1,3 +1,4 @@
 pub mod Ways
 pub mod Planned
 pub mod Pricing
+pub mod Spans

@@ -8,6 +8,7 @@ pub use planner::plan;
 mod planned;
 mod planner;
 mod pricing;
+mod reach;
 #[cfg(test)]
 mod slow_tests;
 #[cfg(test)]

@@ -52,8 +52,8 @@ fn find(alloc: Global, table: &PlaceTable) -> Result<Planned, AllocError>
 }
 
 /// A least plan with the least cost of each place, or, where there is no plan, the set of the
-/// places that can be reached. It looks at the pairs of places row by row, and leaves a row at the
-/// first place that is too far in rendition 0 or past a gap.
+/// places that can be reached. The places that steps from one place lead to stand side by side, so
+/// it looks for the first and the last of them, and offers a price to each without looking again.
 pub fn plan(alloc: Global, table: &PlaceTable) -> Result<Planned, AllocError>
     ensures good { IfOk result (λ planned. IsGood (certificate_of table.now planned)) }
     ensures best { IfOk result (IsBest table.now) }

@@ -2,6 +2,7 @@ ghost use Rattle.std.specs.Prelude.{◌≡◌, ℕ, ◌+◌, ◌<◌, ◌≤◌,
 ghost use Rattle.hls_check_laws.specs.Certificates.{price_at};
 ghost use Rattle.hls_plan.specs.Pricing.{is_lower, IsPricing};
 
+use crate::reach::span;
 use hls_check_laws::PlaceTable;
 use std::alloc::{AllocError, Global};
 
@@ -46,8 +47,7 @@ fn offer(prices: &mut [Option<u64>], origins: &mut [usize], p: usize, q: usize, 
     }
 }
 
-/// Offers to each later place the price of place `p` and its step. The row ends where the order of
-/// the table says that no later place can follow.
+/// Offers the price of place `p` and its step to each place that a step from it leads to.
 fn price_row(table: &PlaceTable, prices: &mut [Option<u64>], origins: &mut [usize], p: usize)
     requires in_range { p < length table.now.places }
     requires priced { IsPricing table.now p 0 prices.old origins.old }
@@ -57,12 +57,11 @@ fn price_row(table: &PlaceTable, prices: &mut [Option<u64>], origins: &mut [usiz
     let Some(price) = price_of(prices, p) else {
         return;
     };
-    for q in p + 1..table.len() {
-        if table.allowed(p, q) {
-            offer(prices, origins, p, q, price + table.cost(p, q));
-        } else if table.is_row_end(p, q) {
-            return;
-        }
+    let Some((first, end)) = span(table, p) else {
+        return;
+    };
+    for q in first..end {
+        offer(prices, origins, p, q, price + table.cost(p, q));
     }
 }
 

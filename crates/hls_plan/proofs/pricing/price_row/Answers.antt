@@ -1,25 +1,32 @@
-use Rattle.std.proofs.Common.{◌+◌, arith}
-use Rattle.hls_plan.proofs.PricedRows.{row_end, row_passed, row_offered}
+use Rattle.std.proofs.Common.{◌+◌, ◌∙◌, sym, arith}
+use Rattle.hls_plan.proofs.PricedRows.{row_skipped, row_end, row_offered}
 use Rattle.hls_plan.proofs.pricing.price_row.Goals as goal
-use Rattle.hls_plan.proofs.pricing.price_row.Goals.{then-allowed, else-allowed+else-is_row_end}
 
-pub returns-then-is_row_end : goal.returns-then-is_row_end
-returns-then-is_row_end c =
-    row_end _ _ _ _ _ c.loop-q.invariant.pricing (c.is_row_end.ensures.none_after c.if-is_row_end.true)
+pub returns-in_default-span : goal.returns-in_default-span
+returns-in_default-span c =
+    row_end _ _ 0 _ _ c.requires.priced (λ j after from. c.in_default-span.ensures j after)
+
+pub loop-q-init : goal.loop-q-init
+loop-q-init c = record {
+  pricing = row_skipped _ _ _ _ _ c.requires.priced (λ j after there. (c.in-Some-span.ensures.others j after there).0);
+  priced = sym c.price_of.ensures ∙ c.in-Some.is;
+}
+
+pub cost-requires : goal.cost-requires
+cost-requires c = c.in-Some-span.ensures.each c.loop-q.q (omega arith) c.loop-q-test.true
 
 pub loop-q-preserved : goal.loop-q-preserved
 loop-q-preserved c =
-    elim c.if-allowed.branch [
-      | then-allowed w ↦
-          let offered =
-          row_offered c.args.table.now c.args.p c.loop-q.q c.in-Some.price (c.in-Some.price + w.cost.result)
-          c.loop-q.prices c.loop-q.origins c.loop-q.invariant.pricing c.loop-q.invariant.priced (omega arith)
-          (c.allowed.ensures.0 w.if-allowed.true) (omega (arith, w.cost.ensures.cost))
-          (omega (arith, w.cost.ensures.cost, w.cost.ensures.bound)) in
-          rw (w.prices-is, w.origins-is, w.offer.ensures.price, w.offer.ensures.origin)
-          (record { pricing = offered.0; priced = offered.1 })
-      | else-allowed+else-is_row_end w ↦
-          let passed = row_passed _ _ _ _ _ c.loop-q.invariant.pricing
-          (λ up step. let yes = c.allowed.ensures.1 step in let no = w.if-allowed.false in cc) in
-          rw (w.prices-is, w.origins-is) (record { pricing = passed; priced = c.loop-q.invariant.priced })
-    ]
+    let offered =
+    row_offered c.args.table.now c.args.p c.loop-q.q c.in-Some.price (c.in-Some.price + c.cost.result)
+    c.loop-q.prices c.loop-q.origins c.loop-q.invariant.pricing c.loop-q.invariant.priced
+    (omega (arith, c.in-Some-span.ensures.forward))
+    (c.in-Some-span.ensures.each c.loop-q.q (omega arith) c.loop-q-test.true) (omega (arith, c.cost.ensures.cost))
+    (omega (arith, c.cost.ensures.cost, c.cost.ensures.bound)) in
+    rw (c.offer.ensures.price, c.offer.ensures.origin)
+    (record { pricing = offered.0; priced = offered.1 })
+
+pub returns : goal.returns
+returns c =
+    row_end _ _ c.loop-q.q _ _ c.loop-q.invariant.pricing
+    (λ j after from there. let below = (c.in-Some-span.ensures.others j after there).1 in omega (arith, below))

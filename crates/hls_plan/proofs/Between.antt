@@ -1,0 +1,95 @@
+use Rattle.std.proofs.Common.{◌≡◌, ℕ, zero, suc, ◌+◌, ◌-◌, ◌*◌, ◌<◌, ◌≤◌, List, length, arith, add-zero, inl, inr, refl, subst}
+use Rattle.std.proofs.lemmas.Bool.{cases_lt}
+use Rattle.hls_check_laws.specs.declared.spot.Spot.{Spot}
+use Rattle.hls_check_laws.specs.Tables.{Table, spot_in, place_at}
+use Rattle.hls_check_laws.specs.Steps.{Allowed}
+use Rattle.hls_check_laws.specs.Orders.{IsOrderly}
+use Rattle.hls_plan.specs.Spans.{IsSpan}
+
+-- what doesn't fall from a place to the next falls over no distance
+never_falls : (f : List Spot → ℕ) (t : Table) →
+    ((p : ℕ) → p + 1 < length t.places → f (place_at t.places p) ≤ f (place_at t.places (p + 1))) →
+    (q k : ℕ) → q + k < length t.places → f (place_at t.places q) ≤ f (place_at t.places (q + k))
+never_falls f t next q zero h = rw add-zero (omega arith)
+never_falls f t next q (suc k) h =
+    let so_far : f (place_at t.places q) ≤ f (place_at t.places (q + k)) = never_falls f t next q k (omega arith) in
+    let more : f (place_at t.places (q + k)) ≤ f (place_at t.places (q + k + 1)) = next (q + k) (omega arith) in
+    let same : q + k + 1 ≡ q + suc k = omega arith in
+    let P : ℕ → Type 0 = λ x. f (place_at t.places q) ≤ f (place_at t.places x) in
+    subst P same (omega (arith, so_far, more))
+
+never_falls_to : (f : List Spot → ℕ) (t : Table) →
+    ((p : ℕ) → p + 1 < length t.places → f (place_at t.places p) ≤ f (place_at t.places (p + 1))) →
+    (q j : ℕ) → q ≤ j → j < length t.places → f (place_at t.places q) ≤ f (place_at t.places j)
+never_falls_to f t next q j up below =
+    let same : q + (j - q) ≡ j = omega arith in
+    let P : ℕ → Type 0 = λ x. f (place_at t.places q) ≤ f (place_at t.places x) in
+    subst P same (never_falls f t next q (j - q) (omega arith))
+
+-- between two places that steps lead to each place is one
+pub allowed_between : (t : Table) → IsOrderly t → (p a b : ℕ) → Allowed t p a → Allowed t p b →
+    (j : ℕ) → a ≤ j → j ≤ b → Allowed t p j
+allowed_between t orderly p a b near far j up down =
+    let last : b < length t.places = far.to in
+    record {
+      from = near.from;
+      to = omega (arith, last);
+      step = λ r in_r.
+          let fragments : (spot_in (place_at t.places a) r).fragment ≤ (spot_in (place_at t.places j) r).fragment =
+          never_falls_to (λ place. (spot_in place r).fragment) t
+          (λ k h. ((orderly.sorted (k + 1) h).after k refl).keeps r in_r) a j up (omega (arith, last)) in
+          let ends : (k : ℕ) → k + 1 < length t.places → (spot_in (place_at t.places k) r).prev_end ≤ (spot_in (place_at t.places (k + 1)) r).prev_end =
+          λ k h. (orderly.rising k h).ends r in_r in
+          let runs : (k : ℕ) → k + 1 < length t.places → (spot_in (place_at t.places k) r).run_in ≤ (spot_in (place_at t.places (k + 1)) r).run_in =
+          λ k h. (orderly.rising k h).runs r in_r in
+          let ends_up : (spot_in (place_at t.places a) r).prev_end ≤ (spot_in (place_at t.places j) r).prev_end =
+          never_falls_to (λ place. (spot_in place r).prev_end) t ends a j up (omega (arith, last)) in
+          let ends_down : (spot_in (place_at t.places j) r).prev_end ≤ (spot_in (place_at t.places b) r).prev_end =
+          never_falls_to (λ place. (spot_in place r).prev_end) t ends j b down last in
+          let runs_up : (spot_in (place_at t.places a) r).run_in ≤ (spot_in (place_at t.places j) r).run_in =
+          never_falls_to (λ place. (spot_in place r).run_in) t runs a j up (omega (arith, last)) in
+          let runs_down : (spot_in (place_at t.places j) r).run_in ≤ (spot_in (place_at t.places b) r).run_in =
+          never_falls_to (λ place. (spot_in place r).run_in) t runs j b down last in
+          let low = near.step r in_r in
+          let high = far.step r in_r in
+          let later : (spot_in (place_at t.places p) r).fragment < (spot_in (place_at t.places a) r).fragment = low.later in
+          let same_low : (spot_in (place_at t.places p) r).run_out ≡ (spot_in (place_at t.places a) r).run_in = low.unbroken in
+          let same_high : (spot_in (place_at t.places p) r).run_out ≡ (spot_in (place_at t.places b) r).run_in = high.unbroken in
+          let forward : (spot_in (place_at t.places p) r).start < (spot_in (place_at t.places a) r).prev_end = low.forward in
+          let fits : (spot_in (place_at t.places b) r).prev_end - (spot_in (place_at t.places p) r).start ≤ t.target * 1000000 + 499999 = high.fits in
+          record {
+            later = omega (arith, later, fragments);
+            unbroken = omega (arith, same_low, same_high, runs_up, runs_down);
+            forward = omega (arith, forward, ends_up);
+            fits = omega (arith, fits, ends_down);
+          };
+    }
+
+-- so none is behind a place that no step leads to
+pub none_behind : (t : Table) → IsOrderly t → (p q : ℕ) → Allowed t p q → (Allowed t p (q + 1) → ⊥) →
+    (j : ℕ) → q < j → Allowed t p j → ⊥
+none_behind t orderly p q here none j after there =
+    none (allowed_between t orderly p q j here there (q + 1) (omega arith) (omega arith))
+
+-- a first and a last one
+pub span_found : (t : Table) → IsOrderly t → (p first last : ℕ) → p < first → Allowed t p first →
+    ((j : ℕ) → p < j → j < first → Allowed t p j → ⊥) → Allowed t p last → first ≤ last →
+    ((j : ℕ) → last < j → Allowed t p j → ⊥) → IsSpan t p first (last + 1)
+span_found t orderly p first last forward here before there up behind =
+    let to : last < length t.places = there.to in
+    record {
+      forward = forward;
+      some = omega arith;
+      within = omega (arith, to);
+      each = λ j from below. allowed_between t orderly p first last here there j from (omega arith);
+      others = λ j after allowed. (
+        elim (cases_lt j first) [
+          | inl below ↦ absurd (before j after below allowed)
+          | inr from ↦ from
+        ],
+        elim (cases_lt last j) [
+          | inl above ↦ absurd (behind j above allowed)
+          | inr within ↦ omega arith
+        ],
+      );
+    }
