@@ -15,6 +15,10 @@ mod cut;
 #[cfg(test)]
 mod fakes;
 mod number;
+#[cfg(test)]
+mod refused_memory;
+#[cfg(test)]
+mod vectors;
 
 use crate::check::run::{CheckEnd, run_check};
 use crate::cut::fault::CutFault;

@@ -2,15 +2,10 @@
 
 use crate::check::run::{CheckEnd, run_check};
 use crate::fakes::{Drips, Sink};
+use crate::vectors::{FIVE_UNITS, NO_CUT};
 use hls_http::Counted;
 use std::alloc::Global;
 use std::test::Fail;
-
-const FIVE_UNITS: &str =
-    "HLS-CUT-CERTIFICATE 1\ntarget 6\npreferred 4000000\nrenditions 1\nplaces 5\n0 0 0 0 0\n1 3000000 3000000 0 0\n2 6000000 6000000 0 0\n3 7000000 7000000 0 0\n4 11000000 11000000 0 0\ncut 1000000\nplan 0 1 3 4\nprice 0 0\nprice 1 1000000\nprice 2 2000000\nprice 3 1000000\nprice 4 1000000\nend\n";
-
-const NO_CUT: &str =
-    "HLS-CUT-CERTIFICATE 1\ntarget 6\npreferred 4000000\nrenditions 1\nplaces 2\n0 0 0 0 0\n1 7000000 7000000 0 0\nnone\nclosed 0\nend\n";
 
 /// Checks a text that comes by `step` bytes a read, with the read and the write of these numbers
 /// failing.

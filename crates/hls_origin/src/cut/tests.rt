@@ -3,28 +3,16 @@
 use crate::cut::fault::CutFault;
 use crate::cut::run::{CutEnd, run_cut};
 use crate::fakes::{Drips, Sink};
+use crate::vectors::{FIVE_UNITS, NO_CUT, ONE_UNIT, Second, stream, sync};
 use hls_boxes_laws::fault::BoxFault;
 use hls_core_laws::refusal::Refusal;
 use hls_http::Counted;
 use hls_media_laws::fault::MediaFault;
 use hls_origin_listing::ListFault;
-use hls_samples::{boxed, init_bytes, unit_bytes, word_box};
+use hls_samples::{boxed, init_bytes, word_box};
 use std::alloc::{AllocError, Global};
 use std::process::Abort;
 use std::test::Fail;
-
-const ONE_UNIT: &str = "#EXTM3U
-#EXT-X-VERSION:6
-#EXT-X-TARGETDURATION:6
-#EXT-X-MEDIA-SEQUENCE:0
-#EXT-X-DISCONTINUITY-SEQUENCE:0
-#EXT-X-PLAYLIST-TYPE:VOD
-#EXT-X-MAP:URI=\"media.mp4\",BYTERANGE=\"600@0\"
-#EXTINF:4.000000,
-#EXT-X-BYTERANGE:1000@600
-media.mp4
-#EXT-X-ENDLIST
-";
 
 const TWO_PLACES: &str = "#EXTINF:6.000000,
 #EXT-X-BYTERANGE:2000@600
@@ -45,38 +33,6 @@ media.mp4
 #EXT-X-ENDLIST
 ";
 
-const FIVE_UNITS: &str = "HLS-CUT-CERTIFICATE 1
-target 6
-preferred 4000000
-renditions 1
-places 5
-0 0 0 0 0
-1 3000000 3000000 0 0
-2 6000000 6000000 0 0
-3 7000000 7000000 0 0
-4 11000000 11000000 0 0
-cut 1000000
-plan 0 1 3 4
-price 0 0
-price 1 1000000
-price 2 2000000
-price 3 1000000
-price 4 1000000
-end
-";
-
-const NO_CUT: &str = "HLS-CUT-CERTIFICATE 1
-target 6
-preferred 4000000
-renditions 1
-places 2
-0 0 0 0 0
-1 7000000 7000000 0 0
-none
-closed 0
-end
-";
-
 const LEAST: &str = "#EXTINF:3.000000,
 #EXT-X-BYTERANGE:1000@600
 media.mp4
@@ -88,33 +44,6 @@ media.mp4
 media.mp4
 #EXT-X-ENDLIST
 ";
-
-/// A unit of 1000 bytes from a second on, for so many seconds.
-#[derive(Drop)]
-struct Second {
-    start: u32,
-    lasts: u32,
-    sync: bool,
-}
-
-fn sync(start: u32, lasts: u32) -> Second {
-    Second {
-        start,
-        lasts,
-        sync: true,
-    }
-}
-
-/// An init section of 600 bytes and these units.
-fn stream(alloc: Global, units: &[Second]) -> Result<Vec<u8>, AllocError> {
-    let mut bytes = init_bytes(alloc, b"vide", 90000)?;
-    for unit in units {
-        let start = u64::from(unit.start) * 90000;
-        let ticks = unit.lasts.saturating_mul(90000);
-        bytes.extend_from_slice(&unit_bytes(alloc, start, ticks, unit.sync, 1000)?)?;
-    }
-    Ok(bytes)
-}
 
 fn joined(alloc: Global, pieces: &[&[u8]]) -> Result<Vec<u8>, AllocError> {
     let mut bytes = Vec::new(alloc);

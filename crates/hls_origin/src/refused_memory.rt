@@ -1,0 +1,76 @@
+//! Both programs with any one request for memory refused: each run answers want of memory, or what it
+//! answers with ample memory, and one of two runs is ample. `tests/refuse_each_allocation` refuses
+//! each request in turn.
+
+use crate::check::run::{CheckEnd, run_check};
+use crate::cut::fault::CutFault;
+use crate::cut::run::{CutEnd, run_cut};
+use crate::fakes::{Drips, Page};
+use crate::vectors::{FIVE_UNITS, stream, sync};
+use hls_http::Counted;
+use std::alloc::Global;
+use std::process::Abort;
+use std::test::Fail;
+
+/// How a run answered.
+#[derive(Clone, Copy, PartialEq, Eq)]
+enum Answer {
+    Ample,
+    Memory,
+    Other,
+}
+
+fn cut_once(alloc: Global, stream: &[u8]) -> Answer {
+    let words = ["--preferred", "4000000", "--certificate"];
+    let mut input = Counted::new(Drips::new(stream, 700, 0));
+    let mut output = Counted::new(Page::new());
+    let end = run_cut(alloc, words.as_slice(), &mut input, &mut output);
+    let page = output.into_inner();
+    match end {
+        CutEnd::Done if page.says(FIVE_UNITS.as_bytes()) => Answer::Ample,
+        CutEnd::Refused(CutFault::Memory) if page.says(b"") => Answer::Memory,
+        _ => Answer::Other,
+    }
+}
+
+fn check_once(alloc: Global) -> Answer {
+    let mut input = Counted::new(Drips::new(FIVE_UNITS.as_bytes(), 70, 0));
+    let mut output = Counted::new(Page::new());
+    let end = run_check(alloc, &mut input, &mut output);
+    let page = output.into_inner();
+    match end {
+        CheckEnd::Yes if page.says(b"cut 1000000\n") => Answer::Ample,
+        CheckEnd::Refused if page.says(b"refused Memory\n") => Answer::Memory,
+        _ => Answer::Other,
+    }
+}
+
+/// Of two answers one is ample, and the other is so too or is want of memory.
+fn is_right(first: Answer, second: Answer) -> bool {
+    match first {
+        Answer::Ample => second != Answer::Other,
+        Answer::Memory => second == Answer::Ample,
+        Answer::Other => false,
+    }
+}
+
+fn cuts_right(rt: &impl Abort, alloc: Global, stream: &[u8]) {
+    assert!(rt; is_right(cut_once(alloc, stream), cut_once(alloc, stream)));
+}
+
+#[test]
+fn of_cut(rt: HostRuntime) -> Result<(), Fail> {
+    let alloc = rt.alloc();
+    // where the stream itself is refused memory, nothing is left to try
+    if let Ok(stream) = stream(alloc, &[sync(0, 3), sync(3, 3), sync(6, 1), sync(7, 4)]) {
+        cuts_right(&rt, alloc, &stream);
+    }
+    Ok(())
+}
+
+#[test]
+fn of_check(rt: HostRuntime) -> Result<(), Fail> {
+    let alloc = rt.alloc();
+    assert!(rt; is_right(check_once(alloc), check_once(alloc)));
+    Ok(())
+}
