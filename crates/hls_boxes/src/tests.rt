@@ -8,19 +8,21 @@ use std::alloc::{AllocError, Global};
 use std::process::Abort;
 use std::test::Fail;
 
-/// Feeds a piece. Where memory is refused it does so once more, since the reader is as it was.
+/// Feeds a piece. Where memory is refused and the reader is as it was, it does so once more.
 fn fed(reader: &mut UnitReader, piece: &[u8]) -> Result<(), BoxFault> {
+    let before = reader.finish();
     match reader.feed(piece) {
-        Err(BoxFault::Memory) => reader.feed(piece),
+        Err(BoxFault::Memory) if reader.finish() == before => reader.feed(piece),
         answer => answer,
     }
 }
 
-/// Takes a part. Where memory is refused it does so once more.
+/// Takes a part. Where memory is refused and the reader is as it was, it does so once more.
 fn taken(reader: &mut UnitReader) -> Result<Option<Part>, AllocError> {
+    let before = reader.finish();
     match reader.take() {
-        Ok(part) => Ok(part),
-        Err(AllocError) => reader.take(),
+        Err(AllocError) if reader.finish() == before => reader.take(),
+        answer => answer,
     }
 }
 

@@ -3,6 +3,8 @@
 ghost use Rattle.std.specs.Prelude.{IfOk};
 ghost use Rattle.hls_core_laws.specs.Moves.{IsFitting};
 
+mod refused;
+
 use crate::{CatchFault, Cutout, Reply, Request, answer, reply_piece, reply_total, table_of};
 use bytes::Bytes;
 use hls_check::{Verdict, check};

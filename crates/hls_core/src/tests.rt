@@ -2,6 +2,8 @@ ghost use Rattle.std.specs.Prelude.{◌≡◌, IfOk};
 ghost use Rattle.hls_core_laws.specs.State.{State};
 ghost use Rattle.hls_core_laws.specs.Moves.{IsFitting};
 
+mod refused;
+
 use crate::config::{Config, ConfigFault};
 use crate::follows::follows;
 use crate::replay::replay;

@@ -286,3 +286,141 @@ fn names_are_the_variants(rt: HostRuntime) {
     assert_eq!(rt; RecordFault::Full.name(), "Full");
     assert_eq!(rt; RangeFault::Gone.name(), "Gone");
 }
+
+// The init section and units of 116 and 120 bytes at 0 and 4 s.
+fn two_units(alloc: Global) -> Result<Recording, RecordFault>
+    ensures { IfOk result (λ r. (r.init ≡ sample_init) × (length r.facts ≡ 2)) }
+{
+    let none = match begun(alloc) {
+        Ok(none) => none,
+        Err(_) => return Err(RecordFault::Memory),
+    };
+    let one = with_first(alloc, &none)?;
+    with_sample(alloc, &one, 360000, 120)
+}
+
+fn has_piece(recording: &Recording, all: &[u8], at: usize, end: usize) -> bool {
+    if end < at || all.len() < end {
+        return false;
+    }
+    recording.piece(at as u64) == Some(&all[at..end])
+}
+
+fn has_unit(recording: &Recording, n: u64, start: u64, len: u64) -> bool {
+    recording
+        .facts(n)
+        .is_some_and(|f| f.start == start && f.len == len)
+}
+
+// Whether it's the recording of two units, untouched.
+fn is_two(recording: &Recording, all: &[u8]) -> bool {
+    recording.count() == 2
+        && recording.floor() == 0
+        && recording.total() == 836
+        && has_unit(recording, 1, 360000, 120)
+        && has_piece(recording, all, 600, 716)
+        && has_piece(recording, all, 716, 836)
+}
+
+// Whether it's that recording with the third unit.
+fn is_three(recording: &Recording, all: &[u8]) -> bool {
+    recording.count() == 3
+        && recording.floor() == 0
+        && recording.total() == 966
+        && has_unit(recording, 2, 720000, 130)
+        && has_piece(recording, all, 716, 836)
+        && has_piece(recording, all, 836, 966)
+}
+
+// Whether it's that recording without the first unit's bytes.
+fn is_second(recording: &Recording, all: &[u8]) -> bool {
+    recording.count() == 2
+        && recording.floor() == 1
+        && recording.total() == 836
+        && has_unit(recording, 0, 0, 116)
+        && recording.piece(715).is_none()
+        && has_piece(recording, all, 716, 836)
+}
+
+// The third unit appended, in a second call where the first was refused memory and left the recording as it was.
+fn appends_at_last(alloc: Global, two: &Recording, all: &[u8]) -> bool
+    requires init { two.now.init ≡ sample_init }
+    requires room { length two.now.facts ≡ 2 }
+{
+    let first = with_sample(alloc, two, 720000, 130);
+    if !is_two(two, all) {
+        return false;
+    }
+    match first {
+        Ok(three) => is_three(&three, all),
+        Err(RecordFault::Memory) => {
+            with_sample(alloc, two, 720000, 130).is_ok_and(|three| is_three(&three, all))
+        }
+        Err(_) => false,
+    }
+}
+
+// The first unit trimmed, in the same way.
+fn trims_at_last(alloc: Global, two: &Recording, all: &[u8]) -> bool
+    requires { length two.now.facts ≡ 2 }
+{
+    if two.floor() != 0 {
+        return false;
+    }
+    let first = two.trimmed(alloc, 1);
+    if !is_two(two, all) {
+        return false;
+    }
+    match first {
+        Ok(second) => is_second(&second, all),
+        Err(_) => two
+            .trimmed(alloc, 1)
+            .is_ok_and(|second| is_second(&second, all)),
+    }
+}
+
+// A range of the init section and both units copied, in the same way.
+fn copies_at_last(alloc: Global, two: &Recording, all: &[u8]) -> bool {
+    if all.len() < 717 {
+        return false;
+    }
+    let wanted = &all[599..717];
+    match two.copy_range(alloc, 599, 717) {
+        Ok(copied) => copied.as_slice() == wanted,
+        Err(RangeFault::Memory) => {
+            is_two(two, all)
+                && two
+                    .copy_range(alloc, 599, 717)
+                    .is_ok_and(|copied| copied.as_slice() == wanted)
+        }
+        Err(_) => false,
+    }
+}
+
+// What a test begins with, tried again where memory was refused.
+fn two_at_last(alloc: Global) -> Result<Recording, RecordFault>
+    ensures { IfOk result (λ r. (r.init ≡ sample_init) × (length r.facts ≡ 2)) }
+{
+    match two_units(alloc) {
+        Ok(two) => Ok(two),
+        Err(_) => two_units(alloc),
+    }
+}
+
+fn resource_at_last(alloc: Global) -> Result<Vec<u8>, AllocError> {
+    match resource(alloc) {
+        Ok(all) => Ok(all),
+        Err(_) => resource(alloc),
+    }
+}
+
+#[test]
+fn refused_memory_changes_no_recording(rt: HostRuntime) -> Result<(), Fail> {
+    let alloc = rt.alloc();
+    let all = resource_at_last(alloc)?;
+    let two = two_at_last(alloc)?;
+    assert!(rt; appends_at_last(alloc, &two, &all));
+    assert!(rt; trims_at_last(alloc, &two, &all));
+    assert!(rt; copies_at_last(alloc, &two, &all));
+    Ok(())
+}
