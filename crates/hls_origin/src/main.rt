@@ -15,6 +15,7 @@ mod cut;
 #[cfg(test)]
 mod fakes;
 mod number;
+mod pieces;
 #[cfg(test)]
 mod refused_memory;
 #[cfg(test)]

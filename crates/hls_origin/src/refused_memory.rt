@@ -6,7 +6,7 @@ use crate::check::run::{CheckEnd, run_check};
 use crate::cut::fault::CutFault;
 use crate::cut::run::{CutEnd, run_cut};
 use crate::fakes::{Drips, Page};
-use crate::vectors::{FIVE_UNITS, stream, sync};
+use crate::vectors::{FIVE_UNITS, ONE_UNIT, stream, sync};
 use hls_http::Counted;
 use std::alloc::Global;
 use std::process::Abort;
@@ -20,14 +20,14 @@ enum Answer {
     Other,
 }
 
-fn cut_once(alloc: Global, stream: &[u8]) -> Answer {
-    let words = ["--preferred", "4000000", "--certificate"];
+/// Cuts a stream, which is to give this text.
+fn cut_once(alloc: Global, words: &[&str], stream: &[u8], text: &str) -> Answer {
     let mut input = Counted::new(Drips::new(stream, 700, 0));
     let mut output = Counted::new(Page::new());
-    let end = run_cut(alloc, words.as_slice(), &mut input, &mut output);
+    let end = run_cut(alloc, words, &mut input, &mut output);
     let page = output.into_inner();
     match end {
-        CutEnd::Done if page.says(FIVE_UNITS.as_bytes()) => Answer::Ample,
+        CutEnd::Done if page.says(text.as_bytes()) => Answer::Ample,
         CutEnd::Refused(CutFault::Memory) if page.says(b"") => Answer::Memory,
         _ => Answer::Other,
     }
@@ -54,16 +54,29 @@ fn is_right(first: Answer, second: Answer) -> bool {
     }
 }
 
-fn cuts_right(rt: &impl Abort, alloc: Global, stream: &[u8]) {
-    assert!(rt; is_right(cut_once(alloc, stream), cut_once(alloc, stream)));
+fn cuts_right(rt: &impl Abort, alloc: Global, words: &[&str], stream: &[u8], text: &str) {
+    let first = cut_once(alloc, words, stream, text);
+    let second = cut_once(alloc, words, stream, text);
+    assert!(rt; is_right(first, second));
 }
+
+// Where the stream itself is refused memory, nothing is left to try.
 
 #[test]
 fn of_cut(rt: HostRuntime) -> Result<(), Fail> {
     let alloc = rt.alloc();
-    // where the stream itself is refused memory, nothing is left to try
+    if let Ok(stream) = stream(alloc, &[sync(0, 4)]) {
+        cuts_right(&rt, alloc, &["--each"], &stream, ONE_UNIT);
+    }
+    Ok(())
+}
+
+#[test]
+fn of_least_plans(rt: HostRuntime) -> Result<(), Fail> {
+    let alloc = rt.alloc();
+    let words = ["--preferred", "4000000", "--certificate"];
     if let Ok(stream) = stream(alloc, &[sync(0, 3), sync(3, 3), sync(6, 1), sync(7, 4)]) {
-        cuts_right(&rt, alloc, &stream);
+        cuts_right(&rt, alloc, &words, &stream, FIVE_UNITS);
     }
     Ok(())
 }

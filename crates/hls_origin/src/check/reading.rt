@@ -1,14 +1,12 @@
 //! Reading a stream to its end.
-ghost use Rattle.std.specs.Prelude.{◌≡◌, ◌<◌, ℕ, List, Some, IfOk, vec_len, length};
+ghost use Rattle.std.specs.Prelude.{◌≡◌, ◌<◌, ℕ, List, Some, length};
 ghost use Rattle.hls_http.specs.Counted.{failures_of, inside_of};
 ghost use Rattle.hls_origin.specs.CheckRun.{CountsReading, Reads};
 
+use crate::pieces::new_piece;
 use hls_http::Counted;
-use std::alloc::{AllocError, Global};
+use std::alloc::Global;
 use std::io::Read;
-
-/// How many bytes are asked of the reader at a time.
-const PIECE_LEN: usize = 65536;
 
 /// Why a stream wasn't read to its end.
 #[derive(Clone, Copy, Debug, PartialEq, Eq)]
@@ -17,13 +15,6 @@ pub enum Unread {
     ReadFailed,
     /// A growth of memory was refused.
     Memory,
-}
-
-/// So many zero bytes.
-fn zeros(alloc: Global, len: usize) -> Result<Vec<u8>, AllocError>
-    ensures { IfOk result (λ bytes. vec_len bytes ≡ len) }
-{
-    vec![in alloc; 0; len]
 }
 
 /// The bytes of a stream, read to its end or a failed call by pieces that fit `piece`.
@@ -58,7 +49,7 @@ pub fn read_whole<R: Read>(alloc: Global, input: &mut Counted<R>) -> Result<Vec<
     ensures reads { (stream : List ℕ) → R.remaining (inside_of input.old) ≡ Some stream → Reads stream (R.remaining (inside_of input.new)) result }
     ensures counts { CountsReading result (failures_of input.old) (failures_of input.new) }
 {
-    match zeros(alloc, PIECE_LEN) {
+    match new_piece(alloc) {
         Ok(mut piece) => read_pieces(alloc, input, &mut piece),
         Err(_) => Err(Unread::Memory),
     }

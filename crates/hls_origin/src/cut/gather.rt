@@ -1,5 +1,5 @@
 //! Reading a stream to its end, part by part.
-ghost use Rattle.std.specs.Prelude.{◌≡◌, ◌<◌, ◌≤◌, ℕ, List, Some, None, IfOk, OnOk, vec_len, length};
+ghost use Rattle.std.specs.Prelude.{◌≡◌, ◌<◌, ◌≤◌, ℕ, List, Some, None, OnOk, length};
 ghost use Rattle.hls_boxes_laws.specs.Parts.{text_fault};
 ghost use Rattle.hls_origin.specs.Gather.{CountsReads, Drains, Gathers, IsDrained, IsSettled, Reached, TakesIn};
 ghost use Rattle.hls_http.specs.Counted.{failures_of, inside_of};
@@ -8,21 +8,12 @@ ghost use Rattle.hls_origin.specs.Accepts.{Told};
 
 use crate::cut::fault::CutFault;
 use crate::cut::recorder::Recorder;
+use crate::pieces::new_piece;
 use hls_boxes::UnitReader;
 use hls_boxes_laws::fault::BoxFault;
 use hls_http::Counted;
-use std::alloc::{AllocError, Global};
+use std::alloc::Global;
 use std::io::Read;
-
-/// How many bytes are asked of the reader at a time.
-const PIECE_LEN: usize = 65536;
-
-/// So many zero bytes.
-fn zeros(alloc: Global, len: usize) -> Result<Vec<u8>, AllocError>
-    ensures { IfOk result (λ bytes. vec_len bytes ≡ len) }
-{
-    vec![in alloc; 0; len]
-}
 
 /// Takes all whole parts out of what was fed, and records them.
 fn drain(alloc: Global, reader: &mut UnitReader, recorder: &mut Recorder) -> Result<(), CutFault>
@@ -108,7 +99,7 @@ pub fn gather<R: Read>(
         → Gathers recorder.old stream (R.remaining (inside_of input.new)) recorder.new result }
     ensures counts { CountsReads result (failures_of input.old) (failures_of input.new) }
 {
-    match zeros(alloc, PIECE_LEN) {
+    match new_piece(alloc) {
         Ok(mut piece) => read_parts(alloc, input, recorder, &mut piece),
         Err(_) => Err(CutFault::Memory),
     }
