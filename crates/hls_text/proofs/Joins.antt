@@ -1,13 +1,13 @@
 -- The lines of a text that was joined of lines, and the text that lines were cut from.
-use Rattle.std.proofs.Common.{◌≡◌, refl, sym, ◌∙◌, ap, ℕ, ◌^◌, ◌<◌, ◌==◌, Bool, true, false, List, [], ◌∷◌, ◌++◌, All, arith, append_assoc, inl, inr}
+use Rattle.std.proofs.Common.{◌≡◌, refl, sym, ◌∙◌, ap, ℕ, ◌^◌, ◌<◌, ◌==◌, ◌≢◌, Bool, true, false, List, [], ◌∷◌, ◌++◌, All, arith, append_assoc, inl, inr}
 use Rattle.std.specs.Fmt.{decimal}
 use Rattle.std.specs.Int.{IsInRange}
 use Rattle.std.specs.Str.Parse.{AllDigits}
 use Rattle.std.specs.List.{list_any}
-use Rattle.std.proofs.lemmas.Bool.{cases_Bool, eqb-true, ne_eqb}
+use Rattle.std.proofs.lemmas.Bool.{cases_Bool, eqb-true, eqb-false, ne_eqb}
 use Rattle.std.proofs.lemmas.Str.Parse.{tells_digits}
-use Rattle.std.proofs.lemmas.List.Elements.{All-head, All-tail}
-use Rattle.hls_text.specs.Lines.{cut_text, before_lines, joined}
+use Rattle.std.proofs.lemmas.List.Elements.{All-head, All-tail, All-cons, All-nil}
+use Rattle.hls_text.specs.Lines.{cut_text, before_lines, joined, IsFirstLine}
 use Rattle.hls_text.specs.Numbers.{spaced, words, ArePrintable}
 use Rattle.hls_text.proofs.Digits.{all_digits}
 use Rattle.hls_text.proofs.Words.{IsSmall}
@@ -18,6 +18,23 @@ has_end line = list_any (λ b. b == 10) line
 
 abbrev pub IsClean : List ℕ → Type 0
 IsClean line = has_end line ≡ false
+
+pub no_end : (line : List ℕ) → IsClean line → All (λ b. b ≢ 10) line
+no_end [] clean = All-nil (λ b. b ≢ 10)
+no_end (b ∷ line) clean =
+    elim (cases_Bool (b == 10)) [
+      | inl e ↦
+          let no : true ≡ false = rw e at clean in
+          absurd cc
+      | inr e ↦
+          let others : IsClean line = rw e at clean in
+          All-cons (λ c. c ≢ 10) b line (eqb-false b 10 e) (no_end line others)
+    ]
+
+pub end_free : (line : List ℕ) → All (λ b. b ≢ 10) line → IsClean line
+end_free [] none = refl
+end_free (b ∷ line) none =
+    rw (ne_eqb b 10 (All-head (λ c. c ≢ 10) b line none)) (end_free line (All-tail (λ c. c ≢ 10) b line none))
 
 pub clean-append : (xs ys : List ℕ) → IsClean xs → IsClean ys → IsClean (xs ++ ys)
 clean-append [] ys xs_clean ys_clean = ys_clean
@@ -68,6 +85,11 @@ cut_line (b ∷ line) rest clean =
           × ((cut_text (line ++ (10 ∷ rest))).tail ≡ (cut_text rest).tail) = cut_line line rest others in
           (rw (e, next.0) refl, rw (e, next.0) next.1)
     ]
+
+-- the first line among the lines of a text
+pub first_cut : (text line rest : List ℕ) → IsFirstLine text line rest →
+    ((cut_text text).lines ≡ line ∷ (cut_text rest).lines) × ((cut_text text).tail ≡ (cut_text rest).tail)
+first_cut text line rest first = rw first.is (cut_line line rest (end_free line first.one_line))
 
 pub lines_of_joined : (lines : List (List ℕ)) → All IsClean lines → (cut_text (joined lines)).lines ≡ lines
 unfolding joined cut_text

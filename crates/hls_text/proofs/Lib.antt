@@ -2,3 +2,4 @@ pub mod Fronts
 pub mod Digits
 pub mod Words
 pub mod Joins
+mod Belows

@@ -5,4 +5,4 @@ mod line;
 mod number;
 
 pub use line::{take_byte, take_line, take_prefix};
-pub use number::{numbers_of, take_number, take_spaced};
+pub use number::{are_numbers_below, numbers_of, take_number, take_spaced};

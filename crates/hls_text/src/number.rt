@@ -1,9 +1,10 @@
-ghost use Rattle.std.specs.Prelude.{◌≡◌, ◌++◌, ◌+◌, ◌^◌, ◌<◌, ◌≤◌, ℕ, List, [], length, MatchOption, IfOk, option_map};
+//! Decimal numbers of a text, each in its one spelling.
+ghost use Rattle.std.specs.Prelude.{◌≡◌, ◌++◌, ◌+◌, ◌^◌, ◌<◌, ◌≤◌, ℕ, List, [], length, MatchOption, IfOk, IsTrue, ◌↔◌};
 ghost use Rattle.std.specs.Char.{is_ascii_digit};
 ghost use Rattle.std.specs.Fmt.{decimal};
 ghost use Rattle.std.specs.List.{prefix_len};
 ghost use Rattle.std.specs.Str.Parse.{AllDigits, digits_value};
-ghost use Rattle.hls_text.specs.Numbers.{IsNumber, HasNoNumber, IsSpaced, AreNumbers};
+ghost use Rattle.hls_text.specs.Numbers.{IsNumber, HasNoNumber, IsSpaced, AreNumbers, AreNumbersBelow};
 
 use crate::line::{take_byte, take_prefix};
 use std::alloc::{AllocError, Global};
@@ -97,6 +98,28 @@ pub fn numbers_of(alloc: Global, line: &[u8]) -> Result<Option<Vec<u64>>, AllocE
         }
         let Some(next) = take_prefix(after, b" ") else {
             return Ok(None);
+        };
+        rest = next;
+    }
+}
+
+/// Whether a line is decimal numbers below `bound`, each in its one spelling, with one space between. It takes no
+/// memory.
+pub fn are_numbers_below(line: &[u8], bound: u64) -> bool
+    ensures { IsTrue result ↔ AreNumbersBelow line.now bound }
+{
+    let mut rest = line;
+    let mut within = true;
+    loop {
+        let Some((number, after)) = take_number(rest) else {
+            return false;
+        };
+        within &= number < bound;
+        if after.is_empty() {
+            return within;
+        }
+        let Some(next) = take_prefix(after, b" ") else {
+            return false;
         };
         rest = next;
     }
