@@ -1,3 +1,5 @@
+//! Boxes, byte by byte.
+
 ghost use Rattle.std.specs.Prelude.{◌≡◌, ◌+◌, ◌*◌, ◌^◌, ◌<◌, [], ◌∷◌, length, map, IfOk};
 ghost use Rattle.std.specs.List.{concat};
 ghost use Rattle.hls_samples.specs.Boxes.{words, box_of};

@@ -1,3 +1,5 @@
+//! An init section.
+
 ghost use Rattle.std.specs.Prelude.{◌≡◌, length, IfOk};
 ghost use Rattle.hls_samples.specs.Init.{ftyp, tkhd, mdia, trak, trex, free, moov, init_of};
 

@@ -1,3 +1,5 @@
+//! The builders against bytes from outside.
+
 use crate::*;
 use std::test::Fail;
 

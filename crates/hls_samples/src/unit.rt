@@ -1,3 +1,5 @@
+//! A unit.
+
 ghost use Rattle.std.specs.Prelude.{◌≡◌, ◌≤◌, length, IfOk};
 ghost use Rattle.hls_samples.specs.Unit.{unit_of};
 
