@@ -5,7 +5,7 @@ use Rattle.std.specs.List.{flat_map}
 use Rattle.std.proofs.lemmas.List.{length-append, append_assoc, append-nil, drop_at}
 use Rattle.std.proofs.lemmas.List.Elements.{All-nil, All-cons}
 use Rattle.std.proofs.lemmas.Bool.{cases_lt, cases_Bool, lt-ltb, le-ltb}
-use Rattle.hls_boxes_laws.specs.declared.kinds.TheConstants.{MOOF}
+use Rattle.hls_boxes_laws.specs.Kinds.{moof_type}
 use Rattle.hls_boxes_laws.specs.declared.part.Part.{Part}
 use Rattle.hls_boxes_laws.specs.declared.part.Part.TheVariants as parts
 use Rattle.hls_boxes_laws.specs.Boxes.{kinds_of}
@@ -126,7 +126,7 @@ nothing_within (suc bound) before rest has_moof less is = elim (turn before rest
   | Joining h box behind split one good joins ↦
       let less' = shorter h rest box behind split one (fault_of-fits h (length before) has_moof good) in
       let now = sym (ap (λ (xs : List ℕ). cut_at before xs has_moof) split ∙ cut_at-joins h before box behind has_moof one good joins) ∙ is in
-      let none = nothing_within bound (before ++ box) behind (has_moof || h.kind == MOOF) (omega arith) now in
+      let none = nothing_within bound (before ++ box) behind (has_moof || h.kind == moof_type) (omega arith) now in
       omega (arith, none, length-append before box, length-append box behind, ap length split)
   | Ending h box behind split one good ends ↦
       let now = sym (ap (λ (xs : List ℕ). cut_at before xs has_moof) split ∙ cut_at-ends h before box behind has_moof one good ends) ∙ is in

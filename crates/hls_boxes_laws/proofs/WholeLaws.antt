@@ -5,10 +5,10 @@ use Rattle.std.proofs.lemmas.Bool.{cases_Bool}
 use Rattle.hls_boxes_laws.specs.declared.header.Header.{Header}
 use Rattle.hls_boxes_laws.specs.declared.part.Part.{Part}
 use Rattle.hls_boxes_laws.specs.declared.part.Part.TheVariants as parts
-use Rattle.hls_boxes_laws.specs.declared.kinds.TheConstants.{MOOF, INIT_LIMIT, UNIT_LIMIT}
+use Rattle.hls_boxes_laws.specs.Kinds.{moof_type, init_limit, unit_limit}
 use Rattle.hls_boxes_laws.specs.Boxes.{header_at, Child, children, kinds_of}
 use Rattle.hls_boxes_laws.specs.Parts.{limit_of, bytes_of, Nothing, Cut, after_parts, next_of, cut_within, cut_at, cut_of, IsInitPart, IsUnitPart}
-use Rattle.hls_boxes_laws.specs.Grammar.{ends_init, has_unit, fills}
+use Rattle.hls_boxes_laws.proofs.KindTests.{ends_init, has_unit, fills}
 use Rattle.hls_boxes_laws.proofs.Headers.{header_at-within}
 use Rattle.hls_boxes_laws.proofs.Walk.{FirstBox, first_box, children-none}
 use Rattle.hls_boxes_laws.proofs.KindLaws.{walks, limit_of_part, part_like, good-fault_of, walks-joins, walks-allowed}
@@ -26,8 +26,8 @@ no_kinds (b ∷ boxes) is = absurd (cc)
 
 walked_box : (bound : ℕ) (before front : List ℕ) (has_moof : Bool) (p : Part) (b : Child) (boxes : List Child) → length front < suc bound
     → walks p has_moof (kinds_of (b ∷ boxes)) ≡ true → length before + length front ≤ limit_of_part p → FirstBox front b boxes
-    → ((h : Header) (box behind : List ℕ) → front ≡ box ++ behind → length behind < length front → children behind ≡ Some boxes → walks p (has_moof || h.kind == MOOF) (kinds_of boxes) ≡ true → length (before ++ box) + length behind ≤ limit_of_part p
-    → (more : List ℕ) → cut_at (before ++ box) (behind ++ more) (has_moof || h.kind == MOOF) ≡ after_parts (part_like p ((before ++ box) ++ behind) ∷ []) (cut_of more))
+    → ((h : Header) (box behind : List ℕ) → front ≡ box ++ behind → length behind < length front → children behind ≡ Some boxes → walks p (has_moof || h.kind == moof_type) (kinds_of boxes) ≡ true → length (before ++ box) + length behind ≤ limit_of_part p
+    → (more : List ℕ) → cut_at (before ++ box) (behind ++ more) (has_moof || h.kind == moof_type) ≡ after_parts (part_like p ((before ++ box) ++ behind) ∷ []) (cut_of more))
     → (more : List ℕ) → cut_at before (front ++ more) has_moof ≡ after_parts (part_like p (before ++ front) ∷ []) (cut_of more)
 walked_box bound before front has_moof p b boxes less walk within f ih more =
     let h = f.header in
@@ -51,7 +51,7 @@ walked_box bound before front has_moof p b boxes less walk within f ih more =
           ap (λ (xs : List ℕ). cut_at before (box ++ xs) has_moof) tail ∙ cut_at-ends h before box more has_moof f.one good ends
           ∙ ap (λ (q : Part). after_parts (q ∷ []) (cut_of more)) (last.1 (before ++ box) ∙ ap (λ (xs : List ℕ). part_like p (before ++ xs)) (sym all))
       | inr joins ↦
-          let walk'' : walks p (has_moof || h.kind == MOOF) (kinds_of boxes) ≡ true = sym (walks-joins p has_moof h.kind (kinds_of boxes) joins allowed.moof) ∙ walk' in
+          let walk'' : walks p (has_moof || h.kind == moof_type) (kinds_of boxes) ≡ true = sym (walks-joins p has_moof h.kind (kinds_of boxes) joins allowed.moof) ∙ walk' in
           let less' = shorter h front box behind f.split f.one f.fits in
           let whole : (before ++ box) ++ behind ≡ before ++ front = append_assoc before box behind ∙ ap (λ (xs : List ℕ). before ++ xs) (sym f.split) in
           cut_at-joins h before box (behind ++ more) has_moof f.one good joins
@@ -73,7 +73,7 @@ walked zero before front has_moof p boxes less filled walk within more = absurd 
 walked (suc bound) before front has_moof p [] less filled walk within more = absurd (walks-none p has_moof walk)
 walked (suc bound) before front has_moof p (b ∷ boxes) less filled walk within more =
     walked_box bound before front has_moof p b boxes less walk within (first_box front b boxes filled)
-    (λ h box behind split less' filled' walk' within' more'. walked bound (before ++ box) behind (has_moof || h.kind == MOOF) p boxes (omega arith) filled' walk' within' more') more
+    (λ h box behind split less' filled' walk' within' more'. walked bound (before ++ box) behind (has_moof || h.kind == moof_type) p boxes (omega arith) filled' walk' within' more') more
 
 pub fills-boxes : (kinds_hold : List ℕ → Bool) (o : Option (List Child)) → fills kinds_hold o ≡ true → (boxes : List Child) × (o ≡ Some boxes) × (kinds_hold (kinds_of boxes) ≡ true)
 fills-boxes kinds_hold None is = absurd (cc)
@@ -93,23 +93,23 @@ whole_part p bytes boxes filled walk within =
     ∙ ap (λ (c : Cut). after_parts (part_like p bytes ∷ []) c) cut-empty
 
 -- just one unit: boxes that fill the text, of which only the last ends a part, within the limit
-pub unit_part : (bytes : List ℕ) → IsUnitPart bytes → (length bytes ≤ UNIT_LIMIT) × (fills has_unit (children bytes) ≡ true)
+pub unit_part : (bytes : List ℕ) → IsUnitPart bytes → (length bytes ≤ unit_limit) × (fills has_unit (children bytes) ≡ true)
 unit_part bytes is =
     let one = one_part (parts.Unit bytes) bytes is refl in
     (one.3, ap (fills has_unit) one.1 ∙ one.2)
 
-pub unit_whole : (bytes : List ℕ) → length bytes ≤ UNIT_LIMIT → fills has_unit (children bytes) ≡ true → IsUnitPart bytes
+pub unit_whole : (bytes : List ℕ) → length bytes ≤ unit_limit → fills has_unit (children bytes) ≡ true → IsUnitPart bytes
 unit_whole bytes within is =
     let one = fills-boxes has_unit (children bytes) is in
     whole_part (parts.Unit bytes) bytes one.0 one.1 one.2 within
 
 -- just one init section
-pub init_part : (bytes : List ℕ) → IsInitPart bytes → (length bytes ≤ INIT_LIMIT) × (fills ends_init (children bytes) ≡ true)
+pub init_part : (bytes : List ℕ) → IsInitPart bytes → (length bytes ≤ init_limit) × (fills ends_init (children bytes) ≡ true)
 init_part bytes is =
     let one = one_part (parts.Init bytes) bytes is refl in
     (one.3, ap (fills ends_init) one.1 ∙ one.2)
 
-pub init_whole : (bytes : List ℕ) → length bytes ≤ INIT_LIMIT → fills ends_init (children bytes) ≡ true → IsInitPart bytes
+pub init_whole : (bytes : List ℕ) → length bytes ≤ init_limit → fills ends_init (children bytes) ≡ true → IsInitPart bytes
 init_whole bytes within is =
     let one = fills-boxes ends_init (children bytes) is in
     whole_part (parts.Init bytes) bytes one.0 one.1 one.2 within
