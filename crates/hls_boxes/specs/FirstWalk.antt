@@ -1,4 +1,5 @@
 -- The walk to the end of the first part, in the code's terms.
+-- For the proofs of this crate; no public clause cites it.
 use Rattle.std.specs.Prelude.{◌≡◌, ℕ, ◌≤◌, Bool, List, length, take, drop}
 use Rattle.hls_boxes_laws.specs.Parts.{cut_at, cut_of}
 

@@ -1,4 +1,5 @@
 -- How far a buffer is cut, in the code's terms.
+-- For the proofs of this crate; no public clause cites it.
 use Rattle.std.specs.Prelude.{◌≡◌, ℕ, ◌+◌, ◌≤◌, Option, Some, None, List, [], ◌∷◌, ◌++◌, length, take, drop}
 use Rattle.std.specs.List.{flat_map}
 use Rattle.hls_boxes_laws.specs.declared.part.Part.{Part}
