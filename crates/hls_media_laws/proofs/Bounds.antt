@@ -1,25 +1,21 @@
 -- The bounds of every init section and of every unit.
-use Rattle.std.proofs.Common.{is_some, inl, inr, ◌⊎◌, unwrap_or, position, zero, suc, ◌≡◌, ℕ, ◌+◌, ◌*◌, ◌/◌, ◌^◌, ◌<◌, ◌≤◌, ◌==◌, nat_lt, nat_le, Bool, true, false, not, ◌||◌, cond, List, [], ◌∷◌, length, Option, Some, None, Result, Ok, Err, refl, sym, ◌∙◌, ap, subst, arith, filter, option_map, option_and_then, pos}
+use Rattle.std.proofs.Common.{is_some, inl, inr, ◌⊎◌, unwrap_or, position, zero, suc, ◌≡◌, ℕ, ◌+◌, ◌*◌, ◌/◌, ◌^◌, ◌<◌, ◌≤◌, ◌==◌, nat_lt, nat_le, Bool, true, false, cond, List, [], ◌∷◌, length, Option, Some, None, Ok, refl, sym, ◌∙◌, ap, subst, arith, option_and_then}
 use Rattle.std.proofs.lemmas.Bool.{cases_Bool, or_parts, ltb-false, leb-false, eqb-false}
 use Rattle.hls_time.specs.Times.{floor_us}
 use Rattle.hls_boxes_laws.specs.Boxes.{children, Child}
 use Rattle.hls_media_laws.specs.declared.track.Track.{Track}
 use Rattle.hls_media_laws.specs.declared.facts.Facts.{Facts}
-use Rattle.hls_media_laws.specs.declared.fault.MediaFault.{MediaFault}
-use Rattle.hls_media_laws.specs.declared.fault.MediaFault.TheVariants as faults
 use Rattle.hls_media_laws.specs.InitData.{InitData, timing_track}
-use Rattle.hls_media_laws.specs.Layout.{Layout, layout_of, layout_by, moov_of, moov_by}
-use Rattle.hls_media_laws.specs.Inits.{init_of, init_by, tracks_of, with_timing}
-use Rattle.hls_boxes_laws.specs.declared.kinds.TheConstants.{INIT_LIMIT, UNIT_LIMIT}
-use Rattle.hls_media_laws.specs.declared.kinds.TheConstants.{MOST_TRACKS}
+use Rattle.hls_media_laws.specs.Layout.{layout_of, layout_by, moov_of, moov_by}
+use Rattle.hls_media_laws.specs.Inits.{init_of, init_by, init_causes, tracks_of, with_timing}
+use Rattle.hls_boxes_laws.specs.Kinds.{init_limit, unit_limit}
 use Rattle.hls_boxes_laws.proofs.Walk.{children-empty}
-use Rattle.hls_media_laws.specs.Trafs.{Traf, trafs_of}
-use Rattle.hls_media_laws.specs.TrafFacts.{Given, duration_for, flags_for, lacks_defaults, some_outside, ended, started, timed, facts_from, is_timing, is_unknown, has_base_offset}
-use Rattle.hls_media_laws.specs.UnitFacts.{facts, facts_at, facts_of_moof, facts_by, given_by}
+use Rattle.hls_media_laws.specs.Trafs.{Traf}
+use Rattle.hls_media_laws.specs.TrafFacts.{Given, duration_for, flags_for}
+use Rattle.hls_media_laws.specs.UnitFacts.{first_tick, last_tick, last_us, is_empty, is_too_large, facts_said}
+use Rattle.hls_media_laws.proofs.Causes.{NoneThere, unless-ok, facts-said}
 use Rattle.hls_media_laws.specs.Meaning.{IsUnit, IsInit, UnitsAreBounded, InitsAreBounded}
-use Rattle.hls_media_laws.specs.Fields.{decode_time}
-use Rattle.hls_media_laws.specs.Runs.{duration_in, has_samples, flags_in, is_sync}
-use Rattle.std.specs.List.{list_any}
+use Rattle.hls_media_laws.specs.Runs.{duration_in, flags_in, is_sync}
 use Rattle.std.proofs.Math.Nat.{div-mul-le_self, div-zero}
 use Rattle.std.proofs.lemmas.Nat.{le-div}
 use Rattle.std.proofs.lemmas.List.Quantifiers.{position-Some}
@@ -34,13 +30,8 @@ record Timely (f : Facts) (len : ℕ) : Type 0 where
   end_us_is : f.end_us ≡ floor_us (f.start + f.duration) f.scale
   some_scale : 0 < f.scale
 
--- one test less
-past : {A E : Type 0} (b : Bool) (e : E) (r : Result A E) (x : A) → cond b (Err e) r ≡ Ok x → (b ≡ false) × (r ≡ Ok x)
-past true e r x h = cc
-past false e r x h = (refl, h)
-
 -- an end is not before its start
-floor_us-grows : (a b k : ℕ) → 0 < k → a ≤ b → floor_us a k ≤ floor_us b k
+pub floor_us-grows : (a b k : ℕ) → 0 < k → a ≤ b → floor_us a k ≤ floor_us b k
 floor_us-grows a b k some le =
     le-div (a * 1000000 / k) (b * 1000000) k some (omega (arith, div-mul-le_self (a * 1000000) k))
 
@@ -55,49 +46,16 @@ built start duration scale len sync differ fits fits_us =
     let le : floor_us start scale ≤ floor_us (start + duration) scale = floor_us-grows start (start + duration) scale some (omega arith) in
     record { some_time = omega (arith, le, differ); end_fits = fits; end_us_fits = fits_us; len_is = refl; start_us_is = refl; end_us_is = refl; some_scale = some }
 
-ended_timely : (k : Track) (len start duration : ℕ) (samples : Bool) (flags : Option ℕ) (outside : Bool) (f : Facts) → ended k len start duration samples flags outside ≡ Ok f → Timely f len
-ended_timely k len start duration samples flags outside f h =
-    let S : ℕ = floor_us start k.scale in
-    let E : ℕ = floor_us (start + duration) k.scale in
-    let late : Result Facts MediaFault = cond outside (Err faults.DataOutside) (Ok (record { start = start; duration = duration; scale = k.scale; start_us = S; end_us = E; sync = is_sync flags; len = len })) in
-    let one : ((not samples || (S == E)) ≡ false) × (cond (nat_le (2 ^ 64) (start + duration) || nat_le (2 ^ 53) E) (Err faults.TimeTooLarge) late ≡ Ok f) = past _ faults.EmptyFragment _ f h in
-    let two : ((nat_le (2 ^ 64) (start + duration) || nat_le (2 ^ 53) E) ≡ false) × (late ≡ Ok f) = past _ faults.TimeTooLarge late f one.1 in
-    let three : (outside ≡ false) × (Ok (record { start = start; duration = duration; scale = k.scale; start_us = S; end_us = E; sync = is_sync flags; len = len }) ≡ Ok f) = past outside faults.DataOutside _ f two.1 in
-    let fits : (nat_le (2 ^ 64) (start + duration) ≡ false) × (nat_le (2 ^ 53) E ≡ false) = or_parts _ _ two.0 in
-    let is_f : (record { start = start; duration = duration; scale = k.scale; start_us = S; end_us = E; sync = is_sync flags; len = len }) ≡ f = cc in
-    subst (λ (x : Facts). Timely x len) is_f (built start duration k.scale len (is_sync flags) (eqb-false S E (or_parts _ _ one.0).1) (leb-false _ _ fits.0) (leb-false _ _ fits.1))
-
-started_timely : (g : Given) (len : ℕ) (ts : List Traf) (t : Traf) (start : Option ℕ) (f : Facts) → started g len ts t start ≡ Ok f → Timely f len
-started_timely g len ts t None f h = cc
-started_timely g len ts t (Some start) f h =
-    ended_timely g.timing len start (duration_in (duration_for g t) t.runs) (has_samples t.runs) (flags_in (flags_for g t) t.runs) (some_outside g (pos 0) ts) f
-    (past (lacks_defaults g ts t) faults.NoDefault _ f h).1
-
-timed_timely : (g : Given) (len : ℕ) (ts chosen : List Traf) (f : Facts) → timed g len ts chosen ≡ Ok f → Timely f len
-timed_timely g len ts [] f h = cc
-timed_timely g len ts (t ∷ []) f h = started_timely g len ts t (option_map decode_time t.time) f h
-timed_timely g len ts (t ∷ u ∷ more) f h = cc
-
-from_timely : (g : Given) (len : ℕ) (ts : List Traf) (f : Facts) → facts_from g len ts ≡ Ok f → Timely f len
-unfolding facts_from
-from_timely g len ts f h =
-    timed_timely g len ts (filter (is_timing g) ts) f (past (list_any has_base_offset ts) faults.BaseOffset _ f (past (list_any (is_unknown g) ts) faults.UnknownTrack _ f h).1).1
-
-by_timely : (g : Given) (len : ℕ) (ts : Option (List Traf)) (f : Facts) → facts_by g len ts ≡ Ok f → Timely f len
-by_timely g len None f h = cc
-by_timely g len (Some ts) f h = from_timely g len ts f h
-
-moof_timely : (g : Given) (len : ℕ) (moof : List ℕ) (f : Facts) → facts_of_moof g len moof ≡ Ok f → Timely f len
-unfolding facts_of_moof
-moof_timely g len moof f h = by_timely g len (trafs_of moof) f h
-
-at_timely : (init : InitData) (len : ℕ) (u : Option Layout) (f : Facts) → facts_at init len u ≡ Ok f → Timely f len × (is_some u ≡ true)
-at_timely init len None f h = cc
-at_timely init len (Some u) f h = (moof_timely (given_by init u) len u.moof f h, refl)
+said_timely : (g : Given) (t : Traf) (len : ℕ) → is_empty g t ≡ false → is_too_large g t ≡ false → Timely (facts_said g len t) len
+said_timely g t len lasts fits =
+    let differ : floor_us (first_tick t) g.timing.scale ≡ floor_us (last_tick g t) g.timing.scale → ⊥ = eqb-false _ _ (or_parts _ _ lasts).1 in
+    let below : (nat_le (2 ^ 64) (last_tick g t) ≡ false) × (nat_le (2 ^ 53) (last_us g t) ≡ false) = or_parts _ _ fits in
+    built (first_tick t) (duration_in (duration_for g t) t.runs) g.timing.scale len (is_sync (flags_in (flags_for g t) t.runs)) differ (leb-false _ _ below.0) (leb-false _ _ below.1)
 
 facts_timely : (init : InitData) (bytes : List ℕ) (f : Facts) → IsUnit init bytes f → Timely f (length bytes) × (is_some (layout_of bytes) ≡ true)
-unfolding facts
-facts_timely init bytes f h = at_timely init (length bytes) (layout_of bytes) f h
+facts_timely init bytes f h =
+    let s = facts-said init bytes f h in
+    (subst (λ (x : Facts). Timely x (length bytes)) s.is (said_timely s.given s.traf (length bytes) s.lasts s.fits), s.layout)
 
 -- a unit has bytes, and not too many
 bytes_left : {A : Type 0} (bytes : List ℕ) (f : List Child → Option A) → f [] ≡ None → is_some (option_and_then f (children bytes)) ≡ true → 0 < length bytes
@@ -111,22 +69,22 @@ within_by limit len o (inr e) h = (ltb-false limit len e, rw e at h)
 within : {A : Type 0} (limit len : ℕ) (o : Option A) → is_some (cond (nat_lt limit len) None o) ≡ true → (len ≤ limit) × (is_some o ≡ true)
 within limit len o h = within_by limit len o (cases_Bool (nat_lt limit len)) h
 
-unit_len : (bytes : List ℕ) → is_some (layout_of bytes) ≡ true → (length bytes ≤ UNIT_LIMIT) × (0 < length bytes)
+unit_len : (bytes : List ℕ) → is_some (layout_of bytes) ≡ true → (length bytes ≤ unit_limit) × (0 < length bytes)
 unfolding layout_of
 unit_len bytes h =
-    let w : (length bytes ≤ UNIT_LIMIT) × (is_some (option_and_then layout_by (children bytes)) ≡ true) = within UNIT_LIMIT (length bytes) (option_and_then layout_by (children bytes)) h in
+    let w : (length bytes ≤ unit_limit) × (is_some (option_and_then layout_by (children bytes)) ≡ true) = within unit_limit (length bytes) (option_and_then layout_by (children bytes)) h in
     (w.0, bytes_left bytes layout_by refl w.1)
 
-init_len : (bytes : List ℕ) → is_some (moov_of bytes) ≡ true → (length bytes ≤ INIT_LIMIT) × (0 < length bytes)
+init_len : (bytes : List ℕ) → is_some (moov_of bytes) ≡ true → (length bytes ≤ init_limit) × (0 < length bytes)
 unfolding moov_of
 init_len bytes h =
-    let w : (length bytes ≤ INIT_LIMIT) × (is_some (option_and_then moov_by (children bytes)) ≡ true) = within INIT_LIMIT (length bytes) (option_and_then moov_by (children bytes)) h in
+    let w : (length bytes ≤ init_limit) × (is_some (option_and_then moov_by (children bytes)) ≡ true) = within init_limit (length bytes) (option_and_then moov_by (children bytes)) h in
     (w.0, bytes_left bytes moov_by refl w.1)
 
 pub units_are_bounded : UnitsAreBounded
 units_are_bounded init bytes f h =
     let t : Timely f (length bytes) × (is_some (layout_of bytes) ≡ true) = facts_timely init bytes f h in
-    let l : (length bytes ≤ UNIT_LIMIT) × (0 < length bytes) = unit_len bytes t.1 in
+    let l : (length bytes ≤ unit_limit) × (0 < length bytes) = unit_len bytes t.1 in
     record {
       some_time = t.0.some_time;
       end_fits = t.0.end_fits;
@@ -161,15 +119,9 @@ above_zero n e = let differ : n ≡ 0 → ⊥ = eqb-false n 0 e in omega (arith,
 
 known : (tracks : List Track) (init : InitData) → init_by (Some tracks) ≡ Ok init → Known init
 known tracks init h =
-    let made : InitData = with_timing tracks in
-    let ok : Result InitData MediaFault = Ok made in
-    let last : Result InitData MediaFault = cond ((timing_track made).scale == 0) (Err faults.ZeroScale) ok in
-    let one : ((length tracks == 0) ≡ false) × (cond (nat_lt MOST_TRACKS (length tracks)) (Err faults.TooManyTracks) last ≡ Ok init) = past _ faults.NoTrack _ init h in
-    let two : (nat_lt MOST_TRACKS (length tracks) ≡ false) × (last ≡ Ok init) = past _ faults.TooManyTracks last init one.1 in
-    let three : (((timing_track made).scale == 0) ≡ false) × (ok ≡ Ok init) = past _ faults.ZeroScale ok init two.1 in
-    let is_init : made ≡ init = cc in
-    let some : 0 < length tracks = above_zero (length tracks) one.0 in
-    subst Known is_init (record { some_track = some; most_tracks = ltb-false _ _ two.0; in_range = position-below _ tracks some; some_scale = above_zero _ three.0 })
+    let ok : NoneThere (init_causes (Some tracks) tracks) × (with_timing tracks ≡ init) = unless-ok (init_causes (Some tracks) tracks) (with_timing tracks) init h in
+    let some : 0 < length tracks = above_zero (length tracks) ok.0.1.0 in
+    subst Known ok.1 (record { some_track = some; most_tracks = ltb-false _ _ ok.0.1.1.0; in_range = position-below _ tracks some; some_scale = above_zero _ ok.0.1.1.1.0 })
 
 tracks_known : (tracks : Option (List Track)) (init : InitData) → init_by tracks ≡ Ok init → Known init
 tracks_known None init h = cc
@@ -186,7 +138,7 @@ init_known bytes init h = read_known bytes (moov_of bytes) init h
 pub inits_are_bounded : InitsAreBounded
 inits_are_bounded bytes init h =
     let k : Known init × (is_some (moov_of bytes) ≡ true) = init_known bytes init h in
-    let l : (length bytes ≤ INIT_LIMIT) × (0 < length bytes) = init_len bytes k.1 in
+    let l : (length bytes ≤ init_limit) × (0 < length bytes) = init_len bytes k.1 in
     record {
       some_bytes = l.1;
       len_limit = l.0;

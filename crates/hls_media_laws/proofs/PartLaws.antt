@@ -1,9 +1,9 @@
 -- The bytes that have a layout, or a `moov`, are just those of which the stream cut makes one part.
 use Rattle.std.proofs.Common.{◌≡◌, ℕ, ◌+◌, ◌≤◌, ◌==◌, nat_lt, Bool, true, false, cond, List, [], ◌∷◌, length, Option, Some, None, is_some, option_and_then, refl, sym, ◌∙◌, ap, inl, inr}
 use Rattle.std.proofs.lemmas.Bool.{cases_Bool, eqb-true, ltb-false, le-ltb}
-use Rattle.hls_boxes_laws.specs.declared.kinds.TheConstants.{MOOV, MOOF, MDAT, INIT_LIMIT, UNIT_LIMIT}
+use Rattle.hls_boxes_laws.specs.Kinds.{moov_type, moof_type, mdat_type, init_limit, unit_limit}
 use Rattle.hls_boxes_laws.specs.Boxes.{Child, children, kinds_of}
-use Rattle.hls_boxes_laws.specs.Grammar.{is_last, ends_init, ends_unit, has_unit, fills}
+use Rattle.hls_boxes_laws.proofs.KindTests.{is_last, ends_init, ends_unit, has_unit, fills}
 use Rattle.hls_boxes_laws.proofs.WholeLaws.{unit_part, unit_whole, init_part, init_whole}
 use Rattle.hls_media_laws.specs.Layout.{layout_of, layout_by, with_mdat, last_box, size_of_box, moov_of, moov_by, last_moov, UnitsAreParts, InitsAreParts}
 
@@ -17,11 +17,11 @@ last-mdat moof at b (c ∷ cs) = refl
 with_mdat-kinds : (moof : List ℕ) (at : ℕ) (bs : List Child) → is_some (with_mdat moof at bs) ≡ ends_unit (kinds_of bs)
 with_mdat-kinds moof at [] = refl
 with_mdat-kinds moof at (b ∷ bs) =
-    elim (cases_Bool (b.kind == MDAT)) [
+    elim (cases_Bool (b.kind == mdat_type)) [
       | inl e ↦ rw e (last-mdat moof at b bs)
-      | inr d ↦ elim (cases_Bool (b.kind == MOOF)) [
-        | inl e ↦ let v : (b.kind == MOOV) ≡ false = other b.kind MOOF MOOV e refl in rw (d, e, v) refl
-        | inr f ↦ elim (cases_Bool (b.kind == MOOV)) [
+      | inr d ↦ elim (cases_Bool (b.kind == moof_type)) [
+        | inl e ↦ let v : (b.kind == moov_type) ≡ false = other b.kind moof_type moov_type e refl in rw (d, e, v) refl
+        | inr f ↦ elim (cases_Bool (b.kind == moov_type)) [
           | inl e ↦ rw (d, f, e) refl
           | inr v ↦ rw (d, f, v) (with_mdat-kinds moof (at + size_of_box b) bs)
         ]
@@ -31,11 +31,11 @@ with_mdat-kinds moof at (b ∷ bs) =
 layout_by-kinds : (bs : List Child) → is_some (layout_by bs) ≡ has_unit (kinds_of bs)
 layout_by-kinds [] = refl
 layout_by-kinds (b ∷ bs) =
-    elim (cases_Bool (b.kind == MOOF)) [
+    elim (cases_Bool (b.kind == moof_type)) [
       | inl e ↦ rw e (with_mdat-kinds b.content (size_of_box b) bs)
-      | inr f ↦ elim (cases_Bool (b.kind == MDAT)) [
-        | inl e ↦ let v : (b.kind == MOOV) ≡ false = other b.kind MDAT MOOV e refl in rw (f, e, v) refl
-        | inr d ↦ elim (cases_Bool (b.kind == MOOV)) [
+      | inr f ↦ elim (cases_Bool (b.kind == mdat_type)) [
+        | inl e ↦ let v : (b.kind == moov_type) ≡ false = other b.kind mdat_type moov_type e refl in rw (f, e, v) refl
+        | inr d ↦ elim (cases_Bool (b.kind == moov_type)) [
           | inl e ↦ rw (f, d, e) refl
           | inr v ↦ rw (f, d, v) (layout_by-kinds bs)
         ]
@@ -49,11 +49,11 @@ last-moov moov (b ∷ bs) = refl
 moov_by-kinds : (bs : List Child) → is_some (moov_by bs) ≡ ends_init (kinds_of bs)
 moov_by-kinds [] = refl
 moov_by-kinds (b ∷ bs) =
-    elim (cases_Bool (b.kind == MOOV)) [
+    elim (cases_Bool (b.kind == moov_type)) [
       | inl e ↦ rw e (last-moov b.content bs)
-      | inr v ↦ elim (cases_Bool (b.kind == MDAT)) [
-        | inl e ↦ let f : (b.kind == MOOF) ≡ false = other b.kind MDAT MOOF e refl in rw (v, e, f) refl
-        | inr d ↦ elim (cases_Bool (b.kind == MOOF)) [
+      | inr v ↦ elim (cases_Bool (b.kind == mdat_type)) [
+        | inl e ↦ let f : (b.kind == moof_type) ≡ false = other b.kind mdat_type moof_type e refl in rw (v, e, f) refl
+        | inr d ↦ elim (cases_Bool (b.kind == moof_type)) [
           | inl e ↦ rw (v, d, e) refl
           | inr f ↦ rw (v, d, f) (moov_by-kinds bs)
         ]
@@ -73,20 +73,20 @@ pub units_are_parts : UnitsAreParts
 unfolding layout_of
 units_are_parts bytes = (
   λ some.
-      let w : (length bytes ≤ UNIT_LIMIT) × (is_some (option_and_then layout_by (children bytes)) ≡ true) = within_by UNIT_LIMIT (length bytes) (option_and_then layout_by (children bytes)) (nat_lt UNIT_LIMIT (length bytes)) refl some in
+      let w : (length bytes ≤ unit_limit) × (is_some (option_and_then layout_by (children bytes)) ≡ true) = within_by unit_limit (length bytes) (option_and_then layout_by (children bytes)) (nat_lt unit_limit (length bytes)) refl some in
       unit_whole bytes w.0 (sym (filled layout_by has_unit layout_by-kinds (children bytes)) ∙ w.1),
   λ part.
-      let p : (length bytes ≤ UNIT_LIMIT) × (fills has_unit (children bytes) ≡ true) = unit_part bytes part in
-      rw (le-ltb UNIT_LIMIT (length bytes) p.0) (filled layout_by has_unit layout_by-kinds (children bytes) ∙ p.1),
+      let p : (length bytes ≤ unit_limit) × (fills has_unit (children bytes) ≡ true) = unit_part bytes part in
+      rw (le-ltb unit_limit (length bytes) p.0) (filled layout_by has_unit layout_by-kinds (children bytes) ∙ p.1),
 )
 
 pub inits_are_parts : InitsAreParts
 unfolding moov_of
 inits_are_parts bytes = (
   λ some.
-      let w : (length bytes ≤ INIT_LIMIT) × (is_some (option_and_then moov_by (children bytes)) ≡ true) = within_by INIT_LIMIT (length bytes) (option_and_then moov_by (children bytes)) (nat_lt INIT_LIMIT (length bytes)) refl some in
+      let w : (length bytes ≤ init_limit) × (is_some (option_and_then moov_by (children bytes)) ≡ true) = within_by init_limit (length bytes) (option_and_then moov_by (children bytes)) (nat_lt init_limit (length bytes)) refl some in
       init_whole bytes w.0 (sym (filled moov_by ends_init moov_by-kinds (children bytes)) ∙ w.1),
   λ part.
-      let p : (length bytes ≤ INIT_LIMIT) × (fills ends_init (children bytes) ≡ true) = init_part bytes part in
-      rw (le-ltb INIT_LIMIT (length bytes) p.0) (filled moov_by ends_init moov_by-kinds (children bytes) ∙ p.1),
+      let p : (length bytes ≤ init_limit) × (fills ends_init (children bytes) ≡ true) = init_part bytes part in
+      rw (le-ltb init_limit (length bytes) p.0) (filled moov_by ends_init moov_by-kinds (children bytes) ∙ p.1),
 )

@@ -1,3 +1,5 @@
+//! Why bytes are refused.
+
 ghost use Rattle.std.specs.Prelude.{◌≡◌};
 ghost use Rattle.hls_media_laws.specs.FaultName.{name_of};
 
