@@ -3,7 +3,7 @@ use Rattle.std.proofs.Common.{slice_index_or, slice_get, subst, not, is_some, is
 use Rattle.std.specs.List.{list_all}
 use Rattle.std.proofs.lemmas.Bool.{cases_Bool, and_parts}
 use Rattle.hls_boxes_laws.specs.Boxes.{Child, children, named}
-use Rattle.hls_media_laws.specs.declared.kinds.TheConstants.{TFHD, TFDT, TRUN}
+use Rattle.hls_media_laws.specs.Kinds.{tfhd_type, tfdt_type, trun_type}
 use Rattle.hls_media_laws.specs.Fields.{run_fits, track_of, default_duration, default_size, default_flags, decode_time}
 use Rattle.hls_media_laws.specs.Trafs.{Traf, is_traf, traf_from, traf_by, traf_at}
 use Rattle.hls_media.specs.declared.trafs.Heading.{Heading}
@@ -26,8 +26,8 @@ use Rattle.hls_media.specs.Timed.{timed_more, timed_by, timed_step, no_samples}
 record Good (content : List ℕ) (t : Traf) : Type 0 where
   boxes : List Child
   filled : children content ≡ Some boxes
-  runs_are : t.runs ≡ named TRUN boxes
-  fit : list_all run_fits (named TRUN boxes) ≡ true
+  runs_are : t.runs ≡ named trun_type boxes
+  fit : list_all run_fits (named trun_type boxes) ≡ true
 
 from_test : (heads times runs : List (List ℕ)) (t : Traf) (good : Bool) → is_traf heads times runs ≡ good → cond good (Some (record { head = slice_index_or heads 0 []; time = slice_get times 0; runs = runs })) None ≡ Some t → (t.runs ≡ runs) × (list_all run_fits runs ≡ true)
 from_test heads times runs t false e is = absurd (cc)
@@ -41,7 +41,7 @@ from_lists heads times runs t is = from_test heads times runs t (is_traf heads t
 by_boxes : (content : List ℕ) (t : Traf) (boxes : Option (List Child)) → children content ≡ boxes → option_and_then traf_by boxes ≡ Some t → Good content t
 by_boxes content t None filled is = absurd (cc)
 by_boxes content t (Some boxes) filled is =
-    let lists : (t.runs ≡ named TRUN boxes) × (list_all run_fits (named TRUN boxes) ≡ true) = from_lists (named TFHD boxes) (named TFDT boxes) (named TRUN boxes) t is in
+    let lists : (t.runs ≡ named trun_type boxes) × (list_all run_fits (named trun_type boxes) ≡ true) = from_lists (named tfhd_type boxes) (named tfdt_type boxes) (named trun_type boxes) t is in
     record { boxes = boxes; filled = filled; runs_are = lists.0; fit = lists.1 }
 
 good : (content : List ℕ) (t : Traf) → traf_at content ≡ Some t → Good content t
@@ -50,27 +50,27 @@ good content t is = by_boxes content t (children content) refl is
 
 module _ {S : Type 0} (by : S → List ℕ → Option S) (more : S → List ℕ → S) (good_run : (s : S) (r : List ℕ) → run_fits r ≡ true → by s r ≡ Some (more s r)) where
   abbrev step : S → Child → Option S
-  step s c = cond (c.kind == TRUN) (by s c.content) (Some s)
+  step s c = cond (c.kind == trun_type) (by s c.content) (Some s)
 
   abbrev goes : List Child → Option S → Option S
   goes cs next = option_and_then (λ (s : S). along step Some s cs) next
 
-  one_run : (c : Child) (cs : List Child) (s : S) (fits : Bool) → run_fits c.content ≡ fits → (fits && list_all run_fits (named TRUN cs)) ≡ true
-      → ((s : S) → list_all run_fits (named TRUN cs) ≡ true → along step Some s cs ≡ Some (fold more s (named TRUN cs)))
-      → goes cs (by s c.content) ≡ Some (fold more (more s c.content) (named TRUN cs))
+  one_run : (c : Child) (cs : List Child) (s : S) (fits : Bool) → run_fits c.content ≡ fits → (fits && list_all run_fits (named trun_type cs)) ≡ true
+      → ((s : S) → list_all run_fits (named trun_type cs) ≡ true → along step Some s cs ≡ Some (fold more s (named trun_type cs)))
+      → goes cs (by s c.content) ≡ Some (fold more (more s c.content) (named trun_type cs))
   one_run c cs s false e fit ih = absurd (cc)
   one_run c cs s true e fit ih = ap (goes cs) (good_run s c.content e) ∙ ih (more s c.content) fit
 
-  along-runs : (cs : List Child) (s : S) → list_all run_fits (named TRUN cs) ≡ true → along step Some s cs ≡ Some (fold more s (named TRUN cs))
+  along-runs : (cs : List Child) (s : S) → list_all run_fits (named trun_type cs) ≡ true → along step Some s cs ≡ Some (fold more s (named trun_type cs))
   unfolding along
   along-runs [] s fit = refl
   along-runs (c ∷ cs) s fit =
-      elim (cases_Bool (c.kind == TRUN)) [
+      elim (cases_Bool (c.kind == trun_type)) [
         | inl e ↦
-            let fits : (run_fits c.content && list_all run_fits (named TRUN cs)) ≡ true = rw e at fit in
+            let fits : (run_fits c.content && list_all run_fits (named trun_type cs)) ≡ true = rw e at fit in
             rw e (one_run c cs s (run_fits c.content) refl fits (along-runs cs))
         | inr e ↦
-            let fits : list_all run_fits (named TRUN cs) ≡ true = rw e at fit in
+            let fits : list_all run_fits (named trun_type cs) ≡ true = rw e at fit in
             rw e (along-runs cs s fits)
       ]
 

@@ -5,16 +5,16 @@ use Rattle.std.proofs.lemmas.Bool.{cases_Bool}
 use Rattle.std.proofs.Math.Bool.{or_assoc, or-false}
 use Rattle.std.proofs.lemmas.List.Sums.{sum_by-cons}
 use Rattle.hls_boxes_laws.specs.Boxes.{Child, children, named}
-use Rattle.hls_media_laws.specs.declared.kinds.TheConstants.{TRAF}
+use Rattle.hls_media_laws.specs.Kinds.{traf_type}
 use Rattle.hls_media_laws.specs.declared.facts.Facts.{Facts}
 use Rattle.hls_media_laws.specs.declared.fault.MediaFault.{MediaFault}
 use Rattle.hls_media_laws.specs.declared.fault.MediaFault.TheVariants as faults
 use Rattle.hls_media_laws.specs.Lists.{all_of}
 use Rattle.hls_media_laws.specs.Fields.{count_of, durations, sizes, total, lacks, decode_time}
-use Rattle.hls_media_laws.specs.Runs.{duration_in, lacks_duration, lacks_size, has_samples, flags_in, run_begin, runs_end, run_end, is_outside, some_run_outside}
+use Rattle.hls_media_laws.specs.Runs.{duration_in, lacks_duration, lacks_size, has_samples, flags_in, run_begin, is_outside}
 use Rattle.hls_media_laws.specs.Trafs.{Traf, traf_at, trafs_of}
-use Rattle.hls_media_laws.specs.TrafFacts.{Given, is_unknown, has_base_offset, is_timing, size_for, duration_for, flags_for, lacks_sizes, base_of, traf_end, some_outside, started, timed, facts_from}
-use Rattle.hls_media_laws.specs.UnitFacts.{facts_by, facts_of_moof}
+use Rattle.hls_media_laws.specs.TrafFacts.{Given, is_unknown, has_base_offset, is_timing, size_for, duration_for, flags_for, lacks_sizes, base_of}
+use Rattle.hls_media_laws.specs.FactCases.{runs_end, run_end, some_run_outside, traf_end, some_outside, started, timed, facts_from, facts_by, facts_of_moof}
 use Rattle.hls_media.specs.declared.places.Frame.{Frame}
 use Rattle.hls_media.specs.declared.places.Placed.{Placed}
 use Rattle.hls_media.specs.declared.times.Timed.{Timed}
@@ -156,17 +156,17 @@ module _ (g : Given) where
   mapped s t (Some ts) = refl
 
   one_traf : (s : Tally) (cs : List Child) (t : Option Traf)
-      → ((s : Tally) → along (tally_step g) Some s cs ≡ option_map (fold (tally_more g) s) (all_of traf_at (named TRAF cs)))
+      → ((s : Tally) → along (tally_step g) Some s cs ≡ option_map (fold (tally_more g) s) (all_of traf_at (named traf_type cs)))
       → option_and_then (λ (s : Tally). along (tally_step g) Some s cs) (option_map (tally_more g s) t)
-      ≡ option_map (fold (tally_more g) s) (option_and_then (λ (y : Traf). option_map (λ (ys : List Traf). y ∷ ys) (all_of traf_at (named TRAF cs))) t)
+      ≡ option_map (fold (tally_more g) s) (option_and_then (λ (y : Traf). option_map (λ (ys : List Traf). y ∷ ys) (all_of traf_at (named traf_type cs))) t)
   one_traf s cs None ih = refl
-  one_traf s cs (Some t) ih = ih (tally_more g s t) ∙ mapped s t (all_of traf_at (named TRAF cs))
+  one_traf s cs (Some t) ih = ih (tally_more g s t) ∙ mapped s t (all_of traf_at (named traf_type cs))
 
-  along-tally : (cs : List Child) (s : Tally) → along (tally_step g) Some s cs ≡ option_map (fold (tally_more g) s) (all_of traf_at (named TRAF cs))
+  along-tally : (cs : List Child) (s : Tally) → along (tally_step g) Some s cs ≡ option_map (fold (tally_more g) s) (all_of traf_at (named traf_type cs))
   unfolding along
   along-tally [] s = refl
   along-tally (c ∷ cs) s =
-      elim (cases_Bool (c.kind == TRAF)) [
+      elim (cases_Bool (c.kind == traf_type)) [
         | inl e ↦ rw e (one_traf s cs (traf_at c.content) (along-tally cs))
         | inr e ↦ rw e (along-tally cs s)
       ]
@@ -175,9 +175,9 @@ module _ (g : Given) where
   by_trafs len None = refl
   by_trafs len (Some ts) = verdict-facts len ts
 
-  by_boxes : (len : ℕ) (boxes : Option (List Child)) → judged g.timing len (option_and_then (along (tally_step g) Some empty) boxes) ≡ facts_by g len (option_and_then (λ (cs : List Child). all_of traf_at (named TRAF cs)) boxes)
+  by_boxes : (len : ℕ) (boxes : Option (List Child)) → judged g.timing len (option_and_then (along (tally_step g) Some empty) boxes) ≡ facts_by g len (option_and_then (λ (cs : List Child). all_of traf_at (named traf_type cs)) boxes)
   by_boxes len None = refl
-  by_boxes len (Some cs) = ap (judged g.timing len) (along-tally cs empty) ∙ by_trafs len (all_of traf_at (named TRAF cs))
+  by_boxes len (Some cs) = ap (judged g.timing len) (along-tally cs empty) ∙ by_trafs len (all_of traf_at (named traf_type cs))
 
   pub judged-facts : (len : ℕ) (moof : List ℕ) → judged g.timing len (over (tally_step g) Some empty moof) ≡ facts_of_moof g len moof
   unfolding over facts_of_moof trafs_of

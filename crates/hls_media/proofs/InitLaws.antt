@@ -1,6 +1,6 @@
 -- What walks over an `mdia` and a `trak` come to.
 use Rattle.std.proofs.Common.{◌≡◌, ℕ, List, Option, Some, None, refl}
-use Rattle.hls_media_laws.specs.declared.kinds.TheConstants.{MDHD, HDLR, TKHD, MDIA}
+use Rattle.hls_media_laws.specs.Kinds.{mdhd_type, hdlr_type, tkhd_type, mdia_type}
 use Rattle.hls_media_laws.specs.declared.track.Media.{Media}
 use Rattle.hls_media_laws.specs.Inits.{versioned_field, handler_field, media_from, media_of, track_from, track_at}
 use Rattle.hls_media.specs.Folds.{over}
@@ -21,10 +21,10 @@ no_media : (id : Option ℕ) → track_from id None ≡ None
 no_media None = refl
 no_media (Some i) = refl
 
-pub over-media_of : (content : List ℕ) → over (first_step versioned_field handler_field MDHD HDLR) (both media_from) (None, None) content ≡ media_of content
+pub over-media_of : (content : List ℕ) → over (first_step versioned_field handler_field mdhd_type hdlr_type) (both media_from) (None, None) content ≡ media_of content
 unfolding media_of
-over-media_of content = over-firsts versioned_field handler_field MDHD HDLR media_from refl no_scale no_handler content
+over-media_of content = over-firsts versioned_field handler_field mdhd_type hdlr_type media_from refl no_scale no_handler content
 
-pub over-track_at : (content : List ℕ) → over (first_step versioned_field media_of TKHD MDIA) (both track_from) (None, None) content ≡ track_at content
+pub over-track_at : (content : List ℕ) → over (first_step versioned_field media_of tkhd_type mdia_type) (both track_from) (None, None) content ≡ track_at content
 unfolding track_at
-over-track_at content = over-firsts versioned_field media_of TKHD MDIA track_from refl no_id no_media content
+over-track_at content = over-firsts versioned_field media_of tkhd_type mdia_type track_from refl no_id no_media content

@@ -1,7 +1,7 @@
 -- An init section from the tracks of its `moov`.
 use Rattle.std.proofs.Common.{◌≡◌, ℕ, ◌<◌, ◌≤◌, ◌==◌, nat_lt, true, false, List, length, Option, Some, None, option_and_then, Err, refl, sym, ◌∙◌, ap, arith}
 use Rattle.std.proofs.lemmas.Bool.{lt-ltb, eq-eqb, ne_eqb}
-use Rattle.hls_media_laws.specs.declared.kinds.TheConstants.{MOST_TRACKS}
+use Rattle.hls_media_laws.specs.Kinds.{most_tracks}
 use Rattle.hls_media_laws.specs.declared.track.Track.{Track}
 use Rattle.hls_media_laws.specs.declared.fault.MediaFault.TheVariants as faults
 use Rattle.hls_media_laws.specs.Layout.{moov_of}
@@ -30,23 +30,23 @@ empty (Some ts) ids tracks are none = let e : (length ts == 0) ≡ true = eq-eqb
 pub init-empty : (bytes moov ids : List ℕ) (tracks : List Track) → Some moov ≡ moov_of bytes → AreTracks true (tracks_of moov) ids tracks → length ids ≡ 0 → init_of bytes ≡ Err faults.NoTrack
 init-empty bytes moov ids tracks some are none = init-moov bytes moov some ∙ empty (tracks_of moov) ids tracks are none
 
-many : (o : Option (List Track)) (ids : List ℕ) (tracks : List Track) → AreTracks true o ids tracks → MOST_TRACKS < length ids → init_by o ≡ Err faults.TooManyTracks
+many : (o : Option (List Track)) (ids : List ℕ) (tracks : List Track) → AreTracks true o ids tracks → most_tracks < length ids → init_by o ≡ Err faults.TooManyTracks
 many None ids tracks are more = absurd are
 many (Some ts) ids tracks are more =
     let some : (length ts == 0) ≡ false = ne_eqb (length ts) 0 (λ e. omega (arith, e, are.0, more)) in
-    let past : nat_lt MOST_TRACKS (length ts) ≡ true = lt-ltb MOST_TRACKS (length ts) (omega (arith, are.0, more)) in
+    let past : nat_lt most_tracks (length ts) ≡ true = lt-ltb most_tracks (length ts) (omega (arith, are.0, more)) in
     rw (some, past) refl
 
-pub init-many : (bytes moov ids : List ℕ) (tracks : List Track) → Some moov ≡ moov_of bytes → AreTracks true (tracks_of moov) ids tracks → MOST_TRACKS < length ids → init_of bytes ≡ Err faults.TooManyTracks
+pub init-many : (bytes moov ids : List ℕ) (tracks : List Track) → Some moov ≡ moov_of bytes → AreTracks true (tracks_of moov) ids tracks → most_tracks < length ids → init_of bytes ≡ Err faults.TooManyTracks
 init-many bytes moov ids tracks some are more = init-moov bytes moov some ∙ many (tracks_of moov) ids tracks are more
 
-few_tracks : (o : Option (List Track)) (ids : List ℕ) (tracks : List Track) → AreTracks true o ids tracks → length ids ≤ MOST_TRACKS → (init_by o ≡ init_by (Some tracks)) × (length tracks ≡ length ids)
+few_tracks : (o : Option (List Track)) (ids : List ℕ) (tracks : List Track) → AreTracks true o ids tracks → length ids ≤ most_tracks → (init_by o ≡ init_by (Some tracks)) × (length tracks ≡ length ids)
 few_tracks None ids tracks are few = absurd are
 few_tracks (Some ts) ids tracks are few =
     let same : tracks ≡ ts = are.1 (omega (arith, are.0, few)) in
     (ap (λ (ts : List Track). init_by (Some ts)) (sym same), ap length same ∙ sym are.0)
 
-pub init-few : (bytes moov ids : List ℕ) (tracks : List Track) → Some moov ≡ moov_of bytes → AreTracks true (tracks_of moov) ids tracks → length ids ≤ MOST_TRACKS → (init_of bytes ≡ init_by (Some tracks)) × (length tracks ≡ length ids)
+pub init-few : (bytes moov ids : List ℕ) (tracks : List Track) → Some moov ≡ moov_of bytes → AreTracks true (tracks_of moov) ids tracks → length ids ≤ most_tracks → (init_of bytes ≡ init_by (Some tracks)) × (length tracks ≡ length ids)
 init-few bytes moov ids tracks some are few =
     let t : (init_by (tracks_of moov) ≡ init_by (Some tracks)) × (length tracks ≡ length ids) = few_tracks (tracks_of moov) ids tracks are few in
     (init-moov bytes moov some ∙ t.0, t.1)

@@ -5,7 +5,7 @@ use Rattle.std.specs.Option.{option_or}
 use Rattle.std.proofs.lemmas.Bool.{cases_Bool, eqb-true}
 use Rattle.std.proofs.lemmas.List.{append-nil}
 use Rattle.hls_boxes_laws.specs.Boxes.{Child, children, named}
-use Rattle.hls_media_laws.specs.declared.kinds.TheConstants.{TRAK, MVEX}
+use Rattle.hls_media_laws.specs.Kinds.{trak_type, mvex_type}
 use Rattle.hls_media_laws.specs.declared.track.Track.{Track}
 use Rattle.hls_media_laws.specs.Lists.{all_of, differ_from}
 use Rattle.hls_media_laws.specs.Inits.{track_at}
@@ -21,7 +21,7 @@ unfoldable pub gathered : Gathered → Option (List ℕ) → List Track → Opti
 gathered s mvex ts = cond (differ_from s.ids (map (λ (t : Track). t.id) ts)) (Some (after s mvex ts)) None
 
 abbrev Gathers : Gathered → List Child → Type 0
-Gathers s cs = along gather_step Some s cs ≡ option_and_then (gathered s (slice_get (named MVEX cs) 0)) (all_of track_at (named TRAK cs))
+Gathers s cs = along gather_step Some s cs ≡ option_and_then (gathered s (slice_get (named mvex_type cs) 0)) (all_of track_at (named trak_type cs))
 
 or-none : {A : Type 0} (o : Option A) → o ≡ option_or o None
 or-none None = refl
@@ -57,12 +57,12 @@ not_found : (s : Gathered) (t : Track) → list_any (λ (m : ℕ). m == t.id) s.
 not_found s t new = rw new refl
 
 a_track : (s : Gathered) (o : Option Track) (cs : List Child) → ((s : Gathered) → Gathers s cs)
-    → goes cs (option_and_then (with_track s) o) ≡ option_and_then (gathered s (slice_get (named MVEX cs) 0)) (option_and_then (λ (t : Track). option_map (λ (ts : List Track). t ∷ ts) (all_of track_at (named TRAK cs))) o)
+    → goes cs (option_and_then (with_track s) o) ≡ option_and_then (gathered s (slice_get (named mvex_type cs) 0)) (option_and_then (λ (t : Track). option_map (λ (ts : List Track). t ∷ ts) (all_of track_at (named trak_type cs))) o)
 a_track s None cs ih = refl
 a_track s (Some t) cs ih =
     elim (cases_Bool (list_any (λ (m : ℕ). m == t.id) s.ids)) [
-      | inl old ↦ ap (goes cs) (found s t old) ∙ again s (slice_get (named MVEX cs) 0) t (all_of track_at (named TRAK cs)) old
-      | inr new ↦ ap (goes cs) (not_found s t new) ∙ ih (record { ids = s.ids ++ t.id ∷ []; tracks = kept s.tracks t; mvex = s.mvex }) ∙ others_more s (slice_get (named MVEX cs) 0) t (all_of track_at (named TRAK cs)) new
+      | inl old ↦ ap (goes cs) (found s t old) ∙ again s (slice_get (named mvex_type cs) 0) t (all_of track_at (named trak_type cs)) old
+      | inr new ↦ ap (goes cs) (not_found s t new) ∙ ih (record { ids = s.ids ++ t.id ∷ []; tracks = kept s.tracks t; mvex = s.mvex }) ∙ others_more s (slice_get (named mvex_type cs) 0) t (all_of track_at (named trak_type cs)) new
     ]
 
 same_mvex : (s : Gathered) (x : List ℕ) (first others : Option (List ℕ)) (tracks : Option (List Track)) → s.mvex ≡ Some x → option_and_then (gathered s first) tracks ≡ option_and_then (gathered s others) tracks
@@ -78,32 +78,32 @@ new_mvex ids tracks content others (Some ts) = refl
 
 an_mvex : (ids : List ℕ) (tracks : List Track) (mvex : Option (List ℕ)) (content : List ℕ) (cs : List Child) → ((s : Gathered) → Gathers s cs)
     → goes cs (cond (is_some mvex) (Some (record { ids = ids; tracks = tracks; mvex = mvex })) (Some (record { ids = ids; tracks = tracks; mvex = Some content })))
-    ≡ option_and_then (gathered (record { ids = ids; tracks = tracks; mvex = mvex }) (Some content)) (all_of track_at (named TRAK cs))
+    ≡ option_and_then (gathered (record { ids = ids; tracks = tracks; mvex = mvex }) (Some content)) (all_of track_at (named trak_type cs))
 an_mvex ids tracks (Some x) content cs ih =
     ih (record { ids = ids; tracks = tracks; mvex = Some x })
-    ∙ same_mvex (record { ids = ids; tracks = tracks; mvex = Some x }) x (slice_get (named MVEX cs) 0) (Some content) (all_of track_at (named TRAK cs)) refl
+    ∙ same_mvex (record { ids = ids; tracks = tracks; mvex = Some x }) x (slice_get (named mvex_type cs) 0) (Some content) (all_of track_at (named trak_type cs)) refl
 an_mvex ids tracks None content cs ih =
     ih (record { ids = ids; tracks = tracks; mvex = Some content })
-    ∙ new_mvex ids tracks content (slice_get (named MVEX cs) 0) (all_of track_at (named TRAK cs))
+    ∙ new_mvex ids tracks content (slice_get (named mvex_type cs) 0) (all_of track_at (named trak_type cs))
 
 gathers : (s : Gathered) (cs : List Child) → Gathers s cs
 unfolding along
 gathers s [] = none-yet s
 gathers s (c ∷ cs) =
-    elim (cases_Bool (c.kind == TRAK)) [
+    elim (cases_Bool (c.kind == trak_type)) [
       | inl e ↦
-          let m : (c.kind == MVEX) ≡ false = ap (λ (k : ℕ). k == MVEX) (eqb-true c.kind TRAK e) in
+          let m : (c.kind == mvex_type) ≡ false = ap (λ (k : ℕ). k == mvex_type) (eqb-true c.kind trak_type e) in
           rw (e, m) (a_track s (track_at c.content) cs (λ s. gathers s cs))
-      | inr t ↦ elim (cases_Bool (c.kind == MVEX)) [
+      | inr t ↦ elim (cases_Bool (c.kind == mvex_type)) [
         | inl e ↦ rw (t, e) (an_mvex s.ids s.tracks s.mvex c.content cs (λ s. gathers s cs))
         | inr m ↦ rw (t, m) (gathers s cs)
       ]
     ]
 
-by_boxes : (boxes : Option (List Child)) → option_and_then (along gather_step Some nothing_yet) boxes ≡ option_and_then (λ (cs : List Child). option_and_then (gathered nothing_yet (slice_get (named MVEX cs) 0)) (all_of track_at (named TRAK cs))) boxes
+by_boxes : (boxes : Option (List Child)) → option_and_then (along gather_step Some nothing_yet) boxes ≡ option_and_then (λ (cs : List Child). option_and_then (gathered nothing_yet (slice_get (named mvex_type cs) 0)) (all_of track_at (named trak_type cs))) boxes
 by_boxes None = refl
 by_boxes (Some cs) = gathers nothing_yet cs
 
-pub over-gather : (moov : List ℕ) → over gather_step Some nothing_yet moov ≡ option_and_then (λ (cs : List Child). option_and_then (gathered nothing_yet (slice_get (named MVEX cs) 0)) (all_of track_at (named TRAK cs))) (children moov)
+pub over-gather : (moov : List ℕ) → over gather_step Some nothing_yet moov ≡ option_and_then (λ (cs : List Child). option_and_then (gathered nothing_yet (slice_get (named mvex_type cs) 0)) (all_of track_at (named trak_type cs))) (children moov)
 unfolding over
 over-gather moov = by_boxes (children moov)

@@ -1,6 +1,7 @@
 -- What is made of a `traf` whose heading was read.
 use Rattle.std.proofs.Common.{◌≡◌, ℕ, ◌==◌, pos, not, bit_and, cond, List, find, Option, Some, is_some, ◌||◌, Bool, option_map, option_and_then, refl}
 use Rattle.std.specs.Option.{option_or}
+use Rattle.hls_media_laws.specs.Flags.{base_data_offset_present, default_base_is_moof}
 use Rattle.hls_media_laws.specs.declared.track.Track.{Track}
 use Rattle.hls_media_laws.specs.declared.track.Defaults.{Defaults}
 use Rattle.hls_media_laws.specs.Trafs.{traf_at}
@@ -37,7 +38,7 @@ timing_is tracks timing bounds s content heading track trex duration flags resul
 pub placed_is : (tracks : List Track) (timing : Track) (bounds : Bounds) (p : Placed) (content : List ℕ) (heading : Heading) (track : Option Track) (trex : Option Defaults) (size : Option ℕ) (frame : Frame) (start : Placed) (result : Option Placed)
     → (r : Read content heading) → Looked tracks heading track trex
     → size ≡ option_or heading.head.size (option_map (λ (d : Defaults). d.size) trex)
-    → start ≡ record { end = cond (not (bit_and heading.head.flags 131072 == 0)) (pos 0) p.end; lacking = p.lacking; outside = p.outside }
+    → start ≡ record { end = cond (not (bit_and heading.head.flags default_base_is_moof == 0)) (pos 0) p.end; lacking = p.lacking; outside = p.outside }
     → frame ≡ record { base = start.end; low = bounds.low; high = bounds.high }
     → result ≡ over (placed_step size frame) Some start content
     → result ≡ Some (traf_placed (given tracks timing bounds) p r.traf)
@@ -46,7 +47,7 @@ placed_is tracks timing bounds p content heading track trex size frame start res
     rw (value, placed-read size frame start content r.traf r.is, frame_is, start_is, size_is, looked.trex_is, looked.track_is, r.track_is, r.size_is, r.flags_is) refl
 
 pub tally_is : (tracks : List Track) (timing : Track) (bounds : Bounds) (s : Tally) (content : List ℕ) (heading : Heading) (track : Option Track) (trex : Option Defaults) (none : Bool) (unknown base_offset : Bool) (timing_now : Timing) (placed : Placed)
-    → (r : Read content heading) → Looked tracks heading track trex → is_some track ≡ not none → unknown ≡ (s.unknown || none) → base_offset ≡ (s.base_offset || not (bit_and heading.head.flags 1 == 0))
+    → (r : Read content heading) → Looked tracks heading track trex → is_some track ≡ not none → unknown ≡ (s.unknown || none) → base_offset ≡ (s.base_offset || not (bit_and heading.head.flags base_data_offset_present == 0))
     → timing_now ≡ cond (is_timing (given tracks timing bounds) r.traf) (timing_more (given tracks timing bounds) s.timing r.traf) s.timing
     → placed ≡ traf_placed (given tracks timing bounds) s.placed r.traf
     → Some (record { unknown = unknown; base_offset = base_offset; timing = timing_now; placed = placed }) ≡ option_map (tally_more (given tracks timing bounds) s) (traf_at content)

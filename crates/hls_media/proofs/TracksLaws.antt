@@ -3,7 +3,7 @@ use Rattle.std.proofs.Common.{◌≡◌, ℕ, ◌+◌, ◌≤◌, ◌==◌, nat_
 use Rattle.std.proofs.lemmas.Bool.{cases_Bool, lt-ltb}
 use Rattle.std.proofs.lemmas.List.{append-nil, length-append, length-map}
 use Rattle.hls_boxes_laws.specs.Boxes.{Child, children, named}
-use Rattle.hls_media_laws.specs.declared.kinds.TheConstants.{TRAK, MVEX, TREX, TKHD, MDIA}
+use Rattle.hls_media_laws.specs.Kinds.{trak_type, mvex_type, trex_type, tkhd_type, mdia_type}
 use Rattle.hls_media_laws.specs.declared.track.Track.{Track}
 use Rattle.hls_media_laws.specs.declared.track.Trex.{Trex}
 use Rattle.hls_media_laws.specs.declared.track.Media.{Media}
@@ -32,7 +32,7 @@ fresh_from (Some i) (Some m) t is =
 
 fresh_by : (boxes : Option (List Child)) (t : Track) → option_and_then track_by boxes ≡ Some t → t.defaults ≡ None
 fresh_by None t is = absurd (cc)
-fresh_by (Some cs) t is = fresh_from (first_with versioned_field TKHD cs) (first_with media_of MDIA cs) t is
+fresh_by (Some cs) t is = fresh_from (first_with versioned_field tkhd_type cs) (first_with media_of mdia_type cs) t is
 
 fresh_at : (content : List ℕ) (t : Track) → track_at content ≡ Some t → t.defaults ≡ None
 unfolding track_at
@@ -92,22 +92,22 @@ one_trex : (ts : List Track) (x : Trex) (others : Option (List Trex)) → option
 one_trex ts x None = refl
 one_trex ts x (Some xs) = ap Some (one-gift x xs ts)
 
-a_trex : (ts : List Track) (o : Option Trex) (cs : List Child) → ((ts : List Track) → along given_step Some ts cs ≡ option_map (λ (xs : List Trex). map (gave xs) ts) (all_of trex_at (named TREX cs)))
+a_trex : (ts : List Track) (o : Option Trex) (cs : List Child) → ((ts : List Track) → along given_step Some ts cs ≡ option_map (λ (xs : List Trex). map (gave xs) ts) (all_of trex_at (named trex_type cs)))
     → option_and_then (λ (ts : List Track). along given_step Some ts cs) (option_map (λ (x : Trex). map (given x) ts) o)
-    ≡ option_map (λ (xs : List Trex). map (gave xs) ts) (option_and_then (λ (x : Trex). option_map (λ (xs : List Trex). x ∷ xs) (all_of trex_at (named TREX cs))) o)
+    ≡ option_map (λ (xs : List Trex). map (gave xs) ts) (option_and_then (λ (x : Trex). option_map (λ (xs : List Trex). x ∷ xs) (all_of trex_at (named trex_type cs))) o)
 a_trex ts None cs ih = refl
-a_trex ts (Some x) cs ih = ih (map (given x) ts) ∙ one_trex ts x (all_of trex_at (named TREX cs))
+a_trex ts (Some x) cs ih = ih (map (given x) ts) ∙ one_trex ts x (all_of trex_at (named trex_type cs))
 
-along-given : (cs : List Child) (ts : List Track) → along given_step Some ts cs ≡ option_map (λ (xs : List Trex). map (gave xs) ts) (all_of trex_at (named TREX cs))
+along-given : (cs : List Child) (ts : List Track) → along given_step Some ts cs ≡ option_map (λ (xs : List Trex). map (gave xs) ts) (all_of trex_at (named trex_type cs))
 unfolding along
 along-given [] ts = ap Some (no-gifts ts)
 along-given (c ∷ cs) ts =
-    elim (cases_Bool (c.kind == TREX)) [
+    elim (cases_Bool (c.kind == trex_type)) [
       | inl e ↦ rw e (a_trex ts (trex_at c.content) cs (along-given cs))
       | inr e ↦ rw e (along-given cs ts)
     ]
 
-given_boxes : (boxes : Option (List Child)) (ts : List Track) → option_and_then (along given_step Some ts) boxes ≡ option_map (λ (xs : List Trex). map (gave xs) ts) (option_and_then (λ (cs : List Child). all_of trex_at (named TREX cs)) boxes)
+given_boxes : (boxes : Option (List Child)) (ts : List Track) → option_and_then (along given_step Some ts) boxes ≡ option_map (λ (xs : List Trex). map (gave xs) ts) (option_and_then (λ (cs : List Child). all_of trex_at (named trex_type cs)) boxes)
 given_boxes None ts = refl
 given_boxes (Some cs) ts = along-given cs ts
 
@@ -130,13 +130,13 @@ pub record Gathering (moov : List ℕ) (s : Gathered) : Type 0 where
   pub boxes : List Child
   pub tracks : List Track
   pub filled : children moov ≡ Some boxes
-  pub read : all_of track_at (named TRAK boxes) ≡ Some tracks
+  pub read : all_of track_at (named trak_type boxes) ≡ Some tracks
   pub differ : all_differ (map (λ (t : Track). t.id) tracks) ≡ true
   pub ids_are : s.ids ≡ map (λ (t : Track). t.id) tracks
   pub tracks_are : s.tracks ≡ fold kept [] tracks
-  pub mvex_is : s.mvex ≡ slice_get (named MVEX boxes) 0
+  pub mvex_is : s.mvex ≡ slice_get (named mvex_type boxes) 0
 
-gathering_so : (moov : List ℕ) (cs : List Child) (ts : List Track) → children moov ≡ Some cs → all_of track_at (named TRAK cs) ≡ Some ts → all_differ (map (λ (t : Track). t.id) ts) ≡ true → Gathering moov (after nothing_yet (slice_get (named MVEX cs) 0) ts)
+gathering_so : (moov : List ℕ) (cs : List Child) (ts : List Track) → children moov ≡ Some cs → all_of track_at (named trak_type cs) ≡ Some ts → all_differ (map (λ (t : Track). t.id) ts) ≡ true → Gathering moov (after nothing_yet (slice_get (named mvex_type cs) 0) ts)
 unfolding after
 gathering_so moov cs ts filled read differ = record {
   boxes = cs;
@@ -149,21 +149,21 @@ gathering_so moov cs ts filled read differ = record {
   mvex_is = refl;
 }
 
-gathering_from : (moov : List ℕ) (cs : List Child) (ts : List Track) (s : Gathered) (differs : Bool) → children moov ≡ Some cs → all_of track_at (named TRAK cs) ≡ Some ts → all_differ (map (λ (t : Track). t.id) ts) ≡ differs
-    → cond differs (Some (after nothing_yet (slice_get (named MVEX cs) 0) ts)) None ≡ Some s → Gathering moov s
+gathering_from : (moov : List ℕ) (cs : List Child) (ts : List Track) (s : Gathered) (differs : Bool) → children moov ≡ Some cs → all_of track_at (named trak_type cs) ≡ Some ts → all_differ (map (λ (t : Track). t.id) ts) ≡ differs
+    → cond differs (Some (after nothing_yet (slice_get (named mvex_type cs) 0) ts)) None ≡ Some s → Gathering moov s
 gathering_from moov cs ts s false filled read differ is = absurd (cc)
 gathering_from moov cs ts s true filled read differ is =
-    let same : after nothing_yet (slice_get (named MVEX cs) 0) ts ≡ s = cc in
+    let same : after nothing_yet (slice_get (named mvex_type cs) 0) ts ≡ s = cc in
     subst (Gathering moov) same (gathering_so moov cs ts filled read differ)
 
-gathering_tracks : (moov : List ℕ) (cs : List Child) (ts : Option (List Track)) (s : Gathered) → children moov ≡ Some cs → all_of track_at (named TRAK cs) ≡ ts → option_and_then (gathered nothing_yet (slice_get (named MVEX cs) 0)) ts ≡ Some s → Gathering moov s
+gathering_tracks : (moov : List ℕ) (cs : List Child) (ts : Option (List Track)) (s : Gathered) → children moov ≡ Some cs → all_of track_at (named trak_type cs) ≡ ts → option_and_then (gathered nothing_yet (slice_get (named mvex_type cs) 0)) ts ≡ Some s → Gathering moov s
 unfolding gathered
 gathering_tracks moov cs None s filled read is = absurd (cc)
 gathering_tracks moov cs (Some ts) s filled read is = gathering_from moov cs ts s (all_differ (map (λ (t : Track). t.id) ts)) filled read refl is
 
-gathering_boxes : (moov : List ℕ) (boxes : Option (List Child)) (s : Gathered) → children moov ≡ boxes → option_and_then (λ (cs : List Child). option_and_then (gathered nothing_yet (slice_get (named MVEX cs) 0)) (all_of track_at (named TRAK cs))) boxes ≡ Some s → Gathering moov s
+gathering_boxes : (moov : List ℕ) (boxes : Option (List Child)) (s : Gathered) → children moov ≡ boxes → option_and_then (λ (cs : List Child). option_and_then (gathered nothing_yet (slice_get (named mvex_type cs) 0)) (all_of track_at (named trak_type cs))) boxes ≡ Some s → Gathering moov s
 gathering_boxes moov None s filled is = absurd (cc)
-gathering_boxes moov (Some cs) s filled is = gathering_tracks moov cs (all_of track_at (named TRAK cs)) s filled refl is
+gathering_boxes moov (Some cs) s filled is = gathering_tracks moov cs (all_of track_at (named trak_type cs)) s filled refl is
 
 pub gathering : (moov : List ℕ) (s : Gathered) → over gather_step Some nothing_yet moov ≡ Some s → Gathering moov s
 gathering moov s is = gathering_boxes moov (children moov) s refl (sym (over-gather moov) ∙ is)
@@ -174,14 +174,14 @@ no_differ ts s true e is trexes = absurd (cc)
 no_differ ts s false e is None = refl
 no_differ ts s false e is (Some xs) = rw e refl
 
-no_tracks : (cs : List Child) (ts : Option (List Track)) → option_and_then (gathered nothing_yet (slice_get (named MVEX cs) 0)) ts ≡ None → option_and_then (λ (tracks : List Track). option_and_then (tracks_with tracks) (trexes_by (named MVEX cs))) ts ≡ None
+no_tracks : (cs : List Child) (ts : Option (List Track)) → option_and_then (gathered nothing_yet (slice_get (named mvex_type cs) 0)) ts ≡ None → option_and_then (λ (tracks : List Track). option_and_then (tracks_with tracks) (trexes_by (named mvex_type cs))) ts ≡ None
 unfolding gathered
 no_tracks cs None is = refl
-no_tracks cs (Some ts) is = no_differ ts (after nothing_yet (slice_get (named MVEX cs) 0) ts) (all_differ (map (λ (t : Track). t.id) ts)) refl is (trexes_by (named MVEX cs))
+no_tracks cs (Some ts) is = no_differ ts (after nothing_yet (slice_get (named mvex_type cs) 0) ts) (all_differ (map (λ (t : Track). t.id) ts)) refl is (trexes_by (named mvex_type cs))
 
-no_boxes : (boxes : Option (List Child)) → option_and_then (λ (cs : List Child). option_and_then (gathered nothing_yet (slice_get (named MVEX cs) 0)) (all_of track_at (named TRAK cs))) boxes ≡ None → option_and_then tracks_by boxes ≡ None
+no_boxes : (boxes : Option (List Child)) → option_and_then (λ (cs : List Child). option_and_then (gathered nothing_yet (slice_get (named mvex_type cs) 0)) (all_of track_at (named trak_type cs))) boxes ≡ None → option_and_then tracks_by boxes ≡ None
 no_boxes None is = refl
-no_boxes (Some cs) is = no_tracks cs (all_of track_at (named TRAK cs)) is
+no_boxes (Some cs) is = no_tracks cs (all_of track_at (named trak_type cs)) is
 
 nothing-gathered : (moov : List ℕ) → over gather_step Some nothing_yet moov ≡ None → tracks_of moov ≡ None
 unfolding tracks_of
@@ -208,8 +208,8 @@ tracks-gathered : (moov : List ℕ) (s : Gathered) (g : Gathering moov s) → tr
 unfolding tracks_of
 tracks-gathered moov s g =
     ap (option_and_then tracks_by) g.filled
-    ∙ ap (option_and_then (λ (tracks : List Track). option_and_then (tracks_with tracks) (trexes_by (named MVEX g.boxes)))) g.read
-    ∙ ap (option_and_then (tracks_with g.tracks)) (trexes-first (named MVEX g.boxes) ∙ ap trexes_in (sym g.mvex_is))
+    ∙ ap (option_and_then (λ (tracks : List Track). option_and_then (tracks_with tracks) (trexes_by (named mvex_type g.boxes)))) g.read
+    ∙ ap (option_and_then (tracks_with g.tracks)) (trexes-first (named mvex_type g.boxes) ∙ ap trexes_in (sym g.mvex_is))
     ∙ with_trexes g.tracks (trexes_in s.mvex) g.differ
 
 -- what was gathered, given these defaults
@@ -219,7 +219,7 @@ are-tracks moov s g xs tracks is = (
   λ few.
       let count : length (map (with_defaults xs) g.tracks) ≡ length g.tracks = length-map g.tracks (with_defaults xs) in
       is ∙ ap (map (gave xs)) (g.tracks_are ∙ kept-fold g.tracks [] (omega (arith, few, count)))
-      ∙ all-gave xs g.tracks (fresh (named TRAK g.boxes) g.tracks g.read),
+      ∙ all-gave xs g.tracks (fresh (named trak_type g.boxes) g.tracks g.read),
 )
 
 pub read-alone : (moov : List ℕ) (s : Gathered) → over gather_step Some nothing_yet moov ≡ Some s → s.mvex ≡ None → AreTracks true (tracks_of moov) s.ids s.tracks

@@ -3,7 +3,7 @@ use Rattle.std.proofs.Common.{slice_get, arith, ◌≡◌, ℕ, ◌==◌, nat_le
 use Rattle.std.specs.List.{list_all}
 use Rattle.std.proofs.lemmas.Bool.{cases_Bool, eqb-true, lt-leb, ne_eqb}
 use Rattle.hls_boxes_laws.specs.Boxes.{Child, children, named}
-use Rattle.hls_media_laws.specs.declared.kinds.TheConstants.{TFHD, TFDT, TRUN}
+use Rattle.hls_media_laws.specs.Kinds.{tfhd_type, tfdt_type, trun_type}
 use Rattle.hls_media_laws.specs.Fields.{head_fits, time_fits, run_fits, decode_time}
 use Rattle.hls_media_laws.specs.Trafs.{traf_from, traf_by, traf_at}
 use Rattle.hls_media.specs.declared.tfhd.Head.{Head}
@@ -37,20 +37,20 @@ no_runs (Some h) None = refl
 no_runs (Some h) (Some t) = refl
 
 heads_in : Option Head → List Child → Option (Option Head)
-heads_in seen cs = settle head_kept seen (named TFHD cs)
+heads_in seen cs = settle head_kept seen (named tfhd_type cs)
 
 times_in : Option ℕ → List Child → Option (Option ℕ)
-times_in seen cs = settle time_kept seen (named TFDT cs)
+times_in seen cs = settle time_kept seen (named tfdt_type cs)
 
 abbrev Settles : Noted → List Child → Type 0
-Settles s cs = along noted whole_heading s cs ≡ combined (heads_in s.head cs) (times_in s.time cs) (list_all run_fits (named TRUN cs))
+Settles s cs = along noted whole_heading s cs ≡ combined (heads_in s.head cs) (times_in s.time cs) (list_all run_fits (named trun_type cs))
 
 abbrev goes : List Child → Option Noted → Option Heading
 goes cs next = option_and_then (λ (s : Noted). along noted whole_heading s cs) next
 
 a_head : (h : Option Head) (t : Option ℕ) (kept : Option Head) (cs : List Child) → ((s : Noted) → Settles s cs)
     → goes cs (cond (is_some h) None (option_map (λ (v : Head). record { head = Some v; time = t }) kept))
-    ≡ combined (cond (is_some h) None (option_and_then (λ (v : Head). settle head_kept (Some v) (named TFHD cs)) kept)) (times_in t cs) (list_all run_fits (named TRUN cs))
+    ≡ combined (cond (is_some h) None (option_and_then (λ (v : Head). settle head_kept (Some v) (named tfhd_type cs)) kept)) (times_in t cs) (list_all run_fits (named trun_type cs))
 unfolding combined heads_in
 a_head (Some h) t kept cs ih = refl
 a_head None t None cs ih = refl
@@ -58,14 +58,14 @@ a_head None t (Some v) cs ih = ih (record { head = Some v; time = t })
 
 a_time : (h : Option Head) (t : Option ℕ) (kept : Option ℕ) (cs : List Child) → ((s : Noted) → Settles s cs)
     → goes cs (cond (is_some t) None (option_map (λ (v : ℕ). record { head = h; time = Some v }) kept))
-    ≡ combined (heads_in h cs) (cond (is_some t) None (option_and_then (λ (v : ℕ). settle time_kept (Some v) (named TFDT cs)) kept)) (list_all run_fits (named TRUN cs))
+    ≡ combined (heads_in h cs) (cond (is_some t) None (option_and_then (λ (v : ℕ). settle time_kept (Some v) (named tfdt_type cs)) kept)) (list_all run_fits (named trun_type cs))
 unfolding times_in
-a_time h (Some t) kept cs ih = sym (no_times (heads_in h cs) (list_all run_fits (named TRUN cs)))
-a_time h None None cs ih = sym (no_times (heads_in h cs) (list_all run_fits (named TRUN cs)))
+a_time h (Some t) kept cs ih = sym (no_times (heads_in h cs) (list_all run_fits (named trun_type cs)))
+a_time h None None cs ih = sym (no_times (heads_in h cs) (list_all run_fits (named trun_type cs)))
 a_time h None (Some v) cs ih = ih (record { head = h; time = Some v })
 
 a_run : (s : Noted) (fits : Bool) (cs : List Child) → ((s : Noted) → Settles s cs)
-    → goes cs (cond fits (Some s) None) ≡ combined (heads_in s.head cs) (times_in s.time cs) (fits && list_all run_fits (named TRUN cs))
+    → goes cs (cond fits (Some s) None) ≡ combined (heads_in s.head cs) (times_in s.time cs) (fits && list_all run_fits (named trun_type cs))
 a_run s true cs ih = ih s
 a_run s false cs ih = sym (no_runs (heads_in s.head cs) (times_in s.time cs))
 
@@ -77,16 +77,16 @@ settles : (s : Noted) (cs : List Child) → Settles s cs
 unfolding along combined heads_in times_in settle
 settles s [] = refl
 settles s (c ∷ cs) =
-    elim (cases_Bool (c.kind == TFHD)) [
+    elim (cases_Bool (c.kind == tfhd_type)) [
       | inl e ↦
-          let t : (c.kind == TFDT) ≡ false = other c.kind TFHD TFDT e refl in
-          let r : (c.kind == TRUN) ≡ false = other c.kind TFHD TRUN e refl in
+          let t : (c.kind == tfdt_type) ≡ false = other c.kind tfhd_type tfdt_type e refl in
+          let r : (c.kind == trun_type) ≡ false = other c.kind tfhd_type trun_type e refl in
           rw (e, t, r) (a_head s.head s.time (head_kept c.content) cs (λ s. settles s cs))
-      | inr h ↦ elim (cases_Bool (c.kind == TFDT)) [
+      | inr h ↦ elim (cases_Bool (c.kind == tfdt_type)) [
         | inl e ↦
-            let r : (c.kind == TRUN) ≡ false = other c.kind TFDT TRUN e refl in
+            let r : (c.kind == trun_type) ≡ false = other c.kind tfdt_type trun_type e refl in
             rw (h, e, r) (a_time s.head s.time (time_kept c.content) cs (λ s. settles s cs))
-        | inr t ↦ elim (cases_Bool (c.kind == TRUN)) [
+        | inr t ↦ elim (cases_Bool (c.kind == trun_type)) [
           | inl e ↦ rw (h, t, e, run_kept-fits c.content) (a_run s (run_fits c.content) cs (λ s. settles s cs))
           | inr r ↦ rw (h, t, r) (settles s cs)
         ]
@@ -152,7 +152,7 @@ by_lists (h ∷ g ∷ others) times runs =
 by_boxes : (boxes : Option (List Child)) → option_and_then (along noted whole_heading (record { head = None; time = None })) boxes ≡ option_map heading_of (option_and_then traf_by boxes)
 unfolding heads_in times_in
 by_boxes None = refl
-by_boxes (Some cs) = settles (record { head = None; time = None }) cs ∙ by_lists (named TFHD cs) (named TFDT cs) (named TRUN cs)
+by_boxes (Some cs) = settles (record { head = None; time = None }) cs ∙ by_lists (named tfhd_type cs) (named tfdt_type cs) (named trun_type cs)
 
 pub over-traf : (content : List ℕ) → over noted whole_heading (record { head = None; time = None }) content ≡ option_map heading_of (traf_at content)
 unfolding over traf_at

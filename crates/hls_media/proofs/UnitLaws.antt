@@ -3,7 +3,7 @@ use Rattle.std.proofs.Common.{◌≡◌, ℕ, ◌+◌, ◌-◌, ◌<◌, ◌≤�
 use Rattle.std.proofs.lemmas.Bool.{lt-ltb, le-ltb}
 use Rattle.std.proofs.lemmas.List.{drop-drop, length-drop}
 use Rattle.hls_boxes_laws.specs.declared.header.Header.{Header}
-use Rattle.hls_boxes_laws.specs.declared.kinds.TheConstants.{MOOV, MOOF, MDAT, UNIT_LIMIT}
+use Rattle.hls_boxes_laws.specs.Kinds.{moov_type, moof_type, mdat_type, unit_limit}
 use Rattle.hls_boxes_laws.specs.Boxes.{Child, child_of, children, children_by, box_at, IsWithin}
 use Rattle.hls_boxes_laws.proofs.Walk.{children-empty, children-step}
 use Rattle.hls_media_laws.specs.Layout.{Layout, layout_by, layout_of, with_mdat, last_box, size_of_box}
@@ -57,29 +57,29 @@ unfolding come
 come-end unit None rest none = end-box layout_by rest none
 come-end unit (Some m) rest none = end-box (with_mdat (slice_range unit m.from m.to) (length unit - length rest - m.begin)) rest none
 
-pub come-moov : (unit : List ℕ) (met : Option Met) (rest : List ℕ) (h : Header) → 0 < length rest → box_at rest ≡ Some h → h.kind ≡ MOOV → to_come unit met rest ≡ None
+pub come-moov : (unit : List ℕ) (met : Option Met) (rest : List ℕ) (h : Header) → 0 < length rest → box_at rest ≡ Some h → h.kind ≡ moov_type → to_come unit met rest ≡ None
 come-moov unit None rest h some is kind =
     first-box layout_by (λ cs. None) rest h some is (λ cs. rw kind refl) ∙ nothing (children (drop h.size rest))
 come-moov unit (Some m) rest h some is kind =
     first-box (with_mdat (slice_range unit m.from m.to) (length unit - length rest - m.begin)) (λ cs. None) rest h some is (λ cs. rw kind refl) ∙ nothing (children (drop h.size rest))
 
-pub come-moof-again : (unit : List ℕ) (met : Option Met) (rest : List ℕ) (h : Header) → 0 < length rest → box_at rest ≡ Some h → h.kind ≡ MOOF → is_some met ≡ true → to_come unit met rest ≡ None
+pub come-moof-again : (unit : List ℕ) (met : Option Met) (rest : List ℕ) (h : Header) → 0 < length rest → box_at rest ≡ Some h → h.kind ≡ moof_type → is_some met ≡ true → to_come unit met rest ≡ None
 come-moof-again unit None rest h some is kind again = absurd (cc)
 come-moof-again unit (Some m) rest h some is kind again =
     first-box (with_mdat (slice_range unit m.from m.to) (length unit - length rest - m.begin)) (λ cs. None) rest h some is (λ cs. rw kind refl) ∙ nothing (children (drop h.size rest))
 
-pub come-mdat-alone : (unit : List ℕ) (met : Option Met) (rest : List ℕ) (h : Header) → 0 < length rest → box_at rest ≡ Some h → h.kind ≡ MDAT → met ≡ None → to_come unit met rest ≡ None
+pub come-mdat-alone : (unit : List ℕ) (met : Option Met) (rest : List ℕ) (h : Header) → 0 < length rest → box_at rest ≡ Some h → h.kind ≡ mdat_type → met ≡ None → to_come unit met rest ≡ None
 come-mdat-alone unit (Some m) rest h some is kind none = absurd (cc)
 come-mdat-alone unit None rest h some is kind none =
     first-box layout_by (λ cs. None) rest h some is (λ cs. rw kind refl) ∙ nothing (children (drop h.size rest))
 
 -- the `mdat`: what follows it, and where it lies
-at_mdat : (unit : List ℕ) (m : Met) (rest : List ℕ) (h : Header) → 0 < length rest → box_at rest ≡ Some h → h.kind ≡ MDAT
+at_mdat : (unit : List ℕ) (m : Met) (rest : List ℕ) (h : Header) → 0 < length rest → box_at rest ≡ Some h → h.kind ≡ mdat_type
     → to_come unit (Some m) rest ≡ option_and_then (last_box (slice_range unit m.from m.to) (length unit - length rest - m.begin) (child_of h rest)) (children (drop h.size rest))
 at_mdat unit m rest h some is kind =
     first-box (with_mdat (slice_range unit m.from m.to) (length unit - length rest - m.begin)) (last_box (slice_range unit m.from m.to) (length unit - length rest - m.begin) (child_of h rest)) rest h some is (λ cs. rw kind refl)
 
-pub come-mdat-more : (unit : List ℕ) (met : Option Met) (m : Met) (rest : List ℕ) (h : Header) → 0 < length rest → box_at rest ≡ Some h → h.kind ≡ MDAT → met ≡ Some m → h.size < length rest → to_come unit met rest ≡ None
+pub come-mdat-more : (unit : List ℕ) (met : Option Met) (m : Met) (rest : List ℕ) (h : Header) → 0 < length rest → box_at rest ≡ Some h → h.kind ≡ mdat_type → met ≡ Some m → h.size < length rest → to_come unit met rest ≡ None
 come-mdat-more unit met m rest h some is kind met_is more =
     ap (λ (met : Option Met). to_come unit met rest) met_is ∙ at_mdat unit m rest h some is kind
     ∙ some_boxes (last_box (slice_range unit m.from m.to) (length unit - length rest - m.begin) (child_of h rest)) (drop h.size rest) (omega (arith, length-drop h.size rest)) (λ c cs. refl)
@@ -87,7 +87,7 @@ come-mdat-more unit met m rest h some is kind met_is more =
 box-len : (h : Header) (rest : List ℕ) → IsWithin (length rest) h → size_of_box (child_of h rest) ≡ h.size
 box-len h rest within = omega (arith, slice-length rest h.head h.size within.0 within.1, within.0)
 
-pub come-mdat : (unit : List ℕ) (met : Option Met) (m : Met) (rest : List ℕ) (h : Header) → 0 < length rest → box_at rest ≡ Some h → IsWithin (length rest) h → h.kind ≡ MDAT → met ≡ Some m → length rest ≤ h.size → length rest ≤ length unit → m.begin ≤ length unit - length rest
+pub come-mdat : (unit : List ℕ) (met : Option Met) (m : Met) (rest : List ℕ) (h : Header) → 0 < length rest → box_at rest ≡ Some h → IsWithin (length rest) h → h.kind ≡ mdat_type → met ≡ Some m → length rest ≤ h.size → length rest ≤ length unit → m.begin ≤ length unit - length rest
     → to_come unit met rest ≡ Some (record { moof = slice_range unit m.from m.to; low = length unit - length rest + h.head - m.begin; high = length unit - length rest + h.size - m.begin })
 come-mdat unit met m rest h some is within kind met_is last in_unit begun =
     let at : ℕ = length unit - length rest - m.begin in
@@ -97,7 +97,7 @@ come-mdat unit met m rest h some is within kind met_is last in_unit begun =
     ∙ end-box (last_box (slice_range unit m.from m.to) at (child_of h rest)) (drop h.size rest) (omega (arith, length-drop h.size rest))
     ∙ rw (low, high) refl
 
-pub come-other : (unit : List ℕ) (met : Option Met) (rest : List ℕ) (h : Header) → 0 < length rest → box_at rest ≡ Some h → IsWithin (length rest) h → (h.kind == MOOV) ≡ false → (h.kind == MOOF) ≡ false → (h.kind == MDAT) ≡ false
+pub come-other : (unit : List ℕ) (met : Option Met) (rest : List ℕ) (h : Header) → 0 < length rest → box_at rest ≡ Some h → IsWithin (length rest) h → (h.kind == moov_type) ≡ false → (h.kind == moof_type) ≡ false → (h.kind == mdat_type) ≡ false
     → length rest ≤ length unit → IfSome met (λ m. m.begin ≤ length unit - length rest) → to_come unit met rest ≡ to_come unit met (drop h.size rest)
 come-other unit None rest h some is within moov moof mdat in_unit begun =
     first-box layout_by layout_by rest h some is (λ cs. rw (moof, mdat, moov) refl)
@@ -114,7 +114,7 @@ slice-of-drop unit rest at from to is =
     let len : (at + to) - (at + from) ≡ to - from = omega arith in
     ap (λ (r : List ℕ). slice_range r from to) is ∙ ap (take (to - from)) (drop-drop from at unit) ∙ ap (λ (n : ℕ). take n (drop (at + from) unit)) (sym len)
 
-pub come-moof : (unit : List ℕ) (met : Option Met) (rest : List ℕ) (h : Header) → 0 < length rest → box_at rest ≡ Some h → IsWithin (length rest) h → h.kind ≡ MOOF → is_some met ≡ false → length rest ≤ length unit → rest ≡ drop (length unit - length rest) unit
+pub come-moof : (unit : List ℕ) (met : Option Met) (rest : List ℕ) (h : Header) → 0 < length rest → box_at rest ≡ Some h → IsWithin (length rest) h → h.kind ≡ moof_type → is_some met ≡ false → length rest ≤ length unit → rest ≡ drop (length unit - length rest) unit
     → to_come unit met rest ≡ to_come unit (Some (record { begin = length unit - length rest; from = length unit - length rest + h.head; to = length unit - length rest + h.size })) (drop h.size rest)
 come-moof unit (Some m) rest h some is within kind none in_unit rest_is = absurd (cc)
 come-moof unit None rest h some is within kind none in_unit rest_is =
@@ -124,13 +124,13 @@ come-moof unit None rest h some is within kind none in_unit rest_is =
     ∙ ap (λ (n : ℕ). option_and_then (with_mdat (slice_range rest h.head h.size) n) (children (drop h.size rest))) next
     ∙ ap (λ (moof : List ℕ). option_and_then (with_mdat moof (length unit - length (drop h.size rest) - at)) (children (drop h.size rest))) (slice-of-drop unit rest at h.head h.size rest_is)
 
-pub layout-long : (unit : List ℕ) → UNIT_LIMIT < length unit → layout_of unit ≡ None
+pub layout-long : (unit : List ℕ) → unit_limit < length unit → layout_of unit ≡ None
 unfolding layout_of
-layout-long unit long = rw (lt-ltb UNIT_LIMIT (length unit) long) refl
+layout-long unit long = rw (lt-ltb unit_limit (length unit) long) refl
 
-pub layout-short : (unit : List ℕ) → length unit ≤ UNIT_LIMIT → layout_of unit ≡ option_and_then layout_by (children unit)
+pub layout-short : (unit : List ℕ) → length unit ≤ unit_limit → layout_of unit ≡ option_and_then layout_by (children unit)
 unfolding layout_of
-layout-short unit short = rw (le-ltb UNIT_LIMIT (length unit) short) refl
+layout-short unit short = rw (le-ltb unit_limit (length unit) short) refl
 
 -- what stays true of the rest, and of the `moof` that was met
 pub rest-more : (unit rest : List ℕ) (size : ℕ) → rest ≡ drop (length unit - length rest) unit → length rest ≤ length unit → size ≤ length rest → drop size rest ≡ drop (length unit - length (drop size rest)) unit

@@ -1,4 +1,5 @@
 -- A walk that keeps something of the first box of each of two types.
+-- For the proofs of this crate; no public clause cites it.
 use Rattle.std.specs.Prelude.{◌≡◌, ℕ, ◌+◌, ◌-◌, ◌≤◌, ◌==◌, if◌then◌else◌, Option, Some, None, is_some, option_map, List, length}
 use Rattle.hls_boxes_laws.specs.Boxes.{Child}
 use Rattle.hls_media.specs.Folds.{over}

@@ -1,4 +1,5 @@
 -- A walk over the boxes that fill a text, each looked at once.
+-- For the proofs of this crate; no public clause cites it.
 use Rattle.std.specs.Prelude.{ℕ, List, [], ◌∷◌, Option, option_and_then}
 use Rattle.hls_boxes_laws.specs.Boxes.{Child, children}
 

@@ -1,8 +1,9 @@
 -- What the code keeps of a `moov`, one box after the other.
+-- For the proofs of this crate; no public clause cites it.
 use Rattle.std.specs.Prelude.{Bool, true, false, ◌≡◌, ℕ, ◌-◌, ◌*◌, ◌≤◌, ◌==◌, if◌then◌else◌, Option, Some, None, IfSome, is_some, option_map, option_and_then, List, [], ◌∷◌, ◌++◌, length, drop, slice_range}
 use Rattle.std.specs.List.{list_any}
 use Rattle.hls_boxes_laws.specs.Boxes.{Child}
-use Rattle.hls_media_laws.specs.declared.kinds.TheConstants.{TRAK, MVEX}
+use Rattle.hls_media_laws.specs.Kinds.{trak_type, mvex_type}
 use Rattle.hls_media_laws.specs.declared.track.Track.{Track}
 use Rattle.hls_media_laws.specs.Inits.{track_at}
 use Rattle.hls_media.specs.declared.moovs.Span.{Span}
@@ -31,8 +32,8 @@ Added false (Some t) ids tracks new_ids new_tracks = list_any (λ (m : ℕ). m =
 
 abbrev pub gather_step : Gathered → Child → Option Gathered
 gather_step s c =
-    if c.kind == TRAK then option_and_then (with_track s) (track_at c.content)
-    else (if c.kind == MVEX then (if is_some s.mvex then Some s else Some (record s { mvex = Some c.content }))
+    if c.kind == trak_type then option_and_then (with_track s) (track_at c.content)
+    else (if c.kind == mvex_type then (if is_some s.mvex then Some s else Some (record s { mvex = Some c.content }))
     else Some s)
 
 -- whether these are the numbers of all tracks, and the tracks where they are at most eight

@@ -1,7 +1,9 @@
 -- What the code keeps of a `tfhd`, a `tfdt` and a `trun`, or none where a field stands past its box.
+-- For the proofs of this crate; no public clause cites it.
 use Rattle.std.specs.Prelude.{◌≡◌, ◌+◌, ◌*◌, ◌≤◌, length, ℕ, if◌then◌else◌, Option, Some, None, List}
 use Rattle.std.specs.Int.{w32}
 use Rattle.hls_boxes_laws.specs.Boxes.{number_at}
+use Rattle.hls_media_laws.specs.Flags.{sample_duration_present, sample_size_present, sample_flags_present, sample_composition_time_offsets_present}
 use Rattle.hls_media_laws.specs.Fields.{wide, has, track_of, head_fits, default_duration, default_size, default_flags, time_fits, decode_time, run_fits, count_of, data_offset, first_flags_of, rows_place, row_len}
 use Rattle.hls_media.specs.declared.tfhd.Head.{Head}
 use Rattle.hls_media.specs.declared.trun.Run.{Run}
@@ -29,6 +31,6 @@ pub record IsRun (run : Run) (content : List ℕ) : Type 0 where
   pub first_flags : run.first_flags ≡ first_flags_of content
   pub rows : run.rows ≡ rows_place content
   pub row : run.row ≡ row_len content
-  pub row_is : run.row ≡ wide (has content 256) + wide (has content 512) + wide (has content 1024) + wide (has content 2048)
+  pub row_is : run.row ≡ wide (has content sample_duration_present) + wide (has content sample_size_present) + wide (has content sample_flags_present) + wide (has content sample_composition_time_offsets_present)
   pub fits : run.rows + run.count * run.row ≤ length content
   pub least : 8 ≤ run.rows

@@ -1,7 +1,8 @@
 -- Where the bytes of runs lie, one box of a `traf` after the other.
+-- For the proofs of this crate; no public clause cites it.
 use Rattle.std.specs.Prelude.{unwrap_or, option_map, ℕ, ℤ, pos, neg_ℤ, ◌+◌, ◌*◌, ◌^◌, ◌+ℤ◌, ◌≤ℤ◌, ◌==◌, ◌||◌, if◌then◌else◌, Option, Some, None, List}
 use Rattle.hls_boxes_laws.specs.Boxes.{Child}
-use Rattle.hls_media_laws.specs.declared.kinds.TheConstants.{TRUN}
+use Rattle.hls_media_laws.specs.Kinds.{trun_type}
 use Rattle.hls_media_laws.specs.Fields.{run_fits, sizes, total, lacks}
 use Rattle.hls_media_laws.specs.Runs.{run_begin, is_outside}
 use Rattle.hls_media.specs.declared.places.Frame.{Frame}
@@ -25,7 +26,7 @@ placed_by default f p r = if run_fits r then Some (placed_more default f p r) el
 
 abbrev pub placed_step : Option ℕ → Frame → Placed → Child → Option Placed
 placed_step default f p c =
-    if c.kind == TRUN then placed_by default f p c.content
+    if c.kind == trun_type then placed_by default f p c.content
     else Some p
 
 -- at most n times 2 ^ 62 from zero

@@ -1,4 +1,5 @@
 -- A walk over the boxes of a unit at the top.
+-- For the proofs of this crate; no public clause cites it.
 use Rattle.std.specs.Prelude.{◌≡◌, ℕ, ◌-◌, ◌≤◌, Option, Some, None, IfSome, option_and_then, List, length, drop, slice_range}
 use Rattle.hls_boxes_laws.specs.Boxes.{children}
 use Rattle.hls_media_laws.specs.Layout.{Layout, layout_by, with_mdat, moov_by}

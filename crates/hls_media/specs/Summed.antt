@@ -1,4 +1,5 @@
 -- A sum over rows, some of which are left.
+-- For the proofs of this crate; no public clause cites it.
 use Rattle.std.specs.Prelude.{◌≡◌, ℕ, ◌+◌, ◌*◌, ◌≤◌, List, length, sum}
 use Rattle.hls_media_laws.specs.Fields.{column}
 

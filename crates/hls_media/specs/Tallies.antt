@@ -1,14 +1,16 @@
 -- What the code keeps of the `traf` boxes so far, one more at a time.
+-- For the proofs of this crate; no public clause cites it.
 use Rattle.std.specs.Prelude.{ℕ, ℤ, pos, ◌<◌, ◌^◌, ◌==◌, false, ◌&&◌, ◌||◌, if◌then◌else◌, Option, Some, None, is_none, option_map, Result, Err, List, fold}
 use Rattle.hls_boxes_laws.specs.Boxes.{Child}
-use Rattle.hls_media_laws.specs.declared.kinds.TheConstants.{TRAF}
+use Rattle.hls_media_laws.specs.Kinds.{traf_type}
 use Rattle.hls_media_laws.specs.declared.track.Track.{Track}
 use Rattle.hls_media_laws.specs.declared.facts.Facts.{Facts}
 use Rattle.hls_media_laws.specs.declared.fault.MediaFault.{MediaFault}
 use Rattle.hls_media_laws.specs.declared.fault.MediaFault.TheVariants as faults
 use Rattle.hls_media_laws.specs.Fields.{decode_time}
 use Rattle.hls_media_laws.specs.Trafs.{Traf, traf_at}
-use Rattle.hls_media_laws.specs.TrafFacts.{Given, is_unknown, has_base_offset, is_timing, size_for, duration_for, flags_for, base_of, ended}
+use Rattle.hls_media_laws.specs.TrafFacts.{Given, is_unknown, has_base_offset, is_timing, size_for, duration_for, flags_for, base_of}
+use Rattle.hls_media_laws.specs.FactCases.{ended}
 use Rattle.hls_media.specs.declared.places.Frame.{Frame}
 use Rattle.hls_media.specs.declared.places.Placed.{Placed}
 use Rattle.hls_media.specs.declared.times.Timed.{Timed}
@@ -60,7 +62,7 @@ tally_more g s t = record {
 }
 
 abbrev pub tally_step : Given → Tally → Child → Option Tally
-tally_step g s c = if c.kind == TRAF then option_map (tally_more g s) (traf_at c.content) else Some s
+tally_step g s c = if c.kind == traf_type then option_map (tally_more g s) (traf_at c.content) else Some s
 
 -- the first fault of a tally, or the facts
 abbrev pub verdict_of : Track → ℕ → Placed → Timing → Result Facts MediaFault

@@ -1,7 +1,8 @@
 -- How long the samples of a `traf` last, and what the flags of its first one are, one box after the other.
+-- For the proofs of this crate; no public clause cites it.
 use Rattle.std.specs.Prelude.{ℕ, ◌+◌, ◌==◌, nat_lt, false, not, ◌&&◌, ◌||◌, if◌then◌else◌, Option, Some, None, List}
 use Rattle.hls_boxes_laws.specs.Boxes.{Child}
-use Rattle.hls_media_laws.specs.declared.kinds.TheConstants.{TRUN}
+use Rattle.hls_media_laws.specs.Kinds.{trun_type}
 use Rattle.hls_media_laws.specs.Fields.{run_fits, count_of, durations, total, lacks}
 use Rattle.hls_media_laws.specs.Runs.{first_sample_flags}
 use Rattle.hls_media.specs.declared.times.Timed.{Timed}
@@ -24,5 +25,5 @@ timed_by duration flags t r = if run_fits r then Some (timed_more duration flags
 
 abbrev pub timed_step : Option ℕ → Option ℕ → Timed → Child → Option Timed
 timed_step duration flags t c =
-    if c.kind == TRUN then timed_by duration flags t c.content
+    if c.kind == trun_type then timed_by duration flags t c.content
     else Some t

@@ -1,4 +1,5 @@
 -- What a walk over the boxes of a `traf` keeps true.
+-- For the proofs of this crate; no public clause cites it.
 use Rattle.std.specs.Prelude.{◌*◌, ◌^◌, ◌≡◌, ℕ, ◌+◌, ◌-◌, ◌≤◌, Some, Option, List, length}
 use Rattle.hls_media.specs.declared.places.Frame.{Frame}
 use Rattle.hls_media.specs.declared.places.Placed.{Placed}

@@ -7,8 +7,9 @@ ghost use Rattle.hls_media.specs.Kept.{IsRun};
 ghost use Rattle.hls_media.specs.Valued.{valued};
 
 use crate::flags::{field_if, field_len};
-use crate::numbers::u32_at;
 use crate::trun::Run;
+use hls_boxes_laws::numbers::u32_at;
+use hls_media_laws::flags::{SAMPLE_DURATION_PRESENT, SAMPLE_FLAGS_PRESENT, SAMPLE_SIZE_PRESENT};
 
 /// What the values of a run's samples come to.
 #[derive(Clone, Copy)]
@@ -65,7 +66,13 @@ pub fn durations_of(content: &[u8], run: Run, default: Option<u32>) -> Values
     requires { IsRun run content.now }
     ensures { result ≡ valued (durations default content.now) }
 {
-    values_of(content, run, run.flags & 256 != 0, 0, default)
+    values_of(
+        content,
+        run,
+        run.flags & SAMPLE_DURATION_PRESENT != 0,
+        0,
+        default,
+    )
 }
 
 /// The sizes of a run's samples.
@@ -76,8 +83,8 @@ pub fn sizes_of(content: &[u8], run: Run, default: Option<u32>) -> Values
     values_of(
         content,
         run,
-        run.flags & 512 != 0,
-        field_len(run.flags, 256),
+        run.flags & SAMPLE_SIZE_PRESENT != 0,
+        field_len(run.flags, SAMPLE_DURATION_PRESENT),
         default,
     )
 }
@@ -88,7 +95,8 @@ pub fn first_flags(content: &[u8], run: Run, default: Option<u32>) -> Option<u32
     requires some { 0 < run.count }
     ensures { result ≡ first_sample_flags default content.now }
 {
-    let at = run.rows + field_len(run.flags, 256) + field_len(run.flags, 512);
-    run.first_flags
-        .or(field_if(content, run.flags, 1024, at).or(default))
+    let at = run.rows
+        + field_len(run.flags, SAMPLE_DURATION_PRESENT)
+        + field_len(run.flags, SAMPLE_SIZE_PRESENT);
+    run.first_flags.or(field_if(content, run.flags, SAMPLE_FLAGS_PRESENT, at).or(default))
 }

@@ -3,7 +3,7 @@
 ghost use Rattle.std.specs.Prelude.{◌≡◌, ◌+◌, ◌≤◌, ◌==◌, true, not, bit_and, length};
 ghost use Rattle.hls_media_laws.specs.Fields.{wide, field_if as field_if_there};
 
-use crate::numbers::u32_at;
+use hls_boxes_laws::numbers::u32_at;
 
 /// The length of a field that is there if `flag` is set.
 pub fn field_len(flags: u32, flag: u32) -> usize

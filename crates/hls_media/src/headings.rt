@@ -3,7 +3,7 @@
 ghost use Rattle.std.specs.Prelude.{◌≡◌, ◌≤◌, length, IfSome};
 ghost use Rattle.hls_media_laws.specs.Inits.{versioned_field as field_by_version, handler_field as handler_by_place, trex_at as trex_by_fields};
 
-use crate::numbers::u32_at;
+use hls_boxes_laws::numbers::u32_at;
 use hls_media_laws::track::{Defaults, Trex};
 
 /// The `track_ID` of a `tkhd` or the `timescale` of an `mdhd` with this content, if its version is known and its field lies

@@ -9,7 +9,6 @@ mod ids;
 mod inits;
 mod medias;
 mod moovs;
-mod numbers;
 mod places;
 mod tallies;
 #[cfg(test)]

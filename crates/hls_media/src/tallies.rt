@@ -16,6 +16,7 @@ use crate::places::{Frame, Placed, either, place_runs};
 use crate::tfhd::Head;
 use crate::times::{Timed, time_runs};
 use crate::trafs::traf_of;
+use hls_media_laws::flags::{BASE_DATA_OFFSET_PRESENT, DEFAULT_BASE_IS_MOOF};
 use hls_media_laws::kinds::TRAF;
 use hls_media_laws::track::{Defaults, Track};
 
@@ -174,7 +175,7 @@ fn with_traf(
     let head = heading.head;
     let track = track_with(tracks, head.track);
     let trex = trex_of(track);
-    let start = start_of(head.flags & 0x20000 != 0, so_far.placed);
+    let start = start_of(head.flags & DEFAULT_BASE_IS_MOOF != 0, so_far.placed);
     let frame = frame_at(start, bounds);
     let Some(placed) = place_runs(content, size_for(head, trex), frame, start) else {
         return None;
@@ -191,7 +192,10 @@ fn with_traf(
     };
     Some(Tally {
         unknown: either(so_far.unknown, track.is_none()),
-        base_offset: either(so_far.base_offset, head.flags & 1 != 0),
+        base_offset: either(
+            so_far.base_offset,
+            head.flags & BASE_DATA_OFFSET_PRESENT != 0,
+        ),
         timing: timing_now,
         placed,
     })

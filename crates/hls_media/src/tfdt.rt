@@ -3,7 +3,7 @@
 ghost use Rattle.std.specs.Prelude.{◌≡◌};
 ghost use Rattle.hls_media.specs.Kept.{time_kept};
 
-use crate::numbers::{u32_at, u64_at};
+use hls_boxes_laws::numbers::{u32_at, u64_at};
 
 /// The decode time in a `tfdt` with this content, if its version is known and its field lies in it.
 #[tactic(auto, unfolding(hls_media_laws::specs::Fields::time_fits, hls_media_laws::specs::Fields::decode_time, crate::specs::Kept::time_kept))]

@@ -4,7 +4,11 @@ ghost use Rattle.std.specs.Prelude.{◌≡◌};
 ghost use Rattle.hls_media.specs.Kept.{head_kept};
 
 use crate::flags::{field_if, field_len};
-use crate::numbers::u32_at;
+use hls_boxes_laws::numbers::u32_at;
+use hls_media_laws::flags::{
+    BASE_DATA_OFFSET_PRESENT, DEFAULT_SAMPLE_DURATION_PRESENT, DEFAULT_SAMPLE_FLAGS_PRESENT,
+    DEFAULT_SAMPLE_SIZE_PRESENT, SAMPLE_DESCRIPTION_INDEX_PRESENT,
+};
 
 /// What is used of a `tfhd`.
 #[derive(Clone, Copy)]
@@ -25,17 +29,22 @@ pub fn head_of(content: &[u8]) -> Option<Head>
         return None;
     }
     let flags = u32_at(content, 0);
-    let duration_at = 8 + if flags & 1 != 0 { 8 } else { 0 } + field_len(flags, 2);
-    let size_at = duration_at + field_len(flags, 8);
-    let flags_at = size_at + field_len(flags, 16);
-    if content.len() < flags_at + field_len(flags, 32) {
+    let base = if flags & BASE_DATA_OFFSET_PRESENT != 0 {
+        8
+    } else {
+        0
+    };
+    let duration_at = 8 + base + field_len(flags, SAMPLE_DESCRIPTION_INDEX_PRESENT);
+    let size_at = duration_at + field_len(flags, DEFAULT_SAMPLE_DURATION_PRESENT);
+    let flags_at = size_at + field_len(flags, DEFAULT_SAMPLE_SIZE_PRESENT);
+    if content.len() < flags_at + field_len(flags, DEFAULT_SAMPLE_FLAGS_PRESENT) {
         return None;
     }
     Some(Head {
         track: u32_at(content, 4),
         flags,
-        duration: field_if(content, flags, 8, duration_at),
-        size: field_if(content, flags, 16, size_at),
-        sample_flags: field_if(content, flags, 32, flags_at),
+        duration: field_if(content, flags, DEFAULT_SAMPLE_DURATION_PRESENT, duration_at),
+        size: field_if(content, flags, DEFAULT_SAMPLE_SIZE_PRESENT, size_at),
+        sample_flags: field_if(content, flags, DEFAULT_SAMPLE_FLAGS_PRESENT, flags_at),
     })
 }

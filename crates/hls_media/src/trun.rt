@@ -5,7 +5,11 @@ ghost use Rattle.std.specs.Int.{w32, cast_signed};
 ghost use Rattle.hls_media.specs.Kept.{run_kept, IsRun};
 
 use crate::flags::{field_if, field_len};
-use crate::numbers::u32_at;
+use hls_boxes_laws::numbers::u32_at;
+use hls_media_laws::flags::{
+    DATA_OFFSET_PRESENT, FIRST_SAMPLE_FLAGS_PRESENT, SAMPLE_COMPOSITION_TIME_OFFSETS_PRESENT,
+    SAMPLE_DURATION_PRESENT, SAMPLE_FLAGS_PRESENT, SAMPLE_SIZE_PRESENT,
+};
 
 /// What is used of a `trun`, and where its rows of fields stand.
 #[derive(Clone, Copy)]
@@ -31,20 +35,20 @@ pub fn run_of(content: &[u8]) -> Option<Run>
     }
     let flags = u32_at(content, 0);
     let count = u32_at(content, 4);
-    let first_flags_at = 8 + field_len(flags, 1);
-    let rows = first_flags_at + field_len(flags, 4);
-    let row = field_len(flags, 256)
-        + field_len(flags, 512)
-        + field_len(flags, 1024)
-        + field_len(flags, 2048);
+    let first_flags_at = 8 + field_len(flags, DATA_OFFSET_PRESENT);
+    let rows = first_flags_at + field_len(flags, FIRST_SAMPLE_FLAGS_PRESENT);
+    let row = field_len(flags, SAMPLE_DURATION_PRESENT)
+        + field_len(flags, SAMPLE_SIZE_PRESENT)
+        + field_len(flags, SAMPLE_FLAGS_PRESENT)
+        + field_len(flags, SAMPLE_COMPOSITION_TIME_OFFSETS_PRESENT);
     if content.len() < rows + count as usize * row {
         return None;
     }
     Some(Run {
         flags,
         count,
-        offset: signed(field_if(content, flags, 1, 8)),
-        first_flags: field_if(content, flags, 4, first_flags_at),
+        offset: signed(field_if(content, flags, DATA_OFFSET_PRESENT, 8)),
+        first_flags: field_if(content, flags, FIRST_SAMPLE_FLAGS_PRESENT, first_flags_at),
         rows,
         row,
     })

@@ -1,8 +1,9 @@
 //! Units: their boxes at the top, and their facts.
 
 ghost use Rattle.std.specs.Prelude.{pos, option_map, IfSome, ◌≡◌, ◌^◌, ◌<◌, ◌≤◌, length};
-ghost use Rattle.hls_media_laws.specs.UnitFacts.{facts_of_moof as facts_by_moof, facts};
+ghost use Rattle.hls_media_laws.specs.UnitFacts.{facts};
 ghost use Rattle.hls_media_laws.specs.Layout.{layout_of};
+ghost use Rattle.hls_media_laws.specs.FactCases.{facts_of_moof as facts_by_moof};
 ghost use Rattle.hls_media.specs.Shapes.{seen_by};
 ghost use Rattle.hls_media.specs.Tallies.{given};
 
@@ -111,8 +112,7 @@ fn bounds_of(shape: Shape) -> Bounds
     }
 }
 
-/// Reads the facts of a unit under its init section (ISO/IEC 14496-12 8.8). It takes no memory, and its work grows with the
-/// bytes of the `moof`, never with a number that they claim.
+/// Reads the facts of a unit under its init section (ISO/IEC 14496-12 8.8). It takes no memory.
 ///
 /// The first fault of the whole unit, in this order: `BadBox`, `UnknownTrack`, `BaseOffset`, `NoTimingTraf`,
 /// `TwoTimingTrafs`, `NoDecodeTime`, `NoDefault`, `EmptyFragment`, `TimeTooLarge`, `DataOutside`.

@@ -3,13 +3,14 @@
 ghost use Rattle.std.specs.Prelude.{◌≡◌, ◌+◌, ◌^◌, ◌<◌};
 ghost use Rattle.hls_time.specs.Times.{floor_us as us_of};
 ghost use Rattle.hls_media_laws.specs.Runs.{is_sync as first_is_sync};
-ghost use Rattle.hls_media_laws.specs.TrafFacts.{ended as ended_so};
+ghost use Rattle.hls_media_laws.specs.FactCases.{ended as ended_so};
 ghost use Rattle.hls_media.specs.Tallies.{verdict, IsShort};
 
 use crate::tallies::{Tally, Timing};
 use crate::times::Timed;
 use hls_media_laws::facts::Facts;
 use hls_media_laws::fault::MediaFault;
+use hls_media_laws::flags::SAMPLE_IS_NON_SYNC;
 use hls_media_laws::track::Track;
 
 /// A time in whole microseconds, rounded down, on exact numbers: an end may pass 64 bits here.
@@ -26,7 +27,7 @@ fn is_sync(flags: Option<u32>) -> bool
     ensures { result ≡ first_is_sync flags }
 {
     match flags {
-        Some(flags) => flags & 0x10000 == 0,
+        Some(flags) => flags & SAMPLE_IS_NON_SYNC == 0,
         None => false,
     }
 }
