@@ -1,3 +1,12 @@
 pub mod Building
+pub mod Commas
+pub mod Cuts
+pub mod Digits
+pub mod FirstRefusals
 pub mod Joined
+pub mod MasterTexts
+pub mod ReadBack
+pub mod Scanning
 pub mod Texts
+pub mod Times
+pub mod WrittenLines

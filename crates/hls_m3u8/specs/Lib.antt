@@ -3,4 +3,16 @@ pub mod Uri
 pub mod HasText
 pub mod Lines
 pub mod Written
+pub mod Masters
 pub mod Forms
+pub mod Faults
+pub mod Tags
+pub mod TextLines
+pub mod NextLine
+pub mod Values
+pub mod Attributes
+pub mod Commas
+pub mod Reading
+pub mod Readable
+pub mod ReadLaws
+pub mod Scans

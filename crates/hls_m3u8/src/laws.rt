@@ -5,6 +5,9 @@ ghost use Rattle.hls_m3u8.specs.Playlist.{Playlist};
 ghost use Rattle.hls_m3u8.specs.HasText.{HasText};
 ghost use Rattle.hls_m3u8.specs.Lines.{media_text};
 ghost use Rattle.hls_m3u8.specs.Written.{IsWritten};
+ghost use Rattle.hls_m3u8.specs.ReadLaws.{ReadableAsOne, RefusedAtFirst, WrittenReadsBack};
+
+use hls_time::written_seconds_read_back;
 
 /// A list has at most one text.
 pub fn list_has_one_text()
@@ -20,3 +23,20 @@ pub fn text_exactly_where()
 pub fn written_is_text()
     ensures { (list : Playlist) (text : List ℕ) → IsWritten list text → text ≡ media_text list }
 {}
+
+/// A text is readable as at most one list.
+pub fn readable_as_one_list()
+    ensures { ReadableAsOne }
+{}
+
+/// Lines are refused exactly for the first that is refused behind those before it, with its number.
+pub fn refused_at_first()
+    ensures { RefusedAtFirst }
+{}
+
+/// A written text within the limits of a reader is readable as its own list.
+pub fn written_reads_back()
+    ensures { WrittenReadsBack }
+{
+    written_seconds_read_back()
+}

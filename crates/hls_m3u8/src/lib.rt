@@ -1,18 +1,39 @@
-//! HLS media playlists (RFC 8216): their text, and its writer.
+//! HLS media playlists (RFC 8216): their text, its writer and its reader.
 
 #![tactic(auto)]
 
+mod attribute;
+mod fault;
 mod forms;
 mod laws;
+mod map_tag;
+mod master;
+mod master_writer;
 mod playlist;
 mod push;
+mod read;
+#[cfg(test)]
+mod read_tests;
+mod reading;
+mod resource;
 mod size;
+mod split;
+mod step;
+mod tag;
 #[cfg(test)]
 mod tests;
 mod uri;
+mod value;
 mod write;
 
-pub use laws::{list_has_one_text, text_exactly_where, written_is_text};
+pub use fault::ListFault;
+pub use laws::{
+    list_has_one_text, readable_as_one_list, refused_at_first, text_exactly_where, written_is_text,
+    written_reads_back,
+};
+pub use master::{AudioRendition, MasterPlaylist, VariantStream};
+pub use master_writer::write_master;
 pub use playlist::{ByteRange, Kind, Map, MediaPlaylist, Segment};
+pub use read::read_media;
 pub use uri::is_uri;
 pub use write::write_media;

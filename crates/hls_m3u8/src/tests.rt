@@ -3,7 +3,10 @@
 ghost use Rattle.std.specs.Prelude.{All, IfOk};
 ghost use Rattle.hls_m3u8.specs.HasText.{IsSegment};
 
-use crate::{ByteRange, MediaPlaylist, Segment, is_uri, write_media};
+use crate::{
+    AudioRendition, ByteRange, MasterPlaylist, MediaPlaylist, Segment, VariantStream, is_uri,
+    write_master, write_media,
+};
 use bytes::ByteStr;
 use std::alloc::{AllocError, Global};
 use std::process::Abort;
@@ -189,4 +192,34 @@ fn uris(rt: HostRuntime) {
     ] {
         assert_eq!(rt; is_uri(text), want, "at {text}");
     }
+}
+
+#[test]
+fn video_with_audio(rt: HostRuntime) -> Result<(), Fail> {
+    let list = MasterPlaylist {
+        audio: vec![in rt.alloc();
+            AudioRendition {
+                name: ByteStr::from_static("en"),
+                uri: ByteStr::from_static("/live/1.m3u8"),
+            },
+        ]?,
+        variants: vec![in rt.alloc();
+            VariantStream {
+                bandwidth: 3000000,
+                uri: ByteStr::from_static("/live/0.m3u8"),
+            },
+        ]?,
+    };
+    let text = write_master(rt.alloc(), &list)?;
+    assert_eq!(rt;
+        text.as_slice(),
+        b"#EXTM3U
+#EXT-X-VERSION:6
+#EXT-X-MEDIA:TYPE=AUDIO,GROUP-ID=\"audio\",NAME=\"en\",DEFAULT=YES,AUTOSELECT=YES,URI=\"/live/1.m3u8\"
+#EXT-X-STREAM-INF:BANDWIDTH=3000000,AUDIO=\"audio\"
+/live/0.m3u8
+"
+            .as_slice()
+    );
+    Ok(())
 }

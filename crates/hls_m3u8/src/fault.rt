@@ -1,0 +1,70 @@
+//! Why a text is refused as a media playlist.
+
+ghost use Rattle.std.specs.Prelude.{◌≡◌};
+ghost use Rattle.hls_m3u8.specs.Faults.{fault_name};
+ghost use Rattle.hls_m3u8.specs.declared.fault.ListFault.TheVariants.{Memory};
+
+use std::alloc::{AllocError, AllocFailed};
+use thiserror::Error;
+
+/// Why a text is refused as a media playlist. TooLong of the bytes, Utf8 and NotM3u are tested first, in this order,
+/// then the lines one by one (on a URI's line MissingTag, BadTag, TooLong in this order), at the end MissingTag, and
+/// then Memory.
+#[derive(Clone, Copy, Debug, PartialEq, Eq, Error)]
+pub enum ListFault {
+    /// The first line isn't `#EXTM3U` (RFC 8216 section 4.3.1.1).
+    #[error("NotM3u")]
+    NotM3u,
+
+    /// The text isn't UTF-8, or begins with a byte order mark (section 4.1).
+    #[error("Utf8")]
+    Utf8,
+
+    /// A tag that isn't read, a value that a tag can't have, or a tag where it can't stand; the line, from 1.
+    #[error("BadTag")]
+    BadTag { line: usize },
+
+    /// A URI without EXTINF before it, an EXTINF without a URI behind it, or no target duration.
+    #[error("MissingTag")]
+    MissingTag,
+
+    /// More than 16777216 bytes or 131072 segments.
+    #[error("TooLong")]
+    TooLong,
+
+    /// A growth of memory was refused.
+    #[error("Memory")]
+    Memory,
+}
+
+impl ListFault {
+    /// The variant's name, which programs print.
+    pub fn name(&self) -> &'static str
+        ensures { result.now ≡ fault_name self.now }
+    {
+        match self {
+            ListFault::NotM3u => "NotM3u",
+            ListFault::Utf8 => "Utf8",
+            ListFault::BadTag { .. } => "BadTag",
+            ListFault::MissingTag => "MissingTag",
+            ListFault::TooLong => "TooLong",
+            ListFault::Memory => "Memory",
+        }
+    }
+}
+
+impl From<AllocError> for ListFault {
+    ghost from_gives = { λ _ e. e ≡ Memory };
+
+    fn from(_error: AllocError) -> ListFault {
+        ListFault::Memory
+    }
+}
+
+impl<T: Drop> From<AllocFailed<T>> for ListFault {
+    ghost from_gives = { λ _ e. e ≡ Memory };
+
+    fn from(_error: AllocFailed<T>) -> ListFault {
+        ListFault::Memory
+    }
+}

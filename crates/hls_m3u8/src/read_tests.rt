@@ -1,0 +1,365 @@
+//! Texts of this writer, of other makers and of strangers, read.
+
+use crate::{ByteRange, Kind, ListFault, MediaPlaylist, read_media};
+use std::alloc::Global;
+use std::process::Abort;
+use std::test::Fail;
+
+const ONE_UNIT: &str = "#EXTM3U
+#EXT-X-VERSION:6
+#EXT-X-TARGETDURATION:6
+#EXT-X-MEDIA-SEQUENCE:0
+#EXT-X-DISCONTINUITY-SEQUENCE:0
+#EXT-X-PLAYLIST-TYPE:VOD
+#EXT-X-MAP:URI=\"media.mp4\",BYTERANGE=\"600@0\"
+#EXTINF:4.000000,
+#EXT-X-BYTERANGE:1000@600
+media.mp4
+#EXT-X-ENDLIST
+";
+
+fn kind_name(kind: Option<Kind>) -> &'static str {
+    match kind {
+        None => "live",
+        Some(Kind::Vod) => "vod",
+        Some(Kind::Event) => "event",
+    }
+}
+
+// A range as `length@offset`, or nothing.
+fn range_text(alloc: Global, range: Option<ByteRange>) -> Result<String, Fail> {
+    match range {
+        None => Ok(String::new(alloc)),
+        Some(bytes) => Ok(format!(in alloc; " {}@{}", bytes.length, bytes.offset)?),
+    }
+}
+
+// All that a list holds, a line for its tags and one for each segment.
+fn shown(alloc: Global, list: &MediaPlaylist) -> Result<String, Fail> {
+    let mut out = format!(in alloc;
+        "{} {} {} {} {} {}",
+        list.version,
+        list.target,
+        list.media_sequence,
+        list.discontinuity_sequence,
+        kind_name(list.kind),
+        list.ended
+    )?;
+    if let Some(map) = &list.map {
+        out.push_str(" ")?;
+        out.push_str(map.uri.as_str())?;
+        out.push_str(range_text(alloc, map.range)?.as_str())?;
+    }
+    for segment in &list.segments {
+        let mark = if segment.mark { "mark " } else { "" };
+        let tags = format!(in alloc; "\n{mark}{} ", segment.us)?;
+        out.push_str(tags.as_str())?;
+        out.push_str(segment.uri.as_str())?;
+        out.push_str(range_text(alloc, segment.range)?.as_str())?;
+    }
+    Ok(out)
+}
+
+// What a text is read as: its list, or its refusal.
+fn answer(alloc: Global, text: &[u8]) -> Result<String, Fail> {
+    match read_media(alloc, text) {
+        Ok(list) => shown(alloc, &list),
+        Err(ListFault::BadTag { line }) => Ok(format!(in alloc; "BadTag {line}")?),
+        Err(fault) => Ok(String::from_str(alloc, fault.name())?),
+    }
+}
+
+fn reads(rt: &impl Abort, alloc: Global, text: &str, want: &str) -> Result<(), Fail> {
+    let got = answer(alloc, text.as_bytes())?;
+    assert_eq!(rt; got.as_str(), want, "of {text}");
+    Ok(())
+}
+
+// The bytes of texts, one after the other.
+fn joined(alloc: Global, texts: &[&str]) -> Result<String, Fail> {
+    let mut out = String::new(alloc);
+    for text in texts {
+        out.push_str(text)?;
+    }
+    Ok(out)
+}
+
+const HEAD: &str = "#EXTM3U
+#EXT-X-VERSION:6
+#EXT-X-TARGETDURATION:6
+#EXT-X-MEDIA-SEQUENCE:0
+#EXT-X-DISCONTINUITY-SEQUENCE:0
+#EXT-X-PLAYLIST-TYPE:VOD
+#EXT-X-MAP:URI=\"media.mp4\",BYTERANGE=\"600@0\"
+";
+
+const SEGMENT: &str = "#EXTINF:4.000000,
+#EXT-X-BYTERANGE:1000@600
+media.mp4
+";
+
+const READ: &str = "6 6 0 0 vod true media.mp4 600@0\n4000000 media.mp4 1000@600";
+
+#[test]
+fn one_unit(rt: HostRuntime) -> Result<(), Fail> {
+    reads(&rt, rt.alloc(), ONE_UNIT, READ)
+}
+
+#[test]
+fn crlf_comments_and_unknown_tags(rt: HostRuntime) -> Result<(), Fail> {
+    let text =
+        "#EXTM3U\r\n#EXT-X-VERSION:6\r\n#EXT-X-TARGETDURATION:6\r\n\r\n# x\r\n#EXT-X-FOO:1\r\n\
+#EXT-X-MEDIA-SEQUENCE:0\r\n#EXT-X-DISCONTINUITY-SEQUENCE:0\r\n#EXT-X-PLAYLIST-TYPE:VOD\r\n\
+#EXT-X-MAP:URI=\"media.mp4\",BYTERANGE=\"600@0\"\r\n#EXTINF:4.000000,\r\n#EXT-X-BYTERANGE:1000@600\r\n\
+media.mp4\r\n#EXT-X-ENDLIST\r\n";
+    reads(&rt, rt.alloc(), text, READ)
+}
+
+#[test]
+fn no_target_duration(rt: HostRuntime) -> Result<(), Fail> {
+    let text = "#EXTM3U\n#EXT-X-VERSION:6\n#EXTINF:4.000000,\nmedia.mp4\n#EXT-X-ENDLIST\n";
+    reads(&rt, rt.alloc(), text, "MissingTag")?;
+    reads(&rt, rt.alloc(), "#EXTM3U\n", "MissingTag")
+}
+
+#[test]
+fn empty_line_first(rt: HostRuntime) -> Result<(), Fail> {
+    let text = joined(rt.alloc(), &["\n", ONE_UNIT])?;
+    reads(&rt, rt.alloc(), text.as_str(), "NotM3u")?;
+    reads(&rt, rt.alloc(), "", "NotM3u")?;
+    reads(&rt, rt.alloc(), "#EXTM3U\r", "NotM3u")
+}
+
+#[test]
+fn length_twice(rt: HostRuntime) -> Result<(), Fail> {
+    let text = joined(
+        rt.alloc(),
+        &[HEAD, "#EXTINF:4.000000,\n", SEGMENT, "#EXT-X-ENDLIST\n"],
+    )?;
+    reads(&rt, rt.alloc(), text.as_str(), "BadTag 9")
+}
+
+#[test]
+fn seventh_digit(rt: HostRuntime) -> Result<(), Fail> {
+    let text = joined(
+        rt.alloc(),
+        &[
+            HEAD,
+            "#EXTINF:4.0000009\n#EXT-X-BYTERANGE:1000@600\nmedia.mp4\n#EXT-X-ENDLIST",
+        ],
+    )?;
+    reads(&rt, rt.alloc(), text.as_str(), READ)
+}
+
+#[test]
+fn range_behind_the_last(rt: HostRuntime) -> Result<(), Fail> {
+    let more = "#EXTINF:2,\n#EXT-X-BYTERANGE:500\nmedia.mp4\n";
+    let text = joined(rt.alloc(), &[HEAD, SEGMENT, more, "#EXT-X-ENDLIST\n"])?;
+    reads(
+        &rt,
+        rt.alloc(),
+        text.as_str(),
+        "6 6 0 0 vod true media.mp4 600@0\n4000000 media.mp4 1000@600\n2000000 media.mp4 500@1600",
+    )?;
+    let other = joined(
+        rt.alloc(),
+        &[
+            HEAD,
+            SEGMENT,
+            "#EXTINF:2,\n#EXT-X-BYTERANGE:500\nother.mp4\n",
+        ],
+    )?;
+    reads(&rt, rt.alloc(), other.as_str(), "BadTag 13")?;
+    let first = joined(rt.alloc(), &[HEAD, more])?;
+    reads(&rt, rt.alloc(), first.as_str(), "BadTag 10")?;
+    let far =
+        "#EXTINF:1\n#EXT-X-BYTERANGE:1@999999999999999\na\n#EXTINF:1\n#EXT-X-BYTERANGE:1\na\n";
+    let past = joined(rt.alloc(), &[HEAD, far])?;
+    reads(&rt, rt.alloc(), past.as_str(), "BadTag 13")
+}
+
+#[test]
+fn length_without_uri(rt: HostRuntime) -> Result<(), Fail> {
+    let text = joined(rt.alloc(), &[ONE_UNIT, "#EXTINF:1,"])?;
+    reads(&rt, rt.alloc(), text.as_str(), "MissingTag")?;
+    let range = joined(rt.alloc(), &[HEAD, "#EXT-X-BYTERANGE:1@0\nmedia.mp4\n"])?;
+    reads(&rt, rt.alloc(), range.as_str(), "MissingTag")
+}
+
+#[test]
+fn live_after_slide(rt: HostRuntime) -> Result<(), Fail> {
+    reads(
+        &rt,
+        rt.alloc(),
+        "#EXTM3U
+#EXT-X-VERSION:6
+#EXT-X-TARGETDURATION:6
+#EXT-X-MEDIA-SEQUENCE:1
+#EXT-X-DISCONTINUITY-SEQUENCE:0
+#EXT-X-MAP:URI=\"/media/0.mp4\",BYTERANGE=\"600@0\"
+#EXTINF:4.000000,
+#EXT-X-BYTERANGE:1000@1600
+/media/0.mp4
+#EXTINF:5.000000,
+#EXT-X-BYTERANGE:1000@2600
+/media/0.mp4
+",
+        "6 6 1 0 live false /media/0.mp4 600@0\n4000000 /media/0.mp4 1000@1600\n5000000 /media/0.mp4 1000@2600",
+    )
+}
+
+#[test]
+fn values_of_tags(rt: HostRuntime) -> Result<(), Fail> {
+    for (line, want) in [
+        ("#EXT-X-VERSION:000000000000007", "7 6 0 0 live false"),
+        ("#EXT-X-VERSION", "BadTag 3"),
+        ("#EXT-X-VERSION:", "BadTag 3"),
+        ("#EXT-X-VERSION:1000000000000000", "BadTag 3"),
+        ("#EXT-X-TARGETDURATION:7", "BadTag 3"),
+        ("#EXT-X-PLAYLIST-TYPE:EVENT", "1 6 0 0 event false"),
+        ("#EXT-X-PLAYLIST-TYPE:event", "BadTag 3"),
+        ("#EXT-X-ENDLIST:", "BadTag 3"),
+        ("#EXT-X-KEY:METHOD=NONE", "BadTag 3"),
+        ("#EXT-X-KEYFORMAT:1", "1 6 0 0 live false"),
+        ("#EXT-X-STREAM-INF", "BadTag 3"),
+        ("#EXTM3U", "1 6 0 0 live false"),
+        ("#EXT-X-BYTERANGE:0@1", "BadTag 3"),
+        ("#EXT-X-BYTERANGE:1@", "BadTag 3"),
+        ("#EXT-X-MAP:URI=\"\"", "1 6 0 0 live false "),
+        (
+            "#EXT-X-MAP:A=b,URI=\"a,b\",C=\"=,\"",
+            "1 6 0 0 live false a,b",
+        ),
+        ("#EXT-X-MAP:URI=\"a\",", "BadTag 3"),
+        ("#EXT-X-MAP:URI=a", "BadTag 3"),
+        ("#EXT-X-MAP:URI=\"a\",URI=\"a\"", "BadTag 3"),
+        ("#EXT-X-MAP:URI=\"a\",BYTERANGE=\"5\"", "BadTag 3"),
+        ("#EXT-X-MAP:URI=\"a\",BYTERANGE=\"0@0\"", "BadTag 3"),
+        ("#EXT-X-MAP:URI=\"a\",B=", "BadTag 3"),
+        ("#EXT-X-MAP:URI=\"a\",=b", "BadTag 3"),
+        ("#EXT-X-MAP:URI=\"a\"b", "BadTag 3"),
+    ] {
+        let text = joined(
+            rt.alloc(),
+            &["#EXTM3U\n#EXT-X-TARGETDURATION:6\n", line, "\n"],
+        )?;
+        reads(&rt, rt.alloc(), text.as_str(), want)?;
+    }
+    Ok(())
+}
+
+#[test]
+fn tags_behind_a_segment(rt: HostRuntime) -> Result<(), Fail> {
+    for (line, want) in [
+        ("#EXT-X-MEDIA-SEQUENCE:1", "BadTag 5"),
+        ("#EXT-X-DISCONTINUITY-SEQUENCE:1", "BadTag 5"),
+        ("#EXT-X-MAP:URI=\"a\"", "BadTag 5"),
+        ("#EXT-X-VERSION:3", "3 6 0 0 live false\n1000000 a"),
+        ("b", "MissingTag"),
+        ("#EXT-X-DISCONTINUITY\n#EXT-X-DISCONTINUITY", "BadTag 6"),
+    ] {
+        let text = joined(
+            rt.alloc(),
+            &["#EXTM3U\n#EXT-X-TARGETDURATION:6\n#EXTINF:1\na\n", line],
+        )?;
+        reads(&rt, rt.alloc(), text.as_str(), want)?;
+    }
+    Ok(())
+}
+
+#[test]
+fn bytes_that_are_no_text(rt: HostRuntime) -> Result<(), Fail> {
+    let marked = answer(rt.alloc(), b"\xef\xbb\xbf#EXTM3U\n")?;
+    assert_eq!(rt; marked.as_str(), "Utf8");
+    let cut = answer(rt.alloc(), b"#EXTM3U\n\xc3")?;
+    assert_eq!(rt; cut.as_str(), "Utf8");
+    Ok(())
+}
+
+#[test]
+fn lists_of_other_makers(rt: HostRuntime) -> Result<(), Fail> {
+    // ffmpeg -f hls with fragmented MP4
+    reads(
+        &rt,
+        rt.alloc(),
+        "#EXTM3U
+#EXT-X-VERSION:7
+#EXT-X-TARGETDURATION:2
+#EXT-X-MEDIA-SEQUENCE:0
+#EXT-X-PLAYLIST-TYPE:EVENT
+#EXT-X-MAP:URI=\"init.mp4\"
+#EXTINF:2.000000,
+live0.m4s
+#EXTINF:1.920000,
+live1.m4s
+#EXT-X-ENDLIST
+",
+        "7 2 0 0 event true init.mp4\n2000000 live0.m4s\n1920000 live1.m4s",
+    )?;
+    // GStreamer's hlssink: a comma in the title's place, and an unknown tag
+    reads(
+        &rt,
+        rt.alloc(),
+        "#EXTM3U
+#EXT-X-VERSION:3
+#EXT-X-ALLOW-CACHE:NO
+#EXT-X-MEDIA-SEQUENCE:4
+#EXT-X-TARGETDURATION:15
+
+#EXTINF:14.999999046325684,
+segment00004.ts
+",
+        "3 15 4 0 live false\n14999999 segment00004.ts",
+    )?;
+    // nginx-rtmp: a mark before a segment
+    reads(
+        &rt,
+        rt.alloc(),
+        "#EXTM3U
+#EXT-X-VERSION:3
+#EXT-X-MEDIA-SEQUENCE:12
+#EXT-X-TARGETDURATION:5
+#EXT-X-DISCONTINUITY
+#EXTINF:4.967,
+stream-12.ts
+#EXTINF:5.000,
+stream-13.ts
+",
+        "3 5 12 0 live false\nmark 4967000 stream-12.ts\n5000000 stream-13.ts",
+    )?;
+    // ffmpeg with encryption
+    reads(
+        &rt,
+        rt.alloc(),
+        "#EXTM3U
+#EXT-X-VERSION:3
+#EXT-X-TARGETDURATION:2
+#EXT-X-KEY:METHOD=AES-128,URI=\"k\"
+#EXTINF:2.0,
+a.ts
+",
+        "BadTag 4",
+    )
+}
+
+// Reads again where memory was refused.
+fn read_again(alloc: Global, text: &[u8]) -> Result<MediaPlaylist, ListFault> {
+    match read_media(alloc, text) {
+        Err(ListFault::Memory) => read_media(alloc, text),
+        answer => answer,
+    }
+}
+
+// With any one request for memory refused the second try gives the list; what is no list is refused without memory.
+#[test]
+fn refused_memory_is_told_last(rt: HostRuntime) -> Result<(), Fail> {
+    let list = read_again(rt.alloc(), ONE_UNIT.as_bytes())?;
+    assert_eq!(rt; list.segments.len(), 1);
+    assert_eq!(rt; list.segments[0].uri.as_str(), "media.mp4");
+    assert_eq!(rt; list.target, 6);
+    match read_media(rt.alloc(), b"#EXTM3U\n#EXTINF:1\na\n#EXT-X-ENDLIST:") {
+        Err(ListFault::BadTag { line }) => assert_eq!(rt; line, 4),
+        _ => assert!(rt; false),
+    }
+    Ok(())
+}
