@@ -1,5 +1,5 @@
 //! A level over another: up to 64 children, filled from the left.
-ghost use Rattle.std.specs.Prelude.{◌≡◌, ℕ, ◌+◌, ◌*◌, ◌^◌, ◌<◌, ◌≤◌, [], ◌∷◌, ◌++◌, length, map, drop, suc, slice_index_or, IfOk};
+ghost use Rattle.std.specs.Prelude.{◌≡◌, ℕ, ◌+◌, ◌*◌, ◌^◌, ◌<◌, ◌≤◌, [], ◌∷◌, ◌++◌, length, map, drop, suc, slice_index_or, IfOk, OnOk};
 ghost use Rattle.hls_blocks.specs.Numbered.{Numbered, next_of, with_item, from_number, rest_at};
 ghost use Rattle.hls_blocks.specs.Tree.{children, HasChildren, branch_seen, IsBranch};
 ghost use Rattle.hls_blocks.specs.Place.{IsPlace};
@@ -63,6 +63,8 @@ fn with_child<C: Level>(
     requires few { length (children node.now) < 64 }
     requires count { ticks.old + 64 ≤ 2 ^ 63 }
     ensures all { IfOk result (HasChildren node.now.slot (children node.now ++ child ∷ [])) }
+    ensures rises { ticks.old ≤ ticks.new }
+    ensures wrote { OnOk result (ticks.old < ticks.new) }
     ensures count { ticks.new ≤ ticks.old + 64 }
 {
     let last = node.last.clone()?;
@@ -130,6 +132,8 @@ impl<C: Level> Level for Branch<C> {
         requires count { ticks.old + (64 + C.writes) ≤ 2 ^ 63 }
         ensures seen { IfOk result (λ s. ⟦<Branch<C> as Level>⟧.seen s ≡ record { first = n; items = item.value ∷ [] }) }
         ensures sound { IfOk result ⟦<Branch<C> as Level>⟧.sound }
+        ensures rises { ticks.old ≤ ticks.new }
+        ensures wrote { OnOk result (ticks.old < ticks.new) }
         ensures count { ticks.new ≤ ticks.old + (64 + C.writes) }
     {
         let width = C::width();
@@ -156,6 +160,8 @@ impl<C: Level> Level for Branch<C> {
         requires count { ticks.old + (64 + C.writes) ≤ 2 ^ 63 }
         ensures seen { IfOk result (λ s. ⟦<Branch<C> as Level>⟧.seen s ≡ with_item (⟦<Branch<C> as Level>⟧.seen self.now) item.value) }
         ensures sound { IfOk result ⟦<Branch<C> as Level>⟧.sound }
+        ensures rises { ticks.old ≤ ticks.new }
+        ensures wrote { OnOk result (ticks.old < ticks.new) }
         ensures count { ticks.new ≤ ticks.old + (64 + C.writes) }
     {
         let (at, there) = place_in(self, n);

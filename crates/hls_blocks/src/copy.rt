@@ -15,6 +15,7 @@ pub fn with_last<X: Drop>(
     requires room { length entries.now < 16777216 }
     requires count { ticks.old + length entries.now < 2 ^ 63 }
     ensures values { IfOk result (λ v. map (λ x. x.value) v.items ≡ map (λ x. x.value) entries.now ++ last.value ∷ []) }
+    ensures rises { ticks.old ≤ ticks.new }
     ensures counted { OnOk result (ticks.new ≡ ticks.old + length entries.now + 1) }
     ensures count { ticks.new ≤ ticks.old + length entries.now + 1 }
 {
@@ -36,6 +37,7 @@ pub fn only<X: Drop>(
 ) -> Result<Vec<Arc<X>>, AllocError>
     requires { ticks.old < 2 ^ 63 }
     ensures values { IfOk result (λ v. map (λ x. x.value) v.items ≡ entry.value ∷ []) }
+    ensures rises { ticks.old ≤ ticks.new }
     ensures counted { OnOk result (ticks.new ≡ ticks.old + 1) }
     ensures count { ticks.new ≤ ticks.old + 1 }
 {

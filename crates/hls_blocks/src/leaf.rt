@@ -1,5 +1,5 @@
 //! The lowest level: up to 64 items.
-ghost use Rattle.std.specs.Prelude.{◌≡◌, ℕ, ◌+◌, ◌*◌, ◌^◌, ◌<◌, ◌≤◌, [], ◌∷◌, ◌++◌, length, map, IfOk};
+ghost use Rattle.std.specs.Prelude.{◌≡◌, ℕ, ◌+◌, ◌*◌, ◌^◌, ◌<◌, ◌≤◌, [], ◌∷◌, ◌++◌, length, map, IfOk, OnOk};
 ghost use Rattle.hls_blocks.specs.Numbered.{Numbered, next_of, with_item, from_number, rest_at};
 
 use crate::copy::{copied, only, with_last};
@@ -35,6 +35,8 @@ impl<T: Drop> Level for Leaf<T> {
         requires count { ticks.old + 64 ≤ 2 ^ 63 }
         ensures seen { IfOk result (λ s. ⟦<Leaf<T> as Level>⟧.seen s ≡ record { first = n; items = item.value ∷ [] }) }
         ensures sound { IfOk result ⟦<Leaf<T> as Level>⟧.sound }
+        ensures rises { ticks.old ≤ ticks.new }
+        ensures wrote { OnOk result (ticks.old < ticks.new) }
         ensures count { ticks.new ≤ ticks.old + 64 }
     {
         Ok(Leaf {
@@ -56,6 +58,8 @@ impl<T: Drop> Level for Leaf<T> {
         requires count { ticks.old + 64 ≤ 2 ^ 63 }
         ensures seen { IfOk result (λ s. ⟦<Leaf<T> as Level>⟧.seen s ≡ with_item (⟦<Leaf<T> as Level>⟧.seen self.now) item.value) }
         ensures sound { IfOk result ⟦<Leaf<T> as Level>⟧.sound }
+        ensures rises { ticks.old ≤ ticks.new }
+        ensures wrote { OnOk result (ticks.old < ticks.new) }
         ensures count { ticks.new ≤ ticks.old + 64 }
     {
         let old = self.items.as_slice();

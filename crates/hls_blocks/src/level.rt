@@ -1,5 +1,5 @@
 //! What each level of the tree offers the one above it. A node is seen as a list whose numbers count from 0 inside it.
-ghost use Rattle.std.specs.Prelude.{◌≡◌, ℕ, ◌+◌, ◌^◌, ◌<◌, ◌≤◌, [], ◌∷◌, ◌++◌, length, map, IfOk};
+ghost use Rattle.std.specs.Prelude.{◌≡◌, ℕ, ◌+◌, ◌^◌, ◌<◌, ◌≤◌, [], ◌∷◌, ◌++◌, length, map, IfOk, OnOk};
 ghost use Rattle.hls_blocks.specs.Numbered.{Numbered, next_of, with_item, from_number, rest_at};
 
 use hls_time::Ticks;
@@ -39,6 +39,8 @@ pub trait Level: Drop {
         requires count { ticks.old + writes ≤ 2 ^ 63 }
         ensures seen { IfOk result (λ s. seen s ≡ record { first = n; items = item.value ∷ [] }) }
         ensures sound { IfOk result sound }
+        ensures rises { ticks.old ≤ ticks.new }
+        ensures wrote { OnOk result (ticks.old < ticks.new) }
         ensures count { ticks.new ≤ ticks.old + writes };
 
     /// The node with the item at its end; `n` is the number that it gets.
@@ -56,6 +58,8 @@ pub trait Level: Drop {
         requires count { ticks.old + writes ≤ 2 ^ 63 }
         ensures seen { IfOk result (λ s. seen s ≡ with_item (seen self.now) item.value) }
         ensures sound { IfOk result sound }
+        ensures rises { ticks.old ≤ ticks.new }
+        ensures wrote { OnOk result (ticks.old < ticks.new) }
         ensures count { ticks.new ≤ ticks.old + writes };
 
     /// The node without the items below number `n`, of which one at least is left.

@@ -1,5 +1,5 @@
 //! The shared list over the tree.
-ghost use Rattle.std.specs.Prelude.{◌≡◌, ℕ, ◌+◌, ◌*◌, ◌^◌, ◌<◌, ◌≤◌, [], ◌∷◌, ◌++◌, length, map, IfOk};
+ghost use Rattle.std.specs.Prelude.{◌≡◌, ℕ, ◌+◌, ◌*◌, ◌^◌, ◌<◌, ◌≤◌, [], ◌∷◌, ◌++◌, length, map, IfOk, OnOk};
 ghost use Rattle.std.specs.Option.{option_copied};
 ghost use Rattle.hls_blocks.specs.Numbered.{Numbered, next_of, no_items, item_at, with_item, from_number, rest_at};
 
@@ -17,7 +17,8 @@ type Root<T> = Branch<Branch<Branch<Leaf<T>>>>;
 /// A list whose values are shared: each call that changes it gives a new value, and every old one stays as it was.
 ///
 /// Items have numbers, which they keep when the front is dropped. A contract sees the first number and the items.
-/// An item stands behind an `Arc`, so nothing is asked of its type, and a new value copies at most 256 slots.
+/// An item stands behind an `Arc`, so nothing is asked of its type and no item is ever copied: a push makes new nodes along one
+/// way through the tree and shares all others.
 #[derive(Drop)]
 pub struct Shared<T> {
     first: u64,
@@ -78,7 +79,8 @@ impl<T: Drop> Shared<T> {
         Some(&run[0])
     }
 
-    /// Items from number `n` on, to the end of their leaf: a reader takes them run by run.
+    /// Some items from number `n` on, at least one: a reader takes them run by run. A run goes on to the end of its leaf, which
+    /// no clause says.
     pub fn run_at(&self, n: u64) -> &[Arc<T>]
         requires low { self.now.first ≤ n }
         requires high { n < next_of self.now }
@@ -101,7 +103,8 @@ impl<T: Drop> Shared<T> {
         self.pushed_counted(alloc, item, &mut ticks)
     }
 
-    /// `pushed`, which counts each slot of a node that it writes: at most 64 on each of the four levels.
+    /// `pushed`, which counts the slots of new nodes in the caller's counter: some, and at most 64 on each of the four levels. A
+    /// push that is refused memory may have counted too. That each slot that is written is counted is read in the code.
     pub fn pushed_counted(
         &self,
         alloc: Global,
@@ -111,6 +114,8 @@ impl<T: Drop> Shared<T> {
         requires room { next_of self.now < 16777216 }
         requires count { ticks.old < 2 ^ 62 }
         ensures ok { IfOk result (λ s. s ≡ with_item self.now item) }
+        ensures rises { ticks.old ≤ ticks.new }
+        ensures wrote { OnOk result (ticks.old < ticks.new) }
         ensures count { ticks.new ≤ ticks.old + 256 }
     {
         let item = Arc::new(alloc, item)?;
