@@ -10,10 +10,11 @@ use Rattle.hls_media_laws.proofs.Bounds.{units_are_bounded, inits_are_bounded}
 use Rattle.hls_blocks.specs.Numbered.{Numbered, no_items, with_item, from_number}
 use Rattle.hls_record.specs.declared.item.Item.{Item}
 use Rattle.hls_record.specs.declared.recording.Recording.TheInside.{Inside}
-use Rattle.hls_record.specs.Recorded.{total_of, last_end, end_of}
-use Rattle.hls_record.specs.Valid.{WasUnit, InOrder}
+use Rattle.hls_record.specs.Recorded.{total_of}
+use Rattle.hls_media_laws.specs.FactLists.{end_tick, last_end, WereUnits, InOrder}
+use Rattle.hls_media_laws.proofs.Timelines.{in_order_grown, were_grown}
 use Rattle.hls_record.specs.Kept.{seen, IsKept}
-use Rattle.hls_record.proofs.Lists.{within_of, at_map, at_drop, at_snoc}
+use Rattle.hls_media_laws.proofs.Lists.{within_of, at_map, at_drop, at_snoc}
 
 -- the facts of a unit are those of its item
 pub facts_at : (items : List Item) (k : ℕ) (x : Item) → slice_get items k ≡ Some x → slice_get (map (λ i. i.facts) items) k ≡ Some x.facts
@@ -29,7 +30,7 @@ pub last_end_is : (items : List Item) (n : ℕ) (x : Item) → n ≡ length item
     → x.facts.start + x.facts.duration ≡ last_end (map (λ i. i.facts) items)
 last_end_is items n x n_is is =
     let count : n ≡ length (map (λ i. i.facts) items) = n_is ∙ sym (length-map items (λ i. i.facts)) in
-    rw (← count) (ap end_of (sym (facts_at items (n - 1) x (sym is))))
+    rw (← count) (ap end_tick (sym (facts_at items (n - 1) x (sym is))))
 
 pub kept_begun : (init : InitData) (head : List ℕ) (items : Numbered Item) (units : Numbered (List ℕ)) (total : ℕ)
     → items ≡ no_items → units ≡ no_items → total ≡ length head → IsInit head init
@@ -78,28 +79,6 @@ kept_trimmed i init head items units floor kept init_is head_is items_is units_i
 
 same_end : (f g : Facts) → Some f ≡ Some g → f.start + f.duration ≡ g.start + g.duration
 same_end f g is = let same : f ≡ g = cc in ap (λ h. h.start + h.duration) same
-
-in_order_grown : (fs : List Facts) (f : Facts) → InOrder fs → last_end fs ≤ f.start → InOrder (fs ++ f ∷ [])
-in_order_grown fs f in_order later k x y at_x at_y =
-    elim (at_snoc fs f (k + 1) y at_y) [
-      | inl old_y ↦
-          (let before : k + 1 < length fs = within_of fs (k + 1) y old_y in
-          elim (at_snoc fs f k x at_x) [ inl old_x ↦ in_order k x y old_x old_y | inr new_x ↦ absurd (omega arith) ])
-      | inr new_y ↦
-          elim (at_snoc fs f k x at_x) [
-            | inl old_x ↦
-                (let here : length fs - 1 ≡ k = omega arith in
-                let last : last_end fs ≡ x.start + x.duration = rw here (ap end_of old_x) in
-                let later_y : last_end fs ≤ y.start = rw (new_y.1) later in
-                omega arith)
-            | inr new_x ↦ absurd (omega arith)
-          ]
-    ]
-
-was_grown : (init : InitData) (fs : List Facts) (f : Facts) (unit : List ℕ) → ((k : ℕ) (g : Facts) → slice_get fs k ≡ Some g → WasUnit init g) → IsUnit init unit f
-    → (k : ℕ) (g : Facts) → slice_get (fs ++ f ∷ []) k ≡ Some g → WasUnit init g
-was_grown init fs f unit ever is k g at =
-    elim (at_snoc fs f k g at) [ inl old ↦ ever k g old | inr new ↦ record { bytes = unit; is = rw (new.1) is } ]
 
 fits_grown : (init : InitData) (fs : List Facts) (f : Facts) (floor : ℕ) (units : List (List ℕ)) (unit : List ℕ)
     → ((k : ℕ) (g : Facts) (b : List ℕ) → slice_get fs (floor + k) ≡ Some g → slice_get units k ≡ Some b → IsUnit init b g)
@@ -153,7 +132,7 @@ kept_grown i init head items units f unit kept init_is head_is items_is units_is
         few = rw grown (omega arith);
         kept = rw grown (omega (arith, valid.kept));
         small = rw (grown, sum) (omega (arith, small));
-        ever = rw grown (was_grown i.init fs f unit valid.ever is);
+        ever = rw grown (were_grown i.init fs f unit valid.ever is);
         in_order = rw grown (in_order_grown fs f valid.in_order later);
         fits = rw grown (fits_grown i.init fs f i.units.first i.units.items unit valid.fits valid.kept is);
       };

@@ -1,4 +1,3 @@
-pub mod Lists
 pub mod Search
 pub mod Kept
 pub mod Twins
@@ -6,6 +5,5 @@ pub mod Offsets
 pub mod Pieces
 pub mod Places
 pub mod Ranges
-pub mod Scales
 pub mod Stays
 pub mod Samples

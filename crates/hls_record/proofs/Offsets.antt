@@ -13,7 +13,7 @@ use Rattle.hls_record.specs.Recorded.{Recorded, offset_at, total_of}
 use Rattle.hls_record.specs.Valid.{IsRecorded}
 use Rattle.hls_record.specs.Search.{IsRising}
 use Rattle.hls_record.specs.Kept.{seen, IsKept}
-use Rattle.hls_record.proofs.Lists.{at_drop}
+use Rattle.hls_media_laws.proofs.Lists.{at_drop}
 use Rattle.hls_record.proofs.Kept.{facts_at}
 
 -- one unit more adds its length

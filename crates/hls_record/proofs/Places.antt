@@ -12,7 +12,7 @@ use Rattle.hls_record.specs.Recorded.{Recorded, offset_at, total_of, piece_at}
 use Rattle.hls_record.specs.Valid.{IsRecorded}
 use Rattle.hls_record.specs.Search.{IsFirst, Stands}
 use Rattle.hls_record.specs.Kept.{seen, IsKept}
-use Rattle.hls_record.proofs.Lists.{some_at, within_of}
+use Rattle.hls_media_laws.proofs.Lists.{some_at, within_of}
 use Rattle.hls_record.proofs.Offsets.{next_offset, kept_before, kept_length}
 use Rattle.hls_record.proofs.Pieces.{piece_of_unit, no_piece}
 

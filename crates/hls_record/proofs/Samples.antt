@@ -4,8 +4,7 @@ use Rattle.std.proofs.Common.{lit≤, lit<, refl}
 use Rattle.hls_samples.specs.Boxes.{box_of}
 use Rattle.hls_media_laws.specs.Inits.{init_of, versioned_field, handler_field, media_of, track_at, trex_at, trexes_of, tracks_of}
 use Rattle.hls_media_laws.specs.Layout.{layout_of, moov_of}
-use Rattle.hls_media_laws.specs.UnitFacts.{facts, facts_of_moof}
-use Rattle.hls_media_laws.specs.TrafFacts.{facts_from}
+use Rattle.hls_media_laws.specs.UnitFacts.{facts}
 use Rattle.hls_media_laws.specs.Trafs.{traf_at, trafs_of}
 use Rattle.hls_media_laws.specs.Runs.{first_sample_flags, run_begin}
 use Rattle.hls_media_laws.specs.Fields.{duration_place, size_place, flags_place, head_fits, default_duration, default_size, default_flags, time_fits, decode_time, count_of, first_flags_place, rows_place, row_len, run_fits, data_offset, first_flags_of, column, values}
@@ -20,15 +19,15 @@ unfolding box_of init_of versioned_field handler_field media_of track_at trex_at
 init_reads = refl
 
 pub first_unit : IsSample 0 116
-unfolding box_of facts facts_of_moof facts_from traf_at trafs_of layout_of first_sample_flags run_begin duration_place size_place flags_place head_fits default_duration default_size default_flags time_fits decode_time count_of first_flags_place rows_place row_len run_fits data_offset first_flags_of column values number_at header_at box_at children_within children
+unfolding box_of facts traf_at trafs_of layout_of first_sample_flags run_begin duration_place size_place flags_place head_fits default_duration default_size default_flags time_fits decode_time count_of first_flags_place rows_place row_len run_fits data_offset first_flags_of column values number_at header_at box_at children_within children
 first_unit = refl
 
 pub second_unit : IsSample 360000 120
-unfolding box_of facts facts_of_moof facts_from traf_at trafs_of layout_of first_sample_flags run_begin duration_place size_place flags_place head_fits default_duration default_size default_flags time_fits decode_time count_of first_flags_place rows_place row_len run_fits data_offset first_flags_of column values number_at header_at box_at children_within children
+unfolding box_of facts traf_at trafs_of layout_of first_sample_flags run_begin duration_place size_place flags_place head_fits default_duration default_size default_flags time_fits decode_time count_of first_flags_place rows_place row_len run_fits data_offset first_flags_of column values number_at header_at box_at children_within children
 second_unit = refl
 
 pub third_unit : IsSample 720000 130
-unfolding box_of facts facts_of_moof facts_from traf_at trafs_of layout_of first_sample_flags run_begin duration_place size_place flags_place head_fits default_duration default_size default_flags time_fits decode_time count_of first_flags_place rows_place row_len run_fits data_offset first_flags_of column values number_at header_at box_at children_within children
+unfolding box_of facts traf_at trafs_of layout_of first_sample_flags run_begin duration_place size_place flags_place head_fits default_duration default_size default_flags time_fits decode_time count_of first_flags_place rows_place row_len run_fits data_offset first_flags_of column values number_at header_at box_at children_within children
 third_unit = refl
 
 -- five bytes below the limit

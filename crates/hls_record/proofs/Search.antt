@@ -4,7 +4,7 @@ use Rattle.std.specs.Prelude.{slice_get}
 use Rattle.hls_record.specs.declared.item.Item.{Item}
 use Rattle.hls_record.specs.declared.item.Key.{Key}
 use Rattle.hls_record.specs.Search.{key_of, IsRising}
-use Rattle.hls_record.proofs.Lists.{some_at, within_of}
+use Rattle.hls_media_laws.proofs.Lists.{some_at, within_of}
 
 same_item : (x y : Item) (key : Key) → Some x ≡ Some y → key_of key x ≤ key_of key y
 same_item x y key is = let same : x ≡ y = cc in rw same (omega arith)

@@ -3,17 +3,13 @@ use Rattle.std.proofs.Common.{◌≡◌, ℕ, zero, suc, ◌+◌, ◌-◌, ◌*�
 use Rattle.std.specs.List.{concat}
 use Rattle.std.proofs.lemmas.Bool.{cases_lt, lt-ltb, le-ltb}
 use Rattle.std.proofs.lemmas.List.{take-append-le}
-use Rattle.std.proofs.Math.Nat.{div-mul-le_self}
-use Rattle.std.proofs.lemmas.Nat.{le-div}
-use Rattle.hls_time.specs.Times.{floor_us}
 use Rattle.hls_media_laws.specs.declared.facts.Facts.{Facts}
-use Rattle.hls_media_laws.proofs.Bounds.{units_are_bounded}
+use Rattle.hls_media_laws.proofs.Timelines.{units_are_timed}
 use Rattle.hls_record.specs.Recorded.{Recorded, offset_at, with_unit, trimmed, unit_piece, piece_at}
 use Rattle.hls_record.specs.Valid.{IsRecorded}
 use Rattle.hls_record.specs.Laws.{OffsetsStay, PiecesStay, PiecesAreBytes, UnitsAreInTime}
 use Rattle.hls_record.proofs.Offsets.{kept_before}
 use Rattle.hls_record.proofs.Pieces.{piece_bytes}
-use Rattle.hls_record.proofs.Scales.{unit_scale}
 
 pub offsets_stay : OffsetsStay
 offsets_stay = record {
@@ -95,21 +91,5 @@ pieces_are_bytes = record {
       ap (take (length s)) begins.is ∙ all_mapped s begins.more;
 }
 
-floor_us-grows : (a b k : ℕ) → 0 < k → a ≤ b → floor_us a k ≤ floor_us b k
-floor_us-grows a b k some le = le-div (a * 1000000 / k) (b * 1000000) k some (omega (arith, div-mul-le_self (a * 1000000) k))
-
 pub units_are_in_time : UnitsAreInTime
-units_are_in_time r valid = record {
-  forward = λ k f at.
-      let was = valid.ever k f at in (units_are_bounded r.init was.bytes f was.is).some_time;
-  small = λ k f at.
-      let was = valid.ever k f at in (units_are_bounded r.init was.bytes f was.is).end_us_fits;
-  follows = λ k f g at_f at_g.
-      let was_f = valid.ever k f at_f in
-      let was_g = valid.ever (k + 1) g at_g in
-      let f_is = units_are_bounded r.init was_f.bytes f was_f.is in
-      let g_is = units_are_bounded r.init was_g.bytes g was_g.is in
-      let scale : f.scale ≡ g.scale = sym (unit_scale r.init was_f.bytes f was_f.is) ∙ unit_scale r.init was_g.bytes g was_g.is in
-      rw (f_is.end_us_is, g_is.start_us_is, scale)
-      (floor_us-grows (f.start + f.duration) g.start g.scale g_is.some_scale (valid.in_order k f g at_f at_g));
-}
+units_are_in_time r valid = units_are_timed r.init r.facts valid.ever valid.in_order

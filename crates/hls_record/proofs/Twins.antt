@@ -8,10 +8,12 @@ use Rattle.hls_blocks.specs.Numbered.{item_at}
 use Rattle.hls_record.specs.declared.item.Item.{Item}
 use Rattle.hls_record.specs.declared.item.Key.TheVariants as keys
 use Rattle.hls_record.specs.declared.recording.Recording.TheInside.{Inside}
-use Rattle.hls_record.specs.Recorded.{twin_in, twin_of}
+use Rattle.hls_media_laws.specs.FactLists.{twin_in}
+use Rattle.hls_media_laws.proofs.Timelines.{twin_none}
+use Rattle.hls_record.specs.Recorded.{twin_of}
 use Rattle.hls_record.specs.Search.{IsFirst, IsRising, starts_at}
 use Rattle.hls_record.specs.Kept.{seen, IsKept}
-use Rattle.hls_record.proofs.Lists.{some_at, mapped_at, at_drop, within_of}
+use Rattle.hls_media_laws.proofs.Lists.{some_at, mapped_at, at_drop, within_of}
 use Rattle.hls_record.proofs.Search.{rises}
 use Rattle.hls_record.proofs.Kept.{facts_at}
 
@@ -29,12 +31,6 @@ twin_found start (g ∷ fs) (u ∷ us) (suc j) f long at is before =
     let early : g.start < start = before 0 g (omega arith) refl in
     rw (ne_eqb g.start start (λ e. omega arith))
     (twin_found start fs us j f (omega arith) at is (λ k h under at_h. before (suc k) h (omega arith) at_h))
-
-twin_none : (start : ℕ) (fs : List Facts) (us : List (List ℕ)) → ((k : ℕ) (g : Facts) → slice_get fs k ≡ Some g → g.start ≡ start → ⊥) → twin_in start fs us ≡ None
-twin_none start [] us none = refl
-twin_none start (g ∷ fs) [] none = refl
-twin_none start (g ∷ fs) (u ∷ us) none =
-    rw (ne_eqb g.start start (none 0 g refl)) (twin_none start fs us (λ k h at. none (suc k) h at))
 
 started : (start : ℕ) (o : Option Item) → starts_at start o ≡ true → (x : Item) × (o ≡ Some x) × (x.facts.start ≡ start)
 started start None is = cc

@@ -8,16 +8,17 @@ use Rattle.hls_record.specs.declared.fault.RecordFault.{RecordFault}
 use Rattle.hls_record.specs.declared.fault.RecordFault.TheVariants as record_faults
 use Rattle.hls_record.specs.declared.fault.RangeFault.{RangeFault}
 use Rattle.hls_record.specs.declared.fault.RangeFault.TheVariants as range_faults
-use Rattle.hls_record.specs.Recorded.{Recorded, total_of, last_end, with_unit, piece_at, range_of}
+use Rattle.hls_media_laws.specs.FactLists.{recording_limit, last_end}
+use Rattle.hls_record.specs.Recorded.{Recorded, total_of, with_unit, piece_at, range_of}
 
 -- a unit may be appended that doesn't start before the last end, and for which there is room
 abbrev pub MayFollow : Recorded → Facts → Type 0
-MayFollow r f = (last_end r.facts ≤ f.start) × (total_of r + f.len ≤ 2 ^ 40)
+MayFollow r f = (last_end r.facts ≤ f.start) × (total_of r + f.len ≤ recording_limit)
 
 abbrev pub Appends : Recorded → Facts → List ℕ → Result Recorded RecordFault → Type 0
 Appends r f unit (Ok s) = MayFollow r f × (s ≡ with_unit r f unit)
 Appends r f unit (Err record_faults.Overlap) = f.start < last_end r.facts
-Appends r f unit (Err record_faults.Full) = (last_end r.facts ≤ f.start) × (2 ^ 40 < total_of r + f.len)
+Appends r f unit (Err record_faults.Full) = (last_end r.facts ≤ f.start) × (recording_limit < total_of r + f.len)
 Appends r f unit (Err record_faults.Memory) = MayFollow r f
 
 abbrev pub IsInside : Recorded → ℕ → ℕ → Type 0

@@ -2,7 +2,8 @@
 ghost use Rattle.std.specs.Prelude.{◌≡◌, ℕ, ◌+◌, ◌^◌, ◌<◌, ◌≤◌, length, IfOk, slice_get};
 ghost use Rattle.std.specs.Option.{option_copied};
 ghost use Rattle.hls_media_laws.specs.Meaning.{IsInit, IsUnit};
-ghost use Rattle.hls_record.specs.Recorded.{begun, with_unit, trimmed, offset_at, total_of, last_end, unit_at, twin_of};
+ghost use Rattle.hls_media_laws.specs.FactLists.{last_end};
+ghost use Rattle.hls_record.specs.Recorded.{begun, with_unit, trimmed, offset_at, total_of, unit_at, twin_of};
 ghost use Rattle.hls_record.specs.Valid.{IsRecorded};
 ghost use Rattle.hls_record.specs.Outcome.{Appends};
 

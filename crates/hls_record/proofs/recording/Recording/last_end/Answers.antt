@@ -1,5 +1,5 @@
 use Rattle.std.proofs.Common.{rules, ◌<◌, ◌≡◌, ◌+◌, ◌-◌, ◌^◌, arith, length}
-use Rattle.hls_record.proofs.Lists.{some_at}
+use Rattle.hls_media_laws.proofs.Lists.{some_at}
 use Rattle.hls_record.proofs.Kept.{end_fits, last_end_is}
 use Rattle.hls_record.proofs.recording.Recording.last_end.Goals as goal
 
