@@ -1,4 +1,5 @@
 use Rattle.std.proofs.Common.{◌≡◌, ℕ, zero, suc, ◌+◌, ◌-◌, ◌*◌, ◌<◌, ◌≤◌, [], length, arith, add-zero, inl, inr, subst}
+use Rattle.hls_time.specs.Times.{Fits}
 use Rattle.hls_check_laws.specs.declared.spot.Spot.{Spot}
 use Rattle.hls_check_laws.specs.Tables.{Table, IsTable, spot_in, place_at}
 use Rattle.hls_check_laws.specs.Steps.{Allowed, length_between}
@@ -23,14 +24,14 @@ spot-never_falls t orderly r in_r q (suc k) h =
 
 -- a place too far in rendition 0 ends a row
 none_past_length : (t : Table) → IsTable t → IsOrderly t → (p q : ℕ) →
-    t.target * 1000000 + 499999 < length_between (place_at t.places p) (place_at t.places q) →
+    ¬ Fits (length_between (place_at t.places p) (place_at t.places q)) t.target →
     (j : ℕ) → q ≤ j → Allowed t p j → ⊥
 none_past_length t ok orderly p q far j after allowed =
     let same : q + (j - q) ≡ j = omega arith in
     let P : ℕ → Type 0 = λ x. IsLater (spot_in (place_at t.places q) 0) (spot_in (place_at t.places x) 0) in
     let later = subst P same (spot-never_falls t orderly 0 (omega (arith, ok.renditions)) q (j - q) (omega (arith, allowed.to))) in
     let fits = (allowed.step 0 (omega (arith, ok.renditions))).fits in
-    omega (arith, later.ends, far, fits)
+    far (omega (arith, later.ends, fits))
 
 -- a place past a gap in some rendition ends a row
 none_past_gap : (t : Table) → IsTable t → IsOrderly t → (p q : ℕ) → p < length t.places →

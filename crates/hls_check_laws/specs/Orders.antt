@@ -1,4 +1,6 @@
-use Rattle.std.specs.Prelude.{◌≡◌, ℕ, ◌+◌, ◌*◌, ◌<◌, ◌≤◌, ◌⊎◌, List, length}
+-- The order of a table's places.
+use Rattle.std.specs.Prelude.{◌≡◌, ℕ, ◌+◌, ◌<◌, ◌≤◌, ◌⊎◌, List, length}
+use Rattle.hls_time.specs.Times.{Fits}
 use Rattle.hls_check_laws.specs.declared.spot.Spot.{Spot}
 use Rattle.hls_check_laws.specs.Tables.{Table, spot_in, place_at}
 use Rattle.hls_check_laws.specs.Steps.{length_between}
@@ -14,31 +16,37 @@ pub record IsAfter (renditions : ℕ) (earlier later : List Spot) : Type 0 where
   pub keeps : (r : ℕ) → r < renditions → (spot_in earlier r).fragment ≤ (spot_in later r).fragment
 
 -- place p is in order, in itself and against the one before it, if there is one
-pub record IsInOrder (t : Table) (p : ℕ) : Type 0 where
-  pub spots : (r : ℕ) → r < t.renditions → IsSpotInOrder (spot_in (place_at t.places p) r)
-  pub after : (before : ℕ) → before + 1 ≡ p →
-      IsAfter t.renditions (place_at t.places before) (place_at t.places p)
+pub record IsInOrder (renditions : ℕ) (places : List (List Spot)) (p : ℕ) : Type 0 where
+  pub spots : (r : ℕ) → r < renditions → IsSpotInOrder (spot_in (place_at places p) r)
+  pub after : (before : ℕ) → before + 1 ≡ p → IsAfter renditions (place_at places before) (place_at places p)
+
+-- each place is in order
+abbrev pub AreSorted : ℕ → List (List Spot) → Type 0
+AreSorted renditions places = (p : ℕ) → p < length places → IsInOrder renditions places p
 
 -- what a checker asks of a table's order
 abbrev pub IsSorted : Table → Type 0
-IsSorted t = (p : ℕ) → p < length t.places → IsInOrder t p
+IsSorted t = AreSorted t.renditions t.places
 
 -- in no rendition do the end of the unit before, or the gaps before it, fall from a place to the next
 pub record IsRising (renditions : ℕ) (earlier later : List Spot) : Type 0 where
   pub ends : (r : ℕ) → r < renditions → (spot_in earlier r).prev_end ≤ (spot_in later r).prev_end
   pub runs : (r : ℕ) → r < renditions → (spot_in earlier r).run_in ≤ (spot_in later r).run_in
 
+-- the order of common places
+pub record AreOrderly (renditions : ℕ) (places : List (List Spot)) : Type 0 where
+  pub sorted : AreSorted renditions places
+  pub rising : (p : ℕ) → p + 1 < length places → IsRising renditions (place_at places p) (place_at places (p + 1))
+
 -- the order of a table of common places
-pub record IsOrderly (t : Table) : Type 0 where
-  pub sorted : IsSorted t
-  pub rising : (p : ℕ) → p + 1 < length t.places →
-      IsRising t.renditions (place_at t.places p) (place_at t.places (p + 1))
+abbrev pub IsOrderly : Table → Type 0
+IsOrderly t = AreOrderly t.renditions t.places
 
 -- the first place that isn't in order
 pub record IsFirstUnsorted (t : Table) (p : ℕ) : Type 0 where
   pub in_range : p < length t.places
-  pub unsorted : IsInOrder t p → ⊥
-  pub sorted_before : (before : ℕ) → before < p → IsInOrder t before
+  pub unsorted : IsInOrder t.renditions t.places p → ⊥
+  pub sorted_before : (before : ℕ) → before < p → IsInOrder t.renditions t.places before
 
 -- some rendition has a gap after place p and before place q's unit
 pub record IsPastGap (from to : List Spot) : Type 0 where
@@ -50,5 +58,5 @@ pub record IsPastGap (from to : List Spot) : Type 0 where
 -- in rendition 0, or past a gap
 abbrev pub IsRowEnd : Table → ℕ → ℕ → Type 0
 IsRowEnd t p q =
-    (t.target * 1000000 + 499999 < length_between (place_at t.places p) (place_at t.places q)) ⊎
+    (¬ Fits (length_between (place_at t.places p) (place_at t.places q)) t.target) ⊎
     IsPastGap (place_at t.places p) (place_at t.places q)

@@ -1,5 +1,7 @@
-use Rattle.std.specs.Prelude.{◌≡◌, ℕ, ◌+◌, ◌-◌, ◌*◌, ◌<◌, ◌≤◌, List, length}
+-- Steps from place to place: which are allowed, and what they cost.
+use Rattle.std.specs.Prelude.{◌≡◌, ℕ, ◌-◌, ◌<◌, List, length}
 use Rattle.std.specs.Int.{abs_diff}
+use Rattle.hls_time.specs.Times.{Fits}
 use Rattle.hls_check_laws.specs.declared.spot.Spot.{Spot}
 use Rattle.hls_check_laws.specs.Tables.{Table, spot_in, place_at}
 
@@ -9,7 +11,7 @@ pub record IsSpotStep (target : ℕ) (from to : Spot) : Type 0 where
   pub later : from.fragment < to.fragment
   pub unbroken : from.run_out ≡ to.run_in
   pub forward : from.start < to.prev_end
-  pub fits : to.prev_end - from.start ≤ target * 1000000 + 499999
+  pub fits : Fits (to.prev_end - from.start) target
 
 -- so in each of the renditions
 abbrev pub IsStep : ℕ → ℕ → List Spot → List Spot → Type 0
@@ -38,3 +40,7 @@ step_cost preferred from to = abs_diff (length_between from to) preferred
 -- what a table's step costs
 abbrev pub cost : Table → ℕ → ℕ → ℕ
 cost t p q = step_cost t.preferred (place_at t.places p) (place_at t.places q)
+
+-- no allowed step of a table costs more, in microseconds: its length fits a target of at most an hour
+abbrev pub cost_limit : ℕ
+cost_limit = 3600499999

@@ -1,3 +1,4 @@
+-- Tables of places, as certificates print them and programmes are cut from them.
 use Rattle.std.specs.Prelude.{◌≡◌, ℕ, ◌^◌, ◌<◌, ◌≤◌, List, [], length, slice_index_or, All}
 use Rattle.hls_check_laws.specs.declared.spot.Spot.{Spot}
 
@@ -34,12 +35,26 @@ pub record IsPlaceOf (renditions : ℕ) (place : List Spot) : Type 0 where
   pub count : length place ≡ renditions
   pub spots : All IsSpotInRange place
 
+-- the greatest target, in seconds, and the greatest preferred length, in microseconds
+abbrev pub target_limit : ℕ
+target_limit = 3600
+
+abbrev pub preferred_limit : ℕ
+preferred_limit = 3600000000
+
+-- the most renditions, and the most places
+abbrev pub rendition_limit : ℕ
+rendition_limit = 16
+
+abbrev pub place_limit : ℕ
+place_limit = 16384
+
 -- the ranges of a printed table
 pub record IsTable (t : Table) : Type 0 where
-  pub target : (1 ≤ t.target) × (t.target ≤ 3600)
-  pub preferred : (1 ≤ t.preferred) × (t.preferred ≤ 3600000000)
-  pub renditions : (1 ≤ t.renditions) × (t.renditions ≤ 16)
-  pub count : (2 ≤ length t.places) × (length t.places ≤ 16384)
+  pub target : (1 ≤ t.target) × (t.target ≤ target_limit)
+  pub preferred : (1 ≤ t.preferred) × (t.preferred ≤ preferred_limit)
+  pub renditions : (1 ≤ t.renditions) × (t.renditions ≤ rendition_limit)
+  pub count : (2 ≤ length t.places) × (length t.places ≤ place_limit)
   pub places : All (IsPlaceOf t.renditions) t.places
 
 -- the table of these numbers and places

@@ -1,3 +1,5 @@
+//! Why a certificate is refused.
+
 ghost use Rattle.std.specs.Prelude.{◌≡◌};
 ghost use Rattle.hls_check_laws.specs.Faults.{fault_name};
 ghost use Rattle.hls_check_laws.specs.declared.cert_fault.CertFault.TheVariants.{Memory};

@@ -7,10 +7,12 @@ pub use certificate::{Certificate, Claim};
 pub use laws::{good_cut_is_least, good_none_has_no_plan};
 pub use orders::first_unsorted;
 pub use place_table::PlaceTable;
-pub use printed_table::PrintedTable;
+pub use printed_table::{
+    PLACE_LIMIT, PREFERRED_LIMIT, PrintedTable, RENDITION_LIMIT, TARGET_LIMIT,
+};
 pub use spot::Spot;
 pub use spots::Spots;
-pub use steps::{pair_allowed, pair_cost};
+pub use steps::{pair_allowed, pair_cost, spot_allowed};
 pub use verdict::Verdict;
 
 mod cert_fault;

@@ -1,3 +1,5 @@
+//! Whether places are in order.
+
 ghost use Rattle.std.specs.Prelude.{◌≡◌, ℕ, ◌+◌, ◌-◌, ◌*◌, ◌<◌, ◌≤◌, ◌↔◌, length, IsTrue, IfSome, IfNone, MatchOption};
 ghost use Rattle.hls_check_laws.specs.Tables.{IsTable, spot_in, place_at};
 ghost use Rattle.hls_check_laws.specs.Orders.{IsSpotInOrder, IsAfter, IsInOrder, IsSorted, IsFirstUnsorted, IsRising};
@@ -55,7 +57,7 @@ fn is_rising(earlier: &Spots, later: &Spots) -> bool
 
 fn is_in_order(table: &PrintedTable, p: usize) -> bool
     requires { p < length table.now.places }
-    ensures { IsTrue result ↔ IsInOrder table.now p }
+    ensures { IsTrue result ↔ IsInOrder table.now.renditions table.now.places p }
 {
     let _ = table.len();
     if !are_spots_in_order(table.place(p)) {

@@ -1,7 +1,10 @@
-ghost use Rattle.std.specs.Prelude.{◌≡◌, ℕ, ◌+◌, ◌-◌, ◌*◌, ◌<◌, ◌≤◌, ◌↔◌, length, IsTrue, MatchOption, IfOk};
+//! Tables of common places, in order.
+
+ghost use Rattle.std.specs.Prelude.{◌≡◌, ℕ, ◌-◌, ◌<◌, ◌≤◌, ◌↔◌, length, IsTrue, MatchOption, IfOk};
+ghost use Rattle.hls_time.specs.Times.{Fits};
 ghost use Rattle.hls_check_laws.specs.Tables.{IsTable, spot_in, place_at};
 ghost use Rattle.hls_check_laws.specs.Orders.{IsOrderly, IsPastGap, IsRowEnd};
-ghost use Rattle.hls_check_laws.specs.Steps.{Allowed, cost};
+ghost use Rattle.hls_check_laws.specs.Steps.{Allowed, cost, cost_limit};
 
 use crate::orders::{first_unsorted, is_rising_throughout};
 use crate::printed_table::PrintedTable;
@@ -40,7 +43,7 @@ fn is_orderly(table: &PrintedTable) -> bool
 
 #[inline(always)]
 fn is_too_long(target: u64, from: Spot, to: Spot) -> bool
-    ensures { IsTrue result ↔ (target * 1000000 + 499999 < to.prev_end - from.start) }
+    ensures { IsTrue result ↔ ¬ Fits (to.prev_end - from.start) target }
 {
     !fits(to.prev_end.saturating_sub(from.start), target)
 }
@@ -158,7 +161,7 @@ impl PlaceTable {
     pub fn cost(&self, p: usize, q: usize) -> u64
         requires { Allowed self.now p q }
         ensures cost { result ≡ cost self.now p q }
-        ensures bound { result ≤ 3600499999 }
+        ensures bound { result ≤ cost_limit }
     {
         self.table().cost(p, q)
     }

@@ -1,6 +1,8 @@
+//! Tables as certificates print them, and their limits.
+
 ghost use Rattle.std.specs.Prelude.{◌≡◌, ◌<◌, ◌≤◌, ◌↔◌, length, IsTrue, MatchOption, IfOk, All};
 ghost use Rattle.hls_check_laws.specs.Tables.{IsSpotInRange, IsPlaceOf, IsTable, place_at, table_of};
-ghost use Rattle.hls_check_laws.specs.Steps.{Allowed, cost};
+ghost use Rattle.hls_check_laws.specs.Steps.{Allowed, cost, cost_limit};
 
 use crate::spot::Spot;
 use crate::spots::Spots;
@@ -27,6 +29,18 @@ impl Model for PrintedTable {
 
     ghost invariant = { λ t. IsTable (table_of t.target t.preferred t.renditions t.places.items) };
 }
+
+/// The greatest target, in seconds.
+pub const TARGET_LIMIT: u64 = 3600;
+
+/// The greatest preferred length, in microseconds.
+pub const PREFERRED_LIMIT: u64 = 3_600_000_000;
+
+/// The most renditions of a table, and of a channel.
+pub const RENDITION_LIMIT: usize = 16;
+
+/// The most places of a table, and so of a programme.
+pub const PLACE_LIMIT: usize = 16384;
 
 const SPOT_LIMIT: u64 = 1 << 53;
 
@@ -56,13 +70,13 @@ fn is_table(target: u64, preferred: u64, renditions: usize, places: &[Spots]) ->
     ensures { IsTrue result ↔ IsTable (table_of target preferred renditions places.now) }
 {
     1 <= target
-        && target <= 3600
+        && target <= TARGET_LIMIT
         && 1 <= preferred
-        && preferred <= 3_600_000_000
+        && preferred <= PREFERRED_LIMIT
         && 1 <= renditions
-        && renditions <= 16
+        && renditions <= RENDITION_LIMIT
         && 2 <= places.len()
-        && places.len() <= 16384
+        && places.len() <= PLACE_LIMIT
         && are_places_of(renditions, places)
 }
 
@@ -167,7 +181,7 @@ impl PrintedTable {
     pub fn cost(&self, p: usize, q: usize) -> u64
         requires { Allowed self.now p q }
         ensures cost { result ≡ cost self.now p q }
-        ensures bound { result ≤ 3600499999 }
+        ensures bound { result ≤ cost_limit }
     {
         let _ = self.len();
         self.cost_between(p, q)

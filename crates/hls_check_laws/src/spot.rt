@@ -1,3 +1,5 @@
+//! Where one may cut in one rendition.
+
 /// Where one may cut in one rendition: the start of a fragment, or the end of all.
 #[derive(Clone, Copy, Debug, PartialEq, Eq)]
 pub struct Spot {

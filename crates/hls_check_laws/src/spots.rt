@@ -1,3 +1,5 @@
+//! A place's spots.
+
 ghost use Rattle.std.specs.Prelude.{◌≡◌, ◌<◌, length, IfOk};
 ghost use Rattle.hls_check_laws.specs.Tables.{spot_in};
 

@@ -1,3 +1,5 @@
+//! Steps from a place to another, and what they cost.
+
 ghost use Rattle.std.specs.Prelude.{◌≡◌, ◌+◌, ◌-◌, ◌*◌, ◌^◌, ◌<◌, ◌↔◌, length, IsTrue};
 ghost use Rattle.hls_check_laws.specs.Steps.{IsSpotStep, IsPlaceStep, step_cost};
 
@@ -5,8 +7,10 @@ use crate::spot::Spot;
 use crate::spots::Spots;
 use hls_time::fits;
 
+/// Whether one segment may reach from a spot to another of the same rendition: to a later fragment, with no gap
+/// between, and by a length above 0 that rounds to at most `target` seconds (RFC 8216 4.3.3.1).
 #[inline(always)]
-fn spot_allowed(target: u64, from: Spot, to: Spot) -> bool
+pub fn spot_allowed(target: u64, from: Spot, to: Spot) -> bool
     ensures { IsTrue result ↔ IsSpotStep target from to }
 {
     from.fragment < to.fragment
