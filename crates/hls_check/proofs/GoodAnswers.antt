@@ -18,7 +18,7 @@ cut_fault t ok total plan prices (PlanStep p q) answer good =
     let bad = answer.2 in
     let step = steps_from_plan t ok good.sorted plan good.is_plan bad.at bad.in_plan in
     bad.bad (rw (← bad.is_from, ← bad.is_to) step)
-cut_fault t ok total plan prices PlanCost answer good = answer.2 (record { paid = good.paid; priced = good.priced })
+cut_fault t ok total plan prices PlanCost answer good = answer.2 good.paid
 cut_fault t ok total plan prices PriceStart answer good = answer.3 good.start
 cut_fault t ok total plan prices (PriceStep p q) answer good =
     answer.4.in_row.broken (λ rises allowed. good.keeps p q rises allowed)

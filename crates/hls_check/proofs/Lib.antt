@@ -1,3 +1,6 @@
 pub mod PlanLists
 pub mod GoodAnswers
 pub mod OneAnswer
+pub mod ClosedPrices
+pub mod Blocks
+pub mod FirstBlocks

@@ -2,9 +2,9 @@ use Rattle.std.proofs.Common.{◌≡◌, ℕ, zero, suc, ◌+◌, ◌-◌, ◌<�
 use Rattle.hls_check_laws.specs.Tables.{Table, IsTable}
 use Rattle.hls_check_laws.specs.Steps.{cost}
 use Rattle.hls_check_laws.specs.Orders.{IsSorted}
-use Rattle.hls_check_laws.specs.Plans.{Leads, end_of, cost_from, IsPlan, plan_cost}
+use Rattle.hls_check_laws.specs.Plans.{Leads, end_of, cost_from, IsPlan, plan_cost, HasEnds}
 use Rattle.hls_check_laws.proofs.Walks.{Allowed-rises}
-use Rattle.hls_check.specs.Faults.{HasEnds, IsForwardStep, HasSteps}
+use Rattle.hls_check.specs.Faults.{IsForwardStep, HasSteps}
 
 -- the end of a walk is its last place
 end_of-get_or : (p : ℕ) (rest : List ℕ) → end_of p rest ≡ get_or (p ∷ rest) (length rest) 0

@@ -5,9 +5,9 @@ use Rattle.hls_check_laws.specs.declared.verdict.Verdict.{Verdict}
 use Rattle.hls_check_laws.specs.declared.verdict.Verdict.TheVariants.{Cut, NoCut}
 use Rattle.hls_check_laws.specs.Tables.{Table}
 use Rattle.hls_check_laws.specs.Orders.{IsSorted, IsFirstUnsorted}
-use Rattle.hls_check_laws.specs.Plans.{IsPlan}
-use Rattle.hls_check_laws.specs.Certificates.{Printed, Shown, CutShown, NoneShown, price_at, is_closed, IsGoodCut, IsGoodNone}
-use Rattle.hls_check.specs.Faults.{HasEnds, IsFirstBadPair, IsPaid, CutKeeps, NoneKeeps, IsFirstBroken}
+use Rattle.hls_check_laws.specs.Plans.{IsPlan, HasEnds}
+use Rattle.hls_check_laws.specs.Certificates.{Printed, Shown, CutShown, NoneShown, price_at, is_closed, IsGoodCut, IsGoodNone, IsPaid, CutKeeps, NoneKeeps}
+use Rattle.hls_check.specs.Faults.{IsFirstBadPair, IsFirstBroken}
 
 -- The answer to a cut. A fault's line says that the tests before it hold and that its own doesn't,
 -- and which place or pair is the first.

@@ -2,7 +2,7 @@
 //! plan is least, or that there is none.
 #![tactic(auto)]
 
-pub use checker::check;
+pub use checker::{check, check_rows};
 pub use hls_check_laws::{
     CertFault, Certificate, Claim, PrintedTable, Spot, Spots, Verdict, good_cut_is_least,
     good_none_has_no_plan,
@@ -10,9 +10,13 @@ pub use hls_check_laws::{
 pub use laws::answer_is_one;
 
 mod checker;
-mod closed_sets;
 mod laws;
 mod plans;
 mod prices;
+mod rows;
+#[cfg(test)]
+mod rows_tests;
+mod side_by_side;
+mod steps;
 #[cfg(test)]
 mod tests;

@@ -1,7 +1,7 @@
 ghost use Rattle.std.specs.Prelude.{◌≡◌, ℕ, ◌+◌, ◌*◌, ◌<◌, ◌≤◌, ◌↔◌, length, IsTrue, MatchOption, All};
 ghost use Rattle.hls_check_laws.specs.Tables.{IsTable};
-ghost use Rattle.hls_check_laws.specs.Plans.{plan_cost};
-ghost use Rattle.hls_check.specs.Faults.{HasEnds, HasSteps, IsForwardStep, IsFirstBadPair};
+ghost use Rattle.hls_check_laws.specs.Plans.{plan_cost, HasEnds};
+ghost use Rattle.hls_check.specs.Faults.{HasSteps, IsForwardStep, IsFirstBadPair};
 
 use hls_check_laws::PrintedTable;
 

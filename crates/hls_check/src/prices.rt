@@ -1,16 +1,18 @@
-ghost use Rattle.std.specs.Prelude.{◌≡◌, ℕ, ◌+◌, ◌<◌, ◌≤◌, ◌↔◌, length, IsTrue, MatchOption, All};
-ghost use Rattle.hls_check_laws.specs.Certificates.{price_at, Keeps, IsPriceInRange};
-ghost use Rattle.hls_check.specs.Faults.{CutKeeps, IsFirstInRow, IsFirstBroken};
+//! What a claim says of one place.
 
-use hls_check_laws::PrintedTable;
+ghost use Rattle.std.specs.Prelude.{◌≡◌, ◌<◌, ◌↔◌, length, IsTrue, Some};
+ghost use Rattle.hls_check_laws.specs.Certificates.{price_at, is_closed, shown_by};
+ghost use Rattle.hls_check.specs.Rows.{prices_shown};
 
-/// The price of place `p`, if it has one.
+use hls_check_laws::Claim;
+
+/// Whether place `p` is in the closed set.
 #[inline(always)]
-pub fn price_of(prices: &[Option<u64>], p: usize) -> Option<u64>
-    requires { p < length prices.now }
-    ensures { result ≡ price_at prices.now p }
+pub fn is_in(closed: &[bool], p: usize) -> bool
+    requires { p < length closed.now }
+    ensures { result ≡ is_closed closed.now p }
 {
-    prices[p]
+    closed[p]
 }
 
 /// Whether place `p` has this price.
@@ -18,52 +20,24 @@ pub fn has_price(prices: &[Option<u64>], p: usize, price: u64) -> bool
     requires { p < length prices.now }
     ensures { IsTrue result ↔ (price_at prices.now p ≡ Some price) }
 {
-    price_of(prices, p) == Some(price)
+    prices[p] == Some(price)
 }
 
-/// Whether a place with the price `to` keeps to a step of this cost from a place with price `from`.
+/// The price of place `p`, if it has one: in a closed set 0.
 #[inline(always)]
-fn keeps(cost: u64, from: u64, to: Option<u64>) -> bool
-    ensures { IsTrue result ↔ Keeps cost (Some from) to }
+#[tactic(auto, using(crate::proofs::ClosedPrices::price_of_closed))]
+pub fn price_of(claim: &Claim, p: usize) -> Option<u64>
+    requires { p < length (prices_shown (shown_by claim.now)) }
+    ensures { result ≡ price_at (prices_shown (shown_by claim.now)) p }
 {
-    match to {
-        None => false,
-        Some(to) => to <= from.saturating_add(cost),
-    }
-}
-
-/// The first place that a step from place `p` shows to be priced too high, or not at all.
-fn broken_price(table: &PrintedTable, prices: &[Option<u64>], p: usize) -> Option<usize>
-    requires in_range { p < length table.now.places }
-    requires one_each { length prices.now ≡ length table.now.places }
-    requires small { All IsPriceInRange prices.now }
-    ensures { MatchOption result ((q : ℕ) → CutKeeps table.now prices.now p q) (IsFirstInRow (CutKeeps table.now prices.now) p) }
-{
-    let Some(price) = price_of(prices, p) else {
-        return None;
-    };
-    for q in p + 1..table.len() {
-        // The prices are compared first: they are two numbers, and a step is five for each rendition.
-        if !keeps(table.cost_between(p, q), price, price_of(prices, q)) {
-            if table.allowed(p, q) {
-                return Some(q);
+    match claim {
+        Claim::Cut { prices, .. } => prices[p],
+        Claim::NoCut { closed } => {
+            if is_in(closed.as_slice(), p) {
+                Some(0)
+            } else {
+                None
             }
         }
     }
-    None
-}
-
-/// The first allowed step from a priced place to one that is priced higher than by that step, or
-/// not at all.
-pub fn first_broken_price(table: &PrintedTable, prices: &[Option<u64>]) -> Option<(usize, usize)>
-    requires one_each { length prices.now ≡ length table.now.places }
-    requires small { All IsPriceInRange prices.now }
-    ensures { MatchOption result ((p q : ℕ) → CutKeeps table.now prices.now p q) (λ step. IsFirstBroken (CutKeeps table.now prices.now) step.0 step.1) }
-{
-    for p in 0..table.len() {
-        if let Some(q) = broken_price(table, prices, p) {
-            return Some((p, q));
-        }
-    }
-    None
 }
