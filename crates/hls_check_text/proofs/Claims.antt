@@ -6,12 +6,13 @@ use Rattle.hls_check_laws.specs.Tables.{Table, IsTable}
 use Rattle.hls_check_laws.specs.Certificates.{Printed, CutShown, NoneShown, IsCertificate, IsPriceInRange}
 use Rattle.hls_text.specs.Lines.{cut_text, IsFirstLine}
 use Rattle.hls_check_text.specs.Text.{cut_line, none_line, end_line, plan_line, price_line, closed_line, table_lines, shown_lines, lines, text, Priced, priced, priced_from, members_from}
-use Rattle.hls_check_text.specs.Stages.{Refuses, IsNumberLine, IsPlanLine, IsPriceLine, IsClosedLine, IsAt, AtClaim, AtPlan, AtPrice, AtClosed, AtEnd, IsPlanned, ArePrices, IsClosing, past_priced, past_members, printed}
+use Rattle.hls_check_text.specs.Stages.{RefusesOrLacks, Builds, IsNumberLine, IsPlanLine, IsPriceLine, IsClosedLine, IsAt, AtClaim, AtPlan, AtPrice, AtClosed, AtEnd, IsPlanned, ArePrices, IsClosing, past_priced, past_members, printed}
 use Rattle.hls_check_text.proofs.Starts.{unpriced, left_out}
 use Rattle.hls_text.specs.Numbers.{words}
-use Rattle.hls_check_text.specs.Wrong.{IsFirstWrong, IsReading}
+use Rattle.hls_check_text.specs.Wrong.{IsFirstWrong}
 use Rattle.hls_check_laws.specs.declared.cert_fault.CertFault.{CertFault}
-use Rattle.hls_check_text.proofs.Wrongs.{at_next, first_wrong, stops, is_whole}
+use Rattle.hls_text.proofs.Joins.{first_cut}
+use Rattle.hls_check_text.proofs.Wrongs.{at_next, first_wrong, stops_building, is_whole}
 
 -- prices, padded up to a place, and one more
 priced-append : (k : ℕ) (xs ys : List (Option ℕ)) → priced_from k (xs ++ ys) ≡ priced_from k xs ++ priced_from (k + length xs) ys
@@ -45,7 +46,7 @@ pub padded : (X : Type 0) (xs ys : List X) (n : ℕ) (x : X) → length xs ≤ n
     ys ≡ xs ++ replicate (n - length xs) x
 padded X xs ys n x h is = is ∙ ap (λ (zs : List X). zs ++ replicate (n - length xs) x) (take_all n xs h)
 
-abbrev with_price : List (Option ℕ) → ℕ → ℕ → List (Option ℕ)
+abbrev pub with_price : List (Option ℕ) → ℕ → ℕ → List (Option ℕ)
 with_price prices place price = (prices ++ replicate (place - length prices) None) ++ (Some price ∷ [])
 
 price_added : (prices : List (Option ℕ)) (place price : ℕ) → length prices ≤ place →
@@ -58,7 +59,7 @@ price_added prices place price h =
     priced-append 0 (prices ++ replicate (place - length prices) None) (Some price ∷ [])
     ∙ ap₂ (λ (ps : List Priced) (j : ℕ). ps ++ (priced j price ∷ [])) (unpriced 0 prices (place - length prices)) len
 
-abbrev with_member : List Bool → ℕ → List Bool
+abbrev pub with_member : List Bool → ℕ → List Bool
 with_member closed place = (closed ++ replicate (place - length closed) false) ++ (true ∷ [])
 
 member_added : (closed : List Bool) (place : ℕ) → length closed ≤ place →
@@ -271,7 +272,7 @@ pub price_bad : (count : ℕ) (whole : List ℕ) (first : ℕ) (prices : List (O
 price_bad count whole first prices rest line after passed read first_line no_end no_price bytes plan t total count_is at =
     first_wrong (AtPrice t total plan prices) tt bytes rest passed (read.at bytes plan t total count_is at)
     (λ other others here good.
-    let heads : line ∷ (cut_text after).lines ≡ other ∷ others = sym first_line.lines ∙ here in
+    let heads : line ∷ (cut_text after).lines ≡ other ∷ others = sym (first_cut rest line after first_line).0 ∙ here in
     let same : line ≡ other = cc in
     let P : ℕ → Type 0 = λ n. IsPriceLine (length prices) n line in
     elim (subst (λ (l : List ℕ). (l ≡ end_line) ⊎ IsPriceLine (length prices) (length t.places) l) (sym same) good) [
@@ -293,7 +294,7 @@ pub member_bad : (count : ℕ) (whole : List ℕ) (first : ℕ) (closed : List B
 member_bad count whole first closed rest line after passed read first_line no_end no_member bytes t count_is at =
     first_wrong (AtClosed t closed) tt bytes rest passed (read.at bytes t count_is at)
     (λ other others here good.
-    let heads : line ∷ (cut_text after).lines ≡ other ∷ others = sym first_line.lines ∙ here in
+    let heads : line ∷ (cut_text after).lines ≡ other ∷ others = sym (first_cut rest line after first_line).0 ∙ here in
     let same : line ≡ other = cc in
     let P : ℕ → Type 0 = λ n. IsClosedLine (length closed) n line in
     elim (subst (λ (l : List ℕ). (l ≡ end_line) ⊎ IsClosedLine (length closed) (length t.places) l) (sym same) good) [
@@ -338,7 +339,7 @@ pub claim_bad : (bytes rest line after : List ℕ) (t : Table) (passed : ℕ) �
 claim_bad bytes rest line after t passed at first_line not_none no_cost =
     first_wrong (AtClaim t) tt bytes rest passed at
     (λ other others here good.
-    let heads : line ∷ (cut_text after).lines ≡ other ∷ others = sym first_line.lines ∙ here in
+    let heads : line ∷ (cut_text after).lines ≡ other ∷ others = sym (first_cut rest line after first_line).0 ∙ here in
     let same : line ≡ other = cc in
     elim (subst (λ (l : List ℕ). (l ≡ none_line) ⊎ IsNumberLine cut_line (λ n. n < 2 ^ 53) l) (sym same) good) [
       | inl none ↦ not_none none
@@ -361,10 +362,10 @@ closed_form count closed more within is =
 
 -- the plan's line over as many places as the table was told to have
 pub plan_stops : (bytes rest : List ℕ) (t : Table) (cost passed n : ℕ) (fault : CertFault) → n ≡ length t.places →
-    Refuses (IsPlanLine n) rest passed fault → IsAt (AtPlan t cost) bytes rest passed → IsReading bytes (Err fault)
+    RefusesOrLacks (IsPlanLine n) rest passed fault → IsAt (AtPlan t cost) bytes rest passed → Builds bytes (Err fault)
 plan_stops bytes rest t cost passed n fault count refused at =
-    let P : ℕ → Type 0 = λ m. Refuses (IsPlanLine m) rest passed fault in
-    stops (AtPlan t cost) tt bytes rest passed at fault (subst P count refused)
+    let P : ℕ → Type 0 = λ m. RefusesOrLacks (IsPlanLine m) rest passed fault in
+    stops_building (AtPlan t cost) tt bytes rest passed at fault (subst P count refused)
 
 pub plan_passed : (bytes rest after : List ℕ) (t : Table) (cost passed n : ℕ) (plan : List ℕ) → n ≡ length t.places →
     (0 < length plan) × All (λ p. p < n) plan × IsFirstLine rest (plan_line plan) after → IsAt (AtPlan t cost) bytes rest passed →

@@ -8,3 +8,4 @@ pub mod LineKinds
 pub mod PlaceTexts
 pub mod Claims
 pub mod Written
+mod Scans

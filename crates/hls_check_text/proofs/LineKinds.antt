@@ -4,10 +4,10 @@ use Rattle.std.proofs.Math.Seq.{take-suc}
 use Rattle.std.proofs.lemmas.List.{append_cancel_left, nil_from_length}
 use Rattle.std.specs.Fmt.{decimal}
 use Rattle.std.proofs.lemmas.List.Elements.{All-cons, All-nil, All-append}
-use Rattle.hls_check_laws.specs.declared.cert_fault.CertFault.TheVariants.{Form}
 use Rattle.hls_text.specs.Lines.{cut_text, IsFirstLine}
 use Rattle.hls_text.specs.Numbers.{words, number_line, spaced, IsNumber, HasNoNumber, AreNumbers}
 use Rattle.hls_text.proofs.Digits.{same_number}
+use Rattle.hls_text.proofs.Joins.{first_cut}
 use Rattle.hls_text.proofs.Words.{front_number}
 use Rattle.hls_check_text.specs.Text.{plan_line, closed_line}
 use Rattle.hls_check_text.specs.Stages.{Refuses, IsNumberLine, IsPlanLine, IsPriceLine, IsClosedLine}
@@ -175,14 +175,25 @@ below_more numbers places more i count small below read pushed =
           (All-append P (take i numbers) (get_or numbers i 0 ∷ []) read.1 (All-cons P (get_or numbers i 0) [] below (All-nil P))),
     )
 
+-- a first line that isn't good
+pub line_refused : (IsGood : List ℕ → Type 0) (rest line after : List ℕ) (passed : ℕ) → IsFirstLine rest line after →
+    (IsGood line → ⊥) → Refuses IsGood rest passed (passed + 1)
+line_refused IsGood rest line after passed first bad = (
+  refl,
+  λ other others here good.
+      let same : line ∷ (cut_text after).lines ≡ other ∷ others = sym (first_cut rest line after first).0 ∙ here in
+      let lines : line ≡ other = cc in
+      bad (subst IsGood (sym lines) good),
+)
+
 -- a number outside its range
 pub out_of_range : (word rest line after : List ℕ) (m low high passed : ℕ) → IsFirstLine rest line after →
     (m < 2 ^ 53) × (line ≡ word ++ words (m ∷ [])) → high < 2 ^ 53 → ((low ≤ m) × (m ≤ high) → ⊥) →
-    Refuses (IsNumberLine (number_line word) (λ n. (low ≤ n) × (n ≤ high))) rest passed (Form (passed + 1))
+    Refuses (IsNumberLine (number_line word) (λ n. (low ≤ n) × (n ≤ high))) rest passed (passed + 1)
 out_of_range word rest line after m low high passed first read small out = (
   refl,
   λ other others here good.
-      let same : line ∷ (cut_text after).lines ≡ other ∷ others = sym first.lines ∙ here in
+      let same : line ∷ (cut_text after).lines ≡ other ∷ others = sym (first_cut rest line after first).0 ∙ here in
       let lines : line ≡ other = cc in
       let within : good.number ≤ high = good.good.1 in
       let numbers : m ≡ good.number =

@@ -4,12 +4,11 @@ use Rattle.std.specs.Fmt.{decimal}
 use Rattle.std.proofs.lemmas.List.{length-append}
 use Rattle.std.proofs.lemmas.List.Elements.{All-head, All-tail, All-cons, All-nil, All-append}
 use Rattle.hls_check_laws.specs.declared.spot.Spot.{Spot}
-use Rattle.hls_check_laws.specs.declared.cert_fault.CertFault.TheVariants.{Form}
 use Rattle.hls_check_laws.specs.Tables.{IsSpotInRange, IsPlaceOf}
 use Rattle.hls_text.specs.Lines.{cut_text, joined, IsFirstLine}
 use Rattle.hls_text.specs.Numbers.{words, spaced, begins_with_digit, IsNumber, HasNoNumber, IsSpaced}
 use Rattle.hls_text.proofs.Digits.{same_number}
-use Rattle.hls_text.proofs.Joins.{clean_words, cut_line, joined_lines}
+use Rattle.hls_text.proofs.Joins.{clean_words, joined_lines, no_end}
 use Rattle.hls_text.proofs.Words.{no_digit_behind, front_spaced, same_spaced}
 use Rattle.hls_check_text.specs.Text.{place_numbers, place_line}
 use Rattle.hls_check_text.specs.Stages.{Refuses, IsPlaceLine}
@@ -334,17 +333,14 @@ no_end_of_line renditions text spots rest read none place after good is =
 pub place_first : (renditions : ℕ) (text : List ℕ) (place : List Spot) (after : List ℕ) → IsPlaceOf renditions place →
     text ≡ place_line place ++ (10 ∷ after) → IsFirstLine text (place_line place) after
 place_first renditions text place after good is =
-    let cut : ((cut_text (place_line place ++ (10 ∷ after))).lines ≡ place_line place ∷ (cut_text after).lines)
-    × ((cut_text (place_line place ++ (10 ∷ after))).tail ≡ (cut_text after).tail) =
-    cut_line (place_line place) after (clean_words (place_numbers place) (numbers_printable place good.spots)) in
-    record { lines = ap (λ (xs : List ℕ). (cut_text xs).lines) is ∙ cut.0; tail = ap (λ (xs : List ℕ). (cut_text xs).tail) is ∙ cut.1 }
+    record { is = is; one_line = no_end (place_line place) (clean_words (place_numbers place) (numbers_printable place good.spots)) }
 
 pub place_shorter : (text : List ℕ) (place : List Spot) (after : List ℕ) → text ≡ place_line place ++ (10 ∷ after) → length after < length text
 place_shorter text place after is = rw is (simp length-append (omega arith))
 
 pub place_refused : (renditions passed : ℕ) (rest : List ℕ) →
     ((place : List Spot) (after : List ℕ) → IsPlaceOf renditions place → rest ≡ place_line place ++ (10 ∷ after) → ⊥) →
-    Refuses (IsPlaceLine renditions) rest passed (Form (passed + 1))
+    Refuses (IsPlaceLine renditions) rest passed (passed + 1)
 unfolding joined
 place_refused renditions passed rest none = (
   refl,

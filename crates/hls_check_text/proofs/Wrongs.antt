@@ -11,11 +11,11 @@ use Rattle.hls_check_laws.specs.Certificates.{Printed, Shown, CutShown, NoneShow
 use Rattle.hls_text.specs.Lines.{cut_text, joined, IsFirstLine}
 use Rattle.hls_text.specs.Numbers.{words}
 use Rattle.hls_text.proofs.Words.{IsSmall}
-use Rattle.hls_text.proofs.Joins.{IsClean, clean-append, clean_words, lines_of_joined, tail_of_joined, joined_lines}
+use Rattle.hls_text.proofs.Joins.{IsClean, clean-append, clean_words, lines_of_joined, tail_of_joined, joined_lines, first_cut}
 use Rattle.hls_check_text.specs.Text.{header_line, target_line, preferred_line, renditions_line, places_line, cut_line, none_line, end_line, plan_line, price_line, closed_line, place_line, place_numbers, head_lines, table_lines, shown_lines, lines, text, Priced, priced_from, members_from}
-use Rattle.hls_check_text.specs.Wrong.{IsFirstWrong, IsReading, Gives}
+use Rattle.hls_check_text.specs.Wrong.{IsFirstWrong, IsGoodText, IsReading, Gives}
 use Rattle.hls_check_text.specs.declared.head.Head.{Head}
-use Rattle.hls_check_text.specs.Stages.{Stage, AtHeader, AtTarget, AtPreferred, AtRenditions, AtCount, AtPlace, AtClaim, AtEnd, front, IsStage, IsNext, IsAt, Refuses, IsHead, lines_of}
+use Rattle.hls_check_text.specs.Stages.{Stage, AtHeader, AtTarget, AtPreferred, AtRenditions, AtCount, AtPlace, AtClaim, AtEnd, front, IsStage, IsNext, IsAt, Refuses, RefusesOrLacks, Builds, IsHead, lines_of}
 use Rattle.hls_check_text.proofs.Spellings.{one_small, numbers_printable, RisesFrom, ClimbsFrom, priced_rises, members_climb}
 use Rattle.hls_check_text.proofs.Nexts.{Next}
 use Rattle.hls_check_text.proofs.Stagings.{IsOpen, stage_next}
@@ -132,18 +132,36 @@ first_wrong s open_ bytes rest passed at none = record {
 }
 
 -- a reader stops at a line
-pub stops : (s : Stage) → IsOpen s → (bytes rest : List ℕ) (passed : ℕ) → IsAt s bytes rest passed → (fault : CertFault) →
-    Refuses (IsNext s) rest passed fault → IsReading bytes (Err fault)
-stops s open_ bytes rest passed at (Form n) refused =
+pub stops : (s : Stage) → IsOpen s → (bytes rest : List ℕ) (passed : ℕ) → IsAt s bytes rest passed → (n : ℕ) →
+    Refuses (IsNext s) rest passed n → IsFirstWrong bytes n
+stops s open_ bytes rest passed at n refused =
     subst (IsFirstWrong bytes) (sym refused.0) (first_wrong s open_ bytes rest passed at refused.1)
-stops s open_ bytes rest passed at Memory refused = tt
-stops s open_ bytes rest passed at (TableNotSorted place) refused = absurd refused
-stops s open_ bytes rest passed at PlanEnds refused = absurd refused
-stops s open_ bytes rest passed at (PlanStep p q) refused = absurd refused
-stops s open_ bytes rest passed at PlanCost refused = absurd refused
-stops s open_ bytes rest passed at PriceStart refused = absurd refused
-stops s open_ bytes rest passed at (PriceStep p q) refused = absurd refused
-stops s open_ bytes rest passed at EndReached refused = absurd refused
+
+-- and one that takes memory
+pub stops_building : (s : Stage) → IsOpen s → (bytes rest : List ℕ) (passed : ℕ) → IsAt s bytes rest passed → (fault : CertFault) →
+    RefusesOrLacks (IsNext s) rest passed fault → Builds bytes (Err fault)
+stops_building s open_ bytes rest passed at (Form n) refused = stops s open_ bytes rest passed at n refused
+stops_building s open_ bytes rest passed at Memory refused = tt
+stops_building s open_ bytes rest passed at (TableNotSorted place) refused = absurd refused
+stops_building s open_ bytes rest passed at PlanEnds refused = absurd refused
+stops_building s open_ bytes rest passed at (PlanStep p q) refused = absurd refused
+stops_building s open_ bytes rest passed at PlanCost refused = absurd refused
+stops_building s open_ bytes rest passed at PriceStart refused = absurd refused
+stops_building s open_ bytes rest passed at (PriceStep p q) refused = absurd refused
+stops_building s open_ bytes rest passed at EndReached refused = absurd refused
+
+-- memory is wanted only for a certificate's text
+pub reads : (bytes : List ℕ) (result : Result Printed CertFault) → IsGoodText bytes → Builds bytes result → IsReading bytes result
+reads bytes (Ok c) good built = built
+reads bytes (Err (Form n)) good built = built
+reads bytes (Err Memory) good built = good
+reads bytes (Err (TableNotSorted place)) good built = absurd built
+reads bytes (Err PlanEnds) good built = absurd built
+reads bytes (Err (PlanStep p q)) good built = absurd built
+reads bytes (Err PlanCost) good built = absurd built
+reads bytes (Err PriceStart) good built = absurd built
+reads bytes (Err (PriceStep p q)) good built = absurd built
+reads bytes (Err EndReached) good built = absurd built
 
 -- at the end nothing may follow
 pub is_whole : (c : Printed) (bytes rest : List ℕ) (passed : ℕ) → IsAt (AtEnd c) bytes rest passed → length rest ≡ 0 → bytes ≡ text c
@@ -184,10 +202,10 @@ pub at_next : (s r : Stage) (bytes rest line after : List ℕ) (passed : ℕ) �
     IsStage r → front r ≡ front s ++ (line ∷ []) → IsAt r bytes after (passed + 1)
 at_next s r bytes rest line after passed at first good longer = record {
   is_stage = good;
-  lines = at.lines ∙ ap (λ (ls : List (List ℕ)). front s ++ ls) first.lines
+  lines = at.lines ∙ ap (λ (ls : List (List ℕ)). front s ++ ls) (first_cut rest line after first).0
       ∙ sym (append_assoc (front s) (line ∷ []) (cut_text after).lines)
       ∙ ap (λ (ls : List (List ℕ)). ls ++ (cut_text after).lines) (sym longer);
-  tail = at.tail ∙ first.tail;
+  tail = at.tail ∙ (first_cut rest line after first).1;
   count = ap (λ (n : ℕ). n + 1) at.count ∙ sym (length-append (front s) (line ∷ [])) ∙ ap length (sym longer);
 }
 
@@ -287,10 +305,10 @@ place_more h text places rest p place after read good first shorter =
       good = All-append (IsPlaceOf h.renditions) places (place ∷ []) read.good
           (All-cons (IsPlaceOf h.renditions) place [] good (All-nil (IsPlaceOf h.renditions)));
       shorter = omega arith;
-      lines = read.lines ∙ ap (λ (ls : List (List ℕ)). map place_line places ++ ls) first.lines
+      lines = read.lines ∙ ap (λ (ls : List (List ℕ)). map place_line places ++ ls) (first_cut rest (place_line place) after first).0
           ∙ sym (append_assoc (map place_line places) (place_line place ∷ []) (cut_text after).lines)
           ∙ ap (λ (ls : List (List ℕ)). ls ++ (cut_text after).lines) (sym (map-append place_line places (place ∷ [])));
-      tail = read.tail ∙ first.tail;
+      tail = read.tail ∙ (first_cut rest (place_line place) after first).1;
     }
 
 -- while places are to come

@@ -1,9 +1,10 @@
--- A spot's numbers at the front of a text.
+-- For the proofs of this crate; no public clause cites it.
+-- A spot's numbers, and a place's line, at the front of a text.
 use Rattle.std.specs.Prelude.{◌≡◌, ℕ, false, List, [], ◌∷◌, ◌++◌}
 use Rattle.hls_check_laws.specs.declared.spot.Spot.{Spot}
-use Rattle.hls_check_laws.specs.Tables.{IsSpotInRange}
+use Rattle.hls_check_laws.specs.Tables.{IsSpotInRange, IsPlaceOf}
 use Rattle.hls_text.specs.Numbers.{words, spaced, begins_with_digit}
-use Rattle.hls_check_text.specs.Text.{place_numbers}
+use Rattle.hls_check_text.specs.Text.{place_line, place_numbers}
 
 -- the spot that a place's line begins with, and what follows its numbers
 pub record IsFirstSpot (text : List ℕ) (s : Spot) (rest : List ℕ) : Type 0 where
@@ -16,3 +17,9 @@ pub record IsNextSpot (text : List ℕ) (s : Spot) (rest : List ℕ) : Type 0 wh
   pub small : IsSpotInRange s
   pub is : text ≡ spaced (place_numbers (s ∷ [])) ++ rest
   pub ends : begins_with_digit rest ≡ false
+
+-- a text that begins with a place's line, and what follows the line's end
+pub record PassesPlace (renditions : ℕ) (text after : List ℕ) : Type 0 where
+  pub place : List Spot
+  pub good : IsPlaceOf renditions place
+  pub is : text ≡ place_line place ++ (10 ∷ after)

@@ -1,12 +1,15 @@
+-- For the proofs of this crate; no public clause cites it.
 -- How far a reader has come: the lines that it has passed, and which lines may come next.
-use Rattle.std.specs.Prelude.{◌≡◌, ℕ, ◌+◌, ◌^◌, ◌<◌, ◌≤◌, List, [], ◌∷◌, ◌++◌, length, map, All, Option, Bool, ◌⊎◌}
+use Rattle.std.specs.Prelude.{◌≡◌, ℕ, ◌+◌, ◌^◌, ◌<◌, ◌≤◌, List, [], ◌∷◌, ◌++◌, length, map, All, Option, Bool, ◌⊎◌, Result, Ok, Err}
 use Rattle.hls_check_laws.specs.declared.spot.Spot.{Spot}
 use Rattle.hls_check_laws.specs.declared.cert_fault.CertFault.{CertFault}
 use Rattle.hls_check_laws.specs.declared.cert_fault.CertFault.TheVariants.{Form, TableNotSorted, PlanEnds, PlanStep, PlanCost, PriceStart, PriceStep, EndReached, Memory}
-use Rattle.hls_check_laws.specs.Tables.{Table, IsTable, IsPlaceOf}
+use Rattle.hls_check_laws.specs.Tables.{Table, IsTable, IsPlaceOf, table_of}
 use Rattle.hls_check_laws.specs.Certificates.{Printed, Shown, IsCertificate, IsPriceInRange}
 use Rattle.hls_text.specs.Lines.{cut_text}
 use Rattle.hls_check_text.specs.declared.head.Head.{Head}
+use Rattle.hls_check_text.specs.declared.wrong_line.WrongLine.{WrongLine}
+use Rattle.hls_check_text.specs.Wrong.{IsFirstWrong, IsGoodText, IsReading}
 use Rattle.hls_check_text.specs.Text.{header_line, target_line, preferred_line, renditions_line, places_line, cut_line, none_line, end_line, plan_line, price_line, closed_line, place_line, head_lines, table_lines, lines, Priced, priced_from, members_from}
 
 -- the lines above the places
@@ -160,15 +163,35 @@ pub record IsAt (s : Stage) (bytes rest : List ℕ) (passed : ℕ) : Type 0 wher
   pub tail : (cut_text bytes).tail ≡ (cut_text rest).tail
   pub count : passed ≡ length (front s)
 
--- a reader's answer where the line behind `passed` lines isn't there, or isn't good
-abbrev pub Refuses : (List ℕ → Type 0) → List ℕ → ℕ → CertFault → Type 0
-Refuses IsGood rest passed (Form n) =
+-- the line behind `passed` lines, which is number n, isn't there, or isn't good
+abbrev pub Refuses : (List ℕ → Type 0) → List ℕ → ℕ → ℕ → Type 0
+Refuses IsGood rest passed n =
     (n ≡ passed + 1) × ((line : List ℕ) (after : List (List ℕ)) → (cut_text rest).lines ≡ line ∷ after → IsGood line → ⊥)
-Refuses IsGood rest passed Memory = Unit {0}
-Refuses IsGood rest passed (TableNotSorted place) = ⊥
-Refuses IsGood rest passed PlanEnds = ⊥
-Refuses IsGood rest passed (PlanStep p q) = ⊥
-Refuses IsGood rest passed PlanCost = ⊥
-Refuses IsGood rest passed PriceStart = ⊥
-Refuses IsGood rest passed (PriceStep p q) = ⊥
-Refuses IsGood rest passed EndReached = ⊥
+
+-- the same of a reader that takes memory, which may be refused it
+abbrev pub RefusesOrLacks : (List ℕ → Type 0) → List ℕ → ℕ → CertFault → Type 0
+RefusesOrLacks IsGood rest passed (Form n) = Refuses IsGood rest passed n
+RefusesOrLacks IsGood rest passed Memory = Unit {0}
+RefusesOrLacks IsGood rest passed (TableNotSorted place) = ⊥
+RefusesOrLacks IsGood rest passed PlanEnds = ⊥
+RefusesOrLacks IsGood rest passed (PlanStep p q) = ⊥
+RefusesOrLacks IsGood rest passed PlanCost = ⊥
+RefusesOrLacks IsGood rest passed PriceStart = ⊥
+RefusesOrLacks IsGood rest passed (PriceStep p q) = ⊥
+RefusesOrLacks IsGood rest passed EndReached = ⊥
+
+-- a text's certificate, its first wrong line, or want of memory
+abbrev pub Builds : List ℕ → Result Printed CertFault → Type 0
+Builds bytes (Err Memory) = Unit {0}
+Builds bytes result = IsReading bytes result
+
+-- what scanning a text comes to: that it is a certificate's, or its first wrong line
+abbrev pub Scans : List ℕ → Result (Unit {0}) WrongLine → Type 0
+Scans bytes (Ok done) = IsGoodText bytes
+Scans bytes (Err wrong) = IsFirstWrong bytes wrong.line
+
+-- a table's places were passed over, and its claim comes next
+pub record PassesPlaces (head : Head) (bytes rest : List ℕ) : Type 0 where
+  pub places : List (List Spot)
+  pub count : length places ≡ head.count
+  pub at : IsAt (AtClaim (table_of head.target head.preferred head.renditions places)) bytes rest (5 + head.count)

@@ -25,11 +25,18 @@ pub record IsFirstWrong (bytes : List ℕ) (n : ℕ) : Type 0 where
   pub wrong : (line : List ℕ) (after : List (List ℕ)) → rest ≡ line ∷ after → Begins (before ++ (line ∷ [])) → ⊥
   pub no_text : (c : Printed) → IsCertificate c → bytes ≡ text c → ⊥
 
--- what reading a text answers: the certificate whose text it is, or its first wrong line
+-- a certificate's text
+pub record IsGoodText (bytes : List ℕ) : Type 0 where
+  pub certificate : Printed
+  pub is_certificate : IsCertificate certificate
+  pub is : bytes ≡ text certificate
+
+-- what reading a text answers: the certificate whose text it is, or its first wrong line; want of
+-- memory only where it is a certificate's text
 abbrev pub IsReading : List ℕ → Result Printed CertFault → Type 0
 IsReading bytes (Ok c) = IsCertificate c × (bytes ≡ text c)
 IsReading bytes (Err (Form n)) = IsFirstWrong bytes n
-IsReading bytes (Err Memory) = Unit {0}
+IsReading bytes (Err Memory) = IsGoodText bytes
 IsReading bytes (Err (TableNotSorted place)) = ⊥
 IsReading bytes (Err PlanEnds) = ⊥
 IsReading bytes (Err (PlanStep p q)) = ⊥

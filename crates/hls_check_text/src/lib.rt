@@ -7,9 +7,12 @@ mod line;
 mod next;
 mod place;
 mod reader;
+mod scan;
 #[cfg(test)]
 mod tests;
 mod write_text;
+mod wrong_line;
 
 pub use reader::read;
+pub use scan::first_wrong;
 pub use write_text::write;

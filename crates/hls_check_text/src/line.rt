@@ -1,10 +1,10 @@
-// One line of each kind, by itself.
+//! One line of each kind, by itself.
 ghost use Rattle.std.specs.Prelude.{◌≡◌, ◌++◌, ◌^◌, ◌<◌, ◌≤◌, ℕ, [], ◌∷◌, length, All, MatchOption, IfOk, IsTrue, ◌↔◌, codes};
 ghost use Rattle.hls_text.specs.Numbers.{words};
 ghost use Rattle.hls_check_text.specs.Text.{plan_line, closed_line};
 ghost use Rattle.hls_check_text.specs.Stages.{IsPlanLine, IsPriceLine, IsClosedLine};
 
-use hls_text::{numbers_of, take_number, take_prefix};
+use hls_text::{are_numbers_below, numbers_of, take_number, take_prefix};
 use std::alloc::{AllocError, Global};
 
 /// Whether a line is just this word.
@@ -60,6 +60,17 @@ pub fn plan_in(alloc: Global, line: &[u8], count: usize) -> Result<Option<Vec<us
     match plan {
         Some(plan) => Ok(Some(plan)),
         None => Ok(None),
+    }
+}
+
+/// Whether a line is that of a plan over so many places. It takes no memory.
+pub fn is_plan(line: &[u8], count: usize) -> bool
+    requires { count ≤ 16384 }
+    ensures { IsTrue result ↔ IsPlanLine count line.now }
+{
+    match take_prefix(line, b"plan ") {
+        Some(numbers) => are_numbers_below(numbers, count as u64),
+        None => false,
     }
 }
 

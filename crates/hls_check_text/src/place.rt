@@ -1,9 +1,9 @@
-// A place's line, read number by number up to its end.
+//! A place's line, read number by number up to its end.
 ghost use Rattle.std.specs.Prelude.{◌≡◌, ◌++◌, ◌<◌, ◌≤◌, ℕ, List, ◌∷◌, length, MatchOption, IfOk};
 ghost use Rattle.hls_check_laws.specs.declared.spot.Spot.{Spot};
 ghost use Rattle.hls_check_laws.specs.Tables.{IsPlaceOf};
 ghost use Rattle.hls_check_text.specs.Text.{place_line};
-ghost use Rattle.hls_check_text.specs.SpotTexts.{IsFirstSpot, IsNextSpot};
+ghost use Rattle.hls_check_text.specs.SpotTexts.{IsFirstSpot, IsNextSpot, PassesPlace};
 
 use hls_check_laws::{Spot, Spots};
 use hls_text::{take_byte, take_number, take_spaced};
@@ -80,4 +80,23 @@ pub fn take_place(
         Some(after) => Ok(Some((Spots::new(spots), after))),
         None => Ok(None),
     }
+}
+
+/// What follows the line's end of the place that a text begins with, of five numbers a rendition; None where the text
+/// doesn't begin with such a line. It takes no memory.
+pub fn skip_place(text: &[u8], renditions: usize) -> Option<&[u8]>
+    requires { (1 ≤ renditions) × (renditions ≤ 16) }
+    ensures { MatchOption result ((after : List ℕ) → PassesPlace renditions text.now after → ⊥) (λ after. PassesPlace renditions text.now after.now) }
+{
+    let Some((_first, behind)) = take_spot(text) else {
+        return None;
+    };
+    let mut rest = behind;
+    for _skipped in 1..renditions {
+        let Some((_spot, after)) = take_next_spot(rest) else {
+            return None;
+        };
+        rest = after;
+    }
+    take_byte(rest, b'\n')
 }

@@ -1,64 +1,19 @@
-// A certificate's text, line by line. Each part speaks of the whole text, of which it is passed what is left.
+//! A certificate's text, line by line. Each part speaks of the whole text, of which it is passed what is left.
 ghost use Rattle.std.specs.Prelude.{◌≡◌, ◌++◌, ◌+◌, ◌*◌, ◌^◌, ◌<◌, ◌≤◌, ℕ, List, [], ◌∷◌, length, MatchResult, IfOk, All, Err};
 ghost use Rattle.hls_check_laws.specs.declared.spot.Spot.{Spot};
 ghost use Rattle.hls_check_laws.specs.Tables.{Table, IsTable, table_of};
 ghost use Rattle.hls_check_laws.specs.Certificates.{Printed, IsCertificate, CutShown, NoneShown, IsPriceInRange};
 ghost use Rattle.hls_check_text.specs.Text.{text};
 ghost use Rattle.hls_check_text.specs.Wrong.{IsReading, Gives};
-ghost use Rattle.hls_check_text.specs.Stages.{IsAt, AtPlace, AtClaim, AtPlan, AtPrice, AtClosed, AtEnd, IsHead, printed};
+ghost use Rattle.hls_check_text.specs.Stages.{Builds, IsAt, AtPlace, AtClaim, AtPlan, AtPrice, AtClosed, AtEnd, IsHead, printed};
 
-use crate::head::Head;
+use crate::head::{Head, read_head};
 use crate::line::{closed_in, is_word, number_in, price_in};
-use crate::next::{next_number, next_place, next_plan, next_word};
+use crate::next::{next_place, next_plan};
+use crate::scan::first_wrong;
 use hls_check_laws::{CertFault, Certificate, Claim, PrintedTable, Spots};
 use hls_text::take_line;
 use std::alloc::Global;
-
-// The five lines above the places.
-fn read_head(bytes: &[u8]) -> Result<(Head, &[u8]), CertFault>
-    ensures head { MatchResult result (λ f. IsAt (AtPlace f.0 []) bytes.entry.now f.1.now 5) (λ fault. IsReading bytes.entry.now (Err fault)) }
-    ensures shorter { IfOk result (λ f. 5 + length f.1.now ≤ length bytes.entry.now) }
-{
-    let after_header = match next_word(bytes, 0, b"HLS-CUT-CERTIFICATE 1") {
-        Ok(found) => found,
-        Err(fault) => return Err(fault),
-    };
-    let (target, after_target) = match next_number(after_header, 1, b"target ", 1, 3600) {
-        Ok(found) => found,
-        Err(fault) => return Err(fault),
-    };
-    let (preferred, after_preferred) = match next_number(
-        after_target,
-        2,
-        b"preferred ",
-        1,
-        3_600_000_000,
-    ) {
-        Ok(found) => found,
-        Err(fault) => return Err(fault),
-    };
-    let (renditions, after_renditions) = match next_number(
-        after_preferred,
-        3,
-        b"renditions ",
-        1,
-        16,
-    ) {
-        Ok(found) => found,
-        Err(fault) => return Err(fault),
-    };
-    let (count, rest) = match next_number(after_renditions, 4, b"places ", 2, 16384) {
-        Ok(found) => found,
-        Err(fault) => return Err(fault),
-    };
-    let head = Head {
-        target,
-        preferred,
-        renditions: renditions as usize,
-        count: count as usize,
-    };
-    Ok((head, rest))
-}
 
 // The places' lines.
 fn read_places<'a>(
@@ -68,7 +23,7 @@ fn read_places<'a>(
 ) -> Result<(Vec<Spots>, &'a [u8]), CertFault>
     requires room { 5 + length text.now + 1 < 2 ^ 64 }
     requires head { IsHead head }
-    ensures at { (bytes : List ℕ) → IsAt (AtPlace head []) bytes text.entry.now 5 → MatchResult result (λ f. IsAt (AtClaim (table_of head.target head.preferred head.renditions f.0.items)) bytes f.1.now (5 + head.count)) (λ fault. IsReading bytes (Err fault)) }
+    ensures at { (bytes : List ℕ) → IsAt (AtPlace head []) bytes text.entry.now 5 → MatchResult result (λ f. IsAt (AtClaim (table_of head.target head.preferred head.renditions f.0.items)) bytes f.1.now (5 + head.count)) (λ fault. Builds bytes (Err fault)) }
     ensures shorter { IfOk result (λ f. head.count + length f.1.now ≤ length text.entry.now) }
 {
     let mut places = Vec::new(alloc);
@@ -93,7 +48,7 @@ fn read_prices<'a>(
 ) -> Result<(Vec<Option<u64>>, &'a [u8], usize), CertFault>
     requires room { first + length text.now + 1 < 2 ^ 64 }
     requires count { count ≤ 16384 }
-    ensures at { (bytes plan : List ℕ) (t : Table) (total : ℕ) → length t.places ≡ count → IsAt (AtPrice t total plan []) bytes text.entry.now first → MatchResult result (λ f. IsAt (AtEnd (printed t (CutShown total plan f.0.items))) bytes f.1.now f.2) (λ fault. IsReading bytes (Err fault)) }
+    ensures at { (bytes plan : List ℕ) (t : Table) (total : ℕ) → length t.places ≡ count → IsAt (AtPrice t total plan []) bytes text.entry.now first → MatchResult result (λ f. IsAt (AtEnd (printed t (CutShown total plan f.0.items))) bytes f.1.now f.2) (λ fault. Builds bytes (Err fault)) }
     ensures shorter { IfOk result (λ f. f.2 + length f.1.now ≤ first + length text.entry.now) }
     ensures form { IfOk result (λ f. (length f.0.items ≡ count) × All IsPriceInRange f.0.items) }
 {
@@ -127,7 +82,7 @@ fn read_closed<'a>(
 ) -> Result<(Vec<bool>, &'a [u8], usize), CertFault>
     requires room { first + length text.now + 1 < 2 ^ 64 }
     requires count { count ≤ 16384 }
-    ensures at { (bytes : List ℕ) (t : Table) → length t.places ≡ count → IsAt (AtClosed t []) bytes text.entry.now first → MatchResult result (λ f. IsAt (AtEnd (printed t (NoneShown f.0.items))) bytes f.1.now f.2) (λ fault. IsReading bytes (Err fault)) }
+    ensures at { (bytes : List ℕ) (t : Table) → length t.places ≡ count → IsAt (AtClosed t []) bytes text.entry.now first → MatchResult result (λ f. IsAt (AtEnd (printed t (NoneShown f.0.items))) bytes f.1.now f.2) (λ fault. Builds bytes (Err fault)) }
     ensures shorter { IfOk result (λ f. f.2 + length f.1.now ≤ first + length text.entry.now) }
     ensures form { IfOk result (λ f. length f.0.items ≡ count) }
 {
@@ -162,7 +117,7 @@ fn read_cut(
 ) -> Result<Certificate, CertFault>
     requires cost { cost < 2 ^ 53 }
     requires room { passed + length text.now + 1 < 2 ^ 64 }
-    ensures { (bytes : List ℕ) → IsAt (AtPlan table cost) bytes text.now passed → IsReading bytes result }
+    ensures { (bytes : List ℕ) → IsAt (AtPlan table cost) bytes text.now passed → Builds bytes result }
 {
     let (plan, after_plan) = match next_plan(alloc, text, passed, table.len()) {
         Ok(found) => found,
@@ -186,7 +141,7 @@ fn read_none(
     passed: usize,
 ) -> Result<Certificate, CertFault>
     requires { passed + length text.now + 1 < 2 ^ 64 }
-    ensures { (bytes : List ℕ) → IsAt (AtClosed table []) bytes text.now passed → IsReading bytes result }
+    ensures { (bytes : List ℕ) → IsAt (AtClosed table []) bytes text.now passed → Builds bytes result }
 {
     let (closed, rest, read) = match read_closed(alloc, table.len(), text, passed) {
         Ok(found) => found,
@@ -206,7 +161,7 @@ fn read_claim(
     passed: usize,
 ) -> Result<Certificate, CertFault>
     requires { passed + length text.now + 1 < 2 ^ 64 }
-    ensures { (bytes : List ℕ) → IsAt (AtClaim table) bytes text.now passed → IsReading bytes result }
+    ensures { (bytes : List ℕ) → IsAt (AtClaim table) bytes text.now passed → Builds bytes result }
 {
     let Some((line, after)) = take_line(text) else {
         return Err(CertFault::Form { line: passed + 1 });
@@ -220,23 +175,28 @@ fn read_claim(
     read_cut(alloc, table, cost, after, passed + 1)
 }
 
+// The certificate whose text this is.
+fn build(alloc: Global, bytes: &[u8]) -> Result<Certificate, CertFault>
+    ensures { Builds bytes.now result }
+{
+    let (head, after_head) = read_head(bytes)?;
+    let (places, rest) = read_places(alloc, head, after_head)?;
+    let table = PrintedTable::new(head.target, head.preferred, head.renditions, places);
+    read_claim(alloc, table, rest, 5 + head.count)
+}
+
 /// The certificate whose text this is.
 ///
 /// # Errors
 /// `Form` with the first line, from 1, that isn't as the format says: a missing line counts as that line, and a last
-/// line without its line feed as a wrong line. `Memory` where a growth was refused, and no other fault.
+/// line without its line feed as a wrong line. `Memory` where a growth was refused, for a certificate's text alone: no
+/// memory is taken before the whole text was looked at.
 pub fn read(alloc: Global, bytes: &[u8]) -> Result<Certificate, CertFault>
     ensures answer { IsReading bytes.now result }
     ensures only { (c : Printed) → IsCertificate c → bytes.now ≡ text c → Gives c result }
 {
-    let (head, after_head) = match read_head(bytes) {
-        Ok(found) => found,
-        Err(fault) => return Err(fault),
-    };
-    let (places, rest) = match read_places(alloc, head, after_head) {
-        Ok(found) => found,
-        Err(fault) => return Err(fault),
-    };
-    let table = PrintedTable::new(head.target, head.preferred, head.renditions, places);
-    read_claim(alloc, table, rest, 5 + head.count)
+    if let Some(line) = first_wrong(bytes) {
+        return Err(CertFault::Form { line });
+    }
+    build(alloc, bytes)
 }

@@ -1,5 +1,7 @@
 use Rattle.std.proofs.Common.{◌<◌, ◌≤◌, arith}
-use Rattle.hls_check_text.proofs.LineKinds.{out_of_range}
+use Rattle.hls_text.specs.Numbers.{number_line}
+use Rattle.hls_check_text.specs.Stages.{IsNumberLine}
+use Rattle.hls_check_text.proofs.LineKinds.{line_refused, out_of_range}
 use Rattle.hls_check_text.proofs.next.next_number.Goals as goal
 
 pub returns-then-number-low-clause-line : goal.returns-then-number-low-clause-line
@@ -17,3 +19,11 @@ returns-then-number-high-clause-line c =
     (λ range. let within : c.in-Some-number_in.number ≤ c.args.high = range.1 in
     let above : c.args.high < c.in-Some-number_in.number = c.if-number-high.true in
     omega arith)
+
+pub returns-in_default-number_in-clause-line : goal.returns-in_default-number_in-clause-line
+returns-in_default-number_in-clause-line c =
+    line_refused (IsNumberLine (number_line c.args.word.now) (λ n. (c.args.low ≤ n) × (n ≤ c.args.high)))
+    c.args.rest.now c.in-Some.line.now c.in-Some.after.now c.args.passed c.in-Some.ensures.line
+    (λ good.
+    let small : good.number ≤ c.args.high = good.good.1 in
+    c.in_default-number_in.ensures good.number (omega (arith, c.requires.range)) good.is)

@@ -1,9 +1,12 @@
-use Rattle.hls_check_text.proofs.Wrongs.{gives}
+use Rattle.hls_check_text.proofs.Wrongs.{gives, reads}
 use Rattle.hls_check_text.proofs.reader.read.Goals as goal
+
+pub returns-in-Some-clause-only : goal.returns-in-Some-clause-only
+returns-in-Some-clause-only c = λ other good e. absurd (c.in-Some.ensures.no_text other good e)
+
+pub returns-clause-answer : goal.returns-clause-answer
+returns-clause-answer c = reads c.args.bytes.now c.build.result c.in_default.ensures c.build.ensures
 
 pub returns-clause-only : goal.returns-clause-only
 returns-clause-only c = λ other good e.
-    gives c.args.bytes.now other c.read_claim.result
-    (c.read_claim.ensures c.args.bytes.now
-    (rw c.new-table.ensures (c.in-Ok-read_places.ensures.at c.args.bytes.now c.in-Ok.ensures.head)))
-    good e
+    gives c.args.bytes.now other c.build.result (reads c.args.bytes.now c.build.result c.in_default.ensures c.build.ensures) good e

@@ -1,6 +1,6 @@
 use Rattle.std.proofs.Common.{ℕ, ◌≡◌, ◌+◌, subst, arith}
 use Rattle.hls_check_text.specs.Stages.{AtPlace}
-use Rattle.hls_check_text.proofs.Wrongs.{PlacesRead, stops, no_place_read, place_more, at_place, at_claim}
+use Rattle.hls_check_text.proofs.Wrongs.{PlacesRead, stops_building, no_place_read, place_more, at_place, at_claim}
 use Rattle.hls_check_text.proofs.reader.read_places.Goals as goal
 
 pub loop-p-init : goal.loop-p-init
@@ -8,7 +8,7 @@ loop-p-init c = rw c.new-places.ensures.items (no_place_read c.args.head c.args.
 
 pub returns-in-Err-clause-at : goal.returns-in-Err-clause-at
 returns-in-Err-clause-at c = λ bytes at.
-    stops (AtPlace c.args.head c.loop-p.places.items) tt bytes c.loop-p.rest.now (5 + c.loop-p.p)
+    stops_building (AtPlace c.args.head c.loop-p.places.items) tt bytes c.loop-p.rest.now (5 + c.loop-p.p)
     (at_place c.args.head bytes c.args.text.now c.loop-p.places.items c.loop-p.rest.now c.loop-p.p at c.loop-p.invariant c.loop-p-test.true)
     c.in-Err.fault c.in-Err.ensures.line
 

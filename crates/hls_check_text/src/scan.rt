@@ -1,0 +1,146 @@
+//! The first wrong line of a text, found without memory. Each part speaks of the whole text, of which it is passed what
+//! is left.
+ghost use Rattle.std.specs.Prelude.{◌≡◌, ◌+◌, ◌^◌, ◌<◌, ◌≤◌, ℕ, List, [], length, MatchOption, MatchResult, IfOk};
+ghost use Rattle.hls_check_laws.specs.Certificates.{Printed};
+ghost use Rattle.hls_check_laws.specs.Tables.{Table};
+ghost use Rattle.hls_check_text.specs.Wrong.{IsFirstWrong, IsGoodText};
+ghost use Rattle.hls_check_text.specs.Stages.{IsAt, AtPlace, AtClaim, AtPlan, AtPrice, AtClosed, AtEnd, IsHead, PassesPlaces, Scans};
+
+use crate::head::{Head, read_head};
+use crate::line::{closed_in, is_plan, is_word, number_in, price_in};
+use crate::place::skip_place;
+use crate::wrong_line::WrongLine;
+use hls_text::take_line;
+
+// What stands behind the places' lines.
+fn scan_places(head: Head, text: &[u8]) -> Result<&[u8], WrongLine>
+    requires room { 5 + length text.now + 1 < 2 ^ 64 }
+    requires head { IsHead head }
+    ensures at { (bytes : List ℕ) → IsAt (AtPlace head []) bytes text.now 5 → MatchResult result (λ rest. PassesPlaces head bytes rest.now) (λ wrong. IsFirstWrong bytes wrong.line) }
+    ensures shorter { IfOk result (λ rest. head.count + length rest.now ≤ length text.now) }
+{
+    let mut rest = text;
+    for p in 0..head.count {
+        let Some(after) = skip_place(rest, head.renditions) else {
+            return Err(WrongLine { line: 5 + p + 1 });
+        };
+        rest = after;
+    }
+    Ok(rest)
+}
+
+// That nothing stands behind the last line.
+fn scan_end(rest: &[u8], passed: usize) -> Result<(), WrongLine>
+    requires { passed + length rest.now < 2 ^ 64 }
+    ensures { (bytes : List ℕ) (c : Printed) → IsAt (AtEnd c) bytes rest.now passed → Scans bytes result }
+{
+    if rest.is_empty() {
+        Ok(())
+    } else {
+        Err(WrongLine { line: passed + 1 })
+    }
+}
+
+// What stands behind the line of the plan: prices, each of a place behind the last, and the end.
+fn scan_prices(count: usize, text: &[u8], first: usize) -> Result<(), WrongLine>
+    requires room { first + length text.now + 1 < 2 ^ 64 }
+    requires count { count ≤ 16384 }
+    ensures { (bytes plan : List ℕ) (t : Table) (total : ℕ) → length t.places ≡ count → IsAt (AtPrice t total plan []) bytes text.now first → Scans bytes result }
+{
+    let mut rest = text;
+    let mut passed = first;
+    let mut low = 0;
+    loop {
+        let Some((line, after)) = take_line(rest) else {
+            return Err(WrongLine { line: passed + 1 });
+        };
+        if is_word(line, b"end") {
+            return scan_end(after, passed + 1);
+        }
+        let Some((place, _price)) = price_in(line, low, count) else {
+            return Err(WrongLine { line: passed + 1 });
+        };
+        low = place + 1;
+        rest = after;
+        passed += 1;
+    }
+}
+
+// What stands behind the line that says none: the places of the closed set, upwards, and the end.
+fn scan_closed(count: usize, text: &[u8], first: usize) -> Result<(), WrongLine>
+    requires room { first + length text.now + 1 < 2 ^ 64 }
+    requires count { count ≤ 16384 }
+    ensures { (bytes : List ℕ) (t : Table) → length t.places ≡ count → IsAt (AtClosed t []) bytes text.now first → Scans bytes result }
+{
+    let mut rest = text;
+    let mut passed = first;
+    let mut low = 0;
+    loop {
+        let Some((line, after)) = take_line(rest) else {
+            return Err(WrongLine { line: passed + 1 });
+        };
+        if is_word(line, b"end") {
+            return scan_end(after, passed + 1);
+        }
+        let Some(place) = closed_in(line, low, count) else {
+            return Err(WrongLine { line: passed + 1 });
+        };
+        low = place + 1;
+        rest = after;
+        passed += 1;
+    }
+}
+
+// A cut's plan and prices, and nothing behind them.
+fn scan_cut(count: usize, text: &[u8], passed: usize) -> Result<(), WrongLine>
+    requires room { passed + length text.now + 1 < 2 ^ 64 }
+    requires count { count ≤ 16384 }
+    ensures { (bytes : List ℕ) (t : Table) (total : ℕ) → length t.places ≡ count → IsAt (AtPlan t total) bytes text.now passed → Scans bytes result }
+{
+    let Some((line, after)) = take_line(text) else {
+        return Err(WrongLine { line: passed + 1 });
+    };
+    if is_plan(line, count) {
+        scan_prices(count, after, passed + 1)
+    } else {
+        Err(WrongLine { line: passed + 1 })
+    }
+}
+
+// The claim of a table of so many places, and nothing behind it.
+fn scan_claim(count: usize, text: &[u8], passed: usize) -> Result<(), WrongLine>
+    requires room { passed + length text.now + 1 < 2 ^ 64 }
+    requires count { count ≤ 16384 }
+    ensures { (bytes : List ℕ) (t : Table) → length t.places ≡ count → IsAt (AtClaim t) bytes text.now passed → Scans bytes result }
+{
+    let Some((line, after)) = take_line(text) else {
+        return Err(WrongLine { line: passed + 1 });
+    };
+    if is_word(line, b"none") {
+        return scan_closed(count, after, passed + 1);
+    }
+    let Some(_cost) = number_in(line, b"cut ") else {
+        return Err(WrongLine { line: passed + 1 });
+    };
+    scan_cut(count, after, passed + 1)
+}
+
+// Whether a text is a certificate's.
+fn scan(bytes: &[u8]) -> Result<(), WrongLine>
+    ensures { Scans bytes.now result }
+{
+    let (head, after_head) = read_head(bytes)?;
+    let rest = scan_places(head, after_head)?;
+    scan_claim(head.count, rest, 5 + head.count)
+}
+
+/// The first line, from 1, that isn't as the format says: a missing line counts as that line, and a last line without
+/// its line feed as a wrong line. None where the text is a certificate's. It takes no memory.
+pub fn first_wrong(bytes: &[u8]) -> Option<usize>
+    ensures { MatchOption result (IsGoodText bytes.now) (λ line. IsFirstWrong bytes.now line) }
+{
+    match scan(bytes) {
+        Ok(()) => None,
+        Err(wrong) => Some(wrong.line),
+    }
+}
