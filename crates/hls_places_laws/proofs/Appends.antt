@@ -10,7 +10,7 @@ use Rattle.hls_places_laws.specs.declared.mark.Mark.{Mark}
 use Rattle.hls_places_laws.specs.declared.place.Place.{Place}
 use Rattle.hls_places_laws.specs.Sources.{Source, fact_at, no_facts, source_at, no_source, first_facts}
 use Rattle.hls_places_laws.specs.Spots.{near}
-use Rattle.hls_places_laws.specs.Places.{spots, place_at, is_over, closing_of, places_of, places_after}
+use Rattle.hls_places_laws.specs.Places.{spots, common_at, has_ended, closing_of, places_of, places_after}
 use Rattle.hls_places_laws.specs.Positions.{Position, mark_at, IsAsked, IsMark, IsDecided, IsCursor, IsThrough}
 use Rattle.hls_places_laws.specs.Growth.{SourceGrows, Grows, IsLive, Continues}
 use Rattle.hls_places_laws.proofs.Filters.{filter_map-same}
@@ -30,12 +30,12 @@ spots-same (s ∷ a) (u ∷ b) t count same =
 -- a live channel has no closing place
 pub closing-live : (a : List Source) → IsLive a → closing_of a ≡ []
 closing-live a live =
-    let over : is_over (source_at a live.rendition) ≡ false = rw live.goes_on refl in
-    cond-false (list_all is_over a) _ _ (list_all_at is_over a live.rendition no_source live.within over)
+    let over : has_ended (source_at a live.rendition) ≡ false = rw live.goes_on refl in
+    cond-false (list_all has_ended a) _ _ (list_all_at has_ended a live.rendition no_source live.within over)
 
 -- the place at a decided fragment stays
-place_at-grows : (a b : List Source) → Grows a b → (i : ℕ) → IsDecided a i →
-    place_at b (fact_at (first_facts a) i) ≡ place_at a (fact_at (first_facts a) i)
+pub place_at-grows : (a b : List Source) → Grows a b → (i : ℕ) → IsDecided a i →
+    common_at b (fact_at (first_facts a) i) ≡ common_at a (fact_at (first_facts a) i)
 place_at-grows a b grows i decided =
     let f : Facts = fact_at (first_facts a) i in
     elim (cases_Bool f.sync) [
@@ -49,15 +49,15 @@ place_at-grows a b grows i decided =
 
 -- a list of places, cut where the search has come to
 pub places-split : (a : List Source) (done : ℕ) → places_of a ≡
-    filter_map (place_at a) (take done (first_facts a)) ++ places_after a done
+    filter_map (common_at a) (take done (first_facts a)) ++ places_after a done
 places-split a done =
-    let cut : filter_map (place_at a) (first_facts a)
-    ≡ filter_map (place_at a) (take done (first_facts a)) ++ filter_map (place_at a) (drop done (first_facts a)) =
-    ap (filter_map (place_at a)) (sym (take-append-drop done (first_facts a)))
-    ∙ filter_map-append (place_at a) (take done (first_facts a)) (drop done (first_facts a)) in
+    let cut : filter_map (common_at a) (first_facts a)
+    ≡ filter_map (common_at a) (take done (first_facts a)) ++ filter_map (common_at a) (drop done (first_facts a)) =
+    ap (filter_map (common_at a)) (sym (take-append-drop done (first_facts a)))
+    ∙ filter_map-append (common_at a) (take done (first_facts a)) (drop done (first_facts a)) in
     ap (λ (ps : List Place). ps ++ closing_of a) cut
-    ∙ append_assoc (filter_map (place_at a) (take done (first_facts a)))
-    (filter_map (place_at a) (drop done (first_facts a))) (closing_of a)
+    ∙ append_assoc (filter_map (common_at a) (take done (first_facts a)))
+    (filter_map (common_at a) (drop done (first_facts a))) (closing_of a)
 
 -- what was told stays, and the rest comes after it
 places-grow : (a b : List Source) (p : Position) → Grows a b → IsLive a → IsCursor p a → IsThrough p a →
@@ -68,12 +68,12 @@ places-grow a b p grows live cursor through =
     let same_told : take p.done (first_facts b) ≡ take p.done fs =
     ap (take p.done) first.facts ∙ take-append-le p.done fs first.more cursor.within in
     let count : length (take p.done fs) ≡ p.done = length-take-le p.done fs cursor.within in
-    let stays : filter_map (place_at b) (take p.done fs) ≡ filter_map (place_at a) (take p.done fs) =
-    filter_map-same (place_at b) (place_at a) no_facts (take p.done fs)
+    let stays : filter_map (common_at b) (take p.done fs) ≡ filter_map (common_at a) (take p.done fs) =
+    filter_map-same (common_at b) (common_at a) no_facts (take p.done fs)
     (λ k h. let told : k < p.done = omega (arith, count, h) in
     rw (get_or-take p.done fs k no_facts told) (place_at-grows a b grows k (cursor.decided k told))) in
-    let before : places_of a ≡ filter_map (place_at a) (take p.done fs) =
-    places-split a p.done ∙ rw (through, closing-live a live) (append-nil (filter_map (place_at a) (take p.done fs))) in
+    let before : places_of a ≡ filter_map (common_at a) (take p.done fs) =
+    places-split a p.done ∙ rw (through, closing-live a live) (append-nil (filter_map (common_at a) (take p.done fs))) in
     places-split b p.done ∙ rw (same_told, stays, before) refl
 
 asked-shorter : (fs more : List Facts) (done t : ℕ) → IsAsked (fs ++ more) done t → IsAsked fs done t

@@ -1,5 +1,5 @@
 -- The definitions at samples that were worked by hand. Each equation is seen to hold by computing both sides.
-use Rattle.std.proofs.Common.{◌≡◌, ℕ, ◌-◌, List, [], ◌∷◌, Bool, true, false, refl}
+use Rattle.std.proofs.Common.{◌≡◌, ℕ, zero, suc, ◌-◌, ◌<◌, List, [], ◌∷◌, Bool, true, false, arith, refl}
 use Rattle.std.specs.Prelude.{Ok, Err}
 use Rattle.hls_media_laws.specs.declared.facts.Facts.{Facts}
 use Rattle.hls_check_laws.specs.declared.spot.Spot.{Spot}
@@ -9,7 +9,7 @@ use Rattle.hls_places_laws.specs.declared.programme_fault.ProgrammeFault.TheVari
 use Rattle.hls_places_laws.specs.Sources.{Source}
 use Rattle.hls_places_laws.specs.Places.{places_of}
 use Rattle.hls_places_laws.specs.Order.{spots_of}
-use Rattle.hls_places_laws.specs.Programmes.{programme_of}
+use Rattle.hls_places_laws.specs.Programmes.{time_at, IsProgramme}
 
 -- a sync unit from start to end, in ticks that are microseconds
 abbrev unit : ℕ → ℕ → Facts
@@ -59,16 +59,60 @@ with_gap = refl
 abbrev late : List Place
 late = places_of (source (unit 4000000 8000000 ∷ unit 8000000 12000000 ∷ []) 0 true ∷ [])
 
-before_recording : programme_of 6 4000000 late true 0 8000000 ≡ Err BeforeRecording
-before_recording = refl
+-- what holds of the first three numbers holds of each below 3
+three : (P : ℕ → Type 0) → P 0 → P 1 → P 2 → (n : ℕ) → n < 3 → P n
+three P one two last zero h = one
+three P one two last (suc zero) h = two
+three P one two last (suc (suc zero)) h = last
+three P one two last (suc (suc (suc n))) h = absurd (omega arith)
 
-from_its_start : programme_of 6 4000000 late true 4000000 8000000
-    ≡ Ok (table_of 6 4000000 1 ((spot 0 4000000 4000000 0 0 ∷ []) ∷ (spot 1 8000000 8000000 0 0 ∷ []) ∷ []))
-from_its_start = refl
+before_recording : IsProgramme 6 4000000 late true 0 8000000 (Err BeforeRecording)
+before_recording = three (λ n. 0 < time_at late n) (omega arith) (omega arith) (omega arith)
 
-after_recording : programme_of 6 4000000 late true 4000000 12000001 ≡ Err AfterRecording
-after_recording = refl
+from_its_start : IsProgramme 6 4000000 late true 4000000 8000000
+    (Ok (table_of 6 4000000 1 ((spot 0 4000000 4000000 0 0 ∷ []) ∷ (spot 1 8000000 8000000 0 0 ∷ []) ∷ [])))
+from_its_start = (
+  record {
+    s = 0;
+    e = 1;
+    begins = record {
+      there = omega arith;
+      by = omega arith;
+      last = λ later after within. three (λ n. 0 < n → 4000000 < time_at late n) (λ no. absurd (omega arith)) (λ h. omega arith) (λ h. omega arith) later within after;
+    };
+    ends = record {
+      there = omega arith;
+      from = omega arith;
+      first = λ earlier before. three (λ n. n < 1 → time_at late n < 8000000) (λ h. omega arith) (λ no. absurd (omega arith)) (λ no. absurd (omega arith)) earlier (omega arith) before;
+    };
+    is = refl;
+  },
+  omega arith,
+)
 
-not_yet : programme_of 6 4000000 (places_of (source (unit 4000000 8000000 ∷ unit 8000000 12000000 ∷ []) 0 false ∷ []))
-    false 4000000 8000001 ≡ Err NotYet
-not_yet = refl
+after_recording : IsProgramme 6 4000000 late true 4000000 12000001 (Err AfterRecording)
+after_recording = (
+  record {
+    begins = λ none. (let past : 4000000 < time_at late 0 = none 0 (omega arith) in omega arith);
+    late = three (λ n. time_at late n < 12000001) (omega arith) (omega arith) (omega arith);
+  },
+  refl,
+)
+
+-- the same units, not finished
+abbrev going : List Place
+going = places_of (source (unit 4000000 8000000 ∷ unit 8000000 12000000 ∷ []) 0 false ∷ [])
+
+two : (P : ℕ → Type 0) → P 0 → P 1 → (n : ℕ) → n < 2 → P n
+two P one last zero h = one
+two P one last (suc zero) h = last
+two P one last (suc (suc n)) h = absurd (omega arith)
+
+not_yet : IsProgramme 6 4000000 going false 4000000 8000001 (Err NotYet)
+not_yet = (
+  record {
+    begins = λ none. (let past : 4000000 < time_at going 0 = none 0 (omega arith) in omega arith);
+    late = two (λ n. time_at going n < 8000001) (omega arith) (omega arith);
+  },
+  refl,
+)

@@ -7,5 +7,8 @@ pub mod Timelines
 pub mod Sorted
 pub mod Ordered
 pub mod Tables
+pub mod Found
 pub mod Growths
+pub mod Undecided
 mod Examples
+pub mod Within

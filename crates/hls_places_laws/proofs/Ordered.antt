@@ -12,7 +12,7 @@ use Rattle.hls_check_laws.specs.Orders.{IsSpotInOrder}
 use Rattle.hls_places_laws.specs.declared.place.Place.{Place}
 use Rattle.hls_places_laws.specs.Sources.{Source, source_at, no_source, first_facts, fact_at, no_facts, AreSources}
 use Rattle.hls_places_laws.specs.Spots.{near, first_entry, end_spot}
-use Rattle.hls_places_laws.specs.Places.{spots, with_spot, place_of, place_at as place_by, is_over, end_of, closing_of, places_of}
+use Rattle.hls_places_laws.specs.Places.{spots, with_spot, place_of, common_at as place_by, has_ended, end_in, closing_of, places_of}
 use Rattle.hls_places_laws.specs.Order.{no_place, spots_of, IsPlaceIn, IsEarlier, AreOrdered, renditions_in, ArePlaces}
 use Rattle.hls_places_laws.proofs.Timelines
 use Rattle.hls_places_laws.proofs.Sorted
@@ -55,10 +55,10 @@ no_elements [] h = refl
 no_elements (x ∷ xs) h = absurd (omega arith)
 
 -- a place that stands at fragment i of rendition 0
-record IsFrom (sources : List Source) (i : ℕ) (p : Place) : Type 0 where
-  within : i < length (first_facts sources)
-  sync : (fact_at (first_facts sources) i).sync ≡ true
-  spots : AreSpots sources (fact_at (first_facts sources) i).start_us p.spots
+pub record IsFrom (sources : List Source) (i : ℕ) (p : Place) : Type 0 where
+  pub within : i < length (first_facts sources)
+  pub sync : (fact_at (first_facts sources) i).sync ≡ true
+  pub spots : AreSpots sources (fact_at (first_facts sources) i).start_us p.spots
 
 mapped-place : (o : Option (List Spot)) (p : Place) → option_map place_of o ≡ Some p → o ≡ Some p.spots
 mapped-place None p is = absurd (cc)
@@ -66,7 +66,7 @@ mapped-place (Some found) p is =
     let same : place_of found ≡ p = cc in
     ap (λ (x : Place). Some x.spots) same
 
-place-from : (sources : List Source) (i : ℕ) (p : Place) → i < length (first_facts sources) →
+pub place-from : (sources : List Source) (i : ℕ) (p : Place) → i < length (first_facts sources) →
     place_by sources (fact_at (first_facts sources) i) ≡ Some p → IsFrom sources i p
 place-from sources i p within is =
     let f : Facts = fact_at (first_facts sources) i in
@@ -84,7 +84,7 @@ place-from sources i p within is =
     ]
 
 -- in rendition r its spot is at the first entry for its time
-near-at : (sources : List Source) (i : ℕ) (p : Place) → IsFrom sources i p → (r : ℕ) → r < length sources →
+pub near-at : (sources : List Source) (i : ℕ) (p : Place) → IsFrom sources i p → (r : ℕ) → r < length sources →
     Timelines.IsNear (source_at sources r) (fact_at (first_facts sources) i).start_us (spot_in p.spots r)
 near-at sources i p from r h =
     Timelines.near-is (source_at sources r) (fact_at (first_facts sources) i).start_us (spot_in p.spots r) (from.spots.each r h)
@@ -154,26 +154,26 @@ from-earlier sources are i j p q before from to =
     }
 
 -- the closing place
-over-some : (sources : List Source) → list_all is_over sources ≡ true → (r : ℕ) → r < length sources →
+over-some : (sources : List Source) → list_all has_ended sources ≡ true → (r : ℕ) → r < length sources →
     0 < length (source_at sources r).facts
 over-some [] all r h = absurd (omega arith)
 over-some (s ∷ sources) all zero h =
-    let parts = and_parts (is_over s) (list_all is_over sources) all in
+    let parts = and_parts (has_ended s) (list_all has_ended sources) all in
     ltb-true 0 (length s.facts) (and_parts s.finished _ parts.0).1
 over-some (s ∷ sources) all (suc r) h =
-    let parts = and_parts (is_over s) (list_all is_over sources) all in
+    let parts = and_parts (has_ended s) (list_all has_ended sources) all in
     over-some sources parts.1 r (omega arith)
 
-abbrev closing_place : List Source → Place
-closing_place sources = record { spots = map end_of sources; closing = true }
+abbrev pub closing_place : List Source → Place
+closing_place sources = record { spots = map end_in sources; closing = true }
 
-end-at : (sources : List Source) (r : ℕ) → r < length sources →
+pub end-at : (sources : List Source) (r : ℕ) → r < length sources →
     spot_in (closing_place sources).spots r ≡ end_spot (source_at sources r).facts
-end-at sources r h = map-at end_of sources r no_source no_spot h
+end-at sources r h = map-at end_in sources r no_source no_spot h
 
-closing-in : (sources : List Source) → AreSources sources → list_all is_over sources ≡ true →
+closing-in : (sources : List Source) → AreSources sources → list_all has_ended sources ≡ true →
     IsPlaceIn (length sources) (closing_place sources)
-closing-in sources are all = fine-place sources (closing_place sources) (length-map sources end_of) (λ r h.
+closing-in sources are all = fine-place sources (closing_place sources) (length-map sources end_in) (λ r h.
     rw (end-at sources r h) (record {
       range = Timelines.end_spot-in_range (source_at sources r).facts (are.timelines r h) (over-some sources all r h);
       order = Timelines.end_spot-in_order (source_at sources r).facts;
@@ -219,9 +219,9 @@ places-ordered sources are =
     let fs : List Facts = first_facts sources in
     let found : List Place = filter_map (place_by sources) fs in
     let ordered = found-ordered sources are fs refl in
-    elim (cases_Bool (list_all is_over sources)) [
+    elim (cases_Bool (list_all has_ended sources)) [
       | inl all ↦
-          let closing : closing_of sources ≡ closing_place sources ∷ [] = cond-true (list_all is_over sources) _ _ all in
+          let closing : closing_of sources ≡ closing_place sources ∷ [] = cond-true (list_all has_ended sources) _ _ all in
           let before : All (λ p. IsEarlier (length sources) p (closing_place sources)) found =
           Sorted.filter_map-all (place_by sources) (λ p. IsEarlier (length sources) p (closing_place sources)) no_facts fs
           (λ k p h at. from-closing sources are k p (place-from sources k p h at)) in
@@ -230,7 +230,7 @@ places-ordered sources are =
             pairs = Sorted.pairs-snoc (IsEarlier (length sources)) found (closing_place sources) ordered.pairs before;
           })
       | inr not_all ↦
-          let closing : closing_of sources ≡ [] = cond-false (list_all is_over sources) _ _ not_all in
+          let closing : closing_of sources ≡ [] = cond-false (list_all has_ended sources) _ _ not_all in
           rw (closing, append-nil found) ordered
     ]
 

@@ -9,7 +9,8 @@ use Rattle.hls_check_laws.specs.Tables.{IsTable, place_at}
 use Rattle.hls_check_laws.specs.Orders.{IsOrderly}
 use Rattle.hls_places_laws.specs.declared.place.Place.{Place}
 use Rattle.hls_places_laws.specs.Order.{no_place, time_of, spots_of, ArePlaces}
-use Rattle.hls_places_laws.specs.Programmes.{first_after, first_from, cut_out}
+use Rattle.hls_places_laws.specs.Firsts.{first_after, first_from}
+use Rattle.hls_places_laws.specs.Programmes.{cut_out}
 use Rattle.hls_places_laws.proofs.Ordered.{table-place}
 
 -- the first place at or after the stop isn't before the first one after the start
@@ -31,7 +32,7 @@ pub record IsRange (places : List Place) (from to : ℕ) : Type 0 where
   pub order : from < to
   pub within : to < length places
 
-length-range : (places : List Place) (from to : ℕ) → IsRange places from to →
+pub length-range : (places : List Place) (from to : ℕ) → IsRange places from to →
     length (slice_range places from (to + 1)) ≡ to + 1 - from
 length-range places from to range =
     length-take-le (to + 1 - from) (drop from places) (omega (arith, length-drop from places, range.order, range.within))

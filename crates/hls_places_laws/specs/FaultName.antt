@@ -1,3 +1,4 @@
+-- What a programme's fault is called.
 use Rattle.std.specs.Prelude.{ℕ, List, codes}
 use Rattle.hls_places_laws.specs.declared.programme_fault.ProgrammeFault.{ProgrammeFault}
 use Rattle.hls_places_laws.specs.declared.programme_fault.ProgrammeFault.TheVariants.{BeforeRecording, NotYet, AfterRecording, ProgrammeTooLong, Memory}

@@ -4,6 +4,8 @@ pub mod Spots
 pub mod Places
 pub mod Positions
 pub mod Growth
+pub mod Appended
 pub mod Order
 pub mod FaultName
 pub mod Programmes
+pub mod Firsts

@@ -1,12 +1,13 @@
--- The table that a programme is cut from.
-use Rattle.std.specs.Prelude.{◌≡◌, ℕ, ◌+◌, ◌-◌, ◌==◌, Bool, true, nat_lt, nat_le, if◌then◌else◌, List, [], ◌∷◌, ◌&&◌, length, Result, Ok, Err, is_ok}
-use Rattle.std.specs.List.{filter, position_or_len, slice_range}
+-- The table that a programme is cut from: all kept places from the last one at or before its start to the first one at or
+-- after its stop.
+use Rattle.std.specs.Prelude.{◌≡◌, ℕ, ◌+◌, ◌<◌, ◌≤◌, Bool, true, false, nat_le, List, [], ◌∷◌, ◌&&◌, length, slice_index_or, All, Result, Ok, Err}
+use Rattle.std.specs.List.{filter, slice_range}
 use Rattle.hls_check_laws.specs.declared.spot.Spot.{Spot}
-use Rattle.hls_check_laws.specs.Tables.{Table, table_of}
+use Rattle.hls_check_laws.specs.Tables.{Table, place_limit, table_of}
 use Rattle.hls_places_laws.specs.declared.place.Place.{Place}
 use Rattle.hls_places_laws.specs.declared.programme_fault.ProgrammeFault.{ProgrammeFault}
 use Rattle.hls_places_laws.specs.declared.programme_fault.ProgrammeFault.TheVariants.{BeforeRecording, NotYet, AfterRecording, ProgrammeTooLong, Memory}
-use Rattle.hls_places_laws.specs.Order.{time_of, spots_of, renditions_in}
+use Rattle.hls_places_laws.specs.Order.{no_place, time_of, spots_of, renditions_in}
 
 -- no spot's fragment lies below its rendition's floor, the number of the first fragment that isn't trimmed
 abbrev pub is_kept_above : List ℕ → List Spot → Bool
@@ -21,37 +22,55 @@ is_kept floors p = is_kept_above floors p.spots
 abbrev pub kept : List ℕ → List Place → List Place
 kept floors places = filter (is_kept floors) places
 
--- the number of the first place after a time, and of the first at or after it; the count of all where there is none
-abbrev pub first_after : ℕ → List Place → ℕ
-first_after time places = position_or_len (λ p. nat_lt time (time_of p)) places
+-- when place n of a list starts in rendition 0
+abbrev pub time_at : List Place → ℕ → ℕ
+time_at places n = time_of (slice_index_or places n no_place)
 
-abbrev pub first_from : ℕ → List Place → ℕ
-first_from time places = position_or_len (λ p. nat_le time (time_of p)) places
+-- place n is the last one at or before a time
+pub record IsLastPlaceBy (places : List Place) (time n : ℕ) : Type 0 where
+  pub there : n < length places
+  pub by : time_at places n ≤ time
+  pub last : (later : ℕ) → n < later → later < length places → time < time_at places later
 
--- the table of all places from number `from` to number `to`, that one included
+-- place n is the first one at or after a time
+pub record IsFirstPlaceFrom (places : List Place) (time n : ℕ) : Type 0 where
+  pub there : n < length places
+  pub from : time ≤ time_at places n
+  pub first : (earlier : ℕ) → earlier < n → time_at places earlier < time
+
+-- no place is at or before a time, or at or after it
+abbrev pub NoPlaceBy : List Place → ℕ → Type 0
+NoPlaceBy places time = (n : ℕ) → n < length places → time < time_at places n
+
+abbrev pub NoPlaceFrom : List Place → ℕ → Type 0
+NoPlaceFrom places time = (n : ℕ) → n < length places → time_at places n < time
+
+-- the table of all places from number s to number e, that one included
 abbrev pub cut_out : ℕ → ℕ → List Place → ℕ → ℕ → Table
-cut_out target preferred places from to =
-    table_of target preferred (renditions_in places) (spots_of (slice_range places from (to + 1)))
+cut_out target preferred places s e = table_of target preferred (renditions_in places) (spots_of (slice_range places s (e + 1)))
 
--- of places in order of time, with the number of the first after the start and of the first at or after the stop;
--- the place before the former is the last one at or before the start
-abbrev pub programme_between : ℕ → ℕ → List Place → Bool → ℕ → ℕ → Result Table ProgrammeFault
-programme_between target preferred places finished after to =
-    if after == 0 then Err BeforeRecording
-    else (if nat_le (length places) to then Err (if finished then AfterRecording else NotYet)
-    else (if nat_lt 16384 (to + 1 - (after - 1)) then Err ProgrammeTooLong
-    else Ok (cut_out target preferred places (after - 1) to)))
+-- the table of a programme from `start` to `stop`, however many places it has
+pub record IsProgrammeTable (target preferred : ℕ) (places : List Place) (start stop : ℕ) (t : Table) : Type 0 where
+  pub s : ℕ
+  pub e : ℕ
+  pub begins : IsLastPlaceBy places start s
+  pub ends : IsFirstPlaceFrom places stop e
+  pub is : t ≡ cut_out target preferred places s e
 
--- the table of a programme from `start` to `stop`, or the first fault; `finished` says that all renditions are
-abbrev pub programme_of : ℕ → ℕ → List Place → Bool → ℕ → ℕ → Result Table ProgrammeFault
-programme_of target preferred places finished start stop =
-    programme_between target preferred places finished (first_after start places) (first_from stop places)
+-- the stop is after the last place of a programme that has its first
+pub record StopsLate (places : List Place) (start stop : ℕ) : Type 0 where
+  pub begins : NoPlaceBy places start → ⊥
+  pub late : NoPlaceFrom places stop
 
--- an answer, where want of memory may come in place of a table
-abbrev pub IsProgramme : Result Table ProgrammeFault → Result Table ProgrammeFault → Type 0
-IsProgramme defined (Ok table) = defined ≡ Ok table
-IsProgramme defined (Err BeforeRecording) = defined ≡ Err BeforeRecording
-IsProgramme defined (Err NotYet) = defined ≡ Err NotYet
-IsProgramme defined (Err AfterRecording) = defined ≡ Err AfterRecording
-IsProgramme defined (Err ProgrammeTooLong) = defined ≡ Err ProgrammeTooLong
-IsProgramme defined (Err Memory) = is_ok defined ≡ true
+-- The programme of kept places in order of time: its table, or the first refusal, in the order of the lines. Want of memory
+-- may come in place of the table alone. `finished` says that all renditions are.
+abbrev pub IsProgramme : ℕ → ℕ → List Place → Bool → ℕ → ℕ → Result Table ProgrammeFault → Type 0
+IsProgramme target preferred places finished start stop (Err BeforeRecording) = NoPlaceBy places start
+IsProgramme target preferred places finished start stop (Err NotYet) = StopsLate places start stop × (finished ≡ false)
+IsProgramme target preferred places finished start stop (Err AfterRecording) = StopsLate places start stop × (finished ≡ true)
+IsProgramme target preferred places finished start stop (Err ProgrammeTooLong) =
+    (t : Table) × IsProgrammeTable target preferred places start stop t × (place_limit < length t.places)
+IsProgramme target preferred places finished start stop (Ok t) =
+    IsProgrammeTable target preferred places start stop t × (length t.places ≤ place_limit)
+IsProgramme target preferred places finished start stop (Err Memory) =
+    (t : Table) × IsProgrammeTable target preferred places start stop t × (length t.places ≤ place_limit)

@@ -1,6 +1,7 @@
 -- What is known of the renditions when common places are looked for.
-use Rattle.std.specs.Prelude.{◌≡◌, ℕ, ◌+◌, ◌^◌, ◌<◌, ◌≤◌, Bool, false, List, [], ◌∷◌, length, slice_index_or}
+use Rattle.std.specs.Prelude.{◌≡◌, ℕ, ◌<◌, ◌≤◌, Bool, false, List, [], ◌∷◌, length, slice_index_or}
 use Rattle.hls_media_laws.specs.declared.facts.Facts.{Facts}
+pub use Rattle.hls_media_laws.specs.FactLists.{no_facts, fact_at, IsTimeline}
 
 -- one rendition: the facts of all units ever accepted, its tolerance in microseconds, and whether it is finished.
 -- A rendition without an init section is one without facts.
@@ -9,16 +10,8 @@ pub record Source : Type 0 where
   pub tolerance : ℕ
   pub finished : Bool
 
--- what stands for the facts of a fragment that isn't there
-abbrev pub no_facts : Facts
-no_facts = record { start = 0; duration = 0; scale = 0; start_us = 0; end_us = 0; sync = false; len = 0 }
-
 abbrev pub no_source : Source
 no_source = record { facts = []; tolerance = 0; finished = false }
-
--- fragment k, in the order in which the units were accepted
-abbrev pub fact_at : List Facts → ℕ → Facts
-fact_at fs k = slice_index_or fs k no_facts
 
 -- rendition r
 abbrev pub source_at : List Source → ℕ → Source
@@ -35,12 +28,6 @@ sources_of (fs ∷ rest) [] finished = []
 sources_of (fs ∷ rest) (t ∷ tolerances) [] = []
 sources_of (fs ∷ rest) (t ∷ tolerances) (over ∷ finished) =
     record { facts = fs; tolerance = t; finished = over } ∷ sources_of rest tolerances finished
-
--- units in order: each lasts for some time, starts no earlier than the one before it ends, and ends below 2^53 microseconds
-pub record IsTimeline (fs : List Facts) : Type 0 where
-  pub lasts : (k : ℕ) → k < length fs → (fact_at fs k).start_us < (fact_at fs k).end_us
-  pub follows : (k : ℕ) → k + 1 < length fs → (fact_at fs k).end_us ≤ (fact_at fs (k + 1)).start_us
-  pub small : (k : ℕ) → k < length fs → (fact_at fs k).end_us < 2 ^ 53
 
 -- the renditions of a channel: 1 to 16, the first without a tolerance, each with units in order
 pub record AreSources (sources : List Source) : Type 0 where

@@ -1,3 +1,5 @@
+//! Where a search for common places stands in one rendition.
+
 /// How far the search for common places has come in one rendition.
 #[derive(Clone, Copy, Debug, PartialEq, Eq)]
 pub struct Mark {

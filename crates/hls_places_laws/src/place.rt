@@ -1,3 +1,5 @@
+//! Where one may cut in every rendition.
+
 ghost use Rattle.std.specs.Prelude.{◌≡◌, IfOk};
 
 use hls_check_laws::Spots;

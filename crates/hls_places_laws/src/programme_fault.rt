@@ -1,3 +1,5 @@
+//! Why a programme has no table.
+
 ghost use Rattle.std.specs.Prelude.{◌≡◌};
 ghost use Rattle.hls_places_laws.specs.FaultName.{programme_fault_name};
 ghost use Rattle.hls_places_laws.specs.declared.programme_fault.ProgrammeFault.TheVariants.{Memory};
