@@ -13,18 +13,8 @@ use Rattle.hls_places_laws.proofs.Sides.{length-sides, side-of}
 use Rattle.hls_places_laws.proofs.Ordered.{places-ordered, ordered-places}
 use Rattle.hls_places.specs.Searches.{AreInOrder}
 
-there : (fs : List Facts) (k : ℕ) → k < length fs → slice_get fs k ≡ Some (fact_at fs k)
-there fs k h = slice_get-get_or fs k no_facts h
-
 pub timeline-of : (r : Recorded) → IsRecorded r → IsTimeline r.facts
-timeline-of r valid =
-    let line = units_are_in_time r valid in
-    let fs : List Facts = r.facts in
-    record {
-      lasts = λ k h. line.forward k (fact_at fs k) (there fs k h);
-      follows = λ k h. line.follows k (fact_at fs k) (fact_at fs (k + 1)) (there fs k (omega arith)) (there fs (k + 1) h);
-      small = λ k h. line.small k (fact_at fs k) (there fs k h);
-    }
+timeline-of = units_are_in_time
 
 -- so the common places of renditions side by side are in order
 pub places-in_order : {X : Type 0} (f : X → List Facts) (xs : List X) (tolerances : List ℕ) (finished : List Bool) →

@@ -9,7 +9,7 @@ use Rattle.hls_places_laws.specs.declared.mark.Mark.{Mark}
 use Rattle.hls_places_laws.specs.declared.place.Place.{Place}
 use Rattle.hls_places_laws.specs.Sources.{Source, fact_at, source_at, first_facts, IsTimeline}
 use Rattle.hls_places_laws.specs.Spots.{first_entry}
-use Rattle.hls_places_laws.specs.Places.{spots, place_of, place_at}
+use Rattle.hls_places_laws.specs.Places.{spots, place_of, common_at}
 use Rattle.hls_places_laws.specs.Positions.{IsAsked, IsDecided, IsCursor}
 use Rattle.hls_places_laws.proofs.Search.{starts-never_fall, before_entry, entry-later, none-left}
 use Rattle.hls_places.specs.Searches.{AreEarly, AreAtEntries, AllSettled, IsUnsettled}
@@ -111,7 +111,7 @@ pub told-some : (sources : List Source) (done : ℕ) (marks moved : List Mark) (
     IsToldOf sources done moved before after
 told-some sources done marks moved f found before after looking count entries settled sync is after_is = record {
   places =
-      let place : place_at sources f ≡ Some (place_of found) =
+      let place : common_at sources f ≡ Some (place_of found) =
       cond-true f.sync _ _ sync ∙ ap (option_map place_of) is in
       rw (← looking.facts_are, place) after_is;
   cursor = cursor-next sources done moved (cursor-sought sources done marks moved f looking count entries) looking.more
@@ -123,7 +123,7 @@ pub told-none : (sources : List Source) (done : ℕ) (marks moved : List Mark) (
     AllSettled sources moved → f.sync ≡ true → spots sources f.start_us ≡ None → IsToldOf sources done moved places places
 told-none sources done marks moved f places looking count entries settled sync is = record {
   places =
-      let place : place_at sources f ≡ None = cond-true f.sync _ _ sync ∙ ap (option_map place_of) is in
+      let place : common_at sources f ≡ None = cond-true f.sync _ _ sync ∙ ap (option_map place_of) is in
       rw (← looking.facts_are, place) (sym (append-nil places));
   cursor = cursor-next sources done moved (cursor-sought sources done marks moved f looking count entries) looking.more
       (decided-settled sources done marks moved f looking entries settled);

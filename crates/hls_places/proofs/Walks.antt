@@ -8,7 +8,7 @@ use Rattle.hls_media_laws.specs.declared.facts.Facts.{Facts}
 use Rattle.hls_places_laws.specs.declared.mark.Mark.{Mark}
 use Rattle.hls_places_laws.specs.declared.place.Place.{Place}
 use Rattle.hls_places_laws.specs.Sources.{Source, fact_at, no_facts, first_facts}
-use Rattle.hls_places_laws.specs.Places.{place_at}
+use Rattle.hls_places_laws.specs.Places.{common_at}
 use Rattle.hls_places_laws.specs.Positions.{no_mark, mark_at, first_position, IsCursor}
 use Rattle.hls_places.specs.Decisions.{HasDecided, IsToldOf, IsLeftAt}
 
@@ -35,13 +35,13 @@ filter_map-step f fs k h =
 -- one more fragment told
 pub walk-on : (sources : List Source) (done : ℕ) (marks : List Mark) (before after whole : List Place) →
     done < length (first_facts sources) → IsToldOf sources done marks before after →
-    before ++ filter_map (place_at sources) (drop done (first_facts sources)) ≡ whole →
-    after ++ filter_map (place_at sources) (drop (done + 1) (first_facts sources)) ≡ whole
+    before ++ filter_map (common_at sources) (drop done (first_facts sources)) ≡ whole →
+    after ++ filter_map (common_at sources) (drop (done + 1) (first_facts sources)) ≡ whole
 walk-on sources done marks before after whole more told so_far =
-    let step = filter_map-step (place_at sources) (first_facts sources) done more in
+    let step = filter_map-step (common_at sources) (first_facts sources) done more in
     rw told.places
-    (append_assoc before (option_to_list (place_at sources (fact_at (first_facts sources) done)))
-    (filter_map (place_at sources) (drop (done + 1) (first_facts sources)))
+    (append_assoc before (option_to_list (common_at sources (fact_at (first_facts sources) done)))
+    (filter_map (common_at sources) (drop (done + 1) (first_facts sources)))
     ∙ (rw (← step) so_far))
 
 -- what a slice of a vector wrote back

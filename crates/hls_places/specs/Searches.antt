@@ -1,4 +1,4 @@
--- What a mark says of one rendition, whatever it was moved for.
+-- For the proofs of this crate; no public clause cites it. What a mark says of one rendition, whatever it was moved for.
 use Rattle.std.specs.Prelude.{◌≡◌, ℕ, ◌-◌, ◌<◌, ◌≤◌, ◌⊎◌, true, false, List, length}
 use Rattle.hls_media_laws.specs.declared.facts.Facts.{Facts}
 use Rattle.hls_places_laws.specs.declared.mark.Mark.{Mark}

@@ -1,7 +1,9 @@
+//! The closing place.
+
 ghost use Rattle.std.specs.Prelude.{◌≡◌, ◌<◌, true, length, map, IfOk};
 ghost use Rattle.std.specs.List.{list_all};
 ghost use Rattle.std.specs.Option.{option_to_list};
-ghost use Rattle.hls_places_laws.specs.Places.{is_over, end_of, closing_of};
+ghost use Rattle.hls_places_laws.specs.Places.{has_ended, end_in, closing_of};
 ghost use Rattle.hls_places.specs.Searches.{AreRunsAt};
 
 use crate::renditions::Renditions;
@@ -10,9 +12,9 @@ use hls_check_laws::Spots;
 use hls_places_laws::{Mark, Place};
 use std::alloc::{AllocError, Global};
 
-// Whether every rendition is finished and has a fragment.
+/// Whether every rendition is finished and has a fragment.
 fn are_over(renditions: &Renditions) -> bool
-    ensures { result ≡ list_all is_over renditions.now }
+    ensures { result ≡ list_all has_ended renditions.now }
 {
     for r in 0..renditions.len() {
         if !renditions.is_finished(r) || renditions.recording(r).count() == 0 {
@@ -22,12 +24,12 @@ fn are_over(renditions: &Renditions) -> bool
     true
 }
 
-// The spots after all fragments.
+/// The spots after all fragments.
 fn end_spots(renditions: &Renditions, alloc: Global, marks: &[Mark]) -> Result<Spots, AllocError>
     requires count { length marks.now ≡ length renditions.now }
     requires runs { AreRunsAt renditions.now marks.now }
-    requires over { list_all is_over renditions.now ≡ true }
-    ensures { IfOk result (λ spots. spots ≡ map end_of renditions.now) }
+    requires over { list_all has_ended renditions.now ≡ true }
+    ensures { IfOk result (λ spots. spots ≡ map end_in renditions.now) }
 {
     let mut spots = Vec::new(alloc);
     for r in 0..marks.len() {

@@ -1,7 +1,10 @@
+//! The search for common places, which goes on where it stopped.
+
 ghost use Rattle.std.specs.Prelude.{◌≡◌, ◌≤◌, length, map, slice_index, IfOk};
 ghost use Rattle.hls_places_laws.specs.Sources.{sources_of};
 ghost use Rattle.hls_places_laws.specs.Positions.{first_position, IsCursor};
-ghost use Rattle.hls_places.specs.Advances.{IsAdvance, IsWalk};
+ghost use Rattle.hls_places.specs.Advances.{IsAdvance};
+ghost use Rattle.hls_places.specs.Decisions.{IsWalk};
 
 use crate::closing::closing;
 use crate::decide::decide;
@@ -45,7 +48,8 @@ impl Cursor {
     }
 
     /// The common places that are decided by now and weren't when this cursor stopped, and a cursor after them.
-    /// Along a channel's life, moved on after each event, it looks at each fragment of each rendition once.
+    /// Along a channel's life, moved on after each event, it looks at each fragment of each rendition once; that is read in
+    /// the code, and no clause says it.
     ///
     /// `tolerances` are microseconds, `finished` says of which rendition no unit comes any more.
     pub fn advanced(
@@ -73,7 +77,7 @@ impl Cursor {
     }
 }
 
-// The common places of rendition 0's fragments from number `start` on.
+/// The common places of rendition 0's fragments from number `start` on.
 fn walk(
     renditions: &Renditions,
     alloc: Global,

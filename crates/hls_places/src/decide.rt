@@ -1,3 +1,5 @@
+//! One fragment of rendition 0: whether it is a common place, or can't be told yet.
+
 ghost use Rattle.std.specs.Prelude.{◌≡◌, ◌<◌, length, IfOk};
 ghost use Rattle.hls_places_laws.specs.Sources.{first_facts, IsTimeline};
 ghost use Rattle.hls_places_laws.specs.Positions.{IsCursor};

@@ -1,3 +1,5 @@
+//! Which places are kept.
+
 ghost use Rattle.std.specs.Prelude.{◌≡◌};
 ghost use Rattle.hls_places_laws.specs.Programmes.{is_kept};
 

@@ -1,3 +1,5 @@
+//! A mark in each rendition, moved together.
+
 ghost use Rattle.std.specs.Prelude.{◌≡◌, ◌-◌, ◌<◌, ◌≤◌, ◌⊎◌, true, false, length, IfOk, MatchOption};
 ghost use Rattle.hls_places_laws.specs.Sources.{source_at};
 ghost use Rattle.hls_places_laws.specs.Places.{spots};

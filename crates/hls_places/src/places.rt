@@ -1,3 +1,5 @@
+//! The common places of recordings, all at once.
+
 ghost use Rattle.std.specs.Prelude.{◌≡◌, ◌≤◌, length, map, slice_index, IfOk};
 ghost use Rattle.hls_places_laws.specs.Sources.{sources_of};
 ghost use Rattle.hls_places_laws.specs.Places.{places_of};

@@ -1,13 +1,14 @@
-ghost use Rattle.std.specs.Prelude.{◌≡◌, ◌+◌, ◌-◌, ◌<◌, ◌≤◌, length, map, IfOk};
-ghost use Rattle.hls_places_laws.specs.Order.{time_of, spots_of, ArePlaces};
-ghost use Rattle.hls_places_laws.specs.Programmes.{first_after, first_from, cut_out, programme_of, IsProgramme};
+//! The table that a programme is cut from.
 
-use hls_check_laws::{PlaceTable, PrintedTable, Spots};
+ghost use Rattle.std.specs.Prelude.{◌≡◌, ◌+◌, ◌-◌, ◌<◌, ◌≤◌, length, map, IfOk};
+ghost use Rattle.hls_check_laws.specs.Tables.{target_limit, preferred_limit, place_limit};
+ghost use Rattle.hls_places_laws.specs.Order.{time_of, spots_of, ArePlaces};
+ghost use Rattle.hls_places_laws.specs.Firsts.{first_after, first_from};
+ghost use Rattle.hls_places_laws.specs.Programmes.{cut_out, IsProgramme};
+
+use hls_check_laws::{PLACE_LIMIT, PlaceTable, PrintedTable, Spots};
 use hls_places_laws::{Place, ProgrammeFault};
 use std::alloc::{AllocError, Global};
-
-// The most places of one programme.
-const PLACE_LIMIT: usize = 16384;
 
 /// The table that a programme from `start_us` to `stop_us` is cut from: all places from the last one at or
 /// before its start to the first one at or after its stop. `places` are the kept ones in order of time,
@@ -24,10 +25,10 @@ pub fn programme(
     stop_us: u64,
 ) -> Result<PlaceTable, ProgrammeFault>
     requires order { start_us < stop_us }
-    requires target { (1 ≤ target) × (target ≤ 3600) }
-    requires preferred { (1 ≤ preferred) × (preferred ≤ 3600000000) }
+    requires target { (1 ≤ target) × (target ≤ target_limit) }
+    requires preferred { (1 ≤ preferred) × (preferred ≤ preferred_limit) }
     requires places { ArePlaces (map (λ p. p.now) places.now) }
-    ensures { IsProgramme (programme_of target preferred (map (λ p. p.now) places.now) finished start_us stop_us) result }
+    ensures { IsProgramme target preferred (map (λ p. p.now) places.now) finished start_us stop_us result }
 {
     let after = first_after(places, start_us);
     if after == 0 {
@@ -48,7 +49,7 @@ pub fn programme(
     Ok(table(alloc, places, target, preferred, from, to)?)
 }
 
-// The table of the places from number `from` to number `to`, that one included.
+/// The table of the places from number `from` to number `to`, that one included.
 fn table(
     alloc: Global,
     places: &[&Place],
@@ -57,12 +58,12 @@ fn table(
     from: usize,
     to: usize,
 ) -> Result<PlaceTable, AllocError>
-    requires target { (1 ≤ target) × (target ≤ 3600) }
-    requires preferred { (1 ≤ preferred) × (preferred ≤ 3600000000) }
+    requires target { (1 ≤ target) × (target ≤ target_limit) }
+    requires preferred { (1 ≤ preferred) × (preferred ≤ preferred_limit) }
     requires places { ArePlaces (map (λ p. p.now) places.now) }
     requires order { from < to }
     requires within { to < length places.now }
-    requires few { to + 1 - from ≤ 16384 }
+    requires few { to + 1 - from ≤ place_limit }
     ensures { IfOk result (λ table. table ≡ cut_out target preferred (map (λ p. p.now) places.now) from to) }
 {
     let renditions = places[0].spots.len();
@@ -70,7 +71,7 @@ fn table(
     Ok(PlaceTable::new(PrintedTable::new(target, preferred, renditions, spots)))
 }
 
-// When a place starts in rendition 0.
+/// When a place starts in rendition 0.
 fn time_of(place: &Place) -> u64
     ensures { result ≡ time_of place.now }
 {
@@ -80,7 +81,7 @@ fn time_of(place: &Place) -> u64
     }
 }
 
-// The number of the first place after a time.
+/// The number of the first place after a time.
 fn first_after(places: &[&Place], time: u64) -> usize
     ensures { result ≡ first_after time (map (λ p. p.now) places.now) }
 {
@@ -92,7 +93,7 @@ fn first_after(places: &[&Place], time: u64) -> usize
     places.len()
 }
 
-// The number of the first place at or after a time.
+/// The number of the first place at or after a time.
 fn first_from(places: &[&Place], time: u64) -> usize
     ensures { result ≡ first_from time (map (λ p. p.now) places.now) }
 {
@@ -104,7 +105,7 @@ fn first_from(places: &[&Place], time: u64) -> usize
     places.len()
 }
 
-// A copy of each place's spots.
+/// A copy of each place's spots.
 fn spots_of(alloc: Global, places: &[&Place]) -> Result<Vec<Spots>, AllocError>
     ensures { IfOk result (λ spots. spots.items ≡ spots_of (map (λ p. p.now) places.now)) }
 {

@@ -1,3 +1,5 @@
+//! The renditions of a channel, side by side.
+
 ghost use Rattle.std.specs.Prelude.{◌≡◌, ◌<◌, ◌≤◌, map, length};
 ghost use Rattle.hls_places_laws.specs.Sources.{source_at, sources_of};
 ghost use Rattle.hls_places.specs.Searches.{AreInOrder};

@@ -1,3 +1,5 @@
+//! One rendition: its fragments, gaps, and spots.
+
 ghost use Rattle.std.specs.Prelude.{◌≡◌, ◌+◌, ◌<◌, ◌≤◌, not, ◌==◌, ◌&&◌, nat_le, length};
 ghost use Rattle.hls_places_laws.specs.Sources.{fact_at};
 ghost use Rattle.hls_places_laws.specs.Gaps.{gap_before, gaps};
@@ -9,7 +11,7 @@ use hls_media_laws::facts::Facts;
 use hls_places_laws::Mark;
 use hls_record::Recording;
 
-// Fragment k.
+/// Fragment k.
 pub(crate) fn fact(recording: &Recording, k: u64) -> Facts
     requires { k < length recording.now.facts }
     ensures { result ≡ fact_at recording.now.facts k }
@@ -20,7 +22,7 @@ pub(crate) fn fact(recording: &Recording, k: u64) -> Facts
     }
 }
 
-// Whether the second doesn't start where the first ends.
+/// Whether the second doesn't start where the first ends.
 fn is_apart(before: Facts, here: Facts) -> bool
     ensures { result ≡ not (here.start == before.start + before.duration) }
 {
@@ -61,7 +63,7 @@ fn is_entry(low: u64, facts: Facts) -> bool
     facts.sync && low <= facts.start_us
 }
 
-// One fragment further.
+/// One fragment further.
 fn stepped(recording: &Recording, mark: Mark) -> Mark
     requires run { IsRunAt recording.now.facts mark }
     requires more { mark.at < length recording.now.facts }
@@ -122,7 +124,7 @@ pub(crate) fn near(recording: &Recording, tolerance: u64, time: u64, mark: Mark)
     Some(spot(recording, mark))
 }
 
-// The mark after all fragments.
+/// The mark after all fragments.
 fn last(recording: &Recording, mark: Mark) -> Mark
     requires { IsRunAt recording.now.facts mark }
     ensures run { IsRunAt recording.now.facts result }

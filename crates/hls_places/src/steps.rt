@@ -1,5 +1,7 @@
+//! Steps from a place to another.
+
 ghost use Rattle.std.specs.Prelude.{◌≡◌, ◌≤◌, ◌↔◌, IsTrue};
-ghost use Rattle.hls_check_laws.specs.Steps.{IsPlaceStep, Allowed, cost};
+ghost use Rattle.hls_check_laws.specs.Steps.{IsPlaceStep, Allowed, cost, cost_limit};
 
 use hls_check_laws::PlaceTable;
 use hls_places_laws::Place;
@@ -15,7 +17,7 @@ pub fn allowed(table: &PlaceTable, p: usize, q: usize) -> bool
 pub fn cost(table: &PlaceTable, p: usize, q: usize) -> u64
     requires { Allowed table.now p q }
     ensures cost { result ≡ cost table.now p q }
-    ensures bound { result ≤ 3600499999 }
+    ensures bound { result ≤ cost_limit }
 {
     table.cost(p, q)
 }

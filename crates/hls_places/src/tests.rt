@@ -1,3 +1,5 @@
+//! Tests of common places and programmes.
+
 mod plain;
 mod rows;
 mod samples;

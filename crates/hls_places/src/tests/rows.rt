@@ -1,3 +1,5 @@
+//! Places and programmes that were worked out by hand.
+
 ghost use Rattle.hls_places_laws.specs.Order.{ArePlaces};
 
 use super::samples::{Unit, recorded, sync_unit};

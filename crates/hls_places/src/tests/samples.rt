@@ -1,3 +1,5 @@
+//! Recordings for tests.
+
 use crate::*;
 use bytes::Bytes;
 use hls_media::{read_facts, read_init};

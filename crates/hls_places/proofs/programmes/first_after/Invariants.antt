@@ -1,5 +1,5 @@
 use Rattle.std.proofs.Common.{◌≡◌, ◌+◌, map, drop}
-use Rattle.hls_places_laws.specs.Programmes.{first_after}
+use Rattle.hls_places_laws.specs.Firsts.{first_after}
 use Rattle.hls_places.proofs.programmes.first_after.Given as goal
 
 abbrev pub invariant-loop-i : goal.invariant-loop-i

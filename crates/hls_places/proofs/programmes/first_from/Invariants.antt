@@ -1,5 +1,5 @@
 use Rattle.std.proofs.Common.{◌≡◌, ◌+◌, map, drop}
-use Rattle.hls_places_laws.specs.Programmes.{first_from}
+use Rattle.hls_places_laws.specs.Firsts.{first_from}
 use Rattle.hls_places.proofs.programmes.first_from.Given as goal
 
 abbrev pub invariant-loop-i : goal.invariant-loop-i

@@ -1,5 +1,6 @@
-use Rattle.std.proofs.Common.{map, arith, ◌∙◌}
+use Rattle.std.proofs.Common.{map, arith, sym, subst, ◌∙◌}
 use Rattle.std.proofs.lemmas.List.{length-map}
+use Rattle.hls_check_laws.specs.Orders.{IsOrderly}
 use Rattle.hls_places_laws.proofs.Tables.{cut_out-is_table, cut_out-is_orderly}
 use Rattle.hls_places.proofs.CutOuts.{cut_out-is}
 use Rattle.hls_places.proofs.programmes.table.Goals as goal
@@ -18,7 +19,7 @@ new-requires-2 c =
     let count = length-map c.args.places.now (λ p. p.now) in
     let made = cut_out-is (λ p. p.now) c.args.places.now c.index-places-0.result c.args.target c.args.preferred c.args.from c.args.to
     c.len-renditions.result c.in_ok-spots.spots.items (omega arith) c.len-renditions.ensures c.in_ok-spots.ensures in
-    rw (c.new.ensures, made) (cut_out-is_orderly c.args.target c.args.preferred (map (λ p. p.now) c.args.places.now) c.args.from c.args.to
+    subst IsOrderly (sym (c.new.ensures ∙ made)) (cut_out-is_orderly c.args.target c.args.preferred (map (λ p. p.now) c.args.places.now) c.args.from c.args.to
     c.requires.places (record { order = c.requires.order; within = omega (arith, count) }))
 
 pub returns : goal.returns
