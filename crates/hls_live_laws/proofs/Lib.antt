@@ -1,0 +1,10 @@
+pub mod Lines
+pub mod Kept
+pub mod Lives
+pub mod Tests
+pub mod Leaves
+pub mod Ends
+pub mod Within
+pub mod Upkeeps
+mod Examples
+pub mod Origins

@@ -1,0 +1,11 @@
+pub mod FaultName
+pub mod Steps
+pub mod Cuts
+pub mod Told
+pub mod Lengths
+pub mod Live
+pub mod Answers
+pub mod Ends
+pub mod Upkeep
+pub mod Origins
+pub mod Laws
