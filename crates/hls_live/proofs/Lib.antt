@@ -1,0 +1,3 @@
+pub mod Beside
+pub mod Moves
+pub mod Keeps

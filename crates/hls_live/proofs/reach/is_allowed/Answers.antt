@@ -1,0 +1,12 @@
+use Rattle.std.proofs.lemmas.Bool.Decides.{same_from_decides}
+use Rattle.hls_live_laws.proofs.Tests.{step-from_allowed, allowed-from_step}
+use Rattle.hls_live_laws.specs.Steps.{is_allowed}
+use Rattle.hls_live.proofs.reach.is_allowed.Goals as goal
+
+pub returns : goal.returns
+returns c =
+    let aim = c.args.aim in
+    let from = c.args.from.now in
+    let place = c.args.place.now in
+    same_from_decides c.pair_allowed.result (is_allowed aim from place) c.pair_allowed.ensures
+    (step-from_allowed aim from place, allowed-from_step aim from place)

@@ -1,0 +1,4 @@
+pub mod Reaches
+pub mod Sums
+pub mod Sound
+pub mod Tries

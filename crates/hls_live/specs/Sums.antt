@@ -1,0 +1,41 @@
+-- Sums over the segments of a line, kept beside each of them. For the proofs of this crate; no public clause cites it.
+use Rattle.std.specs.Prelude.{◌≡◌, ℕ, suc, ◌+◌, ◌-◌, ◌*◌, ◌<◌, ◌≤◌, if◌then◌else◌, List, [], length, slice_index, slice_get, Option, None, Some}
+use Rattle.hls_live_laws.specs.declared.segment.Segment.{Segment}
+use Rattle.hls_live_laws.specs.Lengths.{length_in, left_in, marks_in}
+use Rattle.hls_live.specs.declared.sums.Sums.{Sums}
+
+-- lengths with one more segment in each rendition
+pub record IsLonger (before : List ℕ) (segment : Segment) (lengths : List ℕ) : Type 0 where
+  pub count : length lengths ≡ length segment.from.spots
+  pub each : (r : ℕ) → r < length segment.from.spots → slice_index lengths r ≡ slice_index before r + length_in r segment
+
+-- the sums up to and including the kept segment k
+pub record IsSumsTo (first breaks renditions : ℕ) (segments : List Segment) (k : ℕ) (sums : Sums) : Type 0 where
+  pub lengths : length sums.lengths.items ≡ renditions
+  pub marks : sums.marks ≡ breaks + marks_in (suc k) segments
+  pub small : (r : ℕ) → slice_index sums.lengths.items r ≤ (first + suc k) * 3600499999
+
+-- one for each kept segment; what is left behind a segment is the difference to the last one
+pub record AreSums (first breaks renditions : ℕ) (segments : List Segment) (sums : List Sums) : Type 0 where
+  pub count : length sums ≡ length segments
+  pub each : (k : ℕ) (s : Sums) → slice_get sums k ≡ Some s → IsSumsTo first breaks renditions segments k s
+  pub rest : (k last r : ℕ) (s t : Sums) → slice_get sums k ≡ Some s → slice_get sums last ≡ Some t →
+      suc last ≡ length segments → r < renditions →
+      slice_index s.lengths.items r + left_in r segments (suc k) ≡ slice_index t.lengths.items r
+
+-- what stands beside the last of some segments, where there is one
+abbrev pub last_of : List Sums → Option Sums
+last_of sums = slice_get sums (length sums - 1)
+
+abbrev pub lengths_of : Option Sums → List ℕ
+lengths_of None = []
+lengths_of (Some s) = s.lengths.items
+
+abbrev pub marks_of : ℕ → Option Sums → ℕ
+marks_of breaks None = breaks
+marks_of breaks (Some s) = s.marks
+
+-- what stands beside a segment behind them
+pub record IsNext (breaks : ℕ) (sums : List Sums) (segment : Segment) (next : Sums) : Type 0 where
+  pub lengths : IsLonger (lengths_of (last_of sums)) segment next.lengths.items
+  pub marks : next.marks ≡ marks_of breaks (last_of sums) + (if segment.mark then 1 else 0)

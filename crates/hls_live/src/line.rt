@@ -1,0 +1,418 @@
+//! The live line as a value: each call that changes it gives a new one, and every old one stays as it was.
+ghost use Rattle.std.specs.Prelude.{◌≡◌, ◌↔◌, ℕ, ◌+◌, ◌-◌, ◌^◌, ◌<◌, ◌≤◌, true, if◌then◌else◌, length, slice_index, slice_get, IfOk, IsTrue, Some, None};
+ghost use Rattle.std.specs.Option.{option_copied};
+ghost use Rattle.hls_blocks.specs.Numbered.{next_of};
+ghost use Rattle.hls_places_laws.specs.declared.place.Place.{Place};
+ghost use Rattle.hls_live_laws.specs.Steps.{is_allowed};
+ghost use Rattle.hls_live_laws.specs.Cuts.{resumed, segment_to};
+ghost use Rattle.hls_live_laws.specs.Told.{told_with, closed_with, has_earlier};
+ghost use Rattle.hls_live_laws.specs.Lengths.{length_in, left_in, is_long, renditions_of};
+ghost use Rattle.hls_live_laws.specs.Live.{fresh, front_of, has_ended, moved, goes_on, slid, slides, may_slide};
+ghost use Rattle.hls_live_laws.specs.Answers.{IsAnswer};
+ghost use Rattle.hls_live_laws.specs.Upkeep.{LineLeaves, IsMostSlide};
+ghost use Rattle.hls_live.specs.Sums.{last_of, lengths_of, marks_of, IsNext};
+ghost use Rattle.hls_live.specs.Tries.{told_once, with_told};
+
+use crate::reach::{Reach, is_at_gap, is_too_far, reached};
+use crate::sums::{Sums, longer};
+use hls_blocks::Shared;
+use hls_live_laws::{Aim, LineFault, Opening, Segment};
+use hls_places_laws::Place;
+use std::alloc::{AllocError, Global};
+use std::marker::Model;
+
+/// The segments of the live line that are kept, and where the next one begins.
+///
+/// Segments are numbered from the first one ever and keep their numbers when those before them slide away. Beside each
+/// stands what the segments up to it are long and how many have a mark, so that no call goes through them all.
+#[derive(Drop)]
+pub struct LiveLine {
+    aim: Aim,
+    segments: Shared<Segment>,
+    sums: Shared<Sums>,
+    breaks: u64,
+    open_at: Option<Opening>,
+    best: Option<Place>,
+}
+
+impl Model for LiveLine {
+    ghost use Rattle.hls_live_laws.specs.Live.{Live};
+
+    ghost Value = { Live };
+
+    ghost use Rattle.hls_live.specs.Sound.{seen, IsSound};
+
+    ghost view = { seen };
+
+    ghost invariant = { IsSound };
+}
+
+impl LiveLine {
+    /// A line that no place was told to. `target` is seconds, at most 3600; `preferred` is microseconds. Takes no memory.
+    pub fn fresh(alloc: Global, target: u64, preferred: u64) -> LiveLine
+        requires { target ≤ 3600 }
+        ensures { result ≡ fresh (record { target = target; preferred = preferred }) }
+    {
+        LiveLine {
+            aim: Aim { target, preferred },
+            segments: Shared::empty(alloc),
+            sums: Shared::empty(alloc),
+            breaks: 0,
+            open_at: None,
+            best: None,
+        }
+    }
+
+    /// The segments that are kept, under their numbers from the first one ever.
+    pub fn segments(&self) -> &Shared<Segment>
+        ensures { result.now ≡ record { first = self.now.removed; items = self.now.told.line.segments } }
+    {
+        &self.segments
+    }
+
+    /// How many segments were removed: the media sequence number (RFC 8216 section 4.3.3.2).
+    pub fn removed(&self) -> u64
+        ensures { result ≡ self.now.removed }
+    {
+        self.segments.first()
+    }
+
+    /// How many of those had a mark: the discontinuity sequence number (RFC 8216 section 4.3.3.3).
+    pub fn removed_breaks(&self) -> u64
+        ensures { result ≡ self.now.breaks }
+    {
+        self.breaks
+    }
+
+    /// Where the line begins: at the first segment that is kept, else at the open place.
+    pub fn front(&self) -> Option<&Place>
+        ensures { option_copied result ≡ front_of self.now }
+    {
+        if let Some(segment) = self.segments.get(self.segments.first()) {
+            return Some(&segment.from);
+        }
+        match &self.open_at {
+            Some(open) => Some(&open.place),
+            None => None,
+        }
+    }
+
+    /// Whether the closing place has come.
+    pub fn ended(&self) -> bool
+        ensures { result ≡ has_ended self.now }
+    {
+        match &self.open_at {
+            Some(open) => open.place.closing,
+            None => false,
+        }
+    }
+
+    /// The same line once more.
+    pub fn share(&self, alloc: Global) -> Result<LiveLine, AllocError>
+        ensures { IfOk result (λ line. line ≡ self.now) }
+    {
+        Ok(LiveLine {
+            aim: self.aim,
+            segments: self.segments.share(alloc)?,
+            sums: self.sums.share(alloc)?,
+            breaks: self.breaks,
+            open_at: copied_opening(alloc, &self.open_at)?,
+            best: copied_place(alloc, &self.best)?,
+        })
+    }
+
+    /// The line after one more place. Errors in order: Ended where the closing place has come already; Memory.
+    pub fn advanced(&self, alloc: Global, place: &Place) -> Result<LiveLine, LineFault>
+        requires some { 0 < length place.now.spots }
+        requires room { self.now.removed + length self.now.told.line.segments < 16777215 }
+        ensures { IsAnswer (goes_on self.now place.now) result }
+    {
+        if self.ended() {
+            return Err(LineFault::Ended);
+        }
+        Ok(self.told(alloc, place)?)
+    }
+
+    /// The line after one more place, whether the closing place has come or not.
+    pub fn told(&self, alloc: Global, place: &Place) -> Result<LiveLine, AllocError>
+        requires some { 0 < length place.now.spots }
+        requires room { self.now.removed + length self.now.told.line.segments < 16777215 }
+        ensures { IfOk result (λ line. line ≡ moved self.now place.now) }
+    {
+        let Some(start) = &self.open_at else {
+            return self.tried(alloc, place);
+        };
+        let Some(best) = &self.best else {
+            return self.tried(alloc, place);
+        };
+        if !is_too_far(self.aim, &start.place, place) {
+            return self.tried(alloc, place);
+        }
+        self.closed(alloc, start, best)?.tried(alloc, place)
+    }
+
+    /// The first fault of a slide by `n` segments: TooMany where `n` is 0 or above the count of kept segments; TooShort
+    /// where the line hasn't ended and less than three target durations would be left in some rendition.
+    pub fn slides(&self, n: u64) -> Result<(), LineFault>
+        ensures { result ≡ may_slide self.now n }
+    {
+        if n == 0 || self.count() < n {
+            return Err(LineFault::TooMany);
+        }
+        if self.ended() || self.is_long(n) {
+            return Ok(());
+        }
+        Err(LineFault::TooShort)
+    }
+
+    /// The line without its first `n` segments. Errors in order: those of `slides`; Memory.
+    pub fn slide(&self, alloc: Global, n: u64) -> Result<LiveLine, LineFault>
+        ensures { IsAnswer (slides self.now n) result }
+    {
+        self.slides(n)?;
+        Ok(self.without(alloc, n)?)
+    }
+
+    /// The greatest number of segments without which three target durations are left in each rendition and `window`
+    /// microseconds in rendition 0; 0 where there is none above it. Takes no memory, and looks at few segments.
+    pub fn slidable(&self, window: u64) -> u64
+        ensures { IsMostSlide self.now window result }
+    {
+        let mut low = 0;
+        let mut high = self.count() + 1;
+        while high - low > 1 {
+            let middle = low + (high - low) / 2;
+            if self.leaves(window, middle) {
+                low = middle;
+            } else {
+                high = middle;
+            }
+        }
+        low
+    }
+
+    /// How many segments are kept.
+    fn count(&self) -> u64
+        ensures value { result ≡ length self.now.told.line.segments }
+        ensures bound { result ≤ 16777216 }
+    {
+        self.segments.next() - self.segments.first()
+    }
+
+    /// Whether so much is left without the first `n` segments.
+    fn leaves(&self, window: u64, n: u64) -> bool
+        requires some { 0 < n }
+        requires within { n ≤ length self.now.told.line.segments }
+        ensures { IsTrue result ↔ LineLeaves self.now window n }
+    {
+        if self.left(0, n) < window {
+            return false;
+        }
+        self.is_long(n)
+    }
+
+    /// Whether three target durations are left in each rendition without the first `n` segments.
+    fn is_long(&self, n: u64) -> bool
+        requires some { 0 < n }
+        requires within { n ≤ length self.now.told.line.segments }
+        ensures { result ≡ is_long self.now.aim (renditions_of self.now.told.line.open_at) self.now.told.line.segments n }
+    {
+        let least = 3 * self.aim.target * 1_000_000;
+        for r in 0..self.renditions() {
+            if self.left(r, n) < least {
+                return false;
+            }
+        }
+        true
+    }
+
+    /// How many renditions the line is of.
+    fn renditions(&self) -> usize
+        ensures { result ≡ renditions_of self.now.told.line.open_at }
+    {
+        match &self.open_at {
+            Some(start) => start.place.spots.len(),
+            None => 0,
+        }
+    }
+
+    /// How long rendition `r` is without the first `n` segments, in microseconds.
+    fn left(&self, r: usize, n: u64) -> u64
+        requires some { 0 < n }
+        requires within { n ≤ length self.now.told.line.segments }
+        requires there { 0 < r → r < renditions_of self.now.told.line.open_at }
+        ensures { result ≡ left_in r self.now.told.line.segments n }
+    {
+        let last = sums_at(&self.sums, self.sums.next() - 1);
+        let past = sums_at(&self.sums, self.sums.first() + (n - 1));
+        last.lengths[r] - past.lengths[r]
+    }
+
+    /// The line without its first `n` segments.
+    fn without(&self, alloc: Global, n: u64) -> Result<LiveLine, AllocError>
+        requires some { 0 < n }
+        requires within { n ≤ length self.now.told.line.segments }
+        ensures { IfOk result (λ line. line ≡ slid n self.now) }
+    {
+        let first = self.segments.next() - (self.count() - n);
+        let breaks = sums_at(&self.sums, first - 1).marks;
+        Ok(LiveLine {
+            aim: self.aim,
+            segments: self.segments.dropped_front(alloc, first)?,
+            sums: self.sums.dropped_front(alloc, first)?,
+            breaks,
+            open_at: copied_opening(alloc, &self.open_at)?,
+            best: copied_place(alloc, &self.best)?,
+        })
+    }
+
+    /// The line after one more place, which begins it anew where it is out of reach.
+    fn tried(&self, alloc: Global, place: &Place) -> Result<LiveLine, AllocError>
+        requires some { 0 < length place.now.spots }
+        requires room { self.now.removed + length self.now.told.line.segments < 16777216 }
+        ensures { IfOk result (λ line. line ≡ with_told self.now (told_once self.now place.now)) }
+    {
+        let Some(start) = &self.open_at else {
+            return self.open_again(alloc, opening_at(alloc, place, false)?, None);
+        };
+        match reached(self.aim, &start.place, place) {
+            Reach::Skipped => self.share(alloc),
+            Reach::TooFar => self.open_again(alloc, opening_at(alloc, place, true)?, None),
+            Reach::Further => {
+                self.open_again(alloc, start.copied(alloc)?, Some(place.copied(alloc)?))
+            }
+            Reach::Enough => self.closed(alloc, start, place),
+        }
+    }
+
+    /// The line with the same segments, another open place and another best one.
+    fn open_again(
+        &self,
+        alloc: Global,
+        opening: Opening,
+        best: Option<Place>,
+    ) -> Result<LiveLine, AllocError>
+        requires some { 0 < length opening.place.spots }
+        requires same { 0 < length self.now.told.line.segments → length opening.place.spots ≡ renditions_of self.now.told.line.open_at }
+        requires best { (b : Place) → best ≡ Some b → is_allowed self.now.aim opening.place b ≡ true }
+        ensures { IfOk result (λ line. line ≡ with_told self.now (told_with self.now.told.line.segments opening best)) }
+    {
+        Ok(LiveLine {
+            aim: self.aim,
+            segments: self.segments.share(alloc)?,
+            sums: self.sums.share(alloc)?,
+            breaks: self.breaks,
+            open_at: Some(opening),
+            best,
+        })
+    }
+
+    /// Whether the segment that begins at an open place has a mark: one stands before it, and there is a break.
+    fn is_marked(&self, opening: &Opening) -> bool
+        ensures { result ≡ (segment_to (has_earlier self.now.removed self.now.told.line.segments) opening.now opening.now.place).mark }
+    {
+        if self.segments.next() == 0 {
+            return false;
+        }
+        opening.anew || is_at_gap(&opening.place)
+    }
+
+    /// The line with a segment from its open place to another, where the next one begins.
+    fn closed(&self, alloc: Global, opening: &Opening, to: &Place) -> Result<LiveLine, AllocError>
+        requires room { self.now.removed + length self.now.told.line.segments < 16777216 }
+        requires opening { self.now.told.line.open_at ≡ Some opening.now }
+        requires reached { is_allowed self.now.aim opening.now.place to.now ≡ true }
+        ensures { IfOk result (λ line. line
+            ≡ with_told self.now (told_with (closed_with self.now.removed self.now.told.line.segments opening.now to.now) (resumed to.now) None)) }
+    {
+        let segment = Segment {
+            from: opening.place.copied(alloc)?,
+            to: to.copied(alloc)?,
+            mark: self.is_marked(opening),
+        };
+        let sums = sums_with(alloc, &self.sums, self.breaks, &segment)?;
+        Ok(LiveLine {
+            aim: self.aim,
+            segments: self.segments.pushed(alloc, segment)?,
+            sums: self.sums.pushed(alloc, sums)?,
+            breaks: self.breaks,
+            open_at: Some(opening_at(alloc, to, false)?),
+            best: None,
+        })
+    }
+}
+
+/// What stands beside the segment of number `n`.
+fn sums_at(sums: &Shared<Sums>, n: u64) -> &Sums
+    requires low { sums.now.first ≤ n }
+    requires high { n < next_of sums.now }
+    ensures { slice_get sums.now.items (n - sums.now.first) ≡ Some result.now }
+{
+    let Some(found) = sums.get(n) else {
+        unreachable!()
+    };
+    found
+}
+
+/// What stands beside a segment behind these.
+fn sums_with(
+    alloc: Global,
+    sums: &Shared<Sums>,
+    breaks: u64,
+    segment: &Segment,
+) -> Result<Sums, AllocError>
+    requires few { marks_of breaks (last_of sums.now.items) ≤ 16777216 }
+    requires past { (r : ℕ) → slice_index (lengths_of (last_of sums.now.items)) r ≤ 2 ^ 60 }
+    requires short { (r : ℕ) → length_in r segment.now ≤ 3600499999 }
+    ensures { IfOk result (IsNext breaks sums.now.items segment.now) }
+{
+    if sums.first() == sums.next() {
+        return Ok(Sums {
+            lengths: longer(alloc, &[], segment)?,
+            marks: counted(breaks, segment.mark),
+        });
+    }
+    let Some(last) = sums.get(sums.next() - 1) else {
+        unreachable!()
+    };
+    Ok(Sums {
+        lengths: longer(alloc, last.lengths.as_slice(), segment)?,
+        marks: counted(last.marks, segment.mark),
+    })
+}
+
+/// One mark more, if there is one.
+fn counted(marks: u64, mark: bool) -> u64
+    requires { marks ≤ 16777216 }
+    ensures { result ≡ marks + (if mark then 1 else 0) }
+{
+    if mark { marks + 1 } else { marks }
+}
+
+/// An open place.
+fn opening_at(alloc: Global, place: &Place, anew: bool) -> Result<Opening, AllocError>
+    ensures { IfOk result (λ opening. opening ≡ record { place = place.now; anew = anew }) }
+{
+    Ok(Opening {
+        place: place.copied(alloc)?,
+        anew,
+    })
+}
+
+fn copied_opening(alloc: Global, opening: &Option<Opening>) -> Result<Option<Opening>, AllocError>
+    ensures { IfOk result (λ copy. copy ≡ opening.now) }
+{
+    match opening {
+        Some(opening) => Ok(Some(opening.copied(alloc)?)),
+        None => Ok(None),
+    }
+}
+
+fn copied_place(alloc: Global, place: &Option<Place>) -> Result<Option<Place>, AllocError>
+    ensures { IfOk result (λ copy. copy ≡ place.now) }
+{
+    match place {
+        Some(place) => Ok(Some(place.copied(alloc)?)),
+        None => Ok(None),
+    }
+}

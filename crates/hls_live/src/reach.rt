@@ -1,0 +1,112 @@
+//! How a place stands to the open one of the line.
+ghost use Rattle.std.specs.Prelude.{◌≡◌, ◌-◌, ◌&&◌, not};
+ghost use Rattle.hls_check_laws.specs.Tables.{spot_in};
+ghost use Rattle.hls_live_laws.specs.Steps.{is_past, is_allowed, is_enough, is_at_gap};
+ghost use Rattle.hls_live.specs.Reaches.{reach_of};
+
+use hls_check_laws::Spot;
+use hls_live_laws::Aim;
+use hls_places::pair_allowed;
+use hls_places_laws::Place;
+
+#[derive(Clone, Copy, Debug, PartialEq, Eq)]
+pub enum Reach {
+    /// Some fragment isn't greater than the open place's.
+    Skipped,
+
+    /// No segment reaches it.
+    TooFar,
+
+    /// A segment reaches it, and may go on.
+    Further,
+
+    /// A segment reaches it and needs to go no further.
+    Enough,
+}
+
+/// A place's spot in rendition `r`, one of zeros where it has none.
+pub fn spot_at(place: &Place, r: usize) -> Spot
+    ensures { result ≡ spot_in place.now.spots r }
+{
+    let spots = place.spots.as_slice();
+    if r < spots.len() {
+        return spots[r];
+    }
+    Spot {
+        fragment: 0,
+        prev_end: 0,
+        start: 0,
+        run_in: 0,
+        run_out: 0,
+    }
+}
+
+/// The length from a place to another in rendition `r`, in microseconds.
+pub fn length_between(from: &Place, to: &Place, r: usize) -> u64
+    ensures { result ≡ (spot_in to.now.spots r).prev_end - (spot_in from.now.spots r).start }
+{
+    spot_at(to, r)
+        .prev_end
+        .saturating_sub(spot_at(from, r).start)
+}
+
+/// Whether every rendition's fragment is greater at `place` than at the open place.
+fn is_past(from: &Place, place: &Place) -> bool
+    ensures { result ≡ is_past from.now place.now }
+{
+    let starts = from.spots.as_slice();
+    let ends = place.spots.as_slice();
+    if starts.len() != ends.len() {
+        return false;
+    }
+    for r in 0..starts.len() {
+        if starts[r].fragment >= ends[r].fragment {
+            return false;
+        }
+    }
+    true
+}
+
+/// Whether a segment may reach from a place to another.
+fn is_allowed(aim: Aim, from: &Place, place: &Place) -> bool
+    ensures { result ≡ is_allowed aim from.now place.now }
+{
+    pair_allowed(aim.target, from, place)
+}
+
+/// Whether a segment that may end here needs to go no further.
+fn is_enough(aim: Aim, from: &Place, place: &Place) -> bool
+    ensures { result ≡ is_enough aim from.now place.now }
+{
+    aim.preferred <= length_between(from, place, 0) || place.closing
+}
+
+/// Whether some rendition has a gap right before the place.
+pub fn is_at_gap(place: &Place) -> bool
+    ensures { result ≡ is_at_gap place.now }
+{
+    let spots = place.spots.as_slice();
+    spots.iter().any(|spot| spot.run_in != spot.run_out)
+}
+
+/// Whether a place that counts is out of reach.
+pub fn is_too_far(aim: Aim, from: &Place, place: &Place) -> bool
+    ensures { result ≡ (is_past from.now place.now && not (is_allowed aim from.now place.now)) }
+{
+    is_past(from, place) && !is_allowed(aim, from, place)
+}
+
+/// How a place stands to the open one.
+pub fn reached(aim: Aim, from: &Place, place: &Place) -> Reach
+    ensures { result ≡ reach_of aim from.now place.now }
+{
+    if !is_past(from, place) {
+        Reach::Skipped
+    } else if !is_allowed(aim, from, place) {
+        Reach::TooFar
+    } else if is_enough(aim, from, place) {
+        Reach::Enough
+    } else {
+        Reach::Further
+    }
+}

@@ -1,0 +1,31 @@
+//! What the segments up to one are long in each rendition, and how many of them have a mark.
+ghost use Rattle.std.specs.Prelude.{◌≡◌, ℕ, ◌+◌, ◌^◌, ◌<◌, length, slice_index, IfOk};
+ghost use Rattle.hls_live_laws.specs.Lengths.{length_in};
+ghost use Rattle.hls_live.specs.Sums.{IsLonger};
+
+use crate::reach::length_between;
+use hls_live_laws::Segment;
+use std::alloc::{AllocError, Global};
+
+#[derive(Debug, Drop)]
+pub struct Sums {
+    /// One length for each rendition, in microseconds.
+    pub lengths: Vec<u64>,
+
+    /// Marks are counted from the first segment ever.
+    pub marks: u64,
+}
+
+/// The lengths before, and a segment more in each rendition; none is 0.
+pub fn longer(alloc: Global, before: &[u64], segment: &Segment) -> Result<Vec<u64>, AllocError>
+    requires small { (r : ℕ) → slice_index before.now r + length_in r segment.now < 2 ^ 64 }
+    ensures { IfOk result (λ lengths. IsLonger before.now segment.now lengths.items) }
+{
+    let renditions = segment.from.spots.len();
+    let mut lengths = Vec::with_capacity(alloc, renditions)?;
+    for r in 0..renditions {
+        let past = if r < before.len() { before[r] } else { 0 };
+        lengths.push(past + length_between(&segment.from, &segment.to, r))?;
+    }
+    Ok(lengths)
+}
