@@ -7,52 +7,19 @@ use Rattle.hls_media_laws.specs.Meaning.{IsInit, IsUnit}
 use Rattle.hls_core_laws.specs.declared.event.Event.{Event}
 use Rattle.hls_core_laws.specs.declared.event.Event.TheVariants.{Begin, Accept, Finish, Slide, Trim}
 use Rattle.hls_core_laws.specs.Channel.{Channel, Lane, no_lane, lane, begun_with, with_facts, finish_of, with_floor, after, opening}
-use Rattle.hls_core_laws.specs.Legal.{MayAdd}
 use Rattle.hls_core_laws.specs.State.{State, Held, no_held, channel}
 use Rattle.hls_core_laws.specs.IsState.{IsState, Fits}
-use Rattle.hls_core_laws.specs.Outcome.{New, outcome_of, held, trim_limit, line_numbers}
+use Rattle.hls_core_laws.specs.Outcome.{New, outcome_of, held, trim_limit}
 use Rattle.hls_core_laws.specs.Moves.{logged, entry_of, more_bytes, less_bytes, bytes_after, advanced, IsFitting}
 use Rattle.hls_core_laws.specs.Follows.{SameHeld, Continues, Follows}
 use Rattle.hls_core_laws.proofs.Lists.{at_or, at_below, at_beside, at_front, at_back, at_end, at_snoc, at_set, set_same, at_drop, length_set}
-use Rattle.hls_core_laws.proofs.Logs.{channel_from-snoc, legal_snoc, lanes_after}
+use Rattle.hls_core_laws.proofs.Logs.{channel_from-snoc, lanes_after}
+use Rattle.hls_live_laws.specs.Live.{front_of}
+use Rattle.hls_core_laws.specs.Line.{line}
+use Rattle.hls_core_laws.proofs.Moved.{front_within}
+use Rattle.hls_core_laws.proofs.Added.{room_in, legal_grown}
 use Rattle.hls_core_laws.proofs.Follows.{follows_of}
 use Rattle.hls_core_laws.proofs.Causes.{begins, accepts, finishes, trims, slides}
-
--- what is New may be added to the log
-pub may_add : (s : State) (event : Event) → IsFitting s event → outcome_of s event ≡ New → MayAdd s.config (channel s) (logged event)
-may_add s (Begin r init bytes) fitting new =
-    let b = begins (slice_get (channel s).lanes r) (held s r) bytes (length s.log) new in
-    record { lane = b.lane; at = b.at; first = b.first; bytes = bytes; read = fitting; counted = refl }
-may_add s (Accept r f bytes) fitting new =
-    let a = accepts (slice_get (channel s).lanes r) (held s r) f bytes (length s.log) new in
-    record {
-      lane = a.lane;
-      at = a.at;
-      init = a.init;
-      begun = a.begun;
-      later = a.later;
-      open_ended = a.open_ended;
-      room = a.small;
-      bytes = bytes;
-      read = fitting a.lane a.init a.at a.begun;
-    }
-may_add s (Finish r) fitting new =
-    let f = finishes (slice_get (channel s).lanes r) (length s.log) new in
-    record { lane = f.lane; at = f.at; init = f.init; begun = f.begun; open_ended = f.open_ended }
-may_add s (Slide count) fitting new =
-    let f = slides (line_numbers s.config (channel s)) count (length s.log) new in
-    record { some = f.some; kept = f.kept; long = f.long }
-may_add s (Trim r floor) fitting new =
-    let t = trims (slice_get (channel s).lanes r) (trim_limit (line_numbers s.config (channel s)).front r) floor (length s.log) new in
-    record { lane = t.lane; at = t.at; rises = t.rises; within = omega (arith, t.rises, t.far); far = t.far }
-
-room_in : (s : State) (event : Event) → outcome_of s event ≡ New → length s.log < 4194304
-room_in s (Begin r init bytes) new = (begins (slice_get (channel s).lanes r) (held s r) bytes (length s.log) new).room
-room_in s (Accept r f bytes) new = (accepts (slice_get (channel s).lanes r) (held s r) f bytes (length s.log) new).room
-room_in s (Finish r) new = (finishes (slice_get (channel s).lanes r) (length s.log) new).room
-room_in s (Slide count) new = (slides (line_numbers s.config (channel s)) count (length s.log) new).room
-room_in s (Trim r floor) new =
-    (trims (slice_get (channel s).lanes r) (trim_limit (line_numbers s.config (channel s)).front r) floor (length s.log) new).room
 
 -- what a New event does to the lanes and the bytes: nothing, or a change of one rendition
 record OneChange (lanes lanes' : List Lane) (bytes bytes' : List Held) : Type 0 where
@@ -282,7 +249,8 @@ changes s (Finish r) state fitting new =
     })
 changes s (Slide count) state fitting new = inl (refl, refl)
 changes s (Trim r floor) state fitting new =
-    let t = trims (slice_get (channel s).lanes r) (trim_limit (line_numbers s.config (channel s)).front r) floor (length s.log) new in
+    let t = trims (slice_get (channel s).lanes r) (trim_limit (front_of (line s)) r) floor (length s.log) new in
+    let within : floor ≤ length t.lane.facts = omega (arith, t.far, front_within s r t.lane t.at) in
     let old = beside s r t.lane state t.at in
     let is : lane (channel s) r ≡ t.lane = at_or (channel s).lanes r no_lane t.lane t.at in
     let held_is : held s r ≡ old.held = at_or s.bytes r no_held old.held old.at in
@@ -297,7 +265,7 @@ changes s (Trim r floor) state fitting new =
       lanes_are = ap (λ (l : Lane). slice_set (channel s).lanes r (with_floor floor l)) is;
       bytes_are = ap (λ (h : Held). slice_set s.bytes r (less_bytes h (floor - (lane (channel s) r).floor))) held_is
           ∙ ap (λ (l : Lane). slice_set s.bytes r (less_bytes old.held (floor - l.floor))) is;
-      fits = trimmed_fits t.lane old.held floor old.fits t.rises (omega (arith, t.rises, t.far));
+      fits = trimmed_fits t.lane old.held floor old.fits t.rises within;
       same = trimmed_same t.lane old.held floor t.rises;
     })
 
@@ -340,7 +308,7 @@ advanced_state s by event state fitting new =
     bytes_stay s event ∙ state.sides ∙ sym (lanes_after (logged event) (channel s)) in
     record {
       configured = state.configured;
-      legal = legal_snoc s.config (opening s.config) s.log (entry_of by event) state.legal (may_add s event fitting new);
+      legal = legal_grown s by event state.legal fitting new;
       few = omega (arith, room, length-append s.log (entry_of by event ∷ []));
       sides = sides ∙ ap (λ (c : Channel). length c.lanes) (sym ch);
       fits = subst (λ (c : Channel). AllFit c.lanes (bytes_after s event)) (sym ch) (fits_after s event state (changes s event state fitting new));

@@ -1,15 +1,18 @@
 -- What a New outcome says: that each test was passed.
-use Rattle.std.proofs.Common.{◌≡◌, ℕ, ◌+◌, ◌^◌, ◌<◌, ◌≤◌, Bool, true, false, List, Option, Some, None, drop, refl, arith}
+use Rattle.std.proofs.Common.{◌≡◌, ℕ, ◌+◌, ◌^◌, ◌<◌, ◌≤◌, Bool, true, false, List, Option, Some, None, Result, Ok, Err, drop, refl, arith}
 use Rattle.std.specs.Prelude.{nat_le, nat_lt, if◌then◌else◌, ◌==◌, ◌||◌}
 use Rattle.std.specs.Str.{bytes_eq}
 use Rattle.std.proofs.lemmas.Bool.{ltb-false, leb-false, eqb-false}
 use Rattle.hls_media_laws.specs.InitData.{InitData}
 use Rattle.hls_media_laws.specs.declared.facts.Facts.{Facts}
+use Rattle.hls_media_laws.specs.FactLists.{last_end, twin_in}
+use Rattle.hls_live_laws.specs.declared.line_fault.LineFault.{LineFault}
+use Rattle.hls_live_laws.specs.declared.line_fault.LineFault.TheVariants.{TooMany, TooShort, Ended, Memory}
 use Rattle.hls_core_laws.specs.declared.refusal.Refusal.{Refusal}
-use Rattle.hls_core_laws.specs.declared.refusal.Refusal.TheVariants.{InitChanged, Overlap, Finished, SlideTooShort, SlideTooMany, TrimTooFar, LedgerFull, RecordingFull}
+use Rattle.hls_core_laws.specs.declared.refusal.Refusal.TheVariants.{InitChanged, Overlap, Finished, TrimTooFar, LedgerFull, RecordingFull}
 use Rattle.hls_core_laws.specs.Channel.{Lane, total_of}
 use Rattle.hls_core_laws.specs.State.{Held}
-use Rattle.hls_core_laws.specs.Outcome.{Outcome, New, Repeated, Refused, LineNumbers, logged_by, begin, begin_beside, accept, accept_at, accept_beside, accept_later, finish, finish_begun, slide, trim, twin_in, last_end}
+use Rattle.hls_core_laws.specs.Outcome.{Outcome, New, Repeated, Refused, logged_by, begin, begin_beside, accept, accept_at, accept_beside, accept_later, finish, finish_begun, slide, trim}
 
 -- what a test that is passed says
 passed : (b : Bool) (r : Refusal) (rest : Outcome) → (if b then Refused r else rest) ≡ New → (b ≡ false) × (rest ≡ New)
@@ -54,7 +57,7 @@ accepts_later l f entries h =
     let d = passed (nat_lt (2 ^ 40) (total_of l + f.len)) RecordingFull New c.1 in
     (ltb-false f.start (last_end l.facts) a.0, b.0, leb-false 4194304 entries c.0, ltb-false (2 ^ 40) (total_of l + f.len) d.0)
 
-accepts_beside : (twin : Option (List ℕ)) (l : Lane) (f : Facts) (bytes : List ℕ) (entries : ℕ) → accept_beside twin l f bytes entries ≡ New → accept_later l f entries ≡ New
+pub accepts_beside : (twin : Option (List ℕ)) (l : Lane) (f : Facts) (bytes : List ℕ) (entries : ℕ) → accept_beside twin l f bytes entries ≡ New → accept_later l f entries ≡ New
 accepts_beside None l f bytes entries h = h
 accepts_beside (Some twin) l f bytes entries h = elim (bytes_eq twin bytes) as (λ b. (if b then Repeated else Refused Overlap) ≡ New → accept_later l f entries ≡ New) [ true ↦ λ e. cc | false ↦ λ e. cc ] h
 
@@ -114,25 +117,13 @@ trims (Some l) limit floor entries h = elim (nat_le floor l.floor) as (λ b. (na
       record { lane = l; at = refl; rises = leb-false floor l.floor e; far = ltb-false limit floor far.0; room = room_of entries far.1 }
 ] refl h
 
-neither : (a b : Bool) → (a || b) ≡ false → (a ≡ false) × (b ≡ false)
-neither true b h = cc
-neither false b h = (refl, h)
-
-pub record Slides (line : LineNumbers) (count entries : ℕ) : Type 0 where
-  pub some : 1 ≤ count
-  pub kept : count ≤ line.segments
-  pub long : count ≤ line.slidable
+pub record Slides (fine : Result (Unit {0}) LineFault) (entries : ℕ) : Type 0 where
+  pub may : fine ≡ Ok tt
   pub room : entries < 4194304
 
-pub slides : (line : LineNumbers) (count entries : ℕ) → slide line count entries ≡ New → Slides line count entries
-slides line count entries h =
-    let many = passed (count == 0 || nat_lt line.segments count) SlideTooMany _ h in
-    let short = passed (nat_lt line.slidable count) SlideTooShort _ many.1 in
-    let tests = neither (count == 0) (nat_lt line.segments count) many.0 in
-    let some : count ≡ 0 → ⊥ = eqb-false count 0 tests.0 in
-    record {
-      some = omega arith;
-      kept = ltb-false line.segments count tests.1;
-      long = ltb-false line.slidable count short.0;
-      room = room_of entries short.1;
-    }
+pub slides : (fine : Result (Unit {0}) LineFault) (entries : ℕ) → slide fine entries ≡ New → Slides fine entries
+slides (Ok u) entries h = record { may = refl; room = room_of entries h }
+slides (Err TooMany) entries h = cc
+slides (Err TooShort) entries h = cc
+slides (Err Ended) entries h = cc
+slides (Err Memory) entries h = cc

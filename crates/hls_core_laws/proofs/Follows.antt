@@ -4,7 +4,8 @@ use Rattle.std.specs.Prelude.{slice_get}
 use Rattle.hls_core_laws.specs.declared.event.Entry.{Entry}
 use Rattle.hls_core_laws.specs.Config.{ConfigData}
 use Rattle.hls_core_laws.specs.Channel.{Channel, Lane, no_lane, lane, channel_from, channel_of, opening}
-use Rattle.hls_core_laws.specs.Legal.{LegalFrom}
+use Rattle.hls_core_laws.proofs.Additions.{LegalFrom}
+use Rattle.hls_core_laws.proofs.Added.{entries_of}
 use Rattle.hls_core_laws.specs.State.{State, Held, channel}
 use Rattle.hls_core_laws.specs.IsState.{IsState, Fits}
 use Rattle.hls_core_laws.specs.Follows.{SameHeld, Continues, Follows}
@@ -60,7 +61,7 @@ pub rest_legal : (a b : State) → IsState b → (c : Continues a b) → LegalFr
 rest_legal a b later c =
     let whole : LegalFrom a.config (opening a.config) (a.log ++ c.rest) =
     subst (λ (config : ConfigData). LegalFrom config (opening config) (a.log ++ c.rest)) c.config
-    (subst (λ (log : List Entry). LegalFrom b.config (opening b.config) log) c.log later.legal) in
+    (subst (λ (log : List Entry). LegalFrom b.config (opening b.config) log) c.log (entries_of b.config b.log later.legal)) in
     legal_rest a.config (opening a.config) a.log c.rest whole
 
 pub rest_channel : (a b : State) (c : Continues a b) → channel b ≡ channel_from (channel a) c.rest

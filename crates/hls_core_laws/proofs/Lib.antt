@@ -1,7 +1,12 @@
 pub mod Lists
+pub mod Additions
 pub mod Logs
 pub mod Follows
 pub mod Causes
+pub mod Lanes
+pub mod Lines
+pub mod Moved
+pub mod Added
 pub mod Advance
 pub mod Workers
 pub mod Fitting
@@ -9,3 +14,4 @@ pub mod Runs
 pub mod Theorems
 pub mod Rows
 pub mod Sources
+pub mod Removed

@@ -1,7 +1,10 @@
 -- The definitions, computed on small channels.
-use Rattle.std.proofs.Common.{◌≡◌, ℕ, ◌*◌, ◌-◌, ◌^◌, Bool, true, false, List, [], ◌∷◌, Some, None, refl}
+use Rattle.std.proofs.Common.{◌≡◌, ℕ, ◌*◌, ◌-◌, ◌^◌, Bool, true, false, List, [], ◌∷◌, Option, Some, None, Ok, Err, refl}
 use Rattle.hls_media_laws.specs.InitData.{InitData}
 use Rattle.hls_media_laws.specs.declared.facts.Facts.{Facts}
+use Rattle.hls_places_laws.specs.declared.place.Place.{Place}
+use Rattle.hls_live_laws.specs.Told.{told}
+use Rattle.hls_live_laws.specs.declared.line_fault.LineFault.TheVariants.{TooMany, TooShort}
 use Rattle.hls_core_laws.specs.declared.event.Event.{Event}
 use Rattle.hls_core_laws.specs.declared.event.Event.TheVariants.{Begin, Accept, Finish, Slide, Trim}
 use Rattle.hls_core_laws.specs.declared.rendition.Rendition.{Rendition}
@@ -9,7 +12,7 @@ use Rattle.hls_core_laws.specs.declared.refusal.Refusal.TheVariants as refusals
 use Rattle.hls_core_laws.specs.Config.{ConfigData}
 use Rattle.hls_core_laws.specs.Channel.{Lane, channel_from}
 use Rattle.hls_core_laws.specs.State.{State}
-use Rattle.hls_core_laws.specs.Outcome.{Outcome, New, Repeated, Refused, LineNumbers, outcome_of, begin_beside, accept_later, finish_begun, slide, trim, trim_limit}
+use Rattle.hls_core_laws.specs.Outcome.{Outcome, New, Repeated, Refused, outcome_of, begin_beside, accept_later, finish_begun, slide, trim, trim_limit}
 use Rattle.hls_core_laws.specs.Runs.{first_state, next_state}
 
 outcomes : State → List Event → List Outcome
@@ -61,7 +64,7 @@ after_the_end = refl
 
 -- without a live line there is nothing to slide away, and no floor rises
 without_a_line : outcomes (first_state config) (begin 0 1 ∷ unit 0 0 4 7 ∷ Slide 0 ∷ Slide 1 ∷ Trim 0 0 ∷ Trim 0 1 ∷ Trim 2 0 ∷ []) ≡ New ∷ New ∷ Refused refusals.SlideTooMany ∷ Refused refusals.SlideTooMany ∷ Repeated ∷ Refused refusals.TrimTooFar ∷ Refused refusals.UnknownRendition ∷ []
-unfolding outcomes config init facts unit begin rendition channel_from
+unfolding outcomes config init facts unit begin rendition channel_from told
 without_a_line = refl
 
 -- the last tests, in their order: each cause beside the next
@@ -77,10 +80,10 @@ full_log : begin_beside None [] (1 ∷ []) 4194303 ∷ begin_beside None [] (1 �
 unfolding init
 full_log = refl
 
--- a live line of three segments, of which one may go, and a front place at unit 5
-line : LineNumbers
-line = record { segments = 3; slidable = 1; front = Some (5 ∷ []) }
+-- the front place is at unit 5
+front : Option Place
+front = Some (record { spots = record { fragment = 5; prev_end = 0; start = 0; run_in = 0; run_out = 0 } ∷ []; closing = false })
 
-slides_and_trims : slide line 0 0 ∷ slide line 4 0 ∷ slide line 2 4194304 ∷ slide line 1 4194304 ∷ slide line 1 0 ∷ trim (Some (lane_of false 0)) (trim_limit line.front 0) 0 4194304 ∷ trim (Some (lane_of false 0)) (trim_limit line.front 0) 6 4194304 ∷ trim (Some (lane_of false 0)) (trim_limit line.front 0) 5 4194304 ∷ trim (Some (lane_of false 0)) (trim_limit line.front 0) 5 0 ∷ [] ≡ Refused refusals.SlideTooMany ∷ Refused refusals.SlideTooMany ∷ Refused refusals.SlideTooShort ∷ Refused refusals.LedgerFull ∷ New ∷ Repeated ∷ Refused refusals.TrimTooFar ∷ Refused refusals.LedgerFull ∷ New ∷ []
-unfolding line lane_of facts init
+slides_and_trims : slide (Err TooMany) 4194304 ∷ slide (Err TooShort) 4194304 ∷ slide (Ok tt) 4194304 ∷ slide (Ok tt) 0 ∷ trim (Some (lane_of false 0)) (trim_limit front 0) 0 4194304 ∷ trim (Some (lane_of false 0)) (trim_limit front 0) 6 4194304 ∷ trim (Some (lane_of false 0)) (trim_limit front 0) 5 4194304 ∷ trim (Some (lane_of false 0)) (trim_limit front 0) 5 0 ∷ trim (Some (lane_of false 0)) (trim_limit None 0) 1 0 ∷ [] ≡ Refused refusals.SlideTooMany ∷ Refused refusals.SlideTooShort ∷ Refused refusals.LedgerFull ∷ New ∷ Repeated ∷ Refused refusals.TrimTooFar ∷ Refused refusals.LedgerFull ∷ New ∷ Refused refusals.TrimTooFar ∷ []
+unfolding front lane_of facts init
 slides_and_trims = refl

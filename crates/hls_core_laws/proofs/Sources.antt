@@ -1,9 +1,13 @@
 -- The renditions of a state that follows have grown, so that common places are only appended to.
-use Rattle.std.proofs.Common.{◌≡◌, ℕ, true, false, List, [], ◌++◌, Some, length, map, sym, ap, subst, ◌∙◌, arith, append-nil, get_or}
+use Rattle.std.proofs.Common.{◌≡◌, ℕ, true, false, List, [], ◌++◌, Option, Some, None, inl, inr, length, map, refl, sym, ap, subst, ◌∙◌, arith, append-nil, get_or}
 use Rattle.std.specs.Prelude.{slice_get}
 use Rattle.std.proofs.lemmas.List.{length-map}
 use Rattle.hls_media_laws.specs.declared.facts.Facts.{Facts}
-use Rattle.hls_places_laws.specs.Sources.{Source, source_at}
+use Rattle.hls_media_laws.specs.InitData.{InitData}
+use Rattle.hls_media_laws.proofs.Timelines.{units_are_timed}
+use Rattle.hls_places_laws.specs.Sources.{Source, source_at, AreSources, IsTimeline}
+use Rattle.hls_places_laws.specs.Appended.{IsAppended}
+use Rattle.hls_places_laws.proofs.Undecided.{places-appended}
 use Rattle.hls_places_laws.specs.Growth.{SourceGrows, Grows}
 use Rattle.hls_places_laws.proofs.Sides.{side-at, length-sources_of}
 use Rattle.hls_core_laws.specs.declared.event.Entry.{Entry}
@@ -11,40 +15,13 @@ use Rattle.hls_core_laws.specs.Config.{ConfigData}
 use Rattle.hls_core_laws.specs.Channel.{Lane, fresh, opening, channel_of}
 use Rattle.hls_core_laws.specs.State.{State, channel}
 use Rattle.hls_core_laws.specs.IsState.{IsState}
-use Rattle.hls_core_laws.specs.Follows.{Continues}
-use Rattle.hls_core_laws.specs.Places.{facts_of, is_finished, tolerance_of, sources}
+use Rattle.hls_core_laws.specs.Follows.{Continues, Follows}
+use Rattle.hls_core_laws.specs.Places.{facts_of, is_finished, tolerance_of, sources, places}
 use Rattle.hls_core_laws.proofs.Lists.{at_map, at_or, at_some}
+pub use Rattle.hls_core_laws.proofs.Lanes.{IsOf, lanes_count, sources_count, source_of}
 use Rattle.hls_core_laws.proofs.Logs.{LaneGrows, lanes_from}
 use Rattle.hls_core_laws.proofs.Follows.{lane_grown}
-
--- a lane for each rendition
-pub lanes_count : (config : ConfigData) (log : List Entry) → length (channel_of config log).lanes ≡ length config.renditions
-lanes_count config log = lanes_from (opening config) log ∙ length-map config.renditions fresh
-
-pub sources_count : (s : State) → length (sources s) ≡ length (channel s).lanes
-sources_count s =
-    let lanes = length-map (channel s).lanes facts_of in
-    let tolerances = length-map s.config.renditions tolerance_of ∙ sym (lanes_count s.config s.log) ∙ sym lanes in
-    let finished = length-map (channel s).lanes is_finished ∙ sym lanes in
-    length-sources_of (map facts_of (channel s).lanes) (map tolerance_of s.config.renditions) (map is_finished (channel s).lanes) tolerances finished ∙ lanes
-
--- the source of a rendition is made of its lane and its tolerance
-pub record IsOf (source : Source) (l : Lane) (tolerance : ℕ) : Type 0 where
-  pub facts : source.facts ≡ l.facts
-  pub tolerance_is : source.tolerance ≡ tolerance
-  pub finished : source.finished ≡ l.finished
-
-pub source_of : (s : State) (r : ℕ) (l : Lane) → slice_get (channel s).lanes r ≡ Some l → IsOf (source_at (sources s) r) l (get_or (map tolerance_of s.config.renditions) r 0)
-source_of s r l at =
-    let lanes = length-map (channel s).lanes facts_of in
-    let tolerances = length-map s.config.renditions tolerance_of ∙ sym (lanes_count s.config s.log) ∙ sym lanes in
-    let finished = length-map (channel s).lanes is_finished ∙ sym lanes in
-    let side = side-at (map facts_of (channel s).lanes) (map tolerance_of s.config.renditions) (map is_finished (channel s).lanes) tolerances finished r in
-    record {
-      facts = side.facts_are ∙ at_or (map facts_of (channel s).lanes) r [] l.facts (at_map facts_of (channel s).lanes r l at);
-      tolerance_is = side.tolerance_is;
-      finished = side.finished_is ∙ at_or (map is_finished (channel s).lanes) r false l.finished (at_map is_finished (channel s).lanes r l at);
-    }
+use Rattle.hls_core_laws.proofs.Added.{Timed, lanes_timed}
 
 source_grows : (s t : Source) (a b : Lane) (tolerance : ℕ) → IsOf s a tolerance → IsOf t b tolerance → LaneGrows a b → SourceGrows s t
 source_grows s t a b tolerance is_a is_b grows =
@@ -78,3 +55,39 @@ sources_grow a b later c = record {
       (source_of b r grown.lane grown.at) in
       source_grows (source_at (sources a) r) (source_at (sources b) r) lane_a.0 grown.lane (get_or (map tolerance_of a.config.renditions) r 0) is_a is_b grown.grows;
 }
+
+no_timeline : IsTimeline []
+no_timeline = record {
+  lasts = λ k within. absurd (omega arith);
+  follows = λ k within. absurd (omega arith);
+  small = λ k within. absurd (omega arith);
+}
+
+lane_timeline : (l : Lane) (i : Option InitData) → l.init ≡ i → Timed l → IsTimeline l.facts
+lane_timeline l None is timed = subst (λ (fs : List Facts). IsTimeline fs) (sym (timed.bare is)) no_timeline
+lane_timeline l (Some init) is timed = units_are_timed init l.facts (timed.were init is) timed.in_order
+
+-- the renditions of a state are good sources of common places
+pub states_are_timed : (s : State) → IsState s → AreSources (sources s)
+states_are_timed s state =
+    let rs = state.configured.renditions in
+    let count = lanes_count s.config s.log in
+    let first = at_some s.config.renditions 0 (omega (arith, rs.some)) in
+    let exact : get_or (map tolerance_of s.config.renditions) 0 0 ≡ 0 =
+    at_or (map tolerance_of s.config.renditions) 0 0 (tolerance_of first.0) (at_map tolerance_of s.config.renditions 0 first.0 first.1)
+    ∙ (rs.each 0 first.0 first.1).first refl in
+    let lane_0 = at_some (channel s).lanes 0 (omega (arith, count, rs.some)) in
+    record {
+      some = omega (arith, sources_count s, count, rs.some);
+      few = omega (arith, sources_count s, count, rs.few);
+      exact = (source_of s 0 lane_0.0 lane_0.1).tolerance_is ∙ exact;
+      timelines = λ r within.
+          let lane_r = at_some (channel s).lanes r (omega (arith, sources_count s)) in
+          let line = lane_timeline lane_r.0 lane_r.0.init refl (lanes_timed s state.legal r lane_r.0 lane_r.1) in
+          subst (λ (fs : List Facts). IsTimeline fs) (sym (source_of s r lane_r.0 lane_r.1).facts) line;
+    }
+
+pub places_follow : (a b : State) → Follows a b → IsAppended (places a) (places b)
+places_follow a b (inl same) = record { more = []; is = ap places (sym same) ∙ sym (append-nil (places a)) }
+places_follow a b (inr ab) =
+    places-appended (sources a) (sources b) (states_are_timed a ab.earlier) (sources_grow a b ab.later ab.continues)

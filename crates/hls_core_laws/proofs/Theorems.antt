@@ -13,7 +13,10 @@ use Rattle.hls_core_laws.proofs.Follows.{follows_refl, follows_trans, follows_of
 use Rattle.hls_core_laws.proofs.Advance.{advanced_state, advanced_follows}
 use Rattle.hls_core_laws.proofs.Workers.{events_by-own, events_by-other, events_by-settled}
 use Rattle.hls_core_laws.proofs.Fitting as seen
+use Rattle.hls_core_laws.proofs.Runs as runs
 use Rattle.hls_core_laws.proofs.Runs.{first_is_state, run_follows}
+use Rattle.hls_core_laws.proofs.Added.{entries_of}
+use Rattle.hls_core_laws.proofs.Sources as sources
 
 pub follows_itself : laws.FollowsItself
 follows_itself = follows_refl
@@ -39,6 +42,15 @@ runs_follow config events configured fits =
     let follows = run_follows (first_state config) events first fits in
     (state_of (first_state config) (replayed (first_state config) events) follows first, follows)
 
+pub runs_are_replays : laws.RunsAreReplays
+runs_are_replays = runs.runs_are_replays
+
+pub states_are_timed : laws.StatesAreTimed
+states_are_timed = sources.states_are_timed
+
+pub places_follow : laws.PlacesFollow
+places_follow = sources.places_follow
+
 pub inits_stay : laws.InitsStay
 inits_stay = seen.init_stays
 
@@ -55,4 +67,4 @@ pub workers_settled : laws.WorkersSettled
 workers_settled = events_by-settled
 
 pub units_are_logged : laws.UnitsAreLogged
-units_are_logged = facts_few
+units_are_logged config log legal = facts_few config log (entries_of config log legal)

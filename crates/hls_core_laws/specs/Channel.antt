@@ -1,7 +1,8 @@
 -- What a log says of a channel, by one equation an entry.
-use Rattle.std.specs.Prelude.{ℕ, ◌+◌, Bool, true, false, List, [], ◌∷◌, ◌++◌, Option, Some, None, map, slice_index_or, slice_set, sum_by}
+use Rattle.std.specs.Prelude.{ℕ, ◌+◌, Bool, true, false, List, [], ◌∷◌, ◌++◌, Option, Some, None, map, slice_index_or, slice_set}
 use Rattle.hls_media_laws.specs.InitData.{InitData}
 use Rattle.hls_media_laws.specs.declared.facts.Facts.{Facts}
+use Rattle.hls_media_laws.specs.FactLists.{bytes_in}
 use Rattle.hls_core_laws.specs.declared.rendition.Rendition.{Rendition}
 use Rattle.hls_core_laws.specs.declared.event.Entry.{Entry}
 use Rattle.hls_core_laws.specs.declared.event.Logged.{Logged}
@@ -65,14 +66,6 @@ channel_from ch (e ∷ es) = channel_from (after e.event ch) es
 abbrev pub channel_of : ConfigData → List Entry → Channel
 channel_of config log = channel_from (opening config) log
 
--- the ticks at which the last unit ends, 0 before any
-abbrev pub end_of : Option Facts → ℕ
-end_of None = 0
-end_of (Some f) = f.start + f.duration
-
-abbrev pub len_of : Facts → ℕ
-len_of f = f.len
-
 -- the bytes of a recording: its init section and all units ever accepted
 abbrev pub total_of : Lane → ℕ
-total_of l = l.size + sum_by len_of l.facts
+total_of l = l.size + bytes_in l.facts

@@ -36,9 +36,15 @@ pub record AreRenditions (rs : List Rendition) : Type 0 where
   pub few : length rs ≤ 16
   pub each : (n : ℕ) (r : Rendition) → slice_get rs n ≡ Some r → IsRenditionAt rs n r
 
+-- a target duration in seconds
+abbrev pub IsTarget : ℕ → Type 0
+IsTarget target = (1 ≤ target) × (target ≤ 3600)
+
+-- a preferred length in microseconds, beside the target
+abbrev pub IsPreferred : ℕ → ℕ → Type 0
+IsPreferred target preferred = (1 ≤ preferred) × (preferred ≤ target * 1000000)
+
 pub record IsConfig (c : ConfigData) : Type 0 where
-  pub target_some : 1 ≤ c.target
-  pub target : c.target ≤ 3600
-  pub preferred_some : 1 ≤ c.preferred
-  pub preferred : c.preferred ≤ c.target * 1000000
+  pub target : IsTarget c.target
+  pub preferred : IsPreferred c.target c.preferred
   pub renditions : AreRenditions c.renditions

@@ -1,6 +1,8 @@
 -- The laws over the definitions, each as one statement.
 use Rattle.std.specs.Prelude.{◌≡◌, ◌≢◌, ℕ, ◌≤◌, List, [], ◌∷◌, ◌++◌, Some, length, slice_get}
 use Rattle.hls_media_laws.specs.InitData.{InitData}
+use Rattle.hls_places_laws.specs.Sources.{AreSources}
+use Rattle.hls_places_laws.specs.Appended.{IsAppended}
 use Rattle.hls_core_laws.specs.declared.event.Entry.{Entry}
 use Rattle.hls_core_laws.specs.declared.event.Event.{Event}
 use Rattle.hls_core_laws.specs.Config.{ConfigData, IsConfig}
@@ -10,8 +12,9 @@ use Rattle.hls_core_laws.specs.State.{State, channel}
 use Rattle.hls_core_laws.specs.IsState.{IsState}
 use Rattle.hls_core_laws.specs.Outcome.{Outcome, New}
 use Rattle.hls_core_laws.specs.Moves.{logged, Moves, IsFitting, IsFittingAsSeen}
-use Rattle.hls_core_laws.specs.Runs.{first_state, replayed, AreFitting}
+use Rattle.hls_core_laws.specs.Runs.{Move, IsRun, served, first_state, replayed, AreFitting}
 use Rattle.hls_core_laws.specs.Follows.{Continues, Follows}
+use Rattle.hls_core_laws.specs.Places.{sources, places}
 use Rattle.hls_core_laws.specs.Workers.{events_by}
 
 -- a state follows itself
@@ -35,6 +38,18 @@ MovesFollow =
 abbrev pub RunsFollow : Type 0
 RunsFollow =
     (config : ConfigData) (events : List (ℕ × Event)) → IsConfig config → AreFitting (first_state config) events → IsState (replayed (first_state config) events) × Follows (first_state config) (replayed (first_state config) events)
+
+-- a run in which events may be refused, want of memory included, ends where those that weren't refused memory lead
+abbrev pub RunsAreReplays : Type 0
+RunsAreReplays = (a b : State) (moves : List Move) → IsRun a moves b → AreFitting a (served moves) × (b ≡ replayed a (served moves))
+
+-- the renditions of a state are sources of common places
+abbrev pub StatesAreTimed : Type 0
+StatesAreTimed = (s : State) → IsState s → AreSources (sources s)
+
+-- in a state that follows another, common places are only appended
+abbrev pub PlacesFollow : Type 0
+PlacesFollow = (a b : State) → Follows a b → IsAppended (places a) (places b)
 
 -- a rendition keeps its init section in each state that follows
 abbrev pub InitsStay : Type 0

@@ -1,13 +1,14 @@
 pub mod Config
 pub mod Channel
 pub mod State
+pub mod Places
+pub mod Line
 pub mod Outcome
-pub mod Legal
-pub mod IsState
 pub mod Moves
 pub mod Runs
+pub mod Legal
+pub mod IsState
 pub mod Follows
 pub mod Workers
 pub mod RefusalName
 pub mod Laws
-pub mod Places

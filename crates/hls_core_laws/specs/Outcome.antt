@@ -1,45 +1,30 @@
 -- What an event meets in a state: the first cause that holds, in the order of the tests.
-use Rattle.std.specs.Prelude.{ℕ, ◌+◌, ◌-◌, ◌^◌, ◌==◌, ◌||◌, Bool, List, [], ◌∷◌, Option, Some, None, length, drop, cond, nat_lt, nat_le, if◌then◌else◌, slice_get, slice_index, slice_index_or}
+use Rattle.std.specs.Prelude.{ℕ, ◌+◌, Bool, List, Option, Some, None, Result, Ok, Err, length, drop, nat_lt, nat_le, if◌then◌else◌, slice_get, slice_index_or}
 use Rattle.std.specs.Str.{bytes_eq}
 use Rattle.hls_media_laws.specs.InitData.{InitData}
 use Rattle.hls_media_laws.specs.declared.facts.Facts.{Facts}
+use Rattle.hls_media_laws.specs.FactLists.{recording_limit, last_end, twin_in}
+use Rattle.hls_check_laws.specs.Tables.{spot_in}
+use Rattle.hls_places_laws.specs.declared.place.Place.{Place}
+use Rattle.hls_live_laws.specs.declared.line_fault.LineFault.{LineFault}
+use Rattle.hls_live_laws.specs.declared.line_fault.LineFault.TheVariants.{TooMany}
+use Rattle.hls_live_laws.specs.Live.{front_of, may_slide}
 use Rattle.hls_core_laws.specs.declared.event.Event.{Event}
 use Rattle.hls_core_laws.specs.declared.event.Event.TheVariants.{Begin, Accept, Finish, Slide, Trim}
 use Rattle.hls_core_laws.specs.declared.refusal.Refusal.{Refusal}
 use Rattle.hls_core_laws.specs.declared.refusal.Refusal.TheVariants.{UnknownRendition, NoInit, InitChanged, Overlap, Finished, SlideTooShort, SlideTooMany, TrimTooFar, LedgerFull, RecordingFull}
-use Rattle.hls_core_laws.specs.Config.{ConfigData}
-use Rattle.hls_core_laws.specs.Channel.{Channel, Lane, end_of, total_of}
-use Rattle.hls_core_laws.specs.State.{State, Held, no_held, channel}
+use Rattle.hls_core_laws.specs.Channel.{Lane, total_of}
+use Rattle.hls_core_laws.specs.State.{State, Held, no_held, channel, log_limit}
+use Rattle.hls_core_laws.specs.Line.{line}
 
 pub data Outcome : Type 0 where
   New : Outcome
   Repeated : Outcome
   Refused : Refusal → Outcome
 
--- what the live line gives to the tests of Slide and Trim: how many segments it keeps, how many of them may go at most,
--- and where its front place stands in each rendition, by the number of a unit
-pub record LineNumbers : Type 0 where
-  pub segments : ℕ
-  pub slidable : ℕ
-  pub front : Option (List ℕ)
-
--- a channel has no live line yet: no segment, and no front place
-abbrev pub line_numbers : ConfigData → Channel → LineNumbers
-line_numbers config ch = record { segments = 0; slidable = 0; front = None }
-
--- the ticks at which the last of these units ends, 0 where there is none
-abbrev pub last_end : List Facts → ℕ
-last_end facts = end_of (slice_get facts (length facts - 1))
-
--- the bytes of the first of these units that starts at `start`
-abbrev pub twin_in : ℕ → List Facts → List (List ℕ) → Option (List ℕ)
-twin_in start [] units = None
-twin_in start (f ∷ facts) [] = None
-twin_in start (f ∷ facts) (u ∷ units) = cond (f.start == start) (Some u) (twin_in start facts units)
-
--- the last test: a log of 4194304 entries takes no more
+-- the last test: a full log takes no more
 abbrev pub logged_by : ℕ → Outcome
-logged_by entries = (if nat_le 4194304 entries then Refused LedgerFull else New)
+logged_by entries = (if nat_le log_limit entries then Refused LedgerFull else New)
 
 abbrev pub begin_beside : Option InitData → List ℕ → List ℕ → ℕ → Outcome
 begin_beside None head bytes entries = logged_by entries
@@ -53,8 +38,8 @@ abbrev pub accept_later : Lane → Facts → ℕ → Outcome
 accept_later l f entries =
     (if nat_lt f.start (last_end l.facts) then Refused Overlap else
     (if l.finished then Refused Finished else
-    (if nat_le 4194304 entries then Refused LedgerFull else
-    (if nat_lt (2 ^ 40) (total_of l + f.len) then Refused RecordingFull else New))))
+    (if nat_le log_limit entries then Refused LedgerFull else
+    (if nat_lt recording_limit (total_of l + f.len) then Refused RecordingFull else New))))
 
 abbrev pub accept_beside : Option (List ℕ) → Lane → Facts → List ℕ → ℕ → Outcome
 accept_beside None l f bytes entries = accept_later l f entries
@@ -76,15 +61,16 @@ abbrev pub finish : Option Lane → ℕ → Outcome
 finish None entries = Refused UnknownRendition
 finish (Some l) entries = finish_begun l.init l.finished entries
 
-abbrev pub slide : LineNumbers → ℕ → ℕ → Outcome
-slide line count entries =
-    (if count == 0 || nat_lt line.segments count then Refused SlideTooMany else
-    (if nat_lt line.slidable count then Refused SlideTooShort else logged_by entries))
+-- the first fault of a slide of the live line
+abbrev pub slide : Result (Unit {0}) LineFault → ℕ → Outcome
+slide (Ok _) entries = logged_by entries
+slide (Err TooMany) entries = Refused SlideTooMany
+slide (Err fault) entries = Refused SlideTooShort
 
 -- how far a floor may rise: to the front place's unit, and not at all without a front place
-abbrev pub trim_limit : Option (List ℕ) → ℕ → ℕ
+abbrev pub trim_limit : Option Place → ℕ → ℕ
 trim_limit None r = 0
-trim_limit (Some units) r = slice_index units r
+trim_limit (Some p) r = (spot_in p.spots r).fragment
 
 abbrev pub trim : Option Lane → ℕ → ℕ → ℕ → Outcome
 trim None limit floor entries = Refused UnknownRendition
@@ -99,6 +85,6 @@ abbrev pub outcome_of : State → Event → Outcome
 outcome_of s (Begin r init bytes) = begin (slice_get (channel s).lanes r) (held s r) bytes (length s.log)
 outcome_of s (Accept r f bytes) = accept (slice_get (channel s).lanes r) (held s r) f bytes (length s.log)
 outcome_of s (Finish r) = finish (slice_get (channel s).lanes r) (length s.log)
-outcome_of s (Slide count) = slide (line_numbers s.config (channel s)) count (length s.log)
+outcome_of s (Slide count) = slide (may_slide (line s) count) (length s.log)
 outcome_of s (Trim r floor) =
-    trim (slice_get (channel s).lanes r) (trim_limit (line_numbers s.config (channel s)).front r) floor (length s.log)
+    trim (slice_get (channel s).lanes r) (trim_limit (front_of (line s)) r) floor (length s.log)

@@ -1,6 +1,6 @@
 //! What holds of every state, log and run. Each function has no body: its contract is the law.
 
-ghost use Rattle.hls_core_laws.specs.Laws.{FollowsItself, FollowsThrough, FollowsIsContinuing, MovesFollow, RunsFollow, InitsStay, SeenSuffices, WorkersApart, WorkersSettled, UnitsAreLogged};
+ghost use Rattle.hls_core_laws.specs.Laws.{FollowsItself, FollowsThrough, FollowsIsContinuing, MovesFollow, RunsFollow, RunsAreReplays, StatesAreTimed, PlacesFollow, InitsStay, SeenSuffices, WorkersApart, WorkersSettled, UnitsAreLogged};
 
 /// A state follows itself.
 pub fn follows_itself()
@@ -25,6 +25,21 @@ pub fn moves_follow()
 /// Every run from an opening state ends in a state that follows it.
 pub fn runs_follow()
     ensures { RunsFollow }
+{}
+
+/// A run by moves, in which any event may be refused for want of memory, ends where the others lead.
+pub fn runs_are_replays()
+    ensures { RunsAreReplays }
+{}
+
+/// The renditions of every state are good sources of common places.
+pub fn states_are_timed()
+    ensures { StatesAreTimed }
+{}
+
+/// In a state that follows another, common places are only appended.
+pub fn places_follow()
+    ensures { PlacesFollow }
 {}
 
 /// A rendition keeps its init section.
