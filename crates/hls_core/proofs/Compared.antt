@@ -8,10 +8,9 @@ use Rattle.hls_core_laws.specs.declared.event.Entry.{Entry}
 use Rattle.hls_core_laws.specs.Channel.{Lane, no_lane, lane}
 use Rattle.hls_core_laws.specs.State.{State, Held, channel}
 use Rattle.hls_core_laws.specs.IsState.{IsState}
-use Rattle.hls_core_laws.specs.Follows.{Follows, AreSame, SameHeld}
+use Rattle.hls_core_laws.specs.Follows.{Continues, AreSame, SameHeld}
 use Rattle.hls_core_laws.specs.Workers.{events_by}
 use Rattle.hls_core_laws.proofs.Lists as lists
-use Rattle.hls_core_laws.proofs.Follows.{continues_of, follows_of}
 use Rattle.hls_core_laws.proofs.Workers.{events_by-append}
 use Rattle.hls_core.specs.declared.side.Side.{Side}
 use Rattle.hls_core.specs.Sides.{lane_of, held_of, IsAt}
@@ -84,12 +83,9 @@ same_more a b n x y at_a at_b same before r ha hb below held_a held_b = elim (ca
   | inr other ↦ before r ha hb (omega arith) held_a held_b
 ]
 
--- of two states, these three tests decide what it is to follow
-pub follows_when : (a b : State) → IsState a → IsState b → a.config ≡ b.config → take (length a.log) b.log ≡ a.log → AreSame a b → Follows a b
-follows_when a b is_a is_b config front same =
+-- these three tests decide what it is to continue
+pub continues_when : (a b : State) → a.config ≡ b.config → take (length a.log) b.log ≡ a.log → AreSame a b → Continues a b
+continues_when a b config front same =
     let whole : b.log ≡ a.log ++ drop (length a.log) b.log =
     sym (take-append-drop (length a.log) b.log) ∙ ap (λ (xs : List Entry). xs ++ drop (length a.log) b.log) front in
-    follows_of a b is_a is_b (record { config = sym config; rest = drop (length a.log) b.log; log = whole; same = same })
-
-pub same_of : (a b : State) → Follows a b → AreSame a b
-same_of a b follows = (continues_of a b follows).same
+    record { config = sym config; rest = drop (length a.log) b.log; log = whole; same = same }

@@ -1,26 +1,32 @@
 -- What the code has found out of an event makes it New, and the side that it puts in makes the state that the move says.
-use Rattle.std.proofs.Common.{arith, ◌≡◌, ℕ, ◌+◌, ◌^◌, ◌<◌, ◌≤◌, Bool, true, false, List, [], ◌∷◌, ◌++◌, Option, Some, None, length, refl, sym, ap, subst, ◌∙◌}
+use Rattle.std.proofs.Common.{arith, ◌≡◌, ℕ, ◌+◌, ◌-◌, ◌^◌, ◌<◌, ◌≤◌, Bool, true, false, List, [], ◌∷◌, ◌++◌, Option, Some, None, length, refl, sym, ap, subst, ◌∙◌}
 use Rattle.std.specs.Prelude.{slice_get, slice_set, nat_le}
 use Rattle.std.proofs.lemmas.Bool.{le-ltb, lt-leb, leb-false}
 use Rattle.hls_media_laws.specs.InitData.{InitData}
 use Rattle.hls_media_laws.specs.declared.facts.Facts.{Facts}
 use Rattle.hls_media_laws.specs.Meaning.{IsInit}
-use Rattle.hls_record.specs.Recorded.{Recorded, total_of, last_end, begun, with_unit, twin_of}
+use Rattle.hls_media_laws.specs.FactLists.{last_end}
+use Rattle.hls_record.specs.Recorded.{Recorded, total_of, begun, with_unit, trimmed, twin_of}
 use Rattle.hls_core_laws.specs.declared.event.Event.{Event}
-use Rattle.hls_core_laws.specs.declared.event.Event.TheVariants.{Begin, Accept, Finish}
-use Rattle.hls_core_laws.specs.Channel.{Lane, no_lane, lane, after, begun_with, with_facts, finish_of}
-use Rattle.hls_core_laws.specs.State.{State, Held, no_held, channel}
+use Rattle.hls_core_laws.specs.declared.event.Event.TheVariants.{Begin, Accept, Finish, Trim}
+use Rattle.hls_core_laws.specs.Channel.{Lane, no_lane, lane, after, begun_with, with_facts, finish_of, with_floor}
+use Rattle.hls_core_laws.specs.State.{State, Held, no_held, channel, log_limit}
+use Rattle.hls_live_laws.specs.Live.{front_of}
+use Rattle.hls_core_laws.specs.Places.{sources}
+use Rattle.hls_core_laws.specs.Line.{line}
+use Rattle.hls_core_laws.proofs.Moved.{front_within}
+use Rattle.hls_core_laws.proofs.Removed.{sources_trim}
 use Rattle.hls_core_laws.specs.IsState.{IsState}
-use Rattle.hls_core_laws.specs.Outcome.{New, outcome_of, held, accept, accept_beside, accept_later}
-use Rattle.hls_core_laws.specs.Moves.{logged, entry_of, advanced, more_bytes, IsFitting}
+use Rattle.hls_core_laws.specs.Outcome.{New, outcome_of, held, accept, accept_beside, accept_later, trim_limit}
+use Rattle.hls_core_laws.specs.Moves.{logged, entry_of, advanced, more_bytes, less_bytes, IsFitting}
 use Rattle.hls_core_laws.proofs.Lists.{at_or, at_below, set_same}
-use Rattle.hls_core_laws.proofs.Logs.{facts_few}
+use Rattle.hls_core_laws.proofs.Theorems.{units_are_logged}
 use Rattle.hls_core_laws.proofs.Advance.{advanced_state, advanced_continues}
 use Rattle.hls_core_laws.proofs.Sources.{sources_count, source_of}
 use Rattle.hls_record.specs.Valid.{IsRecorded}
 use Rattle.hls_core_laws.specs.Follows.{Continues}
 use Rattle.hls_core.specs.declared.side.Side.{Side}
-use Rattle.hls_core.specs.Sides.{lane_of, lane_from, held_of, held_from, IsAt, with_side, MayTake, IsGood}
+use Rattle.hls_core.specs.Sides.{lane_of, lane_from, held_of, held_from, IsAt, with_side, MayTake, MayTrim, IsGood}
 
 pub record Goes (s : State) (by : ℕ) (event : Event) (r : ℕ) (side : Side) : Type 0 where
   pub new : outcome_of s event ≡ New
@@ -47,10 +53,11 @@ not_finished s r old state at first =
 good_side : (next : Recorded) (finished : Bool) → IsRecorded next → IsGood (record { recording = Some next; finished = finished })
 good_side next finished good = λ rec e. let is : next ≡ rec = cc in subst (λ (x : Recorded). IsRecorded x) is good
 
-may_take : (s : State) (by : ℕ) (event : Event) (r : ℕ) (old side : Side) → IsState s → IsFitting s event → outcome_of s event ≡ New → with_side s (entry_of by event) r side ≡ advanced s by event → (after (logged event) (channel s)).lanes ≡ slice_set (channel s).lanes r (lane_of side) → IsAt s r old → old.finished ≡ false → IsGood side → MayTake s (entry_of by event) r side
-may_take s by event r old side state fits new is lanes at open_ended good = record {
+may_take : (s : State) (by : ℕ) (event : Event) (r : ℕ) (old side : Side) → IsState s → IsFitting s event → outcome_of s event ≡ New → with_side s (entry_of by event) r side ≡ advanced s by event → (after (logged event) (channel s)).lanes ≡ slice_set (channel s).lanes r (lane_of side) → (after (logged event) (channel s)).removed ≡ (channel s).removed → IsAt s r old → old.finished ≡ false → IsGood side → MayTake s (entry_of by event) r side
+may_take s by event r old side state fits new is lanes removed at open_ended good = record {
   valid = valid s by event r side state fits new is;
   lanes = lanes;
+  removed = removed;
   continues = subst (λ (x : State). Continues s x) (sym is) (advanced_continues s by event state fits new);
   live = record {
     rendition = r;
@@ -80,7 +87,7 @@ within s r side at = at_below s.bytes r (held_of side) at.held
 -- a recording has room for one more unit where the log isn't full
 pub units_few : (s : State) (r : ℕ) (side : Side) (rec : Recorded) → IsState s → IsAt s r side → side.recording ≡ Some rec → length rec.facts ≤ length s.log
 units_few s r side rec state at begun =
-    facts_few s.config s.log state.legal r (lane_from (Some rec) side.finished) (lane_at s r side (Some rec) at begun)
+    units_are_logged s.config s.log state.legal r (lane_from (Some rec) side.finished) (lane_at s r side (Some rec) at begun)
 
 -- Begin
 pub begin_goes : (s : State) (by : ℕ) (r : ℕ) (old : Side) (init : InitData) (bytes : List ℕ) → IsState s → IsAt s r old → old.recording ≡ None → length s.log < 4194304 → IsInit bytes init → IsRecorded (begun init bytes) → Goes s by (Begin r init bytes) r (record { recording = Some (begun init bytes); finished = old.finished })
@@ -93,7 +100,7 @@ begin_goes s by r old init bytes state at first room read good =
       new = new;
       is = refl;
       take = may_take s by (Begin r init bytes) r old (record { recording = Some (begun init bytes); finished = old.finished }) state read new refl
-          (ap (λ (l : Lane). slice_set (channel s).lanes r (begun_with init (length bytes) l)) lane_was) at
+          (ap (λ (l : Lane). slice_set (channel s).lanes r (begun_with init (length bytes) l)) lane_was) refl at
           (not_finished s r old state at first) (good_side (begun init bytes) old.finished good);
     }
 
@@ -125,7 +132,7 @@ accept_goes s by r old rec next f bytes state at begun fits new next_is open_end
       new = new;
       is = is;
       take = may_take s by (Accept r f bytes) r old (record { recording = Some next; finished = old.finished }) state fits new is
-          (ap (λ (l : Lane). slice_set (channel s).lanes r l) lane_now) at open_ended (good_side next old.finished good);
+          (ap (λ (l : Lane). slice_set (channel s).lanes r l) lane_now) refl at open_ended (good_side next old.finished good);
     }
 
 -- Finish
@@ -145,5 +152,46 @@ finish_goes s by r old rec next state at begun open_ended room next_is good =
       new = new;
       is = is;
       take = may_take s by (Finish r) r old (record { recording = Some next; finished = true }) state tt new is
-          (ap (λ (l : Lane). slice_set (channel s).lanes r l) lane_now) at open_ended (good_side next true good);
+          (ap (λ (l : Lane). slice_set (channel s).lanes r l) lane_now) refl at open_ended (good_side next true good);
+    }
+
+-- Trim
+pub record Trims (s : State) (by r floor : ℕ) (side : Side) : Type 0 where
+  pub new : outcome_of s (Trim r floor) ≡ New
+  pub is : with_side s (entry_of by (Trim r floor)) r side ≡ advanced s by (Trim r floor)
+  pub trim : MayTrim s (entry_of by (Trim r floor)) r side
+
+-- a floor that may rise lies among the units of a rendition that has begun
+pub trim_within : (s : State) (r floor : ℕ) (old : Side) (o : Option Recorded) → IsAt s r old → old.recording ≡ o → (lane_of old).floor < floor → floor ≤ trim_limit (front_of (line s)) r → floor ≤ length (lane_from o old.finished).facts
+trim_within s r floor old o at begun rises far =
+    omega (arith, far, front_within s r (lane_of old) at.lane, ap (λ (x : Option Recorded). length (lane_from x old.finished).facts) begun)
+
+pub trim_begun : (s : State) (r floor : ℕ) (old : Side) → IsAt s r old → old.recording ≡ None → (lane_of old).floor < floor → floor ≤ trim_limit (front_of (line s)) r → ⊥
+trim_begun s r floor old at none rises far =
+    let within = trim_within s r floor old None at none rises far in omega (arith, within, rises)
+
+pub trim_goes : (s : State) (by r floor : ℕ) (old : Side) (rec next : Recorded) → IsState s → IsAt s r old → old.recording ≡ Some rec → (lane_of old).floor < floor → floor ≤ trim_limit (front_of (line s)) r → length s.log < log_limit → next ≡ trimmed rec floor → IsRecorded next → Trims s by r floor (record { recording = Some next; finished = old.finished })
+trim_goes s by r floor old rec next state at begun rises far room next_is good =
+    let at_lane = at.lane in
+    let side : Side = record { recording = Some next; finished = old.finished } in
+    let lane_was = lane_is s r old (Some rec) at begun in
+    let held_was = held_is s r old (Some rec) at begun in
+    let full : nat_le log_limit (length s.log) ≡ false = lt-leb log_limit (length s.log) room in
+    let new : outcome_of s (Trim r floor) ≡ New = rw (at_lane, lt-leb floor (lane_of old).floor rises, le-ltb (trim_limit (front_of (line s)) r) floor far, full) refl in
+    let held_now : held_from (Some next) ≡ less_bytes (held s r) (floor - (lane (channel s) r).floor) = rw (next_is, held_was, lane_was) refl in
+    let bytes_are : slice_set s.bytes r (held_from (Some next)) ≡ slice_set s.bytes r (less_bytes (held s r) (floor - (lane (channel s) r).floor)) =
+    ap (λ (h : Held). slice_set s.bytes r h) held_now in
+    let is : with_side s (entry_of by (Trim r floor)) r side ≡ advanced s by (Trim r floor) =
+    λ k. record { config = s.config; log = s.log ++ entry_of by (Trim r floor) ∷ []; bytes = bytes_are k } in
+    let lane_now : with_floor floor (lane (channel s) r) ≡ lane_from (Some next) old.finished = rw (next_is, lane_was) refl in
+    record {
+      new = new;
+      is = is;
+      trim = record {
+        valid = valid s by (Trim r floor) r side state tt new is;
+        lanes = ap (λ (l : Lane). slice_set (channel s).lanes r l) lane_now;
+        removed = refl;
+        same = ap sources is ∙ sources_trim s by r floor (lane_of old) at_lane;
+        good = good_side next old.finished good;
+      };
     }

@@ -3,5 +3,3 @@ pub mod Taken
 pub mod Goes
 pub mod Compared
 pub mod Moved
-pub mod Growing
-pub mod Sources

@@ -1,7 +1,7 @@
 -- The renditions that a cursor is moved on over are those of the snapshot.
-use Rattle.std.proofs.Common.{arith, ◌≡◌, ℕ, ◌<◌, Bool, List, [], ◌∷◌, ◌++◌, Option, Some, None, length, map, drop, refl, sym, ap, subst, ◌∙◌, append-nil}
+use Rattle.std.proofs.Common.{arith, ◌≡◌, ℕ, zero, suc, ◌+◌, ◌<◌, ◌≤◌, Bool, List, [], ◌∷◌, ◌++◌, Option, Some, None, length, map, drop, refl, sym, ap, subst, ◌∙◌, append-nil}
 use Rattle.std.specs.Prelude.{slice_get}
-use Rattle.std.proofs.lemmas.List.{length-map}
+use Rattle.std.proofs.lemmas.List.{length-map, drop_all}
 use Rattle.hls_blocks.specs.Numbered.{Numbered}
 use Rattle.hls_record.specs.Recorded.{Recorded}
 use Rattle.hls_places_laws.specs.declared.place.Place.{Place}
@@ -18,7 +18,10 @@ use Rattle.hls_core_laws.proofs.Lists.{at_map, at_or, at_below}
 use Rattle.hls_core.specs.declared.placed.Placed.{Placed}
 use Rattle.hls_core.specs.declared.side.Side.{Side}
 use Rattle.hls_core.specs.Gathers.{Lacks}
-use Rattle.hls_core.specs.Placed.{IsPlaced}
+use Rattle.hls_live_laws.specs.Live.{Live, moved, moved_by}
+use Rattle.hls_live_laws.proofs.Lines.{told-none, told-more}
+use Rattle.hls_core_laws.proofs.Lines.{advanced_few}
+use Rattle.hls_core.specs.Placed.{IsPlaced, CanBeTold}
 use Rattle.hls_core.specs.Sides.{lane_of, lane_from, sources_by}
 
 some_is : {A : Type 0} (a b : A) → Some a ≡ Some b → a ≡ b
@@ -82,8 +85,51 @@ bare config sides count l =
       side.facts_are ∙ at_or (map facts_of (map lane_of sides)) l.number [] (lane_of l.side).facts at ∙ lane_bare l.side.recording l.side.finished l.none,
     )
 
-pub placed_without : (config : ConfigData) (sides : List Side) (told : Numbered Place) (position : Position) (p : Placed) → length config.renditions ≡ length sides → Lacks sides → IsCursor position (sources_by config sides) → p.places ≡ told → p.cursor.value ≡ position → IsPlaced (sources_by config sides) told position.done p
-placed_without config sides told position p count l fits same_places same_cursor =
+drop_at : (xs : List Place) (n : ℕ) (q : Place) → slice_get xs n ≡ Some q → drop n xs ≡ q ∷ drop (n + 1) xs
+drop_at [] n q at = cc
+drop_at (x ∷ xs) zero q at = let is : x ≡ q = cc in ap (λ y. y ∷ xs) is
+drop_at (x ∷ xs) (suc n) q at =
+    let step : suc n + 1 ≡ suc (n + 1) = omega arith in
+    rw step (drop_at xs n q at)
+
+-- the line that is told nothing
+none_told : (live : Live) → moved_by live [] ≡ live
+none_told live = let same = told-none live.aim live.removed live.told in
+    λ k. record { aim = live.aim; told = same k; removed = live.removed; breaks = live.breaks }
+
+-- and one place, and then the others
+told_on : (live : Live) (q : Place) (rest : List Place) → moved_by (moved live q) rest ≡ moved_by live (q ∷ rest)
+told_on live q rest = let same = sym (told-more live.aim live.removed live.told q rest) in
+    λ k. record { aim = live.aim; told = same k; removed = live.removed; breaks = live.breaks }
+
+-- one place after the other
+pub record IsTold (first : Live) (all : List Place) (now : Live) (rest : List Place) : Type 0 where
+  pub same : moved_by now rest ≡ moved_by first all
+  pub can : CanBeTold now rest
+
+pub told_from : (first : Live) (all : List Place) → CanBeTold first all → IsTold first all first all
+told_from first all can = record { same = refl; can = can }
+
+pub told_next : (first : Live) (all : List Place) (now next : Live) (rest : List Place) (n : ℕ) (q : Place) → slice_get rest n ≡ Some q → IsTold first all now (drop n rest) → next ≡ moved now q → IsTold first all next (drop (n + 1) rest)
+told_next first all now next rest n q at t is =
+    let split : drop n rest ≡ q ∷ drop (n + 1) rest = drop_at rest n q at in
+    let whole = subst (λ (xs : List Place). IsTold first all now xs) split t in
+    let few = advanced_few now.aim now.removed now.told q in
+    subst (λ (x : Live). IsTold first all x (drop (n + 1) rest)) (sym is) (record {
+      same = told_on now q (drop (n + 1) rest) ∙ whole.same;
+      can = record { room = omega (arith, whole.can.room, few); spots = λ k p there. whole.can.spots (suc k) p there };
+    })
+
+pub told_end : (first : Live) (all : List Place) (now : Live) (rest : List Place) (n : ℕ) → length rest ≤ n → IsTold first all now (drop n rest) → now ≡ moved_by first all
+told_end first all now rest n past t =
+    let none : drop n rest ≡ [] = drop_all n rest past in
+    sym (none_told now) ∙ ap (moved_by now) (sym none) ∙ t.same
+
+pub told_here : (first : Live) (all : List Place) (now : Live) (rest : List Place) (n : ℕ) (q : Place) → slice_get rest n ≡ Some q → IsTold first all now (drop n rest) → CanBeTold now (q ∷ drop (n + 1) rest)
+told_here first all now rest n q at t = subst (λ (xs : List Place). CanBeTold now xs) (drop_at rest n q at) t.can
+
+pub placed_without : (config : ConfigData) (sides : List Side) (told : Numbered Place) (position : Position) (live : Live) (p : Placed) → length config.renditions ≡ length sides → Lacks sides → IsCursor position (sources_by config sides) → p.places ≡ told → p.cursor.value ≡ position → p.line.value ≡ live → IsPlaced (sources_by config sides) told position.done live p
+placed_without config sides told position live p count l fits same_places same_cursor same_line =
     let source = bare config sides count l in
     let none : places_after (sources_by config sides) position.done ≡ [] =
     after-without (sources_by config sides) l.number source.0 source.1 position.done in
@@ -94,10 +140,11 @@ placed_without config sides told position p count l fits same_places same_cursor
       places = λ k. record { first = first k; items = items k };
       cursor = subst (λ (x : Position). IsCursor x (sources_by config sides)) (sym same_cursor) fits;
       through = found-without (sources_by config sides) l.number source.0 source.1 (drop p.cursor.value.done (first_facts (sources_by config sides)));
+      line_is = same_line ∙ sym (none_told live) ∙ ap (moved_by live) (sym none);
     }
 
-pub placed_on : (sources : List Source) (told : Numbered Place) (done : ℕ) (a : Advance) (p : Placed) → IsAdvance sources done a → p.places ≡ record { first = told.first; items = told.items ++ a.places.items } → p.cursor.value ≡ a.cursor → IsPlaced sources told done p
-placed_on sources told done a p on places cursor =
+pub placed_on : (sources : List Source) (told : Numbered Place) (done : ℕ) (live : Live) (a : Advance) (p : Placed) → IsAdvance sources done a → p.places ≡ record { first = told.first; items = told.items ++ a.places.items } → p.cursor.value ≡ a.cursor → p.line.value ≡ moved_by live a.places.items → IsPlaced sources told done live p
+placed_on sources told done live a p on places cursor line =
     let first : p.places.first ≡ told.first = ap (λ x. x.first) places in
     let items : p.places.items ≡ told.items ++ places_after sources done =
     ap (λ x. x.items) places ∙ ap (λ (xs : List Place). told.items ++ xs) on.places in
@@ -105,4 +152,5 @@ placed_on sources told done a p on places cursor =
       places = λ k. record { first = first k; items = items k };
       cursor = subst (λ (x : Position). IsCursor x sources) (sym cursor) on.cursor;
       through = subst (λ (x : Position). IsThrough x sources) (sym cursor) on.through;
+      line_is = line ∙ ap (moved_by live) on.places;
     }

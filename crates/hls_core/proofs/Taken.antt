@@ -1,11 +1,22 @@
 -- A snapshot's parts stay one state: at the opening, and where one side is put in place of another.
-use Rattle.std.proofs.Common.{◌≡◌, ℕ, suc, ◌+◌, ◌<◌, ◌≤◌, Bool, true, false, List, [], ◌∷◌, ◌++◌, Option, Some, None, length, map, refl, sym, ap, subst, inl, inr, ◌∙◌, arith, length-append}
+use Rattle.std.proofs.Common.{◌≡◌, ℕ, suc, ◌+◌, ◌*◌, ◌<◌, ◌≤◌, Bool, true, false, List, [], ◌∷◌, ◌++◌, Option, Some, None, length, map, get_or, refl, sym, ap, subst, inl, inr, ◌∙◌, arith, length-append}
 use Rattle.std.specs.Prelude.{slice_get, slice_set, if◌then◌else◌}
 use Rattle.std.specs.List.{filter_map, cons_option, list_all}
 use Rattle.hls_blocks.specs.Numbered.{next_of}
 use Rattle.hls_places_laws.specs.declared.place.Place.{Place}
 use Rattle.hls_places_laws.specs.Sources.{Source, source_at, sources_of, first_facts}
-use Rattle.hls_places_laws.specs.Places.{places_after, place_at, closing_of, is_over, end_of}
+use Rattle.hls_places_laws.specs.Places.{places_of, places_after, common_at, closing_of, has_ended, end_in}
+use Rattle.hls_places_laws.specs.Order.{no_place}
+use Rattle.hls_places_laws.proofs.Ordered.{places-ordered}
+use Rattle.std.proofs.lemmas.Option.{slice_get-get_or}
+use Rattle.hls_live_laws.specs.Live.{Live, fresh as fresh_line, live_of, moved_by, slid}
+use Rattle.hls_live_laws.specs.Told.{told}
+use Rattle.hls_core_laws.specs.declared.event.Event.TheVariants.{Slide}
+use Rattle.hls_core_laws.specs.Line.{aim_of, line}
+use Rattle.hls_core_laws.specs.Outcome.{New, outcome_of}
+use Rattle.hls_core_laws.specs.Moves.{entry_of, advanced}
+use Rattle.hls_core_laws.proofs.Advance.{channel_advanced, advanced_state}
+use Rattle.hls_core_laws.proofs.Removed.{line_few, line_goes_on, line_slides, line_stays, sources_slide}
 use Rattle.hls_places_laws.specs.Positions.{Position, first_position, IsCursor, IsThrough}
 use Rattle.hls_places_laws.specs.Growth.{Continues as PlacesContinue}
 use Rattle.hls_places_laws.proofs.Appends.{continues}
@@ -22,11 +33,13 @@ use Rattle.hls_core_laws.specs.State.{State, no_held, channel}
 use Rattle.hls_core_laws.specs.IsState.{IsState}
 use Rattle.hls_core_laws.specs.Runs.{first_state, nothing_held}
 use Rattle.hls_core_laws.proofs.Lists.{at_map, at_set, at_some, at_below, mapped_at, length_set}
-use Rattle.hls_core_laws.proofs.Logs.{channel_from-snoc, facts_few}
+use Rattle.hls_core_laws.proofs.Logs.{channel_from-snoc}
+use Rattle.hls_core_laws.proofs.Theorems.{units_are_logged, states_are_timed}
 use Rattle.hls_core_laws.proofs.Runs.{first_is_state}
 use Rattle.hls_core.specs.declared.side.Side.{Side}
 use Rattle.hls_core.specs.declared.snapshot.Snapshot.TheInside.{Inside}
-use Rattle.hls_core.specs.Sides.{lane_of, held_of, fresh_side, sources_by, IsAt, IsGood, with_side, MayTake}
+use Rattle.hls_core.specs.Sides.{lane_of, held_of, fresh_side, sources_by, IsAt, IsGood, with_side, MayTake, MayTrim}
+use Rattle.hls_core.specs.Placed.{CanBeTold}
 use Rattle.hls_core.specs.Kept.{sides_of, seen, IsKept}
 
 filtered : {X Y : Type 0} (f : X → Option Y) (xs : List X) → length (filter_map f xs) ≤ length xs
@@ -45,9 +58,24 @@ places_few : (s : State) → IsState s → length (places s) ≤ 4194305
 places_few s state =
     let lane_at = at_some (channel s).lanes 0 (omega (arith, lanes_count s.config s.log, state.configured.renditions.some)) in
     let facts : length (first_facts (sources s)) ≡ length lane_at.0.facts = ap length (source_of s 0 lane_at.0 lane_at.1).facts in
-    let found = filtered (place_at (sources s)) (first_facts (sources s)) in
-    let end = closed (list_all is_over (sources s)) (record { spots = map end_of (sources s); closing = true }) in
-    omega (arith, facts, found, end, state.few, facts_few s.config s.log state.legal 0 lane_at.0 lane_at.1, length-append (filter_map (place_at (sources s)) (first_facts (sources s))) (closing_of (sources s)))
+    let found = filtered (common_at (sources s)) (first_facts (sources s)) in
+    let end = closed (list_all has_ended (sources s)) (record { spots = map end_in (sources s); closing = true }) in
+    omega (arith, facts, found, end, state.few, units_are_logged s.config s.log state.legal 0 lane_at.0 lane_at.1, length-append (filter_map (common_at (sources s)) (first_facts (sources s))) (closing_of (sources s)))
+
+-- a place has a spot in each rendition
+some_spots : (s : State) → IsState s → (k : ℕ) (p : Place) → slice_get (places s) k ≡ Some p → 0 < length p.spots
+some_spots s state k p at =
+    let are = states_are_timed s state in
+    let below = at_below (places s) k p at in
+    let here = (places-ordered (sources s) are).each k no_place below in
+    let same : get_or (places s) k no_place ≡ p = let there = slice_get-get_or (places s) k no_place below in cc in
+    omega (arith, are.some, here.place.count, ap (λ (q : Place). length q.spots) same)
+
+at_behind : (xs ys : List Place) (k : ℕ) (p : Place) → slice_get ys k ≡ Some p → slice_get (xs ++ ys) (length xs + k) ≡ Some p
+at_behind [] ys k p at = let same : 0 + k ≡ k = omega arith in rw same at
+at_behind (x ∷ xs) ys k p at =
+    let same : suc (length xs) + k ≡ suc (length xs + k) = omega arith in
+    rw same (at_behind xs ys k p at)
 
 -- what a cursor that is moved on needs, where a side is put in place of another
 pub record Ahead (i : Inside) (config : ConfigData) (sides : List Side) : Type 0 where
@@ -56,6 +84,7 @@ pub record Ahead (i : Inside) (config : ConfigData) (sides : List Side) : Type 0
   pub count : length config.renditions ≡ length sides
   pub some : 1 ≤ length sides
   pub few : length sides ≤ 16
+  pub told : CanBeTold i.line.value (places_after (sources_by config sides) i.cursor.value.done)
 
 sources_put : (i : Inside) (entry : Entry) (r : ℕ) (side : Side) → IsKept i → MayTake (seen i) entry r side → sources_by i.config (slice_set (sides_of i) r side) ≡ sources (with_side (seen i) entry r side)
 sources_put i entry r side kept take =
@@ -82,6 +111,11 @@ ahead_put i entry r side kept take =
     let whole : length (places s) ≡ length (places (seen i)) + length (places_after (sources s) i.cursor.value.done) =
     ap length on.places ∙ length-append (places (seen i)) (places_after (sources s) i.cursor.value.done) in
     let room : next_of i.places + length (places_after (sources s) i.cursor.value.done) < 16777216 = omega arith in
+    let told_room : i.line.value.removed + length i.line.value.told.line.segments + 2 * length (places_after (sources s) i.cursor.value.done) < 16777215 =
+    omega (arith, few, whole, line_few (seen i) kept.valid, ap (λ (l : Live). l.removed) kept.line_is, ap (λ (l : Live). length l.told.line.segments) kept.line_is) in
+    let spots : (k : ℕ) (p : Place) → slice_get (places_after (sources s) i.cursor.value.done) k ≡ Some p → 0 < length p.spots =
+    λ k p at. some_spots s take.valid (length (places (seen i)) + k) p
+    (subst (λ (ps : List Place). slice_get ps (length (places (seen i)) + k) ≡ Some p) (sym on.places) (at_behind (places (seen i)) (places_after (sources s) i.cursor.value.done) k p at)) in
     let sides : length (slice_set (sides_of i) r side) ≡ length i.config.renditions =
     length_set (sides_of i) r side ∙ sym (length-map (sides_of i) lane_of) ∙ ap length kept.lanes ∙ lanes_count i.config i.log.items in
     let rs = kept.valid.configured.renditions in
@@ -91,6 +125,7 @@ ahead_put i entry r side kept take =
       count = sym sides;
       some = omega (arith, rs.some);
       few = omega (arith, rs.few);
+      told = subst (λ (x : List Source). CanBeTold i.line.value (places_after x i.cursor.value.done)) (sym is) (record { room = told_room; spots = spots });
     }
 
 pub ahead : (i : Inside) (s : State) (entry : Entry) (r : ℕ) (side : Side) (config : ConfigData) (sides : List Side) → seen i ≡ s → IsKept i → MayTake s entry r side → config ≡ i.config → sides ≡ slice_set (sides_of i) r side → Ahead i config sides
@@ -107,6 +142,7 @@ pub record Puts (i n : Inside) (entry : Entry) (r : ℕ) (side : Side) : Type 0 
   pub places : n.places ≡ record { first = i.places.first; items = i.places.items ++ places_after (sources_by n.config (sides_of n)) i.cursor.value.done }
   pub cursor : IsCursor n.cursor.value (sources_by n.config (sides_of n))
   pub through : IsThrough n.cursor.value (sources_by n.config (sides_of n))
+  pub line_is : n.line.value ≡ moved_by i.line.value (places_after (sources_by n.config (sides_of n)) i.cursor.value.done)
 
 seen_puts : (i n : Inside) (entry : Entry) (r : ℕ) (side : Side) → Puts i n entry r side → seen n ≡ with_side (seen i) entry r side
 seen_puts i n entry r side p =
@@ -126,6 +162,11 @@ good_puts i n entry r side kept good sides q x at =
       | inl here ↦ subst (λ (y : Side). IsGood y) here.1 good
       | inr other ↦ kept.good q x other.1
     ]
+
+removed_put : (i n : Inside) (entry : Entry) (r : ℕ) (side : Side) → IsKept i → MayTake (seen i) entry r side → Puts i n entry r side → (channel (seen n)).removed ≡ (channel (seen i)).removed
+removed_put i n entry r side kept take p =
+    ap (λ (s : State). (channel s).removed) (seen_puts i n entry r side p)
+    ∙ ap (λ (ch : Channel). ch.removed) (channel_from-snoc (opening i.config) i.log.items entry) ∙ take.removed
 
 kept_puts : (i n : Inside) (entry : Entry) (r : ℕ) (side : Side) → IsKept i → MayTake (seen i) entry r side → Puts i n entry r side → IsKept n
 kept_puts i n entry r side kept take p =
@@ -155,6 +196,11 @@ kept_puts i n entry r side kept take p =
       places = λ k. record { first = first k; items = items k };
       cursor = subst (λ (x : List Source). IsCursor n.cursor.value x) by p.cursor;
       through = subst (λ (x : List Source). IsThrough n.cursor.value x) by p.through;
+      line_is = p.line_is
+          ∙ ap (λ (x : List Source). moved_by i.line.value (places_after x i.cursor.value.done)) by
+          ∙ ap (λ (l : Live). moved_by l (places_after (sources (seen n)) i.cursor.value.done)) kept.line_is
+          ∙ sym (line_goes_on (seen i) (seen n) (places_after (sources (seen n)) i.cursor.value.done) kept.valid p.config on.places
+          (removed_put i n entry r side kept take p));
     }
 
 pub kept_put : (i n : Inside) (s : State) (entry : Entry) (r : ℕ) (side : Side) → seen i ≡ s → IsKept i → MayTake s entry r side → Puts i n entry r side → IsKept n
@@ -195,9 +241,9 @@ opening_source config good =
     let lane_at : slice_get (channel s).lanes 0 ≡ Some no_lane = at_map fresh config.renditions 0 first.0 first.1 in
     (omega (arith, sources_count s, at_below (channel s).lanes 0 no_lane lane_at), (source_of s 0 no_lane lane_at).facts)
 
-pub kept_first : (n : Inside) (config : ConfigData) → IsConfig config → n.config ≡ config → n.log ≡ record { first = 0; items = [] } → sides_of n ≡ map fresh_side config.renditions → n.places ≡ record { first = 0; items = [] } → n.cursor.value ≡ first_position (length config.renditions) → IsKept n
-unfolding channel_from
-kept_first n config good is log sides no_places cursor =
+pub kept_first : (n : Inside) (config : ConfigData) → IsConfig config → n.config ≡ config → n.log ≡ record { first = 0; items = [] } → sides_of n ≡ map fresh_side config.renditions → n.places ≡ record { first = 0; items = [] } → n.cursor.value ≡ first_position (length config.renditions) → n.line.value ≡ fresh_line (aim_of config) → IsKept n
+unfolding channel_from told
+kept_first n config good is log sides no_places cursor line_first =
     let whole : seen n ≡ first_state config = seen_first n config is log sides in
     let source = opening_source config good in
     let none : places (first_state config) ≡ [] = after-without (sources (first_state config)) 0 source.0 source.1 0 in
@@ -222,4 +268,111 @@ kept_first n config good is log sides no_places cursor =
           (subst (λ (s : State). IsCursor (first_position (length config.renditions)) (sources s)) (sym whole) fits);
       through = subst (λ (p : Position). IsThrough p (sources (seen n))) (sym cursor)
           (subst (λ (s : State). IsThrough (first_position (length config.renditions)) (sources s)) (sym whole) through);
+      line_is = line_first ∙ ap (λ (ps : List Place). live_of (aim_of config) ps 0) (sym none) ∙ ap line (sym whole);
     }
+
+-- a trim: places and line stay
+pub record TrimPuts (i n : Inside) (entry : Entry) (r : ℕ) (side : Side) : Type 0 where
+  pub config : n.config ≡ i.config
+  pub log : n.log ≡ record { first = i.log.first; items = i.log.items ++ entry ∷ [] }
+  pub sides : sides_of n ≡ slice_set (sides_of i) r side
+  pub places : n.places ≡ i.places
+  pub cursor : n.cursor.value ≡ i.cursor.value
+  pub line_is : n.line.value ≡ i.line.value
+
+seen_trims : (i n : Inside) (entry : Entry) (r : ℕ) (side : Side) → TrimPuts i n entry r side → seen n ≡ with_side (seen i) entry r side
+seen_trims i n entry r side p =
+    let log : n.log.items ≡ i.log.items ++ entry ∷ [] = ap (λ l. l.items) p.log in
+    let bytes : map held_of (sides_of n) ≡ slice_set (map held_of (sides_of i)) r (held_of side) =
+    ap (map held_of) p.sides ∙ map-set held_of (sides_of i) r side in
+    λ k. record { config = p.config k; log = log k; bytes = bytes k }
+
+kept_trims : (i n : Inside) (entry : Entry) (r : ℕ) (side : Side) → IsKept i → MayTrim (seen i) entry r side → TrimPuts i n entry r side → IsKept n
+kept_trims i n entry r side kept trim p =
+    let is : seen n ≡ with_side (seen i) entry r side = seen_trims i n entry r side p in
+    let now : channel (with_side (seen i) entry r side) ≡ after entry.event (channel (seen i)) =
+    channel_from-snoc (opening i.config) i.log.items entry in
+    let lanes : map lane_of (sides_of n) ≡ slice_set (map lane_of (sides_of i)) r (lane_of side) =
+    ap (map lane_of) p.sides ∙ map-set lane_of (sides_of i) r side in
+    let lanes_now : map lane_of (sides_of n) ≡ (channel (seen n)).lanes =
+    lanes ∙ ap (λ (ls : List Lane). slice_set ls r (lane_of side)) kept.lanes ∙ sym trim.lanes
+    ∙ ap (λ ch. ch.lanes) (sym now) ∙ ap (λ (s : State). (channel s).lanes) (sym is) in
+    let same : sources (seen n) ≡ sources (seen i) = ap sources is ∙ trim.same in
+    let removed : (channel (seen n)).removed ≡ (channel (seen i)).removed =
+    ap (λ (s : State). (channel s).removed) is ∙ ap (λ (ch : Channel). ch.removed) now ∙ trim.removed in
+    let first : n.places.first ≡ 0 = ap (λ l. l.first) p.places ∙ ap (λ l. l.first) kept.places in
+    let items : n.places.items ≡ places (seen n) =
+    ap (λ l. l.items) p.places ∙ ap (λ l. l.items) kept.places ∙ ap places_of (sym same) in
+    record {
+      all = ap (λ l. l.first) p.log ∙ kept.all;
+      lanes = lanes_now;
+      valid = subst (λ (s : State). IsState s) (sym is) trim.valid;
+      good = good_puts i n entry r side kept trim.good p.sides;
+      places = λ k. record { first = first k; items = items k };
+      cursor = subst (λ (x : Position). IsCursor x (sources (seen n))) (sym p.cursor) (subst (λ (x : List Source). IsCursor i.cursor.value x) (sym same) kept.cursor);
+      through = subst (λ (x : Position). IsThrough x (sources (seen n))) (sym p.cursor) (subst (λ (x : List Source). IsThrough i.cursor.value x) (sym same) kept.through);
+      line_is = p.line_is ∙ kept.line_is ∙ sym (line_stays (seen i) (seen n) p.config same removed);
+    }
+
+pub kept_trim : (i n : Inside) (s : State) (entry : Entry) (r : ℕ) (side : Side) → seen i ≡ s → IsKept i → MayTrim s entry r side → TrimPuts i n entry r side → IsKept n
+kept_trim i n s entry r side is kept trim p =
+    kept_trims i n entry r side kept (subst (λ (x : State). MayTrim x entry r side) (sym is) trim) p
+
+pub seen_trim : (i n : Inside) (s : State) (entry : Entry) (r : ℕ) (side : Side) → seen i ≡ s → TrimPuts i n entry r side → seen n ≡ with_side s entry r side
+seen_trim i n s entry r side is p =
+    subst (λ (x : State). seen n ≡ with_side x entry r side) is (seen_trims i n entry r side p)
+
+-- a slide: the line alone is another
+pub record SlidePuts (i n : Inside) (by count : ℕ) : Type 0 where
+  pub config : n.config ≡ i.config
+  pub log : n.log ≡ record { first = i.log.first; items = i.log.items ++ entry_of by (Slide count) ∷ [] }
+  pub sides : sides_of n ≡ sides_of i
+  pub places : n.places ≡ i.places
+  pub cursor : n.cursor.value ≡ i.cursor.value
+  pub line_is : n.line.value ≡ slid count (line (seen i))
+
+seen_slides : (i n : Inside) (by count : ℕ) → SlidePuts i n by count → seen n ≡ advanced (seen i) by (Slide count)
+seen_slides i n by count p =
+    let log : n.log.items ≡ i.log.items ++ entry_of by (Slide count) ∷ [] = ap (λ l. l.items) p.log in
+    let bytes : map held_of (sides_of n) ≡ map held_of (sides_of i) = ap (map held_of) p.sides in
+    λ k. record { config = p.config k; log = log k; bytes = bytes k }
+
+kept_slides : (i n : Inside) (by count : ℕ) → IsKept i → outcome_of (seen i) (Slide count) ≡ New → SlidePuts i n by count → IsKept n
+kept_slides i n by count kept new p =
+    let is : seen n ≡ advanced (seen i) by (Slide count) = seen_slides i n by count p in
+    let lanes_now : map lane_of (sides_of n) ≡ (channel (seen n)).lanes =
+    ap (map lane_of) p.sides ∙ kept.lanes ∙ ap (λ ch. ch.lanes) (sym (channel_advanced (seen i) by (Slide count)))
+    ∙ ap (λ (s : State). (channel s).lanes) (sym is) in
+    let same : sources (seen n) ≡ sources (seen i) = ap sources is ∙ sources_slide (seen i) by count in
+    let first : n.places.first ≡ 0 = ap (λ l. l.first) p.places ∙ ap (λ l. l.first) kept.places in
+    let items : n.places.items ≡ places (seen n) =
+    ap (λ l. l.items) p.places ∙ ap (λ l. l.items) kept.places ∙ ap places_of (sym same) in
+    record {
+      all = ap (λ l. l.first) p.log ∙ kept.all;
+      lanes = lanes_now;
+      valid = subst (λ (s : State). IsState s) (sym is) (advanced_state (seen i) by (Slide count) kept.valid tt new);
+      good = λ q x at. kept.good q x (subst (λ (xs : List Side). slice_get xs q ≡ Some x) p.sides at);
+      places = λ k. record { first = first k; items = items k };
+      cursor = subst (λ (x : Position). IsCursor x (sources (seen n))) (sym p.cursor) (subst (λ (x : List Source). IsCursor i.cursor.value x) (sym same) kept.cursor);
+      through = subst (λ (x : Position). IsThrough x (sources (seen n))) (sym p.cursor) (subst (λ (x : List Source). IsThrough i.cursor.value x) (sym same) kept.through);
+      line_is = p.line_is ∙ sym (line_slides (seen i) by count) ∙ ap line (sym is);
+    }
+
+-- its parts, where the line of the state is given
+pub slide_puts : (i n : Inside) (s : State) (by count : ℕ) → seen i ≡ s → n.config ≡ i.config → n.log ≡ record { first = i.log.first; items = i.log.items ++ entry_of by (Slide count) ∷ [] } → sides_of n ≡ sides_of i → n.places ≡ i.places → n.cursor.value ≡ i.cursor.value → n.line.value ≡ slid count (line s) → SlidePuts i n by count
+slide_puts i n s by count is config log sides same_places cursor slid_line = record {
+  config = config;
+  log = log;
+  sides = sides;
+  places = same_places;
+  cursor = cursor;
+  line_is = slid_line ∙ ap (λ (x : State). slid count (line x)) (sym is);
+}
+
+pub kept_slide : (i n : Inside) (s : State) (by count : ℕ) → seen i ≡ s → IsKept i → outcome_of s (Slide count) ≡ New → SlidePuts i n by count → IsKept n
+kept_slide i n s by count is kept new p =
+    kept_slides i n by count kept (subst (λ (x : State). outcome_of x (Slide count) ≡ New) (sym is) new) p
+
+pub seen_slide : (i n : Inside) (s : State) (by count : ℕ) → seen i ≡ s → SlidePuts i n by count → seen n ≡ advanced s by (Slide count)
+seen_slide i n s by count is p =
+    subst (λ (x : State). seen n ≡ advanced x by (Slide count)) is (seen_slides i n by count p)

@@ -1,7 +1,7 @@
 -- What makes a configuration, or is wrong with it first.
 use Rattle.std.specs.Prelude.{◌≡◌, ◌⊎◌, ℕ, ◌*◌, ◌<◌, ◌≤◌, List, Result, Ok, Err}
 use Rattle.hls_core_laws.specs.declared.rendition.Rendition.{Rendition}
-use Rattle.hls_core_laws.specs.Config.{ConfigData, IsConfig}
+use Rattle.hls_core_laws.specs.Config.{ConfigData, IsTarget, IsPreferred, IsConfig}
 use Rattle.hls_core.specs.declared.config.Config.{Config}
 use Rattle.hls_core.specs.declared.config.ConfigFault.{ConfigFault}
 use Rattle.hls_core.specs.declared.config.ConfigFault.TheVariants.{BadTarget, BadPreferred, BadRendition, Memory}
@@ -9,12 +9,6 @@ use Rattle.hls_core.specs.FirstBad.{IsFirstBad}
 
 abbrev pub configured : ℕ → ℕ → List Rendition → ConfigData
 configured target preferred rs = record { target = target; preferred = preferred; renditions = rs }
-
-abbrev pub IsTarget : ℕ → Type 0
-IsTarget target = (1 ≤ target) × (target ≤ 3600)
-
-abbrev pub IsPreferred : ℕ → ℕ → Type 0
-IsPreferred target preferred = (1 ≤ preferred) × (preferred ≤ target * 1000000)
 
 -- the first cause, in this order; want of memory comes last
 abbrev pub Configures : ℕ → ℕ → List Rendition → Result Config ConfigFault → Type 0

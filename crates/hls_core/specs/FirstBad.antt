@@ -1,5 +1,5 @@
 -- The first rendition that may not stand where it stands.
-use Rattle.std.specs.Prelude.{◌≡◌, ◌⊎◌, ℕ, ◌<◌, ◌≤◌, Bool, List, length, Some, slice_get}
+use Rattle.std.specs.Prelude.{◌≡◌, ◌⊎◌, ℕ, ◌<◌, Bool, List, [], length, Some, slice_get}
 use Rattle.std.specs.List.{list_any}
 use Rattle.std.specs.Str.{bytes_eq}
 use Rattle.hls_core_laws.specs.declared.rendition.Rendition.{Rendition}
@@ -9,9 +9,24 @@ use Rattle.hls_core_laws.specs.Config.{IsRenditionAt}
 abbrev pub bears_name : List Rendition → List ℕ → Bool
 bears_name rs name = list_any (λ r. bytes_eq r.name name) rs
 
--- all before number n may stand where they stand; rendition n may not, or is a seventeenth, or there is none at all
-pub record IsFirstBad (rs : List Rendition) (n : ℕ) : Type 0 where
-  pub before : (k : ℕ) (r : Rendition) → k < n → slice_get rs k ≡ Some r → IsRenditionAt rs k r
-  pub most : n ≤ 16
-  pub there : (n ≡ 0) ⊎ (n < length rs)
-  pub bad : (r : Rendition) → n < 16 → slice_get rs n ≡ Some r → IsRenditionAt rs n r → ⊥
+-- each rendition before number n may stand where it stands
+abbrev pub AreGoodBefore : List Rendition → ℕ → Type 0
+AreGoodBefore rs n = (k : ℕ) (r : Rendition) → k < n → slice_get rs k ≡ Some r → IsRenditionAt rs k r
+
+-- rendition n may not stand where it stands, and each before it may
+pub record IsBadAt (rs : List Rendition) (n : ℕ) : Type 0 where
+  pub before : AreGoodBefore rs n
+  pub few : n < 16
+  pub rendition : Rendition
+  pub at : slice_get rs n ≡ Some rendition
+  pub bad : IsRenditionAt rs n rendition → ⊥
+
+-- sixteen renditions that may stand where they stand, and a seventeenth
+pub record IsSeventeenth (rs : List Rendition) (n : ℕ) : Type 0 where
+  pub before : AreGoodBefore rs 16
+  pub number : n ≡ 16
+  pub there : 16 < length rs
+
+-- there is none at all, and n is 0; or rendition n is bad; or n is the number of a seventeenth
+abbrev pub IsFirstBad : List Rendition → ℕ → Type 0
+IsFirstBad rs n = ((rs ≡ []) × (n ≡ 0)) ⊎ IsBadAt rs n ⊎ IsSeventeenth rs n

@@ -4,6 +4,7 @@ use Rattle.hls_places_laws.specs.Positions.{IsCursor, IsThrough}
 use Rattle.hls_core_laws.specs.State.{State, channel}
 use Rattle.hls_core_laws.specs.IsState.{IsState}
 use Rattle.hls_core_laws.specs.Places.{sources, places}
+use Rattle.hls_core_laws.specs.Line.{line}
 use Rattle.hls_core.specs.declared.side.Side.{Side}
 use Rattle.hls_core.specs.declared.snapshot.Snapshot.TheInside.{Inside}
 use Rattle.hls_core.specs.Sides.{lane_of, held_of, IsGood}
@@ -23,3 +24,5 @@ pub record IsKept (i : Inside) : Type 0 where
   pub places : i.places ≡ record { first = 0; items = places (seen i) }
   pub cursor : IsCursor i.cursor.value (sources (seen i))
   pub through : IsThrough i.cursor.value (sources (seen i))
+  -- and the live line of these places
+  pub line_is : i.line.value ≡ line (seen i)

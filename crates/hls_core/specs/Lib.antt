@@ -5,7 +5,5 @@ pub mod Sides
 pub mod Kept
 pub mod Reads
 pub mod Steps
-pub mod SameUnits
 pub mod Placed
 pub mod Gathers
-pub mod Appended

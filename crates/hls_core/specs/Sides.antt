@@ -56,5 +56,14 @@ pub record MayTake (s : State) (entry : Entry) (r : ℕ) (side : Side) : Type 0 
   pub valid : IsState (with_side s entry r side)
   pub lanes : (after entry.event (channel s)).lanes ≡ slice_set (channel s).lanes r (lane_of side)
   pub continues : Continues s (with_side s entry r side)
+  pub removed : (after entry.event (channel s)).removed ≡ (channel s).removed
   pub live : IsLive (sources s)
+  pub good : IsGood side
+
+-- the same, where nothing changes but what is kept of a rendition's units
+pub record MayTrim (s : State) (entry : Entry) (r : ℕ) (side : Side) : Type 0 where
+  pub valid : IsState (with_side s entry r side)
+  pub lanes : (after entry.event (channel s)).lanes ≡ slice_set (channel s).lanes r (lane_of side)
+  pub removed : (after entry.event (channel s)).removed ≡ (channel s).removed
+  pub same : sources (with_side s entry r side) ≡ sources s
   pub good : IsGood side

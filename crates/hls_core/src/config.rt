@@ -139,7 +139,10 @@ fn first_bad(renditions: &[Rendition]) -> Option<usize>
         return Some(0);
     }
     for (n, rendition) in renditions.iter().enumerate() {
-        if n == 16 || !is_rendition_at(renditions, n, rendition) {
+        if n == 16 {
+            return Some(n);
+        }
+        if !is_rendition_at(renditions, n, rendition) {
             return Some(n);
         }
     }

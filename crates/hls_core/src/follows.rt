@@ -1,6 +1,5 @@
 ghost use Rattle.std.specs.Prelude.{◌≡◌, ◌↔◌, ℕ, ◌-◌, ◌≤◌, IsTrue, List, Some, slice_get};
-ghost use Rattle.hls_core_laws.specs.Follows.{Follows, AreSame, SameHeld};
-ghost use Rattle.hls_core.specs.SameUnits.{SameUnits};
+ghost use Rattle.hls_core_laws.specs.Follows.{Follows, Continues, AreSame, SameHeld, SameUnits};
 ghost use Rattle.hls_core.specs.Sides.{lane_of, held_of};
 
 use crate::same::{begins, same_config};
@@ -11,7 +10,8 @@ use hls_record::Recording;
 /// Whether `b` follows `a`: both have one configuration, the log of `a` begins that of `b`, and every init section and unit
 /// that both keep has the same bytes in both. It takes no memory.
 pub fn follows(a: &Snapshot, b: &Snapshot) -> bool
-    ensures { IsTrue result ↔ Follows a.now b.now }
+    ensures continues { IsTrue result ↔ Continues a.now b.now }
+    ensures follows { IsTrue result ↔ Follows a.now b.now }
 {
     if !same_config(a.config(), b.config()) {
         return false;
@@ -54,7 +54,7 @@ fn same_side(a: &Side, b: &Side) -> bool
 
 /// Whether the units that both recordings keep are the same.
 fn same_units(a: &Recording, b: &Recording) -> bool
-    ensures { IsTrue result ↔ SameUnits a.now b.now }
+    ensures { IsTrue result ↔ SameUnits a.now.floor b.now.floor a.now.units b.now.units }
 {
     for n in 0..a.count() {
         if let (Some(x), Some(y)) = (a.unit(n), b.unit(n)) {

@@ -2,43 +2,50 @@ ghost use Rattle.std.specs.Prelude.{◌≡◌, ℕ, ◌+◌, ◌<◌, ◌≤◌,
 ghost use Rattle.hls_blocks.specs.Numbered.{Numbered, next_of};
 ghost use Rattle.hls_places_laws.specs.Places.{places_after};
 ghost use Rattle.hls_places_laws.specs.Positions.{IsCursor};
+ghost use Rattle.hls_live_laws.specs.Live.{moved_by};
 ghost use Rattle.hls_core_laws.specs.Places.{tolerance_of, is_finished};
 ghost use Rattle.hls_core.specs.Gathers.{Lacks};
+ghost use Rattle.hls_core.specs.Placed.{CanBeTold};
 ghost use Rattle.hls_core.specs.Sides.{lane_of, sources_by};
 
 use crate::config::Config;
 use crate::side::Side;
 use hls_blocks::Shared;
 use hls_core_laws::rendition::Rendition;
+use hls_live::LiveLine;
 use hls_places::{Cursor, Place};
 use hls_record::Recording;
 use std::alloc::{AllocError, Global};
 use std::sync::Arc;
 
-/// The common places told so far, and how far the search has come.
+/// The common places told so far, how far the search has come, and the live line of these places.
 #[derive(Drop)]
 pub(crate) struct Placed {
     pub(crate) places: Shared<Place>,
     pub(crate) cursor: Arc<Cursor>,
+    pub(crate) line: Arc<LiveLine>,
 }
 
 impl Placed {
     ghost use Rattle.hls_core.specs.Placed.{IsPlaced};
 
-    /// The places with those that are decided by now at their end. While some rendition hasn't begun there are none.
+    /// The places with those that are decided by now at their end, which the line is told. While some rendition hasn't begun
+    /// there are none.
     pub(crate) fn moved_on(
         alloc: Global,
         config: &Config,
         sides: &[Arc<Side>],
         places: &Shared<Place>,
         cursor: &Arc<Cursor>,
+        line: &Arc<LiveLine>,
     ) -> Result<Placed, AllocError>
         requires some { 1 ≤ length sides.now }
         requires few { length sides.now ≤ 16 }
         requires count { length config.now.renditions ≡ length sides.now }
         requires cursor { IsCursor cursor.now.value (sources_by config.now (map (λ a. a.value) sides.now)) }
         requires room { next_of places.now + length (places_after (sources_by config.now (map (λ a. a.value) sides.now)) cursor.now.value.done) < 16777216 }
-        ensures { IfOk result (IsPlaced (sources_by config.now (map (λ a. a.value) sides.now)) places.now cursor.now.value.done) }
+        requires told { CanBeTold line.now.value (places_after (sources_by config.now (map (λ a. a.value) sides.now)) cursor.now.value.done) }
+        ensures { IfOk result (IsPlaced (sources_by config.now (map (λ a. a.value) sides.now)) places.now cursor.now.value.done line.now.value) }
     {
         let gathered = recordings_of(alloc, sides)?;
         let recordings = match gathered {
@@ -47,15 +54,18 @@ impl Placed {
                 return Ok(Placed {
                     places: places.share(alloc)?,
                     cursor: Arc::try_clone(cursor)?,
+                    line: Arc::try_clone(line)?,
                 });
             }
         };
         let tolerances = tolerances_of(alloc, config.renditions())?;
         let finished = finished_of(alloc, sides)?;
         let advance = cursor.advanced(alloc, &recordings, &tolerances, &finished)?;
+        let line = all_told(alloc, line, &advance.places)?;
         Ok(Placed {
             places: all_pushed(alloc, places, advance.places)?,
             cursor: Arc::new(alloc, advance.cursor)?,
+            line,
         })
     }
 }
@@ -98,6 +108,22 @@ fn finished_of(alloc: Global, sides: &[Arc<Side>]) -> Result<Vec<bool>, AllocErr
         finished.push(side.finished)?;
     }
     Ok(finished)
+}
+
+/// The line after all of these places.
+fn all_told(
+    alloc: Global,
+    line: &Arc<LiveLine>,
+    places: &[Place],
+) -> Result<Arc<LiveLine>, AllocError>
+    requires { CanBeTold line.now.value places.now }
+    ensures { IfOk result (λ all. all.value ≡ moved_by line.now.value places.now) }
+{
+    let mut all = Arc::try_clone(line)?;
+    for place in places {
+        all = Arc::new(alloc, all.told(alloc, place)?)?;
+    }
+    Ok(all)
 }
 
 /// The list with all of these at its end.

@@ -29,8 +29,8 @@ pub fn replay(
     Ok(state)
 }
 
-/// The state after an event; the same one after a repeat or a refusal.
-fn next(
+/// The state after an event; the same one after a repeat or a refusal. Want of memory ends the call.
+pub fn next(
     alloc: Global,
     state: Arc<Snapshot>,
     by: u16,

@@ -1,27 +1,35 @@
 ghost use Rattle.std.specs.Prelude.{◌≡◌, ℕ, ◌+◌, ◌<◌, ◌≤◌, [], ◌∷◌, ◌++◌, length, map, IfOk, IfSome, IfNone, None, slice_get, slice_set, nat_le};
 ghost use Rattle.std.specs.Option.{option_copied};
 ghost use Rattle.hls_core_laws.specs.Config.{IsConfig};
-ghost use Rattle.hls_core_laws.specs.State.{channel};
+ghost use Rattle.hls_core_laws.specs.State.{channel, log_limit};
 ghost use Rattle.hls_core_laws.specs.IsState.{IsState};
-ghost use Rattle.hls_core_laws.specs.Follows.{Follows};
 ghost use Rattle.hls_places_laws.specs.Sources.{AreSources};
 ghost use Rattle.hls_core_laws.specs.Places.{sources, places};
+ghost use Rattle.hls_check_laws.specs.Tables.{spot_in};
+ghost use Rattle.hls_live_laws.specs.Live.{front_of, slid};
+ghost use Rattle.hls_core_laws.specs.declared.event.Event.TheVariants.{Slide};
+ghost use Rattle.hls_core_laws.specs.Line.{line};
+ghost use Rattle.hls_core_laws.specs.Outcome.{New, outcome_of, trim_limit};
+ghost use Rattle.hls_core_laws.specs.Moves.{advanced};
 ghost use Rattle.hls_core_laws.specs.Workers.{events_by};
 ghost use Rattle.hls_core_laws.specs.Runs.{first_state};
-ghost use Rattle.hls_core.specs.Appended.{IsAppended};
 ghost use Rattle.hls_core.specs.Sides.{fresh_side};
 
 use crate::config::Config;
 use crate::placed::Placed;
 use crate::side::Side;
 use hls_blocks::Shared;
-use hls_core_laws::event::Entry;
+use hls_core_laws::event::{Entry, Logged};
 use hls_core_laws::rendition::Rendition;
+use hls_live::LiveLine;
 use hls_places::{Cursor, Place};
 use hls_record::Recording;
 use std::alloc::{AllocError, Global};
 use std::marker::Model;
 use std::sync::Arc;
+
+/// The most entries of a log.
+pub const MOST_ENTRIES: u64 = 4194304;
 
 /// A channel at one moment: its configuration, its whole log, and the bytes that it keeps.
 ///
@@ -33,6 +41,7 @@ pub struct Snapshot {
     sides: Vec<Arc<Side>>,
     places: Shared<Place>,
     cursor: Arc<Cursor>,
+    line: Arc<LiveLine>,
 }
 
 impl Model for Snapshot {
@@ -48,7 +57,7 @@ impl Model for Snapshot {
 }
 
 impl Snapshot {
-    ghost use Rattle.hls_core.specs.Sides.{IsAt, MayTake, with_side};
+    ghost use Rattle.hls_core.specs.Sides.{IsAt, MayTake, MayTrim, with_side};
     ghost use Rattle.hls_core.specs.Reads.{recording_of, finished_at};
 
     /// The opening state of a channel: an empty log, and no rendition begun.
@@ -58,12 +67,15 @@ impl Snapshot {
         let sides = fresh_sides(alloc, config.renditions())?;
         let cursor = Cursor::first(alloc, config.renditions().len())?;
         let cursor = Arc::new(alloc, cursor)?;
+        let line = LiveLine::fresh(alloc, config.target(), config.preferred());
+        let line = Arc::new(alloc, line)?;
         Ok(Snapshot {
             config,
             log: Shared::empty(alloc),
             sides,
             places: Shared::empty(alloc),
             cursor,
+            line,
         })
     }
 
@@ -116,6 +128,14 @@ impl Snapshot {
         &self.places
     }
 
+    /// The live line: the segments that are kept, and where it goes on.
+    pub fn line(&self) -> &LiveLine
+        ensures value { result.now ≡ line self.now }
+        ensures valid { IsState self.now }
+    {
+        &self.line
+    }
+
     /// The number of log entries that the worker `by` brought.
     pub fn count_by(&self, by: u16) -> u64
         ensures { result ≡ length (events_by by self.now.log) }
@@ -142,9 +162,9 @@ impl Snapshot {
 
     /// Whether the log takes no more entries.
     pub(crate) fn is_full(&self) -> bool
-        ensures { result ≡ nat_le 4194304 (length self.now.log) }
+        ensures { result ≡ nat_le log_limit (length self.now.log) }
     {
-        self.version() >= 4194304
+        self.version() >= MOST_ENTRIES
     }
 
     /// A rendition's side.
@@ -168,7 +188,7 @@ impl Snapshot {
         rendition: usize,
         side: Side,
     ) -> Result<Arc<Snapshot>, AllocError>
-        requires room { length self.now.log < 4194304 }
+        requires room { length self.now.log < log_limit }
         requires there { rendition < length self.now.bytes }
         requires take { MayTake self.now entry rendition side }
         ensures { IfOk result (λ s. s.value ≡ with_side self.now entry rendition side) }
@@ -176,24 +196,95 @@ impl Snapshot {
         let sides = replaced_side(alloc, &self.sides, rendition, side)?;
         let config = self.config.share()?;
         let log = self.log.pushed(alloc, entry)?;
-        let placed = Placed::moved_on(alloc, &config, &sides, &self.places, &self.cursor)?;
+        let placed = Placed::moved_on(
+            alloc,
+            &config,
+            &sides,
+            &self.places,
+            &self.cursor,
+            &self.line,
+        )?;
         let next = Snapshot {
             config,
             log,
             sides,
             places: placed.places,
             cursor: placed.cursor,
+            line: placed.line,
         };
         Ok(Arc::new(alloc, next)?)
     }
+
+    /// The snapshot with one more entry, and this side of a rendition in place of one of which only units were kept that
+    /// it gives up: places and line stay.
+    pub(crate) fn with_trimmed(
+        &self,
+        alloc: Global,
+        entry: Entry,
+        rendition: usize,
+        side: Side,
+    ) -> Result<Arc<Snapshot>, AllocError>
+        requires room { length self.now.log < log_limit }
+        requires there { rendition < length self.now.bytes }
+        requires trim { MayTrim self.now entry rendition side }
+        ensures { IfOk result (λ s. s.value ≡ with_side self.now entry rendition side) }
+    {
+        let next = Snapshot {
+            config: self.config.share()?,
+            log: self.log.pushed(alloc, entry)?,
+            sides: replaced_side(alloc, &self.sides, rendition, side)?,
+            places: self.places.share(alloc)?,
+            cursor: Arc::try_clone(&self.cursor)?,
+            line: Arc::try_clone(&self.line)?,
+        };
+        Ok(Arc::new(alloc, next)?)
+    }
+
+    /// The snapshot after a slide of the line, whose line this is.
+    pub(crate) fn with_slid(
+        &self,
+        alloc: Global,
+        by: u16,
+        count: u64,
+        now: LiveLine,
+    ) -> Result<Arc<Snapshot>, AllocError>
+        requires room { length self.now.log < log_limit }
+        requires new { outcome_of self.now (Slide count) ≡ New }
+        requires slid { now ≡ slid count (line self.now) }
+        ensures { IfOk result (λ s. s.value ≡ advanced self.now by (Slide count)) }
+    {
+        let event = Logged::Slid { count };
+        let next = Snapshot {
+            config: self.config.share()?,
+            log: self.log.pushed(alloc, Entry { by, event })?,
+            sides: shared_sides(alloc, &self.sides)?,
+            places: self.places.share(alloc)?,
+            cursor: Arc::try_clone(&self.cursor)?,
+            line: Arc::new(alloc, now)?,
+        };
+        Ok(Arc::new(alloc, next)?)
+    }
+
+    /// How far the floor of a rendition may rise: to the unit at which the line begins.
+    pub(crate) fn trim_limit(&self, rendition: usize) -> u64
+        ensures { result ≡ trim_limit (front_of (line self.now)) rendition }
+    {
+        match self.line.front() {
+            Some(place) => fragment_in(place, rendition),
+            None => 0,
+        }
+    }
 }
 
-/// A law, and nothing else: in a state that follows another, common places are only appended.
-pub fn places_are_appended(earlier: &Snapshot, later: &Snapshot)
-    requires { Follows earlier.now later.now }
-    ensures { IsAppended (places earlier.now) (places later.now) }
+/// The number of the unit at which a place stands in a rendition; 0 where it stands in none.
+fn fragment_in(place: &Place, rendition: usize) -> u64
+    ensures { result ≡ (spot_in place.now.spots rendition).fragment }
 {
-    let _ = &earlier.cursor;
+    let spots = place.spots.as_slice();
+    if rendition < spots.len() {
+        return spots[rendition].fragment;
+    }
+    0
 }
 
 /// A side for each rendition, none of which has begun.

@@ -10,6 +10,7 @@ use crate::stepped::Stepped;
 use bytes::Bytes;
 use hls_core_laws::event::{Entry, Event, Logged};
 use hls_core_laws::refusal::Refusal;
+use hls_live::LineFault;
 use hls_media_laws::facts::Facts;
 use hls_media_laws::init::Init;
 use hls_record::{RecordFault, Recording};
@@ -24,8 +25,8 @@ use std::alloc::Global;
 /// | `Begin` | `UnknownRendition`; the same bytes: `Repeat`; other bytes: `InitChanged`; `LedgerFull` |
 /// | `Accept` | `UnknownRendition`; `NoInit`; a kept unit of the same start: `Repeat` if the bytes are equal, else `Overlap`; a start before the last end: `Overlap`; `Finished`; `LedgerFull`; `RecordingFull` |
 /// | `Finish` | `UnknownRendition`; `NoInit`; already finished: `Repeat`; `LedgerFull` |
-/// | `Slide` | `SlideTooMany`, since no segment was closed yet |
-/// | `Trim` | `UnknownRendition`; at or below the floor: `Repeat`; `TrimTooFar`, since there is no front place yet |
+/// | `Slide` | `SlideTooMany`: none, or more than are kept; `SlideTooShort`: the line hasn't ended, and less than three targets would be left in some rendition; `LedgerFull` |
+/// | `Trim` | `UnknownRendition`; at or below the floor: `Repeat`; `TrimTooFar`: past the unit at which the line begins, or there is no such place; `LedgerFull` |
 ///
 /// The snapshot itself never changes, and the new one shares with it what the event doesn't touch.
 pub fn step(snapshot: &Snapshot, alloc: Global, by: u16, event: Event) -> Result<Stepped, Refusal>
@@ -44,8 +45,8 @@ pub fn step(snapshot: &Snapshot, alloc: Global, by: u16, event: Event) -> Result
             bytes,
         } => accept(snapshot, alloc, by, rendition, facts, bytes),
         Event::Finish { rendition } => finish(snapshot, alloc, by, rendition),
-        Event::Slide { count } => slide(snapshot, by, count),
-        Event::Trim { rendition, floor } => trim(snapshot, by, rendition, floor),
+        Event::Slide { count } => slide(snapshot, alloc, by, count),
+        Event::Trim { rendition, floor } => trim(snapshot, alloc, by, rendition, floor),
     }
 }
 
@@ -166,22 +167,63 @@ fn finish(snapshot: &Snapshot, alloc: Global, by: u16, rendition: usize) -> Resu
     }
 }
 
-/// No segment was closed yet, so none can be removed.
-fn slide(snapshot: &Snapshot, by: u16, count: u64) -> Result<Stepped, Refusal>
+fn slide(snapshot: &Snapshot, alloc: Global, by: u16, count: u64) -> Result<Stepped, Refusal>
     ensures { Steps snapshot.now by (Slide count) result }
 {
-    Err(Refusal::SlideTooMany)
+    let line = snapshot.line();
+    match line.slides(count) {
+        Ok(()) => {}
+        Err(LineFault::TooMany) => return Err(Refusal::SlideTooMany),
+        Err(LineFault::TooShort) => return Err(Refusal::SlideTooShort),
+        Err(LineFault::Ended) => return Err(Refusal::SlideTooShort),
+        Err(LineFault::Memory) => return Err(Refusal::SlideTooShort),
+    }
+    if snapshot.is_full() {
+        return Err(Refusal::LedgerFull);
+    }
+    let Ok(now) = line.slide(alloc, count) else {
+        return Err(Refusal::Memory);
+    };
+    match snapshot.with_slid(alloc, by, count, now) {
+        Ok(next) => Ok(Stepped::New(next)),
+        Err(_) => Err(Refusal::Memory),
+    }
 }
 
-/// There is no front place yet, so no floor can rise.
-fn trim(snapshot: &Snapshot, by: u16, rendition: usize, floor: u64) -> Result<Stepped, Refusal>
+fn trim(
+    snapshot: &Snapshot,
+    alloc: Global,
+    by: u16,
+    rendition: usize,
+    floor: u64,
+) -> Result<Stepped, Refusal>
     ensures { Steps snapshot.now by (Trim rendition floor) result }
 {
-    let Some(side) = snapshot.side(rendition) else {
+    let Some(old) = snapshot.side(rendition) else {
         return Err(Refusal::UnknownRendition);
     };
-    if floor <= side.floor() {
+    if floor <= old.floor() {
         return Ok(Stepped::Repeat);
     }
-    Err(Refusal::TrimTooFar)
+    if snapshot.trim_limit(rendition) < floor {
+        return Err(Refusal::TrimTooFar);
+    }
+    if snapshot.is_full() {
+        return Err(Refusal::LedgerFull);
+    }
+    let Some(recording) = &old.recording else {
+        unreachable!()
+    };
+    let Ok(recording) = recording.trimmed(alloc, floor) else {
+        return Err(Refusal::Memory);
+    };
+    let event = Logged::Trimmed { rendition, floor };
+    let side = Side {
+        recording: Some(recording),
+        finished: old.finished,
+    };
+    match snapshot.with_trimmed(alloc, Entry { by, event }, rendition, side) {
+        Ok(next) => Ok(Stepped::New(next)),
+        Err(_) => Err(Refusal::Memory),
+    }
 }

@@ -2,6 +2,7 @@ ghost use Rattle.std.specs.Prelude.{◌≡◌, IfOk};
 ghost use Rattle.hls_core_laws.specs.State.{State};
 ghost use Rattle.hls_core_laws.specs.Moves.{IsFitting};
 
+mod live;
 mod refused;
 
 use crate::config::{Config, ConfigFault};

@@ -16,12 +16,15 @@ use hls_samples::{init_bytes, unit_bytes};
 use std::alloc::Global;
 use std::sync::Arc;
 
-/// What the test does: rendition 0 or 1 begins, a unit of 4 s comes to rendition 0 at so many ticks, or a rendition ends.
+/// What the tests do: rendition 0 or 1 begins, a unit of 4 s comes to rendition 0 at so many ticks, a rendition ends, segments
+/// slide away, or rendition 0 is trimmed.
 #[derive(Clone, Copy)]
 enum Act {
     Begin(usize),
     Accept(u64),
     Finish(usize),
+    Slide(u64),
+    Trim(u64),
 }
 
 fn rendition(alloc: Global, name: &[u8]) -> Option<Rendition> {
@@ -33,11 +36,13 @@ fn rendition(alloc: Global, name: &[u8]) -> Option<Rendition> {
     })
 }
 
-/// A channel of two renditions; none where memory was refused.
-fn opened(alloc: Global) -> Option<Snapshot> {
+/// A channel of one or two renditions; none where memory was refused.
+fn opened(alloc: Global, two: bool) -> Option<Snapshot> {
     let mut renditions = Vec::new(alloc);
     renditions.push(rendition(alloc, b"v1")?).ok()?;
-    renditions.push(rendition(alloc, b"en")?).ok()?;
+    if two {
+        renditions.push(rendition(alloc, b"en")?).ok()?;
+    }
     let config = Config::new(alloc, 6, 4000000, renditions).ok()?;
     Snapshot::first(alloc, config).ok()
 }
@@ -75,6 +80,11 @@ fn event_of(alloc: Global, snapshot: &Snapshot, act: Act) -> Option<Event>
         Act::Begin(rendition) => begin(alloc, rendition),
         Act::Accept(start) => accept(alloc, snapshot, start),
         Act::Finish(rendition) => Some(Event::Finish { rendition }),
+        Act::Slide(count) => Some(Event::Slide { count }),
+        Act::Trim(floor) => Some(Event::Trim {
+            rendition: 0,
+            floor,
+        }),
     }
 }
 
@@ -95,7 +105,7 @@ fn after(alloc: Global, snapshot: &Snapshot, act: Act) -> Option<Arc<Snapshot>> 
 
 /// The first rendition begun, with one unit.
 fn one_unit(alloc: Global) -> Option<Arc<Snapshot>> {
-    let none = opened(alloc)?;
+    let none = opened(alloc, true)?;
     let begun = after(alloc, &none, Act::Begin(0))?;
     after(alloc, &begun, Act::Accept(0))
 }
@@ -108,22 +118,59 @@ fn one_unit_at_last(alloc: Global) -> Option<Arc<Snapshot>> {
     }
 }
 
-/// The version, and the bytes of the first rendition's resource.
-fn is_at(snapshot: &Snapshot, version: u64, total: u64) -> bool {
-    snapshot.version() == version && snapshot.recording(0).is_some_and(|r| r.total() == total)
+/// One rendition with two units, finished, without the first of its two segments.
+fn one_segment(alloc: Global) -> Option<Arc<Snapshot>> {
+    let none = opened(alloc, false)?;
+    let begun = after(alloc, &none, Act::Begin(0))?;
+    let one = after(alloc, &begun, Act::Accept(0))?;
+    let two = after(alloc, &one, Act::Accept(360000))?;
+    let ended = after(alloc, &two, Act::Finish(0))?;
+    after(alloc, &ended, Act::Slide(1))
 }
 
-/// Whether the act takes the snapshot, of version 2, to one of version 3 and this total, and leaves the snapshot itself as it
-/// was; where the step was refused memory, a second one does.
-fn steps_at_last(alloc: Global, snapshot: &Snapshot, act: Act, total: u64) -> bool {
+/// The same, built once more where memory was refused.
+fn one_segment_at_last(alloc: Global) -> Option<Arc<Snapshot>> {
+    match one_segment(alloc) {
+        Some(snapshot) => Some(snapshot),
+        None => one_segment(alloc),
+    }
+}
+
+/// What a snapshot is known by: its version, the bytes of the first rendition's resource, its floor, and how many segments the
+/// line has lost.
+#[derive(Clone, Copy, PartialEq, Eq)]
+struct Known {
+    version: u64,
+    total: u64,
+    floor: u64,
+    removed: u64,
+}
+
+fn known_of(snapshot: &Snapshot) -> Known {
+    let (total, floor) = match snapshot.recording(0) {
+        Some(recording) => (recording.total(), recording.floor()),
+        None => (0, 0),
+    };
+    Known {
+        version: snapshot.version(),
+        total,
+        floor,
+        removed: snapshot.line().removed(),
+    }
+}
+
+/// Whether the act takes the snapshot to the next one, and leaves the snapshot itself as it was; where the step was refused
+/// memory, a second one does.
+fn steps_at_last(alloc: Global, snapshot: &Snapshot, act: Act, want: Known) -> bool {
+    let before = known_of(snapshot);
     let first = stepped(alloc, snapshot, act);
-    if !is_at(snapshot, 2, 1600) {
+    if known_of(snapshot) != before {
         return false;
     }
     match first {
-        Ok(Stepped::New(next)) => is_at(&next, 3, total),
+        Ok(Stepped::New(next)) => known_of(&next) == want,
         Err(Refusal::Memory) => {
-            after(alloc, snapshot, act).is_some_and(|next| is_at(&next, 3, total))
+            after(alloc, snapshot, act).is_some_and(|next| known_of(&next) == want)
         }
         _ => false,
     }
@@ -138,6 +185,27 @@ fn refused_memory_changes_no_snapshot(rt: HostRuntime) {
         (Act::Begin(1), 1600),
         (Act::Finish(0), 1600),
     ] {
-        assert!(rt; steps_at_last(alloc, &snapshot, act, total));
+        let want = Known {
+            version: 3,
+            total,
+            floor: 0,
+            removed: 0,
+        };
+        assert!(rt; steps_at_last(alloc, &snapshot, act, want));
+    }
+}
+
+#[test]
+fn refused_memory_slides_and_trims_nothing(rt: HostRuntime) {
+    let alloc = rt.alloc();
+    let snapshot = one_segment_at_last(alloc).expect(&rt, "a snapshot with one segment");
+    for (act, floor, removed) in [(Act::Slide(1), 0, 2), (Act::Trim(1), 1, 1)] {
+        let want = Known {
+            version: 6,
+            total: 2600,
+            floor,
+            removed,
+        };
+        assert!(rt; steps_at_last(alloc, &snapshot, act, want));
     }
 }

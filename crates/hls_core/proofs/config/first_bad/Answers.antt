@@ -1,4 +1,4 @@
-use Rattle.std.proofs.Common.{◌∙◌, sym, arith}
+use Rattle.std.proofs.Common.{◌∙◌, sym, inl, inr, arith}
 use Rattle.std.proofs.lemmas.Bool.{eqb-false}
 use Rattle.hls_core_laws.proofs.Lists.{at_below, at_read}
 use Rattle.hls_core.proofs.Names.{good_more}
@@ -10,6 +10,24 @@ loop-n-preserved c = record {
   good = good_more _ _ _ c.loop-n.invariant.good (at_read _ _ _ c.loop-n-test.true c.index-renditions-n.is)
       (c.is_rendition_at.ensures.0 c.if-not-is_rendition_at.false);
 }
+
+pub returns-then-n-eq16 : goal.returns-then-n-eq16
+returns-then-n-eq16 c =
+    inr (inr (record {
+      before = λ k r below at. c.loop-n.invariant.good k r (omega (arith, c.if-n-eq16.true)) at;
+      number = c.if-n-eq16.true;
+      there = omega (arith, c.loop-n-test.true, c.if-n-eq16.true);
+    }))
+
+pub returns-then-not-is_rendition_at : goal.returns-then-not-is_rendition_at
+returns-then-not-is_rendition_at c =
+    inr (inl (record {
+      before = c.loop-n.invariant.good;
+      few = omega (arith, c.loop-n.invariant.few, c.if-n-eq16.false);
+      rendition = _;
+      at = at_read _ _ _ c.loop-n-test.true c.index-renditions-n.is;
+      bad = λ good. let yes = c.is_rendition_at.ensures.1 good in cc;
+    }))
 
 pub returns : goal.returns
 returns c = record {
