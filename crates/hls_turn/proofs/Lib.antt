@@ -1,0 +1,5 @@
+mod Meetings
+mod Openings
+mod Pairs
+mod Steps
+mod Told

@@ -1,0 +1,63 @@
+-- From the steps of a call to what it says of its pass.
+use Rattle.std.proofs.Common.{◌≡◌, ℕ, Option, Result, [], ◌∷◌, ◌++◌, inr, sym, refl, ap, ◌∙◌, subst}
+use Rattle.hls_core_laws.specs.declared.event.Event.{Event}
+use Rattle.hls_core_laws.specs.declared.refusal.Refusal.{Refusal}
+use Rattle.hls_core_laws.specs.State.{State}
+use Rattle.hls_core_laws.specs.IsState.{IsState}
+use Rattle.hls_core_laws.specs.Outcome.{Outcome, New, Refused}
+use Rattle.hls_core_laws.specs.Moves.{Moves, IsFitting, IsFittingAsSeen, logged}
+use Rattle.hls_core_laws.specs.Follows.{Follows}
+use Rattle.hls_core_laws.specs.Workers.{events_by}
+use Rattle.hls_core_laws.proofs.Theorems.{follows_itself, seen_suffices, workers_apart}
+use Rattle.hls_turn.specs.declared.view.View.{View}
+use Rattle.hls_turn.specs.declared.done.Done.{Done}
+use Rattle.hls_turn.specs.Rule.{Takes, FollowsSeen, after_put, MayPut}
+use Rattle.hls_turn.specs.Passes.{Known, PassData, IsPass, known_by, seen_by}
+use Rattle.hls_turn.specs.Calls.{Answers, Submits, Looked, LooksAt}
+
+-- what is taken follows what the pass has seen
+pub taken_follows : (v : View) (s : State) (w : View) → IsPass v → Takes v s w → Follows (seen_by v) s
+taken_follows v s w pass takes = subst (λ (seen : Option State). FollowsSeen seen s) pass.seen takes.follows
+
+-- so what fits as seen fits the state that is met
+pub fits_met : (v : View) (s : State) (w : View) (event : Event) → IsPass v → Takes v s w → IsFittingAsSeen (seen_by v) event → IsFitting s event
+fits_met v s w event pass takes fits = seen_suffices (seen_by v) s event fits (taken_follows v s w pass takes)
+
+-- from a take, a move and a put to the call's whole clause
+pub submits : (v w u : View) (met after : State) (event : Event) (outcome : Outcome) (answer : Result Done Refusal) → IsPass v → Takes v met w → Moves met v.number event outcome after → u ≡ after_put w after
+    → Answers event v.mine (events_by v.number after.log) after outcome answer → Submits (known_by v) event answer (known_by u)
+submits v w u met after event outcome answer pass takes moves put answers =
+    let is : known_by u ≡ record { number = v.number; seen = after; mine = events_by v.number after.log } = ap known_by (put ∙ ap (λ (y : View). after_put y after) takes.view_is) in
+    subst (λ (k : Known). Submits (known_by v) event answer k) (sym is) (record {
+      number = refl;
+      met = met;
+      outcome = outcome;
+      follows = taken_follows v met w pass takes;
+      entries = takes.entries;
+      moves = moves;
+      answers = answers;
+    })
+
+-- a new event stands at the end of the pass's own
+pub new_is_mine : (v w : View) (met after : State) (event : Event) → Takes v met w → Moves met v.number event New after → events_by v.number after.log ≡ v.mine ++ logged event ∷ []
+new_is_mine v w met after event takes moves = (workers_apart met after v.number v.number event moves).0 ∙ ap (λ l. l ++ logged event ∷ []) takes.entries
+
+-- the same move, said of the taken state and the pass's number
+pub moves_at : (a b after : State) (m n : ℕ) (event : Event) (outcome : Outcome) → a ≡ b → n ≡ m → Moves a m event outcome after → Moves b n event outcome after
+moves_at a b after m n event outcome states numbers moves = subst (λ (y : State × ℕ). Moves y.0 y.1 event outcome after) (λ i. (states i, sym numbers i)) moves
+
+-- the same refusal
+pub refused_at : (a b : State) (m n : ℕ) (event : Event) (r : Refusal) → a ≡ b → n ≡ m → Moves a m event (Refused r) a → Moves b n event (Refused r) b
+refused_at a b m n event r states numbers moves = subst (λ (y : State × ℕ). Moves y.0 y.1 event (Refused r) y.0) (λ i. (states i, sym numbers i)) moves
+
+-- who took the state may put the one after a new event in
+pub may_put_new : (v w : View) (met after : State) (event : Event) → Takes v met w → IsState met → IsFitting met event → Moves met v.number event New after → MayPut w after
+may_put_new v w met after event takes state fits moves =
+    inr (met, ap (λ (y : View). y.holds) takes.view_is, inr (event, state, fits, subst (λ (n : ℕ). Moves met n event New after) (sym (ap (λ (y : View). y.number) takes.view_is)) moves))
+
+-- a pass that isn't used has looked on at nothing
+pub looked_self : (p : PassData) → Looked p p
+looked_self p = record { turn = refl; looked = record { number = refl; follows = follows_itself p.known.seen; mine = refl } }
+
+pub looks_looked : (p q : PassData) → LooksAt p q → Looked p q
+looks_looked p q looks = record { turn = looks.turn; looked = looks.looks.looked }

@@ -1,0 +1,108 @@
+-- The turn's rule: what the queue's one place holds, and what each pass knows.
+-- Public clauses don't cite it: what callers learn of it stands in Calls.
+use Rattle.std.specs.Prelude.{◌≡◌, ◌≢◌, ◌⊎◌, ◌+◌, ◌≤◌, ℕ, Option, Some, None, List, [], ◌∷◌, length}
+use Rattle.std.specs.declared.sync.Arc.{Arc}
+use mathlib.Core.Option.{some}
+use lib.ListN.{get_elem?}
+use Rattle.hls_core_laws.specs.declared.event.Entry.{Entry}
+use Rattle.hls_core_laws.specs.declared.event.Event.{Event}
+use Rattle.hls_core_laws.specs.State.{State}
+use Rattle.hls_core_laws.specs.IsState.{IsState}
+use Rattle.hls_core_laws.specs.Outcome.{New}
+use Rattle.hls_core_laws.specs.Moves.{Moves, IsFitting}
+use Rattle.hls_core_laws.specs.Follows.{Follows}
+use Rattle.hls_core_laws.specs.Workers.{events_by}
+use Rattle.hls_turn.specs.declared.view.View.{View}
+
+-- pass 0 before the first state is put in
+abbrev pub newcomer : View
+newcomer = record { number = 0; made = 1; seen = None; mine = []; holds = None }
+
+abbrev pub after_take : View → State → View
+after_take v s = record { number = v.number; made = v.made; seen = Some s; mine = v.mine; holds = Some s }
+
+abbrev pub after_put : View → State → View
+after_put v s = record { number = v.number; made = v.made; seen = Some s; mine = events_by v.number s.log; holds = None }
+
+abbrev pub log_seen : Option State → List Entry
+log_seen None = []
+log_seen (Some s) = s.log
+
+-- pass 0 once a pass was made beside it, and that pass: it has seen the same state, and its number is the next one
+abbrev pub with_one_more : View → View
+with_one_more v = record { number = v.number; made = v.made + 1; seen = v.seen; mine = v.mine; holds = v.holds }
+
+abbrev pub beside : View → View
+beside v = record { number = v.made; made = 0; seen = v.seen; mine = events_by v.made (log_seen v.seen); holds = None }
+
+abbrev pub FollowsSeen : Option State → State → Type 0
+FollowsSeen None s = Unit {0}
+FollowsSeen (Some t) s = Follows t s
+
+-- the state is taken out: it follows what the pass saw, and has the events that the pass brought
+pub record Takes (v : View) (s : State) (w : View) : Type 0 where
+  pub follows : FollowsSeen v.seen s
+  pub entries : events_by v.number s.log ≡ v.mine
+  pub view_is : w ≡ after_take v s
+
+-- the same state, or the one after a new event of this pass
+abbrev pub Advances : State → ℕ → State → Type 0
+Advances t number s = (s ≡ t) ⊎ ((event : Event) × IsState t × IsFitting t event × Moves t number event New s)
+
+-- who may put the state s in: pass 0 at the opening, then the one who holds a state, as that or advanced
+abbrev pub MayPut : View → State → Type 0
+MayPut v s = (v ≡ newcomer) ⊎ ((t : State) × (v.holds ≡ Some t) × Advances t v.number s)
+
+abbrev pub Each : (ℕ → View → Type 0) → List View → Type 0
+Each P views = (port : ℕ) (v : View) → get_elem? views port ≡ some v → P port v
+
+-- what a pass knows is so in the current state s
+pub record Knows (s : State) (port : ℕ) (v : View) : Type 0 where
+  pub number : v.number ≡ port
+  pub last : State
+  pub seen : v.seen ≡ Some last
+  pub follows : Follows last s
+  pub mine : events_by v.number s.log ≡ v.mine
+
+-- what a pass has seen of a number that no pass has yet is all there is of it
+pub record Unmade (s : State) (number : ℕ) (port : ℕ) (v : View) : Type 0 where
+  pub entries : events_by number (log_seen v.seen) ≡ events_by number s.log
+
+pub record IsFree (port : ℕ) (v : View) : Type 0 where
+  pub holds : v.holds ≡ None
+
+pub record IsFreeBut (holder : ℕ) (port : ℕ) (v : View) : Type 0 where
+  pub holds : port ≢ holder → v.holds ≡ None
+
+module _ {A : Type 0} where
+  -- the state lies in the place, and no pass holds one
+  pub record Lies (s : State) (items : List (Arc State A)) (views : List View) : Type 0 where
+    pub item : Arc State A
+    pub items_are : items ≡ item ∷ []
+    pub item_is : item.value ≡ s
+    pub free : Each IsFree views
+
+  -- the place is empty, and just one pass holds the state
+  pub record IsHeld (s : State) (items : List (Arc State A)) (views : List View) : Type 0 where
+    pub holder : ℕ
+    pub view : View
+    pub empty : items ≡ []
+    pub at : get_elem? views holder ≡ some view
+    pub holds : view.holds ≡ Some s
+    pub free : Each (IsFreeBut holder) views
+
+  -- from the opening on: one current state, which follows all that was seen; in it each pass's entries are those that it brought
+  pub record Runs (items : List (Arc State A)) (views : List View) : Type 0 where
+    pub state : State
+    pub place : Lies state items views ⊎ IsHeld state items views
+    pub each : Each (Knows state) views
+    pub made : (v : View) → get_elem? views 0 ≡ some v → v.made ≡ length views
+    pub unmade : (number : ℕ) → length views ≤ number → Each (Unmade state number) views
+
+  -- before the opening the place is empty, and pass 0 stands alone
+  pub record Opens (items : List (Arc State A)) (views : List View) : Type 0 where
+    pub empty : items ≡ []
+    pub alone : views ≡ newcomer ∷ []
+
+  abbrev pub Keeps : List (Arc State A) → List View → Type 0
+  Keeps items views = Opens items views ⊎ Runs items views
