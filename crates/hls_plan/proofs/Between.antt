@@ -4,7 +4,7 @@ use Rattle.hls_check_laws.specs.declared.spot.Spot.{Spot}
 use Rattle.hls_check_laws.specs.Tables.{Table, spot_in, place_at}
 use Rattle.hls_check_laws.specs.Steps.{Allowed}
 use Rattle.hls_check_laws.specs.Orders.{IsOrderly}
-use Rattle.hls_plan.specs.Spans.{IsSpan}
+use Rattle.hls_plan.specs.Spans.{IsFirstStep, IsSpan}
 
 -- what doesn't fall from a place to the next falls over no distance
 never_falls : (f : List Spot → ℕ) (t : Table) →
@@ -65,26 +65,25 @@ allowed_between t orderly p a b near far j up down =
           };
     }
 
--- so none is behind a place that no step leads to
-pub none_behind : (t : Table) → IsOrderly t → (p q : ℕ) → Allowed t p q → (Allowed t p (q + 1) → ⊥) →
-    (j : ℕ) → q < j → Allowed t p j → ⊥
-none_behind t orderly p q here none j after there =
-    none (allowed_between t orderly p q j here there (q + 1) (omega arith) (omega arith))
+-- so from a place on that no step leads to, behind one that one leads to, none does
+pub none_from : (t : Table) → IsOrderly t → (p q m : ℕ) → Allowed t p q → q ≤ m → (Allowed t p m → ⊥) →
+    (j : ℕ) → m ≤ j → Allowed t p j → ⊥
+none_from t orderly p q m here up none j after there =
+    none (allowed_between t orderly p q j here there m up after)
 
 -- a first and a last one
-pub span_found : (t : Table) → IsOrderly t → (p first last : ℕ) → p < first → Allowed t p first →
-    ((j : ℕ) → p < j → j < first → Allowed t p j → ⊥) → Allowed t p last → first ≤ last →
-    ((j : ℕ) → last < j → Allowed t p j → ⊥) → IsSpan t p first (last + 1)
-span_found t orderly p first last forward here before there up behind =
+pub span_found : (t : Table) → IsOrderly t → (p first last : ℕ) → IsFirstStep t p first → Allowed t p last →
+    first ≤ last → ((j : ℕ) → last < j → Allowed t p j → ⊥) → IsSpan t p first (last + 1)
+span_found t orderly p first last is_first there up behind =
     let to : last < length t.places = there.to in
     record {
-      forward = forward;
+      forward = is_first.forward;
       some = omega arith;
       within = omega (arith, to);
-      each = λ j from below. allowed_between t orderly p first last here there j from (omega arith);
+      each = λ j from below. allowed_between t orderly p first last is_first.allowed there j from (omega arith);
       others = λ j after allowed. (
         elim (cases_lt j first) [
-          | inl below ↦ absurd (before j after below allowed)
+          | inl below ↦ absurd (is_first.none_before j after below allowed)
           | inr from ↦ from
         ],
         elim (cases_lt last j) [

@@ -1,4 +1,5 @@
 pub mod Between
+pub mod RowLooks
 pub mod PricedRows
 pub mod WaysBack
 pub mod LeastCosts

@@ -3,8 +3,8 @@ use Rattle.std.proofs.lemmas.Bool.{cases_eq, cases_lt, ltb-true, ltb-false}
 use Rattle.std.proofs.lemmas.List.{length-replicate}
 use Rattle.hls_check_laws.specs.Tables.{Table, IsTable}
 use Rattle.hls_check_laws.specs.Steps.{Allowed, cost}
-use Rattle.hls_check_laws.specs.Certificates.{price_at, Keeps}
-use Rattle.hls_plan.specs.Pricing.{is_lower, StepKeeps, IsPricing}
+use Rattle.hls_check_laws.specs.Certificates.{price_at, Keeps, CutKeeps}
+use Rattle.hls_plan.specs.Pricing.{is_lower, IsPricing}
 
 -- a lower price keeps to every step that the one before kept to
 Keeps-lower : (step : ℕ) (from : Option ℕ) (price : ℕ) (found : Option ℕ) → is_lower price found ≡ true →
@@ -21,7 +21,7 @@ Keeps-found step a price (Some y) sum lower = omega (arith, ltb-false price y lo
 
 -- place q is passed where the step to it keeps to the prices
 pub row_passed : (t : Table) (p q : ℕ) (prices : List (Option ℕ)) (origins : List ℕ) →
-    IsPricing t p q prices origins → StepKeeps t prices p q → IsPricing t p (q + 1) prices origins
+    IsPricing t p q prices origins → CutKeeps t prices p q → IsPricing t p (q + 1) prices origins
 row_passed t p q prices origins pricing keeps = record {
   one_each = pricing.one_each;
   origin_each = pricing.origin_each;
@@ -30,7 +30,7 @@ row_passed t p q prices origins pricing keeps = record {
   origin_done = pricing.origin_done;
   bound = pricing.bound;
   rows = pricing.rows;
-  row = below_more (StepKeeps t prices p) q pricing.row keeps;
+  row = below_more (CutKeeps t prices p) q pricing.row keeps;
 }
 
 -- the places before the first that a step leads to are passed
@@ -58,7 +58,7 @@ row_end t p q prices origins pricing none = record {
   origin_done = λ k price h is. omega (arith, pricing.origin_done k price h is);
   bound = pricing.bound;
   rows = λ i j below.
-      below_more (λ x. StepKeeps t prices x j) p (λ x h. pricing.rows x j h)
+      below_more (λ x. CutKeeps t prices x j) p (λ x h. pricing.rows x j h)
       (λ rises allowed.
       elim (cases_lt j q) [
         | inl before ↦ pricing.row j before rises allowed
@@ -79,7 +79,7 @@ row_unpriced t p prices origins pricing unpriced = record {
   origin_done = λ k price h is. omega (arith, pricing.origin_done k price h is);
   bound = pricing.bound;
   rows = λ i j below.
-      below_more (λ x. StepKeeps t prices x j) p (λ x h. pricing.rows x j h)
+      below_more (λ x. CutKeeps t prices x j) p (λ x h. pricing.rows x j h)
       (λ rises allowed. rw unpriced tt) i below;
   row = λ j below. absurd (omega arith);
 }
@@ -102,7 +102,7 @@ row_taken t p q a prices origins pricing priced rises allowed small lower =
     let other_origin : (k : ℕ) → k ≢ q → get_or new_origins k 0 ≡ get_or origins k 0 =
     λ k ne. get_or-set_other origins q k p 0 ne in
     let bounded : a ≤ p * 3600499999 = pricing.bound p a priced in
-    let kept : (i j : ℕ) → i < q → StepKeeps t prices i j → StepKeeps t new i j =
+    let kept : (i j : ℕ) → i < q → CutKeeps t prices i j → CutKeeps t new i j =
     λ i j before keeps up step.
     elim (cases_eq j q) [
       | inl same ↦
@@ -154,7 +154,7 @@ row_taken t p q a prices origins pricing priced rises allowed small lower =
             | inr ne ↦ pricing.bound k v (sym (other k ne) ∙ is)
           ];
       rows = λ i j before. kept i j (omega arith) (pricing.rows i j before);
-      row = below_more (StepKeeps t new p) q
+      row = below_more (CutKeeps t new p) q
           (λ j before. kept p j rises (pricing.row j before))
           (λ up step. rw (here, other p (omega arith), priced) (omega arith));
     }

@@ -18,8 +18,7 @@ good_cut : (t : Table) (plan : List ℕ) (prices : List (Option ℕ)) → IsSort
 good_cut t plan prices sorted found = record {
   sorted = sorted;
   is_plan = found.is_plan;
-  paid = refl;
-  priced = found.paid;
+  paid = record { paid = refl; priced = found.paid };
   start = found.pricing.start;
   keeps = keeps_all t prices found.origins found.pricing;
 }

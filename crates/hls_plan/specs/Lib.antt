@@ -1,4 +1,5 @@
 pub mod Ways
 pub mod Planned
+pub mod Looks
 pub mod Pricing
 pub mod Spans

@@ -1,3 +1,5 @@
+-- What a planner gives, and what it says of its table.
+
 use Rattle.std.specs.Prelude.{length}
 use Rattle.hls_plan.specs.declared.planned.Planned.{Planned}
 use Rattle.hls_plan.specs.declared.planned.Planned.TheVariants.{Cut, NoCut}

@@ -1,10 +1,12 @@
+-- For the proofs of this crate; no public clause cites it.
+
 use Rattle.std.specs.Prelude.{◌≡◌, ℕ, ◌+◌, ◌-◌, ◌*◌, ◌<◌, ◌≤◌, List, ◌∷◌, length, reverse, slice_index, map, is_some, nat_lt, Option, Some, None, Bool, true}
 use Rattle.hls_plan.specs.declared.planned.Planned.{Planned}
 use Rattle.hls_plan.specs.declared.planned.Planned.TheVariants.{Cut, NoCut}
 use Rattle.hls_check_laws.specs.Tables.{Table}
-use Rattle.hls_check_laws.specs.Steps.{Allowed, cost}
+use Rattle.hls_check_laws.specs.Steps.{Allowed, cost, cost_limit}
 use Rattle.hls_check_laws.specs.Plans.{Leads, end_of, cost_from, IsPlan, plan_cost}
-use Rattle.hls_check_laws.specs.Certificates.{price_at, Keeps}
+use Rattle.hls_check_laws.specs.Certificates.{price_at, CutKeeps}
 
 -- Prices are found row by row: the steps from place 0, from place 1, and so on. Steps go forward,
 -- so a place's price is its least when its own row begins.
@@ -22,11 +24,6 @@ pub record IsReached (t : Table) (prices : List (Option ℕ)) (q price origin : 
   pub priced : price_at prices origin ≡ Some before
   pub sum : price ≡ before + cost t origin q
 
--- a step from i to j keeps to the prices
-abbrev pub StepKeeps : Table → List (Option ℕ) → ℕ → ℕ → Type 0
-StepKeeps t prices i j =
-    i < j → Allowed t i j → Keeps (cost t i j) (price_at prices i) (price_at prices j)
-
 -- the prices before row p is looked at from place q on
 pub record IsPricing (t : Table) (p q : ℕ) (prices : List (Option ℕ)) (origins : List ℕ) : Type 0 where
   pub one_each : length prices ≡ length t.places
@@ -35,9 +32,9 @@ pub record IsPricing (t : Table) (p q : ℕ) (prices : List (Option ℕ)) (origi
   pub reached : (k price : ℕ) → 0 < k → price_at prices k ≡ Some price →
       IsReached t prices k price (slice_index origins k)
   pub origin_done : (k price : ℕ) → 0 < k → price_at prices k ≡ Some price → slice_index origins k ≤ p
-  pub bound : (k price : ℕ) → price_at prices k ≡ Some price → price ≤ k * 3600499999
-  pub rows : (i j : ℕ) → i < p → StepKeeps t prices i j
-  pub row : (j : ℕ) → j < q → StepKeeps t prices p j
+  pub bound : (k price : ℕ) → price_at prices k ≡ Some price → price ≤ k * cost_limit
+  pub rows : (i j : ℕ) → i < p → CutKeeps t prices i j
+  pub row : (j : ℕ) → j < q → CutKeeps t prices p j
 
 -- the way that was walked back from the last place to this one, with what it costs
 pub record IsWayBack (t : Table) (prices : List (Option ℕ)) (at : ℕ) (way : List ℕ) : Type 0 where

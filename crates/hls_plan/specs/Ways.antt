@@ -1,3 +1,5 @@
+-- Which places of a table can be reached, and at what cost.
+
 use Rattle.std.specs.Prelude.{◌≡◌, ℕ, ◌<◌, ◌≤◌, List, length, Option, MatchOption, Bool}
 use Rattle.std.specs.Bool.{MatchBool}
 use Rattle.hls_check_laws.specs.Tables.{Table}

@@ -3,7 +3,7 @@
 #![tactic(auto)]
 
 pub use planned::{Planned, certificate};
-pub use planner::plan;
+pub use planner::{plan, plan_counted};
 
 mod planned;
 mod planner;

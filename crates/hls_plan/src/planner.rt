@@ -1,12 +1,14 @@
-ghost use Rattle.std.specs.Prelude.{◌≡◌, ◌-◌, ◌<◌, ◌≤◌, length, map, is_some, IfOk, Option, Some, true};
+ghost use Rattle.std.specs.Prelude.{◌≡◌, ℕ, ◌+◌, ◌-◌, ◌*◌, ◌/◌, ◌^◌, ◌<◌, ◌≤◌, length, map, is_some, IfOk, Option, Some, true};
 ghost use Rattle.hls_check_laws.specs.Plans.{IsPlan, plan_cost};
 ghost use Rattle.hls_check_laws.specs.Certificates.{price_at, IsGood};
 ghost use Rattle.hls_plan.specs.Planned.{IsBest, IsExact, CanBeShown, certificate_of};
+ghost use Rattle.hls_plan.specs.Looks.{pairs_of, EndsWithin};
 ghost use Rattle.hls_plan.specs.Pricing.{IsPricing, IsFound};
 
 use crate::planned::Planned;
 use crate::pricing::{Pricing, price_of, price_places};
 use hls_check_laws::PlaceTable;
+use hls_time::Ticks;
 use std::alloc::{AllocError, Global};
 
 /// The plan to the last place, walked back by the origins.
@@ -38,10 +40,14 @@ fn priced_places(alloc: Global, prices: &[Option<u64>]) -> Result<Vec<bool>, All
     prices.iter().map(|price| price.is_some()).collect(alloc)
 }
 
-fn find(alloc: Global, table: &PlaceTable) -> Result<Planned, AllocError>
-    ensures { IfOk result (IsFound table.now) }
+fn find(alloc: Global, table: &PlaceTable, ticks: &mut Ticks) -> Result<Planned, AllocError>
+    requires { ticks.old < 2 ^ 62 }
+    ensures found { IfOk result (IsFound table.now) }
+    ensures rises { ticks.old ≤ ticks.new }
+    ensures pairs { ticks.new ≤ ticks.old + pairs_of (length table.now.places) }
+    ensures rows { (reach : ℕ) → EndsWithin table.now reach → ticks.new ≤ ticks.old + length table.now.places * (reach + reach / 8) }
 {
-    let Pricing { prices, origins } = price_places(alloc, table)?;
+    let Pricing { prices, origins } = price_places(alloc, table, ticks)?;
     let last = table.len() - 1;
     if price_of(prices.as_slice(), last).is_some() {
         let plan = plan_back(alloc, table, prices.as_slice(), origins.as_slice())?;
@@ -52,14 +58,38 @@ fn find(alloc: Global, table: &PlaceTable) -> Result<Planned, AllocError>
 }
 
 /// A least plan with the least cost of each place, or, where there is no plan, the set of the
-/// places that can be reached. The places that steps from one place lead to stand side by side, so
-/// it looks for the first and the last of them, and offers a price to each without looking again.
+/// places that can be reached; the count rises by one for each pair of places that is looked at.
+///
+/// The places that steps from one place lead to stand side by side. So it looks at the pairs of a
+/// place with those behind it up to the first that a step leads to, ever further ahead for the last
+/// one, and then at each between these, to offer it a price. A pair that is looked at a second time
+/// for its price is counted once. Where each row of pairs ends within `reach` places, as those of
+/// places a second apart with a target of 6 s do within 7, this is at most `reach` and an eighth of
+/// that for each place; and in no table more than one for each pair.
+pub fn plan_counted(
+    alloc: Global,
+    table: &PlaceTable,
+    ticks: &mut Ticks,
+) -> Result<Planned, AllocError>
+    requires { ticks.old < 2 ^ 62 }
+    ensures good { IfOk result (λ planned. IsGood (certificate_of table.now planned)) }
+    ensures best { IfOk result (IsBest table.now) }
+    ensures exact { IfOk result (IsExact table.now) }
+    ensures shown { IfOk result (CanBeShown table.now) }
+    ensures rises { ticks.old ≤ ticks.new }
+    ensures pairs { ticks.new ≤ ticks.old + pairs_of (length table.now.places) }
+    ensures rows { (reach : ℕ) → EndsWithin table.now reach → ticks.new ≤ ticks.old + length table.now.places * (reach + reach / 8) }
+{
+    let _ = table.len();
+    find(alloc, table, ticks)
+}
+
+/// What `plan_counted` gives, by a count of its own.
 pub fn plan(alloc: Global, table: &PlaceTable) -> Result<Planned, AllocError>
     ensures good { IfOk result (λ planned. IsGood (certificate_of table.now planned)) }
     ensures best { IfOk result (IsBest table.now) }
     ensures exact { IfOk result (IsExact table.now) }
     ensures shown { IfOk result (CanBeShown table.now) }
 {
-    let _ = table.len();
-    find(alloc, table)
+    plan_counted(alloc, table, &mut Ticks::new())
 }

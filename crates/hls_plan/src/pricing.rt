@@ -1,9 +1,12 @@
-ghost use Rattle.std.specs.Prelude.{◌≡◌, ℕ, ◌+◌, ◌<◌, ◌≤◌, length, slice_set, IfOk, IsTrue, Option, Some, if◌then◌else◌};
+ghost use Rattle.std.specs.Prelude.{◌≡◌, ℕ, ◌+◌, ◌-◌, ◌*◌, ◌/◌, ◌^◌, ◌<◌, ◌≤◌, length, slice_set, IfOk, IsTrue, Option, Some, if◌then◌else◌};
 ghost use Rattle.hls_check_laws.specs.Certificates.{price_at};
+ghost use Rattle.hls_check_laws.specs.Orders.{IsRowEnd};
+ghost use Rattle.hls_plan.specs.Looks.{pairs_of, EndsWithin};
 ghost use Rattle.hls_plan.specs.Pricing.{is_lower, IsPricing};
 
 use crate::reach::span;
 use hls_check_laws::PlaceTable;
+use hls_time::Ticks;
 use std::alloc::{AllocError, Global};
 
 /// The price of each place, and the place from which a priced one was reached.
@@ -48,33 +51,70 @@ fn offer(prices: &mut [Option<u64>], origins: &mut [usize], p: usize, q: usize, 
 }
 
 /// Offers the price of place `p` and its step to each place that a step from it leads to.
-fn price_row(table: &PlaceTable, prices: &mut [Option<u64>], origins: &mut [usize], p: usize)
+fn price_row(
+    table: &PlaceTable,
+    prices: &mut [Option<u64>],
+    origins: &mut [usize],
+    p: usize,
+    ticks: &mut Ticks,
+)
     requires in_range { p < length table.now.places }
     requires priced { IsPricing table.now p 0 prices.old origins.old }
-    ensures { IsPricing table.now (p + 1) 0 prices.new origins.new }
+    requires room { ticks.old < 2 ^ 62 + 2 ^ 30 }
+    ensures priced { IsPricing table.now (p + 1) 0 prices.new origins.new }
+    ensures rises { ticks.old ≤ ticks.new }
+    ensures pairs { ticks.new + p + 1 ≤ ticks.old + length table.now.places }
+    ensures row { (end : ℕ) → p < end → end < length table.now.places → IsRowEnd table.now p end → ticks.new + p ≤ ticks.old + end + (end - p) / 8 }
 {
     let _ = table.len();
     let Some(price) = price_of(prices, p) else {
         return;
     };
-    let Some((first, end)) = span(table, p) else {
+    let Some((first, end)) = span(table, p, ticks) else {
         return;
     };
     for q in first..end {
+        ticks.tick();
         offer(prices, origins, p, q, price + table.cost(p, q));
     }
 }
 
+/// The rows of all places, one after the other.
+fn price_rows(
+    table: &PlaceTable,
+    prices: &mut [Option<u64>],
+    origins: &mut [usize],
+    ticks: &mut Ticks,
+)
+    requires priced { IsPricing table.now 0 0 prices.old origins.old }
+    requires room { ticks.old < 2 ^ 62 }
+    ensures priced { IsPricing table.now (length table.now.places) 0 prices.new origins.new }
+    ensures rises { ticks.old ≤ ticks.new }
+    ensures pairs { ticks.new ≤ ticks.old + pairs_of (length table.now.places) }
+    ensures rows { (reach : ℕ) → EndsWithin table.now reach → ticks.new ≤ ticks.old + length table.now.places * (reach + reach / 8) }
+{
+    let _ = table.len();
+    for p in 0..table.len() {
+        price_row(table, prices, origins, p, ticks);
+    }
+}
+
 /// The least cost of each place that can be reached from the first.
-pub fn price_places(alloc: Global, table: &PlaceTable) -> Result<Pricing, AllocError>
-    ensures { IfOk result (λ pricing. IsPricing table.now (length table.now.places) 0 pricing.prices.items pricing.origins.items) }
+pub fn price_places(
+    alloc: Global,
+    table: &PlaceTable,
+    ticks: &mut Ticks,
+) -> Result<Pricing, AllocError>
+    requires { ticks.old < 2 ^ 62 }
+    ensures priced { IfOk result (λ pricing. IsPricing table.now (length table.now.places) 0 pricing.prices.items pricing.origins.items) }
+    ensures rises { ticks.old ≤ ticks.new }
+    ensures pairs { ticks.new ≤ ticks.old + pairs_of (length table.now.places) }
+    ensures rows { (reach : ℕ) → EndsWithin table.now reach → ticks.new ≤ ticks.old + length table.now.places * (reach + reach / 8) }
 {
     let count = table.len();
     let mut prices = vec![in alloc; None; count]?;
     let mut origins = vec![in alloc; 0; count]?;
     prices[0] = Some(0);
-    for p in 0..count {
-        price_row(table, prices.as_mut_slice(), origins.as_mut_slice(), p);
-    }
+    price_rows(table, prices.as_mut_slice(), origins.as_mut_slice(), ticks);
     Ok(Pricing { prices, origins })
 }

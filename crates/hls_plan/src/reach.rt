@@ -1,57 +1,117 @@
-// The places that steps from one place lead to. By the order of the table they stand side by side.
-ghost use Rattle.std.specs.Prelude.{◌≡◌, ℕ, ◌+◌, ◌<◌, ◌≤◌, length, MatchOption};
+//! The places that steps from one place lead to. By the order of the table they stand side by side.
+//!
+//! The counts are of pairs that were looked at and are no step: a pair that is one is counted where its price is
+//! offered, so that no pair is counted twice.
+ghost use Rattle.std.specs.Prelude.{◌≡◌, ℕ, ◌+◌, ◌-◌, ◌/◌, ◌^◌, ◌<◌, ◌≤◌, length, IfNone, MatchOption};
+ghost use Rattle.hls_check_laws.specs.Orders.{IsRowEnd};
 ghost use Rattle.hls_check_laws.specs.Steps.{Allowed};
-ghost use Rattle.hls_plan.specs.Spans.{IsSpan};
+ghost use Rattle.hls_plan.specs.Spans.{IsSpan, IsFirstStep, IsNoStep, HasPairLooks, HasRowLooks};
 
 use hls_check_laws::PlaceTable;
+use hls_time::Ticks;
 
 /// The first place behind place `p` that a step from it leads to. It stops at the first place that is too far in
 /// rendition 0 or past a gap.
-fn first_step(table: &PlaceTable, p: usize) -> Option<usize>
-    requires { p < length table.now.places }
-    ensures { MatchOption result ((j : ℕ) → p < j → Allowed table.now p j → ⊥) (λ q. (p < q) × Allowed table.now p q × ((j : ℕ) → p < j → j < q → Allowed table.now p j → ⊥)) }
+fn first_step(table: &PlaceTable, p: usize, ticks: &mut Ticks) -> Option<usize>
+    requires in_range { p < length table.now.places }
+    requires room { ticks.old < 2 ^ 62 + 2 ^ 61 }
+    ensures found { MatchOption result (IsNoStep table.now p) (IsFirstStep table.now p) }
+    ensures rises { ticks.old ≤ ticks.new }
+    ensures pairs { MatchOption result (ticks.new + p + 1 ≤ ticks.old + length table.now.places) (λ q. ticks.new + p + 1 ≤ ticks.old + q) }
+    ensures row { IfNone result ((end : ℕ) → p < end → end < length table.now.places → IsRowEnd table.now p end → ticks.new + p ≤ ticks.old + end) }
 {
     let _ = table.len();
     for q in p + 1..table.len() {
         if table.allowed(p, q) {
             return Some(q);
-        } else if table.is_row_end(p, q) {
+        }
+        ticks.tick();
+        if table.is_row_end(p, q) {
             return None;
         }
     }
     None
 }
 
-/// The last place that a step from place `p` leads to, where one leads to place `q`. It looks ever further ahead
-/// while it finds such places, and else ever less far, since those between two of them are such places too.
-fn last_step(table: &PlaceTable, p: usize, q: usize) -> usize
-    requires { Allowed table.now p q }
+/// How far to look from a place that a step leads to: an eighth further than that place is.
+#[inline(always)]
+fn ahead(p: usize, last: usize) -> usize
+    requires forward { p < last }
+    requires small { last < 2 ^ 32 }
+    ensures { result ≡ last + 1 + (last - p) / 8 }
+{
+    last + 1 + (last - p) / 8
+}
+
+/// Looks ever further ahead while a step leads there: the last place so found, and a place behind it from which on
+/// none does.
+fn look_ahead(table: &PlaceTable, p: usize, first: usize, ticks: &mut Ticks) -> (usize, usize)
+    requires forward { p < first }
+    requires step { Allowed table.now p first }
+    requires room { ticks.old < 2 ^ 62 + 2 ^ 61 }
+    ensures allowed { Allowed table.now p result.0 }
+    ensures behind { first ≤ result.0 }
+    ensures before { (result.0 < result.1) × (result.1 ≤ length table.now.places) }
+    ensures none { (j : ℕ) → result.1 ≤ j → Allowed table.now p j → ⊥ }
+    ensures near { result.1 ≤ result.0 + 1 + (result.0 - p) / 8 }
+    ensures looked { (ticks.old ≤ ticks.new) × (ticks.new ≤ ticks.old + 1) × (ticks.new + result.1 ≤ ticks.old + length table.now.places) }
+{
+    let count = table.len();
+    let mut last = first;
+    let mut far = ahead(p, last);
+    while far < count {
+        if !table.allowed(p, far) {
+            ticks.tick();
+            return (last, far);
+        }
+        last = far;
+        far = ahead(p, last);
+    }
+    (last, count)
+}
+
+/// The last place that a step from place `p` leads to, where one leads to place `low` and none to place `high` or
+/// behind it.
+fn last_between(table: &PlaceTable, p: usize, low: usize, high: usize, ticks: &mut Ticks) -> usize
+    requires step { Allowed table.now p low }
+    requires before { (low < high) × (high ≤ length table.now.places) }
+    requires none { (j : ℕ) → high ≤ j → Allowed table.now p j → ⊥ }
+    requires room { ticks.old < 2 ^ 62 + 2 ^ 61 + 2 ^ 60 }
     ensures allowed { Allowed table.now p result }
-    ensures behind { q ≤ result }
+    ensures behind { low ≤ result }
     ensures last { (j : ℕ) → result < j → Allowed table.now p j → ⊥ }
+    ensures looked { (ticks.old ≤ ticks.new) × (ticks.new + result + 1 ≤ ticks.old + high) }
 {
     let _ = table.len();
-    let mut last = q;
-    let mut ahead = 1;
-    while ahead > 0 {
-        if table.allowed(p, last + ahead) {
-            last += ahead;
-            ahead *= 2;
+    let mut last = low;
+    let mut end = high;
+    while last + 1 < end {
+        let middle = last + (end - last) / 2;
+        if table.allowed(p, middle) {
+            last = middle;
         } else {
-            ahead /= 2;
+            ticks.tick();
+            end = middle;
         }
     }
     last
 }
 
-/// The places that steps from place `p` lead to: from the first on, and below the second.
-pub fn span(table: &PlaceTable, p: usize) -> Option<(usize, usize)>
-    requires { p < length table.now.places }
-    ensures { MatchOption result ((j : ℕ) → p < j → Allowed table.now p j → ⊥) (λ f. IsSpan table.now p f.0 f.1) }
+/// The places that steps from place `p` lead to: from the first on, and below the second. It looks at each place
+/// up to the first of them, and then for the last of them at fewer the further they reach.
+pub fn span(table: &PlaceTable, p: usize, ticks: &mut Ticks) -> Option<(usize, usize)>
+    requires in_range { p < length table.now.places }
+    requires room { ticks.old < 2 ^ 62 + 2 ^ 60 }
+    ensures found { MatchOption result (IsNoStep table.now p) (λ f. IsSpan table.now p f.0 f.1) }
+    ensures rises { ticks.old ≤ ticks.new }
+    ensures pairs { HasPairLooks table.now p result ticks.old ticks.new }
+    ensures row { HasRowLooks table.now p result ticks.old ticks.new }
 {
     let _ = table.len();
-    let Some(first) = first_step(table, p) else {
+    let Some(first) = first_step(table, p, ticks) else {
         return None;
     };
-    Some((first, last_step(table, p, first) + 1))
+    let (low, high) = look_ahead(table, p, first, ticks);
+    let last = last_between(table, p, low, high, ticks);
+    Some((first, last + 1))
 }

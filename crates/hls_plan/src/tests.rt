@@ -1,5 +1,6 @@
-use crate::{Planned, certificate, plan};
+use crate::{Planned, certificate, plan, plan_counted};
 use hls_check_laws::{Claim, PlaceTable, PrintedTable, Spot, Spots};
+use hls_time::Ticks;
 use std::alloc::Global;
 use std::process::Abort;
 use std::test::Fail;
@@ -162,5 +163,44 @@ fn cuts_uneven_ends(rt: HostRuntime) -> Result<(), Fail> {
     )?;
     let planned = plan(rt.alloc(), &table)?;
     assert_cut(&rt, &planned, &[0, 1, 2], &[Some(0), Some(0), Some(0)]);
+    Ok(())
+}
+
+/// Places one second apart, without gaps, target 6 s, preferred 4 s.
+fn seconds_table(alloc: Global, count: u64) -> Result<PlaceTable, Fail> {
+    let mut places = Vec::new(alloc);
+    for k in 0..count {
+        let time = k.saturating_mul(SECOND);
+        places.push(Spots::new(vec![in alloc; spot(k, time)]?))?;
+    }
+    let printed = PrintedTable::try_new(6, 4 * SECOND, 1, places);
+    Ok(PlaceTable::try_new(printed.ok_or("out of range")?).ok_or("not in order")?)
+}
+
+/// How many segments of a plan are of three seconds, where the places are one second apart.
+fn threes(plan: &[usize]) -> usize {
+    plan.windows(2)
+        .filter(|pair| pair[1] == pair[0].saturating_add(3))
+        .count()
+}
+
+fn assert_seconds_cut(rt: &impl Abort, planned: &Planned) {
+    match planned {
+        Planned::Cut { plan, prices } => {
+            assert_eq!(rt; plan.len(), 1251);
+            assert_eq!(rt; threes(plan.as_slice()), 1);
+            assert_eq!(rt; prices.as_slice().last(), Some(&Some(SECOND)));
+        }
+        Planned::NoCut { .. } => assert!(rt; false, "no cut"),
+    }
+}
+
+#[test]
+fn looks_at_seven_pairs_a_place(rt: HostRuntime) -> Result<(), Fail> {
+    let table = seconds_table(rt.alloc(), 5000)?;
+    let mut ticks = Ticks::new();
+    let planned = plan_counted(rt.alloc(), &table, &mut ticks)?;
+    assert_seconds_cut(&rt, &planned);
+    assert!(rt; ticks.count() <= 35000);
     Ok(())
 }

@@ -1,7 +1,9 @@
+use Rattle.std.proofs.Common.{arith}
 use Rattle.hls_plan.proofs.Between.{span_found}
 use Rattle.hls_plan.proofs.reach.span.Goals as goal
 
-pub returns : goal.returns
-returns c =
-    span_found c.args.table.now c.len.ensures.orderly c.args.p c.in-Some.first c.last_step.result c.in-Some.ensures.0 c.in-Some.ensures.1
-    c.in-Some.ensures.2 c.last_step.ensures.allowed c.last_step.ensures.behind c.last_step.ensures.last
+pub returns-clause-found : goal.returns-clause-found
+returns-clause-found c =
+    span_found c.args.table.now c.len.ensures.orderly c.args.p c.in-Some.first c.last_between-last.result c.in-Some.ensures.found
+    c.last_between-last.ensures.allowed (omega (arith, c.look_ahead-low.ensures.behind, c.last_between-last.ensures.behind))
+    c.last_between-last.ensures.last
