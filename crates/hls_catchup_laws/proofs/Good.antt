@@ -7,9 +7,10 @@ use Rattle.hls_media_laws.specs.declared.facts.Facts.{Facts}
 use Rattle.hls_check_laws.specs.Tables.{Table, IsTable, spot_in, place_at}
 use Rattle.hls_check_laws.specs.Plans.{Leads, end_of}
 use Rattle.hls_m3u8.specs.HasText.{IsSegment}
-use Rattle.hls_catchup_laws.specs.Jobs.{len_of, bytes_between}
+use Rattle.hls_media_laws.specs.FactLists.{len_of}
+use Rattle.hls_catchup_laws.specs.Jobs.{bytes_between}
 use Rattle.hls_catchup_laws.specs.Segments.{Cutting, is_break, segment_between, segments_from}
-use Rattle.hls_catchup_laws.specs.Laws.{end_fragment, Fits, AreUnits, SegmentsAreGood}
+use Rattle.hls_catchup_laws.specs.Laws.{end_fragment, SegmentFits, AreUnits, SegmentsAreGood}
 use Rattle.hls_catchup_laws.proofs.Joined.{fragment_at, fragments_rise}
 
 some_taken : (n : ℕ) (facts : List Facts) → 0 < n → 0 < length facts → All (λ f. 0 < f.len) facts → 0 < sum_by len_of (take n facts)
@@ -34,10 +35,10 @@ few_bytes facts a b =
     omega arith
 
 pub fits_from : (t : Table) (cut : Cutting) (p : ℕ) (mark : Bool) (rest : List ℕ) → Leads t p rest → cut.rendition < t.renditions →
-    All (Fits t.target) (segments_from cut t.places p mark rest)
-fits_from t cut p mark [] leads within = All-nil (Fits t.target)
+    All (SegmentFits t.target) (segments_from cut t.places p mark rest)
+fits_from t cut p mark [] leads within = All-nil (SegmentFits t.target)
 fits_from t cut p mark (q ∷ rest) leads within =
-    All-cons (Fits t.target) (segment_between cut mark (place_at t.places p) (place_at t.places q)) (segments_from cut t.places q (is_break (place_at t.places q)) rest)
+    All-cons (SegmentFits t.target) (segment_between cut mark (place_at t.places p) (place_at t.places q)) (segments_from cut t.places q (is_break (place_at t.places q)) rest)
     ((leads.0.step cut.rendition within).fits)
     (fits_from t cut q (is_break (place_at t.places q)) rest leads.1 within)
 

@@ -6,7 +6,8 @@ use Rattle.std.proofs.lemmas.List.Sums.{sum-map, sum_by-cons}
 use Rattle.std.proofs.lemmas.List.Folds.{concat-append}
 use Rattle.std.proofs.Math.Seq.{take-add, drop-append-add, take-append_seam, drop-append_seam}
 use Rattle.hls_media_laws.specs.declared.facts.Facts.{Facts}
-use Rattle.hls_catchup_laws.specs.Jobs.{len_of, bytes_between, units_between, HaveLengths}
+use Rattle.hls_media_laws.specs.FactLists.{len_of}
+use Rattle.hls_catchup_laws.specs.Jobs.{bytes_between, units_between, HaveLengths}
 
 drop_nil : {A : Type 0} (n : ℕ) → drop n (let none : List A = [] in none) ≡ []
 drop_nil zero = refl

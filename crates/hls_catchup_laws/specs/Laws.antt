@@ -1,12 +1,14 @@
 -- What holds of the segments of every plan.
-use Rattle.std.specs.Prelude.{◌≡◌, ℕ, ◌+◌, ◌*◌, ◌-◌, ◌^◌, ◌<◌, ◌≤◌, List, length, sum_by, All}
+use Rattle.std.specs.Prelude.{◌≡◌, ℕ, ◌+◌, ◌-◌, ◌<◌, ◌≤◌, List, length, All}
 use Rattle.std.specs.List.{concat}
+use Rattle.hls_time.specs.Times.{Fits}
+use Rattle.hls_media_laws.specs.FactLists.{bytes_in, recording_limit}
 use Rattle.hls_check_laws.specs.Tables.{Table, IsTable, spot_in, place_at}
 use Rattle.hls_check_laws.specs.Plans.{IsPlan}
 use Rattle.hls_m3u8.specs.declared.playlist.Segment.{Segment}
 use Rattle.hls_m3u8.specs.HasText.{IsSegment}
 use Rattle.hls_catchup_laws.specs.Media.{joined_media}
-use Rattle.hls_catchup_laws.specs.Jobs.{len_of, units_between, resource_of, HaveLengths}
+use Rattle.hls_catchup_laws.specs.Jobs.{units_between, resource_of, HaveLengths}
 use Rattle.hls_catchup_laws.specs.Segments.{Cutting, segments_of}
 
 -- a table's first fragment of a rendition, and the one after its last
@@ -24,17 +26,17 @@ MediaAreTheUnits = (t : Table) (plan : List ℕ) (cut : Cutting) (head : List �
     joined_media (segments_of cut t.places plan) (resource_of head floor units cut.first (end_fragment t cut.rendition)) ≡
     concat (units_between floor units cut.first (end_fragment t cut.rendition))
 
--- the length fits the target once it is rounded to whole seconds
-abbrev pub Fits : ℕ → Segment → Type 0
-Fits target segment = segment.us ≤ target * 1000000 + 499999
+-- a segment's length fits the target once it is rounded to whole seconds
+abbrev pub SegmentFits : ℕ → Segment → Type 0
+SegmentFits target segment = Fits segment.us target
 
--- the units of a rendition: each has bytes, and with the init section there are at most 2^40
+-- the units of a rendition: each has bytes, and with the init section there are no more than a recording takes
 pub record AreUnits (cut : Cutting) : Type 0 where
   pub some : All (λ f. 0 < f.len) cut.facts
-  pub total : cut.init_length + sum_by len_of cut.facts ≤ 2 ^ 40
+  pub total : cut.init_length + bytes_in cut.facts ≤ recording_limit
 
 -- each segment fits the target and can be written
 abbrev pub SegmentsAreGood : Type 0
 SegmentsAreGood = (t : Table) (plan : List ℕ) (cut : Cutting) →
     IsTable t → IsPlan t plan → cut.rendition < t.renditions → AreUnits cut → end_fragment t cut.rendition ≤ length cut.facts →
-    All (Fits t.target) (segments_of cut t.places plan) × All (IsSegment cut.uri) (segments_of cut t.places plan)
+    All (SegmentFits t.target) (segments_of cut t.places plan) × All (IsSegment cut.uri) (segments_of cut t.places plan)
