@@ -9,7 +9,7 @@ use Rattle.hls_check_laws.specs.declared.spot.Spot.{Spot}
 use Rattle.hls_places_laws.specs.declared.place.Place.{Place}
 use Rattle.hls_places_laws.specs.Sources.{Source, first_facts, fact_at, no_facts}
 use Rattle.hls_places_laws.specs.Spots.{near, spot_at, first_entry}
-use Rattle.hls_places_laws.specs.Places.{spots, with_spot, place_of, place_at, is_over, end_of, closing_of, places_of}
+use Rattle.hls_places_laws.specs.Places.{spots, with_spot, place_of, common_at, has_ended, end_in, closing_of, places_of}
 use Rattle.hls_places_laws.proofs.Sorted.{filter_map-all, all-snoc}
 
 -- spots side by side with the renditions, none past the last fragment's end
@@ -47,7 +47,7 @@ spots-bounded [] t found is = let none : [] ≡ found = cc in subst (Bounded [])
 spots-bounded (s ∷ sources) t found is =
     both_there s sources (near s t) (spots sources t) found is (near-bounded s t) (spots-bounded sources t)
 
-ends-bounded : (sources : List Source) → Bounded sources (map end_of sources)
+ends-bounded : (sources : List Source) → Bounded sources (map end_in sources)
 ends-bounded [] = tt
 ends-bounded (s ∷ sources) = (omega arith, ends-bounded sources)
 
@@ -58,7 +58,7 @@ mapped sources (Some found) p is each =
     let same : place_of found ≡ p = cc in
     subst (λ (x : Place). Bounded sources x.spots) same (each found refl)
 
-place-bounded : (sources : List Source) (f : Facts) (p : Place) → place_at sources f ≡ Some p → Bounded sources p.spots
+place-bounded : (sources : List Source) (f : Facts) (p : Place) → common_at sources f ≡ Some p → Bounded sources p.spots
 place-bounded sources f p is =
     elim (cases_Bool f.sync) [
       | inl sync ↦
@@ -72,13 +72,13 @@ pub places-bounded : (sources : List Source) → All (λ (p : Place). Bounded so
 places-bounded sources =
     let P : Place → Type 0 = λ p. Bounded sources p.spots in
     let fs : List Facts = first_facts sources in
-    let found : All P (filter_map (place_at sources) fs) =
-    filter_map-all (place_at sources) P no_facts fs (λ k p h at. place-bounded sources (get_or fs k no_facts) p at) in
-    elim (cases_Bool (list_all is_over sources)) [
+    let found : All P (filter_map (common_at sources) fs) =
+    filter_map-all (common_at sources) P no_facts fs (λ k p h at. place-bounded sources (get_or fs k no_facts) p at) in
+    elim (cases_Bool (list_all has_ended sources)) [
       | inl over ↦
-          (let closing : closing_of sources ≡ (record { spots = map end_of sources; closing = true }) ∷ [] = cond-true (list_all is_over sources) _ _ over in
-          rw closing (all-snoc P (filter_map (place_at sources) fs) (record { spots = map end_of sources; closing = true }) found (ends-bounded sources)))
+          (let closing : closing_of sources ≡ (record { spots = map end_in sources; closing = true }) ∷ [] = cond-true (list_all has_ended sources) _ _ over in
+          rw closing (all-snoc P (filter_map (common_at sources) fs) (record { spots = map end_in sources; closing = true }) found (ends-bounded sources)))
       | inr going ↦
-          (let closing : closing_of sources ≡ [] = cond-false (list_all is_over sources) _ _ going in
-          rw (closing, append-nil (filter_map (place_at sources) fs)) found)
+          (let closing : closing_of sources ≡ [] = cond-false (list_all has_ended sources) _ _ going in
+          rw (closing, append-nil (filter_map (common_at sources) fs)) found)
     ]

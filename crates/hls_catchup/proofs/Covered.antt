@@ -1,6 +1,6 @@
 -- A programme's table speaks of units that are kept.
-use Rattle.std.proofs.Common.{◌≡◌, ℕ, zero, suc, ◌+◌, ◌-◌, ◌≤◌, List, [], ◌∷◌, length, map, drop, Some, Bool, true, arith, refl, sym, ap, subst, ◌∙◌, All, Result, Ok, Err}
-use Rattle.std.specs.Prelude.{slice_get, ⊤, nat_lt, nat_le, ◌==◌, if◌then◌else◌}
+use Rattle.std.proofs.Common.{◌≡◌, ℕ, zero, suc, ◌+◌, ◌-◌, ◌≤◌, List, [], ◌∷◌, length, map, drop, Some, Bool, true, arith, refl, sym, ap, subst, ◌∙◌, All, Ok}
+use Rattle.std.specs.Prelude.{slice_get, ⊤, nat_le}
 use Rattle.std.specs.List.{filter, slice_range}
 use Rattle.std.proofs.lemmas.Bool.{cond_both, and_parts, leb-true}
 use Rattle.std.proofs.lemmas.List.{length-map}
@@ -13,18 +13,15 @@ use Rattle.hls_core_laws.specs.State.{State, channel}
 use Rattle.hls_core_laws.specs.Places.{is_finished, tolerance_of, sources, kept_places}
 use Rattle.hls_core_laws.proofs.Sources.{lanes_count}
 use Rattle.hls_places_laws.specs.declared.place.Place.{Place}
-use Rattle.hls_places_laws.specs.declared.programme_fault.ProgrammeFault.{ProgrammeFault}
-use Rattle.hls_places_laws.specs.declared.programme_fault.ProgrammeFault.TheVariants.{BeforeRecording, NotYet, AfterRecording, ProgrammeTooLong}
 use Rattle.hls_places_laws.specs.Sources.{Source, sources_of}
 use Rattle.hls_places_laws.specs.Places.{places_of}
-use Rattle.hls_places_laws.specs.Programmes.{is_kept_above, is_kept, kept, first_after, first_from, cut_out, programme_between}
+use Rattle.hls_places_laws.specs.Programmes.{is_kept_above, is_kept, kept, cut_out}
 use Rattle.hls_catchup.specs.declared.request.Request.{Request}
 use Rattle.hls_catchup.specs.declared.cutout.Cutout.{Cutout}
 use Rattle.hls_catchup.specs.Answers.{AreCovered, IsRightCutout}
-use Rattle.hls_catchup.specs.Requests.{is_over, table_in, AreRecordings, IsRightAnswer}
+use Rattle.hls_catchup.specs.Requests.{IsTableFor, AreRecordings, IsRightAnswer}
 use Rattle.hls_catchup.proofs.Bounded.{Bounded, places-bounded}
 use Rattle.hls_catchup.proofs.States.{same_facts, same_floors}
-use Rattle.hls_catchup.proofs.Tables.{no_refusal, table_found}
 
 -- the recordings side by side with the tolerances and with what is finished, and their floors
 abbrev sources_with : List Recorded → List ℕ → List Bool → List Source
@@ -98,28 +95,15 @@ within-at (first ∷ recordings) (spot ∷ spots) within zero recorded at =
     subst (λ (x : Recorded). (x.floor ≤ spot.fragment) × (spot.fragment ≤ length x.facts)) same (within.0, within.1)
 within-at (first ∷ recordings) (spot ∷ spots) within (suc r) recorded at = within-at recordings spots within.2 r recorded at
 
-cut_from : (target preferred : ℕ) (places : List Place) (finished : Bool) (after to : ℕ) (t : Table) →
-    programme_between target preferred places finished after to ≡ Ok t → cut_out target preferred places (after - 1) to ≡ t
-cut_from target preferred places finished after to t is =
-    let cut : Result Table ProgrammeFault = Ok (cut_out target preferred places (after - 1) to) in
-    let long : Result Table ProgrammeFault = if nat_lt 16384 (to + 1 - (after - 1)) then Err ProgrammeTooLong else cut in
-    let past : Result Table ProgrammeFault = if nat_le (length places) to then Err (if finished then AfterRecording else NotYet) else long in
-    let first : past ≡ Ok t = no_refusal (after == 0) BeforeRecording past t is in
-    let second : long ≡ Ok t = no_refusal (nat_le (length places) to) (if finished then AfterRecording else NotYet) long t first in
-    let third : cut ≡ Ok t = no_refusal (nat_lt 16384 (to + 1 - (after - 1))) ProgrammeTooLong cut t second in
-    cc
-
 pub table-covered : (s : State) (request : Request) (t : Table) (recordings : List Recorded) → AreRecordings s recordings → IsTable t →
-    table_in s request ≡ Ok t → AreCovered t recordings
+    IsTableFor s request (Ok t) → AreCovered t recordings
 table-covered s request t recordings are valid is =
     let places : List Place = kept_places s in
-    let after : ℕ = first_after request.start_us places in
-    let to : ℕ = first_from request.stop_us places in
-    let cut : cut_out s.config.target request.preferred places (after - 1) to ≡ t =
-    cut_from s.config.target request.preferred places (is_over s) after to t (table_found s request t is) in
-    let range : List Place = slice_range places (after - 1) (to + 1) in
+    let found = is.programme.0 in
+    let cut : cut_out s.config.target request.preferred places found.s found.e ≡ t = sym found.is in
+    let range : List Place = slice_range places found.s (found.e + 1) in
     let P : Place → Type 0 = λ p. Within recordings p.spots in
-    let all : All P range = All-take P (to + 1 - (after - 1)) (drop (after - 1) places) (All-drop P (after - 1) places (state-within s recordings are)) in
+    let all : All P range = All-take P (found.e + 1 - found.s) (drop found.s places) (All-drop P found.s places (state-within s recordings are)) in
     let listed : All (Within recordings) (map (λ (p : Place). p.spots) range) = All-map (Within recordings) (λ (p : Place). p.spots) range all in
     let tabled : All (Within recordings) t.places = subst (λ (x : Table). All (Within recordings) x.places) cut listed in
     let count : 2 ≤ length t.places = valid.count.0 in
@@ -135,7 +119,7 @@ table-covered s request t recordings are valid is =
 
 -- an answer over the recordings of the state is right
 pub right_answer : (s t : State) (request : Request) (table : Table) (recordings : List Recorded) (cutout : Cutout) → t ≡ s →
-    table_in s request ≡ Ok table → AreRecordings s recordings → IsTable table → IsRightCutout recordings table cutout → IsRightAnswer t request cutout
+    IsTableFor s request (Ok table) → AreRecordings s recordings → IsTable table → IsRightCutout recordings table cutout → IsRightAnswer t request cutout
 right_answer s t request table recordings cutout same defined are valid right =
     rw same (record {
       table = table;

@@ -10,3 +10,4 @@ pub mod Tables
 pub mod Bounded
 pub mod Covered
 pub mod Spans
+pub mod Plays

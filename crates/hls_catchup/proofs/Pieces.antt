@@ -7,9 +7,10 @@ use Rattle.hls_media_laws.specs.declared.facts.Facts.{Facts}
 use Rattle.hls_media_laws.proofs.Bounds.{units_are_bounded}
 use Rattle.hls_record.specs.Recorded.{Recorded, offset_at, unit_piece, piece_at}
 use Rattle.hls_record.specs.Valid.{IsRecorded}
-use Rattle.hls_record.proofs.Lists.{at_drop}
+use Rattle.hls_media_laws.proofs.Lists.{at_drop}
 use Rattle.hls_record.proofs.Pieces.{no_piece}
-use Rattle.hls_catchup_laws.specs.Jobs.{len_of, bytes_between, units_between, resource_of, HaveLengths}
+use Rattle.hls_media_laws.specs.FactLists.{len_of}
+use Rattle.hls_catchup_laws.specs.Jobs.{bytes_between, units_between, resource_of, HaveLengths}
 use Rattle.hls_catchup_laws.proofs.Ranges.{bytes_are}
 use Rattle.hls_catchup.proofs.Offsets.{offsets_add}
 

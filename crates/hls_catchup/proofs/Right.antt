@@ -1,5 +1,5 @@
 -- The lists that are made by a plan are right.
-use Rattle.std.proofs.Common.{◌≡◌, ℕ, zero, suc, ◌+◌, ◌<◌, ◌≤◌, List, [], ◌∷◌, length, map, Some, refl, sym, ◌∙◌, ap, arith, subst, zero-add, All, Option, Vec, Global, Bor}
+use Rattle.std.proofs.Common.{◌≡◌, ℕ, zero, suc, ◌+◌, ◌<◌, ◌≤◌, List, [], ◌∷◌, length, map, Some, refl, sym, ◌∙◌, ap, arith, subst, zero-add, All, Option, Bool, Vec, Global, Bor}
 use Rattle.std.specs.Prelude.{slice_get}
 use Rattle.std.proofs.lemmas.List.Elements.{All-nil, All-cons, All-head, All-tail}
 use Rattle.hls_media_laws.proofs.Bounds.{units_are_bounded, inits_are_bounded}
@@ -9,7 +9,7 @@ use Rattle.hls_check_laws.specs.Tables.{Table, IsTable}
 use Rattle.hls_check_laws.specs.Plans.{IsPlan, IsLeast}
 use Rattle.hls_check_laws.specs.Certificates.{Printed, IsGood}
 use Rattle.hls_plan.specs.declared.planned.Planned.{Planned}
-use Rattle.hls_plan.specs.declared.planned.Planned.TheVariants.{Cut}
+use Rattle.hls_plan.specs.declared.planned.Planned.TheVariants.{Cut, NoCut}
 use Rattle.hls_plan.specs.Planned.{certificate_of, IsBest}
 use Rattle.hls_m3u8.specs.Playlist.{Playlist}
 use Rattle.hls_m3u8.proofs.Building.{vod_has_text}
@@ -18,7 +18,8 @@ use Rattle.hls_catchup_laws.specs.Laws.{AreUnits, first_fragment}
 use Rattle.hls_catchup_laws.proofs.Joined.{media_are_the_units}
 use Rattle.hls_catchup_laws.proofs.Good.{segments_are_good}
 use Rattle.hls_catchup.specs.Lists.{cutting, job_uri, job_list, job_lists}
-use Rattle.hls_catchup.specs.Answers.{IsCovered, AreCovered, IsRightList, AreRightLists, ShowsCut, IsGoodFor}
+use Rattle.hls_catchup.specs.Answers.{IsCovered, AreCovered, IsRightList, AreRightLists, ShowsCut, ShowsNoCut, IsGoodFor}
+use Rattle.hls_catchup.specs.Accepted.{IsAccepted}
 use Rattle.hls_catchup.proofs.Pieces.{have_lengths}
 use Rattle.hls_catchup.proofs.Uris.{job_uri_good}
 
@@ -99,17 +100,30 @@ each_borrowed (first ∷ recordings) all (suc r) recorded at =
 -- a least plan's lists and the certificate of it
 pub right_cut : (recordings : List (Bor Recorded)) (t : Table) (planned : Planned) (plan : Vec ℕ Global) (prices : Vec (Option ℕ) Global)
     (lists : List Playlist) (certificate : Printed) →
-    certificate ≡ certificate_of t planned → planned ≡ Cut plan prices → IsGood (certificate_of t planned) → IsBest t planned →
+    certificate ≡ certificate_of t planned → planned ≡ Cut plan prices → IsGood (certificate_of t planned) → IsAccepted (certificate_of t planned) → IsBest t planned →
     lists ≡ job_lists 0 (map (λ r. r.now) recordings) t plan.items → All (λ r. IsRecorded r.now) recordings → IsTable t →
     AreCovered t (map (λ r. r.now) recordings) →
     IsGoodFor t certificate × ShowsCut (map (λ r. r.now) recordings) t lists certificate.shown
-right_cut recordings t planned plan prices lists certificate is same good best made valid table covered =
+right_cut recordings t planned plan prices lists certificate is same good accepted best made valid table covered =
     let recorded : List Recorded = map (λ r. r.now) recordings in
     let shown : certificate ≡ certificate_of t (Cut plan prices) = is ∙ ap (certificate_of t) same in
     let least : IsLeast t plan.items = subst (IsBest t) same best in
     let well : IsGood (certificate_of t (Cut plan prices)) = subst (λ p. IsGood (certificate_of t p)) same good in
+    let fine : IsAccepted (certificate_of t (Cut plan prices)) = subst (λ p. IsAccepted (certificate_of t p)) same accepted in
     let right : AreRightLists recorded t plan.items lists =
     subst (AreRightLists recorded t plan.items) (sym made)
     (right_lists recorded t plan.items (each_borrowed recordings valid) table least.is_plan covered) in
     let P : Printed → Type 0 = λ c. IsGoodFor t c × ShowsCut recorded t lists c.shown in
-    subst P (sym shown) ((refl, well), (least, right))
+    subst P (sym shown) ((refl, well, fine), (least, right))
+
+-- the certificate that there is no plan
+pub right_none : (t : Table) (planned : Planned) (closed : Vec Bool Global) (certificate : Printed) → certificate ≡ certificate_of t planned →
+    planned ≡ NoCut closed → IsGood (certificate_of t planned) → IsAccepted (certificate_of t planned) → IsBest t planned →
+    IsGoodFor t certificate × ShowsNoCut t certificate.shown
+right_none t planned closed certificate is same good accepted best =
+    let shown : certificate ≡ certificate_of t (NoCut closed) = is ∙ ap (certificate_of t) same in
+    let none : IsBest t (NoCut closed) = subst (IsBest t) same best in
+    let well : IsGood (certificate_of t (NoCut closed)) = subst (λ p. IsGood (certificate_of t p)) same good in
+    let fine : IsAccepted (certificate_of t (NoCut closed)) = subst (λ p. IsAccepted (certificate_of t p)) same accepted in
+    let P : Printed → Type 0 = λ c. IsGoodFor t c × ShowsNoCut t c.shown in
+    subst P (sym shown) ((refl, well, fine), none)

@@ -3,7 +3,7 @@ use Rattle.std.proofs.Common.{◌≡◌, ℕ, ◌<◌, ◌≤◌, List, ◌∷�
 use Rattle.std.specs.Prelude.{option_map}
 use Rattle.std.proofs.lemmas.Bool.{cases_lt}
 use Rattle.hls_record.specs.Recorded.{Recorded}
-use Rattle.hls_record.proofs.Lists.{some_at, none_past}
+use Rattle.hls_media_laws.proofs.Lists.{some_at, none_past}
 use Rattle.hls_core_laws.specs.State.{State, channel}
 use Rattle.hls_core_laws.specs.Outcome.{held}
 use Rattle.hls_core.specs.Reads.{recorded_at, recording_of}
@@ -16,7 +16,8 @@ use Rattle.hls_catchup.specs.declared.span.Span.{Span}
 use Rattle.hls_catchup.specs.Answers.{IsRightCutout}
 use Rattle.hls_catchup.specs.Requests.{IsRightAnswer}
 use Rattle.hls_catchup.specs.Replies.{ReplyData}
-use Rattle.hls_catchup.specs.Resources.{parts_of, IsSpan}
+use Rattle.hls_catchup.specs.Resources.{parts_of}
+use Rattle.hls_catchup.specs.Spans.{IsSpan}
 
 -- a recording is that of a rendition of the channel
 pub lane_there : (s : State) (r : ℕ) (recorded : Recorded) → recording_of s r ≡ Some recorded → r < length (channel s).lanes

@@ -6,7 +6,7 @@ use Rattle.std.proofs.lemmas.Bool.{cases_lt}
 use Rattle.std.proofs.lemmas.List.{length-map, map-append, get_or_past, get_or-map, at_drop_more}
 use Rattle.hls_media_laws.specs.InitData.{InitData}
 use Rattle.hls_record.specs.Recorded.{Recorded}
-use Rattle.hls_record.proofs.Lists.{some_at, at_snoc}
+use Rattle.hls_media_laws.proofs.Lists.{some_at, at_snoc}
 use Rattle.hls_core_laws.specs.Channel.{Lane, no_lane}
 use Rattle.hls_core_laws.specs.State.{State, Held, channel}
 use Rattle.hls_core_laws.specs.IsState.{IsState}

@@ -5,7 +5,8 @@ use Rattle.std.proofs.lemmas.Bool.{cases_Bool, cond-true, cond-false, cond_both,
 use Rattle.hls_check_laws.specs.declared.spot.Spot.{Spot}
 use Rattle.hls_places_laws.specs.declared.place.Place.{Place}
 use Rattle.hls_places_laws.specs.Order.{time_of, spots_of}
-use Rattle.hls_places_laws.specs.Programmes.{is_kept, kept, first_after, first_from}
+use Rattle.hls_places_laws.specs.Firsts.{first_after, first_from}
+use Rattle.hls_places_laws.specs.Programmes.{is_kept, kept}
 use Rattle.hls_catchup.specs.Kept.{Kept, all_kept, IsLastBy}
 
 -- the number of the last kept place before the first kept one after the time, where numbers count from n, and `last` is the

@@ -9,10 +9,11 @@ use Rattle.hls_m3u8.specs.Playlist.{Playlist, playlist_of}
 use Rattle.hls_m3u8.specs.HasText.{HasText}
 use Rattle.hls_catchup_laws.specs.Media.{joined_media}
 use Rattle.hls_catchup_laws.specs.Jobs.{units_between, resource_of}
-use Rattle.hls_catchup_laws.specs.Laws.{first_fragment, end_fragment, Fits}
+use Rattle.hls_catchup_laws.specs.Laws.{first_fragment, end_fragment, SegmentFits}
 use Rattle.hls_catchup.specs.declared.cutout.Cutout.{Cutout}
 use Rattle.hls_catchup.specs.declared.cutout.Cutout.TheVariants.{Cut, NoCut}
 use Rattle.hls_catchup.specs.Lists.{job_list}
+use Rattle.hls_catchup.specs.Accepted.{IsAccepted}
 
 -- the units of the programme in one rendition
 abbrev pub programme_units : Recorded → ℕ → Table → List (List ℕ)
@@ -38,7 +39,7 @@ pub record IsRightList (recorded : Recorded) (r : ℕ) (t : Table) (plan : List 
   pub is : list ≡ job_list recorded r t plan
   pub has_text : HasText list
   -- each length fits the target
-  pub fits : All (Fits t.target) list.segments
+  pub fits : All (SegmentFits t.target) list.segments
   -- the joined media are just the units of the programme
   pub media : joined_media list.segments (job_resource recorded r t) ≡ concat (programme_units recorded r t)
 
@@ -58,9 +59,9 @@ abbrev pub ShowsNoCut : Table → Shown → Type 0
 ShowsNoCut t (CutShown total plan prices) = ⊥
 ShowsNoCut t (NoneShown closed) = HasNoPlan t
 
--- a good certificate over this very table
+-- a good certificate over this very table; printed, it is read as itself, and the checker says yes
 abbrev pub IsGoodFor : Table → Printed → Type 0
-IsGoodFor t certificate = (certificate.table ≡ t) × IsGood certificate
+IsGoodFor t certificate = (certificate.table ≡ t) × IsGood certificate × IsAccepted certificate
 
 -- a least plan's lists with a certificate over the table, or the certificate that there is none
 abbrev pub IsRightCutout : List Recorded → Table → Cutout → Type 0

@@ -1,7 +1,8 @@
--- The kept places of a snapshot: those with no trimmed fragment.
+-- For the proofs of this crate; no public clause cites it. The kept places of a snapshot: those with no trimmed fragment.
 use Rattle.std.specs.Prelude.{◌≡◌, ℕ, ◌+◌, ◌-◌, ◌≤◌, List, length, take, drop, Option, MatchOption}
 use Rattle.hls_places_laws.specs.declared.place.Place.{Place}
-use Rattle.hls_places_laws.specs.Programmes.{kept, first_after, first_from}
+use Rattle.hls_places_laws.specs.Firsts.{first_after, first_from}
+use Rattle.hls_places_laws.specs.Programmes.{kept}
 use Rattle.hls_core_laws.specs.State.{State}
 use Rattle.hls_core_laws.specs.Places.{places, floors}
 use Rattle.hls_catchup.specs.declared.kept.KeptPlaces.TheInside.{Inside}

@@ -1,5 +1,5 @@
--- Where a request's programme stands among the places.
-use Rattle.std.specs.Prelude.{◌≡◌, ◌*◌, ◌<◌, ◌≤◌, length, take, Result, Ok, Err}
+-- For the proofs of this crate; no public clause cites it. Where a request's programme stands among the places.
+use Rattle.std.specs.Prelude.{◌≤◌, length, take, Result, Ok, Err}
 use Rattle.hls_check_laws.specs.Tables.{Table, IsTable, table_of}
 use Rattle.hls_check_laws.specs.Orders.{IsOrderly}
 use Rattle.hls_places_laws.specs.Order.{spots_of}
@@ -8,26 +8,21 @@ use Rattle.hls_catchup.specs.declared.programme.Programme.{Programme}
 use Rattle.hls_catchup.specs.declared.request.Request.{Request}
 use Rattle.hls_catchup.specs.declared.request.CatchFault.{CatchFault}
 use Rattle.hls_catchup.specs.Kept.{kept_from}
-use Rattle.hls_catchup.specs.Requests.{table_in, IsTableFor}
+use Rattle.hls_catchup.specs.Requests.{IsTableFor}
 
 -- the table of a programme's places
 abbrev pub table_at : State → Request → Programme → Table
 table_at s request p =
     table_of s.config.target request.preferred (length s.config.renditions) (spots_of (take p.count (kept_from p.places p.from)))
 
--- what can be said of a request without its places is in order
-pub record IsInRange (s : State) (request : Request) : Type 0 where
-  pub order : request.start_us < request.stop_us
-  pub preferred : (1 ≤ request.preferred) × (request.preferred ≤ s.config.target * 1000000)
-
 -- the places of the table that a request asks for
-pub record IsProgramme (s : State) (request : Request) (p : Programme) : Type 0 where
+pub record ArePlacesFor (s : State) (request : Request) (p : Programme) : Type 0 where
   pub within : p.from ≤ length p.places.items
-  pub defined : table_in s request ≡ Ok (table_at s request p)
+  pub defined : IsTableFor s request (Ok (table_at s request p))
   pub valid : IsTable (table_at s request p)
   pub orderly : IsOrderly (table_at s request p)
 
 -- the programme, or the first fault
 abbrev pub IsFound : State → Request → Result Programme CatchFault → Type 0
-IsFound s request (Ok p) = IsProgramme s request p
+IsFound s request (Ok p) = ArePlacesFor s request p
 IsFound s request (Err fault) = IsTableFor s request (Err fault)

@@ -23,6 +23,6 @@ pub record IsRightReply (s : State) (request : Request) (reply : ReplyData) : Ty
   pub right : IsRightAnswer s request reply.cutout
 
 -- a right reply, or the first fault
-abbrev pub IsAnswer : State → Request → Result ReplyData CatchFault → Type 0
-IsAnswer s request (Ok reply) = IsRightReply s request reply
-IsAnswer s request (Err fault) = IsTableFor s request (Err fault)
+abbrev pub IsReplyTo : State → Request → Result ReplyData CatchFault → Type 0
+IsReplyTo s request (Ok reply) = IsRightReply s request reply
+IsReplyTo s request (Err fault) = IsTableFor s request (Err fault)

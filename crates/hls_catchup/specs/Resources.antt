@@ -1,13 +1,11 @@
 -- The resource of a rendition, from the reply alone.
-use Rattle.std.specs.Prelude.{◌≡◌, ℕ, ◌≤◌, List, ◌∷◌, length, Option, Some, None, option_map}
+use Rattle.std.specs.Prelude.{ℕ, List, ◌∷◌, length, Option, Some, None, option_map}
 use Rattle.std.specs.List.{concat}
 use Rattle.hls_record.specs.Recorded.{unit_piece}
 use Rattle.hls_core_laws.specs.State.{State}
 use Rattle.hls_core.specs.Reads.{recording_of}
-use Rattle.hls_catchup_laws.specs.Jobs.{units_between}
 use Rattle.hls_catchup.specs.declared.cutout.Cutout.{Cutout}
 use Rattle.hls_catchup.specs.declared.cutout.Cutout.TheVariants.{Cut, NoCut}
-use Rattle.hls_catchup.specs.declared.span.Span.{Span}
 use Rattle.hls_catchup.specs.Answers.{programme_units}
 use Rattle.hls_catchup.specs.Replies.{ReplyData}
 
@@ -20,15 +18,10 @@ abbrev pub parts_in : ReplyData → ℕ → Option (List (List ℕ))
 parts_in reply r = parts_of reply.state r reply.cutout
 
 -- the length of the parts joined
-abbrev pub total_of : Option (List (List ℕ)) → Option ℕ
-total_of parts = option_map (λ parts. length (concat parts)) parts
+abbrev pub length_of_parts : Option (List (List ℕ)) → Option ℕ
+length_of_parts parts = option_map (λ parts. length (concat parts)) parts
 
 -- from byte `at` of the parts joined to the end of the part in which it stands
 abbrev pub piece_of : Option (List (List ℕ)) → ℕ → Option (List ℕ)
 piece_of None at = None
 piece_of (Some parts) at = unit_piece parts at
-
--- the recording's units from the first to the one before the end are the reply's
-pub record IsSpan (reply : ReplyData) (r : ℕ) (span : Span) : Type 0 where
-  pub kept : span.recording.now.floor ≤ span.first
-  pub parts : parts_in reply r ≡ Some (span.recording.now.head ∷ units_between span.recording.now.floor span.recording.now.units span.first span.end)

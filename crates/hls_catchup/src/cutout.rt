@@ -1,6 +1,9 @@
+//! A table cut by a least plan.
+
 ghost use Rattle.std.specs.Prelude.{◌≡◌, length, map, IfOk};
 ghost use Rattle.hls_catchup.specs.Answers.{AreCovered, IsRightCutout};
 
+use crate::laws::good_is_accepted;
 use crate::lists::job_lists;
 use hls_check_laws::{Certificate, PlaceTable};
 use hls_m3u8::MediaPlaylist;
@@ -31,6 +34,7 @@ pub fn cut(
     requires { AreCovered table (map (λ r. r.now) recordings.now) }
     ensures { IfOk result (IsRightCutout (map (λ r. r.now) recordings.now) table) }
 {
+    good_is_accepted();
     let _ = table.len();
     let planned = plan(alloc, &table)?;
     match &planned {

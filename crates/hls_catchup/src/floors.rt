@@ -1,3 +1,5 @@
+//! What is trimmed of each rendition.
+
 ghost use Rattle.std.specs.Prelude.{◌≡◌, length, take, slice_index_or};
 ghost use Rattle.hls_core_laws.specs.State.{channel};
 ghost use Rattle.hls_core_laws.specs.Places.{floors};

@@ -1,9 +1,12 @@
+//! The common places with no trimmed fragment.
+
 ghost use Rattle.std.specs.Prelude.{◌≡◌, ◌≤◌, length, take, IfOk, MatchOption};
 ghost use Rattle.hls_core_laws.specs.IsState.{IsState};
 ghost use Rattle.hls_core_laws.specs.Places.{sources};
 ghost use Rattle.hls_places_laws.specs.Sources.{AreSources};
 ghost use Rattle.hls_places_laws.specs.Order.{time_of, spots_of};
-ghost use Rattle.hls_places_laws.specs.Programmes.{is_kept, first_after};
+ghost use Rattle.hls_places_laws.specs.Firsts.{first_after};
+ghost use Rattle.hls_places_laws.specs.Programmes.{is_kept};
 ghost use Rattle.hls_catchup.specs.Kept.{kept_in, all_kept, kept_from, IsLastBy, IsCountTo};
 
 use crate::floors::floors_of;

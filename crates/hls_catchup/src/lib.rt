@@ -2,7 +2,9 @@
 //! rendition, with a certificate that no other plan comes nearer to the preferred length.
 #![tactic(auto)]
 
+pub use actions::{Action, play};
 pub use cutout::{Cutout, cut};
+pub use laws::good_is_accepted;
 pub use lists::job_lists;
 pub use reply::{Reply, answer};
 pub use request::{CatchFault, Request};
@@ -11,9 +13,11 @@ pub use segments::{bytes_between, segments_of};
 pub use span::{reply_piece, reply_total};
 pub use table::table_of;
 
+mod actions;
 mod cutout;
 mod floors;
 mod kept;
+mod laws;
 mod lists;
 mod programme;
 mod recordings;

@@ -1,3 +1,5 @@
+//! The playlists of an answer.
+
 ghost use Rattle.std.specs.Prelude.{◌≡◌, ◌<◌, length, map, All, IfOk};
 ghost use Rattle.hls_record.specs.Valid.{IsRecorded};
 ghost use Rattle.hls_m3u8.specs.Playlist.{playlist_of};

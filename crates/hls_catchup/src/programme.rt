@@ -1,15 +1,15 @@
+//! The programme of a request among the kept places.
+
 ghost use Rattle.std.specs.Prelude.{◌≡◌, if◌then◌else◌};
 ghost use Rattle.hls_catchup.specs.declared.request.CatchFault.TheVariants.{NotYet, AfterRecording};
-ghost use Rattle.hls_catchup.specs.Requests.{is_over};
-ghost use Rattle.hls_catchup.specs.Programmes.{IsInRange, IsFound};
+ghost use Rattle.hls_catchup.specs.Requests.{all_finished, IsInRange};
+ghost use Rattle.hls_catchup.specs.Programmes.{IsFound};
 
 use crate::kept::KeptPlaces;
-use crate::recordings::is_over;
+use crate::recordings::all_finished;
 use crate::request::{CatchFault, Request};
+use hls_check_laws::PLACE_LIMIT;
 use hls_core::snapshot::Snapshot;
-
-/// The most places of one programme.
-const PLACE_LIMIT: usize = 16384;
 
 /// The places of a programme: the first `count` kept ones from number `from` on.
 #[derive(Drop)]
@@ -59,9 +59,9 @@ fn programme_within(snapshot: &Snapshot, request: Request) -> Result<Programme<'
 
 /// Why there is no place at or after a stop.
 fn fault_past(snapshot: &Snapshot) -> CatchFault
-    ensures { result ≡ (if is_over snapshot.now then AfterRecording else NotYet) }
+    ensures { result ≡ (if all_finished snapshot.now then AfterRecording else NotYet) }
 {
-    if is_over(snapshot) {
+    if all_finished(snapshot) {
         return CatchFault::AfterRecording;
     }
     CatchFault::NotYet

@@ -1,7 +1,9 @@
+//! What a snapshot has of all its renditions.
+
 ghost use Rattle.std.specs.Prelude.{◌≡◌, [], map, slice_index_or, false, IfOk, MatchOption};
 ghost use Rattle.hls_core_laws.specs.State.{channel};
 ghost use Rattle.hls_core_laws.specs.Places.{is_finished, places};
-ghost use Rattle.hls_catchup.specs.Requests.{is_over, AreRecordings};
+ghost use Rattle.hls_catchup.specs.Requests.{all_finished, AreRecordings};
 
 use hls_core::snapshot::Snapshot;
 use hls_record::Recording;
@@ -25,8 +27,8 @@ pub fn recordings_of(
 }
 
 /// Whether every rendition is finished.
-pub fn is_over(snapshot: &Snapshot) -> bool
-    ensures { result ≡ is_over snapshot.now }
+pub fn all_finished(snapshot: &Snapshot) -> bool
+    ensures { result ≡ all_finished snapshot.now }
 {
     for rendition in 0..snapshot.config().renditions().len() {
         if !is_finished(snapshot, rendition) {

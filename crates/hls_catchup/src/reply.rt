@@ -1,5 +1,7 @@
+//! Answers to requests.
+
 ghost use Rattle.std.specs.Prelude.{◌≡◌, ◌∷◌, length, IfSome, IfNone};
-ghost use Rattle.hls_catchup.specs.Replies.{IsAnswer};
+ghost use Rattle.hls_catchup.specs.Replies.{IsReplyTo};
 
 use crate::cutout::{Cutout, cut};
 use crate::recordings::recordings_of;
@@ -61,7 +63,7 @@ pub fn answer(
     snapshot: &Arc<Snapshot>,
     request: Request,
 ) -> Result<Reply, CatchFault>
-    ensures { IsAnswer snapshot.now.value request result }
+    ensures { IsReplyTo snapshot.now.value request result }
 {
     match table_of(alloc, snapshot, request) {
         Ok(table) => {

@@ -1,6 +1,8 @@
+//! What is asked of a recording, and why there is no answer.
+
 ghost use Rattle.std.specs.Prelude.{◌≡◌};
 ghost use Rattle.hls_catchup.specs.declared.request.CatchFault.TheVariants.{Memory};
-ghost use Rattle.hls_catchup.specs.Requests.{name_of};
+ghost use Rattle.hls_catchup.specs.FaultName.{catch_fault_name};
 
 use std::alloc::{AllocError, AllocFailed};
 use thiserror::Error;
@@ -43,7 +45,7 @@ pub enum CatchFault {
 impl CatchFault {
     /// The variant's name, as replies print it.
     pub fn name(&self) -> &'static str
-        ensures { result.now ≡ name_of self.now }
+        ensures { result.now ≡ catch_fault_name self.now }
     {
         match self {
             CatchFault::BadRange => "BadRange",

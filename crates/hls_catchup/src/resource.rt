@@ -1,3 +1,5 @@
+//! The resource of a recording from one unit to another.
+
 ghost use Rattle.std.specs.Prelude.{◌≡◌, ◌∷◌, ◌≤◌, length};
 ghost use Rattle.std.specs.Option.{option_copied};
 ghost use Rattle.hls_record.specs.Recorded.{unit_piece};

@@ -1,3 +1,5 @@
+//! The segments of a plan in one rendition.
+
 ghost use Rattle.std.specs.Prelude.{◌≡◌, ◌+◌, ◌<◌, ◌≤◌, ◌^◌, length, All, IfOk};
 ghost use Rattle.hls_check_laws.specs.Tables.{place_at};
 ghost use Rattle.hls_catchup_laws.specs.Jobs.{bytes_between};

@@ -1,6 +1,9 @@
+//! The resource of a rendition, from a reply alone.
+
 ghost use Rattle.std.specs.Prelude.{◌≡◌, IfNone, IfSome, None};
 ghost use Rattle.std.specs.Option.{option_copied};
-ghost use Rattle.hls_catchup.specs.Resources.{parts_in, total_of, piece_of, IsSpan};
+ghost use Rattle.hls_catchup.specs.Resources.{parts_in, length_of_parts, piece_of};
+ghost use Rattle.hls_catchup.specs.Spans.{IsSpan};
 
 use crate::cutout::Cutout;
 use crate::reply::Reply;
@@ -38,7 +41,7 @@ fn span_of(reply: &Reply, rendition: usize) -> Option<Span<'_>>
 /// The length of a rendition's resource: its init section, then the units of the programme. None where the channel has no
 /// such rendition, or the reply no cut. Takes no memory.
 pub fn reply_total(reply: &Reply, rendition: usize) -> Option<u64>
-    ensures { result ≡ total_of (parts_in reply.now rendition) }
+    ensures { result ≡ length_of_parts (parts_in reply.now rendition) }
 {
     let span = span_of(reply, rendition)?;
     Some(resource_total(span.recording, span.first, span.end))

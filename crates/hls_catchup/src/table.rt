@@ -1,6 +1,8 @@
+//! The table of a request's programme.
+
 ghost use Rattle.std.specs.Prelude.{◌≡◌, IfOk};
 ghost use Rattle.hls_catchup.specs.Requests.{IsTableFor};
-ghost use Rattle.hls_catchup.specs.Programmes.{table_at, IsProgramme};
+ghost use Rattle.hls_catchup.specs.Programmes.{table_at, ArePlacesFor};
 
 use crate::programme::{Programme, programme_of};
 use crate::request::{CatchFault, Request};
@@ -30,7 +32,7 @@ fn table(
     request: Request,
     programme: &Programme,
 ) -> Result<PlaceTable, AllocError>
-    requires { IsProgramme snapshot.now request programme.now }
+    requires { ArePlacesFor snapshot.now request programme.now }
     ensures { IfOk result (λ table. table ≡ table_at snapshot.now request programme.now) }
 {
     let config = snapshot.config();

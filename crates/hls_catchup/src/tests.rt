@@ -3,6 +3,7 @@
 ghost use Rattle.std.specs.Prelude.{IfOk};
 ghost use Rattle.hls_core_laws.specs.Moves.{IsFitting};
 
+mod plays;
 mod refused;
 
 use crate::{CatchFault, Cutout, Reply, Request, answer, reply_piece, reply_total, table_of};

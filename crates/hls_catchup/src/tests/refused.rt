@@ -16,7 +16,7 @@ use std::alloc::Global;
 use std::sync::Arc;
 
 /// A channel of one rendition; none where memory was refused.
-fn opened(alloc: Global) -> Option<Snapshot> {
+pub fn configured(alloc: Global) -> Option<Config> {
     let rendition = Rendition {
         name: Bytes::copy_from_slice(alloc, b"v1").ok()?,
         video: true,
@@ -25,8 +25,11 @@ fn opened(alloc: Global) -> Option<Snapshot> {
     };
     let mut renditions = Vec::new(alloc);
     renditions.push(rendition).ok()?;
-    let config = Config::new(alloc, 6, 4 * SECOND, renditions).ok()?;
-    Snapshot::first(alloc, config).ok()
+    Config::new(alloc, 6, 4 * SECOND, renditions).ok()
+}
+
+fn opened(alloc: Global) -> Option<Snapshot> {
+    Snapshot::first(alloc, configured(alloc)?).ok()
 }
 
 /// The next snapshot; none where memory was refused, or the event isn't new.

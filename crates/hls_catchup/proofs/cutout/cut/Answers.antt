@@ -1,7 +1,8 @@
 use Rattle.std.proofs.Common.{◌≡◌, ◌∙◌, ap, map}
 use Rattle.hls_m3u8.specs.Playlist.{playlist_of}
+use Rattle.hls_plan.specs.Planned.{certificate_of}
 use Rattle.hls_catchup.specs.Lists.{job_lists}
-use Rattle.hls_catchup.proofs.Right.{right_cut}
+use Rattle.hls_catchup.proofs.Right.{right_cut, right_none}
 use Rattle.hls_catchup.proofs.cutout.cut.Goals as goal
 
 pub returns-in_ok-playlists-in-Cut : goal.returns-in_ok-playlists-in-Cut
@@ -10,5 +11,16 @@ returns-in_ok-playlists-in-Cut c =
     c.in_ok-playlists-in-Cut.ensures.lists ∙ ap (job_lists 0 (map (λ r. r.now) c.args.recordings.now) c.args.table) c.as_slice.ensures.value in
     right_cut c.args.recordings.now c.args.table c.in_ok-planned.planned c.in-Cut.plan c.in-Cut.prices
     (map playlist_of c.in_ok-playlists-in-Cut.playlists.items) c.certificate.result
-    c.certificate.ensures c.in-Cut.is c.in_ok-planned.ensures.good c.in_ok-planned.ensures.best made
+    c.certificate.ensures c.in-Cut.is c.in_ok-planned.ensures.good
+    (c.good_is_accepted.ensures (certificate_of c.args.table c.in_ok-planned.planned)
+    (record { table = c.len.ensures.valid; form = c.in_ok-planned.ensures.shown }) c.in_ok-planned.ensures.good)
+    c.in_ok-planned.ensures.best made
     c.in_ok-playlists-in-Cut.ensures.valid c.len.ensures.valid c.requires
+
+pub returns-in-NoCut : goal.returns-in-NoCut
+returns-in-NoCut c =
+    right_none c.args.table c.in_ok-planned.planned c.in-NoCut.closed c.certificate-in-NoCut.result c.certificate-in-NoCut.ensures c.in-NoCut.is
+    c.in_ok-planned.ensures.good
+    (c.good_is_accepted.ensures (certificate_of c.args.table c.in_ok-planned.planned)
+    (record { table = c.len.ensures.valid; form = c.in_ok-planned.ensures.shown }) c.in_ok-planned.ensures.good)
+    c.in_ok-planned.ensures.best

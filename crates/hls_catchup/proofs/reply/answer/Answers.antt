@@ -5,14 +5,14 @@ use Rattle.hls_record.specs.Recorded.{Recorded}
 use Rattle.hls_core_laws.specs.State.{State}
 use Rattle.hls_core_laws.specs.Places.{places}
 use Rattle.hls_catchup.specs.declared.request.Request.{Request}
-use Rattle.hls_catchup.specs.Requests.{table_in, AreRecordings}
+use Rattle.hls_catchup.specs.Requests.{IsTableFor, AreRecordings}
 use Rattle.hls_catchup.proofs.Covered.{table-covered, right_answer}
 use Rattle.hls_catchup.proofs.Tables.{placeless}
 use Rattle.hls_catchup.proofs.reply.answer.Goals as goal
 
 -- what is said of a state that is borrowed holds of the state itself
-table_here : (s t : State) (request : Request) (table : Table) → t ≡ s → table_in t request ≡ Ok table → table_in s request ≡ Ok table
-table_here s t request table same is = subst (λ (x : State). table_in x request ≡ Ok table) same is
+table_here : (s t : State) (request : Request) (table : Table) → t ≡ s → IsTableFor t request (Ok table) → IsTableFor s request (Ok table)
+table_here s t request table same is = subst (λ (x : State). IsTableFor x request (Ok table)) same is
 
 abbrev Found : State → Option (Vec (Bor Recorded) Global) → Type 0
 Found s found = MatchOption found (places s ≡ []) (λ v. AreRecordings s (map (λ r. r.now) v.items))

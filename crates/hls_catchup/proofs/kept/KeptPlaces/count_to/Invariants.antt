@@ -1,5 +1,6 @@
 use Rattle.std.proofs.Common.{◌≡◌, ◌+◌, length}
-use Rattle.hls_places_laws.specs.Programmes.{kept, first_from}
+use Rattle.hls_places_laws.specs.Firsts.{first_from}
+use Rattle.hls_places_laws.specs.Programmes.{kept}
 use Rattle.hls_catchup.specs.Kept.{kept_from}
 use Rattle.hls_catchup.proofs.kept.KeptPlaces.count_to.Given as goal
 

@@ -5,7 +5,7 @@ use Rattle.hls_core_laws.specs.State.{channel}
 use Rattle.hls_core_laws.specs.Places.{is_finished}
 use Rattle.hls_core_laws.proofs.Sources.{lanes_count}
 use Rattle.hls_catchup.proofs.States.{all_finished_from}
-use Rattle.hls_catchup.proofs.recordings.is_over.Goals as goal
+use Rattle.hls_catchup.proofs.recordings.all_finished.Goals as goal
 
 pub returns-then-not-is_finished : goal.returns-then-not-is_finished
 returns-then-not-is_finished c =

@@ -1,0 +1,159 @@
+-- How a run grows by one action.
+use Rattle.std.proofs.Common.{◌≡◌, ℕ, zero, suc, ◌+◌, ◌<◌, ◌≤◌, List, [], ◌∷◌, ◌++◌, length, take, drop, get_or, arith, refl, sym, ap, subst, inl, inr, ◌∙◌, Some, Result, length-append}
+use Rattle.std.specs.Prelude.{slice_get}
+use Rattle.std.proofs.lemmas.Bool.{cases_lt}
+use Rattle.std.proofs.lemmas.List.{append-nil, take_all, take_more, drop_more}
+use Rattle.std.proofs.lemmas.Option.{slice_get-get_or, slice_get_within}
+use Rattle.hls_core_laws.specs.declared.event.Event.{Event}
+use Rattle.hls_core_laws.specs.Config.{ConfigData}
+use Rattle.hls_core_laws.specs.State.{State}
+use Rattle.hls_core_laws.specs.Runs.{first_state, next_state, replayed, AreFitting}
+use Rattle.hls_catchup.specs.declared.request.Request.{Request}
+use Rattle.hls_catchup.specs.declared.request.CatchFault.{CatchFault}
+use Rattle.hls_catchup.specs.declared.actions.Action.{Action}
+use Rattle.hls_catchup.specs.declared.actions.Action.TheVariants as action
+use Rattle.hls_catchup.specs.Replies.{ReplyData}
+use Rattle.hls_catchup.specs.Plays.{events_in, requests_in, state_before, IsAnswered, IsPlayed}
+
+events_in-append : (xs ys : List Action) → events_in (xs ++ ys) ≡ events_in xs ++ events_in ys
+events_in-append [] ys = refl
+events_in-append (action.Event by event ∷ xs) ys = ap (λ (es : List (ℕ × Event)). (by, event) ∷ es) (events_in-append xs ys)
+events_in-append (action.Ask request ∷ xs) ys = events_in-append xs ys
+
+requests_in-append : (xs ys : List Action) → requests_in (xs ++ ys) ≡ requests_in xs ++ requests_in ys
+requests_in-append [] ys = refl
+requests_in-append (action.Event by event ∷ xs) ys = requests_in-append xs ys
+requests_in-append (action.Ask request ∷ xs) ys = ap (λ (rs : List Request). request ∷ rs) (requests_in-append xs ys)
+
+replayed-append : (s : State) (xs ys : List (ℕ × Event)) → replayed s (xs ++ ys) ≡ replayed (replayed s xs) ys
+replayed-append s [] ys = refl
+replayed-append s (e ∷ xs) ys = replayed-append (next_state s e.0 e.1) xs ys
+
+-- what a run has come to after i actions
+pub record IsPlayedTo (config : ConfigData) (actions : List Action) (i : ℕ) (state : State) (answers : List (Result ReplyData CatchFault)) : Type 0 where
+  pub reached : state ≡ state_before config actions i
+  pub fitting : AreFitting state (events_in (drop i actions))
+  pub count : length answers ≡ length (requests_in (take i actions))
+  pub each : (k : ℕ) (request : Request) → k < i → slice_get actions k ≡ Some (action.Ask request) →
+      IsAnswered (state_before config actions k) request (slice_get answers (length (requests_in (take k actions))))
+
+-- action i stands at the front of the rest, and at the end of those up to it
+record IsAction (actions : List Action) (i : ℕ) (a : Action) : Type 0 where
+  rest : drop i actions ≡ a ∷ drop (i + 1) actions
+  upto : take (i + 1) actions ≡ take i actions ++ a ∷ []
+  at : slice_get actions i ≡ Some a
+
+action_at : (actions : List Action) (i : ℕ) (a : Action) → i < length actions → a ≡ get_or actions i a → IsAction actions i a
+action_at actions i a within is = record {
+  rest = drop_more actions i a within ∙ ap (λ (x : Action). x ∷ drop (i + 1) actions) (sym is);
+  upto = take_more actions i a within ∙ ap (λ (x : Action). take i actions ++ x ∷ []) (sym is);
+  at = slice_get-get_or actions i a within ∙ ap (λ (x : Action). Some x) (sym is);
+}
+
+pub first_played : (config : ConfigData) (actions : List Action) → AreFitting (first_state config) (events_in actions) →
+    IsPlayedTo config actions 0 (first_state config) []
+first_played config actions fitting = record {
+  reached = refl;
+  fitting = fitting;
+  count = refl;
+  each = λ k request none. absurd (omega arith);
+}
+
+-- an event's action
+pub event_played : (config : ConfigData) (actions : List Action) (i : ℕ) (state next : State) (answers : List (Result ReplyData CatchFault)) (a : Action)
+    (by : ℕ) (event : Event) → i < length actions → a ≡ get_or actions i a → a ≡ action.Event by event →
+    IsPlayedTo config actions i state answers → next ≡ next_state state by event → IsPlayedTo config actions (i + 1) next answers
+event_played config actions i state next answers a by event within is kind before stepped =
+    let here = action_at actions i a within is in
+    let upto : events_in (take (i + 1) actions) ≡ events_in (take i actions) ++ ((by, event) ∷ []) =
+    ap events_in (here.upto ∙ ap (λ (x : Action). take i actions ++ x ∷ []) kind) ∙ events_in-append (take i actions) (action.Event by event ∷ []) in
+    let asked : requests_in (take (i + 1) actions) ≡ requests_in (take i actions) =
+    ap requests_in (here.upto ∙ ap (λ (x : Action). take i actions ++ x ∷ []) kind) ∙ requests_in-append (take i actions) (action.Event by event ∷ [])
+    ∙ append-nil (requests_in (take i actions)) in
+    let rest : events_in (drop i actions) ≡ (by, event) ∷ events_in (drop (i + 1) actions) =
+    ap events_in (here.rest ∙ ap (λ (x : Action). x ∷ drop (i + 1) actions) kind) in
+    let fits : AreFitting state ((by, event) ∷ events_in (drop (i + 1) actions)) = subst (AreFitting state) rest before.fitting in
+    record {
+      reached = stepped ∙ ap (λ (s : State). next_state s by event) before.reached
+          ∙ sym (replayed-append (first_state config) (events_in (take i actions)) ((by, event) ∷ []))
+          ∙ ap (replayed (first_state config)) (sym upto);
+      fitting = subst (λ (s : State). AreFitting s (events_in (drop (i + 1) actions))) (sym stepped) fits.1;
+      count = before.count ∙ ap (λ (rs : List Request). length rs) (sym asked);
+      each = λ k request below at.
+          elim (cases_lt k i) [
+            | inl earlier ↦ before.each k request earlier at
+            | inr upto_i ↦
+                (let same : k ≡ i = omega arith in
+                let there : slice_get actions i ≡ Some (action.Ask request) = subst (λ (n : ℕ). slice_get actions n ≡ Some (action.Ask request)) same at in
+                let both : Some (action.Event by event) ≡ Some (action.Ask request) = ap (λ (x : Action). Some x) (sym kind) ∙ sym here.at ∙ there in
+                cc)
+          ];
+    }
+
+-- an answer stays where it is when more are given
+kept_answer : (s : State) (request : Request) (answers more : List (Result ReplyData CatchFault)) (m : ℕ) →
+    IsAnswered s request (slice_get answers m) → IsAnswered s request (slice_get (answers ++ more) m)
+kept_answer s request [] more m is = absurd is
+kept_answer s request (a ∷ answers) more zero is = is
+kept_answer s request (a ∷ answers) more (suc m) is = kept_answer s request answers more m is
+
+last_answer : (answers : List (Result ReplyData CatchFault)) (a : Result ReplyData CatchFault) (m : ℕ) → m ≡ length answers →
+    slice_get (answers ++ a ∷ []) m ≡ Some a
+last_answer [] a zero is = refl
+last_answer [] a (suc m) is = absurd (omega arith)
+last_answer (x ∷ answers) a zero is = absurd (omega arith)
+last_answer (x ∷ answers) a (suc m) is = last_answer answers a m (omega arith)
+
+-- a request's action
+pub ask_played : (config : ConfigData) (actions : List Action) (i : ℕ) (state : State) (answers : List (Result ReplyData CatchFault)) (a : Action)
+    (request : Request) (answer : Result ReplyData CatchFault) → i < length actions → a ≡ get_or actions i a → a ≡ action.Ask request →
+    IsPlayedTo config actions i state answers → IsAnswered state request (Some answer) → IsPlayedTo config actions (i + 1) state (answers ++ answer ∷ [])
+ask_played config actions i state answers a request answer within is kind before answered =
+    let here = action_at actions i a within is in
+    let upto : events_in (take (i + 1) actions) ≡ events_in (take i actions) =
+    ap events_in (here.upto ∙ ap (λ (x : Action). take i actions ++ x ∷ []) kind) ∙ events_in-append (take i actions) (action.Ask request ∷ [])
+    ∙ append-nil (events_in (take i actions)) in
+    let asked : requests_in (take (i + 1) actions) ≡ requests_in (take i actions) ++ (request ∷ []) =
+    ap requests_in (here.upto ∙ ap (λ (x : Action). take i actions ++ x ∷ []) kind) ∙ requests_in-append (take i actions) (action.Ask request ∷ []) in
+    let rest : events_in (drop i actions) ≡ events_in (drop (i + 1) actions) =
+    ap events_in (here.rest ∙ ap (λ (x : Action). x ∷ drop (i + 1) actions) kind) in
+    record {
+      reached = before.reached ∙ ap (replayed (first_state config)) (sym upto);
+      fitting = subst (AreFitting state) rest before.fitting;
+      count =
+          let more : length (answers ++ answer ∷ []) ≡ length answers + 1 = length-append answers (answer ∷ []) in
+          let many : length (requests_in (take i actions) ++ (request ∷ [])) ≡ length (requests_in (take i actions)) + 1 =
+          length-append (requests_in (take i actions)) (request ∷ []) in
+          let same : length (requests_in (take (i + 1) actions)) ≡ length (requests_in (take i actions) ++ (request ∷ [])) =
+          ap (λ (rs : List Request). length rs) asked in
+          omega (arith, before.count);
+      each = λ k other below at.
+          elim (cases_lt k i) [
+            | inl earlier ↦
+                kept_answer (state_before config actions k) other answers (answer ∷ []) (length (requests_in (take k actions))) (before.each k other earlier at)
+            | inr upto_i ↦
+                (let same : k ≡ i = omega arith in
+                let there : slice_get actions i ≡ Some (action.Ask other) = subst (λ (n : ℕ). slice_get actions n ≡ Some (action.Ask other)) same at in
+                let both : Some (action.Ask request) ≡ Some (action.Ask other) = ap (λ (x : Action). Some x) (sym kind) ∙ sym here.at ∙ there in
+                let it : request ≡ other = cc in
+                let last : slice_get (answers ++ answer ∷ []) (length (requests_in (take i actions))) ≡ Some answer =
+                last_answer answers answer (length (requests_in (take i actions))) (sym before.count) in
+                let P : State → Type 0 = λ s. IsAnswered s request (Some answer) in
+                let now : IsAnswered (state_before config actions i) request (Some answer) = subst P before.reached answered in
+                let placed : IsAnswered (state_before config actions i) request (slice_get (answers ++ answer ∷ []) (length (requests_in (take i actions)))) =
+                subst (IsAnswered (state_before config actions i) request) (sym last) now in
+                let his : IsAnswered (state_before config actions i) other (slice_get (answers ++ answer ∷ []) (length (requests_in (take i actions)))) =
+                subst (λ (r : Request). IsAnswered (state_before config actions i) r (slice_get (answers ++ answer ∷ []) (length (requests_in (take i actions))))) it placed in
+                subst (λ (n : ℕ). IsAnswered (state_before config actions n) other (slice_get (answers ++ answer ∷ []) (length (requests_in (take n actions))))) (sym same) his)
+          ];
+    }
+
+pub all_played : (config : ConfigData) (actions : List Action) (i : ℕ) (state : State) (answers : List (Result ReplyData CatchFault)) →
+    length actions ≤ i → IsPlayedTo config actions i state answers → IsPlayed config actions state answers
+all_played config actions i state answers all played =
+    let whole : take i actions ≡ actions = take_all i actions all in
+    record {
+      state = played.reached ∙ ap (λ (xs : List Action). replayed (first_state config) (events_in xs)) whole;
+      count = played.count ∙ ap (λ (xs : List Action). length (requests_in xs)) whole;
+      each = λ k request at. let within : k < length actions = slice_get_within actions k (action.Ask request) at in played.each k request (omega arith) at;
+    }

@@ -1,0 +1,41 @@
+-- Runs of events and requests: where they end, and how each request is answered.
+use Rattle.std.specs.Prelude.{◌≡◌, ℕ, List, [], ◌∷◌, length, take, slice_get, Option, Some, None, Result, Err}
+use Rattle.hls_core_laws.specs.declared.event.Event.{Event}
+use Rattle.hls_core_laws.specs.Config.{ConfigData}
+use Rattle.hls_core_laws.specs.State.{State}
+use Rattle.hls_core_laws.specs.Runs.{first_state, replayed}
+use Rattle.hls_catchup.specs.declared.request.Request.{Request}
+use Rattle.hls_catchup.specs.declared.request.CatchFault.{CatchFault}
+use Rattle.hls_catchup.specs.declared.request.CatchFault.TheVariants.{Memory}
+use Rattle.hls_catchup.specs.declared.actions.Action.{Action}
+use Rattle.hls_catchup.specs.declared.actions.Action.TheVariants as action
+use Rattle.hls_catchup.specs.Replies.{ReplyData, IsReplyTo}
+
+-- the events of a run, in order, each with the worker who brought it
+abbrev pub events_in : List Action → List (ℕ × Event)
+events_in [] = []
+events_in (action.Event by event ∷ rest) = (by, event) ∷ events_in rest
+events_in (action.Ask request ∷ rest) = events_in rest
+
+-- the requests of a run, in order
+abbrev pub requests_in : List Action → List Request
+requests_in [] = []
+requests_in (action.Event by event ∷ rest) = requests_in rest
+requests_in (action.Ask request ∷ rest) = request ∷ requests_in rest
+
+-- the state before action k of a run
+abbrev pub state_before : ConfigData → List Action → ℕ → State
+state_before config actions k = replayed (first_state config) (events_in (take k actions))
+
+-- the answer is there, it is that of the state to the request, and it isn't want of memory, which ends the run
+abbrev pub IsAnswered : State → Request → Option (Result ReplyData CatchFault) → Type 0
+IsAnswered s request None = ⊥
+IsAnswered s request (Some (Err Memory)) = ⊥
+IsAnswered s request (Some answer) = IsReplyTo s request answer
+
+-- the last state, and in order one answer for each request, from the state before it
+pub record IsPlayed (config : ConfigData) (actions : List Action) (last : State) (answers : List (Result ReplyData CatchFault)) : Type 0 where
+  pub state : last ≡ replayed (first_state config) (events_in actions)
+  pub count : length answers ≡ length (requests_in actions)
+  pub each : (k : ℕ) (request : Request) → slice_get actions k ≡ Some (action.Ask request) →
+      IsAnswered (state_before config actions k) request (slice_get answers (length (requests_in (take k actions))))

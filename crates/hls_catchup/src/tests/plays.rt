@@ -1,0 +1,63 @@
+//! A run of events and requests: what it leaves, and that each request is answered.
+ghost use Rattle.std.specs.Prelude.{IfSome};
+ghost use Rattle.hls_core_laws.specs.State.{State};
+ghost use Rattle.hls_core_laws.specs.Moves.{IsFitting};
+
+use super::refused::configured;
+use super::{SECOND, request};
+use crate::{Action, CatchFault, Reply, play};
+use bytes::Bytes;
+use hls_core::snapshot::Snapshot;
+use hls_core_laws::event::Event;
+use hls_media::read_init;
+use hls_samples::init_bytes;
+use std::alloc::Global;
+use std::sync::Arc;
+
+fn begin(alloc: Global) -> Option<Event>
+    ensures { IfSome result (λ event. (s : State) → IsFitting s event) }
+{
+    let bytes = init_bytes(alloc, b"vide", 90000).ok()?;
+    let init = read_init(alloc, &bytes).ok()?;
+    let bytes = Bytes::from_vec(bytes).ok()?;
+    Some(Event::Begin {
+        rendition: 0,
+        init,
+        bytes,
+    })
+}
+
+/// A run with a request before its events and one after them; none where memory was refused.
+fn played(alloc: Global) -> Option<(Arc<Snapshot>, Vec<Result<Reply, CatchFault>>)> {
+    let config = configured(alloc)?;
+    let begin = begin(alloc)?;
+    let actions = [
+        Action::Ask(request(SECOND, SECOND)),
+        Action::Event(3, begin),
+        Action::Event(3, Event::Finish { rendition: 0 }),
+        Action::Ask(request(0, SECOND)),
+    ];
+    play(alloc, config, &actions).ok()
+}
+
+/// The same, once more where memory was refused.
+fn played_at_last(alloc: Global) -> Option<(Arc<Snapshot>, Vec<Result<Reply, CatchFault>>)> {
+    match played(alloc) {
+        Some(run) => Some(run),
+        None => played(alloc),
+    }
+}
+
+#[test]
+fn refused_memory_changes_no_run(rt: HostRuntime) {
+    let (state, answers) = played_at_last(rt.alloc()).expect(&rt, "a run");
+    assert_eq!(rt; state.version(), 2);
+    assert_eq!(rt; answers.len(), 2);
+    let faults = [CatchFault::BadRange, CatchFault::BeforeRecording];
+    for (answer, fault) in answers.iter().zip(&faults) {
+        assert!(rt;
+            answer.as_ref().err() == Some(fault),
+            "the fault of each request"
+        );
+    }
+}
