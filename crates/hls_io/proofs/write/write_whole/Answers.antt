@@ -1,0 +1,17 @@
+use Rattle.std.proofs.Common.{◌≡◌, ◌∙◌, length, arith, refl}
+use Rattle.hls_io.proofs.WriteLaws.{empty_list, writes_part, writes_whole, writing_more}
+use Rattle.hls_io.proofs.write.write_whole.Goals as goal
+
+pub loop-rest-preserved : goal.loop-rest-preserved
+loop-rest-preserved g c = record {
+  writing = λ held known. writing_more held c.args.text.now c.loop-rest.rest.now c.in-Some.written _ _ _ (c.loop-rest.invariant.writing held known) c.in-Some.ensures.bytes (omega arith);
+  quiet = c.in-Some.ensures.quiet refl ∙ c.loop-rest.invariant.quiet;
+}
+
+pub returns-in-None-clause-writes : goal.returns-in-None-clause-writes
+returns-in-None-clause-writes g c = λ held known. writes_part held c.args.text.now c.loop-rest.rest.now _ _ (c.loop-rest.invariant.writing held known) c.in-None.ensures.kept
+
+pub returns-clause-writes : goal.returns-clause-writes
+returns-clause-writes g c = λ held known.
+    let none : length c.loop-rest.rest.now ≡ 0 = grind arith in
+    writes_whole held c.args.text.now c.loop-rest.rest.now _ (c.loop-rest.invariant.writing held known) (empty_list c.loop-rest.rest.now none)

@@ -1,0 +1,15 @@
+-- What is told of a counted reader or writer.
+use Rattle.std.specs.Prelude.{ℕ, ◌-◌, ◌^◌}
+use Rattle.hls_io.specs.declared.counted.Counted.{Counted}
+
+-- the reader or writer inside
+abbrev pub inside_of : {T : Type 0} → Counted T → T
+inside_of counted = counted.inner
+
+-- the number of failed calls
+abbrev pub failures_of : {T : Type 0} → Counted T → ℕ
+failures_of counted = counted.failures
+
+-- how many calls it still passes on
+abbrev pub calls_left : {T : Type 0} → Counted T → ℕ
+calls_left counted = 2 ^ 62 - counted.calls

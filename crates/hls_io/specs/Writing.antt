@@ -1,0 +1,15 @@
+-- What writing a whole text comes to.
+use Rattle.std.specs.Prelude.{◌≡◌, ℕ, List, ◌++◌, Option, Some, [], Bool, true, false}
+use Rattle.hls_io.specs.Rose.{Rose}
+
+-- of the text this much was written behind what was held
+pub record Writes (held text : List ℕ) (contents : Option (List ℕ)) (done : Bool) : Type 0 where
+  pub written : List ℕ
+  pub left : List ℕ
+  pub split : text ≡ written ++ left
+  pub contents_are : contents ≡ Some (held ++ written)
+  pub whole : done ≡ true → left ≡ []
+
+abbrev pub CountsWrite : Bool → ℕ → ℕ → Type 0
+CountsWrite true old new = new ≡ old
+CountsWrite false old new = Rose old new

@@ -1,0 +1,11 @@
+//! Counted readers and writers: what sessions and programs read and write through, so that a failed
+//! call is told just where one was counted.
+#![tactic(auto)]
+
+mod counted;
+#[cfg(test)]
+mod tests;
+mod write;
+
+pub use counted::Counted;
+pub use write::write_whole;
