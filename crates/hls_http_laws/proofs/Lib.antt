@@ -1,0 +1,4 @@
+pub mod BodyLaws
+mod Examples
+pub mod Lists
+pub mod RequestLaws

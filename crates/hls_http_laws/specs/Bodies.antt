@@ -1,0 +1,86 @@
+-- Bodies step by step, as a machine that may take them in any pieces.
+use Rattle.std.specs.Prelude.{◌≡◌, ℕ, zero, suc, ◌+◌, ◌<◌, ◌≤◌, ◌⊎◌, List, [], ◌∷◌, ◌++◌, length, Option, Some}
+use Rattle.std.specs.Io.KnownBytes.{prepend_known}
+use Rattle.httparse.specs.Grammar.{ChunkLine, Field, LineEnd, ReadsChunkLine, HasNoChunkLine, MayBecomeChunkLine, ReadsSection, HasNoSection, MayBecomeSection, print_chunk_line, print_section, chunk_size}
+use Rattle.hls_http_laws.specs.declared.body.Body.{Body}
+use Rattle.hls_http_laws.specs.declared.body.Body.TheVariants.{Length, Size, Data, Trailers}
+use Rattle.hls_http_laws.specs.declared.limits.TheConstants.{MOST_HEAD, MOST_FIELDS}
+
+-- some of n bytes, and how many are left of them
+pub record IsPiece (n : ℕ) (input piece : List ℕ) (left : ℕ) (rest : List ℕ) : Type 0 where
+  pub whole : input ≡ piece ++ rest
+  pub some : 0 < length piece
+  pub count : length piece + left ≡ n
+
+-- a size line of a chunk within the limit
+pub record ReadsLine (input : List ℕ) (size : ℕ) (rest : List ℕ) : Type 0 where
+  pub line : ChunkLine
+  pub reads : ReadsChunkLine input line rest
+  pub small : length (print_chunk_line line) ≤ MOST_HEAD
+  pub size_is : size ≡ chunk_size line
+
+-- trailers within the limits
+pub record ReadsTrailers (input rest : List ℕ) : Type 0 where
+  pub fields : List Field
+  pub last : LineEnd
+  pub reads : ReadsSection input fields last rest
+  pub small : length (print_section fields last) ≤ MOST_HEAD
+  pub few : length fields ≤ MOST_FIELDS
+
+-- a size of 0 announces the trailers
+abbrev pub after_line : ℕ → Body
+after_line zero = Trailers
+after_line (suc n) = Data (suc n)
+
+-- some of n bytes of a chunk
+abbrev pub TakesData : ℕ → List ℕ → List ℕ → Body → List ℕ → Type 0
+TakesData n input piece next rest = (left : ℕ) × IsPiece n input piece left rest × (next ≡ Data left)
+
+-- the CR LF behind a chunk's bytes
+abbrev pub EndsData : ℕ → List ℕ → List ℕ → Body → List ℕ → Type 0
+EndsData n input piece next rest = (n ≡ 0) × (input ≡ 13 ∷ 10 ∷ rest) × (piece ≡ []) × (next ≡ Size)
+
+-- one step: a piece comes out of the input, and the body goes on
+abbrev pub Steps : Body → List ℕ → List ℕ → Body → List ℕ → Type 0
+Steps (Length n) input piece next rest = (left : ℕ) × IsPiece n input piece left rest × (next ≡ Length left)
+Steps Size input piece next rest = (size : ℕ) × ReadsLine input size rest × (piece ≡ []) × (next ≡ after_line size)
+Steps (Data n) input piece next rest = TakesData n input piece next rest ⊎ EndsData n input piece next rest
+Steps Trailers input piece next rest = ReadsTrailers input rest × (piece ≡ []) × (next ≡ Length 0)
+
+-- so many steps, and all that came out
+abbrev pub RunsIn : ℕ → Body → List ℕ → List ℕ → Body → List ℕ → Type 0
+RunsIn zero b input content last rest = (last ≡ b) × (rest ≡ input) × (content ≡ [])
+RunsIn (suc k) b input content last rest =
+    (piece : List ℕ) × (next : Body) × (middle : List ℕ) × (more : List ℕ)
+    × Steps b input piece next middle × RunsIn k next middle more last rest × (content ≡ piece ++ more)
+
+pub record Runs (b : Body) (input content : List ℕ) (last : Body) (rest : List ℕ) : Type 0 where
+  pub steps : ℕ
+  pub run : RunsIn steps b input content last rest
+
+-- whatever follows, no step can be made; bytes by length are never broken
+abbrev pub HasNoStep : Body → List ℕ → Type 0
+HasNoStep b held = (more : List ℕ) (piece : List ℕ) (next : Body) (rest : List ℕ) → Steps b (held ++ more) piece next rest → ⊥
+
+abbrev pub IsBroken : Body → List ℕ → Type 0
+IsBroken (Length n) held = ⊥
+IsBroken Size held = HasNoStep Size held
+IsBroken (Data n) held = HasNoStep (Data n) held
+IsBroken Trailers held = HasNoStep Trailers held
+
+-- the text ends before a step
+abbrev pub IsOpenData : ℕ → List ℕ → Type 0
+IsOpenData zero held = (held ≡ []) ⊎ (held ≡ 13 ∷ [])
+IsOpenData (suc n) held = held ≡ []
+
+abbrev pub IsOpen : Body → List ℕ → Type 0
+IsOpen (Length n) held = (0 < n) × (held ≡ [])
+IsOpen Size held = (length held < MOST_HEAD) × HasNoChunkLine held × MayBecomeChunkLine held
+IsOpen (Data n) held = IsOpenData n held
+IsOpen Trailers held = (length held < MOST_HEAD) × HasNoSection held × MayBecomeSection held
+
+-- steps of a reader: what it holds and what is left to be read is the rest of its input
+pub record Goes (b : Body) (input content : List ℕ) (last : Body) (held : List ℕ) (left : Option (List ℕ)) : Type 0 where
+  pub later : List ℕ
+  pub runs : Runs b input content last later
+  pub known : prepend_known held left ≡ Some later

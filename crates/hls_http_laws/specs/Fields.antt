@@ -1,0 +1,68 @@
+-- What the fields of a head say, from the list of their names and values.
+use Rattle.std.specs.Prelude.{ℕ, nat_lt, Bool, false, ◌&&◌, ◌||◌, cond, ◌==◌, nat_eq, ◌-◌, List, [], ◌∷◌, length, take, drop, Option, Some, None, codes}
+use Rattle.std.specs.List.{list_any, prefix_len, suffix_len}
+use Rattle.std.specs.Char.{is_ascii_whitespace}
+use Rattle.std.specs.Str.{all_ascii_digits, str_eq_ignore_ascii_case}
+use Rattle.std.specs.Str.Parse.{digits_value}
+use Rattle.hls_http_laws.specs.declared.limits.TheConstants.{MOST_LENGTH_DIGITS}
+
+-- the names and the values of a head
+abbrev pub Fields : Type 0
+Fields = List (List ℕ × List ℕ)
+
+-- a field of this name, in any case (RFC 9110, section 5.1)
+abbrev pub named : List ℕ → List ℕ × List ℕ → Bool
+named name field = str_eq_ignore_ascii_case field.0 name
+
+-- the values of the fields of this name, in order
+unfoldable pub values : List ℕ → Fields → List (List ℕ)
+values name [] = []
+values name (field ∷ fields) = cond (named name field) (field.1 ∷ values name fields) (values name fields)
+
+-- one digit at least, and at most so many
+abbrev pub has_length : ℕ → List ℕ → Bool
+has_length most [] = false
+has_length most (c ∷ cs) = nat_lt (length cs) most
+
+-- the number that 1 to so many decimal digits write; leading zeros are digits
+unfoldable pub number_of : ℕ → List ℕ → Option ℕ
+number_of most text = cond (has_length most text && all_ascii_digits text) (Some (digits_value 10 text)) None
+
+-- the number of a Content-Length
+abbrev pub length_of : List ℕ → Option ℕ
+length_of value = number_of MOST_LENGTH_DIGITS value
+
+-- the pieces between commas
+abbrev pub onto_first : ℕ → List (List ℕ) → List (List ℕ)
+onto_first b [] = (b ∷ []) ∷ []
+onto_first b (piece ∷ pieces) = (b ∷ piece) ∷ pieces
+
+unfoldable pub between_commas : List ℕ → List (List ℕ)
+between_commas [] = [] ∷ []
+between_commas (b ∷ bytes) = cond (b == 44) ([] ∷ between_commas bytes) (onto_first b (between_commas bytes))
+
+-- without the blanks at both ends
+abbrev pub trim_front : List ℕ → List ℕ
+trim_front text = drop (prefix_len is_ascii_whitespace text) text
+
+abbrev pub trim : List ℕ → List ℕ
+trim text = take (length (trim_front text) - suffix_len is_ascii_whitespace (trim_front text)) (trim_front text)
+
+-- this word, in any case, with blanks around it or without
+abbrev pub is_word : List ℕ → List ℕ → Bool
+is_word word piece = str_eq_ignore_ascii_case (trim piece) word
+
+-- a list of words (RFC 9110, section 5.6.1) has this one
+unfoldable pub has_word : List ℕ → List ℕ → Bool
+has_word word value = list_any (is_word word) (between_commas value)
+
+-- the connection ends after this request: HTTP/1.0, or `Connection` has the word `close` (RFC 9112, section 9.6)
+abbrev pub closes : ℕ → Fields → Bool
+closes minor fields = nat_eq minor 0 || list_any (has_word (codes "close")) (values (codes "connection") fields)
+
+-- a 100 Continue is waited for (RFC 9110, section 10.1.1); in HTTP/1.0 the field is ignored
+abbrev pub waits : List ℕ → Bool
+waits value = str_eq_ignore_ascii_case value (codes "100-continue")
+
+abbrev pub expects : ℕ → Fields → Bool
+expects minor fields = nat_eq minor 1 && list_any waits (values (codes "expect") fields)

@@ -1,0 +1,11 @@
+pub mod Bodies
+pub mod Fields
+pub mod Framing
+pub mod Grammar
+pub mod Heads
+pub mod Laws
+pub mod Order
+pub mod Query
+pub mod Range
+pub mod Reply
+pub mod Requests

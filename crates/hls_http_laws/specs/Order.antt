@@ -1,0 +1,58 @@
+-- The order in which a request is looked at: its fields, its path, its body, and only then the rest.
+-- For sessions, which stand above; no public clause of this crate cites it.
+use Rattle.std.specs.Prelude.{ℕ, nat_lt, nat_eq, Bool, true, false, not, ◌||◌, ◌&&◌, cond, Result, Ok, Err}
+use Rattle.httparse.specs.Grammar.{RequestHead}
+use Rattle.hls_http_laws.specs.declared.body.Body.{Body}
+use Rattle.hls_http_laws.specs.declared.body.Body.TheVariants.{Length, Size, Data, Trailers}
+use Rattle.hls_http_laws.specs.declared.fault.HttpFault.{HttpFault}
+use Rattle.hls_http_laws.specs.declared.fault.HttpFault.TheVariants.{TooLarge, NotFound}
+use Rattle.hls_http_laws.specs.declared.limits.TheConstants.{MOST_DROPPED}
+use Rattle.hls_http_laws.specs.Fields.{closes, expects}
+use Rattle.hls_http_laws.specs.Requests.{fields_of}
+
+-- what is done with a request whose head was read: refused before its body, its body handed on part by part, or its
+-- body dropped
+pub data Plan : Type 0 where
+  Refuse : (fault : HttpFault) (closing : Bool) → Plan
+  Feed : (body : Body) → Plan
+  Drop : (body : Body) → Plan
+
+abbrev pub is_over : Body → Bool
+is_over (Length n) = nat_eq n 0
+is_over Size = false
+is_over (Data n) = false
+is_over Trailers = false
+
+-- a length past the limit of bodies that are dropped
+abbrev pub is_past : Body → Bool
+is_past (Length n) = nat_lt MOST_DROPPED n
+is_past Size = false
+is_past (Data n) = false
+is_past Trailers = false
+
+-- by the body or the fault of the fields, whether the path is known, and whether its parts are wanted
+abbrev pub plan_by : Result Body HttpFault → Bool → Bool → Plan
+plan_by (Err fault) known feeds = Refuse fault true
+plan_by (Ok body) false feeds = Refuse NotFound (not (is_over body))
+plan_by (Ok body) true true = Feed body
+plan_by (Ok body) true false = cond (is_past body) (Refuse TooLarge true) (Drop body)
+
+-- 100 Continue goes out before a body that will be read, and not before an empty one
+abbrev pub reads_body : Plan → Bool
+reads_body (Refuse fault closing) = false
+reads_body (Feed body) = not (is_over body)
+reads_body (Drop body) = not (is_over body)
+
+abbrev pub continues : RequestHead → Plan → Bool
+continues head plan = expects head.minor (fields_of head) && reads_body plan
+
+-- a reply says `Connection: close` where it is given before the body was read to its end, or where the request asks
+abbrev pub says_close : RequestHead → Bool → Bool
+says_close head early = early || closes head.minor (fields_of head)
+
+-- a refusal inside a body, at a position of its content, is before the body's end: in chunks the last chunk is still to come
+abbrev pub ends_early : Body → ℕ → Bool
+ends_early (Length n) position = not (nat_eq position n)
+ends_early Size position = true
+ends_early (Data n) position = true
+ends_early Trailers position = true

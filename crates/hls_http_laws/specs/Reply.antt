@@ -1,0 +1,113 @@
+-- The text of a reply's head (RFC 9112, section 4), and the reply to want of memory.
+use Rattle.std.specs.Prelude.{ℕ, Bool, true, false, cond, List, [], ◌∷◌, ◌++◌, codes}
+use Rattle.std.specs.Fmt.{decimal}
+use Rattle.hls_http_laws.specs.declared.fault.HttpFault.{HttpFault}
+use Rattle.hls_http_laws.specs.declared.fault.HttpFault.TheVariants as faults
+use Rattle.hls_http_laws.specs.declared.reply.Status.{Status}
+use Rattle.hls_http_laws.specs.declared.reply.Status.TheVariants.{Done, Accepted, NoContent, PartialContent, BadRequest, NotFound, MethodNotAllowed, Conflict, Gone, ContentTooLarge, RangeNotSatisfiable, HeadTooLarge, Unavailable, InsufficientStorage}
+use Rattle.hls_http_laws.specs.declared.reply.Kind.{Kind}
+use Rattle.hls_http_laws.specs.declared.reply.Kind.TheVariants.{Text, Media, Playlist}
+use Rattle.hls_http_laws.specs.declared.reply.Extra.{Extra}
+use Rattle.hls_http_laws.specs.declared.reply.Extra.TheVariants.{Nothing, Range, NoRange, Job, Allow}
+
+-- the name of a fault, as replies print it
+abbrev pub fault_name : HttpFault → List ℕ
+fault_name faults.BadHead = codes "BadHead"
+fault_name faults.HeadTooLarge = codes "HeadTooLarge"
+fault_name faults.BadFraming = codes "BadFraming"
+fault_name faults.TooLarge = codes "TooLarge"
+fault_name faults.RangeOutside = codes "RangeOutside"
+fault_name faults.BadMethod = codes "BadMethod"
+fault_name faults.NotFound = codes "NotFound"
+fault_name faults.Gone = codes "Gone"
+fault_name faults.Conflict = codes "Conflict"
+fault_name faults.Memory = codes "Memory"
+fault_name faults.Full = codes "Full"
+
+-- the status of a fault
+abbrev pub fault_status : HttpFault → Status
+fault_status faults.BadHead = BadRequest
+fault_status faults.HeadTooLarge = HeadTooLarge
+fault_status faults.BadFraming = BadRequest
+fault_status faults.TooLarge = ContentTooLarge
+fault_status faults.RangeOutside = RangeNotSatisfiable
+fault_status faults.BadMethod = MethodNotAllowed
+fault_status faults.NotFound = NotFound
+fault_status faults.Gone = Gone
+fault_status faults.Conflict = Conflict
+fault_status faults.Memory = Unavailable
+fault_status faults.Full = InsufficientStorage
+
+abbrev pub crlf : List ℕ
+crlf = 13 ∷ 10 ∷ []
+
+-- the number and the phrase of a status (RFC 9110, section 15)
+abbrev pub phrase : Status → List ℕ
+phrase Done = codes "200 OK"
+phrase Accepted = codes "202 Accepted"
+phrase NoContent = codes "204 No Content"
+phrase PartialContent = codes "206 Partial Content"
+phrase BadRequest = codes "400 Bad Request"
+phrase NotFound = codes "404 Not Found"
+phrase MethodNotAllowed = codes "405 Method Not Allowed"
+phrase Conflict = codes "409 Conflict"
+phrase Gone = codes "410 Gone"
+phrase ContentTooLarge = codes "413 Content Too Large"
+phrase RangeNotSatisfiable = codes "416 Range Not Satisfiable"
+phrase HeadTooLarge = codes "431 Request Header Fields Too Large"
+phrase Unavailable = codes "503 Service Unavailable"
+phrase InsufficientStorage = codes "507 Insufficient Storage"
+
+abbrev pub status_line : Status → List ℕ
+status_line status = codes "HTTP/1.1 " ++ (phrase status ++ crlf)
+
+abbrev pub kind_name : Kind → List ℕ
+kind_name Text = codes "text/plain"
+kind_name Media = codes "video/mp4"
+kind_name Playlist = codes "application/vnd.apple.mpegurl"
+
+-- a 204 has neither Content-Type nor Content-Length (RFC 9110, section 8.6)
+abbrev pub has_content : Status → Bool
+has_content NoContent = false
+has_content _ = true
+
+abbrev pub type_line : Kind → List ℕ
+type_line kind = codes "Content-Type: " ++ (kind_name kind ++ crlf)
+
+abbrev pub length_line : ℕ → List ℕ
+length_line len = codes "Content-Length: " ++ (decimal len ++ crlf)
+
+abbrev pub content_lines : Status → Kind → ℕ → List ℕ
+content_lines status kind len = cond (has_content status) (type_line kind ++ length_line len) []
+
+-- at most one of Content-Range, Location and Allow stands in a reply
+abbrev pub extra_line : Extra → List ℕ
+extra_line Nothing = []
+extra_line (Range first last total) =
+    codes "Content-Range: bytes " ++ (decimal first ++ (codes "-" ++ (decimal last ++ (codes "/" ++ (decimal total ++ crlf)))))
+extra_line (NoRange total) = codes "Content-Range: bytes */" ++ (decimal total ++ crlf)
+extra_line (Job id) = codes "Location: /job/" ++ (decimal id ++ crlf)
+extra_line (Allow methods) = codes "Allow: " ++ (methods.now ++ crlf)
+
+abbrev pub close_line : Bool → List ℕ
+close_line closing = cond closing (codes "Connection: close" ++ crlf) []
+
+-- status line, Content-Type, Content-Length, Content-Range or Location or Allow, Connection, empty line
+abbrev pub head_text : Status → Kind → ℕ → Extra → Bool → List ℕ
+head_text status kind len extra closing =
+    status_line status ++ (content_lines status kind len ++ (extra_line extra ++ (close_line closing ++ crlf)))
+
+-- the body of a refusal
+abbrev pub refusal : List ℕ → List ℕ
+refusal name = codes "refused " ++ (name ++ 10 ∷ [])
+
+-- the head and the whole reply to want of memory
+unfoldable pub no_memory_head : List ℕ
+no_memory_head = head_text Unavailable Text 15 Nothing true
+
+unfoldable pub no_memory : List ℕ
+no_memory = no_memory_head ++ refusal (codes "Memory")
+
+-- 100 Continue (RFC 9110, section 15.2.1)
+abbrev pub continue_text : List ℕ
+continue_text = codes "HTTP/1.1 100 Continue" ++ (crlf ++ crlf)

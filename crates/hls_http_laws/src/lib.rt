@@ -1,0 +1,16 @@
+//! Requests of HTTP/1.1 (RFC 9110, RFC 9112) as definitions over a whole stream, with their laws.
+//!
+//! The definitions stand in `specs/`: [`Heads`](../specs/Heads.antt), [`Fields`](../specs/Fields.antt) and
+//! [`Framing`](../specs/Framing.antt) say what a head says, [`Bodies`](../specs/Bodies.antt) how a body is taken step
+//! by step, [`Grammar`](../specs/Grammar.antt) in the standard's words what a body is, and
+//! [`Requests`](../specs/Requests.antt) how a stream falls into requests. The functions of [`laws`] have no body:
+//! their contracts are what holds of every stream.
+#![tactic(auto)]
+
+pub mod body;
+pub mod end;
+pub mod fault;
+pub mod laws;
+pub mod limits;
+pub mod range;
+pub mod reply;
