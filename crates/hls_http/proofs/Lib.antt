@@ -1,1 +1,9 @@
-pub mod WriteLaws
+pub mod BodySteps
+pub mod Buffers
+pub mod Digits
+pub mod DropLaws
+pub mod HeadLaws
+pub mod MediaLaws
+pub mod QueryLaws
+pub mod Values
+pub mod Words

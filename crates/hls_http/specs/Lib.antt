@@ -1,3 +1,6 @@
-pub mod Counted
-pub mod Rose
-pub mod Writing
+pub mod Bodies
+pub mod Drained
+pub mod Heads
+pub mod Media
+pub mod Source
+pub mod Values

@@ -1,11 +1,31 @@
-//! Counted readers and writers: what sessions and programs read and write through, so that a failed
-//! call is told just where one was counted.
+//! HTTP/1.1 sessions over any reader and writer (RFC 9110, RFC 9112): heads within limits, what their fields say,
+//! bodies by length and in chunks, and replies. It knows nothing of what is served.
+//!
+//! What a stream of requests is stands in `hls_http_laws`; here each call says how far it takes the reader along it.
 #![tactic(auto)]
 
-mod counted;
+mod body;
+mod drain;
+mod fields;
+mod head;
+mod media;
+mod number;
+mod query;
+mod range;
+mod reply;
+mod source;
 #[cfg(test)]
 mod tests;
-mod write;
 
-pub use counted::Counted;
-pub use write::write_whole;
+pub use body::{BodyEnd, Given, Move, read_body, wait_move};
+pub use drain::{DropEnd, drop_body};
+pub use head::{Head, HeadEnd, Method, next_head};
+pub use hls_http_laws::body::Body;
+pub use hls_http_laws::fault::HttpFault;
+pub use hls_io::{Counted, write_whole};
+pub use media::{Resource, write_part};
+pub use number::read_number;
+pub use query::{split_target, value_of};
+pub use range::part;
+pub use reply::{head_bytes, refusal_body, reply_bytes};
+pub use source::{Filled, Source};

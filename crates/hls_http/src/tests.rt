@@ -1,64 +1,213 @@
-//! Bytes through counted readers and writers over memory.
+//! Requests read in any pieces, and whole replies, over memory.
 
-use crate::{Counted, write_whole};
+use crate::{
+    BodyEnd, DropEnd, Given, HeadEnd, HttpFault, Method, Source, drop_body, next_head, part,
+    read_body, refusal_body, reply_bytes, split_target, value_of,
+};
+use hls_http_laws::body::Body;
+use hls_http_laws::range::{Asked, Part};
+use hls_http_laws::reply::{Extra, Kind, Status, no_memory_text};
+use std::alloc::{AllocError, Global};
 use std::io;
-use std::io::Write;
+use std::io::Read;
 use std::test::Fail;
 
-/// A writer that takes at most `step` bytes a call, and fails at the call of one number, from 1.
+/// A reader that gives at most `step` bytes a call.
 #[derive(Drop)]
-struct Sink {
-    taken: usize,
+struct Drips<'a> {
+    rest: &'a [u8],
     step: usize,
-    calls: usize,
-    fails_at: usize,
 }
 
-impl Write for Sink {
-    fn write(&mut self, buf: &[u8]) -> io::Result<usize> {
-        self.calls = self.calls.wrapping_add(1);
-        if self.calls == self.fails_at {
-            return Ok(0);
-        }
-        let len = buf.len().min(self.step);
-        self.taken = self.taken.wrapping_add(len);
+impl<'a> Read for Drips<'a> {
+    fn read(&mut self, buf: &mut [u8]) -> io::Result<usize> {
+        let len = self.rest.len().min(self.step).min(buf.len());
+        buf[..len].copy_from_slice(&self.rest[..len]);
+        self.rest = &self.rest[len..];
         Ok(len)
     }
-
-    fn flush(&mut self) -> io::Result<()> {
-        Ok(())
-    }
 }
 
-/// How many bytes are taken of a text, and whether that was all.
-fn written(text: &[u8], step: usize, fails_at: usize) -> (usize, bool) {
-    let mut output = Counted::new(Sink {
-        taken: 0,
-        step,
-        calls: 0,
-        fails_at,
-    });
-    let whole = write_whole(&mut output, text);
-    (output.into_inner().taken, whole)
+fn source<'a>(alloc: Global, text: &'a [u8], step: usize) -> Result<Source<Drips<'a>>, AllocError> {
+    Source::new(alloc, Drips { rest: text, step })
+}
+
+/// The content of a body, and how it ended.
+fn content(
+    alloc: Global,
+    source: &mut Source<Drips<'_>>,
+    body: Body,
+) -> Result<(Vec<u8>, Option<BodyEnd>), AllocError> {
+    let mut body = body;
+    let mut all = Vec::new(alloc);
+    for _ in 0..100u8 {
+        match read_body(source, &mut body) {
+            Ok(Given::Piece) => all.extend_from_slice(source.taken())?,
+            Ok(Given::Over) => return Ok((all, None)),
+            Err(end) => return Ok((all, Some(end))),
+        }
+    }
+    Ok((all, None))
+}
+
+const THREE: &[u8] =
+    b"PUT /ingest/0 HTTP/1.1\r\nHost: a\r\nContent-Length: 05\r\ncontent-length: 5\r\nExpect: 100-Continue\r\n\r\nhello\
+\r\nPOST /catchup?from=0&to=8 HTTP/1.1\r\nHost: a\r\nTransfer-Encoding: CHUNKED\r\nConnection: x, Close\r\n\r\n\
+3\r\nabc\r\n04;x=y \r\ndefg\r\n0\r\nTrailer: dropped\r\n\r\n\
+GET /media/0.mp4 HTTP/1.0\r\nRange: bytes=600-1599\r\n\r\n";
+
+#[test]
+fn three_requests_in_any_pieces(rt: HostRuntime) -> Result<(), Fail> {
+    for step in [1, 7, 10000] {
+        let mut source = source(rt.alloc(), THREE, step)?;
+        let put = next_head(&mut source)?;
+        assert_eq!(rt; put.method, Method::Put);
+        assert_eq!(rt; put.body, Ok(Body::Length(5)));
+        assert!(rt; put.expects && !put.closes);
+        let (bytes, end) = content(rt.alloc(), &mut source, Body::Length(5))?;
+        assert_eq!(rt; bytes.as_slice(), b"hello".as_slice());
+        assert_eq!(rt; end, None);
+        let post = next_head(&mut source)?;
+        assert_eq!(rt; post.method, Method::Post);
+        assert_eq!(rt; post.body, Ok(Body::Size));
+        assert!(rt; post.closes && !post.expects);
+        let (bytes, end) = content(rt.alloc(), &mut source, Body::Size)?;
+        assert_eq!(rt; bytes.as_slice(), b"abcdefg".as_slice());
+        assert_eq!(rt; end, None);
+        let get = next_head(&mut source)?;
+        assert_eq!(rt; get.method, Method::Get);
+        assert_eq!(rt; get.range, Asked::Between(600, 1599));
+        assert!(rt; get.closes);
+        assert!(rt; matches!(next_head(&mut source), Err(HeadEnd::Closed)));
+    }
+    Ok(())
+}
+
+/// Why no head comes of a text, or why its fields are refused.
+fn refused(alloc: Global, text: &[u8]) -> Result<(Option<HeadEnd>, Option<HttpFault>), AllocError> {
+    let mut source = source(alloc, text, 4096)?;
+    Ok(match next_head(&mut source) {
+        Ok(head) => (None, head.body.err()),
+        Err(end) => (Some(end), None),
+    })
 }
 
 #[test]
-fn a_text_is_written_to_its_end_or_a_failure(rt: HostRuntime) -> Result<(), Fail> {
-    assert_eq!(rt; written(b"", 3, 1), (0, true));
-    assert_eq!(rt; written(b"0123456789", 3, 0), (10, true));
-    assert_eq!(rt; written(b"0123456789", 3, 5), (10, true));
-    assert_eq!(rt; written(b"0123456789", 3, 4), (9, false));
-    assert_eq!(rt; written(b"0123456789", 3, 1), (0, false));
+fn heads_that_are_refused(rt: HostRuntime) -> Result<(), Fail> {
+    assert_eq!(rt;
+        refused(rt.alloc(), b"GET /\r\n")?,
+        (Some(HeadEnd::BadHead), None)
+    );
+    assert_eq!(rt;
+        refused(rt.alloc(), b"GET / HTTP/1.1\r\nHost: a\r\n")?,
+        (Some(HeadEnd::CutShort), None)
+    );
+    assert_eq!(rt;
+        refused(rt.alloc(), &[b'\n'; 16384])?,
+        (Some(HeadEnd::HeadTooLarge), None)
+    );
+    assert_eq!(rt;
+        refused(rt.alloc(), b"GET / HTTP/1.1\r\n\r\n")?,
+        (None, Some(HttpFault::BadHead))
+    );
+    let both =
+        b"PUT / HTTP/1.1\r\nHost: a\r\nContent-Length: 5\r\nTransfer-Encoding: chunked\r\n\r\n";
+    assert_eq!(rt;
+        refused(rt.alloc(), both)?,
+        (None, Some(HttpFault::BadFraming))
+    );
     Ok(())
 }
 
 #[test]
-fn a_reader_is_read_to_its_end(rt: HostRuntime) -> Result<(), Fail> {
-    let mut input = Counted::new(b"0123".as_slice());
-    let mut piece = [0; 3];
-    assert_eq!(rt; input.read(&mut piece), Some(3));
-    assert_eq!(rt; &piece, b"012");
-    assert_eq!(rt; input.read(&mut piece), Some(1));
-    assert_eq!(rt; input.read(&mut piece), Some(0));
+fn bodies_that_stop(rt: HostRuntime) -> Result<(), Fail> {
+    let mut bad = source(rt.alloc(), b"3\r\nabc\r\ng\r\n", 5)?;
+    let (bytes, end) = content(rt.alloc(), &mut bad, Body::Size)?;
+    assert_eq!(rt; bytes.as_slice(), b"abc".as_slice());
+    assert_eq!(rt; end, Some(BodyEnd::BadFraming));
+    let mut cut = source(rt.alloc(), b"3\r\nab", 5)?;
+    let (bytes, end) = content(rt.alloc(), &mut cut, Body::Size)?;
+    assert_eq!(rt; bytes.as_slice(), b"ab".as_slice());
+    assert_eq!(rt; end, Some(BodyEnd::CutShort));
+    let mut body = Body::Size;
+    let mut large = source(rt.alloc(), b"1\r\na\r\n10000\r\n", 5)?;
+    assert_eq!(rt; drop_body(&mut large, &mut body), Err(DropEnd::TooLarge));
+    let mut body = Body::Size;
+    let mut small = source(rt.alloc(), b"1\r\na\r\nffff;x\r\n", 5)?;
+    assert_eq!(rt;
+        drop_body(&mut small, &mut body),
+        Err(DropEnd::Stopped(BodyEnd::CutShort))
+    );
+    Ok(())
+}
+
+#[test]
+fn whole_replies(rt: HostRuntime) -> Result<(), Fail> {
+    let body = refusal_body(rt.alloc(), "RangeOutside")?;
+    assert_eq!(rt; part(Asked::From(3600), 3600), Part::Outside);
+    let outside = reply_bytes(
+        rt.alloc(),
+        Status::RangeNotSatisfiable,
+        Kind::Text,
+        Extra::NoRange(3600),
+        false,
+        &body,
+        false,
+    )?;
+    assert_eq!(rt;
+        outside.as_slice(),
+        b"HTTP/1.1 416 Range Not Satisfiable\r\nContent-Type: text/plain\r\nContent-Length: 21\r\nContent-Range: bytes */3600\r\n\r\nrefused RangeOutside\n".as_slice()
+    );
+    let status = b"version 0\nplaces 0\nsegments 0\nremoved 0\njobs 0\n";
+    let opening = reply_bytes(
+        rt.alloc(),
+        Status::Done,
+        Kind::Text,
+        Extra::Nothing,
+        false,
+        status,
+        false,
+    )?;
+    assert_eq!(rt;
+        opening.as_slice(),
+        b"HTTP/1.1 200 OK\r\nContent-Type: text/plain\r\nContent-Length: 47\r\n\r\nversion 0\nplaces 0\nsegments 0\nremoved 0\njobs 0\n".as_slice()
+    );
+    let allow = reply_bytes(
+        rt.alloc(),
+        Status::MethodNotAllowed,
+        Kind::Text,
+        Extra::Allow(b"GET, HEAD"),
+        true,
+        b"refused BadMethod\n",
+        true,
+    )?;
+    assert_eq!(rt;
+        allow.as_slice(),
+        b"HTTP/1.1 405 Method Not Allowed\r\nContent-Type: text/plain\r\nContent-Length: 18\r\nAllow: GET, HEAD\r\nConnection: close\r\n\r\n".as_slice()
+    );
+    let gone = reply_bytes(
+        rt.alloc(),
+        Status::NoContent,
+        Kind::Text,
+        Extra::Nothing,
+        false,
+        b"",
+        false,
+    )?;
+    assert_eq!(rt;
+        gone.as_slice(),
+        b"HTTP/1.1 204 No Content\r\n\r\n".as_slice()
+    );
+    assert_eq!(rt; no_memory_text().len(), 116);
+    Ok(())
+}
+
+#[test]
+fn values_of_queries(rt: HostRuntime) -> Result<(), Fail> {
+    let (path, query) = split_target(b"/catchup?from=1&t%6f=2+3&to=4");
+    assert_eq!(rt; path, b"/catchup".as_slice());
+    let found = value_of(rt.alloc(), query, b"to")?;
+    assert!(rt; matches!(&found, Some(value) if value.as_slice() == b"2 3".as_slice()));
+    assert!(rt; value_of(rt.alloc(), query, b"charge")?.is_none());
     Ok(())
 }

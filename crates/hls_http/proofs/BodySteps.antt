@@ -1,0 +1,127 @@
+-- Steps of a body in what is held, and in what follows.
+use Rattle.std.proofs.Common.{◌≡◌, ◌∙◌, ℕ, zero, suc, ◌≤◌, ◌<◌, List, [], ◌∷◌, ◌++◌, ◌⊎◌, inl, inr, Option, Some, length, take, drop, refl, sym, ap, subst, arith, append_assoc, append-nil, length-append, length-take}
+use Rattle.std.specs.Io.KnownBytes.{prepend_known}
+use Rattle.std.proofs.lemmas.List.{length-map}
+use Rattle.httparse.specs.declared.spans.HeaderSpan.{HeaderSpan}
+use Rattle.httparse.specs.Grammar.{ChunkLine, Field, LineEnd, crlf, lf, HasNoChunkLine, HasNoSection, print_chunk_line, print_section, print_field}
+use Rattle.httparse.specs.Spans.{IsChunkLineAt, IsSectionAt, header_bytes, name_and_value}
+use Rattle.httparse.proofs.GrammarLemmas.{ReadsSection-append, section_unique}
+use Rattle.httparse.proofs.ChunkLemmas.{ReadsChunkLine-append, chunk_line_unique}
+use Rattle.std.specs.List.{flat_map}
+use Rattle.hls_http_laws.specs.declared.body.Body.{Body}
+use Rattle.hls_http_laws.specs.declared.body.Body.TheVariants.{Length, Size, Data, Trailers}
+use Rattle.hls_http_laws.specs.Bodies.{after_line, TakesData, EndsData, Steps, RunsIn, Runs, HasNoStep, Goes}
+use Rattle.hls_http_laws.proofs.Lists.{cut}
+use Rattle.hls_http_laws.proofs.BodyLaws.{runs_none, runs_step}
+use Rattle.hls_http.proofs.HeadLaws.{known_left}
+
+pub long_line : (held : List ℕ) (len size : ℕ) (l : ChunkLine) → IsChunkLineAt held len size l → 16384 < len → HasNoStep Size held
+long_line held len size l at past = λ more piece next rest s.
+    let same = chunk_line_unique (held ++ more) l s.1.line (drop len held ++ more) rest (ReadsChunkLine-append held l (drop len held) more at.reads) s.1.reads in
+    absurd (omega (arith, at.len_is, ap (λ x. length (print_chunk_line x)) same.0, s.1.small))
+
+some_line : (l : ChunkLine) → 0 < length (print_chunk_line l)
+unfolding print_chunk_line
+some_line l = omega (arith, length-append {A = ℕ})
+
+pub line_frame : (held : List ℕ) (len size : ℕ) (l : ChunkLine) (next : Body) → IsChunkLineAt held len size l → len ≤ 16384 → next ≡ after_line size
+    → (0 < len) × (len ≤ length held) × Steps Size held [] next (drop len held)
+line_frame held len size l next at small is = (
+  omega (arith, at.len_is, some_line l),
+  omega (arith, at.len_is, ap length at.reads.1, length-append (print_chunk_line l) (drop len held)),
+  (size, record { line = l; reads = at.reads; small = omega (arith, at.len_is); size_is = at.size_is }, refl, is),
+)
+
+pub no_line : (held : List ℕ) → HasNoChunkLine held → 16384 ≤ length held → HasNoStep Size held
+no_line held never past = λ more piece next rest s.
+    let w = cut (print_chunk_line s.1.line) rest held more (sym s.1.reads.1) (omega (arith, s.1.small)) in
+    never s.1.line w.0 (s.1.reads.0, w.1)
+
+pub long_trailers : (held : List ℕ) (headers : List HeaderSpan) (len count : ℕ) (fields : List Field) (last : LineEnd) → IsSectionAt held 0 headers len count fields last → 16384 < len → HasNoStep Trailers held
+long_trailers held headers len count fields last at past = λ more piece next rest s.
+    let same = section_unique (held ++ more) fields s.0.fields last s.0.last (drop len held ++ more) rest (ReadsSection-append held fields last (drop len held) more at.reads) s.0.reads in
+    absurd (omega (arith, at.len_is, ap length (sections_same fields s.0.fields last s.0.last same.0 same.1), s.0.small))
+  where
+    sections_same : (fs gs : List Field) (a b : LineEnd) → fs ≡ gs → a ≡ b → print_section fs a ≡ print_section gs b
+    sections_same fs gs a b p q = cc
+
+some_section : (fields : List Field) (last : LineEnd) → 0 < length (print_section fields last)
+some_section fields crlf = omega (arith, length-append (flat_map print_field fields) (13 ∷ 10 ∷ []))
+some_section fields lf = omega (arith, length-append (flat_map print_field fields) (10 ∷ []))
+
+pub trailers_frame : (held : List ℕ) (headers : List HeaderSpan) (len count : ℕ) (fields : List Field) (last : LineEnd) → IsSectionAt held 0 headers len count fields last → length headers ≤ 64 → len ≤ 16384 → len ≤ length held
+    → (0 < len) × (len ≤ length held) × Steps Trailers held [] (Length 0) (drop len held)
+trailers_frame held headers len count fields last at room small within = (
+  omega (arith, at.len_is, some_section fields last),
+  within,
+  (
+    record {
+      fields = fields;
+      last = last;
+      reads = at.reads;
+      small = omega (arith, at.len_is);
+      few = omega (arith, ap length at.fields_are, length-map (take count headers) (header_bytes held), length-map fields name_and_value, length-take count headers);
+    },
+    refl,
+    refl,
+  ),
+)
+
+pub no_trailers : (held : List ℕ) → HasNoSection held → 16384 ≤ length held → HasNoStep Trailers held
+no_trailers held never past = λ more piece next rest s.
+    let w = cut (print_section s.0.fields s.0.last) rest held more (sym s.0.reads.1) (omega (arith, s.0.small)) in
+    never s.0.fields s.0.last w.0 (s.0.reads.0, w.1)
+
+-- ---- a step of what is held is a step of the input
+
+data_more : (n : ℕ) (held piece rest more : List ℕ) (next : Body) → TakesData n held piece next rest ⊎ EndsData n held piece next rest → TakesData n (held ++ more) piece next (rest ++ more) ⊎ EndsData n (held ++ more) piece next (rest ++ more)
+data_more n held piece rest more next (inl s) =
+    inl (s.0, record { whole = ap (λ xs. xs ++ more) s.1.whole ∙ append_assoc piece rest more; some = s.1.some; count = s.1.count }, s.2)
+data_more n held piece rest more next (inr s) = inr (s.0, ap (λ xs. xs ++ more) s.1, s.2, s.3)
+
+pub steps_more : (b next : Body) (held piece rest more : List ℕ) → Steps b held piece next rest → Steps b (held ++ more) piece next (rest ++ more)
+steps_more (Length n) next held piece rest more s =
+    (s.0, record { whole = ap (λ xs. xs ++ more) s.1.whole ∙ append_assoc piece rest more; some = s.1.some; count = s.1.count }, s.2)
+steps_more Size next held piece rest more s =
+    (s.0, record { line = s.1.line; reads = ReadsChunkLine-append held s.1.line rest more s.1.reads; small = s.1.small; size_is = s.1.size_is }, s.2, s.3)
+steps_more (Data n) next held piece rest more s = data_more n held piece rest more next s
+steps_more Trailers next held piece rest more s =
+    (record { fields = s.0.fields; last = s.0.last; reads = ReadsSection-append held s.0.fields s.0.last rest more s.0.reads; small = s.0.small; few = s.0.few }, s.1, s.2)
+
+-- a step more at the end of a run
+run_then : (k : ℕ) (b middle last : Body) (input got later piece rest : List ℕ) → RunsIn k b input got middle later → Steps middle later piece last rest → Runs b input (got ++ piece) last rest
+run_then zero b middle last input got later piece rest r s =
+    let first = subst (λ (x : Body). Steps x later piece last rest) r.0 s in
+    let here = subst (λ (xs : List ℕ). Steps b xs piece last rest) r.1 first in
+    subst (λ (c : List ℕ). Runs b input c last rest) (append-nil piece ∙ ap (λ xs. xs ++ piece) (sym r.2)) (runs_step b last last input piece rest [] rest here (runs_none last rest))
+run_then (suc k) b middle last input got later piece rest r s =
+    let more = run_then k r.1 middle last r.2 r.3 later piece rest r.5 s in
+    subst (λ (c : List ℕ). Runs b input c last rest) (sym (append_assoc r.0 r.3 piece) ∙ ap (λ xs. xs ++ piece) (sym r.6)) (runs_step b r.1 last input r.0 r.2 (r.3 ++ piece) rest r.4 more)
+
+pub runs_then : (b middle last : Body) (input got later piece rest : List ℕ) → Runs b input got middle later → Steps middle later piece last rest → Runs b input (got ++ piece) last rest
+runs_then b middle last input got later piece rest r s = run_then r.steps b middle last input got later piece rest r.run s
+
+pub goes_none : (b : Body) (held rest : List ℕ) (left : Option (List ℕ)) → left ≡ Some rest → Goes b (held ++ rest) [] b held left
+goes_none b held rest left is = record { later = held ++ rest; runs = runs_none b (held ++ rest); known = ap (λ o. prepend_known held o) is }
+
+pub goes_then : (b middle last : Body) (input got held now piece rest : List ℕ) (old left : Option (List ℕ)) → Goes b input got middle held old → Steps middle held piece last rest
+    → now ≡ rest → left ≡ old → Goes b input (got ++ piece) last now left
+goes_then b middle last input got held now piece rest old left g s now_is left_is =
+    let w = known_left held old g.later g.known in
+    let step = subst (λ (xs : List ℕ). Steps middle xs piece last (rest ++ w.rest)) (sym w.input_is) (steps_more middle last held piece rest w.rest s) in
+    record {
+      later = rest ++ w.rest;
+      runs = runs_then b middle last input got g.later piece (rest ++ w.rest) g.runs step;
+      known = ap (λ o. prepend_known now o) (left_is ∙ w.left_is) ∙ ap (λ xs. Some (xs ++ w.rest)) now_is;
+    }
+
+pub goes_same : (b last : Body) (input got held now : List ℕ) (old left : Option (List ℕ)) (g : Goes b input got last held old) → prepend_known now left ≡ Some g.later → Goes b input got last now left
+goes_same b last input got held now old left g known = record { later = g.later; runs = g.runs; known = known }
+
+-- what more was read changes nothing of what is to come
+pub goes_waited : {X : Type 0} (b middle : Body) (input got held now : List ℕ) (old left : Option (List ℕ)) → Goes b input got middle held old
+    → ((rest : List ℕ) → old ≡ Some rest → (prepend_known now left ≡ Some (held ++ rest)) × X) → Goes b input got middle now left × X
+goes_waited b middle input got held now old left g waits =
+    let w = known_left held old g.later g.known in
+    let e = waits w.rest w.left_is in
+    (record { later = g.later; runs = g.runs; known = e.0 ∙ ap Some (sym w.input_is) }, e.1)

@@ -1,0 +1,82 @@
+-- Heads within the limits, in what is held and in the input.
+use Rattle.std.proofs.Common.{◌≡◌, ◌∙◌, ℕ, ◌≤◌, ◌<◌, List, [], ◌++◌, inl, Option, Some, None, length, take, drop, refl, sym, ap, subst, arith, append-nil, length-take}
+use Rattle.std.specs.Io.KnownBytes.{prepend_known}
+use Rattle.std.proofs.lemmas.List.{length-map}
+use Rattle.httparse.specs.declared.spans.HeaderSpan.{HeaderSpan}
+use Rattle.httparse.specs.declared.spans.RequestSpans.{RequestSpans}
+use Rattle.httparse.specs.Grammar.{RequestHead, print_request, ReadsRequest, HasNoRequest}
+use Rattle.httparse.specs.Spans.{IsRequestAt, IsRequestWithin, header_bytes, name_and_value}
+use Rattle.httparse.proofs.GrammarLemmas.{ReadsRequest-append, request_prefix_free}
+use Rattle.hls_http_laws.specs.Heads.{IsTooLarge}
+use Rattle.hls_http_laws.proofs.Lists.{cut}
+use Rattle.hls_http.specs.declared.head.Head.{Head}
+use Rattle.hls_http.specs.Heads.{IsHead, FoundHead, Heard}
+
+pub head_past : (text : List ℕ) (headers : List HeaderSpan) (spans : RequestSpans) (h : RequestHead) → IsRequestWithin text headers spans → IsRequestAt text headers spans h → 16384 < spans.len → IsTooLarge text
+head_past text headers spans h within at past = record {
+  none = λ more k rest r.
+      let same = request_prefix_free text more h k (drop spans.len text) rest at.reads r.reads in
+      absurd (omega (arith, at.len, ap (λ x. length (print_request x)) same.0, r.small.bytes));
+  past = inl (omega (arith, within.section.len_fits));
+}
+
+few_fields : (text : List ℕ) (headers : List HeaderSpan) (spans : RequestSpans) (h : RequestHead) → IsRequestAt text headers spans h → length headers ≤ 64 → length h.fields ≤ 64
+few_fields text headers spans h at few =
+    omega (arith, ap length at.fields, length-map (take spans.headers headers) (header_bytes text), length-map h.fields name_and_value, length-take spans.headers headers)
+
+pub found_head : (text : List ℕ) (headers : List HeaderSpan) (spans : RequestSpans) (h : RequestHead) (head : Head) → IsRequestAt text headers spans h → IsHead h head (take spans.len text)
+    → length headers ≤ 64 → spans.len ≤ 16384 → FoundHead text head (take spans.len text) (drop spans.len text)
+found_head text headers spans h head at is few small = record {
+  tree = h;
+  reads = record { reads = at.reads; small = record { bytes = omega (arith, at.len); fields = few_fields text headers spans h at few } };
+  is = is;
+}
+
+pub partial_past : (text : List ℕ) → HasNoRequest text → 16384 ≤ length text → IsTooLarge text
+partial_past text never past = record {
+  none = λ more h rest r.
+      let w = cut (print_request h) rest text more (sym r.reads.1) (omega (arith, r.small.bytes)) in
+      never h w.0 (r.reads.0, w.1);
+  past = inl past;
+}
+
+-- ---- what is to come
+
+pub record Left (held : List ℕ) (left : Option (List ℕ)) (input : List ℕ) : Type 0 where
+  pub rest : List ℕ
+  pub left_is : left ≡ Some rest
+  pub input_is : input ≡ held ++ rest
+
+pub known_left : (held : List ℕ) (left : Option (List ℕ)) (input : List ℕ) → prepend_known held left ≡ Some input → Left held left input
+known_left held None input e = absurd (cc e)
+known_left held (Some xs) input e = record { rest = xs; left_is = refl; input_is = cc }
+
+pub heard_ok : (input held now taken : List ℕ) (old left : Option (List ℕ)) (head : Head) (len : ℕ) → prepend_known held old ≡ Some input
+    → FoundHead held head (take len held) (drop len held) → now ≡ drop len held → taken ≡ take len held → left ≡ old → Heard input head taken now left
+heard_ok input held now taken old left head len known found now_is taken_is left_is =
+    let w = known_left held old input known in
+    let reads = subst (λ (text : List ℕ). ReadsRequest text found.tree (drop len held ++ w.rest)) (sym w.input_is) (ReadsRequest-append held found.tree (drop len held) w.rest found.reads.reads) in
+    record {
+      later = drop len held ++ w.rest;
+      found = record {
+        tree = found.tree;
+        reads = record { reads = reads; small = found.reads.small };
+        is = subst (λ (text : List ℕ). IsHead found.tree head text) (sym taken_is) found.is;
+      };
+      known = ap (λ o. prepend_known now o) (left_is ∙ w.left_is) ∙ ap (λ xs. Some (xs ++ w.rest)) now_is;
+    }
+
+pub at_end : (input held now : List ℕ) (old left : Option (List ℕ)) → prepend_known held old ≡ Some input → ((rest : List ℕ) → old ≡ Some rest → (now ≡ held) × (rest ≡ []) × (left ≡ Some []))
+    → (held ≡ input) × (now ≡ input) × (prepend_known now left ≡ Some input) × (left ≡ Some [])
+at_end input held now old left known ends =
+    let w = known_left held old input known in
+    let e = ends w.rest w.left_is in
+    let all : input ≡ held = w.input_is ∙ ap (λ xs. held ++ xs) e.1 ∙ append-nil held in
+    let same : now ≡ input = e.0 ∙ sym all in
+    (sym all, same, ap (λ o. prepend_known now o) e.2 ∙ ap Some (append-nil now ∙ same), e.2)
+
+pub still_known : (input held now : List ℕ) (old left : Option (List ℕ)) → prepend_known held old ≡ Some input → ((rest : List ℕ) → old ≡ Some rest → (now ≡ held) × (left ≡ Some rest)) → (now ≡ held) × (prepend_known now left ≡ Some input)
+still_known input held now old left known keeps =
+    let w = known_left held old input known in
+    let e = keeps w.rest w.left_is in
+    (e.0, ap (λ o. prepend_known now o) e.1 ∙ ap (λ xs. Some (xs ++ w.rest)) e.0 ∙ ap Some (sym w.input_is))

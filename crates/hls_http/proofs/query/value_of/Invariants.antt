@@ -1,0 +1,12 @@
+use Rattle.std.proofs.Common.{◌≡◌, map}
+use Rattle.form_urlencoded.specs.Form.{decode}
+use Rattle.form_urlencoded.specs.Parse.{raw_pairs_left}
+use Rattle.hls_http_laws.specs.Query.{first_of, value_in}
+use Rattle.hls_http.proofs.query.value_of.Given as goal
+
+abbrev pub invariant-loop-name : goal.invariant-loop-name
+invariant-loop-name l = record {
+  goes : (goal.iterator-loop-name).can_next l.name-iterator;
+  finite : (goal.iterator-loop-name).is_finite l.name-iterator;
+  same : value_in l.key l.query ≡ first_of l.key (map (λ (name, value). (decode name, decode value)) (raw_pairs_left l.name-iterator));
+}

@@ -1,0 +1,59 @@
+-- What stands at the front of a body's held bytes, and what a reader passes on of a body.
+use Rattle.std.specs.Prelude.{◌≡◌, ℕ, ◌<◌, ◌≤◌, List, [], length, take, drop, Option, Some, Result, Ok, Err}
+use Rattle.std.specs.Io.KnownBytes.{prepend_known}
+use Rattle.hls_io.specs.Rose.{Rose}
+use Rattle.hls_http_laws.specs.declared.body.Body.{Body}
+use Rattle.hls_http_laws.specs.declared.body.Body.TheVariants.{Length}
+use Rattle.hls_http_laws.specs.Bodies.{Steps, IsBroken, IsOpen, Goes}
+use Rattle.hls_http.specs.declared.body.Move.{Move}
+use Rattle.hls_http.specs.declared.body.Move.TheVariants as moves
+use Rattle.hls_http.specs.declared.body.Lack.{Lack}
+use Rattle.hls_http.specs.declared.body.Lack.TheVariants.{Wait, Bad}
+use Rattle.hls_http.specs.declared.body.Given.{Given}
+use Rattle.hls_http.specs.declared.body.Given.TheVariants.{Piece, Over}
+use Rattle.hls_http.specs.declared.body.BodyEnd.{BodyEnd}
+use Rattle.hls_http.specs.declared.body.BodyEnd.TheVariants.{BadFraming, CutShort, ReadFailed}
+
+-- so many held bytes, and how the body goes on behind them
+abbrev pub StepsTo : Body → List ℕ → Move → Type 0
+StepsTo b held (moves.Piece len next) = (0 < len) × (len ≤ length held) × Steps b held (take len held) next (drop len held)
+StepsTo b held (moves.Frame len next) = (0 < len) × (len ≤ length held) × Steps b held [] next (drop len held)
+
+abbrev pub Moves : Body → List ℕ → Result Move Lack → Type 0
+Moves b held (Ok found) = StepsTo b held found
+Moves b held (Err Wait) = (length held < 16384) × IsOpen b held
+Moves b held (Err Bad) = IsBroken b held
+
+abbrev pub move_len : Move → ℕ
+move_len (moves.Piece len next) = len
+move_len (moves.Frame len next) = len
+
+-- why nothing more of a body comes
+abbrev pub Stops : Body → List ℕ → Option (List ℕ) → BodyEnd → Type 0
+Stops last held left BadFraming = IsBroken last held
+Stops last held left CutShort = (left ≡ Some []) × IsOpen last held
+Stops last held left ReadFailed = IsOpen last held
+
+-- nothing was taken of the input
+abbrev pub Waits : Body → List ℕ → List ℕ → Option (List ℕ) → Result Move BodyEnd → Type 0
+Waits b input held left (Ok found) = (prepend_known held left ≡ Some input) × StepsTo b held found
+Waits b input held left (Err end) = (prepend_known held left ≡ Some input) × Stops b held left end
+
+abbrev pub CountsEnd : BodyEnd → ℕ → ℕ → Type 0
+CountsEnd BadFraming old new = new ≡ old
+CountsEnd CutShort old new = new ≡ old
+CountsEnd ReadFailed old new = Rose old new
+
+abbrev pub CountsWait : Result Move BodyEnd → ℕ → ℕ → Type 0
+CountsWait (Ok found) old new = new ≡ old
+CountsWait (Err end) old new = CountsEnd end old new
+
+-- a piece that isn't empty; or the end of the body; or why there is none
+abbrev pub Passes : Body → List ℕ → Body → List ℕ → List ℕ → Option (List ℕ) → Result Given BodyEnd → Type 0
+Passes b input last taken held left (Ok Piece) = (0 < length taken) × Goes b input taken last held left
+Passes b input last taken held left (Ok Over) = (last ≡ Length 0) × Goes b input [] last held left
+Passes b input last taken held left (Err end) = Goes b input [] last held left × Stops last held left end
+
+abbrev pub CountsBody : Result Given BodyEnd → ℕ → ℕ → Type 0
+CountsBody (Ok given) old new = new ≡ old
+CountsBody (Err end) old new = CountsEnd end old new

@@ -1,0 +1,19 @@
+-- Pieces of a resource.
+use Rattle.std.specs.Prelude.{◌≡◌, ℕ, ◌+◌, ◌-◌, ◌<◌, List, ◌++◌, length, take, Option, Some, None}
+
+-- a piece that isn't empty, whose front is that of the bytes; the others stand behind it
+pub record IsPieceOf (part : ℕ → ℕ → Option (List ℕ)) (at len : ℕ) (bytes piece : List ℕ) : Type 0 where
+  pub some : 0 < length piece
+  pub rest : List ℕ
+  pub split : bytes ≡ take len piece ++ rest
+  pub goes_on : part (at + length (take len piece)) (len - length (take len piece)) ≡ Some rest
+
+abbrev pub GivesPiece : (ℕ → ℕ → Option (List ℕ)) → ℕ → ℕ → List ℕ → Option (List ℕ) → Type 0
+GivesPiece part at len bytes None = ⊥
+GivesPiece part at len bytes (Some piece) = IsPieceOf part at len bytes piece
+
+-- so many bytes are there from an offset on
+pub record HasPart (part : ℕ → ℕ → Option (List ℕ)) (from len : ℕ) : Type 0 where
+  pub bytes : List ℕ
+  pub is : part from len ≡ Some bytes
+  pub size : length bytes ≡ len

@@ -1,0 +1,54 @@
+-- What is told of a source: what it holds, what was taken last, and the reader inside.
+use Rattle.std.specs.Prelude.{◌≡◌, ℕ, ◌+◌, ◌*◌, ◌-◌, ◌<◌, List, [], ◌++◌, length, take, drop, Option, Some}
+use Rattle.hls_io.specs.Counted.{calls_left, failures_of, inside_of}
+use Rattle.hls_io.specs.Rose.{Rose}
+use Rattle.hls_http.specs.declared.source.Source.{Source}
+use Rattle.hls_http.specs.declared.source.Filled.{Filled}
+use Rattle.hls_http.specs.declared.source.Filled.TheVariants.{More, AtEnd, Failed}
+
+-- read, and not yet taken
+abbrev pub held_of : {R : Type 0} → Source R → List ℕ
+held_of source = take (source.end - source.start) (drop source.start source.buffer.items)
+
+-- taken last
+abbrev pub taken_of : {R : Type 0} → Source R → List ℕ
+taken_of source = take (source.start - source.from) (drop source.from source.buffer.items)
+
+abbrev pub reader_of : {R : Type 0} → Source R → R
+reader_of source = inside_of source.reader
+
+abbrev pub read_failures : {R : Type 0} → Source R → ℕ
+read_failures source = failures_of source.reader
+
+abbrev pub reads_left : {R : Type 0} → Source R → ℕ
+reads_left source = calls_left source.reader
+
+-- what falls with each read, and with each byte taken
+abbrev pub work_left : {R : Type 0} → Source R → ℕ
+work_left source = reads_left source * 131072 + length (held_of source)
+
+-- a source of this reader with nothing read
+pub record IsFresh {R : Type 0} (reader : R) (source : Source R) : Type 0 where
+  pub held : held_of source ≡ []
+  pub inside : reader_of source ≡ reader
+  pub quiet : read_failures source ≡ 0
+
+-- some bytes came of the rest
+pub record Grows (held rest now : List ℕ) (left : Option (List ℕ)) : Type 0 where
+  pub bytes : List ℕ
+  pub later : List ℕ
+  pub some : 0 < length bytes
+  pub now_is : now ≡ held ++ bytes
+  pub split : rest ≡ bytes ++ later
+  pub left_is : left ≡ Some later
+
+-- by what one read brought: what is held now, and what is left
+abbrev pub Fills : List ℕ → List ℕ → List ℕ → Option (List ℕ) → Filled → Type 0
+Fills held rest now left More = Grows held rest now left
+Fills held rest now left AtEnd = (now ≡ held) × (rest ≡ []) × (left ≡ Some [])
+Fills held rest now left Failed = (now ≡ held) × (left ≡ Some rest)
+
+abbrev pub CountsFill : Filled → ℕ → ℕ → Type 0
+CountsFill More old new = new ≡ old
+CountsFill AtEnd old new = new ≡ old
+CountsFill Failed old new = Rose old new

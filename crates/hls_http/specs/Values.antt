@@ -1,0 +1,40 @@
+-- The values of a head's fields, as its spans show them.
+use Rattle.std.specs.Prelude.{◌≡◌, ℕ, ◌<◌, ◌≤◌, cond, List, [], ◌∷◌, length, drop, map, Option, Some, None, Ok, Err}
+use Rattle.httparse.specs.declared.spans.HeaderSpan.{HeaderSpan}
+use Rattle.hls_http.specs.declared.fields.Only.{Only}
+use Rattle.hls_http.specs.declared.fields.Only.TheVariants.{Missing, One, Several}
+use Rattle.hls_http.specs.declared.fields.Lengths.{Lengths}
+use Rattle.hls_http.specs.declared.fields.Lengths.TheVariants as lengths
+use Rattle.httparse.specs.Spans.{header_bytes}
+use Rattle.hls_http_laws.specs.declared.body.Body.TheVariants.{Length}
+use Rattle.hls_http_laws.specs.declared.fault.HttpFault.TheVariants.{BadFraming}
+use Rattle.hls_http_laws.specs.Fields.{Fields, named, values, length_of}
+use Rattle.hls_http_laws.specs.Framing.{same_length}
+
+abbrev pub fields_at : List ℕ → List HeaderSpan → Fields
+fields_at text headers = map (header_bytes text) headers
+
+-- the value of a field, where it has this name
+abbrev pub named_value : List ℕ → List ℕ × List ℕ → Option (List ℕ)
+named_value name field = cond (named name field) (Some field.1) None
+
+-- the values of this name among the fields from one on
+abbrev pub values_from : List ℕ → List HeaderSpan → List ℕ → ℕ → List (List ℕ)
+values_from text headers name at = values name (fields_at text (drop at headers))
+
+abbrev pub NextValue : List ℕ → List HeaderSpan → List ℕ → ℕ → Option (ℕ × List ℕ) → Type 0
+NextValue text headers name at None = values_from text headers name at ≡ []
+NextValue text headers name at (Some (next, value)) =
+    (at < next) × (next ≤ length headers) × (values_from text headers name at ≡ value ∷ values_from text headers name next)
+
+-- of values that should be one
+abbrev pub IsOnly : List (List ℕ) → Only → Type 0
+IsOnly vs Missing = vs ≡ []
+IsOnly vs (One value) = vs ≡ value.now ∷ []
+IsOnly vs Several = (x : List ℕ) × (y : List ℕ) × (more : List (List ℕ)) × (vs ≡ x ∷ y ∷ more)
+
+-- of the values of Content-Length
+abbrev pub AreLengths : List (List ℕ) → Lengths → Type 0
+AreLengths vs lengths.Missing = vs ≡ []
+AreLengths vs (lengths.Same n) = (v : List ℕ) × (more : List (List ℕ)) × (vs ≡ v ∷ more) × (same_length (length_of v) more ≡ Ok (Length n))
+AreLengths vs lengths.Bad = (v : List ℕ) × (more : List (List ℕ)) × (vs ≡ v ∷ more) × (same_length (length_of v) more ≡ Err BadFraming)

@@ -1,0 +1,208 @@
+//! Bodies of requests, by length and in chunks.
+
+ghost use Rattle.std.specs.Prelude.{◌≡◌, ◌≢◌, ◌++◌, ◌<◌, ◌≤◌, IfOk, List, ℕ, Some, length, min};
+ghost use Rattle.hls_http_laws.specs.Bodies.{after_line};
+ghost use Rattle.hls_http.specs.Bodies.{CountsBody, CountsWait, Moves, Passes, Waits, move_len};
+ghost use Rattle.hls_http.specs.Source.{held_of, read_failures, reader_of, taken_of, work_left};
+
+use crate::source::{Filled, Source};
+use hls_http_laws::body::Body;
+use hls_http_laws::limits::{MOST_FIELDS, MOST_HEAD};
+use httparse::spans::{EMPTY_HEADER_SPAN, parse_headers};
+use httparse::{Status, parse_chunk_size};
+use std::io::Read;
+
+/// What stands at the front of the held bytes of a body.
+#[derive(Clone, Copy, Debug, PartialEq, Eq, Drop)]
+pub enum Move {
+    /// So many bytes of content, and then the body goes on so.
+    Piece(usize, Body),
+    /// So many bytes that frame the content.
+    Frame(usize, Body),
+}
+
+/// Why nothing of a body stands at the front.
+#[derive(Clone, Copy, Debug, PartialEq, Eq, Drop)]
+enum Lack {
+    /// More bytes are needed.
+    Wait,
+    /// Nothing of the grammar stands here, whatever follows.
+    Bad,
+}
+
+/// What a call brought of a body.
+#[derive(Clone, Copy, Debug, PartialEq, Eq, Drop)]
+pub enum Given {
+    /// The next piece, which isn't empty, is what the source has taken last.
+    Piece,
+    /// The body is over.
+    Over,
+}
+
+/// Why no more of a body comes.
+#[derive(Clone, Copy, Debug, PartialEq, Eq, Drop)]
+pub enum BodyEnd {
+    /// The body breaks the grammar of chunks (RFC 9112 7.1), or a size line or the trailers pass their limits.
+    BadFraming,
+    /// The input ended inside the body.
+    CutShort,
+    /// A read failed, and was counted.
+    ReadFailed,
+}
+
+/// How many of the held bytes belong to a body of which so many are to come.
+fn piece_len(held: &[u8], left: u64) -> usize
+    ensures { result ≡ min (length held.now) left }
+{
+    if left < held.len() as u64 {
+        left as usize
+    } else {
+        held.len()
+    }
+}
+
+/// Bytes by length.
+fn find_length(held: &[u8], left: u64) -> Result<Move, Lack>
+    requires { 0 < left }
+    ensures { Moves (Body.Length left) held.now result }
+{
+    let len = piece_len(held, left);
+    if len == 0 {
+        return Err(Lack::Wait);
+    }
+    Ok(Move::Piece(len, Body::Length(left - len as u64)))
+}
+
+/// The bytes of a chunk, or its CR LF.
+fn find_data(held: &[u8], left: u64) -> Result<Move, Lack>
+    ensures { Moves (Body.Data left) held.now result }
+{
+    if left == 0 {
+        return match held {
+            [] | [b'\r'] => Err(Lack::Wait),
+            [b'\r', b'\n', ..] => Ok(Move::Frame(2, Body::Size)),
+            _ => Err(Lack::Bad),
+        };
+    }
+    let len = piece_len(held, left);
+    if len == 0 {
+        return Err(Lack::Wait);
+    }
+    Ok(Move::Piece(len, Body::Data(left - len as u64)))
+}
+
+/// The body behind a size line.
+fn after_size(size: u64) -> Body
+    ensures { result ≡ after_line size }
+{
+    if size == 0 {
+        Body::Trailers
+    } else {
+        Body::Data(size)
+    }
+}
+
+/// The line of a chunk's size.
+fn find_size(held: &[u8]) -> Result<Move, Lack>
+    ensures { Moves Body.Size held.now result }
+{
+    match parse_chunk_size(held) {
+        Ok(Status::Complete((len, size))) => {
+            if len > MOST_HEAD {
+                return Err(Lack::Bad);
+            }
+            Ok(Move::Frame(len, after_size(size)))
+        }
+        Ok(Status::Partial) => {
+            if held.len() < MOST_HEAD {
+                Err(Lack::Wait)
+            } else {
+                Err(Lack::Bad)
+            }
+        }
+        Err(_) => Err(Lack::Bad),
+    }
+}
+
+/// The trailers.
+fn find_trailers(held: &[u8]) -> Result<Move, Lack>
+    ensures { Moves Body.Trailers held.now result }
+{
+    let mut headers = [EMPTY_HEADER_SPAN; MOST_FIELDS];
+    match parse_headers(held, &mut headers) {
+        Ok(Status::Complete((len, _))) => {
+            if len > MOST_HEAD {
+                return Err(Lack::Bad);
+            }
+            Ok(Move::Frame(len, Body::Length(0)))
+        }
+        Ok(Status::Partial) => {
+            if held.len() < MOST_HEAD {
+                Err(Lack::Wait)
+            } else {
+                Err(Lack::Bad)
+            }
+        }
+        Err(_) => Err(Lack::Bad),
+    }
+}
+
+fn find_move(held: &[u8], body: Body) -> Result<Move, Lack>
+    requires { body ≢ Body.Length 0 }
+    ensures { Moves body held.now result }
+{
+    match body {
+        Body::Length(left) => find_length(held, left),
+        Body::Size => find_size(held),
+        Body::Data(left) => find_data(held, left),
+        Body::Trailers => find_trailers(held),
+    }
+}
+
+/// Reads until a move stands at the front of what is held; nothing is taken.
+pub fn wait_move<R: Read>(source: &mut Source<R>, body: Body) -> Result<Move, BodyEnd>
+    requires { body ≢ Body.Length 0 }
+    ensures waits { (rest : List ℕ) → R.remaining (reader_of source.old) ≡ Some rest
+        → Waits body (held_of source.old ++ rest) (held_of source.new) (R.remaining (reader_of source.new)) result }
+    ensures counts { CountsWait result (read_failures source.old) (read_failures source.new) }
+    ensures work { IfOk result (λ found. work_left source.new ≤ work_left source.old) }
+    ensures fits { IfOk result (λ found. (0 < move_len found) × (move_len found ≤ length (held_of source.new))) }
+{
+    loop {
+        match find_move(source.held(), body) {
+            Ok(found) => return Ok(found),
+            Err(Lack::Wait) => match source.fill() {
+                Filled::More => {}
+                Filled::AtEnd => return Err(BodyEnd::CutShort),
+                Filled::Failed => return Err(BodyEnd::ReadFailed),
+            },
+            Err(Lack::Bad) => return Err(BodyEnd::BadFraming),
+        }
+    }
+}
+
+/// Takes the next piece of a body, reading as much as it needs; the body says where it goes on. Where it is over,
+/// what follows it is held. No memory is taken.
+pub fn read_body<R: Read>(source: &mut Source<R>, body: &mut Body) -> Result<Given, BodyEnd>
+    ensures passes { (rest : List ℕ) → R.remaining (reader_of source.old) ≡ Some rest
+        → Passes body.old (held_of source.old ++ rest) body.new (taken_of source.new) (held_of source.new) (R.remaining (reader_of source.new)) result }
+    ensures counts { CountsBody result (read_failures source.old) (read_failures source.new) }
+{
+    loop {
+        if *body == Body::Length(0) {
+            return Ok(Given::Over);
+        }
+        match wait_move(source, *body) {
+            Ok(Move::Piece(len, next)) => {
+                source.take(len);
+                *body = next;
+                return Ok(Given::Piece);
+            }
+            Ok(Move::Frame(len, next)) => {
+                source.take(len);
+                *body = next;
+            }
+            Err(end) => return Err(end),
+        }
+    }
+}

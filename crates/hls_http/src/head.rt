@@ -1,0 +1,167 @@
+//! Heads of requests.
+
+ghost use Rattle.std.specs.Prelude.{◌≡◌, ◌++◌, List, ℕ, Some, take};
+ghost use Rattle.httparse.specs.Grammar.{RequestHead};
+ghost use Rattle.httparse.specs.Spans.{IsRequestAt, IsRequestWithin};
+ghost use Rattle.hls_http.specs.Heads.{method_of, CountsHead, Finds, Hears, IsHead};
+ghost use Rattle.hls_http.specs.Source.{held_of, read_failures, reader_of, taken_of};
+
+use crate::fields::{asked_range, body, closes_connection, waits_for_continue};
+use crate::source::{Filled, Source};
+use hls_http_laws::body::Body;
+use hls_http_laws::fault::HttpFault;
+use hls_http_laws::limits::{MOST_FIELDS, MOST_HEAD};
+use hls_http_laws::range::Asked;
+use httparse::spans::{EMPTY_HEADER_SPAN, HeaderSpan, RequestSpans, Span, parse_request};
+use httparse::{Error, Status};
+use std::io::Read;
+
+/// The method of a request, case-sensitive (RFC 9110 9.1).
+#[derive(Clone, Copy, Debug, PartialEq, Eq, Drop)]
+pub enum Method {
+    Get,
+    Head,
+    Post,
+    Put,
+    Delete,
+    /// Any other.
+    Other,
+}
+
+impl Method {
+    /// The method of this name.
+    pub fn of(name: &[u8]) -> Method
+        ensures { result ≡ method_of name.now }
+    {
+        if name == b"GET".as_slice() {
+            return Method::Get;
+        }
+        if name == b"HEAD".as_slice() {
+            return Method::Head;
+        }
+        if name == b"POST".as_slice() {
+            return Method::Post;
+        }
+        if name == b"PUT".as_slice() {
+            return Method::Put;
+        }
+        if name == b"DELETE".as_slice() {
+            return Method::Delete;
+        }
+        Method::Other
+    }
+}
+
+/// What a head says, as far as it matters here. Its text is what the source has taken last.
+#[derive(Clone, Copy, Debug)]
+pub struct Head {
+    /// The method.
+    pub method: Method,
+    /// Where the target stands in the head's text.
+    pub target: Span,
+    /// Where the body begins; BadHead where the Host is wrong, else BadFraming where its length can't be told.
+    pub body: Result<Body, HttpFault>,
+    /// Whether 100 Continue is waited for.
+    pub expects: bool,
+    /// Whether the connection ends with this request.
+    pub closes: bool,
+    /// What its Range asks for.
+    pub range: Asked,
+}
+
+/// Why a text shows no head.
+#[derive(Clone, Copy, Debug, PartialEq, Eq, Drop)]
+enum Look {
+    /// More bytes are needed.
+    Partial,
+    /// No bytes can follow that make it a head.
+    Hopeless,
+    /// It is past the limits.
+    TooLarge,
+}
+
+/// Why no head comes.
+#[derive(Clone, Copy, Debug, PartialEq, Eq, Drop)]
+pub enum HeadEnd {
+    /// The input ended between two requests.
+    Closed,
+    /// The input ended inside a head.
+    CutShort,
+    /// What was read can't become a head.
+    BadHead,
+    /// More than 16384 bytes or 64 fields.
+    HeadTooLarge,
+    /// A read failed, and was counted.
+    ReadFailed,
+}
+
+/// What is kept of a head whose parts were found.
+fn kept(text: &[u8], headers: &[HeaderSpan], spans: &RequestSpans) -> Head
+    requires within { IsRequestWithin text.now headers.now spans.now }
+    ensures { (h : RequestHead) → IsRequestAt text.now headers.now spans.now h → IsHead h result (take spans.now.len text.now) }
+{
+    let found = &headers[..spans.headers];
+    let minor = spans.version;
+    Head {
+        method: Method::of(spans.method.of(text)),
+        target: spans.path,
+        body: body(text, found, minor),
+        expects: waits_for_continue(text, found, minor),
+        closes: closes_connection(text, found, minor),
+        range: asked_range(text, found),
+    }
+}
+
+/// The head at the front of a text, and its length.
+fn find_head(text: &[u8]) -> Result<(Head, usize), Look>
+    ensures { Finds text.now result }
+{
+    let mut headers = [EMPTY_HEADER_SPAN; MOST_FIELDS];
+    match parse_request(text, &mut headers) {
+        Ok(Status::Complete(spans)) => {
+            if spans.len > MOST_HEAD {
+                return Err(Look::TooLarge);
+            }
+            Ok((kept(text, &headers, &spans), spans.len))
+        }
+        Ok(Status::Partial) => {
+            if text.len() < MOST_HEAD {
+                Err(Look::Partial)
+            } else {
+                Err(Look::TooLarge)
+            }
+        }
+        Err(Error::TooManyHeaders) => Err(Look::TooLarge),
+        Err(_) => Err(Look::Hopeless),
+    }
+}
+
+/// Takes the next head, reading as much as it needs. The head's text is then what the source has taken last, with
+/// empty lines that stood before it. Nothing is taken on any error. No memory is taken.
+pub fn next_head<R: Read>(source: &mut Source<R>) -> Result<Head, HeadEnd>
+    ensures hears { (rest : List ℕ) → R.remaining (reader_of source.old) ≡ Some rest
+        → Hears (held_of source.old ++ rest) (taken_of source.new) (held_of source.new) (R.remaining (reader_of source.new)) result }
+    ensures counts { CountsHead result (read_failures source.old) (read_failures source.new) }
+{
+    loop {
+        match find_head(source.held()) {
+            Ok((head, len)) => {
+                source.take(len);
+                return Ok(head);
+            }
+            Err(Look::Hopeless) => return Err(HeadEnd::BadHead),
+            Err(Look::TooLarge) => return Err(HeadEnd::HeadTooLarge),
+            Err(Look::Partial) => {}
+        }
+        match source.fill() {
+            Filled::More => {}
+            Filled::AtEnd => {
+                if source.held().is_empty() {
+                    return Err(HeadEnd::Closed);
+                }
+                return Err(HeadEnd::CutShort);
+            }
+            Filled::Failed => return Err(HeadEnd::ReadFailed),
+        }
+    }
+}

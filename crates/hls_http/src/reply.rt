@@ -1,0 +1,153 @@
+//! Replies: a head is one text, made before the first write.
+
+ghost use Rattle.std.specs.Prelude.{◌≡◌, ◌++◌, [], if◌then◌else◌, length, IfOk};
+ghost use Rattle.std.specs.Fmt.{decimal};
+ghost use Rattle.hls_http_laws.specs.Reply.{close_line, content_lines, crlf, extra_line, head_text, refusal, status_line, type_line};
+
+use hls_http_laws::reply::{Extra, Kind, Status};
+use std::alloc::{AllocError, Global};
+
+/// Room for most heads, taken at once.
+const HEAD_ROOM: usize = 256;
+
+fn status_text(status: Status) -> &'static [u8]
+    ensures { result.now ≡ status_line status }
+{
+    match status {
+        Status::Done => b"HTTP/1.1 200 OK\r\n",
+        Status::Accepted => b"HTTP/1.1 202 Accepted\r\n",
+        Status::NoContent => b"HTTP/1.1 204 No Content\r\n",
+        Status::PartialContent => b"HTTP/1.1 206 Partial Content\r\n",
+        Status::BadRequest => b"HTTP/1.1 400 Bad Request\r\n",
+        Status::NotFound => b"HTTP/1.1 404 Not Found\r\n",
+        Status::MethodNotAllowed => b"HTTP/1.1 405 Method Not Allowed\r\n",
+        Status::Conflict => b"HTTP/1.1 409 Conflict\r\n",
+        Status::Gone => b"HTTP/1.1 410 Gone\r\n",
+        Status::ContentTooLarge => b"HTTP/1.1 413 Content Too Large\r\n",
+        Status::RangeNotSatisfiable => b"HTTP/1.1 416 Range Not Satisfiable\r\n",
+        Status::HeadTooLarge => b"HTTP/1.1 431 Request Header Fields Too Large\r\n",
+        Status::Unavailable => b"HTTP/1.1 503 Service Unavailable\r\n",
+        Status::InsufficientStorage => b"HTTP/1.1 507 Insufficient Storage\r\n",
+    }
+}
+
+fn type_text(kind: Kind) -> &'static [u8]
+    ensures { result.now ≡ type_line kind }
+{
+    match kind {
+        Kind::Text => b"Content-Type: text/plain\r\n",
+        Kind::Media => b"Content-Type: video/mp4\r\n",
+        Kind::Playlist => b"Content-Type: application/vnd.apple.mpegurl\r\n",
+    }
+}
+
+/// Adds a number between two texts.
+fn push_between(out: &mut Vec<u8>, front: &[u8], number: u64, back: &[u8]) -> Result<(), AllocError>
+    ensures { IfOk result (λ done. out.new.items ≡ out.old.items ++ (front.now ++ (decimal number ++ back.now))) }
+{
+    out.extend_from_slice(front)?;
+    out.extend_from_slice(itoa::Buffer::new().format(number).as_bytes())?;
+    out.extend_from_slice(back)
+}
+
+fn push_content(out: &mut Vec<u8>, status: Status, kind: Kind, len: u64) -> Result<(), AllocError>
+    ensures { IfOk result (λ done. out.new.items ≡ out.old.items ++ content_lines status kind len) }
+{
+    if !status.has_content() {
+        return Ok(());
+    }
+    out.extend_from_slice(type_text(kind))?;
+    push_between(out, b"Content-Length: ", len, b"\r\n")?;
+    Ok(())
+}
+
+fn push_range(out: &mut Vec<u8>, first: u64, last: u64, total: u64) -> Result<(), AllocError>
+    ensures { IfOk result (λ done. out.new.items ≡ out.old.items ++ extra_line (Extra.Range first last total)) }
+{
+    push_between(out, b"Content-Range: bytes ", first, b"-")?;
+    push_between(out, b"", last, b"/")?;
+    push_between(out, b"", total, b"\r\n")?;
+    Ok(())
+}
+
+fn push_allow(out: &mut Vec<u8>, methods: &[u8]) -> Result<(), AllocError>
+    ensures { IfOk result (λ done. out.new.items ≡ out.old.items ++ extra_line (Extra.Allow methods.entry)) }
+{
+    out.extend_from_slice(b"Allow: ")?;
+    out.extend_from_slice(methods)?;
+    out.extend_from_slice(b"\r\n")?;
+    Ok(())
+}
+
+fn push_extra(out: &mut Vec<u8>, extra: Extra<'_>) -> Result<(), AllocError>
+    ensures { IfOk result (λ done. out.new.items ≡ out.old.items ++ extra_line extra.entry) }
+{
+    match extra {
+        Extra::Nothing => Ok(()),
+        Extra::Range(first, last, total) => push_range(out, first, last, total),
+        Extra::NoRange(total) => push_between(out, b"Content-Range: bytes */", total, b"\r\n"),
+        Extra::Job(id) => push_between(out, b"Location: /job/", id, b"\r\n"),
+        Extra::Allow(methods) => push_allow(out, methods),
+    }
+}
+
+/// The end of a head.
+fn end_text(closing: bool) -> &'static [u8]
+    ensures { result.now ≡ close_line closing ++ crlf }
+{
+    if closing {
+        b"Connection: close\r\n\r\n"
+    } else {
+        b"\r\n"
+    }
+}
+
+/// The text of a reply's head: status line, Content-Type, Content-Length, then Content-Range, Location or Allow, then
+/// Connection, and the empty line.
+pub fn head_bytes(
+    alloc: Global,
+    status: Status,
+    kind: Kind,
+    len: u64,
+    extra: Extra<'_>,
+    closing: bool,
+) -> Result<Vec<u8>, AllocError>
+    ensures { IfOk result (λ v. v.items ≡ head_text status kind len extra.entry closing) }
+{
+    let mut out = Vec::with_capacity(alloc, HEAD_ROOM)?;
+    out.extend_from_slice(status_text(status))?;
+    push_content(&mut out, status, kind, len)?;
+    push_extra(&mut out, extra)?;
+    out.extend_from_slice(end_text(closing))?;
+    Ok(out)
+}
+
+/// The whole text of a reply whose body is a text; to HEAD without the body.
+pub fn reply_bytes(
+    alloc: Global,
+    status: Status,
+    kind: Kind,
+    extra: Extra<'_>,
+    closing: bool,
+    body: &[u8],
+    to_head: bool,
+) -> Result<Vec<u8>, AllocError>
+    ensures { IfOk result (λ v. v.items
+        ≡ head_text status kind (length body.now) extra.entry closing ++ (if to_head then [] else body.now)) }
+{
+    let mut out = head_bytes(alloc, status, kind, body.len() as u64, extra, closing)?;
+    if !to_head {
+        out.extend_from_slice(body)?;
+    }
+    Ok(out)
+}
+
+/// The body of a refusal: its name.
+pub fn refusal_body(alloc: Global, name: &str) -> Result<Vec<u8>, AllocError>
+    ensures { IfOk result (λ v. v.items ≡ refusal name.now) }
+{
+    let mut out = Vec::from_slice(alloc, b"refused ")?;
+    out.extend_from_slice(name.as_bytes())?;
+    out.push(b'\n')?;
+    Ok(out)
+}
