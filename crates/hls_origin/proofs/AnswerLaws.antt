@@ -10,12 +10,14 @@ use Rattle.hls_check.specs.Answers.{AnswerOver, IsAnswer}
 use Rattle.hls_check.proofs.OneAnswer as answers
 use Rattle.hls_check_text.specs.Text.{text}
 use Rattle.hls_check_text.proofs.Wrongs.{text_is_told, wrong_is_one}
-use Rattle.hls_http.specs.Writing.{Writes}
+use Rattle.hls_io.specs.Writing.{Writes}
 use Rattle.hls_origin.specs.declared.check.reading.Unread.{Unread}
 use Rattle.hls_origin.specs.declared.check.run.CheckEnd.{CheckEnd}
 use Rattle.hls_origin.specs.declared.check.run.CheckEnd.TheVariants.{Yes, Refused, ReadFailed, WriteFailed}
+use Rattle.hls_origin.specs.Beginning.{IsBeginning}
 use Rattle.hls_origin.specs.CheckAnswer.{AnswerOf, printed}
-use Rattle.hls_origin.specs.CheckRun.{Answers, AnswersStream, AnswersText, CountsFailures, CountsPrinting, Prints, PrintsAnswer, Reads, Runs, TellsAnswer}
+use Rattle.hls_origin.specs.CheckRun.{Answers, AnswersStream, CountsFailures, Runs}
+use Rattle.hls_origin.specs.CheckParts.{AnswersText, CountsPrinting, Prints, PrintsAnswer, Reads, TellsAnswer}
 
 -- ---- what is answered
 
@@ -53,20 +55,29 @@ prints_refused (Ok v) fault held line contents is line_is h = cc
 prints_refused (Err f) fault held line contents is line_is h =
     record { text = h.written; contents_are = h.contents_are; prints = sym (append-nil h.written) ∙ ap (λ xs. h.written ++ xs) (sym (h.whole refl)) ∙ sym h.split ∙ line_is }
 
-pub prints_beginning : (answer : Result Verdict CertFault) (held line : List ℕ) (contents : Option (List ℕ)) → line ≡ printed answer → Writes held line contents false → PrintsAnswer answer held contents WriteFailed
+pub prints_beginning : (answer : Result Verdict CertFault) (held line : List ℕ) (contents : Option (List ℕ)) → line ≡ printed answer → Writes held line contents false → PrintsAnswer answer held contents (WriteFailed answer)
 prints_beginning (Ok v) held line contents line_is h =
-    record { text = h.written; contents_are = h.contents_are; prints = record { missing = h.left; is = sym line_is ∙ h.split } }
+    record { text = h.written; contents_are = h.contents_are; prints = (refl, record { missing = h.left; is = sym line_is ∙ h.split }) }
 prints_beginning (Err f) held line contents line_is h =
-    record { text = h.written; contents_are = h.contents_are; prints = record { missing = h.left; is = sym line_is ∙ h.split } }
+    record { text = h.written; contents_are = h.contents_are; prints = (refl, record { missing = h.left; is = sym line_is ∙ h.split }) }
 
 -- ---- both together
 
+-- the answer that a failed write tells
+whose : (stream rest text : List ℕ) (answer told : Result Verdict CertFault) → AnswersStream stream rest answer → told ≡ answer →
+    IsBeginning text (printed answer) → Answers stream rest text (WriteFailed told)
+whose stream rest text answer told answers is beginning =
+    subst (λ (a : Result Verdict CertFault). AnswersStream stream rest a × IsBeginning text (printed a)) (sym is) (answers, beginning)
+
 answers_printed : (stream rest text : List ℕ) (answer : Result Verdict CertFault) (end : CheckEnd) → AnswersStream stream rest answer → Prints answer text end → Answers stream rest text end
-answers_printed stream rest text answer Yes answers prints = record { answer = answer; answers = answers; prints = prints }
-answers_printed stream rest text answer Refused answers prints = record { answer = answer; answers = answers; prints = prints }
-answers_printed stream rest text answer WriteFailed answers prints = record { answer = answer; answers = answers; prints = prints }
+answers_printed stream rest text (Ok v) Yes answers prints = (v, answers, prints)
+answers_printed stream rest text (Err f) Yes answers prints = absurd prints
+answers_printed stream rest text (Ok v) Refused answers prints = absurd prints
+answers_printed stream rest text (Err f) Refused answers prints = (f, answers, prints)
 answers_printed stream rest text (Ok v) ReadFailed answers prints = absurd prints
 answers_printed stream rest text (Err f) ReadFailed answers prints = absurd prints
+answers_printed stream rest text (Ok v) (WriteFailed told) answers prints = whose stream rest text (Ok v) told answers prints.0 prints.1
+answers_printed stream rest text (Err f) (WriteFailed told) answers prints = whose stream rest text (Err f) told answers prints.0 prints.1
 
 pub runs_printed : (stream held : List ℕ) (left contents : Option (List ℕ)) (answer : Result Verdict CertFault) (end : CheckEnd) → TellsAnswer stream left (Some answer) → PrintsAnswer answer held contents end → Runs stream held left contents end
 runs_printed stream held left contents answer end h prints =
@@ -79,7 +90,7 @@ runs_unread stream held left contents h same =
 pub counts_printed : (end : CheckEnd) (read_old read_new write_old write_new : ℕ) → read_new ≡ read_old → CountsPrinting end write_old write_new → CountsFailures end read_old read_new write_old write_new
 counts_printed Yes read_old read_new write_old write_new quiet counts = (quiet, counts)
 counts_printed Refused read_old read_new write_old write_new quiet counts = (quiet, counts)
-counts_printed WriteFailed read_old read_new write_old write_new quiet counts = (quiet, counts)
+counts_printed (WriteFailed told) read_old read_new write_old write_new quiet counts = (quiet, counts)
 counts_printed ReadFailed read_old read_new write_old write_new quiet counts = absurd counts
 
 -- ---- a text has one answer, and want of memory is none

@@ -3,7 +3,7 @@ use Rattle.std.proofs.Common.{◌≡◌, ◌∙◌, ℕ, List, [], ◌++◌, Opt
 use Rattle.std.specs.Global.{Global}
 use Rattle.std.specs.Io.KnownBytes.{Consumes, IsAtEnd, Keeps}
 use Rattle.hls_origin.specs.declared.check.reading.Unread.TheVariants as unread
-use Rattle.hls_origin.specs.CheckRun.{Reads}
+use Rattle.hls_origin.specs.CheckParts.{Reads}
 
 -- these bytes were taken of the stream
 pub record Reading (stream : List ℕ) (left : Option (List ℕ)) (bytes : List ℕ) : Type 0 where

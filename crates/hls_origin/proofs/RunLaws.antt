@@ -1,8 +1,8 @@
 -- From what was gathered to what is answered.
-use Rattle.std.proofs.Common.{◌≡◌, ◌≢◌, ◌∙◌, ℕ, List, [], ◌++◌, Option, Some, Result, Ok, Err, Bool, refl, sym, ap, subst, inl, inr, true≢false, true, false, append-nil}
+use Rattle.std.proofs.Common.{◌≡◌, ◌≢◌, ◌∙◌, ℕ, List, [], ◌++◌, Option, Some, None, Result, Ok, Err, Bool, refl, sym, ap, subst, inl, inr, true≢false, true, false, append-nil}
 use Rattle.hls_boxes_laws.specs.Parts.{cut_of}
 use Rattle.hls_core_laws.specs.State.{State}
-use Rattle.hls_http.specs.Writing.{CountsWrite, Writes}
+use Rattle.hls_io.specs.Writing.{CountsWrite, Writes}
 use Rattle.hls_origin_listing.specs.declared.fault.ListFault.{ListFault}
 use Rattle.hls_origin_listing.specs.declared.fault.ListFault.TheVariants as list
 use Rattle.hls_origin_listing.specs.declared.forms.Listed.{Listed}
@@ -15,7 +15,8 @@ use Rattle.hls_origin.specs.Channel.{opening_of}
 use Rattle.hls_origin.specs.Gather.{CountsReads, EndsReading, Gathers, GathersOf}
 use Rattle.hls_origin.specs.Options.{Choice}
 use Rattle.hls_origin.specs.Recorded.{ended, recorded}
-use Rattle.hls_origin.specs.Run.{Answers, Comes, CountsFailures, CountsPrint, EndsCut, IsListing, ListsAtEnd, Outcome, Prints, Runs, Takes, TakesOf, bytes_of, ended_by, is_cut}
+use Rattle.hls_origin.specs.Run.{Answers, Comes, CountsFailures, EndsCut, IsListing, Outcome, Runs, bytes_of, is_cut}
+use Rattle.hls_origin.specs.RunParts.{CountsPrint, ListsAtEnd, Prints, Takes, TakesOf, ended_by}
 use Rattle.hls_origin.proofs.Told.{told_ended, told_recorded}
 
 -- ---- refusals of the stream
@@ -107,19 +108,21 @@ ends_unlisted choice defined new f other is lists = comes_as choice defined (Ok 
 
 -- ---- the run
 
-answers_err : (choice : Choice) (stream taken rest : List ℕ) (f : CutFault) → stream ≡ taken ++ rest → TakesOf choice taken rest (Err f) → Answers choice stream rest [] (end.Refused f)
-answers_err choice stream taken rest fault.Memory split h = refl
-answers_err choice stream taken rest fault.ReadFailed split h = record { taken = taken; split = split; ends = h; no_text = refl }
-answers_err choice stream taken rest fault.WriteFailed split h = absurd h
-answers_err choice stream taken rest f split h = record { taken = taken; split = split; ends = h; no_text = refl }
+answers_err : (choice : Choice) (stream taken rest : List ℕ) (f : CutFault) → TakesOf choice taken rest (Err f) → Answers choice stream taken rest [] (end.Refused f)
+answers_err choice stream taken rest fault.Memory h = refl
+answers_err choice stream taken rest fault.ReadFailed h = (refl, h)
+answers_err choice stream taken rest fault.WriteFailed h = absurd h
+answers_err choice stream taken rest f h = (refl, h)
 
 pub runs_err : (choice : Choice) (stream held : List ℕ) (left contents : Option (List ℕ)) (f : CutFault) → Takes choice stream left (Err f) → contents ≡ Some held → Runs (Some choice) stream held left contents (end.Refused f)
 runs_err choice stream held left contents f h is = record {
+  taken = h.taken;
   rest = h.rest;
   text = [];
   left_is = h.left_is;
+  split = h.split;
   contents_are = is ∙ ap Some (sym (append-nil held));
-  answers = answers_err choice stream h.taken h.rest f h.split h.comes;
+  answers = answers_err choice stream h.taken h.rest f h.comes;
 }
 
 whole_stream : (stream taken rest : List ℕ) → stream ≡ taken ++ rest → rest ≡ [] → stream ≡ taken
@@ -130,17 +133,17 @@ abbrev pub end_of : Bool → CutEnd
 end_of true = end.Done
 end_of false = end.NoCut
 
-answers_done : (choice : Choice) (stream rest text : List ℕ) (listed : Listed) (cut : Bool) → rest ≡ [] → Outcome choice stream (Ok listed) → bytes_of listed ≡ text → is_cut listed ≡ cut
-    → Answers choice stream rest text (end_of cut)
-answers_done choice stream rest text listed true none outcome is cut = record { whole = none; listed = listed; outcome = outcome; text_is = is; cut_is = cut }
-answers_done choice stream rest text listed false none outcome is cut = record { whole = none; listed = listed; outcome = outcome; text_is = is; cut_is = cut }
+answers_done : (choice : Choice) (stream taken rest text : List ℕ) (listed : Listed) (cut : Bool) → rest ≡ [] → Outcome choice stream (Ok listed) → bytes_of listed ≡ text → is_cut listed ≡ cut
+    → Answers choice stream taken rest text (end_of cut)
+answers_done choice stream taken rest text listed true none outcome is cut = record { whole = none; listed = listed; outcome = outcome; text_is = is; cut_is = cut }
+answers_done choice stream taken rest text listed false none outcome is cut = record { whole = none; listed = listed; outcome = outcome; text_is = is; cut_is = cut }
 
-answers_printed : (choice : Choice) (stream rest written left : List ℕ) (listed : Listed) (cut done : Bool) → rest ≡ [] → Outcome choice stream (Ok listed) → bytes_of listed ≡ written ++ left → is_cut listed ≡ cut
-    → (done ≡ true → left ≡ []) → Answers choice stream rest written (ended_by done (end_of cut))
-answers_printed choice stream rest written left listed cut true none outcome is of whole =
-    answers_done choice stream rest written listed cut none outcome (is ∙ ap (λ xs. written ++ xs) (whole refl) ∙ append-nil written) of
-answers_printed choice stream rest written left listed cut false none outcome is of whole =
-    record { missing = left; whole = none; listed = listed; outcome = outcome; text_is = is }
+answers_printed : (choice : Choice) (stream taken rest written left : List ℕ) (listed : Listed) (cut done : Bool) → rest ≡ [] → Outcome choice stream (Ok listed) → bytes_of listed ≡ written ++ left → is_cut listed ≡ cut
+    → (done ≡ true → left ≡ []) → Answers choice stream taken rest written (ended_by done (end_of cut))
+answers_printed choice stream taken rest written left listed cut true none outcome is of whole =
+    answers_done choice stream taken rest written listed cut none outcome (is ∙ ap (λ xs. written ++ xs) (whole refl) ∙ append-nil written) of
+answers_printed choice stream taken rest written left listed cut false none outcome is of whole =
+    record { whole = none; listed = listed; outcome = outcome; beginning = record { missing = left; is = is } }
 
 pub runs_printed : (choice : Choice) (stream held text : List ℕ) (left contents : Option (List ℕ)) (listed : Listed) (cut : Bool) (answer : CutEnd) → Takes choice stream left (Ok listed) → bytes_of listed ≡ text → is_cut listed ≡ cut
     → Prints held text contents (end_of cut) answer → Runs (Some choice) stream held left contents answer
@@ -148,12 +151,14 @@ runs_printed choice stream held text left contents listed cut answer h is of w =
     let outcome : Outcome choice stream (Ok listed) =
     subst (λ (xs : List ℕ). Outcome choice xs (Ok listed)) (sym (whole_stream stream h.taken h.rest h.split h.comes.0)) h.comes.1 in
     record {
+      taken = h.taken;
       rest = h.rest;
       text = w.writes.written;
       left_is = h.left_is;
+      split = h.split;
       contents_are = w.writes.contents_are;
-      answers = let P : CutEnd → Type 0 = Answers choice stream h.rest w.writes.written in
-          subst P (sym w.answer_is) (answers_printed choice stream h.rest w.writes.written w.writes.left listed cut w.done h.comes.0 outcome (is ∙ w.writes.split) of w.writes.whole);
+      answers = let P : CutEnd → Type 0 = Answers choice stream h.taken h.rest w.writes.written in
+          subst P (sym w.answer_is) (answers_printed choice stream h.taken h.rest w.writes.written w.writes.left listed cut w.done h.comes.0 outcome (is ∙ w.writes.split) of w.writes.whole);
     }
 
 pub counts_err : (f : CutFault) (read_old read_new write_old write_new : ℕ) → CountsReads {A = Listed} (Err f) read_old read_new → write_new ≡ write_old → CountsFailures (end.Refused f) read_old read_new write_old write_new
@@ -178,6 +183,42 @@ not_usage cut false is = cc
 
 pub printed_is_used : (cut : Bool) (answer : CutEnd) (old new : ℕ) → CountsPrint (end_of cut) answer old new → answer ≢ end.Usage
 printed_is_used cut answer old new h is = not_usage cut h.done (sym h.answer_is ∙ is)
+
+-- ---- a run that reads and writes nothing
+
+pub runs_without_memory : (choice : Option Choice) (stream held : List ℕ) (left contents : Option (List ℕ)) → left ≡ Some stream → contents ≡ Some held →
+    Runs choice stream held left contents (end.Refused fault.Memory)
+runs_without_memory None stream held left contents left_is is = record {
+  taken = [];
+  rest = stream;
+  text = [];
+  left_is = left_is;
+  split = refl;
+  contents_are = is ∙ ap Some (sym (append-nil held));
+  answers = (refl, refl);
+}
+runs_without_memory (Some choice) stream held left contents left_is is = record {
+  taken = [];
+  rest = stream;
+  text = [];
+  left_is = left_is;
+  split = refl;
+  contents_are = is ∙ ap Some (sym (append-nil held));
+  answers = refl;
+}
+
+pub runs_unused : (choice : Option Choice) (stream held : List ℕ) (left contents : Option (List ℕ)) → choice ≡ None → left ≡ Some stream → contents ≡ Some held →
+    Runs choice stream held left contents end.Usage
+runs_unused None stream held left contents none left_is is = record {
+  taken = [];
+  rest = stream;
+  text = [];
+  left_is = left_is;
+  split = refl;
+  contents_are = is ∙ ap Some (sym (append-nil held));
+  answers = (refl, refl);
+}
+runs_unused (Some choice) stream held left contents none left_is is = cc
 
 -- ---- the writing
 

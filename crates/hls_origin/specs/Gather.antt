@@ -5,7 +5,7 @@ use Rattle.hls_boxes_laws.specs.Parts.{after_parts, cut_of, text_fault}
 use Rattle.hls_core_laws.specs.State.{State}
 use Rattle.hls_origin.specs.declared.cut.fault.CutFault.{CutFault}
 use Rattle.hls_origin.specs.declared.cut.fault.CutFault.TheVariants as fault
-use Rattle.hls_http.specs.Rose.{Rose}
+use Rattle.hls_io.specs.Rose.{Rose}
 use Rattle.hls_origin.specs.Recorded.{ended, recorded, with_parts}
 
 -- of what was taken these parts lead to the state s, and `held` is still to be cut, whatever follows

@@ -1,6 +1,8 @@
 pub mod Accepts
+pub mod Beginning
 pub mod Channel
 pub mod CheckAnswer
+pub mod CheckParts
 pub mod CheckRun
 pub mod FaultName
 pub mod Gather
@@ -8,4 +10,6 @@ pub mod Number
 pub mod Options
 pub mod Recorded
 pub mod Run
+pub mod RunParts
+pub mod Status
 pub mod Then

@@ -10,6 +10,10 @@
 //! refused one or a failed call, 2 a usage fault.
 #![tactic(auto)]
 
+ghost use Rattle.std.specs.Prelude.{◌≡◌};
+ghost use Rattle.std.specs.Process.{exit_status};
+ghost use Rattle.hls_origin.specs.Status.{check_status, cut_status, usage_status};
+
 mod check;
 mod cut;
 #[cfg(test)]
@@ -24,9 +28,10 @@ mod vectors;
 use crate::check::run::{CheckEnd, run_check};
 use crate::cut::fault::CutFault;
 use crate::cut::run::{CutEnd, run_cut};
-use hls_http::Counted;
+use hls_io::Counted;
 use hls_origin_listing::ListFault;
 use std::process::ExitCode;
+use std::thread::Threads;
 use std::{env, io};
 
 const USAGE: &str = "usage: hls_origin [cut [--each] [--target N] [--uri TEXT]] < STREAM > PLAYLIST
@@ -53,7 +58,9 @@ fn words_of(rt: &HostRuntime) -> io::Result<Vec<String>> {
 }
 
 /// Tells how the program is used.
-fn usage_fault(rt: &HostRuntime) -> ExitCode {
+fn usage_fault(rt: &HostRuntime) -> ExitCode
+    ensures { exit_status result ≡ usage_status }
+{
     let _ = eprint!(rt; "{USAGE}");
     ExitCode::from(2)
 }
@@ -72,7 +79,9 @@ fn print_refusal(rt: &HostRuntime, fault: CutFault) -> io::Result<()> {
 }
 
 /// Ends the program as `cut` ended.
-fn end_cut(rt: &HostRuntime, end: CutEnd) -> ExitCode {
+fn end_cut(rt: &HostRuntime, end: CutEnd) -> ExitCode
+    ensures { exit_status result ≡ cut_status end }
+{
     match end {
         CutEnd::Done => ExitCode::SUCCESS,
         CutEnd::NoCut => {
@@ -94,42 +103,53 @@ fn run_cut_words(rt: &HostRuntime, words: &[String]) -> ExitCode {
     end_cut(rt, run_cut(rt.alloc(), words, &mut input, &mut output))
 }
 
-/// Tells which call of `check` failed.
-fn check_failed(rt: &HostRuntime, name: &str) -> ExitCode {
-    let _ = eprintln!(rt; "check: {name}");
-    ExitCode::from(1)
+/// Ends the program as `check` ended.
+fn end_check(rt: &HostRuntime, end: CheckEnd) -> ExitCode
+    ensures { exit_status result ≡ check_status end }
+{
+    match end {
+        CheckEnd::Yes => ExitCode::SUCCESS,
+        CheckEnd::Refused => ExitCode::from(1),
+        CheckEnd::ReadFailed => {
+            let _ = eprintln!(rt; "check: ReadFailed");
+            ExitCode::from(1)
+        }
+        CheckEnd::WriteFailed(_) => {
+            let _ = eprintln!(rt; "check: WriteFailed");
+            ExitCode::from(1)
+        }
+    }
 }
 
 /// Does `check`, after which no word may stand.
-fn run_check_words(rt: &HostRuntime, words: &[String]) -> ExitCode {
+fn run_check_words(
+    rt: &HostRuntime,
+    threads: &(impl Threads + Sync),
+    words: &[String],
+) -> ExitCode {
     if !words.is_empty() {
         return usage_fault(rt);
     }
     let mut input = Counted::new(rt.stdin());
     let mut output = Counted::new(io::writer(rt));
-    match run_check(rt.alloc(), &mut input, &mut output) {
-        CheckEnd::Yes => ExitCode::SUCCESS,
-        CheckEnd::Refused => ExitCode::from(1),
-        CheckEnd::ReadFailed => check_failed(rt, "ReadFailed"),
-        CheckEnd::WriteFailed => check_failed(rt, "WriteFailed"),
-    }
+    end_check(rt, run_check(threads, rt.alloc(), &mut input, &mut output))
 }
 
 /// Does what the first word names; without a word `cut`.
-fn run_words(rt: &HostRuntime, words: &[String]) -> ExitCode {
+fn run_words(rt: &HostRuntime, threads: &(impl Threads + Sync), words: &[String]) -> ExitCode {
     let Some((first, rest)) = words.split_first() else {
         return run_cut_words(rt, words);
     };
     match first.as_str() {
         "cut" => run_cut_words(rt, rest),
-        "check" => run_check_words(rt, rest),
+        "check" => run_check_words(rt, threads, rest),
         _ => usage_fault(rt),
     }
 }
 
 fn main(rt: HostRuntime) -> ExitCode {
     match words_of(&rt) {
-        Ok(words) => run_words(&rt, words.as_slice()),
+        Ok(words) => run_words(&rt, &rt, words.as_slice()),
         Err(_) => end_cut(&rt, CutEnd::Refused(CutFault::Memory)),
     }
 }

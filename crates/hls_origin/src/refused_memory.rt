@@ -7,10 +7,11 @@ use crate::cut::fault::CutFault;
 use crate::cut::run::{CutEnd, run_cut};
 use crate::fakes::{Drips, Page};
 use crate::vectors::{FIVE_UNITS, ONE_UNIT, stream, sync};
-use hls_http::Counted;
+use hls_io::Counted;
 use std::alloc::Global;
 use std::process::Abort;
 use std::test::Fail;
+use std::thread::Threads;
 
 /// How a run answered.
 #[derive(Clone, Copy, PartialEq, Eq)]
@@ -33,10 +34,10 @@ fn cut_once(alloc: Global, words: &[&str], stream: &[u8], text: &str) -> Answer 
     }
 }
 
-fn check_once(alloc: Global) -> Answer {
+fn check_once(rt: &(impl Threads + Sync), alloc: Global) -> Answer {
     let mut input = Counted::new(Drips::new(FIVE_UNITS.as_bytes(), 70, 0));
     let mut output = Counted::new(Page::new());
-    let end = run_check(alloc, &mut input, &mut output);
+    let end = run_check(rt, alloc, &mut input, &mut output);
     let page = output.into_inner();
     match end {
         CheckEnd::Yes if page.says(b"cut 1000000\n") => Answer::Ample,
@@ -84,6 +85,6 @@ fn of_least_plans(rt: HostRuntime) -> Result<(), Fail> {
 #[test]
 fn of_check(rt: HostRuntime) -> Result<(), Fail> {
     let alloc = rt.alloc();
-    assert!(rt; is_right(check_once(alloc), check_once(alloc)));
+    assert!(rt; is_right(check_once(&rt, alloc), check_once(&rt, alloc)));
     Ok(())
 }

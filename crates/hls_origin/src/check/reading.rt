@@ -1,10 +1,10 @@
 //! Reading a stream to its end.
 ghost use Rattle.std.specs.Prelude.{◌≡◌, ◌<◌, ℕ, List, Some, length};
-ghost use Rattle.hls_http.specs.Counted.{failures_of, inside_of};
-ghost use Rattle.hls_origin.specs.CheckRun.{CountsReading, Reads};
+ghost use Rattle.hls_io.specs.Counted.{failures_of, inside_of};
+ghost use Rattle.hls_origin.specs.CheckParts.{CountsReading, Reads};
 
 use crate::pieces::new_piece;
-use hls_http::Counted;
+use hls_io::Counted;
 use std::alloc::Global;
 use std::io::Read;
 

@@ -1,14 +1,16 @@
 //! `check`, from the bytes in to the bytes out.
 ghost use Rattle.std.specs.Prelude.{◌≡◌, ℕ, List, Some};
-ghost use Rattle.hls_http.specs.Counted.{failures_of, inside_of};
-ghost use Rattle.hls_origin.specs.CheckRun.{AnswersText, CountsFailures, CountsPrinting, CountsTelling, PrintsAnswer, Runs, TellsAnswer};
+ghost use Rattle.hls_io.specs.Counted.{failures_of, inside_of};
+ghost use Rattle.hls_origin.specs.CheckParts.{AnswersText, CountsPrinting, CountsTelling, PrintsAnswer, TellsAnswer};
+ghost use Rattle.hls_origin.specs.CheckRun.{CountsFailures, Runs};
 
 use crate::check::printing::answer_line;
 use crate::check::reading::{Unread, read_whole};
 use hls_check_laws::{CertFault, Verdict};
-use hls_http::{Counted, write_whole};
+use hls_io::{Counted, write_whole};
 use std::alloc::Global;
 use std::io::{Read, Write};
+use std::thread::Threads;
 
 /// How `check` ended.
 #[derive(Clone, Copy, Debug, PartialEq, Eq)]
@@ -19,22 +21,27 @@ pub enum CheckEnd {
     Refused,
     /// A read failed, and nothing was written: status 1.
     ReadFailed,
-    /// A write failed: status 1.
-    WriteFailed,
+    /// A write of the line of this answer failed: status 1.
+    WriteFailed(Result<Verdict, CertFault>),
 }
 
 /// The answer to a text.
-fn answer_text(alloc: Global, bytes: &[u8]) -> Result<Verdict, CertFault>
+fn answer_text(
+    rt: &(impl Threads + Sync),
+    alloc: Global,
+    bytes: &[u8],
+) -> Result<Verdict, CertFault>
     ensures { AnswersText bytes.now result }
 {
     match hls_check_text::read(alloc, bytes) {
-        Ok(certificate) => hls_check::check(&certificate),
+        Ok(certificate) => hls_check::check_rows(rt, alloc, &certificate),
         Err(fault) => Err(fault),
     }
 }
 
 /// The answer to the whole of a stream; None where a read failed.
 fn answer_stream<R: Read>(
+    rt: &(impl Threads + Sync),
     alloc: Global,
     input: &mut Counted<R>,
 ) -> Option<Result<Verdict, CertFault>>
@@ -42,7 +49,7 @@ fn answer_stream<R: Read>(
     ensures counts { CountsTelling result (failures_of input.old) (failures_of input.new) }
 {
     match read_whole(alloc, input) {
-        Ok(bytes) => Some(answer_text(alloc, &bytes)),
+        Ok(bytes) => Some(answer_text(rt, alloc, &bytes)),
         Err(Unread::ReadFailed) => None,
         Err(Unread::Memory) => Some(Err(CertFault::Memory)),
     }
@@ -55,7 +62,7 @@ fn print_answer<W: Write>(output: &mut Counted<W>, answer: Result<Verdict, CertF
 {
     let line = answer_line(answer);
     if !write_whole(output, line.as_str().as_bytes()) {
-        return CheckEnd::WriteFailed;
+        return CheckEnd::WriteFailed(answer);
     }
     match answer {
         Ok(_) => CheckEnd::Yes,
@@ -67,9 +74,11 @@ fn print_answer<W: Write>(output: &mut Counted<W>, answer: Result<Verdict, CertF
 /// and the cost in microseconds where it is a good certificate of a cut, `none` where it is a good
 /// one of no cut, else `refused`, the name of its first fault, and the fault's numbers.
 ///
-/// Nothing is written before the whole line is there. `refused Memory` is written only where memory
-/// was refused, and may then be written before the reader's end; writing it takes no memory.
+/// Nothing is written before the whole line is there. `refused Memory` is the answer only where memory
+/// was refused, and may then come before the reader's end; writing it takes no memory. Where a write
+/// fails, the end tells the answer whose line wasn't written whole.
 pub fn run_check<R: Read, W: Write>(
+    rt: &(impl Threads + Sync),
     alloc: Global,
     input: &mut Counted<R>,
     output: &mut Counted<W>,
@@ -78,7 +87,7 @@ pub fn run_check<R: Read, W: Write>(
         → Runs stream held (R.remaining (inside_of input.new)) (W.contents (inside_of output.new)) result }
     ensures counts { CountsFailures result (failures_of input.old) (failures_of input.new) (failures_of output.old) (failures_of output.new) }
 {
-    match answer_stream(alloc, input) {
+    match answer_stream(rt, alloc, input) {
         Some(answer) => print_answer(output, answer),
         None => CheckEnd::ReadFailed,
     }

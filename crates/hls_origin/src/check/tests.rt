@@ -3,13 +3,16 @@
 use crate::check::run::{CheckEnd, run_check};
 use crate::fakes::{Drips, Sink};
 use crate::vectors::{FIVE_UNITS, NO_CUT};
-use hls_http::Counted;
+use hls_check_laws::Verdict;
+use hls_io::Counted;
 use std::alloc::Global;
 use std::test::Fail;
+use std::thread::Threads;
 
 /// Checks a text that comes by `step` bytes a read, with the read and the write of these numbers
 /// failing.
 fn checked(
+    rt: &(impl Threads + Sync),
     alloc: Global,
     text: &str,
     step: usize,
@@ -18,19 +21,26 @@ fn checked(
 ) -> (CheckEnd, Vec<u8>) {
     let mut input = Counted::new(Drips::new(text.as_bytes(), step, read_fails));
     let mut output = Counted::new(Sink::new(alloc, 1, write_fails));
-    let end = run_check(alloc, &mut input, &mut output);
+    let end = run_check(rt, alloc, &mut input, &mut output);
     (end, output.into_inner().into_taken())
 }
 
 /// Whether a text ends so, and is answered by this line.
-fn ends(alloc: Global, text: &str, step: usize, end: CheckEnd, line: &str) -> bool {
-    let (ended, written) = checked(alloc, text, step, 0, 0);
+fn ends(
+    rt: &(impl Threads + Sync),
+    alloc: Global,
+    text: &str,
+    step: usize,
+    end: CheckEnd,
+    line: &str,
+) -> bool {
+    let (ended, written) = checked(rt, alloc, text, step, 0, 0);
     ended == end && written.as_slice() == line.as_bytes()
 }
 
 /// Whether a text is refused by this line.
-fn refuses(alloc: Global, text: &str, line: &str) -> bool {
-    ends(alloc, text, 65536, CheckEnd::Refused, line)
+fn refuses(rt: &(impl Threads + Sync), alloc: Global, text: &str, line: &str) -> bool {
+    ends(rt, alloc, text, 65536, CheckEnd::Refused, line)
 }
 
 /// The text with something else in the place of what stands in it.
@@ -41,6 +51,7 @@ fn changed(alloc: Global, text: &str, old: &str, new: &str) -> Result<String, Fa
 
 /// Whether the text that is changed so is refused by this line.
 fn refuses_changed(
+    rt: &(impl Threads + Sync),
     alloc: Global,
     text: &str,
     old: &str,
@@ -48,15 +59,15 @@ fn refuses_changed(
     line: &str,
 ) -> Result<bool, Fail> {
     let other = changed(alloc, text, old, new)?;
-    Ok(refuses(alloc, other.as_str(), line))
+    Ok(refuses(rt, alloc, other.as_str(), line))
 }
 
 #[test]
 fn good_certificates(rt: HostRuntime) -> Result<(), Fail> {
     let alloc = rt.alloc();
     for step in [1, 7, 65536] {
-        assert!(rt; ends(alloc, FIVE_UNITS, step, CheckEnd::Yes, "cut 1000000\n"));
-        assert!(rt; ends(alloc, NO_CUT, step, CheckEnd::Yes, "none\n"));
+        assert!(rt; ends(&rt, alloc, FIVE_UNITS, step, CheckEnd::Yes, "cut 1000000\n"));
+        assert!(rt; ends(&rt, alloc, NO_CUT, step, CheckEnd::Yes, "none\n"));
     }
     Ok(())
 }
@@ -83,7 +94,7 @@ fn near_misses_of_a_cut(rt: HostRuntime) -> Result<(), Fail> {
         ("price 0 0", "price 0 1", "refused PriceStart\n"),
         ("price 4 1000000", "price 4 1000001", "refused PlanCost\n"),
     ] {
-        assert!(rt; refuses_changed(rt.alloc(), FIVE_UNITS, old, new, line)?);
+        assert!(rt; refuses_changed(&rt, rt.alloc(), FIVE_UNITS, old, new, line)?);
     }
     Ok(())
 }
@@ -93,6 +104,7 @@ fn a_dearer_cut(rt: HostRuntime) -> Result<(), Fail> {
     let cost = changed(rt.alloc(), FIVE_UNITS, "cut 1000000", "cut 1000001")?;
     assert!(rt;
         refuses_changed(
+            &rt,
             rt.alloc(),
             cost.as_str(),
             "price 4 1000000",
@@ -110,21 +122,21 @@ fn near_misses_of_no_cut(rt: HostRuntime) -> Result<(), Fail> {
         ("closed 0\n", "", "refused PriceStart\n"),
         ("end\n", "end\n\n", "refused Form 11\n"),
     ] {
-        assert!(rt; refuses_changed(rt.alloc(), NO_CUT, old, new, line)?);
+        assert!(rt; refuses_changed(&rt, rt.alloc(), NO_CUT, old, new, line)?);
     }
     Ok(())
 }
 
 /// Whether a failure of the read of this number is told, and nothing written.
-fn tells_failed_read(alloc: Global, call: usize) -> bool {
-    let (end, written) = checked(alloc, FIVE_UNITS, 40, call, 0);
+fn tells_failed_read(rt: &(impl Threads + Sync), alloc: Global, call: usize) -> bool {
+    let (end, written) = checked(rt, alloc, FIVE_UNITS, 40, call, 0);
     end == CheckEnd::ReadFailed && written.is_empty()
 }
 
 /// Whether a failure of the write of this number is told, after a beginning of the line.
-fn tells_failed_write(alloc: Global, line: &str, call: usize) -> bool {
-    let (end, written) = checked(alloc, FIVE_UNITS, 65536, 0, call);
-    end == CheckEnd::WriteFailed
+fn tells_failed_write(rt: &(impl Threads + Sync), alloc: Global, line: &str, call: usize) -> bool {
+    let (end, written) = checked(rt, alloc, FIVE_UNITS, 65536, 0, call);
+    end == CheckEnd::WriteFailed(Ok(Verdict::Cut { cost: 1_000_000 }))
         && written.len() == call.saturating_sub(1)
         && line.as_bytes().starts_with(&written)
 }
@@ -135,20 +147,20 @@ fn failing_calls(rt: HostRuntime) -> Result<(), Fail> {
     let reads = FIVE_UNITS.as_bytes().chunks(40).count();
     // and one at the end
     for call in 1..=reads.saturating_add(1) {
-        assert!(rt; tells_failed_read(rt.alloc(), call));
+        assert!(rt; tells_failed_read(&rt, rt.alloc(), call));
     }
     for call in 1..=line.len() {
-        assert!(rt; tells_failed_write(rt.alloc(), line, call));
+        assert!(rt; tells_failed_write(&rt, rt.alloc(), line, call));
     }
     Ok(())
 }
 
 /// Whether each shorter beginning is refused at the line that it lacks.
-fn refuses_beginnings(alloc: Global, text: &str) -> Result<bool, Fail> {
+fn refuses_beginnings(rt: &(impl Threads + Sync), alloc: Global, text: &str) -> Result<bool, Fail> {
     let mut lines = 1u64;
     for (len, letter) in text.char_indices() {
         let line = format!(in alloc; "refused Form {lines}\n")?;
-        if !refuses(alloc, &text[..len], line.as_str()) {
+        if !refuses(rt, alloc, &text[..len], line.as_str()) {
             return Ok(false);
         }
         if letter == '\n' {
@@ -160,7 +172,7 @@ fn refuses_beginnings(alloc: Global, text: &str) -> Result<bool, Fail> {
 
 #[test]
 fn shorter_beginnings(rt: HostRuntime) -> Result<(), Fail> {
-    assert!(rt; refuses_beginnings(rt.alloc(), FIVE_UNITS)?);
-    assert!(rt; refuses_beginnings(rt.alloc(), NO_CUT)?);
+    assert!(rt; refuses_beginnings(&rt, rt.alloc(), FIVE_UNITS)?);
+    assert!(rt; refuses_beginnings(&rt, rt.alloc(), NO_CUT)?);
     Ok(())
 }

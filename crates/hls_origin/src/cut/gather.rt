@@ -2,7 +2,7 @@
 ghost use Rattle.std.specs.Prelude.{◌≡◌, ◌<◌, ◌≤◌, ℕ, List, Some, None, OnOk, length};
 ghost use Rattle.hls_boxes_laws.specs.Parts.{text_fault};
 ghost use Rattle.hls_origin.specs.Gather.{CountsReads, Drains, Gathers, IsDrained, IsSettled, Reached, TakesIn};
-ghost use Rattle.hls_http.specs.Counted.{failures_of, inside_of};
+ghost use Rattle.hls_io.specs.Counted.{failures_of, inside_of};
 ghost use Rattle.hls_core_laws.specs.State.{State};
 ghost use Rattle.hls_origin.specs.Accepts.{Told};
 
@@ -11,7 +11,7 @@ use crate::cut::recorder::Recorder;
 use crate::pieces::new_piece;
 use hls_boxes::UnitReader;
 use hls_boxes_laws::fault::BoxFault;
-use hls_http::Counted;
+use hls_io::Counted;
 use std::alloc::Global;
 use std::io::Read;
 

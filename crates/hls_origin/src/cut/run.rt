@@ -1,18 +1,19 @@
 //! `cut`, from the words and the bytes in to the bytes out.
 ghost use Rattle.std.specs.Prelude.{◌≡◌, ◌≢◌, Some, ℕ, List, map, IfOk};
-ghost use Rattle.hls_http.specs.Counted.{failures_of, inside_of};
+ghost use Rattle.hls_io.specs.Counted.{failures_of, inside_of};
 ghost use Rattle.hls_origin.specs.Channel.{opening_of};
 ghost use Rattle.hls_origin.specs.Gather.{CountsReads};
 ghost use Rattle.hls_origin.specs.Options.{options_of};
 ghost use Rattle.hls_origin.specs.Recorded.{ended};
-ghost use Rattle.hls_origin.specs.Run.{CountsFailures, CountsPrint, IsUsageFault, ListsAtEnd, Prints, Runs, Takes};
+ghost use Rattle.hls_origin.specs.Run.{CountsFailures, IsUsageFault, Runs};
+ghost use Rattle.hls_origin.specs.RunParts.{CountsPrint, ListsAtEnd, Prints, Takes};
 
 use crate::cut::channel::config;
 use crate::cut::fault::CutFault;
 use crate::cut::gather::gather;
 use crate::cut::options::{Options, read_options};
 use crate::cut::recorder::Recorder;
-use hls_http::{Counted, write_whole};
+use hls_io::{Counted, write_whole};
 use hls_origin_listing::{ListFault, Listed, list};
 use std::alloc::{AllocError, Global};
 use std::convert::AsStr;

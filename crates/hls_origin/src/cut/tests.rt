@@ -6,7 +6,7 @@ use crate::fakes::{Drips, Sink};
 use crate::vectors::{FIVE_UNITS, NO_CUT, ONE_UNIT, Second, stream, sync};
 use hls_boxes_laws::fault::BoxFault;
 use hls_core_laws::refusal::Refusal;
-use hls_http::Counted;
+use hls_io::Counted;
 use hls_media_laws::fault::MediaFault;
 use hls_origin_listing::ListFault;
 use hls_samples::{boxed, init_bytes, word_box};

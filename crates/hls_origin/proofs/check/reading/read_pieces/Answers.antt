@@ -1,6 +1,6 @@
 use Rattle.std.proofs.Common.{◌≡◌, ◌∙◌, List, ℕ, take, ap, sym, arith, subst, refl, []}
 use Rattle.std.specs.Io.KnownBytes.{Consumes}
-use Rattle.hls_http.specs.Counted.{inside_of}
+use Rattle.hls_io.specs.Counted.{inside_of}
 use Rattle.hls_origin.proofs.ReadLaws.{Reading, reading_more, reads_failed, reads_unkept, reads_whole}
 use Rattle.hls_origin.proofs.check.reading.read_pieces.Goals as goal
 
@@ -23,4 +23,4 @@ returns-clause-reads g c = λ stream known.
     let none : take c.in-Some.len c.read.new.buf ≡ [] = ap (λ n. take n c.read.new.buf) c.if-len-eq0.true in
     reads_whole stream c.pieces.bytes _ _ (c.pieces.invariant.reading stream known)
     (subst (λ (bs : List ℕ). Consumes (g.R.Read.remaining (inside_of c.pieces.input)) (g.R.Read.remaining (inside_of c.read.new.self)) bs) none c.in-Some.ensures.bytes)
-    (c.in-Some.ensures.end c.if-len-eq0.true (omega (arith, c.pieces.invariant.room, c.read.auto.buf)))
+    (c.in-Some.ensures.end c.if-len-eq0.true)

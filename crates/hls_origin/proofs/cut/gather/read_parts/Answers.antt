@@ -1,6 +1,6 @@
 use Rattle.std.proofs.Common.{◌≡◌, ◌∙◌, List, ℕ, take, ap, sym, arith, subst, refl, []}
 use Rattle.std.specs.Io.KnownBytes.{Consumes}
-use Rattle.hls_http.specs.Counted.{inside_of}
+use Rattle.hls_io.specs.Counted.{inside_of}
 use Rattle.hls_origin.specs.Gather.{IsSettled}
 use Rattle.hls_origin.proofs.GatherLaws.{counts_refused, gather_done, gather_failed, gather_left, gather_refused, reading_more, reading_none, settled_none, took}
 use Rattle.hls_origin.proofs.cut.gather.read_parts.Goals as goal
@@ -37,11 +37,11 @@ returns-in-Ok-finish-clause-gathers g c = λ stream known.
     let none : take c.in-Some.len c.read.new.buf ≡ [] = ap (λ n. take n c.read.new.buf) c.if-len-eq0.true in
     gather_done c.args.recorder.now stream c.pieces.reader _ _ c.pieces.recorder (c.pieces.invariant.reading stream known) c.pieces.invariant.settled
     (subst (λ (bs : List ℕ). Consumes (g.R.Read.remaining (inside_of c.pieces.input)) (g.R.Read.remaining (inside_of c.read.new.self)) bs) none c.in-Some.ensures.bytes)
-    (c.in-Some.ensures.end c.if-len-eq0.true (omega (arith, c.pieces.invariant.room, c.read.auto.buf))) c.in-Ok-finish.ensures
+    (c.in-Some.ensures.end c.if-len-eq0.true) c.in-Ok-finish.ensures
 
 pub returns-clause-gathers : goal.returns-clause-gathers
 returns-clause-gathers g c = λ stream known.
     let none : take c.in-Some.len c.read.new.buf ≡ [] = ap (λ n. take n c.read.new.buf) c.if-len-eq0.true in
     gather_left c.args.recorder.now stream c.pieces.reader _ _ c.pieces.recorder c.in-Err-finish.fault (c.pieces.invariant.reading stream known) c.pieces.invariant.settled
     (subst (λ (bs : List ℕ). Consumes (g.R.Read.remaining (inside_of c.pieces.input)) (g.R.Read.remaining (inside_of c.read.new.self)) bs) none c.in-Some.ensures.bytes)
-    (c.in-Some.ensures.end c.if-len-eq0.true (omega (arith, c.pieces.invariant.room, c.read.auto.buf))) c.in-Err-finish.ensures
+    (c.in-Some.ensures.end c.if-len-eq0.true) c.in-Err-finish.ensures

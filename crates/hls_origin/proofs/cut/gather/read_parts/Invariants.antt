@@ -1,5 +1,5 @@
 use Rattle.std.proofs.Common.{◌≡◌, ◌<◌, ℕ, List, Some, length}
-use Rattle.hls_http.specs.Counted.{calls_left, failures_of, inside_of}
+use Rattle.hls_io.specs.Counted.{calls_left, failures_of, inside_of}
 use Rattle.hls_origin.specs.Gather.{IsSettled}
 use Rattle.hls_origin.proofs.GatherLaws.{Reading}
 use Rattle.hls_origin.proofs.cut.gather.read_parts.Given as goal

@@ -1,0 +1,22 @@
+-- The statuses that the programs end with.
+use Rattle.std.specs.Prelude.{ℕ}
+use Rattle.hls_origin.specs.declared.check.run.CheckEnd.{CheckEnd}
+use Rattle.hls_origin.specs.declared.check.run.CheckEnd.TheVariants as check
+use Rattle.hls_origin.specs.declared.cut.run.CutEnd.{CutEnd}
+use Rattle.hls_origin.specs.declared.cut.run.CutEnd.TheVariants as cut
+
+-- words that ask for nothing that the program does
+abbrev pub usage_status : ℕ
+usage_status = 2
+
+abbrev pub cut_status : CutEnd → ℕ
+cut_status cut.Done = 0
+cut_status (cut.Refused f) = 1
+cut_status cut.Usage = usage_status
+cut_status cut.NoCut = 3
+
+abbrev pub check_status : CheckEnd → ℕ
+check_status check.Yes = 0
+check_status check.Refused = 1
+check_status check.ReadFailed = 1
+check_status (check.WriteFailed answer) = 1
