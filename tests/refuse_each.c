@@ -1,5 +1,6 @@
-// Loaded into a test before the C library: at each request for memory that the program makes, a copy of the process goes on
-// in which that one request is refused and every later one is served, while the program itself goes on as if nothing were.
+// Loaded into a test before the C library: at each request for memory that the program makes while it has one thread, a copy
+// of the process goes on in which that one request is refused and every later one is served, while the program itself goes on
+// as if nothing were.
 // When the program has ended, each way in which copies ended is one line on standard output, its words parted by tabs:
 // how many copies, the first one's request counted from 1, the exit status, the signal, and what they said (newlines as |).
 #define _GNU_SOURCE
@@ -9,6 +10,8 @@
 #include <stdlib.h>
 #include <string.h>
 #include <sys/mman.h>
+#include <sys/stat.h>
+#include <sys/syscall.h>
 #include <sys/wait.h>
 #include <unistd.h>
 
@@ -20,7 +23,7 @@ enum { SECONDS = 60, WAYS = 256, TEXT = 300 };
 
 static struct { unsigned long copies, first; int status; char text[TEXT]; } ways[WAYS];
 static unsigned long low, high, requests;
-static int used, is_copy, said;
+static int used, is_copy, is_told, said;
 
 // The program's own addresses: what the C library asks for itself isn't refused.
 static int of_program(struct dl_phdr_info *info, size_t size, void *data) {
@@ -46,10 +49,16 @@ static void ended(int status, const char *text) {
     ways[k].copies++;
 }
 
+// A copy has no other thread than the one that makes it, so it can't go on for a program that has several.
+static int has_one_thread(void) {
+    struct stat tasks;
+    return stat("/proc/self/task", &tasks) == 0 && tasks.st_nlink == 3;
+}
+
 // Whether this request is refused: in its copy, and never in the program itself.
 static int refused(void *caller) {
     unsigned long at = (unsigned long)caller;
-    if (is_copy || at < low || at >= high) return 0;
+    if (is_copy || at < low || at >= high || !has_one_thread()) return 0;
     requests++;
     if (requests > EACH && requests % THEN != 0) return 0;
     if (ftruncate(said, 0) != 0 || lseek(said, 0, SEEK_SET) != 0) _exit(1);
@@ -74,10 +83,18 @@ static int refused(void *caller) {
 }
 
 __attribute__((destructor)) static void end(void) {
-    if (is_copy) return;
+    if (is_copy || is_told) return;
+    is_told = 1;
     for (int k = 0; k < used; k++)
         printf("%lu\t%lu\t%d\t%d\t%s\n", ways[k].copies, ways[k].first, WIFEXITED(ways[k].status) ? WEXITSTATUS(ways[k].status) : 0,
             WIFSIGNALED(ways[k].status) ? WTERMSIG(ways[k].status) : 0, ways[k].text);
+}
+
+// A program that may start threads ends by this call, which runs no destructor.
+void _exit(int status) {
+    end();
+    fflush(stdout);
+    for (;;) syscall(SYS_exit_group, status);
 }
 
 void *malloc(size_t size) { return refused(__builtin_return_address(0)) ? NULL : __libc_malloc(size); }
