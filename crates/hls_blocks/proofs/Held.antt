@@ -10,7 +10,7 @@ use Rattle.std.specs.List.{All}
 use Rattle.hls_blocks.specs.Numbered.{Numbered, next_of, with_item, from_number, rest_at}
 use Rattle.hls_blocks.specs.Chain.{joined, joined_items, first_in, IsChain, IsNode}
 use Rattle.hls_blocks.specs.Place.{Stands, IsPlace, IsKept, IsGrown}
-use Rattle.hls_blocks.proofs.Chained.{items_from, place_of, end_of, pushed_children, left_chain}
+use Rattle.hls_blocks.proofs.Chained.{items_from, place_of, chain_end, pushed_children, left_chain}
 
 -- division gives the place of a number
 product : (places slot q r n : ℕ) (d : ℕ) → d * places + r ≡ n → d ≡ slot + q → slot * places + (q * places + r) ≡ n
@@ -36,7 +36,7 @@ place {T = T} places slot n vs some any chain low =
           let found = place_of places vs (n / places - slot) (n % places) chain is.inside (omega arith) (omega arith) in
           record { child = found.0; low = found.1; high = found.2 };
       ends = λ (high : n ≡ slot * places + first_in vs + length (joined_items vs)).
-          let found = end_of places vs (n / places - slot) (n % places) chain any is.inside (omega arith) in
+          let found = chain_end places vs (n / places - slot) (n % places) chain any is.inside (omega arith) in
           record { child = found.0; next = found.1; behind = found.2 };
     }
 

@@ -1,5 +1,6 @@
 //! The vectors of new nodes are written here, and nowhere else.
 ghost use Rattle.std.specs.Prelude.{◌≡◌, ◌+◌, ◌^◌, ◌<◌, ◌≤◌, [], ◌∷◌, ◌++◌, length, map, IfOk, OnOk};
+ghost use Rattle.hls_blocks.specs.Numbered.{list_limit};
 
 use hls_time::Ticks;
 use std::alloc::{AllocError, Global};
@@ -12,7 +13,7 @@ pub fn with_last<X: Drop>(
     last: Arc<X>,
     ticks: &mut Ticks,
 ) -> Result<Vec<Arc<X>>, AllocError>
-    requires room { length entries.now < 16777216 }
+    requires room { length entries.now < list_limit }
     requires count { ticks.old + length entries.now < 2 ^ 63 }
     ensures values { IfOk result (λ v. map (λ x. x.value) v.items ≡ map (λ x. x.value) entries.now ++ last.value ∷ []) }
     ensures rises { ticks.old ≤ ticks.new }

@@ -1,6 +1,6 @@
 //! What each level of the tree offers the one above it. A node is seen as a list whose numbers count from 0 inside it.
 ghost use Rattle.std.specs.Prelude.{◌≡◌, ℕ, ◌+◌, ◌^◌, ◌<◌, ◌≤◌, [], ◌∷◌, ◌++◌, length, map, IfOk, OnOk};
-ghost use Rattle.hls_blocks.specs.Numbered.{Numbered, next_of, with_item, from_number, rest_at};
+ghost use Rattle.hls_blocks.specs.Numbered.{Numbered, next_of, with_item, from_number, rest_at, list_limit};
 
 use hls_time::Ticks;
 use std::alloc::{AllocError, Global};
@@ -23,7 +23,7 @@ pub trait Level: Drop {
 
     /// How many items a full node holds.
     fn width() -> u64
-        requires { places ≤ 16777216 }
+        requires { places ≤ list_limit }
         ensures value { result ≡ places }
         ensures some { 0 < result };
 
@@ -34,7 +34,7 @@ pub trait Level: Drop {
         item: Arc<Self::Item>,
         ticks: &mut Ticks,
     ) -> Result<Self, AllocError>
-        requires small { places ≤ 16777216 }
+        requires small { places ≤ list_limit }
         requires place { n < places }
         requires count { ticks.old + writes ≤ 2 ^ 63 }
         ensures seen { IfOk result (λ s. seen s ≡ record { first = n; items = item.value ∷ [] }) }
@@ -51,7 +51,7 @@ pub trait Level: Drop {
         item: Arc<Self::Item>,
         ticks: &mut Ticks,
     ) -> Result<Self, AllocError>
-        requires small { places ≤ 16777216 }
+        requires small { places ≤ list_limit }
         requires sound { sound self.now }
         requires next { n ≡ next_of (seen self.now) }
         requires place { n < places }
@@ -64,7 +64,7 @@ pub trait Level: Drop {
 
     /// The node without the items below number `n`, of which one at least is left.
     fn without_front(&self, alloc: Global, n: u64) -> Result<Self, AllocError>
-        requires small { places ≤ 16777216 }
+        requires small { places ≤ list_limit }
         requires sound { sound self.now }
         requires low { (seen self.now).first ≤ n }
         requires high { n < next_of (seen self.now) }
@@ -73,7 +73,7 @@ pub trait Level: Drop {
 
     /// The items from number `n` to the end of their leaf.
     fn run_at(&self, n: u64) -> &[Arc<Self::Item>]
-        requires small { places ≤ 16777216 }
+        requires small { places ≤ list_limit }
         requires sound { sound self.now }
         requires low { (seen self.now).first ≤ n }
         requires high { n < next_of (seen self.now) }

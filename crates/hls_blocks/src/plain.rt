@@ -1,7 +1,7 @@
 //! The same list as a vector that is copied whole, with the same clauses: a second body to test the tree against.
 ghost use Rattle.std.specs.Prelude.{◌≡◌, ℕ, ◌+◌, ◌^◌, ◌<◌, ◌≤◌, [], ◌∷◌, ◌++◌, length, map, IfOk};
 ghost use Rattle.std.specs.Option.{option_copied};
-ghost use Rattle.hls_blocks.specs.Numbered.{Numbered, next_of, no_items, item_at, with_item, from_number, rest_at};
+ghost use Rattle.hls_blocks.specs.Numbered.{Numbered, next_of, no_items, item_at, with_item, from_number, rest_at, list_limit};
 
 use crate::copy::{copied, with_last};
 use hls_time::Ticks;
@@ -18,13 +18,13 @@ pub struct Plain<T> {
 
 impl<T> Model for Plain<T> {
     ghost use Rattle.std.specs.Prelude.{◌+◌, ◌≤◌, length, map};
-    ghost use Rattle.hls_blocks.specs.Numbered.{Numbered};
+    ghost use Rattle.hls_blocks.specs.Numbered.{Numbered, list_limit};
 
     ghost Value = { Numbered T };
 
     ghost view = { λ s. record { first = s.first; items = map (λ x. x.value) s.items.items } };
 
-    ghost invariant = { λ s. s.first + length s.items.items ≤ 16777216 };
+    ghost invariant = { λ s. s.first + length s.items.items ≤ list_limit };
 }
 
 impl<T: Drop> Plain<T> {
@@ -39,14 +39,14 @@ impl<T: Drop> Plain<T> {
 
     pub fn first(&self) -> u64
         ensures value { result ≡ self.now.first }
-        ensures bound { result ≤ 16777216 }
+        ensures bound { result ≤ list_limit }
     {
         self.first
     }
 
     pub fn next(&self) -> u64
         ensures value { result ≡ next_of self.now }
-        ensures bound { result ≤ 16777216 }
+        ensures bound { result ≤ list_limit }
     {
         self.first + self.items.len() as u64
     }
@@ -74,7 +74,7 @@ impl<T: Drop> Plain<T> {
     }
 
     pub fn pushed(&self, alloc: Global, item: T) -> Result<Plain<T>, AllocError>
-        requires { next_of self.now < 16777216 }
+        requires { next_of self.now < list_limit }
         ensures { IfOk result (λ s. s ≡ with_item self.now item) }
     {
         let item = Arc::new(alloc, item)?;

@@ -1,7 +1,7 @@
 //! The shared list over the tree.
 ghost use Rattle.std.specs.Prelude.{◌≡◌, ℕ, ◌+◌, ◌*◌, ◌^◌, ◌<◌, ◌≤◌, [], ◌∷◌, ◌++◌, length, map, IfOk, OnOk};
 ghost use Rattle.std.specs.Option.{option_copied};
-ghost use Rattle.hls_blocks.specs.Numbered.{Numbered, next_of, no_items, item_at, with_item, from_number, rest_at};
+ghost use Rattle.hls_blocks.specs.Numbered.{Numbered, next_of, no_items, item_at, with_item, from_number, rest_at, list_limit};
 
 use crate::branch::Branch;
 use crate::leaf::Leaf;
@@ -28,7 +28,7 @@ pub struct Shared<T> {
 
 impl<T> Model for Shared<T> {
     ghost use Rattle.std.specs.Prelude.{◌≤◌};
-    ghost use Rattle.hls_blocks.specs.Numbered.{Numbered};
+    ghost use Rattle.hls_blocks.specs.Numbered.{Numbered, list_limit};
 
     ghost Value = { Numbered T };
 
@@ -37,7 +37,7 @@ impl<T> Model for Shared<T> {
 
     ghost view = { λ s. whole (λ r. root_seen r.value) s.first s.root };
 
-    ghost invariant = { λ s. IsWhole (λ r. root_seen r.value) (λ r. IsRoot r.value) s.first s.next s.root × (s.next ≤ 16777216) };
+    ghost invariant = { λ s. IsWhole (λ r. root_seen r.value) (λ r. IsRoot r.value) s.first s.next s.root × (s.next ≤ list_limit) };
 }
 
 impl<T: Drop> Shared<T> {
@@ -55,7 +55,7 @@ impl<T: Drop> Shared<T> {
     /// The number of the first item that is kept.
     pub fn first(&self) -> u64
         ensures value { result ≡ self.now.first }
-        ensures bound { result ≤ 16777216 }
+        ensures bound { result ≤ list_limit }
     {
         self.first
     }
@@ -63,7 +63,7 @@ impl<T: Drop> Shared<T> {
     /// The number that the next item will get.
     pub fn next(&self) -> u64
         ensures value { result ≡ next_of self.now }
-        ensures bound { result ≤ 16777216 }
+        ensures bound { result ≤ list_limit }
     {
         self.next
     }
@@ -96,7 +96,7 @@ impl<T: Drop> Shared<T> {
 
     /// The list with the item at its end.
     pub fn pushed(&self, alloc: Global, item: T) -> Result<Shared<T>, AllocError>
-        requires { next_of self.now < 16777216 }
+        requires { next_of self.now < list_limit }
         ensures { IfOk result (λ s. s ≡ with_item self.now item) }
     {
         let mut ticks = Ticks::new();
@@ -111,7 +111,7 @@ impl<T: Drop> Shared<T> {
         item: T,
         ticks: &mut Ticks,
     ) -> Result<Shared<T>, AllocError>
-        requires room { next_of self.now < 16777216 }
+        requires room { next_of self.now < list_limit }
         requires count { ticks.old < 2 ^ 62 }
         ensures ok { IfOk result (λ s. s ≡ with_item self.now item) }
         ensures rises { ticks.old ≤ ticks.new }
@@ -178,7 +178,7 @@ fn with_root<T: Drop>(
     next: u64,
     root: Root<T>,
 ) -> Result<Shared<T>, AllocError>
-    requires next { next ≤ 16777216 }
+    requires next { next ≤ list_limit }
     requires first { first ≡ (⟦<Root<T> as Level>⟧.seen root).first }
     requires end { next ≡ next_of (⟦<Root<T> as Level>⟧.seen root) }
     requires sound { ⟦<Root<T> as Level>⟧.sound root }

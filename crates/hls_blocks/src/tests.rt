@@ -1,6 +1,6 @@
 //! What no clause says: that old values live on beside new ones, and that calls succeed; on the tree and on the plain list alike.
 ghost use Rattle.std.specs.Prelude.{◌≡◌, ◌<◌, ◌≤◌, IfOk};
-ghost use Rattle.hls_blocks.specs.Numbered.{next_of, with_item, from_number};
+ghost use Rattle.hls_blocks.specs.Numbered.{next_of, with_item, from_number, list_limit};
 
 use crate::plain::Plain;
 use crate::shared::Shared;
@@ -12,7 +12,7 @@ use std::test::Fail;
 // The list with each number below `to` pushed as its own item.
 fn tree_to(alloc: Global, list: &Shared<u64>, to: u64) -> Result<Shared<u64>, AllocError>
     requires low { next_of list.now ≤ to }
-    requires high { to ≤ 16777216 }
+    requires high { to ≤ list_limit }
     ensures { IfOk result (λ s. next_of s ≡ to) }
 {
     let mut all = list.share(alloc)?;
@@ -24,7 +24,7 @@ fn tree_to(alloc: Global, list: &Shared<u64>, to: u64) -> Result<Shared<u64>, Al
 
 fn plain_to(alloc: Global, list: &Plain<u64>, to: u64) -> Result<Plain<u64>, AllocError>
     requires low { next_of list.now ≤ to }
-    requires high { to ≤ 16777216 }
+    requires high { to ≤ list_limit }
     ensures { IfOk result (λ s. next_of s ≡ to) }
 {
     let mut all = list.share(alloc)?;
@@ -128,7 +128,7 @@ fn pushes_count_their_slots(rt: HostRuntime) -> Result<(), Fail> {
 
 // A push, tried again where memory was refused.
 fn pushed_again(alloc: Global, list: &Shared<u64>, item: u64) -> Result<Shared<u64>, AllocError>
-    requires { next_of list.now < 16777216 }
+    requires { next_of list.now < list_limit }
     ensures { IfOk result (λ s. s ≡ with_item list.now item) }
 {
     match list.pushed(alloc, item) {
