@@ -7,7 +7,7 @@ use Rattle.hls_media_laws.specs.InitData.{InitData}
 use Rattle.hls_media_laws.specs.Meaning.{IsInit, IsUnit}
 use Rattle.hls_media_laws.specs.declared.facts.Facts.{Facts}
 use Rattle.hls_media_laws.proofs.Bounds.{units_are_bounded, inits_are_bounded}
-use Rattle.hls_blocks.specs.Numbered.{Numbered, no_items, with_item, from_number}
+use Rattle.hls_blocks.specs.Numbered.{Numbered, no_items, with_item, from_number, list_limit}
 use Rattle.hls_record.specs.declared.item.Item.{Item}
 use Rattle.hls_record.specs.declared.recording.Recording.TheInside.{Inside}
 use Rattle.hls_record.specs.Recorded.{total_of}
@@ -113,7 +113,7 @@ offsets_grown i f k x kept (inr new) =
 
 pub kept_grown : (i : Inside) (init : InitData) (head : List ℕ) (items : Numbered Item) (units : Numbered (List ℕ)) (f : Facts) (unit : List ℕ)
     → IsKept i → init ≡ i.init → head ≡ i.head → items ≡ with_item i.items (record { facts = f; offset = i.total }) → units ≡ with_item i.units unit
-    → length i.items.items < 16777216 → IsUnit i.init unit f → last_end (map (λ x. x.facts) i.items.items) ≤ f.start → total_of (seen i) + f.len ≤ 2 ^ 40
+    → length i.items.items < list_limit → IsUnit i.init unit f → last_end (map (λ x. x.facts) i.items.items) ≤ f.start → total_of (seen i) + f.len ≤ 2 ^ 40
     → IsKept (record { init = init; head = head; items = items; units = units; total = i.total + f.len })
 kept_grown i init head items units f unit kept init_is head_is items_is units_is room is later small =
     let valid = kept.valid in

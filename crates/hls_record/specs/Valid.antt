@@ -4,10 +4,11 @@ use Rattle.hls_media_laws.specs.Meaning.{IsInit, IsUnit}
 use Rattle.hls_media_laws.specs.declared.facts.Facts.{Facts}
 use Rattle.hls_media_laws.specs.FactLists.{recording_limit, WereUnits, InOrder}
 use Rattle.hls_record.specs.Recorded.{Recorded, total_of}
+use Rattle.hls_blocks.specs.Numbered.{list_limit}
 
 pub record IsRecorded (r : Recorded) : Type 0 where
   pub head : IsInit r.head r.init
-  pub few : length r.facts ≤ 16777216
+  pub few : length r.facts ≤ list_limit
   pub kept : r.floor + length r.units ≡ length r.facts
   pub small : total_of r ≤ recording_limit
   pub ever : WereUnits r.init r.facts

@@ -6,6 +6,7 @@ ghost use Rattle.hls_media_laws.specs.FactLists.{last_end};
 ghost use Rattle.hls_record.specs.Recorded.{begun, with_unit, trimmed, offset_at, total_of, unit_at, twin_of};
 ghost use Rattle.hls_record.specs.Valid.{IsRecorded};
 ghost use Rattle.hls_record.specs.Outcome.{Appends};
+ghost use Rattle.hls_blocks.specs.Numbered.{list_limit};
 
 mod piece;
 
@@ -81,7 +82,7 @@ impl Recording {
     /// The number of units ever appended.
     pub fn count(&self) -> u64
         ensures value { result ≡ length self.now.facts }
-        ensures bound { result ≤ 16777216 }
+        ensures bound { result ≤ list_limit }
         ensures valid { IsRecorded self.now }
     {
         self.items.next()
@@ -167,7 +168,7 @@ impl Recording {
         facts: Facts,
         bytes: Bytes,
     ) -> Result<Recording, RecordFault>
-        requires room { length self.now.facts < 16777216 }
+        requires room { length self.now.facts < list_limit }
         requires fits { IsUnit self.now.init bytes facts }
         ensures cases { Appends self.now facts bytes result }
         ensures valid { IfOk result IsRecorded }
@@ -186,7 +187,7 @@ impl Recording {
 
     // The recording with a unit that may follow at its end.
     fn with_unit(&self, alloc: Global, facts: Facts, bytes: Bytes) -> Result<Recording, AllocError>
-        requires room { length self.now.facts < 16777216 }
+        requires room { length self.now.facts < list_limit }
         requires fits { IsUnit self.now.init bytes facts }
         requires later { last_end self.now.facts ≤ facts.start }
         requires small { total_of self.now + facts.len ≤ 2 ^ 40 }

@@ -1,6 +1,7 @@
 //! Recordings of three sample units: offsets, pieces and ranges at every boundary, trimmed and not.
 ghost use Rattle.std.specs.Prelude.{◌≡◌, ◌+◌, ◌^◌, ◌<◌, ◌≤◌, length, IfOk};
 ghost use Rattle.hls_record.specs.Samples.{sample_init, sample_unit, IsSample};
+ghost use Rattle.hls_blocks.specs.Numbered.{list_limit};
 
 use crate::fault::{RangeFault, RecordFault};
 use crate::recording::Recording;
@@ -48,7 +49,7 @@ fn with_sample(
     len: u32,
 ) -> Result<Recording, RecordFault>
     requires init { recording.now.init ≡ sample_init }
-    requires room { length recording.now.facts < 16777216 }
+    requires room { length recording.now.facts < list_limit }
     requires long { 108 ≤ len }
     requires sample { IsSample start len }
     requires early { start < 2 ^ 40 }
@@ -250,7 +251,7 @@ fn ranges_are_copied_or_refused(rt: HostRuntime) -> Result<(), Fail> {
 // The recording with the first sample unit.
 fn with_first(alloc: Global, recording: &Recording) -> Result<Recording, RecordFault>
     requires init { recording.now.init ≡ sample_init }
-    requires room { length recording.now.facts < 16777216 }
+    requires room { length recording.now.facts < list_limit }
     ensures { IfOk result (λ r. (r.init ≡ sample_init) × (length r.facts ≡ length recording.now.facts + 1)) }
 {
     with_sample(alloc, recording, 0, 116)
