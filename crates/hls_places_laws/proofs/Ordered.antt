@@ -7,7 +7,7 @@ use Rattle.std.proofs.lemmas.Bool.{cases_Bool, cond-true, cond-false, and_parts,
 use Rattle.std.proofs.lemmas.List.{length-map, append-nil, get_or_default, get_or-map as get_or-map_within}
 use Rattle.hls_media_laws.specs.declared.facts.Facts.{Facts}
 use Rattle.hls_check_laws.specs.declared.spot.Spot.{Spot}
-use Rattle.hls_check_laws.specs.Tables.{IsSpotInRange, no_spot, spot_in, place_at}
+use Rattle.hls_check_laws.specs.Tables.{IsSpotInRange, no_spot, spot_in, place_at, rendition_limit}
 use Rattle.hls_check_laws.specs.Orders.{IsSpotInOrder}
 use Rattle.hls_places_laws.specs.declared.place.Place.{Place}
 use Rattle.hls_places_laws.specs.Sources.{Source, source_at, no_source, first_facts, fact_at, no_facts, AreSources}
@@ -252,7 +252,7 @@ renditions-are renditions places ordered some =
     ap length (table-place places 0) ∙ (ordered.each 0 no_place some).place.count
 
 -- so they are what a table of places asks for
-pub ordered-places : (renditions : ℕ) (places : List Place) → 1 ≤ renditions → renditions ≤ 16 →
+pub ordered-places : (renditions : ℕ) (places : List Place) → 1 ≤ renditions → renditions ≤ rendition_limit →
     AreOrdered renditions places → ArePlaces places
 ordered-places renditions places some few ordered =
     elim (cases_lt 0 (length places)) [

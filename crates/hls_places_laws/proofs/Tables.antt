@@ -5,7 +5,7 @@ use Rattle.std.specs.List.{slice_range}
 use Rattle.std.proofs.lemmas.Bool.{cases_lt, ltb-false, leb-true}
 use Rattle.std.proofs.lemmas.List.{length-map, length-drop, length-take-le, get_or-drop, get_or-take, get_or_default}
 use Rattle.std.proofs.lemmas.List.Sums.{fails_before_first, passes_at_first}
-use Rattle.hls_check_laws.specs.Tables.{IsTable, place_at}
+use Rattle.hls_check_laws.specs.Tables.{IsTable, place_at, target_limit, preferred_limit, place_limit}
 use Rattle.hls_check_laws.specs.Orders.{IsOrderly}
 use Rattle.hls_places_laws.specs.declared.place.Place.{Place}
 use Rattle.hls_places_laws.specs.Order.{no_place, time_of, spots_of, ArePlaces}
@@ -46,7 +46,7 @@ range-at places from to range k h =
     ∙ (ap (λ (p : Place). p.spots) here ∙ sym (table-place places (from + k)))
 
 pub cut_out-is_table : (target preferred : ℕ) (places : List Place) (from to : ℕ) → ArePlaces places → IsRange places from to →
-    (1 ≤ target) × (target ≤ 3600) → (1 ≤ preferred) × (preferred ≤ 3600000000) → to + 1 - from ≤ 16384 →
+    (1 ≤ target) × (target ≤ target_limit) → (1 ≤ preferred) × (preferred ≤ preferred_limit) → to + 1 - from ≤ place_limit →
     IsTable (cut_out target preferred places from to)
 cut_out-is_table target preferred places from to are range target_fits preferred_fits few =
     let part : List Place = slice_range places from (to + 1) in
