@@ -2,7 +2,7 @@ use Rattle.std.proofs.Common.{◌≡◌, ◌≢◌, ℕ, zero, suc, replicate, �
 use Rattle.std.proofs.lemmas.Bool.{cases_eq, cases_lt, ltb-true, ltb-false}
 use Rattle.std.proofs.lemmas.List.{length-replicate}
 use Rattle.hls_check_laws.specs.Tables.{Table, IsTable}
-use Rattle.hls_check_laws.specs.Steps.{Allowed, cost}
+use Rattle.hls_check_laws.specs.Steps.{Allowed, cost, cost_limit}
 use Rattle.hls_check_laws.specs.Certificates.{price_at, Keeps, CutKeeps}
 use Rattle.hls_plan.specs.Pricing.{is_lower, IsPricing}
 
@@ -87,7 +87,7 @@ row_unpriced t p prices origins pricing unpriced = record {
 -- place q takes a lower price, that of place p and the step
 row_taken : (t : Table) (p q a : ℕ) (prices : List (Option ℕ)) (origins : List ℕ) →
     IsPricing t p q prices origins → price_at prices p ≡ Some a → p < q → Allowed t p q →
-    cost t p q ≤ 3600499999 → is_lower (a + cost t p q) (price_at prices q) ≡ true →
+    cost t p q ≤ cost_limit → is_lower (a + cost t p q) (price_at prices q) ≡ true →
     IsPricing t p (q + 1) (set prices q (Some (a + cost t p q))) (set origins q p)
 row_taken t p q a prices origins pricing priced rises allowed small lower =
     let price : ℕ = a + cost t p q in
@@ -101,7 +101,7 @@ row_taken t p q a prices origins pricing priced rises allowed small lower =
     let here_origin : get_or new_origins q 0 ≡ p = get_or-set_same origins q p 0 in_origins in
     let other_origin : (k : ℕ) → k ≢ q → get_or new_origins k 0 ≡ get_or origins k 0 =
     λ k ne. get_or-set_other origins q k p 0 ne in
-    let bounded : a ≤ p * 3600499999 = pricing.bound p a priced in
+    let bounded : a ≤ p * cost_limit = pricing.bound p a priced in
     let kept : (i j : ℕ) → i < q → CutKeeps t prices i j → CutKeeps t new i j =
     λ i j before keeps up step.
     elim (cases_eq j q) [
@@ -162,7 +162,7 @@ row_taken t p q a prices origins pricing priced rises allowed small lower =
 -- what an offer leaves, whether it was taken or not
 row_offered_at : (t : Table) (p q a price : ℕ) (prices : List (Option ℕ)) (origins : List ℕ) (b : Bool) →
     IsPricing t p q prices origins → price_at prices p ≡ Some a → p < q → Allowed t p q →
-    price ≡ a + cost t p q → cost t p q ≤ 3600499999 → is_lower price (price_at prices q) ≡ b →
+    price ≡ a + cost t p q → cost t p q ≤ cost_limit → is_lower price (price_at prices q) ≡ b →
     IsPricing t p (q + 1) (cond b (set prices q (Some price)) prices) (cond b (set origins q p) origins) ×
     (price_at (cond b (set prices q (Some price)) prices) p ≡ Some a)
 row_offered_at t p q a price prices origins true pricing priced rises allowed sum small lower = (
@@ -177,7 +177,7 @@ row_offered_at t p q a price prices origins false pricing priced rises allowed s
 
 pub row_offered : (t : Table) (p q a price : ℕ) (prices : List (Option ℕ)) (origins : List ℕ) →
     IsPricing t p q prices origins → price_at prices p ≡ Some a → p < q → Allowed t p q →
-    price ≡ a + cost t p q → cost t p q ≤ 3600499999 →
+    price ≡ a + cost t p q → cost t p q ≤ cost_limit →
     IsPricing t p (q + 1)
     (cond (is_lower price (price_at prices q)) (set prices q (Some price)) prices)
     (cond (is_lower price (price_at prices q)) (set origins q p) origins) ×

@@ -1,4 +1,6 @@
 ghost use Rattle.std.specs.Prelude.{◌≡◌, ℕ, ◌+◌, ◌-◌, ◌*◌, ◌/◌, ◌^◌, ◌<◌, ◌≤◌, length, map, is_some, IfOk, Option, Some, true};
+ghost use Rattle.hls_check_laws.specs.Tables.{IsTable};
+ghost use Rattle.hls_check_laws.specs.Orders.{IsOrderly};
 ghost use Rattle.hls_check_laws.specs.Plans.{IsPlan, plan_cost};
 ghost use Rattle.hls_check_laws.specs.Certificates.{price_at, IsGood};
 ghost use Rattle.hls_plan.specs.Planned.{IsBest, IsExact, CanBeShown, certificate_of};
@@ -42,6 +44,8 @@ fn priced_places(alloc: Global, prices: &[Option<u64>]) -> Result<Vec<bool>, All
 
 fn find(alloc: Global, table: &PlaceTable, ticks: &mut Ticks) -> Result<Planned, AllocError>
     requires { ticks.old < 2 ^ 62 }
+    ensures valid { IsTable table.now }
+    ensures orderly { IsOrderly table.now }
     ensures found { IfOk result (IsFound table.now) }
     ensures rises { ticks.old ≤ ticks.new }
     ensures pairs { ticks.new ≤ ticks.old + pairs_of (length table.now.places) }
@@ -80,7 +84,6 @@ pub fn plan_counted(
     ensures pairs { ticks.new ≤ ticks.old + pairs_of (length table.now.places) }
     ensures rows { (reach : ℕ) → EndsWithin table.now reach → ticks.new ≤ ticks.old + length table.now.places * (reach + reach / 8) }
 {
-    let _ = table.len();
     find(alloc, table, ticks)
 }
 

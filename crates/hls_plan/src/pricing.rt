@@ -1,6 +1,7 @@
 ghost use Rattle.std.specs.Prelude.{◌≡◌, ℕ, ◌+◌, ◌-◌, ◌*◌, ◌/◌, ◌^◌, ◌<◌, ◌≤◌, length, slice_set, IfOk, IsTrue, Option, Some, if◌then◌else◌};
+ghost use Rattle.hls_check_laws.specs.Tables.{IsTable};
 ghost use Rattle.hls_check_laws.specs.Certificates.{price_at};
-ghost use Rattle.hls_check_laws.specs.Orders.{IsRowEnd};
+ghost use Rattle.hls_check_laws.specs.Orders.{IsRowEnd, IsOrderly};
 ghost use Rattle.hls_plan.specs.Looks.{pairs_of, EndsWithin};
 ghost use Rattle.hls_plan.specs.Pricing.{is_lower, IsPricing};
 
@@ -58,6 +59,8 @@ fn price_row(
     p: usize,
     ticks: &mut Ticks,
 )
+    requires valid { IsTable table.now }
+    requires orderly { IsOrderly table.now }
     requires in_range { p < length table.now.places }
     requires priced { IsPricing table.now p 0 prices.old origins.old }
     requires room { ticks.old < 2 ^ 62 + 2 ^ 30 }
@@ -66,7 +69,6 @@ fn price_row(
     ensures pairs { ticks.new + p + 1 ≤ ticks.old + length table.now.places }
     ensures row { (end : ℕ) → p < end → end < length table.now.places → IsRowEnd table.now p end → ticks.new + p ≤ ticks.old + end + (end - p) / 8 }
 {
-    let _ = table.len();
     let Some(price) = price_of(prices, p) else {
         return;
     };
@@ -93,8 +95,8 @@ fn price_rows(
     ensures pairs { ticks.new ≤ ticks.old + pairs_of (length table.now.places) }
     ensures rows { (reach : ℕ) → EndsWithin table.now reach → ticks.new ≤ ticks.old + length table.now.places * (reach + reach / 8) }
 {
-    let _ = table.len();
-    for p in 0..table.len() {
+    let count = table.len();
+    for p in 0..count {
         price_row(table, prices, origins, p, ticks);
     }
 }
@@ -106,6 +108,8 @@ pub fn price_places(
     ticks: &mut Ticks,
 ) -> Result<Pricing, AllocError>
     requires { ticks.old < 2 ^ 62 }
+    ensures valid { IsTable table.now }
+    ensures orderly { IsOrderly table.now }
     ensures priced { IfOk result (λ pricing. IsPricing table.now (length table.now.places) 0 pricing.prices.items pricing.origins.items) }
     ensures rises { ticks.old ≤ ticks.new }
     ensures pairs { ticks.new ≤ ticks.old + pairs_of (length table.now.places) }

@@ -3,7 +3,8 @@
 //! The counts are of pairs that were looked at and are no step: a pair that is one is counted where its price is
 //! offered, so that no pair is counted twice.
 ghost use Rattle.std.specs.Prelude.{◌≡◌, ℕ, ◌+◌, ◌-◌, ◌/◌, ◌^◌, ◌<◌, ◌≤◌, length, IfNone, MatchOption};
-ghost use Rattle.hls_check_laws.specs.Orders.{IsRowEnd};
+ghost use Rattle.hls_check_laws.specs.Tables.{IsTable};
+ghost use Rattle.hls_check_laws.specs.Orders.{IsRowEnd, IsOrderly};
 ghost use Rattle.hls_check_laws.specs.Steps.{Allowed};
 ghost use Rattle.hls_plan.specs.Spans.{IsSpan, IsFirstStep, IsNoStep, HasPairLooks, HasRowLooks};
 
@@ -20,8 +21,8 @@ fn first_step(table: &PlaceTable, p: usize, ticks: &mut Ticks) -> Option<usize>
     ensures pairs { MatchOption result (ticks.new + p + 1 ≤ ticks.old + length table.now.places) (λ q. ticks.new + p + 1 ≤ ticks.old + q) }
     ensures row { IfNone result ((end : ℕ) → p < end → end < length table.now.places → IsRowEnd table.now p end → ticks.new + p ≤ ticks.old + end) }
 {
-    let _ = table.len();
-    for q in p + 1..table.len() {
+    let count = table.len();
+    for q in p + 1..count {
         if table.allowed(p, q) {
             return Some(q);
         }
@@ -73,6 +74,8 @@ fn look_ahead(table: &PlaceTable, p: usize, first: usize, ticks: &mut Ticks) -> 
 /// The last place that a step from place `p` leads to, where one leads to place `low` and none to place `high` or
 /// behind it.
 fn last_between(table: &PlaceTable, p: usize, low: usize, high: usize, ticks: &mut Ticks) -> usize
+    requires valid { IsTable table.now }
+    requires orderly { IsOrderly table.now }
     requires step { Allowed table.now p low }
     requires before { (low < high) × (high ≤ length table.now.places) }
     requires none { (j : ℕ) → high ≤ j → Allowed table.now p j → ⊥ }
@@ -82,7 +85,6 @@ fn last_between(table: &PlaceTable, p: usize, low: usize, high: usize, ticks: &m
     ensures last { (j : ℕ) → result < j → Allowed table.now p j → ⊥ }
     ensures looked { (ticks.old ≤ ticks.new) × (ticks.new + result + 1 ≤ ticks.old + high) }
 {
-    let _ = table.len();
     let mut last = low;
     let mut end = high;
     while last + 1 < end {
@@ -100,6 +102,8 @@ fn last_between(table: &PlaceTable, p: usize, low: usize, high: usize, ticks: &m
 /// The places that steps from place `p` lead to: from the first on, and below the second. It looks at each place
 /// up to the first of them, and then for the last of them at fewer the further they reach.
 pub fn span(table: &PlaceTable, p: usize, ticks: &mut Ticks) -> Option<(usize, usize)>
+    requires valid { IsTable table.now }
+    requires orderly { IsOrderly table.now }
     requires in_range { p < length table.now.places }
     requires room { ticks.old < 2 ^ 62 + 2 ^ 60 }
     ensures found { MatchOption result (IsNoStep table.now p) (λ f. IsSpan table.now p f.0 f.1) }
@@ -107,7 +111,6 @@ pub fn span(table: &PlaceTable, p: usize, ticks: &mut Ticks) -> Option<(usize, u
     ensures pairs { HasPairLooks table.now p result ticks.old ticks.new }
     ensures row { HasRowLooks table.now p result ticks.old ticks.new }
 {
-    let _ = table.len();
     let Some(first) = first_step(table, p, ticks) else {
         return None;
     };

@@ -41,5 +41,5 @@ pub returns-clause-row : goal.returns-clause-row
 returns-clause-row c = λ end after below is_end.
     let span = c.in-Some-span.ensures in
     let within : c.in-Some-span.end ≤ end =
-    span_within c.args.table.now c.len.ensures.valid c.len.ensures.orderly c.args.p _ _ end span.found after is_end in
+    span_within c.args.table.now c.requires.valid c.requires.orderly c.args.p _ _ end span.found after is_end in
     omega (arith, within, span.row, c.loop-q.invariant.count)

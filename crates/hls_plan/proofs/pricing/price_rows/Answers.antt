@@ -18,7 +18,7 @@ loop-p-preserved c =
     record {
       priced = row.priced;
       rises = omega (arith, now.rises, row.rises);
-      room = omega (arith, now.room, row.pairs, c.len.ensures.valid.count);
+      room = omega (arith, now.room, row.pairs, c.len-count.ensures.valid.count);
       pairs = λ left is. omega (arith, now.pairs (suc left) (omega (arith, is)), row.pairs, is);
       rows = λ reach within.
           one_more_row _ (reach + reach / 8) _ _ _ (now.rows reach within)
@@ -26,4 +26,4 @@ loop-p-preserved c =
     }
 
 pub returns-clause-pairs : goal.returns-clause-pairs
-returns-clause-pairs c = omega (arith, c.loop-p.invariant.pairs 0 (omega (arith, c.len-p-end.ensures.len)))
+returns-clause-pairs c = omega (arith, c.loop-p.invariant.pairs 0 (omega (arith, c.len-count.ensures.len)))

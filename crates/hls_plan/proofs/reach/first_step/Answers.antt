@@ -26,4 +26,4 @@ loop-q-preserved c = record {
 
 pub returns-clause-found : goal.returns-clause-found
 returns-clause-found c = λ j after there.
-    c.loop-q.invariant.none j after (omega (arith, there.to, c.len-q-end.ensures.len)) there
+    c.loop-q.invariant.none j after (omega (arith, there.to, c.len-count.ensures.len)) there

@@ -12,7 +12,7 @@ loop-last-preserved c =
       before = omega arith;
       within = omega (arith, now.within);
       none =
-          none_from c.args.table.now c.len.ensures.orderly c.args.p c.loop-last.last middle now.allowed (omega arith)
+          none_from c.args.table.now c.requires.orderly c.args.p c.loop-last.last middle now.allowed (omega arith)
           (λ there. let yes = c.allowed.ensures.1 there in let no = c.if-allowed.false in cc);
       rises = omega (arith, now.rises, c.tick.ensures);
       count = omega (arith, now.count, c.tick.ensures);
