@@ -1,7 +1,8 @@
 //! The checker's answer: the tests in their order, with either search of the rows.
 
 ghost use Rattle.std.specs.Prelude.{◌≡◌, ℕ, ◌↔◌, length, IsTrue, IsOk, MatchOption, Err};
-ghost use Rattle.hls_check_laws.specs.Certificates.{IsCutForm, IsGood, IsPaid, CutShown, NoneShown, shown_by};
+ghost use Rattle.hls_check_laws.specs.Tables.{IsTable};
+ghost use Rattle.hls_check_laws.specs.Certificates.{IsCertificate, IsCutForm, IsGood, IsPaid, CutShown, NoneShown, shown_by};
 ghost use Rattle.hls_check_laws.specs.Orders.{IsSorted};
 ghost use Rattle.hls_check.specs.Faults.{HasSteps};
 ghost use Rattle.hls_check.specs.Answers.{CutAnswer, NoneAnswer, AnswerOver, IsAnswer};
@@ -32,11 +33,11 @@ fn open_cut(
     plan: &[usize],
     prices: &[Option<u64>],
 ) -> Option<CertFault>
+    requires valid { IsTable table.now }
     requires form { IsCutForm (length table.now.places) total plan.now prices.now }
     requires sorted { IsSorted table.now }
     ensures { MatchOption result (IsOpen table.now (CutShown total plan.now prices.now)) (λ fault. CutAnswer table.now total plan.now prices.now (Err fault)) }
 {
-    let _ = table.len();
     if !has_ends(table, plan) {
         return Some(CertFault::PlanEnds);
     }
@@ -54,11 +55,11 @@ fn open_cut(
 
 /// The first fault of a closed set, of those before the steps that leave it.
 fn open_none(table: &PrintedTable, closed: &[bool]) -> Option<CertFault>
+    requires valid { IsTable table.now }
     requires each { length closed.now ≡ length table.now.places }
     requires sorted { IsSorted table.now }
     ensures { MatchOption result (IsOpen table.now (NoneShown closed.now)) (λ fault. NoneAnswer table.now closed.now (Err fault)) }
 {
-    let _ = table.len();
     if !is_in(closed, 0) {
         return Some(CertFault::PriceStart);
     }
@@ -67,7 +68,8 @@ fn open_none(table: &PrintedTable, closed: &[bool]) -> Option<CertFault>
 
 /// The first fault of those before the steps.
 fn open(certificate: &Certificate) -> Option<CertFault>
-    ensures { MatchOption result (IsOpen certificate.now.table certificate.now.shown) (λ fault. IsAnswer certificate.now (Err fault)) }
+    ensures fault { MatchOption result (IsOpen certificate.now.table certificate.now.shown) (λ fault. IsAnswer certificate.now (Err fault)) }
+    ensures form { IsCertificate certificate.now }
 {
     let table = certificate.table();
     if let Some(place) = first_unsorted(table) {
@@ -115,7 +117,8 @@ fn close(
 }
 
 fn answer_to(certificate: &Certificate) -> Result<Verdict, CertFault>
-    ensures { IsAnswer certificate.now result }
+    ensures answer { IsAnswer certificate.now result }
+    ensures form { IsCertificate certificate.now }
 {
     if let Some(fault) = open(certificate) {
         return Err(fault);
@@ -133,7 +136,6 @@ pub fn check(certificate: &Certificate) -> Result<Verdict, CertFault>
     ensures answer { IsAnswer certificate.now result }
     ensures good { IsOk result ↔ IsGood certificate.now }
 {
-    let _ = certificate.table();
     answer_to(certificate)
 }
 
@@ -141,7 +143,8 @@ fn answer_by_rows(
     rt: &(impl Threads + Sync),
     certificate: &Certificate,
 ) -> Result<Verdict, CertFault>
-    ensures { IsAnswer certificate.now result }
+    ensures answer { IsAnswer certificate.now result }
+    ensures form { IsCertificate certificate.now }
 {
     if let Some(fault) = open(certificate) {
         return Err(fault);
@@ -161,6 +164,5 @@ pub fn check_rows(
     ensures answer { IsAnswer certificate.now result }
     ensures good { IsOk result ↔ IsGood certificate.now }
 {
-    let _ = certificate.table();
     answer_by_rows(rt, certificate)
 }

@@ -9,8 +9,8 @@ pub fn has_ends(table: &PrintedTable, plan: &[usize]) -> bool
     requires { 0 < length plan.now }
     ensures { IsTrue result ↔ HasEnds table.now plan.now }
 {
-    let _ = table.len();
-    plan[0] == 0 && plan[plan.len() - 1] == table.len() - 1
+    let last = table.len() - 1;
+    plan[0] == 0 && plan[plan.len() - 1] == last
 }
 
 fn is_forward_step(table: &PrintedTable, p: usize, q: usize) -> bool
@@ -35,12 +35,12 @@ pub fn first_bad_pair(table: &PrintedTable, plan: &[usize]) -> Option<(usize, us
 
 /// What a plan costs, in microseconds.
 pub fn cost_of_plan(table: &PrintedTable, plan: &[usize]) -> u64
+    requires valid { IsTable table.now }
     requires some { 0 < length plan.now }
     requires in_range { All (λ p. p < length table.now.places) plan.now }
     requires steps { HasSteps table.now plan.now }
     ensures { result ≡ plan_cost table.now plan.now }
 {
-    let _ = table.len();
     let mut total = 0;
     for k in 1..plan.len() {
         total += table.cost(plan[k - 1], plan[k]);

@@ -3,6 +3,7 @@
 
 ghost use Rattle.std.specs.Prelude.{◌≡◌, ℕ, ◌+◌, ◌*◌, ◌<◌, ◌≤◌, ◌↔◌, length, IsTrue, MatchOption, Some};
 ghost use Rattle.std.specs.Bool.{MatchBool};
+ghost use Rattle.hls_check_laws.specs.Tables.{IsTable};
 ghost use Rattle.hls_check_laws.specs.Certificates.{Keeps, shown_by};
 ghost use Rattle.hls_check.specs.Rows.{prices_shown, KeepsTo, ColumnKeeps, IsFirstOfColumn, IsFloor, IsLow, IsFoundOfRows, IsFound};
 
@@ -34,6 +35,7 @@ fn is_broken(
     row: &mut usize,
     column: &mut usize,
 ) -> bool
+    requires valid { IsTable table.now }
     requires forward { p < q }
     requires in_range { q < length table.now.places }
     requires one_each { length (prices_shown (shown_by claim.now)) ≡ length table.now.places }
@@ -59,6 +61,7 @@ fn first_of_column(
     q: usize,
     rows: &mut [usize; BLOCK],
 ) -> Option<usize>
+    requires valid { IsTable table.now }
     requires forward { end ≤ q }
     requires in_block { end ≤ first + 32 }
     requires in_range { q < length table.now.places }
@@ -82,11 +85,11 @@ struct Floor {
 }
 
 fn floor_of(table: &PrintedTable, claim: &Claim, first: usize, end: usize) -> Floor
+    requires valid { IsTable table.now }
     requires in_range { end ≤ length table.now.places }
     requires one_each { length (prices_shown (shown_by claim.now)) ≡ length table.now.places }
     ensures { IsFloor table.now (shown_by claim.now) first end result.price result.start }
 {
-    let _ = table.len();
     let mut floor = Floor {
         price: u64::MAX,
         start: 0,
@@ -103,11 +106,11 @@ fn floor_of(table: &PrintedTable, claim: &Claim, first: usize, end: usize) -> Fl
 /// Whether place `q` is priced so low that the steps to it from all places with this floor keep to the prices.
 #[inline(always)]
 fn is_low(table: &PrintedTable, claim: &Claim, floor: Floor, q: usize) -> bool
+    requires valid { IsTable table.now }
     requires in_range { q < length table.now.places }
     requires one_each { length (prices_shown (shown_by claim.now)) ≡ length table.now.places }
     ensures { IsTrue result → IsLow table.now (shown_by claim.now) floor.price floor.start q }
 {
-    let _ = table.len();
     let Some(price) = price_of(claim, q) else {
         return false;
     };
@@ -130,6 +133,7 @@ fn column_fault(
     q: usize,
     rows: &mut [usize; BLOCK],
 ) -> Option<usize>
+    requires valid { IsTable table.now }
     requires in_block { end ≤ first + 32 }
     requires in_range { q < length table.now.places }
     requires one_each { length (prices_shown (shown_by claim.now)) ≡ length table.now.places }

@@ -2,6 +2,7 @@
 //! threads as there are processors. Where no thread can be made, the one that there is looks at all of them.
 
 ghost use Rattle.std.specs.Prelude.{◌≡◌, ℕ, ◌+◌, ◌*◌, ◌<◌, ◌≤◌, length};
+ghost use Rattle.hls_check_laws.specs.Tables.{IsTable};
 ghost use Rattle.hls_check_laws.specs.Certificates.{shown_by};
 ghost use Rattle.hls_check.specs.Rows.{prices_shown, IsToldOf, IsFoundOfBlocks, IsFound};
 
@@ -18,11 +19,11 @@ const ROUND: usize = 64;
 
 /// Whether some step from a block of places doesn't keep to the prices.
 fn is_bad(table: &PrintedTable, claim: &Claim, block: usize) -> bool
+    requires valid { IsTable table.now }
     requires in_range { block * 32 < length table.now.places }
     requires one_each { length (prices_shown (shown_by claim.now)) ≡ length table.now.places }
     ensures { IsToldOf table.now (shown_by claim.now) block result }
 {
-    let _ = table.len();
     first_of_block(table, claim, block * BLOCK).is_some()
 }
 
@@ -34,6 +35,7 @@ fn first_bad(
     from: usize,
     to: usize,
 ) -> Option<usize>
+    requires valid { IsTable table.now }
     requires order { from ≤ to }
     requires in_range { (block : ℕ) → block < to → block * 32 < length table.now.places }
     requires one_each { length (prices_shown (shown_by claim.now)) ≡ length table.now.places }
@@ -42,7 +44,7 @@ fn first_bad(
     (from..to).into_par_iter().with_min_len(PIECE).find_first(
         rt,
         |block: &usize| -> bool
-            requires { (block.now * 32 < length table.now.places) × (length (prices_shown (shown_by claim.now)) ≡ length table.now.places) }
+            requires { IsTable table.now × (block.now * 32 < length table.now.places) × (length (prices_shown (shown_by claim.now)) ≡ length table.now.places) }
             ensures { IsToldOf table.entry.now (shown_by claim.entry.now) block.now result }
         { is_bad(table, claim, *block) },
     )

@@ -3,6 +3,7 @@
 //! pair refused by one rendition alone.
 
 ghost use Rattle.std.specs.Prelude.{◌≡◌, ◌<◌, ◌↔◌, length, IsTrue, MatchOption};
+ghost use Rattle.hls_check_laws.specs.Tables.{IsTable};
 ghost use Rattle.hls_check_laws.specs.Steps.{Allowed};
 
 use hls_check_laws::{PrintedTable, spot_allowed};
@@ -10,11 +11,11 @@ use hls_check_laws::{PrintedTable, spot_allowed};
 /// Whether rendition `r` doesn't allow the step from place `p` to place `q`; false where there is no such rendition.
 #[inline(always)]
 fn refuses(table: &PrintedTable, p: usize, q: usize, r: usize) -> bool
+    requires valid { IsTable table.now }
     requires from_in { p < length table.now.places }
     requires to_in { q < length table.now.places }
     ensures { IsTrue result → Allowed table.now p q → ⊥ }
 {
-    let _ = table.len();
     r < table.renditions()
         && !spot_allowed(table.target(), table.place(p).get(r), table.place(q).get(r))
 }
@@ -22,11 +23,11 @@ fn refuses(table: &PrintedTable, p: usize, q: usize, r: usize) -> bool
 /// The first rendition that doesn't allow the step from place `p` to place `q`.
 #[inline(always)]
 fn first_refusing(table: &PrintedTable, p: usize, q: usize) -> Option<usize>
+    requires valid { IsTable table.now }
     requires from_in { p < length table.now.places }
     requires to_in { q < length table.now.places }
     ensures { MatchOption result (Allowed table.now p q) (λ r. Allowed table.now p q → ⊥) }
 {
-    let _ = table.len();
     let (from, to) = (table.place(p), table.place(q));
     for r in 0..table.renditions() {
         if !spot_allowed(table.target(), from.get(r), to.get(r)) {
@@ -46,6 +47,7 @@ pub fn is_step(
     row: &mut usize,
     column: &mut usize,
 ) -> bool
+    requires valid { IsTable table.now }
     requires from_in { p < length table.now.places }
     requires to_in { q < length table.now.places }
     ensures { IsTrue result ↔ Allowed table.now p q }

@@ -9,7 +9,7 @@ find_first-requires-clause-items g c =
     let ends = c.into_par_iter.ensures in
     let inside = nat_range-All (λ b. b * 32 < length c.args.table.now.places) c.args.from c.args.to
     (λ b low high. c.requires.in_range b high) in
-    rw (c.with_min_len.ensures.base, ends.0, ends.1) (λ κs outer k d lt p e. (rw e (inside k d lt), c.requires.one_each))
+    rw (c.with_min_len.ensures.base, ends.0, ends.1) (λ κs outer k d lt p e. (c.requires.valid, rw e (inside k d lt), c.requires.one_each))
 
 pub returns : goal.returns
 returns g c =
