@@ -1,7 +1,9 @@
 -- What holds of each place that is told holds of the line's ends.
-use Rattle.std.proofs.Common.{◌≡◌, ℕ, zero, suc, ◌+◌, ◌<◌, ◌≤◌, ◌⊎◌, Bool, true, false, cond, List, [], ◌∷◌, ◌++◌, length, drop, Option, None, Some, arith, refl, sym, ap, subst, inl, inr, ◌∙◌}
+use Rattle.std.proofs.Common.{◌≡◌, ℕ, suc, ◌+◌, ◌≤◌, Bool, true, false, cond, List, [], ◌∷◌, length, drop, Option, None, Some, arith, refl, sym, ap, subst, inl, inr, ◌∙◌}
 use Rattle.std.specs.Prelude.{slice_get}
 use Rattle.std.proofs.lemmas.List.{length-append}
+use Rattle.std.proofs.lemmas.Option.{same_Some}
+use Rattle.hls_media_laws.proofs.Lists.{at_snoc, at_drop}
 use Rattle.hls_places_laws.specs.declared.place.Place.{Place}
 use Rattle.hls_live_laws.specs.declared.aim.Aim.{Aim}
 use Rattle.hls_live_laws.specs.declared.segment.Segment.{Segment}
@@ -9,19 +11,9 @@ use Rattle.hls_live_laws.specs.declared.opening.Opening.{Opening}
 use Rattle.hls_live_laws.specs.Steps.{is_past, is_allowed, is_enough}
 use Rattle.hls_live_laws.specs.Cuts.{Line, resumed, begun_anew, segment_to, line_of}
 use Rattle.hls_live_laws.specs.Told.{Told, untold, told_with, has_earlier, closed_with, tried, stopped_by, advanced_from, advanced, told}
-use Rattle.hls_live_laws.specs.Live.{live_of, front_of, front_by, place_of}
+use Rattle.hls_live_laws.specs.Live.{live_of, front_of, front_by}
 use Rattle.hls_live_laws.specs.Ends.{StandsIn}
 use Rattle.hls_live_laws.proofs.Lines.{told-none, told-more, told-is_line}
-
-pub at-snoc : {A : Type 0} (xs : List A) (y : A) (k : ℕ) (x : A) → slice_get (xs ++ y ∷ []) k ≡ Some x →
-    (slice_get xs k ≡ Some x) ⊎ (y ≡ x)
-at-snoc [] y zero x at = inr (cc)
-at-snoc [] y (suc k) x at = absurd (cc)
-at-snoc (z ∷ xs) y zero x at = inl at
-at-snoc (z ∷ xs) y (suc k) x at = at-snoc xs y k x at
-
-some-is : {A : Type 0} (x y : A) → Some x ≡ Some y → x ≡ y
-some-is x y is = cc
 
 -- both ends of each segment, the open place and the best one
 record AreEnds (P : Place → Type 0) (segments : List Segment) : Type 0 where
@@ -38,13 +30,13 @@ ends-closed : (P : Place → Type 0) (removed : ℕ) (segments : List Segment) (
 ends-closed P removed segments o to are from here =
     let segment : Segment = segment_to (has_earlier removed segments) o to in
     record {
-      from = λ k s at. elim (at-snoc segments segment k s at) [
+      from = λ k s at. elim (at_snoc segments segment k s at) [
         | inl old ↦ are.from k s old
-        | inr new ↦ subst (λ (x : Segment). P x.from) new from
+        | inr new ↦ subst (λ (x : Segment). P x.from) (sym new.1) from
       ];
-      to = λ k s at. elim (at-snoc segments segment k s at) [
+      to = λ k s at. elim (at_snoc segments segment k s at) [
         | inl old ↦ are.to k s old
-        | inr new ↦ subst (λ (x : Segment). P x.to) new here
+        | inr new ↦ subst (λ (x : Segment). P x.to) (sym new.1) here
       ];
     }
 
@@ -52,7 +44,7 @@ ends-with : (P : Place → Type 0) (segments : List Segment) (o : Opening) (best
     ((b : Place) → best ≡ Some b → P b) → Ends P (told_with segments o best)
 ends-with P segments o best are here reached = record {
   segments = are;
-  open_at = λ x at. subst (λ (y : Opening). P y.place) (some-is o x at) here;
+  open_at = λ x at. subst (λ (y : Opening). P y.place) (same_Some o x at) here;
   best = reached;
 }
 
@@ -60,7 +52,7 @@ none-best : (P : Place → Type 0) (b : Place) → None ≡ Some b → P b
 none-best P b at = absurd (cc)
 
 one-best : (P : Place → Type 0) (q b : Place) → P q → Some q ≡ Some b → P b
-one-best P q b here at = subst P (some-is q b at) here
+one-best P q b here at = subst P (same_Some q b at) here
 
 ends-if : (P : Place → Type 0) (b : Bool) (t u : Told) → Ends P t → Ends P u → Ends P (cond b t u)
 ends-if P true t u left right = left
@@ -125,21 +117,12 @@ untold-ends P = record {
   best = λ b at. absurd (cc);
 }
 
-at-drop : {A : Type 0} (xs : List A) (n k : ℕ) → slice_get (drop n xs) k ≡ slice_get xs (n + k)
-at-drop xs zero k =
-    let same : 0 + k ≡ k = omega arith in
-    rw same refl
-at-drop [] (suc n) k = refl
-at-drop (x ∷ xs) (suc n) k =
-    let step : suc n + k ≡ suc (n + k) = omega arith in
-    rw step (at-drop xs n k)
-
 front-kept : (P : Place → Type 0) (segments : List Segment) (open_at : Option Opening) (p : Place) →
     ((s : Segment) → slice_get segments 0 ≡ Some s → P s.from) → ((o : Opening) → open_at ≡ Some o → P o.place) →
     front_by segments open_at ≡ Some p → P p
 front-kept P [] None p first opens at = absurd (cc)
-front-kept P [] (Some o) p first opens at = subst P (some-is o.place p at) (opens o refl)
-front-kept P (s ∷ rest) open_at p first opens at = subst P (some-is s.from p at) (first s refl)
+front-kept P [] (Some o) p first opens at = subst P (same_Some o.place p at) (opens o refl)
+front-kept P (s ∷ rest) open_at p first opens at = subst P (same_Some s.from p at) (first s refl)
 
 -- so of the front place
 pub front-holds : (P : Place → Type 0) (aim : Aim) (places : List Place) (removed : ℕ) (p : Place) →
@@ -149,7 +132,7 @@ front-holds P aim places removed p each at =
     let whole : Told = told aim 0 untold places in
     let ends = told-ends P aim 0 untold places each (untold-ends P) in
     front-kept P (drop removed whole.line.segments) whole.line.open_at p
-    (λ s first. ends.segments.from (removed + 0) s (sym (at-drop whole.line.segments removed 0) ∙ first)) ends.open_at at
+    (λ s first. ends.segments.from (removed + 0) s (sym (at_drop whole.line.segments removed 0) ∙ first)) ends.open_at at
 
 pub front-stands : (aim : Aim) (places : List Place) (removed : ℕ) (p : Place) →
     front_of (live_of aim places removed) ≡ Some p → StandsIn places p
@@ -198,6 +181,17 @@ advanced-few aim removed segments None (Some b) q = omega arith
 advanced-few aim removed segments (Some o) best q =
     tried-few aim removed (length segments + taken (Some o) best + 1) segments o best q _ (omega arith)
     (stopped-few aim removed segments o best q)
+
+taken-few : (open_at : Option Opening) (best : Option Place) → taken open_at best ≤ 1
+taken-few None best = omega arith
+taken-few (Some o) None = omega arith
+taken-few (Some o) (Some b) = omega arith
+
+-- no place closes more than two segments
+pub advanced-few_more : (aim : Aim) (removed : ℕ) (t : Told) (q : Place) →
+    length (advanced aim removed t q).line.segments ≤ length t.line.segments + 2
+advanced-few_more aim removed t q =
+    omega (arith, advanced-few aim removed t.line.segments t.line.open_at t.best q, taken-few t.line.open_at t.best)
 
 told-few : (aim : Aim) (removed : ℕ) (t : Told) (places : List Place) → weight (told aim removed t places) ≤ weight t + length places
 told-few aim removed t [] =

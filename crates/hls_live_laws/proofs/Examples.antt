@@ -1,8 +1,7 @@
 -- The line at samples that were worked by hand, with a target of 6 seconds and segments of 4 seconds preferred. Each
 -- equation is seen to hold by computing both sides.
-use Rattle.std.proofs.Common.{◌≡◌, ℕ, List, [], ◌∷◌, length, map, Bool, true, false, refl}
+use Rattle.std.proofs.Common.{◌≡◌, ℕ, List, [], ◌∷◌, map, Bool, true, false, refl}
 use Rattle.std.specs.Prelude.{Ok, Err}
-use Rattle.hls_check_laws.specs.declared.spot.Spot.{Spot}
 use Rattle.hls_check_laws.specs.Tables.{spot_in}
 use Rattle.hls_places_laws.specs.declared.place.Place.{Place}
 use Rattle.hls_live_laws.specs.declared.aim.Aim.{Aim}

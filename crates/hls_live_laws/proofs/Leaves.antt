@@ -1,12 +1,12 @@
 -- What is left of a line grows as less of it goes.
-use Rattle.std.proofs.Common.{◌≡◌, ℕ, zero, suc, ◌+◌, ◌-◌, ◌<◌, ◌≤◌, Bool, true, leb, List, length, take, drop, arith, refl, sym, ap, ◌∙◌}
+use Rattle.std.proofs.Common.{◌≡◌, ℕ, zero, suc, ◌+◌, ◌-◌, ◌≤◌, true, leb, List, drop, arith, refl, sym, ap, ◌∙◌}
 use Rattle.std.specs.List.{sum_by}
 use Rattle.std.proofs.lemmas.Bool.{and_parts, and_from, leb-true, le-leb}
 use Rattle.std.proofs.lemmas.List.{drop-drop}
 use Rattle.std.proofs.lemmas.List.Sums.{sum_by-take-drop}
 use Rattle.hls_live_laws.specs.declared.aim.Aim.{Aim}
 use Rattle.hls_live_laws.specs.declared.segment.Segment.{Segment}
-use Rattle.hls_live_laws.specs.Lengths.{length_in, left_in, three_targets, each_below, is_long}
+use Rattle.hls_live_laws.specs.Lengths.{length_in, left_in, three_targets, is_long}
 use Rattle.hls_live_laws.specs.Upkeep.{Leaves}
 
 pub left-falls : (r : ℕ) (segments : List Segment) (m n : ℕ) → m ≤ n → left_in r segments n ≤ left_in r segments m

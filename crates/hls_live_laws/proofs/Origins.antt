@@ -1,6 +1,7 @@
 -- Origins of the same encoders have the same segments.
-use Rattle.std.proofs.Common.{◌≡◌, ℕ, zero, suc, ◌≤◌, List, [], ◌∷◌, ◌++◌, length, Some, arith, refl, sym, ap, subst, ◌∙◌}
+use Rattle.std.proofs.Common.{◌≡◌, ℕ, zero, suc, ◌≤◌, List, [], ◌∷◌, ◌++◌, length, Some, sym, ap, subst, ◌∙◌}
 use Rattle.std.specs.Prelude.{slice_get}
+use Rattle.std.proofs.lemmas.Option.{same_Some}
 use Rattle.hls_places_laws.specs.declared.place.Place.{Place}
 use Rattle.hls_places_laws.specs.Sources.{Source, AreSources}
 use Rattle.hls_places_laws.specs.Places.{places_of}
@@ -29,9 +30,6 @@ at-front [] ys n x at = absurd (cc)
 at-front (z ∷ xs) ys zero x at = at
 at-front (z ∷ xs) ys (suc n) x at = at-front xs ys n x at
 
-some-is : {A : Type 0} (x y : A) → Some x ≡ Some y → x ≡ y
-some-is x y is = cc
-
 begun-at : (xs whole : List Segment) (n : ℕ) (x : Segment) → Begins xs whole → slice_get xs n ≡ Some x → slice_get whole n ≡ Some x
 begun-at xs whole n x begins at =
     subst (λ (l : List Segment). slice_get l n ≡ Some x) (sym begins.1) (at-front xs begins.0 n x at)
@@ -42,7 +40,7 @@ segments-agree aim a b are are_too alike n x y at also =
     let whole = places-alike a b are are_too alike in
     let left = begun-at (segments_over aim a) (line_of aim whole.0).segments n x (begins-over aim a whole.0 whole.1) at in
     let right = begun-at (segments_over aim b) (line_of aim whole.0).segments n y (begins-over aim b whole.0 whole.2) also in
-    some-is x y (sym left ∙ right)
+    same_Some x y (sym left ∙ right)
 
 begun-marks : (xs whole : List Segment) (n : ℕ) → Begins xs whole → n ≤ length xs → marks_in n whole ≡ marks_in n xs
 begun-marks xs whole n begins few = ap (marks_in n) begins.1 ∙ marks-append n xs begins.0 few

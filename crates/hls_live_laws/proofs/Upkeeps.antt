@@ -1,21 +1,17 @@
 -- There is one upkeep, and the channel takes it.
-use Rattle.std.proofs.Common.{◌≡◌, ℕ, zero, suc, ◌+◌, ◌-◌, ◌<◌, ◌≤◌, ◌⊎◌, Bool, true, false, List, length, get_or, Some, leb, ltb, eqb, arith, refl, sym, ap, subst, inl, inr, ◌∙◌}
-use Rattle.std.specs.Prelude.{Ok, Err, slice_get, ◌||◌}
+use Rattle.std.proofs.Common.{◌≡◌, ℕ, zero, suc, ◌<◌, ◌≤◌, Bool, true, false, List, length, get_or, Some, leb, ltb, eqb, arith, refl, sym, ap, subst, inl, inr, ◌∙◌}
+use Rattle.std.specs.Prelude.{Ok, slice_get, ◌||◌}
 use Rattle.std.proofs.lemmas.Bool.{cases_lt, cond-true, cond-false, and_parts, leb-true, le-ltb, ne_eqb}
 use Rattle.std.proofs.lemmas.List.{get_or_default}
-use Rattle.hls_check_laws.specs.declared.spot.Spot.{Spot}
+use Rattle.std.proofs.lemmas.Option.{same_Some}
 use Rattle.hls_check_laws.specs.Tables.{spot_in}
 use Rattle.hls_places_laws.specs.declared.place.Place.{Place}
 use Rattle.hls_places_laws.specs.Order.{no_place, time_of, AreOrdered}
-use Rattle.hls_places_laws.specs.Programmes.{is_kept}
 use Rattle.hls_live_laws.specs.Live.{Live, front_of, has_ended, may_slide, stays_long}
 use Rattle.hls_live_laws.specs.Lengths.{is_long, renditions_of}
 use Rattle.hls_live_laws.specs.Ends.{StandsIn}
-use Rattle.hls_live_laws.specs.Upkeep.{LineLeaves, IsMostSlide, Channel, is_old, IsCut, IsSlide, IsTrim, Upkeep, Idle, Slides, Trims, IsUpkeep, RaisesFloor}
+use Rattle.hls_live_laws.specs.Upkeep.{IsMostSlide, Channel, is_old, IsCut, IsSlide, IsTrim, Upkeep, Idle, Slides, Trims, IsUpkeep, RaisesFloor}
 use Rattle.hls_live_laws.proofs.Within.{got}
-
-some-is : {A : Type 0} (x y : A) → Some x ≡ Some y → x ≡ y
-some-is x y is = cc
 
 most-once : (live : Live) (window m n : ℕ) → IsMostSlide live window m → IsMostSlide live window n → m ≤ n
 most-once live window zero n m-most n-most = omega arith
@@ -33,8 +29,8 @@ slide-or_trim c n rendition floor x y =
 -- the place up to which may be trimmed is one
 cut-later : (c : Channel) (x y : Place) (x-is : IsCut c x) (y-is : IsCut c y) → x-is.number ≤ y-is.number
 cut-later c x y x-is y-is =
-    let front : x-is.front ≡ y-is.front = some-is x-is.front y-is.front (sym x-is.front_is ∙ y-is.front_is) in
-    let last : x-is.last ≡ y-is.last = some-is x-is.last y-is.last (sym x-is.last_is ∙ y-is.last_is) in
+    let front : x-is.front ≡ y-is.front = same_Some x-is.front y-is.front (sym x-is.front_is ∙ y-is.front_is) in
+    let last : x-is.last ≡ y-is.last = same_Some x-is.last y-is.last (sym x-is.last_is ∙ y-is.last_is) in
     let old : is_old c.keep y-is.front y-is.last x ≡ true =
     subst (λ (l : Place). is_old c.keep y-is.front l x ≡ true) last
     (subst (λ (f : Place). is_old c.keep f x-is.last x ≡ true) front x-is.old) in
@@ -43,7 +39,7 @@ cut-later c x y x-is y-is =
 cut-once : (c : Channel) (x y : Place) → IsCut c x → IsCut c y → x ≡ y
 cut-once c x y x-is y-is =
     let number : x-is.number ≡ y-is.number = omega (arith, cut-later c x y x-is y-is, cut-later c y x y-is x-is) in
-    some-is x y (sym x-is.there ∙ (ap (slice_get c.places) number ∙ y-is.there))
+    same_Some x y (sym x-is.there ∙ (ap (slice_get c.places) number ∙ y-is.there))
 
 trim-first : (c : Channel) (r f s g : ℕ) → IsTrim c r f → IsTrim c s g → r ≤ s
 trim-first c r f s g x y =
@@ -114,7 +110,7 @@ fragments-keep renditions places i j p q ordered p-at q-at early r within =
             absurd (omega (arith, rises, early, ap time_of p-is, ap time_of q-is))
         | inr same ↦
             let number : i ≡ j = omega arith in
-            let is : p ≡ q = some-is p q (sym p-at ∙ (ap (slice_get places) number ∙ q-at)) in
+            let is : p ≡ q = same_Some p q (sym p-at ∙ (ap (slice_get places) number ∙ q-at)) in
             omega (arith, ap (λ (x : Place). (spot_in x.spots r).fragment) is)
       ]
     ]

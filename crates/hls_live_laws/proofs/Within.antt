@@ -1,5 +1,5 @@
 -- A place's spots begin with units that are there, or with the next to come.
-use Rattle.std.proofs.Common.{◌≡◌, ℕ, zero, suc, ◌<◌, ◌≤◌, ◌⊎◌, List, [], ◌∷◌, ◌++◌, length, map, get_or, None, Some, true, false, arith, refl, sym, ap, subst, inl, inr, ◌∙◌}
+use Rattle.std.proofs.Common.{◌≡◌, ℕ, zero, suc, ◌<◌, ◌≤◌, List, [], ◌∷◌, ◌++◌, length, map, get_or, Some, true, arith, sym, ap, subst, inl, inr, ◌∙◌}
 use Rattle.std.specs.Prelude.{slice_get}
 use Rattle.std.specs.List.{All, filter_map, list_all}
 use Rattle.std.proofs.lemmas.Bool.{cases_Bool, cond-true, cond-false}
@@ -7,14 +7,15 @@ use Rattle.std.proofs.lemmas.List.{append-nil}
 use Rattle.hls_check_laws.specs.declared.spot.Spot.{Spot}
 use Rattle.hls_check_laws.specs.Tables.{no_spot, spot_in}
 use Rattle.hls_places_laws.specs.declared.place.Place.{Place}
-use Rattle.hls_places_laws.specs.Sources.{Source, source_at, no_source, first_facts, fact_at, no_facts}
+use Rattle.hls_places_laws.specs.Sources.{Source, source_at, no_source, first_facts, no_facts}
 use Rattle.hls_places_laws.specs.Spots.{end_spot}
 use Rattle.hls_places_laws.specs.Places.{common_at, has_ended, end_in, closing_of, places_of}
 use Rattle.hls_places_laws.proofs.Sorted.{filter_map-all}
 use Rattle.hls_places_laws.proofs.Ordered.{map-at, place-from, near-at}
 use Rattle.hls_live_laws.specs.declared.aim.Aim.{Aim}
 use Rattle.hls_live_laws.specs.Live.{live_of, front_of}
-use Rattle.hls_live_laws.proofs.Ends.{front-holds, at-snoc}
+use Rattle.hls_media_laws.proofs.Lists.{at_snoc}
+use Rattle.hls_live_laws.proofs.Ends.{front-holds}
 
 IsWithin : List Source → Place → Type 0
 IsWithin sources p = (r : ℕ) → r < length sources → (spot_in p.spots r).fragment ≤ length (source_at sources r).facts
@@ -52,9 +53,9 @@ places-within sources k p at =
       | inl over ↦
           let end : Place = record { spots = map end_in sources; closing = true } in
           let closing : closing_of sources ≡ end ∷ [] = cond-true (list_all has_ended sources) _ _ over in
-          elim (at-snoc found end k p (subst (λ (l : List Place). slice_get (found ++ l) k ≡ Some p) closing at)) [
+          elim (at_snoc found end k p (subst (λ (l : List Place). slice_get (found ++ l) k ≡ Some p) closing at)) [
             | inl before ↦ each-in (IsWithin sources) found (found-within sources) k p before
-            | inr last ↦ subst (IsWithin sources) last (closing-within sources)
+            | inr last ↦ subst (IsWithin sources) (sym last.1) (closing-within sources)
           ]
       | inr goes_on ↦
           let closing : closing_of sources ≡ [] = cond-false (list_all has_ended sources) _ _ goes_on in
