@@ -6,29 +6,13 @@ use Rattle.std.proofs.lemmas.Option.{slice_get_within}
 use Rattle.std.proofs.lemmas.List.{length-append, length-drop, drop-append-le, drop-drop, get_or_past}
 use Rattle.std.proofs.lemmas.List.Sums.{sum_by-append}
 use Rattle.std.proofs.Math.Seq.{take-length, drop-length}
+use Rattle.hls_media_laws.proofs.Lists.{at_snoc, at_drop}
 use Rattle.hls_live_laws.specs.declared.segment.Segment.{Segment}
 use Rattle.hls_live_laws.specs.Lengths.{length_in, left_in, is_marked, marks_in}
 use Rattle.hls_live_laws.proofs.Lives.{marks-append, marks-add}
 use Rattle.hls_live.specs.declared.sums.Sums.{Sums}
 use Rattle.hls_live.specs.Sums.{IsLonger, IsSumsTo, AreSums, last_of, lengths_of, marks_of, IsNext}
-
--- an element of a list with one more at its end, and of one without its front
-at-snoc : {A : Type 0} (xs : List A) (y : A) (k : ℕ) (x : A) → slice_get (xs ++ y ∷ []) k ≡ Some x →
-    (slice_get xs k ≡ Some x) ⊎ ((k ≡ length xs) × (y ≡ x))
-at-snoc [] y zero x at = inr (refl, cc)
-at-snoc [] y (suc k) x at = absurd (cc)
-at-snoc (z ∷ xs) y zero x at = inl at
-at-snoc (z ∷ xs) y (suc k) x at =
-    elim (at-snoc xs y k x at) [ inl h ↦ inl h | inr h ↦ inr (ap suc h.0, h.1) ]
-
-at-drop : {A : Type 0} (xs : List A) (n k : ℕ) → slice_get (drop n xs) k ≡ slice_get xs (n + k)
-at-drop xs zero k =
-    let same : 0 + k ≡ k = omega arith in
-    rw same refl
-at-drop [] (suc n) k = refl
-at-drop (x ∷ xs) (suc n) k =
-    let step : suc n + k ≡ suc (n + k) = omega arith in
-    rw step (at-drop xs n k)
+use Rattle.hls_check_laws.specs.Steps.{cost_limit}
 
 at-last : {A : Type 0} (xs : List A) (m : ℕ) → length xs ≡ suc m → (x : A) × (slice_get xs m ≡ Some x)
 at-last [] m count = absurd (omega (arith, count))
@@ -56,8 +40,8 @@ sums-none first breaks renditions = record {
 
 -- one more segment
 longer-small : (before : List ℕ) (segment : Segment) (lengths : List ℕ) (n : ℕ) → IsLonger before segment lengths →
-    ((r : ℕ) → get_or before r 0 ≤ n * 3600499999) → ((r : ℕ) → length_in r segment ≤ 3600499999) → (r : ℕ) →
-    get_or lengths r 0 ≤ suc n * 3600499999
+    ((r : ℕ) → get_or before r 0 ≤ n * cost_limit) → ((r : ℕ) → length_in r segment ≤ cost_limit) → (r : ℕ) →
+    get_or lengths r 0 ≤ suc n * cost_limit
 longer-small before segment lengths n longer past short r =
     let either : (r < length segment.from.spots) ⊎ (length segment.from.spots ≤ r) = grind arith in
     elim either [
@@ -65,13 +49,13 @@ longer-small before segment lengths n longer past short r =
       | inr outside ↦ omega (arith, get_or_past lengths r 0 (omega (arith, longer.count, outside)))
     ]
 
-no-lengths : (r n : ℕ) → get_or {A = ℕ} [] r 0 ≤ n * 3600499999
+no-lengths : (r n : ℕ) → get_or {A = ℕ} [] r 0 ≤ n * cost_limit
 no-lengths r n = omega arith
 
 -- what is known of the last sums: all is 0 before the first segment
 pub record IsLast (first breaks renditions : ℕ) (segments : List Segment) (sums : List Sums) : Type 0 where
   pub marks : marks_of breaks (last_of sums) ≡ breaks + marks_in (length segments) segments
-  pub small : (r : ℕ) → get_or (lengths_of (last_of sums)) r 0 ≤ (first + length segments) * 3600499999
+  pub small : (r : ℕ) → get_or (lengths_of (last_of sums)) r 0 ≤ (first + length segments) * cost_limit
 
 no-segments : (first breaks renditions : ℕ) (segments : List Segment) (sums : List Sums) → segments ≡ [] → sums ≡ [] →
     IsLast first breaks renditions segments sums
@@ -125,10 +109,10 @@ left-none r segments n n_is = ap (λ (m : ℕ). left_in r segments m) n_is ∙ a
 
 pushed-each : (first breaks renditions : ℕ) (segments : List Segment) (sums : List Sums) (segment : Segment) (next : Sums) →
     AreSums first breaks renditions segments sums → IsNext breaks sums segment next → length segment.from.spots ≡ renditions →
-    ((r : ℕ) → length_in r segment ≤ 3600499999) → (k : ℕ) (s : Sums) → slice_get (sums ++ next ∷ []) k ≡ Some s →
+    ((r : ℕ) → length_in r segment ≤ cost_limit) → (k : ℕ) (s : Sums) → slice_get (sums ++ next ∷ []) k ≡ Some s →
     IsSumsTo first breaks renditions (segments ++ segment ∷ []) k s
 pushed-each first breaks renditions segments sums segment next are is same short k s at =
-    elim (at-snoc sums next k s at) [
+    elim (at_snoc sums next k s at) [
       | inl old ↦
           let to = are.each k s old in
           let within : suc k ≤ length segments = omega (arith, slice_get_within sums k s old, are.count) in
@@ -136,7 +120,7 @@ pushed-each first breaks renditions segments sums segment next are is same short
       | inr new ↦
           let number : k ≡ length segments = new.0 ∙ are.count in
           let last = last-known first breaks renditions segments sums are in
-          rw (number, ← new.1) (record {
+          rw (number, new.1) (record {
             lengths = is.lengths.count ∙ same;
             marks = omega (arith, is.marks, last.marks, marks-all segments segment);
             small = λ r.
@@ -164,22 +148,22 @@ pushed-rest : (first breaks renditions : ℕ) (segments : List Segment) (sums : 
     get_or s.lengths.items r 0 + left_in r (segments ++ segment ∷ []) (suc k) ≡ get_or t.lengths.items r 0
 pushed-rest first breaks renditions segments sums segment next are is same k last r s t at also count within =
     let longer = length-append segments (segment ∷ []) in
-    elim (at-snoc sums next last t also) [
+    elim (at_snoc sums next last t also) [
       | inl old ↦ absurd (omega (arith, slice_get_within sums last t old, are.count, count, longer))
-      | inr end ↦ elim (at-snoc sums next k s at) [
+      | inr end ↦ elim (at_snoc sums next k s at) [
         | inl old ↦
             let m : ℕ = length segments - 1 in
             let some : length segments ≡ suc m = omega (arith, slice_get_within sums k s old, are.count) in
-            rw (← end.1) (rest-known first breaks renditions segments sums segment next are is same k m r s old some within)
+            rw (end.1) (rest-known first breaks renditions segments sums segment next are is same k m r s old some within)
         | inr new ↦
             let all : suc k ≡ length (segments ++ segment ∷ []) = omega (arith, new.0, are.count, longer) in
-            rw (← end.1, ← new.1) (omega (arith, left-none r (segments ++ segment ∷ []) (suc k) all))
+            rw (end.1, new.1) (omega (arith, left-none r (segments ++ segment ∷ []) (suc k) all))
       ]
     ]
 
 pub sums-pushed : (first breaks renditions : ℕ) (segments : List Segment) (sums : List Sums) (segment : Segment) (next : Sums) →
     AreSums first breaks renditions segments sums → IsNext breaks sums segment next → length segment.from.spots ≡ renditions →
-    ((r : ℕ) → length_in r segment ≤ 3600499999) → AreSums first breaks renditions (segments ++ segment ∷ []) (sums ++ next ∷ [])
+    ((r : ℕ) → length_in r segment ≤ cost_limit) → AreSums first breaks renditions (segments ++ segment ∷ []) (sums ++ next ∷ [])
 sums-pushed first breaks renditions segments sums segment next are is same short = record {
   count = omega (arith, length-append sums (next ∷ []), length-append segments (segment ∷ []), are.count);
   each = pushed-each first breaks renditions segments sums segment next are is same short;
@@ -195,7 +179,7 @@ sums-dropped first breaks renditions n segments sums few are =
     record {
       count = omega (arith, count, length-drop n sums, are.count);
       each = λ k s at.
-          let to = are.each (n + k) s (sym (at-drop sums n k) ∙ at) in
+          let to = are.each (n + k) s (sym (at_drop sums n k) ∙ at) in
           let number : suc (n + k) ≡ n + suc k = omega arith in
           let marks : marks_in (suc (n + k)) segments ≡ marks_in n segments + marks_in (suc k) (drop n segments) =
           ap (λ (m : ℕ). marks_in m segments) number ∙ marks-add n (suc k) segments in
@@ -205,7 +189,7 @@ sums-dropped first breaks renditions n segments sums few are =
             small = λ r. omega (arith, to.small r);
           };
       rest = λ k last r s t at also all within.
-          let known = are.rest (n + k) (n + last) r s t (sym (at-drop sums n k) ∙ at) (sym (at-drop sums n last) ∙ also)
+          let known = are.rest (n + k) (n + last) r s t (sym (at_drop sums n k) ∙ at) (sym (at_drop sums n last) ∙ also)
           (omega (arith, all, count, few)) within in
           let number : n + suc k ≡ suc (n + k) = omega arith in
           let left : left_in r (drop n segments) (suc k) ≡ left_in r segments (suc (n + k)) =

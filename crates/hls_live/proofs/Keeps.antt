@@ -4,8 +4,9 @@ use Rattle.std.specs.Prelude.{slice_get}
 use Rattle.std.proofs.lemmas.Bool.{and_from, and_left, and_right, and_parts}
 use Rattle.std.proofs.lemmas.List.{get_or_past, length-take-le}
 use Rattle.std.proofs.lemmas.List.Sums.{count_by-le-length}
-use Rattle.hls_blocks.specs.Numbered.{Numbered, with_item, from_number}
-use Rattle.hls_check_laws.specs.Tables.{spot_in, no_spot}
+use Rattle.std.proofs.lemmas.Option.{same_Some}
+use Rattle.hls_blocks.specs.Numbered.{Numbered, with_item, from_number, list_limit}
+use Rattle.hls_check_laws.specs.Tables.{spot_in, no_spot, target_limit}
 use Rattle.hls_check_laws.specs.declared.spot.Spot.{Spot}
 use Rattle.hls_places_laws.specs.declared.place.Place.{Place}
 use Rattle.hls_live_laws.specs.declared.aim.Aim.{Aim}
@@ -20,10 +21,11 @@ use Rattle.hls_live.specs.declared.line.LiveLine.TheInside.{Inside}
 use Rattle.hls_live.specs.Sums.{AreSums, last_of, lengths_of, marks_of, IsNext}
 use Rattle.hls_live.specs.Sound.{IsSound}
 use Rattle.hls_live.proofs.Beside.{sums-none, last-known, sums-pushed, sums-dropped}
+use Rattle.hls_check_laws.specs.Steps.{cost_limit}
 
 -- a segment that is allowed is short, in every rendition
-pub allowed-short : (aim : Aim) (o q : Place) → aim.target ≤ 3600 → is_allowed aim o q ≡ true → (r : ℕ) →
-    (spot_in q.spots r).prev_end - (spot_in o.spots r).start ≤ 3600499999
+pub allowed-short : (aim : Aim) (o q : Place) → aim.target ≤ target_limit → is_allowed aim o q ≡ true → (r : ℕ) →
+    (spot_in q.spots r).prev_end - (spot_in o.spots r).start ≤ cost_limit
 allowed-short aim o q target allowed r =
     let step = step-from_allowed aim o q allowed in
     let either : (r < length o.spots) ⊎ (length o.spots ≤ r) = grind arith in
@@ -44,9 +46,6 @@ sums-renamed first breaks before after (x ∷ segments) sums same are =
     let is : after ≡ before = same (omega arith) in
     subst (λ (n : ℕ). AreSums first breaks n (x ∷ segments) sums) (sym is) are
 
-some-is : {A : Type 0} (x y : A) → Some x ≡ Some y → x ≡ y
-some-is x y is = cc
-
 pub opened-sound : (i : Inside) (segments : Numbered Segment) (sums : Numbered Sums) (opening : Opening) (best : Option Place) →
     IsSound i → segments ≡ i.segments → sums ≡ i.sums → 0 < length opening.place.spots →
     (0 < length i.segments.items → length opening.place.spots ≡ renditions_of i.open_at) →
@@ -57,11 +56,11 @@ opened-sound i segments sums opening best sound segments_is sums_is some same re
   first = sound.first;
   no_segment = λ e. absurd (cc);
   some = λ o e.
-      let is : opening ≡ o = some-is opening o e in
+      let is : opening ≡ o = same_Some opening o e in
       subst (λ (x : Opening). 0 < length x.place.spots) is some;
   no_best = λ e. absurd (cc);
   best = λ o b e best_is.
-      let is : opening ≡ o = some-is opening o e in
+      let is : opening ≡ o = same_Some opening o e in
       subst (λ (x : Opening). is_allowed i.aim x.place b ≡ true) is (reached b best_is);
   sums = sums-renamed i.segments.first i.breaks (renditions_of i.open_at) (length opening.place.spots) i.segments.items i.sums.items same sound.sums;
   breaks = sound.breaks;
@@ -79,8 +78,8 @@ closed-sound i o from to mark next segments sums opening sound at allowed from_i
     let before : renditions_of i.open_at ≡ length from.spots =
     ap renditions_of at ∙ ap (λ (p : Place). length p.spots) (sym from_is) in
     let after : length from.spots ≡ length to.spots = ap (λ (p : Place). length p.spots) from_is ∙ sym step.same in
-    let short : (r : ℕ) → length_in r segment ≤ 3600499999 =
-    λ r. subst (λ (p : Place). (spot_in to.spots r).prev_end - (spot_in p.spots r).start ≤ 3600499999) (sym from_is)
+    let short : (r : ℕ) → length_in r segment ≤ cost_limit =
+    λ r. subst (λ (p : Place). (spot_in to.spots r).prev_end - (spot_in p.spots r).start ≤ cost_limit) (sym from_is)
     (allowed-short i.aim o.place to sound.target allowed r) in
     let are : AreSums i.segments.first i.breaks (length from.spots) i.segments.items i.sums.items =
     subst (λ (n : ℕ). AreSums i.segments.first i.breaks n i.segments.items i.sums.items) before sound.sums in
@@ -91,7 +90,7 @@ closed-sound i o from to mark next segments sums opening sound at allowed from_i
       first = sound.first;
       no_segment = λ e. absurd (cc);
       some = λ x e.
-          let same : resumed to ≡ x = some-is (resumed to) x e in
+          let same : resumed to ≡ x = same_Some (resumed to) x e in
           subst (λ (y : Opening). 0 < length y.place.spots) same some;
       no_best = λ e. absurd (cc);
       best = λ x b e best_is. absurd (cc);
@@ -106,13 +105,13 @@ marks-few n segments few =
     omega (arith, counted, length-take-le n segments few)
 
 -- the sums before it
-pub last-few : (i : Inside) → IsSound i → i.segments.first + length i.segments.items < 16777216 →
-    marks_of i.breaks (last_of i.sums.items) ≤ 16777216
+pub last-few : (i : Inside) → IsSound i → i.segments.first + length i.segments.items < list_limit →
+    marks_of i.breaks (last_of i.sums.items) ≤ list_limit
 last-few i sound room =
     let known = last-known i.segments.first i.breaks (renditions_of i.open_at) i.segments.items i.sums.items sound.sums in
     omega (arith, known.marks, marks-few (length i.segments.items) i.segments.items (omega arith), sound.breaks, room)
 
-pub last-small : (i : Inside) → IsSound i → i.segments.first + length i.segments.items < 16777216 → (r : ℕ) →
+pub last-small : (i : Inside) → IsSound i → i.segments.first + length i.segments.items < list_limit → (r : ℕ) →
     get_or (lengths_of (last_of i.sums.items)) r 0 ≤ 1152921504606846976
 last-small i sound room r =
     let known = last-known i.segments.first i.breaks (renditions_of i.open_at) i.segments.items i.sums.items sound.sums in

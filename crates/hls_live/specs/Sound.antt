@@ -7,6 +7,7 @@ use Rattle.hls_live_laws.specs.Live.{Live}
 use Rattle.hls_live_laws.specs.Lengths.{renditions_of}
 use Rattle.hls_live.specs.declared.line.LiveLine.TheInside.{Inside}
 use Rattle.hls_live.specs.Sums.{AreSums}
+use Rattle.hls_check_laws.specs.Tables.{target_limit}
 
 abbrev pub seen : Inside → Live
 seen i = record {
@@ -17,7 +18,7 @@ seen i = record {
 }
 
 pub record IsSound (i : Inside) : Type 0 where
-  pub target : i.aim.target ≤ 3600
+  pub target : i.aim.target ≤ target_limit
   pub first : i.sums.first ≡ i.segments.first
   pub no_segment : i.open_at ≡ None → i.segments.items ≡ []
   pub some : (o : Opening) → i.open_at ≡ Some o → 0 < length o.place.spots

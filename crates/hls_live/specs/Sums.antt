@@ -3,6 +3,7 @@ use Rattle.std.specs.Prelude.{◌≡◌, ℕ, suc, ◌+◌, ◌-◌, ◌*◌, �
 use Rattle.hls_live_laws.specs.declared.segment.Segment.{Segment}
 use Rattle.hls_live_laws.specs.Lengths.{length_in, left_in, marks_in}
 use Rattle.hls_live.specs.declared.sums.Sums.{Sums}
+use Rattle.hls_check_laws.specs.Steps.{cost_limit}
 
 -- lengths with one more segment in each rendition
 pub record IsLonger (before : List ℕ) (segment : Segment) (lengths : List ℕ) : Type 0 where
@@ -13,7 +14,7 @@ pub record IsLonger (before : List ℕ) (segment : Segment) (lengths : List ℕ)
 pub record IsSumsTo (first breaks renditions : ℕ) (segments : List Segment) (k : ℕ) (sums : Sums) : Type 0 where
   pub lengths : length sums.lengths.items ≡ renditions
   pub marks : sums.marks ≡ breaks + marks_in (suc k) segments
-  pub small : (r : ℕ) → slice_index sums.lengths.items r ≤ (first + suc k) * 3600499999
+  pub small : (r : ℕ) → slice_index sums.lengths.items r ≤ (first + suc k) * cost_limit
 
 -- one for each kept segment; what is left behind a segment is the difference to the last one
 pub record AreSums (first breaks renditions : ℕ) (segments : List Segment) (sums : List Sums) : Type 0 where

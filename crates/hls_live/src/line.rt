@@ -1,7 +1,7 @@
 //! The live line as a value: each call that changes it gives a new one, and every old one stays as it was.
 ghost use Rattle.std.specs.Prelude.{◌≡◌, ◌↔◌, ℕ, ◌+◌, ◌-◌, ◌^◌, ◌<◌, ◌≤◌, true, if◌then◌else◌, length, slice_index, slice_get, IfOk, IsTrue, Some, None};
 ghost use Rattle.std.specs.Option.{option_copied};
-ghost use Rattle.hls_blocks.specs.Numbered.{next_of};
+ghost use Rattle.hls_blocks.specs.Numbered.{next_of, list_limit};
 ghost use Rattle.hls_places_laws.specs.declared.place.Place.{Place};
 ghost use Rattle.hls_live_laws.specs.Steps.{is_allowed};
 ghost use Rattle.hls_live_laws.specs.Cuts.{resumed, segment_to};
@@ -12,6 +12,8 @@ ghost use Rattle.hls_live_laws.specs.Answers.{IsAnswer};
 ghost use Rattle.hls_live_laws.specs.Upkeep.{LineLeaves, IsMostSlide};
 ghost use Rattle.hls_live.specs.Sums.{last_of, lengths_of, marks_of, IsNext};
 ghost use Rattle.hls_live.specs.Tries.{told_once, with_told};
+ghost use Rattle.hls_check_laws.specs.Tables.{target_limit};
+ghost use Rattle.hls_check_laws.specs.Steps.{cost_limit};
 
 use crate::reach::{Reach, is_at_gap, is_too_far, reached};
 use crate::sums::{Sums, longer};
@@ -50,7 +52,7 @@ impl Model for LiveLine {
 impl LiveLine {
     /// A line that no place was told to. `target` is seconds, at most 3600; `preferred` is microseconds. Takes no memory.
     pub fn fresh(alloc: Global, target: u64, preferred: u64) -> LiveLine
-        requires { target ≤ 3600 }
+        requires { target ≤ target_limit }
         ensures { result ≡ fresh (record { target = target; preferred = preferred }) }
     {
         LiveLine {
@@ -124,7 +126,7 @@ impl LiveLine {
     /// The line after one more place. Errors in order: Ended where the closing place has come already; Memory.
     pub fn advanced(&self, alloc: Global, place: &Place) -> Result<LiveLine, LineFault>
         requires some { 0 < length place.now.spots }
-        requires room { self.now.removed + length self.now.told.line.segments < 16777215 }
+        requires room { self.now.removed + length self.now.told.line.segments + 1 < list_limit }
         ensures { IsAnswer (goes_on self.now place.now) result }
     {
         if self.ended() {
@@ -136,7 +138,7 @@ impl LiveLine {
     /// The line after one more place, whether the closing place has come or not.
     pub fn told(&self, alloc: Global, place: &Place) -> Result<LiveLine, AllocError>
         requires some { 0 < length place.now.spots }
-        requires room { self.now.removed + length self.now.told.line.segments < 16777215 }
+        requires room { self.now.removed + length self.now.told.line.segments + 1 < list_limit }
         ensures { IfOk result (λ line. line ≡ moved self.now place.now) }
     {
         let Some(start) = &self.open_at else {
@@ -194,7 +196,7 @@ impl LiveLine {
     /// How many segments are kept.
     fn count(&self) -> u64
         ensures value { result ≡ length self.now.told.line.segments }
-        ensures bound { result ≤ 16777216 }
+        ensures bound { result ≤ list_limit }
     {
         self.segments.next() - self.segments.first()
     }
@@ -269,7 +271,7 @@ impl LiveLine {
     /// The line after one more place, which begins it anew where it is out of reach.
     fn tried(&self, alloc: Global, place: &Place) -> Result<LiveLine, AllocError>
         requires some { 0 < length place.now.spots }
-        requires room { self.now.removed + length self.now.told.line.segments < 16777216 }
+        requires room { self.now.removed + length self.now.told.line.segments < list_limit }
         ensures { IfOk result (λ line. line ≡ with_told self.now (told_once self.now place.now)) }
     {
         let Some(start) = &self.open_at else {
@@ -319,7 +321,7 @@ impl LiveLine {
 
     /// The line with a segment from its open place to another, where the next one begins.
     fn closed(&self, alloc: Global, opening: &Opening, to: &Place) -> Result<LiveLine, AllocError>
-        requires room { self.now.removed + length self.now.told.line.segments < 16777216 }
+        requires room { self.now.removed + length self.now.told.line.segments < list_limit }
         requires opening { self.now.told.line.open_at ≡ Some opening.now }
         requires reached { is_allowed self.now.aim opening.now.place to.now ≡ true }
         ensures { IfOk result (λ line. line
@@ -361,9 +363,9 @@ fn sums_with(
     breaks: u64,
     segment: &Segment,
 ) -> Result<Sums, AllocError>
-    requires few { marks_of breaks (last_of sums.now.items) ≤ 16777216 }
+    requires few { marks_of breaks (last_of sums.now.items) ≤ list_limit }
     requires past { (r : ℕ) → slice_index (lengths_of (last_of sums.now.items)) r ≤ 2 ^ 60 }
-    requires short { (r : ℕ) → length_in r segment.now ≤ 3600499999 }
+    requires short { (r : ℕ) → length_in r segment.now ≤ cost_limit }
     ensures { IfOk result (IsNext breaks sums.now.items segment.now) }
 {
     if sums.first() == sums.next() {
@@ -383,7 +385,7 @@ fn sums_with(
 
 /// One mark more, if there is one.
 fn counted(marks: u64, mark: bool) -> u64
-    requires { marks ≤ 16777216 }
+    requires { marks ≤ list_limit }
     ensures { result ≡ marks + (if mark then 1 else 0) }
 {
     if mark { marks + 1 } else { marks }
