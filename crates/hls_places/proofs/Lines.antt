@@ -1,24 +1,23 @@
 -- A recording's units are in order.
-use Rattle.std.proofs.Common.{◌≡◌, ℕ, ◌+◌, ◌<◌, ◌≤◌, List, length, map, get_or, Bool, Some, arith, refl, ◌∙◌}
-use Rattle.std.specs.Prelude.{slice_get}
-use Rattle.std.proofs.lemmas.Option.{slice_get-get_or}
+use Rattle.std.proofs.Common.{◌≡◌, ℕ, ◌≤◌, List, length, map, get_or, Bool, arith, refl, ◌∙◌}
 use Rattle.hls_media_laws.specs.declared.facts.Facts.{Facts}
 use Rattle.hls_record.specs.Recorded.{Recorded}
 use Rattle.hls_record.specs.Valid.{IsRecorded}
 use Rattle.hls_record.proofs.Stays.{units_are_in_time}
-use Rattle.hls_places_laws.specs.Sources.{Source, fact_at, no_facts, IsTimeline, sources_of}
+use Rattle.hls_places_laws.specs.Sources.{Source, IsTimeline, sources_of}
 use Rattle.hls_places_laws.specs.Places.{places_of}
 use Rattle.hls_places_laws.specs.Order.{ArePlaces}
 use Rattle.hls_places_laws.proofs.Sides.{length-sides, side-of}
 use Rattle.hls_places_laws.proofs.Ordered.{places-ordered, ordered-places}
 use Rattle.hls_places.specs.Searches.{AreInOrder}
+use Rattle.hls_check_laws.specs.Tables.{rendition_limit}
 
 pub timeline-of : (r : Recorded) → IsRecorded r → IsTimeline r.facts
 timeline-of = units_are_in_time
 
 -- so the common places of renditions side by side are in order
 pub places-in_order : {X : Type 0} (f : X → List Facts) (xs : List X) (tolerances : List ℕ) (finished : List Bool) →
-    1 ≤ length xs → length xs ≤ 16 → length tolerances ≡ length xs → length finished ≡ length xs → get_or tolerances 0 0 ≡ 0 →
+    1 ≤ length xs → length xs ≤ rendition_limit → length tolerances ≡ length xs → length finished ≡ length xs → get_or tolerances 0 0 ≡ 0 →
     AreInOrder (sources_of (map f xs) tolerances finished) → ArePlaces (places_of (sources_of (map f xs) tolerances finished))
 places-in_order f xs tolerances finished some few same also exact order =
     let sources : List Source = sources_of (map f xs) tolerances finished in

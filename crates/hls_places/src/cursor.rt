@@ -5,6 +5,7 @@ ghost use Rattle.hls_places_laws.specs.Sources.{sources_of};
 ghost use Rattle.hls_places_laws.specs.Positions.{first_position, IsCursor};
 ghost use Rattle.hls_places.specs.Advances.{IsAdvance};
 ghost use Rattle.hls_places.specs.Decisions.{IsWalk};
+ghost use Rattle.hls_check_laws.specs.Tables.{rendition_limit};
 
 use crate::closing::closing;
 use crate::decide::decide;
@@ -60,7 +61,7 @@ impl Cursor {
         finished: &[bool],
     ) -> Result<Advance, AllocError>
         requires some { 1 ≤ length recordings.now }
-        requires few { length recordings.now ≤ 16 }
+        requires few { length recordings.now ≤ rendition_limit }
         requires tolerances { length tolerances.now ≡ length recordings.now }
         requires finished { length finished.now ≡ length recordings.now }
         requires cursor { IsCursor self.now (sources_of (map (λ r. r.now.facts) recordings.now) tolerances.now finished.now) }

@@ -4,6 +4,7 @@ ghost use Rattle.std.specs.Prelude.{◌≡◌, ◌≤◌, length, map, slice_ind
 ghost use Rattle.hls_places_laws.specs.Sources.{sources_of};
 ghost use Rattle.hls_places_laws.specs.Places.{places_of};
 ghost use Rattle.hls_places_laws.specs.Order.{ArePlaces};
+ghost use Rattle.hls_check_laws.specs.Tables.{rendition_limit};
 
 use crate::cursor::Cursor;
 use crate::renditions::Renditions;
@@ -21,7 +22,7 @@ pub fn common(
     finished: &[bool],
 ) -> Result<Vec<Place>, AllocError>
     requires some { 1 ≤ length recordings.now }
-    requires few { length recordings.now ≤ 16 }
+    requires few { length recordings.now ≤ rendition_limit }
     requires tolerances { length tolerances.now ≡ length recordings.now }
     requires finished { length finished.now ≡ length recordings.now }
     requires exact { slice_index tolerances.now 0 ≡ 0 }

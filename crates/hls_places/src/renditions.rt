@@ -3,6 +3,7 @@
 ghost use Rattle.std.specs.Prelude.{◌≡◌, ◌<◌, ◌≤◌, map, length};
 ghost use Rattle.hls_places_laws.specs.Sources.{source_at, sources_of};
 ghost use Rattle.hls_places.specs.Searches.{AreInOrder};
+ghost use Rattle.hls_check_laws.specs.Tables.{rendition_limit};
 
 use hls_record::Recording;
 use std::marker::Model;
@@ -17,6 +18,7 @@ pub(crate) struct Renditions<'a> {
 
 impl<'a> Model for Renditions<'a> {
     ghost use Rattle.std.specs.Prelude.{◌≡◌, ◌≤◌, List, map, length};
+    ghost use Rattle.hls_check_laws.specs.Tables.{rendition_limit};
     ghost use Rattle.hls_places_laws.specs.Sources.{Source, sources_of};
 
     ghost Value = { List Source };
@@ -24,7 +26,7 @@ impl<'a> Model for Renditions<'a> {
     ghost view = { λ r. sources_of (map (λ x. x.now.facts) r.recordings.now) r.tolerances.now r.finished.now };
 
     ghost invariant = { λ r. (length r.tolerances.now ≡ length r.recordings.now) × (length r.finished.now ≡ length r.recordings.now)
-        × (length r.recordings.now ≤ 16) };
+        × (length r.recordings.now ≤ rendition_limit) };
 }
 
 impl<'a> Renditions<'a> {
@@ -35,7 +37,7 @@ impl<'a> Renditions<'a> {
     ) -> Renditions<'a>
         requires tolerances { length tolerances.now ≡ length recordings.now }
         requires finished { length finished.now ≡ length recordings.now }
-        requires few { length recordings.now ≤ 16 }
+        requires few { length recordings.now ≤ rendition_limit }
         ensures { result ≡ sources_of (map (λ r. r.now.facts) recordings.now) tolerances.now finished.now }
     {
         Renditions {

@@ -14,7 +14,7 @@ struct Plain<'a> {
     finished: bool,
 }
 
-fn end_of(unit: &Unit) -> u64 {
+fn unit_end(unit: &Unit) -> u64 {
     unit.start.saturating_add(u64::from(unit.ticks))
 }
 
@@ -26,7 +26,7 @@ fn gaps(units: &[Unit], count: usize) -> u64 {
         .zip(units.iter().skip(1))
         .take(count.saturating_sub(1))
     {
-        if end_of(before) != here.start {
+        if unit_end(before) != here.start {
             gaps = gaps.saturating_add(1);
         }
     }
@@ -38,7 +38,7 @@ fn plain_spot(units: &[Unit], fragment: usize) -> Option<Spot> {
     let before = units.iter().take(fragment).last();
     Some(Spot {
         fragment: fragment as u64,
-        prev_end: before.map_or(start, end_of),
+        prev_end: before.map_or(start, unit_end),
         start,
         run_in: gaps(units, fragment),
         run_out: gaps(units, fragment.saturating_add(1)),
@@ -58,7 +58,7 @@ fn plain_near(rendition: &Plain, time: u64) -> Option<Spot> {
 }
 
 fn plain_end(rendition: &Plain) -> Option<Spot> {
-    let end = end_of(rendition.units.last()?);
+    let end = unit_end(rendition.units.last()?);
     let runs = gaps(rendition.units, rendition.units.len());
     if !rendition.finished {
         return None;
