@@ -23,3 +23,15 @@ pub record PassesPlace (renditions : ℕ) (text after : List ℕ) : Type 0 where
   pub place : List Spot
   pub good : IsPlaceOf renditions place
   pub is : text ≡ place_line place ++ (10 ∷ after)
+
+-- the place whose line a text begins with, and what follows the line's end
+abbrev pub HasPlace : ℕ → List ℕ → List Spot → List ℕ → Type 0
+HasPlace renditions text place after = IsPlaceOf renditions place × (text ≡ place_line place ++ (10 ∷ after))
+
+abbrev pub HasNoPlace : ℕ → List ℕ → Type 0
+HasNoPlace renditions text =
+    (place : List Spot) (after : List ℕ) → IsPlaceOf renditions place → text ≡ place_line place ++ (10 ∷ after) → ⊥
+
+-- no place's line passes it
+abbrev pub PassesNone : ℕ → List ℕ → Type 0
+PassesNone renditions text = (after : List ℕ) → PassesPlace renditions text after → ⊥

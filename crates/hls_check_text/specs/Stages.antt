@@ -4,8 +4,8 @@ use Rattle.std.specs.Prelude.{◌≡◌, ℕ, ◌+◌, ◌^◌, ◌<◌, ◌≤�
 use Rattle.hls_check_laws.specs.declared.spot.Spot.{Spot}
 use Rattle.hls_check_laws.specs.declared.cert_fault.CertFault.{CertFault}
 use Rattle.hls_check_laws.specs.declared.cert_fault.CertFault.TheVariants.{Form, TableNotSorted, PlanEnds, PlanStep, PlanCost, PriceStart, PriceStep, EndReached, Memory}
-use Rattle.hls_check_laws.specs.Tables.{Table, IsTable, IsPlaceOf, table_of}
-use Rattle.hls_check_laws.specs.Certificates.{Printed, Shown, IsCertificate, IsPriceInRange}
+use Rattle.hls_check_laws.specs.Tables.{Table, IsTable, IsPlaceOf, table_of, target_limit, preferred_limit, rendition_limit, place_limit}
+use Rattle.hls_check_laws.specs.Certificates.{Printed, Shown, CutShown, NoneShown, IsCertificate, IsPriceInRange}
 use Rattle.hls_text.specs.Lines.{cut_text}
 use Rattle.hls_check_text.specs.declared.head.Head.{Head}
 use Rattle.hls_check_text.specs.declared.wrong_line.WrongLine.{WrongLine}
@@ -49,16 +49,16 @@ front (AtClosed table closed) = table_lines table ++ (none_line ∷ map closed_l
 front (AtEnd certificate) = lines certificate
 
 abbrev pub IsTarget : ℕ → Type 0
-IsTarget n = (1 ≤ n) × (n ≤ 3600)
+IsTarget n = (1 ≤ n) × (n ≤ target_limit)
 
 abbrev pub IsPreferred : ℕ → Type 0
-IsPreferred n = (1 ≤ n) × (n ≤ 3600000000)
+IsPreferred n = (1 ≤ n) × (n ≤ preferred_limit)
 
 abbrev pub IsRenditions : ℕ → Type 0
-IsRenditions n = (1 ≤ n) × (n ≤ 16)
+IsRenditions n = (1 ≤ n) × (n ≤ rendition_limit)
 
 abbrev pub IsCount : ℕ → Type 0
-IsCount n = (2 ≤ n) × (n ≤ 16384)
+IsCount n = (2 ≤ n) × (n ≤ place_limit)
 
 pub record IsHead (h : Head) : Type 0 where
   pub target : IsTarget h.target
@@ -195,3 +195,44 @@ pub record PassesPlaces (head : Head) (bytes rest : List ℕ) : Type 0 where
   pub places : List (List Spot)
   pub count : length places ≡ head.count
   pub at : IsAt (AtClaim (table_of head.target head.preferred head.renditions places)) bytes rest (5 + head.count)
+
+-- a table's places were read, and its claim comes next
+abbrev pub HasPlaces : Head → List ℕ → List (List Spot) → List ℕ → Type 0
+HasPlaces head bytes places rest = IsAt (AtClaim (table_of head.target head.preferred head.renditions places)) bytes rest (5 + head.count)
+
+-- the whole of a cut, or of a closed set, was read
+abbrev pub EndsCut : List ℕ → Table → ℕ → List ℕ → List (Option ℕ) → List ℕ → ℕ → Type 0
+EndsCut bytes t total plan prices rest passed = IsAt (AtEnd (printed t (CutShown total plan prices))) bytes rest passed
+
+abbrev pub EndsNone : List ℕ → Table → List Bool → List ℕ → ℕ → Type 0
+EndsNone bytes t closed rest passed = IsAt (AtEnd (printed t (NoneShown closed))) bytes rest passed
+
+-- building a text, or scanning it, comes to this
+abbrev pub StopsBuilding : List ℕ → CertFault → Type 0
+StopsBuilding bytes fault = Builds bytes (Err fault)
+
+abbrev pub StopsScanning : List ℕ → WrongLine → Type 0
+StopsScanning bytes wrong = IsFirstWrong bytes wrong.line
+
+-- what holds of every text of which this is left behind its head
+abbrev pub OfPlaces : Head → List ℕ → (List ℕ → Type 0) → Type 0
+OfPlaces head rest Then = (bytes : List ℕ) → IsAt (AtPlace head []) bytes rest 5 → Then bytes
+
+-- of which this is left at the claim, at the plan, behind the plan, or behind the line that says none, over a table of so
+-- many places
+abbrev pub OfClaims : ℕ → List ℕ → ℕ → (List ℕ → Type 0) → Type 0
+OfClaims count rest passed Then = (bytes : List ℕ) (t : Table) → length t.places ≡ count → IsAt (AtClaim t) bytes rest passed → Then bytes
+
+abbrev pub OfPlans : ℕ → List ℕ → ℕ → (List ℕ → Type 0) → Type 0
+OfPlans count rest passed Then =
+    (bytes : List ℕ) (t : Table) (total : ℕ) → length t.places ≡ count → IsAt (AtPlan t total) bytes rest passed → Then bytes
+
+abbrev pub OfPrices : ℕ → List ℕ → ℕ → (List ℕ → (List (Option ℕ) → List ℕ → ℕ → Type 0) → Type 0) → Type 0
+OfPrices count rest passed Then =
+    (bytes plan : List ℕ) (t : Table) (total : ℕ) → length t.places ≡ count → IsAt (AtPrice t total plan []) bytes rest passed →
+    Then bytes (EndsCut bytes t total plan)
+
+abbrev pub OfClosed : ℕ → List ℕ → ℕ → (List ℕ → (List Bool → List ℕ → ℕ → Type 0) → Type 0) → Type 0
+OfClosed count rest passed Then =
+    (bytes : List ℕ) (t : Table) → length t.places ≡ count → IsAt (AtClosed t []) bytes rest passed →
+    Then bytes (EndsNone bytes t)

@@ -5,6 +5,7 @@ ghost use Rattle.hls_check_text.specs.Stages.{IsAt, AtPlace};
 
 use crate::next::{next_number, next_word};
 use crate::wrong_line::WrongLine;
+use hls_check_laws::{PLACE_LIMIT, PREFERRED_LIMIT, RENDITION_LIMIT, TARGET_LIMIT};
 
 /// The numbers of the lines above the places: the target in seconds, the preferred length in microseconds, and how
 /// many renditions and places the table has.
@@ -22,16 +23,22 @@ pub fn read_head(bytes: &[u8]) -> Result<(Head, &[u8]), WrongLine>
     ensures shorter { IfOk result (λ f. 5 + length f.1.now ≤ length bytes.entry.now) }
 {
     let after_header = next_word(bytes, 0, b"HLS-CUT-CERTIFICATE 1")?;
-    let (target, after_target) = next_number(after_header, 1, b"target ", 1, 3600)?;
+    let (target, after_target) = next_number(after_header, 1, b"target ", 1, TARGET_LIMIT)?;
     let (preferred, after_preferred) = next_number(
         after_target,
         2,
         b"preferred ",
         1,
-        3_600_000_000,
+        PREFERRED_LIMIT,
     )?;
-    let (renditions, after_renditions) = next_number(after_preferred, 3, b"renditions ", 1, 16)?;
-    let (count, rest) = next_number(after_renditions, 4, b"places ", 2, 16384)?;
+    let (renditions, after_renditions) = next_number(
+        after_preferred,
+        3,
+        b"renditions ",
+        1,
+        RENDITION_LIMIT as u64,
+    )?;
+    let (count, rest) = next_number(after_renditions, 4, b"places ", 2, PLACE_LIMIT as u64)?;
     let head = Head {
         target,
         preferred,

@@ -1,7 +1,7 @@
 //! One line of each kind, by itself.
-ghost use Rattle.std.specs.Prelude.{◌≡◌, ◌++◌, ◌^◌, ◌<◌, ◌≤◌, ℕ, [], ◌∷◌, length, All, MatchOption, IfOk, IsTrue, ◌↔◌, codes};
-ghost use Rattle.hls_text.specs.Numbers.{words};
-ghost use Rattle.hls_check_text.specs.Text.{plan_line, closed_line};
+ghost use Rattle.std.specs.Prelude.{◌≡◌, ◌≤◌, MatchOption, IfOk, IsTrue, ◌↔◌};
+ghost use Rattle.hls_check_laws.specs.Tables.{place_limit};
+ghost use Rattle.hls_check_text.specs.LineTexts.{HasNumber, HasNoNumber, HasNumbers, HasNoNumbers, AreBelow, HasPlan, HasPrice, HasClosed};
 ghost use Rattle.hls_check_text.specs.Stages.{IsPlanLine, IsPriceLine, IsClosedLine};
 
 use hls_text::{are_numbers_below, numbers_of, take_number, take_prefix};
@@ -16,7 +16,7 @@ pub fn is_word(line: &[u8], word: &[u8]) -> bool
 
 /// The number of a line that is a word and one number; None where the line isn't that.
 pub fn number_in(line: &[u8], word: &[u8]) -> Option<u64>
-    ensures { MatchOption result ((n : ℕ) → n < 2 ^ 53 → line.now ≡ word.now ++ words (n ∷ []) → ⊥) (λ n. (n < 2 ^ 53) × (line.now ≡ word.now ++ words (n ∷ []))) }
+    ensures { MatchOption result (HasNoNumber word.now line.now) (HasNumber word.now line.now) }
 {
     let Some(digits) = take_prefix(line, word) else {
         return None;
@@ -33,7 +33,7 @@ fn places_below(
     numbers: &[u64],
     count: usize,
 ) -> Result<Option<Vec<usize>>, AllocError>
-    ensures { IfOk result (λ places. MatchOption places (All (λ p. p < count) numbers.now → ⊥) (λ v. All (λ p. p < count) numbers.now × (v.items ≡ numbers.now))) }
+    ensures { IfOk result (λ places. MatchOption places (AreBelow count numbers.now → ⊥) (λ v. AreBelow count numbers.now × (v.items ≡ numbers.now))) }
 {
     let mut places = Vec::new(alloc);
     for number in numbers {
@@ -47,8 +47,8 @@ fn places_below(
 
 /// The plan's line; None where the line isn't one over that many places.
 pub fn plan_in(alloc: Global, line: &[u8], count: usize) -> Result<Option<Vec<usize>>, AllocError>
-    requires { count ≤ 16384 }
-    ensures { IfOk result (λ plan. MatchOption plan (IsPlanLine count line.now → ⊥) (λ v. (0 < length v.items) × All (λ p. p < count) v.items × (line.now ≡ plan_line v.items))) }
+    requires { count ≤ place_limit }
+    ensures { IfOk result (λ plan. MatchOption plan (IsPlanLine count line.now → ⊥) (λ v. HasPlan count line.now v.items)) }
 {
     let Some(rest) = take_prefix(line, b"plan ") else {
         return Ok(None);
@@ -65,7 +65,7 @@ pub fn plan_in(alloc: Global, line: &[u8], count: usize) -> Result<Option<Vec<us
 
 /// Whether a line is that of a plan over so many places. It takes no memory.
 pub fn is_plan(line: &[u8], count: usize) -> bool
-    requires { count ≤ 16384 }
+    requires { count ≤ place_limit }
     ensures { IsTrue result ↔ IsPlanLine count line.now }
 {
     match take_prefix(line, b"plan ") {
@@ -76,7 +76,7 @@ pub fn is_plan(line: &[u8], count: usize) -> bool
 
 // The two numbers of a line that is a word and these.
 fn two_numbers_in(line: &[u8], word: &[u8]) -> Option<(u64, u64)>
-    ensures { MatchOption result ((m n : ℕ) → m < 2 ^ 53 → n < 2 ^ 53 → line.now ≡ word.now ++ words (m ∷ n ∷ []) → ⊥) (λ f. (f.0 < 2 ^ 53) × (f.1 < 2 ^ 53) × (line.now ≡ word.now ++ words (f.0 ∷ f.1 ∷ []))) }
+    ensures { MatchOption result (HasNoNumbers word.now line.now) (HasNumbers word.now line.now) }
 {
     let Some(numbers) = take_prefix(line, word) else {
         return None;
@@ -95,8 +95,8 @@ fn two_numbers_in(line: &[u8], word: &[u8]) -> Option<(u64, u64)>
 
 /// The line of a place's price, of a place from `low` on and below the count; None where the line isn't one.
 pub fn price_in(line: &[u8], low: usize, count: usize) -> Option<(usize, u64)>
-    requires { count ≤ 16384 }
-    ensures { MatchOption result (IsPriceLine low count line.now → ⊥) (λ f. (low ≤ f.0) × (f.0 < count) × (f.1 < 2 ^ 53) × (line.now ≡ codes "price " ++ words (f.0 ∷ f.1 ∷ []))) }
+    requires { count ≤ place_limit }
+    ensures { MatchOption result (IsPriceLine low count line.now → ⊥) (HasPrice low count line.now) }
 {
     match two_numbers_in(line, b"price ") {
         Some((place, price)) => {
@@ -114,8 +114,8 @@ pub fn price_in(line: &[u8], low: usize, count: usize) -> Option<(usize, u64)>
 
 /// The line of a place of the closed set, from `low` on and below the count; None where the line isn't one.
 pub fn closed_in(line: &[u8], low: usize, count: usize) -> Option<usize>
-    requires { count ≤ 16384 }
-    ensures { MatchOption result (IsClosedLine low count line.now → ⊥) (λ p. (low ≤ p) × (p < count) × (line.now ≡ closed_line p)) }
+    requires { count ≤ place_limit }
+    ensures { MatchOption result (IsClosedLine low count line.now → ⊥) (HasClosed low count line.now) }
 {
     match number_in(line, b"closed ") {
         Some(place) => {

@@ -1,10 +1,9 @@
 //! The next line of a text of which `passed` lines were read, and what follows it.
-ghost use Rattle.std.specs.Prelude.{◌≡◌, ◌+◌, ◌^◌, ◌<◌, ◌≤◌, length, MatchResult, IfOk, All};
+ghost use Rattle.std.specs.Prelude.{◌+◌, ◌^◌, ◌<◌, ◌≤◌, length, MatchResult, IfOk};
 ghost use Rattle.hls_text.specs.Lines.{IsFirstLine};
-ghost use Rattle.hls_text.specs.Numbers.{number_line};
-ghost use Rattle.hls_check_laws.specs.Tables.{IsPlaceOf};
-ghost use Rattle.hls_check_text.specs.Text.{place_line, plan_line};
-ghost use Rattle.hls_check_text.specs.Stages.{Refuses, RefusesOrLacks, IsNumberLine, IsPlaceLine, IsPlanLine};
+ghost use Rattle.hls_check_laws.specs.Tables.{place_limit};
+ghost use Rattle.hls_check_text.specs.Stages.{RefusesOrLacks, IsRenditions, IsPlaceLine, IsPlanLine};
+ghost use Rattle.hls_check_text.specs.Nexts.{IsWord, IsWrongNext, IsWrongNumber, NumberNext, PlaceNext, PlanNext};
 
 use crate::line::{number_in, plan_in};
 use crate::place::take_place;
@@ -16,7 +15,7 @@ use std::alloc::Global;
 /// A line that is just this word.
 pub fn next_word<'a>(rest: &'a [u8], passed: usize, word: &[u8]) -> Result<&'a [u8], WrongLine>
     requires { passed + length rest.now + 1 < 2 ^ 64 }
-    ensures line { MatchResult result (λ after. IsFirstLine rest.entry.now word.now after.now) (λ wrong. Refuses (λ line. line ≡ word.now) rest.entry.now passed wrong.line) }
+    ensures line { MatchResult result (λ after. IsFirstLine rest.entry.now word.now after.now) (IsWrongNext (IsWord word.now) rest.entry.now passed) }
     ensures shorter { IfOk result (λ after. length after.now < length rest.entry.now) }
 {
     let Some((line, after)) = take_line(rest) else {
@@ -39,7 +38,7 @@ pub fn next_number<'a>(
 ) -> Result<(u64, &'a [u8]), WrongLine>
     requires room { passed + length rest.now + 1 < 2 ^ 64 }
     requires range { high < 2 ^ 53 }
-    ensures line { MatchResult result (λ f. (low ≤ f.0) × (f.0 ≤ high) × IsFirstLine rest.entry.now (number_line word.now f.0) f.1.now) (λ wrong. Refuses (IsNumberLine (number_line word.now) (λ n. (low ≤ n) × (n ≤ high))) rest.entry.now passed wrong.line) }
+    ensures line { MatchResult result (λ f. NumberNext word.now low high rest.entry.now f.0 f.1.now) (IsWrongNumber word.now low high rest.entry.now passed) }
     ensures shorter { IfOk result (λ f. length f.1.now < length rest.entry.now) }
 {
     let Some((line, after)) = take_line(rest) else {
@@ -65,8 +64,8 @@ pub fn next_place(
     renditions: usize,
 ) -> Result<(Spots, &[u8]), CertFault>
     requires room { passed + length rest.now + 1 < 2 ^ 64 }
-    requires renditions { (1 ≤ renditions) × (renditions ≤ 16) }
-    ensures line { MatchResult result (λ f. IsPlaceOf renditions f.0 × IsFirstLine rest.entry.now (place_line f.0) f.1.now) (λ fault. RefusesOrLacks (IsPlaceLine renditions) rest.entry.now passed fault) }
+    requires renditions { IsRenditions renditions }
+    ensures line { MatchResult result (λ f. PlaceNext renditions rest.entry.now f.0 f.1.now) (RefusesOrLacks (IsPlaceLine renditions) rest.entry.now passed) }
     ensures shorter { IfOk result (λ f. length f.1.now < length rest.entry.now) }
 {
     match take_place(alloc, rest, renditions)? {
@@ -83,8 +82,8 @@ pub fn next_plan(
     count: usize,
 ) -> Result<(Vec<usize>, &[u8]), CertFault>
     requires room { passed + length rest.now + 1 < 2 ^ 64 }
-    requires count { count ≤ 16384 }
-    ensures line { MatchResult result (λ f. (0 < length f.0.items) × All (λ p. p < count) f.0.items × IsFirstLine rest.entry.now (plan_line f.0.items) f.1.now) (λ fault. RefusesOrLacks (IsPlanLine count) rest.entry.now passed fault) }
+    requires count { count ≤ place_limit }
+    ensures line { MatchResult result (λ f. PlanNext count rest.entry.now f.0.items f.1.now) (RefusesOrLacks (IsPlanLine count) rest.entry.now passed) }
     ensures shorter { IfOk result (λ f. length f.1.now < length rest.entry.now) }
 {
     let Some((line, after)) = take_line(rest) else {

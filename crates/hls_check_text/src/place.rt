@@ -1,9 +1,8 @@
 //! A place's line, read number by number up to its end.
-ghost use Rattle.std.specs.Prelude.{◌≡◌, ◌++◌, ◌<◌, ◌≤◌, ℕ, List, ◌∷◌, length, MatchOption, IfOk};
+ghost use Rattle.std.specs.Prelude.{ℕ, List, MatchOption, IfOk};
 ghost use Rattle.hls_check_laws.specs.declared.spot.Spot.{Spot};
-ghost use Rattle.hls_check_laws.specs.Tables.{IsPlaceOf};
-ghost use Rattle.hls_check_text.specs.Text.{place_line};
-ghost use Rattle.hls_check_text.specs.SpotTexts.{IsFirstSpot, IsNextSpot, PassesPlace};
+ghost use Rattle.hls_check_text.specs.Stages.{IsRenditions};
+ghost use Rattle.hls_check_text.specs.SpotTexts.{IsFirstSpot, IsNextSpot, HasPlace, HasNoPlace, PassesPlace, PassesNone};
 
 use hls_check_laws::{Spot, Spots};
 use hls_text::{take_byte, take_number, take_spaced};
@@ -60,8 +59,8 @@ pub fn take_place(
     text: &[u8],
     renditions: usize,
 ) -> Result<Option<(Spots, &[u8])>, AllocError>
-    requires { (1 ≤ renditions) × (renditions ≤ 16) }
-    ensures { IfOk result (λ found. MatchOption found ((place : List Spot) (after : List ℕ) → IsPlaceOf renditions place → text.entry.now ≡ place_line place ++ (10 ∷ after) → ⊥) (λ f. IsPlaceOf renditions f.0 × (text.entry.now ≡ place_line f.0 ++ (10 ∷ f.1.now)))) }
+    requires { IsRenditions renditions }
+    ensures { IfOk result (λ found. MatchOption found (HasNoPlace renditions text.entry.now) (λ f. HasPlace renditions text.entry.now f.0 f.1.now)) }
 {
     let Some((first, behind)) = take_spot(text) else {
         return Ok(None);
@@ -85,8 +84,8 @@ pub fn take_place(
 /// What follows the line's end of the place that a text begins with, of five numbers a rendition; None where the text
 /// doesn't begin with such a line. It takes no memory.
 pub fn skip_place(text: &[u8], renditions: usize) -> Option<&[u8]>
-    requires { (1 ≤ renditions) × (renditions ≤ 16) }
-    ensures { MatchOption result ((after : List ℕ) → PassesPlace renditions text.now after → ⊥) (λ after. PassesPlace renditions text.now after.now) }
+    requires { IsRenditions renditions }
+    ensures { MatchOption result (PassesNone renditions text.now) (λ after. PassesPlace renditions text.now after.now) }
 {
     let Some((_first, behind)) = take_spot(text) else {
         return None;

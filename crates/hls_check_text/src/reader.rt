@@ -1,11 +1,11 @@
 //! A certificate's text, line by line. Each part speaks of the whole text, of which it is passed what is left.
 ghost use Rattle.std.specs.Prelude.{◌≡◌, ◌++◌, ◌+◌, ◌*◌, ◌^◌, ◌<◌, ◌≤◌, ℕ, List, [], ◌∷◌, length, MatchResult, IfOk, All, Err};
-ghost use Rattle.hls_check_laws.specs.declared.spot.Spot.{Spot};
-ghost use Rattle.hls_check_laws.specs.Tables.{Table, IsTable, table_of};
-ghost use Rattle.hls_check_laws.specs.Certificates.{Printed, IsCertificate, CutShown, NoneShown, IsPriceInRange};
+ghost use Rattle.hls_check_laws.specs.Tables.{place_limit};
+ghost use Rattle.hls_check_laws.specs.Certificates.{Printed, IsCertificate, IsPriceInRange};
 ghost use Rattle.hls_check_text.specs.Text.{text};
 ghost use Rattle.hls_check_text.specs.Wrong.{IsReading, Gives};
-ghost use Rattle.hls_check_text.specs.Stages.{Builds, IsAt, AtPlace, AtClaim, AtPlan, AtPrice, AtClosed, AtEnd, IsHead, printed};
+ghost use Rattle.hls_check_text.specs.Stages.{Builds, StopsBuilding, IsAt, AtClaim, AtPlan, AtClosed, IsHead};
+ghost use Rattle.hls_check_text.specs.Stages.{OfPlaces, OfPrices, OfClosed, HasPlaces};
 
 use crate::head::{Head, read_head};
 use crate::line::{closed_in, is_word, number_in, price_in};
@@ -23,16 +23,13 @@ fn read_places<'a>(
 ) -> Result<(Vec<Spots>, &'a [u8]), CertFault>
     requires room { 5 + length text.now + 1 < 2 ^ 64 }
     requires head { IsHead head }
-    ensures at { (bytes : List ℕ) → IsAt (AtPlace head []) bytes text.entry.now 5 → MatchResult result (λ f. IsAt (AtClaim (table_of head.target head.preferred head.renditions f.0.items)) bytes f.1.now (5 + head.count)) (λ fault. Builds bytes (Err fault)) }
+    ensures at { OfPlaces head text.entry.now (λ bytes. MatchResult result (λ f. HasPlaces head bytes f.0.items f.1.now) (StopsBuilding bytes)) }
     ensures shorter { IfOk result (λ f. head.count + length f.1.now ≤ length text.entry.now) }
 {
     let mut places = Vec::new(alloc);
     let mut rest = text;
     for p in 0..head.count {
-        let (place, after) = match next_place(alloc, rest, 5 + p, head.renditions) {
-            Ok(found) => found,
-            Err(fault) => return Err(fault),
-        };
+        let (place, after) = next_place(alloc, rest, 5 + p, head.renditions)?;
         places.push(place)?;
         rest = after;
     }
@@ -47,8 +44,8 @@ fn read_prices<'a>(
     first: usize,
 ) -> Result<(Vec<Option<u64>>, &'a [u8], usize), CertFault>
     requires room { first + length text.now + 1 < 2 ^ 64 }
-    requires count { count ≤ 16384 }
-    ensures at { (bytes plan : List ℕ) (t : Table) (total : ℕ) → length t.places ≡ count → IsAt (AtPrice t total plan []) bytes text.entry.now first → MatchResult result (λ f. IsAt (AtEnd (printed t (CutShown total plan f.0.items))) bytes f.1.now f.2) (λ fault. Builds bytes (Err fault)) }
+    requires count { count ≤ place_limit }
+    ensures at { OfPrices count text.entry.now first (λ bytes Ends. MatchResult result (λ f. Ends f.0.items f.1.now f.2) (StopsBuilding bytes)) }
     ensures shorter { IfOk result (λ f. f.2 + length f.1.now ≤ first + length text.entry.now) }
     ensures form { IfOk result (λ f. (length f.0.items ≡ count) × All IsPriceInRange f.0.items) }
 {
@@ -81,8 +78,8 @@ fn read_closed<'a>(
     first: usize,
 ) -> Result<(Vec<bool>, &'a [u8], usize), CertFault>
     requires room { first + length text.now + 1 < 2 ^ 64 }
-    requires count { count ≤ 16384 }
-    ensures at { (bytes : List ℕ) (t : Table) → length t.places ≡ count → IsAt (AtClosed t []) bytes text.entry.now first → MatchResult result (λ f. IsAt (AtEnd (printed t (NoneShown f.0.items))) bytes f.1.now f.2) (λ fault. Builds bytes (Err fault)) }
+    requires count { count ≤ place_limit }
+    ensures at { OfClosed count text.entry.now first (λ bytes Ends. MatchResult result (λ f. Ends f.0.items f.1.now f.2) (StopsBuilding bytes)) }
     ensures shorter { IfOk result (λ f. f.2 + length f.1.now ≤ first + length text.entry.now) }
     ensures form { IfOk result (λ f. length f.0.items ≡ count) }
 {
@@ -119,14 +116,8 @@ fn read_cut(
     requires room { passed + length text.now + 1 < 2 ^ 64 }
     ensures { (bytes : List ℕ) → IsAt (AtPlan table cost) bytes text.now passed → Builds bytes result }
 {
-    let (plan, after_plan) = match next_plan(alloc, text, passed, table.len()) {
-        Ok(found) => found,
-        Err(fault) => return Err(fault),
-    };
-    let (prices, rest, read) = match read_prices(alloc, table.len(), after_plan, passed + 1) {
-        Ok(found) => found,
-        Err(fault) => return Err(fault),
-    };
+    let (plan, after_plan) = next_plan(alloc, text, passed, table.len())?;
+    let (prices, rest, read) = read_prices(alloc, table.len(), after_plan, passed + 1)?;
     if !rest.is_empty() {
         return Err(CertFault::Form { line: read + 1 });
     }
@@ -143,10 +134,7 @@ fn read_none(
     requires { passed + length text.now + 1 < 2 ^ 64 }
     ensures { (bytes : List ℕ) → IsAt (AtClosed table []) bytes text.now passed → Builds bytes result }
 {
-    let (closed, rest, read) = match read_closed(alloc, table.len(), text, passed) {
-        Ok(found) => found,
-        Err(fault) => return Err(fault),
-    };
+    let (closed, rest, read) = read_closed(alloc, table.len(), text, passed)?;
     if !rest.is_empty() {
         return Err(CertFault::Form { line: read + 1 });
     }

@@ -1,10 +1,10 @@
 //! The first wrong line of a text, found without memory. Each part speaks of the whole text, of which it is passed what
 //! is left.
-ghost use Rattle.std.specs.Prelude.{◌≡◌, ◌+◌, ◌^◌, ◌<◌, ◌≤◌, ℕ, List, [], length, MatchOption, MatchResult, IfOk};
+ghost use Rattle.std.specs.Prelude.{◌+◌, ◌^◌, ◌<◌, ◌≤◌, ℕ, List, length, MatchOption, MatchResult, IfOk};
 ghost use Rattle.hls_check_laws.specs.Certificates.{Printed};
-ghost use Rattle.hls_check_laws.specs.Tables.{Table};
+ghost use Rattle.hls_check_laws.specs.Tables.{place_limit};
 ghost use Rattle.hls_check_text.specs.Wrong.{IsFirstWrong, IsGoodText};
-ghost use Rattle.hls_check_text.specs.Stages.{IsAt, AtPlace, AtClaim, AtPlan, AtPrice, AtClosed, AtEnd, IsHead, PassesPlaces, Scans};
+ghost use Rattle.hls_check_text.specs.Stages.{IsAt, AtEnd, IsHead, PassesPlaces, Scans, StopsScanning, OfPlaces, OfClaims, OfPlans, OfPrices, OfClosed};
 
 use crate::head::{Head, read_head};
 use crate::line::{closed_in, is_plan, is_word, number_in, price_in};
@@ -16,7 +16,7 @@ use hls_text::take_line;
 fn scan_places(head: Head, text: &[u8]) -> Result<&[u8], WrongLine>
     requires room { 5 + length text.now + 1 < 2 ^ 64 }
     requires head { IsHead head }
-    ensures at { (bytes : List ℕ) → IsAt (AtPlace head []) bytes text.now 5 → MatchResult result (λ rest. PassesPlaces head bytes rest.now) (λ wrong. IsFirstWrong bytes wrong.line) }
+    ensures at { OfPlaces head text.now (λ bytes. MatchResult result (λ rest. PassesPlaces head bytes rest.now) (StopsScanning bytes)) }
     ensures shorter { IfOk result (λ rest. head.count + length rest.now ≤ length text.now) }
 {
     let mut rest = text;
@@ -44,8 +44,8 @@ fn scan_end(rest: &[u8], passed: usize) -> Result<(), WrongLine>
 // What stands behind the line of the plan: prices, each of a place behind the last, and the end.
 fn scan_prices(count: usize, text: &[u8], first: usize) -> Result<(), WrongLine>
     requires room { first + length text.now + 1 < 2 ^ 64 }
-    requires count { count ≤ 16384 }
-    ensures { (bytes plan : List ℕ) (t : Table) (total : ℕ) → length t.places ≡ count → IsAt (AtPrice t total plan []) bytes text.now first → Scans bytes result }
+    requires count { count ≤ place_limit }
+    ensures { OfPrices count text.now first (λ bytes _. Scans bytes result) }
 {
     let mut rest = text;
     let mut passed = first;
@@ -69,8 +69,8 @@ fn scan_prices(count: usize, text: &[u8], first: usize) -> Result<(), WrongLine>
 // What stands behind the line that says none: the places of the closed set, upwards, and the end.
 fn scan_closed(count: usize, text: &[u8], first: usize) -> Result<(), WrongLine>
     requires room { first + length text.now + 1 < 2 ^ 64 }
-    requires count { count ≤ 16384 }
-    ensures { (bytes : List ℕ) (t : Table) → length t.places ≡ count → IsAt (AtClosed t []) bytes text.now first → Scans bytes result }
+    requires count { count ≤ place_limit }
+    ensures { OfClosed count text.now first (λ bytes _. Scans bytes result) }
 {
     let mut rest = text;
     let mut passed = first;
@@ -94,8 +94,8 @@ fn scan_closed(count: usize, text: &[u8], first: usize) -> Result<(), WrongLine>
 // A cut's plan and prices, and nothing behind them.
 fn scan_cut(count: usize, text: &[u8], passed: usize) -> Result<(), WrongLine>
     requires room { passed + length text.now + 1 < 2 ^ 64 }
-    requires count { count ≤ 16384 }
-    ensures { (bytes : List ℕ) (t : Table) (total : ℕ) → length t.places ≡ count → IsAt (AtPlan t total) bytes text.now passed → Scans bytes result }
+    requires count { count ≤ place_limit }
+    ensures { OfPlans count text.now passed (λ bytes. Scans bytes result) }
 {
     let Some((line, after)) = take_line(text) else {
         return Err(WrongLine { line: passed + 1 });
@@ -110,8 +110,8 @@ fn scan_cut(count: usize, text: &[u8], passed: usize) -> Result<(), WrongLine>
 // The claim of a table of so many places, and nothing behind it.
 fn scan_claim(count: usize, text: &[u8], passed: usize) -> Result<(), WrongLine>
     requires room { passed + length text.now + 1 < 2 ^ 64 }
-    requires count { count ≤ 16384 }
-    ensures { (bytes : List ℕ) (t : Table) → length t.places ≡ count → IsAt (AtClaim t) bytes text.now passed → Scans bytes result }
+    requires count { count ≤ place_limit }
+    ensures { OfClaims count text.now passed (λ bytes. Scans bytes result) }
 {
     let Some((line, after)) = take_line(text) else {
         return Err(WrongLine { line: passed + 1 });

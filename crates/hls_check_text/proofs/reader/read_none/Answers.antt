@@ -8,15 +8,15 @@ use Rattle.hls_check_text.proofs.reader.read_none.Goals as goal
 
 pub returns-then-not-is_empty : goal.returns-then-not-is_empty
 returns-then-not-is_empty c = λ bytes at.
-    let read : IsAt (AtEnd (printed c.args.table (NoneShown c.in-Ok.found.0.items))) bytes c.in-Ok.found.1.now c.in-Ok.found.2 =
-    c.in-Ok.ensures.at bytes c.args.table (sym c.len.ensures.len) at in
-    let some : 0 < length c.in-Ok.found.1.now = grind (arith, nat_tests) in
-    wrong_behind (printed c.args.table (NoneShown c.in-Ok.found.0.items)) bytes c.in-Ok.found.1.now c.in-Ok.found.2 read some
+    let read : IsAt (AtEnd (printed c.args.table (NoneShown c.in_ok-closed.closed.items))) bytes c.in_ok-closed.rest.now c.in_ok-closed.read =
+    c.in_ok-closed.ensures.at bytes c.args.table (sym c.len.ensures.len) at in
+    let some : 0 < length c.in_ok-closed.rest.now = grind (arith, nat_tests) in
+    wrong_behind (printed c.args.table (NoneShown c.in_ok-closed.closed.items)) bytes c.in_ok-closed.rest.now c.in_ok-closed.read read some
 
 pub returns : goal.returns
 returns c = λ bytes at.
-    let read : IsAt (AtEnd (printed c.args.table (NoneShown c.in-Ok.found.0.items))) bytes c.in-Ok.found.1.now c.in-Ok.found.2 =
-    c.in-Ok.ensures.at bytes c.args.table (sym c.len.ensures.len) at in
-    let none : length c.in-Ok.found.1.now ≡ 0 = grind (arith, nat_tests) in
-    read_whole bytes c.in-Ok.found.1.now (printed c.args.table (NoneShown c.in-Ok.found.0.items)) c.new.result c.in-Ok.found.2
+    let read : IsAt (AtEnd (printed c.args.table (NoneShown c.in_ok-closed.closed.items))) bytes c.in_ok-closed.rest.now c.in_ok-closed.read =
+    c.in_ok-closed.ensures.at bytes c.args.table (sym c.len.ensures.len) at in
+    let none : length c.in_ok-closed.rest.now ≡ 0 = grind (arith, nat_tests) in
+    read_whole bytes c.in_ok-closed.rest.now (printed c.args.table (NoneShown c.in_ok-closed.closed.items)) c.new.result c.in_ok-closed.read
     c.new.ensures read none
