@@ -1,5 +1,5 @@
 -- A New event adds to a legal log, whatever the kept bytes are; and what a legal log says of each of its entries.
-use Rattle.std.proofs.Common.{◌≡◌, ℕ, ◌<◌, List, [], ◌∷◌, ◌++◌, Option, Some, None, length, drop, refl, sym, ap, subst, inl, inr, ◌∙◌, arith, Bool, true, false, ◌≤◌}
+use Rattle.std.proofs.Common.{◌≡◌, ℕ, ◌<◌, List, [], ◌∷◌, ◌++◌, Option, Some, None, length, drop, refl, sym, ap, subst, inl, inr, ◌∙◌, true, false, ◌≤◌}
 use Rattle.std.specs.Prelude.{slice_get, slice_set, if◌then◌else◌}
 use Rattle.std.specs.Str.{bytes_eq}
 use Rattle.hls_media_laws.specs.Meaning.{IsUnit}
@@ -18,7 +18,7 @@ use Rattle.hls_core_laws.specs.declared.event.Logged.TheVariants.{Begun, Accepte
 use Rattle.hls_core_laws.specs.Config.{ConfigData}
 use Rattle.hls_core_laws.specs.Channel.{Channel, Lane, no_lane, fresh, lane, begun_with, with_facts, finish_of, with_floor, after, opening, channel_from}
 use Rattle.hls_core_laws.specs.State.{State, Held, channel}
-use Rattle.hls_core_laws.specs.Outcome.{Outcome, New, Repeated, Refused, outcome_of, held, begin, begin_beside, accept, accept_at, accept_beside, accept_later, trim_limit}
+use Rattle.hls_core_laws.specs.Outcome.{Outcome, New, Repeated, Refused, outcome_of, held, begin, begin_beside, accept, accept_at, accept_beside, trim_limit}
 use Rattle.hls_core_laws.specs.Moves.{logged, entry_of, advanced, IsFitting}
 use Rattle.hls_core_laws.specs.Runs.{first_state, moved_by, next_state, replayed, AreFitting}
 use Rattle.hls_core_laws.specs.Legal.{IsLegal}

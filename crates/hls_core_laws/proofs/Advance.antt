@@ -19,7 +19,7 @@ use Rattle.hls_core_laws.specs.Line.{line}
 use Rattle.hls_core_laws.proofs.Moved.{front_within}
 use Rattle.hls_core_laws.proofs.Added.{room_in, legal_grown}
 use Rattle.hls_core_laws.proofs.Follows.{follows_of}
-use Rattle.hls_core_laws.proofs.Causes.{begins, accepts, finishes, trims, slides}
+use Rattle.hls_core_laws.proofs.Causes.{begins, accepts, finishes, trims}
 
 -- what a New event does to the lanes and the bytes: nothing, or a change of one rendition
 record OneChange (lanes lanes' : List Lane) (bytes bytes' : List Held) : Type 0 where

@@ -1,8 +1,8 @@
 -- What a New outcome says: that each test was passed.
-use Rattle.std.proofs.Common.{◌≡◌, ℕ, ◌+◌, ◌^◌, ◌<◌, ◌≤◌, Bool, true, false, List, Option, Some, None, Result, Ok, Err, drop, refl, arith}
-use Rattle.std.specs.Prelude.{nat_le, nat_lt, if◌then◌else◌, ◌==◌, ◌||◌}
+use Rattle.std.proofs.Common.{◌≡◌, ℕ, ◌+◌, ◌^◌, ◌<◌, ◌≤◌, Bool, true, false, List, Option, Some, None, Result, Ok, Err, drop, refl}
+use Rattle.std.specs.Prelude.{nat_le, nat_lt, if◌then◌else◌}
 use Rattle.std.specs.Str.{bytes_eq}
-use Rattle.std.proofs.lemmas.Bool.{ltb-false, leb-false, eqb-false}
+use Rattle.std.proofs.lemmas.Bool.{ltb-false, leb-false}
 use Rattle.hls_media_laws.specs.InitData.{InitData}
 use Rattle.hls_media_laws.specs.declared.facts.Facts.{Facts}
 use Rattle.hls_media_laws.specs.FactLists.{last_end, twin_in}
@@ -10,7 +10,7 @@ use Rattle.hls_live_laws.specs.declared.line_fault.LineFault.{LineFault}
 use Rattle.hls_live_laws.specs.declared.line_fault.LineFault.TheVariants.{TooMany, TooShort, Ended, Memory}
 use Rattle.hls_core_laws.specs.declared.refusal.Refusal.{Refusal}
 use Rattle.hls_core_laws.specs.declared.refusal.Refusal.TheVariants.{InitChanged, Overlap, Finished, TrimTooFar, LedgerFull, RecordingFull}
-use Rattle.hls_core_laws.specs.Channel.{Lane, total_of}
+use Rattle.hls_core_laws.specs.Channel.{Lane, lane_len}
 use Rattle.hls_core_laws.specs.State.{Held}
 use Rattle.hls_core_laws.specs.Outcome.{Outcome, New, Repeated, Refused, logged_by, begin, begin_beside, accept, accept_at, accept_beside, accept_later, finish, finish_begun, slide, trim}
 
@@ -47,15 +47,15 @@ pub record Accepts (o : Option Lane) (f : Facts) (entries : ℕ) : Type 0 where
   pub later : last_end lane.facts ≤ f.start
   pub open_ended : lane.finished ≡ false
   pub room : entries < 4194304
-  pub small : total_of lane + f.len ≤ 2 ^ 40
+  pub small : lane_len lane + f.len ≤ 2 ^ 40
 
-accepts_later : (l : Lane) (f : Facts) (entries : ℕ) → accept_later l f entries ≡ New → (last_end l.facts ≤ f.start) × (l.finished ≡ false) × (entries < 4194304) × (total_of l + f.len ≤ 2 ^ 40)
+accepts_later : (l : Lane) (f : Facts) (entries : ℕ) → accept_later l f entries ≡ New → (last_end l.facts ≤ f.start) × (l.finished ≡ false) × (entries < 4194304) × (lane_len l + f.len ≤ 2 ^ 40)
 accepts_later l f entries h =
     let a = passed (nat_lt f.start (last_end l.facts)) Overlap _ h in
     let b = passed l.finished Finished _ a.1 in
     let c = passed (nat_le 4194304 entries) LedgerFull _ b.1 in
-    let d = passed (nat_lt (2 ^ 40) (total_of l + f.len)) RecordingFull New c.1 in
-    (ltb-false f.start (last_end l.facts) a.0, b.0, leb-false 4194304 entries c.0, ltb-false (2 ^ 40) (total_of l + f.len) d.0)
+    let d = passed (nat_lt (2 ^ 40) (lane_len l + f.len)) RecordingFull New c.1 in
+    (ltb-false f.start (last_end l.facts) a.0, b.0, leb-false 4194304 entries c.0, ltb-false (2 ^ 40) (lane_len l + f.len) d.0)
 
 pub accepts_beside : (twin : Option (List ℕ)) (l : Lane) (f : Facts) (bytes : List ℕ) (entries : ℕ) → accept_beside twin l f bytes entries ≡ New → accept_later l f entries ≡ New
 accepts_beside None l f bytes entries h = h

@@ -1,8 +1,7 @@
 -- The renditions of a state, as the search for common places sees them, are its lanes.
-use Rattle.std.proofs.Common.{◌≡◌, ℕ, Bool, false, List, [], Some, length, map, refl, sym, ◌∙◌, get_or}
+use Rattle.std.proofs.Common.{◌≡◌, ℕ, false, List, [], Some, length, map, sym, ◌∙◌, get_or}
 use Rattle.std.specs.Prelude.{slice_get}
 use Rattle.std.proofs.lemmas.List.{length-map}
-use Rattle.hls_media_laws.specs.declared.facts.Facts.{Facts}
 use Rattle.hls_places_laws.specs.Sources.{Source, source_at}
 use Rattle.hls_places_laws.proofs.Sides.{side-at, length-sources_of}
 use Rattle.hls_core_laws.specs.declared.event.Entry.{Entry}

@@ -4,7 +4,6 @@ pub mod Logs
 pub mod Follows
 pub mod Causes
 pub mod Lanes
-pub mod Lines
 pub mod Moved
 pub mod Added
 pub mod Advance
@@ -15,3 +14,4 @@ pub mod Theorems
 pub mod Rows
 pub mod Sources
 pub mod Removed
+pub mod TestLists

@@ -1,16 +1,14 @@
 -- The live line along the log: it slides, it goes on as places come, and a trim leaves it; no more segments were removed than
 -- were closed.
-use Rattle.std.proofs.Common.{◌≡◌, ℕ, ◌+◌, ◌*◌, ◌-◌, ◌<◌, ◌≤◌, Bool, true, false, List, [], ◌∷◌, ◌++◌, length, map, drop, Option, None, Some, Result, Ok, Err, arith, refl, sym, ap, subst, ◌∙◌, length-append, length-drop}
+use Rattle.std.proofs.Common.{◌≡◌, ℕ, ◌+◌, ◌*◌, ◌≤◌, true, false, List, [], ◌∷◌, ◌++◌, length, map, Some, Ok, Err, arith, refl, ap, subst, ◌∙◌, length-append, length-drop}
 use Rattle.std.specs.Prelude.{slice_get, slice_set, nat_lt, ◌==◌, ◌||◌, if◌then◌else◌}
 use Rattle.std.proofs.lemmas.Bool.{ltb-false, or_parts}
 use Rattle.std.proofs.lemmas.List.{map-set}
-use Rattle.hls_media_laws.specs.declared.facts.Facts.{Facts}
 use Rattle.hls_places_laws.specs.declared.place.Place.{Place}
 use Rattle.hls_places_laws.specs.Sources.{Source, sources_of}
 use Rattle.hls_places_laws.specs.Places.{places_of}
 use Rattle.hls_live_laws.specs.declared.aim.Aim.{Aim}
 use Rattle.hls_live_laws.specs.declared.segment.Segment.{Segment}
-use Rattle.hls_live_laws.specs.declared.line_fault.LineFault.{LineFault}
 use Rattle.hls_live_laws.specs.declared.line_fault.LineFault.TheVariants.{TooMany, TooShort}
 use Rattle.hls_live_laws.specs.Cuts.{Line, line_of}
 use Rattle.hls_live_laws.specs.Told.{Told, untold, told}
@@ -20,9 +18,9 @@ use Rattle.hls_live_laws.proofs.Kept.{told-grown}
 use Rattle.hls_live_laws.proofs.Lives.{live-moves, live-slides}
 use Rattle.hls_core_laws.specs.declared.event.Event.{Event}
 use Rattle.hls_core_laws.specs.declared.event.Event.TheVariants.{Begin, Accept, Finish, Slide, Trim}
-use Rattle.hls_core_laws.specs.Config.{ConfigData, IsConfig}
+use Rattle.hls_core_laws.specs.Config.{ConfigData}
 use Rattle.hls_core_laws.specs.Channel.{Channel, Lane, no_lane, lane, with_floor, after, channel_from}
-use Rattle.hls_core_laws.specs.State.{State, Held, channel}
+use Rattle.hls_core_laws.specs.State.{State, channel}
 use Rattle.hls_core_laws.specs.IsState.{IsState}
 use Rattle.hls_core_laws.specs.Places.{facts_of, is_finished, tolerance_of, sources_from, sources, places}
 use Rattle.hls_core_laws.specs.Line.{aim_of, line}
@@ -35,7 +33,7 @@ use Rattle.hls_core_laws.proofs.Added.{config_stays}
 use Rattle.hls_core_laws.proofs.Advance.{channel_advanced, advanced_follows}
 use Rattle.hls_core_laws.proofs.Sources.{places_follow}
 use Rattle.hls_core_laws.proofs.Runs.{first_is_state, next_is_state}
-use Rattle.hls_core_laws.proofs.Lines.{told_few}
+use Rattle.hls_live_laws.proofs.Ends.{segments-few}
 
 -- the whole line of a list of places
 closed_of : State → List Segment
@@ -120,7 +118,8 @@ line_few s state =
       arith,
       within_state s state,
       length-drop (channel s).removed (told (aim_of s.config) 0 untold (places s)).line.segments,
-      told_few (aim_of s.config) 0 untold (places s),
+      segments-few (aim_of s.config) (places s),
+      ap (λ (l : Line). length l.segments) (told-is_line (aim_of s.config) (places s)),
     )
 
 -- as places come

@@ -1,7 +1,5 @@
 -- The renditions of a state that follows have grown, so that common places are only appended to.
-use Rattle.std.proofs.Common.{◌≡◌, ℕ, true, false, List, [], ◌++◌, Option, Some, None, inl, inr, length, map, refl, sym, ap, subst, ◌∙◌, arith, append-nil, get_or}
-use Rattle.std.specs.Prelude.{slice_get}
-use Rattle.std.proofs.lemmas.List.{length-map}
+use Rattle.std.proofs.Common.{◌≡◌, ℕ, true, List, [], ◌++◌, Option, Some, None, inl, inr, length, map, refl, sym, ap, subst, ◌∙◌, arith, append-nil, get_or}
 use Rattle.hls_media_laws.specs.declared.facts.Facts.{Facts}
 use Rattle.hls_media_laws.specs.InitData.{InitData}
 use Rattle.hls_media_laws.proofs.Timelines.{units_are_timed}
@@ -9,17 +7,15 @@ use Rattle.hls_places_laws.specs.Sources.{Source, source_at, AreSources, IsTimel
 use Rattle.hls_places_laws.specs.Appended.{IsAppended}
 use Rattle.hls_places_laws.proofs.Undecided.{places-appended}
 use Rattle.hls_places_laws.specs.Growth.{SourceGrows, Grows}
-use Rattle.hls_places_laws.proofs.Sides.{side-at, length-sources_of}
-use Rattle.hls_core_laws.specs.declared.event.Entry.{Entry}
 use Rattle.hls_core_laws.specs.Config.{ConfigData}
-use Rattle.hls_core_laws.specs.Channel.{Lane, fresh, opening, channel_of}
+use Rattle.hls_core_laws.specs.Channel.{Lane}
 use Rattle.hls_core_laws.specs.State.{State, channel}
 use Rattle.hls_core_laws.specs.IsState.{IsState}
 use Rattle.hls_core_laws.specs.Follows.{Continues, Follows}
-use Rattle.hls_core_laws.specs.Places.{facts_of, is_finished, tolerance_of, sources, places}
+use Rattle.hls_core_laws.specs.Places.{tolerance_of, sources, places}
 use Rattle.hls_core_laws.proofs.Lists.{at_map, at_or, at_some}
 pub use Rattle.hls_core_laws.proofs.Lanes.{IsOf, lanes_count, sources_count, source_of}
-use Rattle.hls_core_laws.proofs.Logs.{LaneGrows, lanes_from}
+use Rattle.hls_core_laws.proofs.Logs.{LaneGrows}
 use Rattle.hls_core_laws.proofs.Follows.{lane_grown}
 use Rattle.hls_core_laws.proofs.Added.{Timed, lanes_timed}
 

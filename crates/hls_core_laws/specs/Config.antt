@@ -1,6 +1,7 @@
 -- What a channel is configured with.
 use Rattle.std.specs.Prelude.{◌≡◌, ◌≢◌, ℕ, ◌*◌, ◌<◌, ◌≤◌, List, length, Some, slice_get, IsTrue, ◌||◌, ◌&&◌, ◌==◌, nat_le, Bool, All}
 use Rattle.hls_core_laws.specs.declared.rendition.Rendition.{Rendition}
+use Rattle.hls_check_laws.specs.Tables.{target_limit, rendition_limit}
 
 -- the target in seconds, the preferred length in microseconds, and the renditions in order
 pub record ConfigData : Type 0 where
@@ -33,12 +34,12 @@ pub record IsRenditionAt (rs : List Rendition) (n : ℕ) (r : Rendition) : Type 
 
 pub record AreRenditions (rs : List Rendition) : Type 0 where
   pub some : 1 ≤ length rs
-  pub few : length rs ≤ 16
+  pub few : length rs ≤ rendition_limit
   pub each : (n : ℕ) (r : Rendition) → slice_get rs n ≡ Some r → IsRenditionAt rs n r
 
 -- a target duration in seconds
 abbrev pub IsTarget : ℕ → Type 0
-IsTarget target = (1 ≤ target) × (target ≤ 3600)
+IsTarget target = (1 ≤ target) × (target ≤ target_limit)
 
 -- a preferred length in microseconds, beside the target
 abbrev pub IsPreferred : ℕ → ℕ → Type 0

@@ -10,7 +10,8 @@ use Rattle.hls_core_laws.specs.Channel.{Lane, channel_of}
 use Rattle.hls_core_laws.specs.Legal.{IsLegal}
 use Rattle.hls_core_laws.specs.State.{State, channel}
 use Rattle.hls_core_laws.specs.IsState.{IsState}
-use Rattle.hls_core_laws.specs.Outcome.{Outcome, New}
+use Rattle.hls_core_laws.specs.Outcome.{Outcome, New, outcome_of}
+use Rattle.hls_core_laws.specs.Tests.{first_met, tests}
 use Rattle.hls_core_laws.specs.Moves.{logged, Moves, IsFitting, IsFittingAsSeen}
 use Rattle.hls_core_laws.specs.Runs.{Move, IsRun, served, first_state, replayed, AreFitting}
 use Rattle.hls_core_laws.specs.Follows.{Continues, Follows}
@@ -28,6 +29,10 @@ FollowsThrough = (a b c : State) → Follows a b → Follows b c → Follows a c
 -- of two states, to continue is to follow
 abbrev pub FollowsIsContinuing : Type 0
 FollowsIsContinuing = (a b : State) → IsState a → IsState b → Continues a b → Follows a b
+
+-- an event meets the first of its tests that holds
+abbrev pub OutcomesByTests : Type 0
+OutcomesByTests = (s : State) (event : Event) → outcome_of s event ≡ first_met (tests s event)
 
 -- a move takes a state to a state that follows it
 abbrev pub MovesFollow : Type 0

@@ -4,6 +4,7 @@ pub mod State
 pub mod Places
 pub mod Line
 pub mod Outcome
+pub mod Tests
 pub mod Moves
 pub mod Runs
 pub mod Legal

@@ -13,7 +13,7 @@ use Rattle.hls_core_laws.specs.declared.event.Event.{Event}
 use Rattle.hls_core_laws.specs.declared.event.Event.TheVariants.{Begin, Accept, Finish, Slide, Trim}
 use Rattle.hls_core_laws.specs.declared.refusal.Refusal.{Refusal}
 use Rattle.hls_core_laws.specs.declared.refusal.Refusal.TheVariants.{UnknownRendition, NoInit, InitChanged, Overlap, Finished, SlideTooShort, SlideTooMany, TrimTooFar, LedgerFull, RecordingFull}
-use Rattle.hls_core_laws.specs.Channel.{Lane, total_of}
+use Rattle.hls_core_laws.specs.Channel.{Lane, lane_len}
 use Rattle.hls_core_laws.specs.State.{State, Held, no_held, channel, log_limit}
 use Rattle.hls_core_laws.specs.Line.{line}
 
@@ -39,7 +39,7 @@ accept_later l f entries =
     (if nat_lt f.start (last_end l.facts) then Refused Overlap else
     (if l.finished then Refused Finished else
     (if nat_le log_limit entries then Refused LedgerFull else
-    (if nat_lt recording_limit (total_of l + f.len) then Refused RecordingFull else New))))
+    (if nat_lt recording_limit (lane_len l + f.len) then Refused RecordingFull else New))))
 
 abbrev pub accept_beside : Option (List ℕ) → Lane → Facts → List ℕ → ℕ → Outcome
 accept_beside None l f bytes entries = accept_later l f entries

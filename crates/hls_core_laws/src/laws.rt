@@ -1,6 +1,6 @@
 //! What holds of every state, log and run. Each function has no body: its contract is the law.
 
-ghost use Rattle.hls_core_laws.specs.Laws.{FollowsItself, FollowsThrough, FollowsIsContinuing, MovesFollow, RunsFollow, RunsAreReplays, StatesAreTimed, PlacesFollow, InitsStay, SeenSuffices, WorkersApart, WorkersSettled, UnitsAreLogged};
+ghost use Rattle.hls_core_laws.specs.Laws.{FollowsItself, FollowsThrough, FollowsIsContinuing, MovesFollow, RunsFollow, RunsAreReplays, StatesAreTimed, PlacesFollow, InitsStay, SeenSuffices, WorkersApart, WorkersSettled, UnitsAreLogged, OutcomesByTests};
 
 /// A state follows itself.
 pub fn follows_itself()
@@ -15,6 +15,11 @@ pub fn follows_through()
 /// Of two states, one that continues the other follows it.
 pub fn follows_is_continuing()
     ensures { FollowsIsContinuing }
+{}
+
+/// What an event meets is the first of its tests that holds, in their order.
+pub fn outcomes_by_tests()
+    ensures { OutcomesByTests }
 {}
 
 /// A move takes a state to a state that follows it.
