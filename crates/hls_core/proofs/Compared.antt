@@ -7,7 +7,6 @@ use Rattle.hls_blocks.specs.Numbered.{Numbered, item_at}
 use Rattle.hls_core_laws.specs.declared.event.Entry.{Entry}
 use Rattle.hls_core_laws.specs.Channel.{Lane, no_lane, lane}
 use Rattle.hls_core_laws.specs.State.{State, Held, channel}
-use Rattle.hls_core_laws.specs.IsState.{IsState}
 use Rattle.hls_core_laws.specs.Follows.{Continues, AreSame, SameHeld}
 use Rattle.hls_core_laws.specs.Workers.{events_by}
 use Rattle.hls_core_laws.proofs.Lists as lists

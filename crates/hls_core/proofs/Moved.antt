@@ -2,6 +2,7 @@
 use Rattle.std.proofs.Common.{arith, ◌≡◌, ℕ, zero, suc, ◌+◌, ◌<◌, ◌≤◌, Bool, List, [], ◌∷◌, ◌++◌, Option, Some, None, length, map, drop, refl, sym, ap, subst, ◌∙◌, append-nil}
 use Rattle.std.specs.Prelude.{slice_get}
 use Rattle.std.proofs.lemmas.List.{length-map, drop_all}
+use Rattle.std.proofs.lemmas.Option.{same_Some}
 use Rattle.hls_blocks.specs.Numbered.{Numbered}
 use Rattle.hls_record.specs.Recorded.{Recorded}
 use Rattle.hls_places_laws.specs.declared.place.Place.{Place}
@@ -20,16 +21,13 @@ use Rattle.hls_core.specs.declared.side.Side.{Side}
 use Rattle.hls_core.specs.Gathers.{Lacks}
 use Rattle.hls_live_laws.specs.Live.{Live, moved, moved_by}
 use Rattle.hls_live_laws.proofs.Lines.{told-none, told-more}
-use Rattle.hls_core_laws.proofs.Lines.{advanced_few}
+use Rattle.hls_live_laws.proofs.Ends.{advanced-few_more}
 use Rattle.hls_core.specs.Placed.{IsPlaced, CanBeTold}
 use Rattle.hls_core.specs.Sides.{lane_of, lane_from, sources_by}
 
-some_is : {A : Type 0} (a b : A) → Some a ≡ Some b → a ≡ b
-some_is a b e = cc
-
 lane_facts : (o : Option Recorded) (finished : Bool) (rec : Recorded) → Some rec ≡ o → rec.facts ≡ (lane_from o finished).facts
 lane_facts None finished rec e = cc
-lane_facts (Some r) finished rec e = ap (λ (x : Recorded). x.facts) (some_is rec r e)
+lane_facts (Some r) finished rec e = ap (λ (x : Recorded). x.facts) (same_Some rec r e)
 
 lane_bare : (o : Option Recorded) (finished : Bool) → o ≡ None → (lane_from o finished).facts ≡ []
 lane_bare None finished e = refl
@@ -114,7 +112,7 @@ pub told_next : (first : Live) (all : List Place) (now next : Live) (rest : List
 told_next first all now next rest n q at t is =
     let split : drop n rest ≡ q ∷ drop (n + 1) rest = drop_at rest n q at in
     let whole = subst (λ (xs : List Place). IsTold first all now xs) split t in
-    let few = advanced_few now.aim now.removed now.told q in
+    let few = advanced-few_more now.aim now.removed now.told q in
     subst (λ (x : Live). IsTold first all x (drop (n + 1) rest)) (sym is) (record {
       same = told_on now q (drop (n + 1) rest) ∙ whole.same;
       can = record { room = omega (arith, whole.can.room, few); spots = λ k p there. whole.can.spots (suc k) p there };

@@ -2,7 +2,7 @@
 use Rattle.std.proofs.Common.{◌≡◌, ℕ, suc, ◌+◌, ◌*◌, ◌<◌, ◌≤◌, Bool, true, false, List, [], ◌∷◌, ◌++◌, Option, Some, None, length, map, get_or, refl, sym, ap, subst, inl, inr, ◌∙◌, arith, length-append}
 use Rattle.std.specs.Prelude.{slice_get, slice_set, if◌then◌else◌}
 use Rattle.std.specs.List.{filter_map, cons_option, list_all}
-use Rattle.hls_blocks.specs.Numbered.{next_of}
+use Rattle.hls_blocks.specs.Numbered.{next_of, list_limit}
 use Rattle.hls_places_laws.specs.declared.place.Place.{Place}
 use Rattle.hls_places_laws.specs.Sources.{Source, source_at, sources_of, first_facts}
 use Rattle.hls_places_laws.specs.Places.{places_of, places_after, common_at, closing_of, has_ended, end_in}
@@ -41,6 +41,7 @@ use Rattle.hls_core.specs.declared.snapshot.Snapshot.TheInside.{Inside}
 use Rattle.hls_core.specs.Sides.{lane_of, held_of, fresh_side, sources_by, IsAt, IsGood, with_side, MayTake, MayTrim}
 use Rattle.hls_core.specs.Placed.{CanBeTold}
 use Rattle.hls_core.specs.Kept.{sides_of, seen, IsKept}
+use Rattle.hls_check_laws.specs.Tables.{rendition_limit}
 
 filtered : {X Y : Type 0} (f : X → Option Y) (xs : List X) → length (filter_map f xs) ≤ length xs
 filtered f [] = omega arith
@@ -80,10 +81,10 @@ at_behind (x ∷ xs) ys k p at =
 -- what a cursor that is moved on needs, where a side is put in place of another
 pub record Ahead (i : Inside) (config : ConfigData) (sides : List Side) : Type 0 where
   pub cursor : IsCursor i.cursor.value (sources_by config sides)
-  pub room : next_of i.places + length (places_after (sources_by config sides) i.cursor.value.done) < 16777216
+  pub room : next_of i.places + length (places_after (sources_by config sides) i.cursor.value.done) < list_limit
   pub count : length config.renditions ≡ length sides
   pub some : 1 ≤ length sides
-  pub few : length sides ≤ 16
+  pub few : length sides ≤ rendition_limit
   pub told : CanBeTold i.line.value (places_after (sources_by config sides) i.cursor.value.done)
 
 sources_put : (i : Inside) (entry : Entry) (r : ℕ) (side : Side) → IsKept i → MayTake (seen i) entry r side → sources_by i.config (slice_set (sides_of i) r side) ≡ sources (with_side (seen i) entry r side)
@@ -110,8 +111,8 @@ ahead_put i entry r side kept take =
     let zero_first : i.places.first ≡ 0 = ap (λ p. p.first) kept.places in
     let whole : length (places s) ≡ length (places (seen i)) + length (places_after (sources s) i.cursor.value.done) =
     ap length on.places ∙ length-append (places (seen i)) (places_after (sources s) i.cursor.value.done) in
-    let room : next_of i.places + length (places_after (sources s) i.cursor.value.done) < 16777216 = omega arith in
-    let told_room : i.line.value.removed + length i.line.value.told.line.segments + 2 * length (places_after (sources s) i.cursor.value.done) < 16777215 =
+    let room : next_of i.places + length (places_after (sources s) i.cursor.value.done) < list_limit = omega arith in
+    let told_room : i.line.value.removed + length i.line.value.told.line.segments + 2 * length (places_after (sources s) i.cursor.value.done) + 1 < list_limit =
     omega (arith, few, whole, line_few (seen i) kept.valid, ap (λ (l : Live). l.removed) kept.line_is, ap (λ (l : Live). length l.told.line.segments) kept.line_is) in
     let spots : (k : ℕ) (p : Place) → slice_get (places_after (sources s) i.cursor.value.done) k ≡ Some p → 0 < length p.spots =
     λ k p at. some_spots s take.valid (length (places (seen i)) + k) p
@@ -121,7 +122,7 @@ ahead_put i entry r side kept take =
     let rs = kept.valid.configured.renditions in
     record {
       cursor = subst (λ (x : List Source). IsCursor i.cursor.value x) (sym is) on.cursor;
-      room = subst (λ (x : List Source). next_of i.places + length (places_after x i.cursor.value.done) < 16777216) (sym is) room;
+      room = subst (λ (x : List Source). next_of i.places + length (places_after x i.cursor.value.done) < list_limit) (sym is) room;
       count = sym sides;
       some = omega (arith, rs.some);
       few = omega (arith, rs.few);

@@ -4,6 +4,7 @@ use Rattle.std.specs.List.{list_any}
 use Rattle.std.specs.Str.{bytes_eq}
 use Rattle.hls_core_laws.specs.declared.rendition.Rendition.{Rendition}
 use Rattle.hls_core_laws.specs.Config.{IsRenditionAt}
+use Rattle.hls_check_laws.specs.Tables.{rendition_limit}
 
 -- whether one of the renditions has this name
 abbrev pub bears_name : List Rendition → List ℕ → Bool
@@ -16,16 +17,16 @@ AreGoodBefore rs n = (k : ℕ) (r : Rendition) → k < n → slice_get rs k ≡ 
 -- rendition n may not stand where it stands, and each before it may
 pub record IsBadAt (rs : List Rendition) (n : ℕ) : Type 0 where
   pub before : AreGoodBefore rs n
-  pub few : n < 16
+  pub few : n < rendition_limit
   pub rendition : Rendition
   pub at : slice_get rs n ≡ Some rendition
   pub bad : IsRenditionAt rs n rendition → ⊥
 
 -- sixteen renditions that may stand where they stand, and a seventeenth
 pub record IsSeventeenth (rs : List Rendition) (n : ℕ) : Type 0 where
-  pub before : AreGoodBefore rs 16
-  pub number : n ≡ 16
-  pub there : 16 < length rs
+  pub before : AreGoodBefore rs rendition_limit
+  pub number : n ≡ rendition_limit
+  pub there : rendition_limit < length rs
 
 -- there is none at all, and n is 0; or rendition n is bad; or n is the number of a seventeenth
 abbrev pub IsFirstBad : List Rendition → ℕ → Type 0

@@ -4,7 +4,7 @@ use Rattle.hls_places_laws.specs.declared.place.Place.{Place}
 use Rattle.hls_places_laws.specs.Sources.{Source}
 use Rattle.hls_places_laws.specs.Places.{places_after}
 use Rattle.hls_places_laws.specs.Positions.{IsCursor, IsThrough}
-use Rattle.hls_blocks.specs.Numbered.{Numbered}
+use Rattle.hls_blocks.specs.Numbered.{Numbered, list_limit}
 use Rattle.hls_live_laws.specs.Live.{Live, moved_by}
 use Rattle.hls_core.specs.declared.placed.Placed.{Placed}
 
@@ -17,5 +17,5 @@ pub record IsPlaced (sources : List Source) (told : Numbered Place) (done : ℕ)
 
 -- a line that has room for what these places close, two segments each at most
 pub record CanBeTold (line : Live) (places : List Place) : Type 0 where
-  pub room : line.removed + length line.told.line.segments + 2 * length places < 16777215
+  pub room : line.removed + length line.told.line.segments + 2 * length places + 1 < list_limit
   pub spots : (k : ℕ) (p : Place) → slice_get places k ≡ Some p → 0 < length p.spots

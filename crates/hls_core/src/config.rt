@@ -4,6 +4,7 @@ ghost use Rattle.hls_core_laws.specs.Config.{is_name_byte, IsName, IsRendition, 
 ghost use Rattle.hls_core.specs.FirstBad.{IsFirstBad, bears_name};
 
 use bytes::Bytes;
+use hls_check_laws::{RENDITION_LIMIT, TARGET_LIMIT};
 use hls_core_laws::rendition::Rendition;
 use std::alloc::{AllocError, Global};
 use std::marker::Model;
@@ -76,7 +77,7 @@ impl Config {
     ) -> Result<Config, ConfigFault>
         ensures { Configures target preferred renditions.items result }
     {
-        if target == 0 || target > 3600 {
+        if target == 0 || target > TARGET_LIMIT {
             return Err(ConfigFault::BadTarget);
         }
         if preferred == 0 || preferred > target * 1000000 {
@@ -139,7 +140,7 @@ fn first_bad(renditions: &[Rendition]) -> Option<usize>
         return Some(0);
     }
     for (n, rendition) in renditions.iter().enumerate() {
-        if n == 16 {
+        if n == RENDITION_LIMIT {
             return Some(n);
         }
         if !is_rendition_at(renditions, n, rendition) {

@@ -1,5 +1,5 @@
 ghost use Rattle.std.specs.Prelude.{◌≡◌, ℕ, ◌+◌, ◌<◌, ◌≤◌, ◌++◌, List, Some, None, length, map, IfOk, MatchOption};
-ghost use Rattle.hls_blocks.specs.Numbered.{Numbered, next_of};
+ghost use Rattle.hls_blocks.specs.Numbered.{Numbered, next_of, list_limit};
 ghost use Rattle.hls_places_laws.specs.Places.{places_after};
 ghost use Rattle.hls_places_laws.specs.Positions.{IsCursor};
 ghost use Rattle.hls_live_laws.specs.Live.{moved_by};
@@ -7,6 +7,7 @@ ghost use Rattle.hls_core_laws.specs.Places.{tolerance_of, is_finished};
 ghost use Rattle.hls_core.specs.Gathers.{Lacks};
 ghost use Rattle.hls_core.specs.Placed.{CanBeTold};
 ghost use Rattle.hls_core.specs.Sides.{lane_of, sources_by};
+ghost use Rattle.hls_check_laws.specs.Tables.{rendition_limit};
 
 use crate::config::Config;
 use crate::side::Side;
@@ -40,10 +41,10 @@ impl Placed {
         line: &Arc<LiveLine>,
     ) -> Result<Placed, AllocError>
         requires some { 1 ≤ length sides.now }
-        requires few { length sides.now ≤ 16 }
+        requires few { length sides.now ≤ rendition_limit }
         requires count { length config.now.renditions ≡ length sides.now }
         requires cursor { IsCursor cursor.now.value (sources_by config.now (map (λ a. a.value) sides.now)) }
-        requires room { next_of places.now + length (places_after (sources_by config.now (map (λ a. a.value) sides.now)) cursor.now.value.done) < 16777216 }
+        requires room { next_of places.now + length (places_after (sources_by config.now (map (λ a. a.value) sides.now)) cursor.now.value.done) < list_limit }
         requires told { CanBeTold line.now.value (places_after (sources_by config.now (map (λ a. a.value) sides.now)) cursor.now.value.done) }
         ensures { IfOk result (IsPlaced (sources_by config.now (map (λ a. a.value) sides.now)) places.now cursor.now.value.done line.now.value) }
     {
@@ -132,7 +133,7 @@ fn all_pushed(
     list: &Shared<Place>,
     more: Vec<Place>,
 ) -> Result<Shared<Place>, AllocError>
-    requires { next_of list.now + length more.items < 16777216 }
+    requires { next_of list.now + length more.items < list_limit }
     ensures { IfOk result (λ all. all ≡ record { first = list.now.first; items = list.now.items ++ more.items }) }
 {
     let mut all = list.share(alloc)?;

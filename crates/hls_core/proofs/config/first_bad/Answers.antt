@@ -11,19 +11,19 @@ loop-n-preserved c = record {
       (c.is_rendition_at.ensures.0 c.if-not-is_rendition_at.false);
 }
 
-pub returns-then-n-eq16 : goal.returns-then-n-eq16
-returns-then-n-eq16 c =
+pub returns-then-n-eq-RENDITION_LIMIT : goal.returns-then-n-eq-RENDITION_LIMIT
+returns-then-n-eq-RENDITION_LIMIT c =
     inr (inr (record {
-      before = λ k r below at. c.loop-n.invariant.good k r (omega (arith, c.if-n-eq16.true)) at;
-      number = c.if-n-eq16.true;
-      there = omega (arith, c.loop-n-test.true, c.if-n-eq16.true);
+      before = λ k r below at. c.loop-n.invariant.good k r (omega (arith, c.if-n-eq-RENDITION_LIMIT.true)) at;
+      number = c.if-n-eq-RENDITION_LIMIT.true;
+      there = omega (arith, c.loop-n-test.true, c.if-n-eq-RENDITION_LIMIT.true);
     }))
 
 pub returns-then-not-is_rendition_at : goal.returns-then-not-is_rendition_at
 returns-then-not-is_rendition_at c =
     inr (inl (record {
       before = c.loop-n.invariant.good;
-      few = omega (arith, c.loop-n.invariant.few, c.if-n-eq16.false);
+      few = omega (arith, c.loop-n.invariant.few, c.if-n-eq-RENDITION_LIMIT.false);
       rendition = _;
       at = at_read _ _ _ c.loop-n-test.true c.index-renditions-n.is;
       bad = λ good. let yes = c.is_rendition_at.ensures.1 good in cc;

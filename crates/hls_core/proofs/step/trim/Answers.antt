@@ -1,8 +1,4 @@
-use Rattle.std.proofs.Common.{◌∙◌, ◌<◌, ◌≤◌, arith}
-use Rattle.hls_live_laws.specs.Live.{front_of}
-use Rattle.hls_core_laws.specs.Line.{line}
-use Rattle.hls_core_laws.specs.Outcome.{trim_limit}
-use Rattle.hls_core.specs.Sides.{lane_of}
+use Rattle.std.proofs.Common.{◌∙◌, arith}
 use Rattle.hls_core.proofs.Goes.{room_of, within, trim_begun, trim_within, trim_goes}
 use Rattle.hls_core.proofs.step.trim.Goals as goal
 
