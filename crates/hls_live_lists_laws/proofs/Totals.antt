@@ -1,0 +1,78 @@
+-- A rendition's init section and all its units have no more bytes than a recording takes.
+use Rattle.std.proofs.Common.{◌≡◌, ℕ, ◌^◌, ◌≤◌, List, [], ◌∷◌, Some, None, refl, sym, ap, subst, inl, inr, ◌∙◌, arith}
+use Rattle.std.specs.Prelude.{slice_get, slice_set}
+use Rattle.std.proofs.lemmas.List.Sums.{sum_by-append}
+use Rattle.hls_media_laws.specs.FactLists.{len_of, bytes_in}
+use Rattle.hls_media_laws.proofs.Bounds.{inits_are_bounded}
+use Rattle.hls_core_laws.specs.declared.event.Entry.{Entry}
+use Rattle.hls_core_laws.specs.declared.event.Logged.{Logged}
+use Rattle.hls_core_laws.specs.declared.event.Logged.TheVariants.{Begun, Accepted, Finished, Slid, Trimmed}
+use Rattle.hls_core_laws.specs.Config.{ConfigData}
+use Rattle.hls_core_laws.specs.Channel.{Channel, Lane, no_lane, fresh, lane, begun_with, with_facts, finish_of, with_floor, after, channel_from, opening, total_of}
+use Rattle.hls_core_laws.specs.State.{State, channel}
+use Rattle.hls_core_laws.specs.IsState.{IsState}
+use Rattle.hls_core_laws.proofs.Additions.{MayAdd, LegalFrom}
+use Rattle.hls_core_laws.proofs.Lists.{at_or, at_set, mapped_at}
+use Rattle.hls_core_laws.proofs.Added.{entries_of}
+
+-- so much, and nothing before the init section
+record IsSmall (l : Lane) : Type 0 where
+  total : total_of l ≤ 2 ^ 40
+  bare : l.init ≡ None → l.facts ≡ []
+
+AllSmall : List Lane → Type 0
+AllSmall lanes = (r : ℕ) (l : Lane) → slice_get lanes r ≡ Some l → IsSmall l
+
+small-set : (lanes : List Lane) (q : ℕ) (new : Lane) → AllSmall lanes → IsSmall new → AllSmall (slice_set lanes q new)
+unfolding AllSmall
+small-set lanes q new small newly r l at = elim (at_set lanes q new r l at) [
+  | inl here ↦ subst (λ (x : Lane). IsSmall x) here.1 newly
+  | inr there ↦ small r l there.1
+]
+
+small-after : (config : ConfigData) (ch : Channel) (e : Logged) → MayAdd config ch e → AllSmall ch.lanes → AllSmall (after e ch).lanes
+unfolding AllSmall
+small-after config ch (Begun q init len) may small =
+    let is : lane ch q ≡ may.lane = at_or ch.lanes q no_lane may.lane may.at in
+    let old = small q may.lane may.at in
+    let none : bytes_in may.lane.facts ≡ 0 = ap bytes_in (old.bare may.first) in
+    let head = inits_are_bounded may.bytes init may.read in
+    let new : IsSmall (begun_with init len may.lane) =
+    record { total = omega (arith, none, head.len_limit, may.counted); bare = λ e. absurd (cc) } in
+    small-set ch.lanes q (begun_with init len (lane ch q)) small (subst (λ (l : Lane). IsSmall (begun_with init len l)) (sym is) new)
+small-after config ch (Accepted q f) may small =
+    let is : lane ch q ≡ may.lane = at_or ch.lanes q no_lane may.lane may.at in
+    let new : IsSmall (with_facts f may.lane) =
+    record {
+      total = omega (arith, may.room, sum_by-append len_of may.lane.facts (f ∷ []));
+      bare = λ e. let never : None ≡ Some may.init = sym e ∙ may.begun in absurd (cc);
+    } in
+    small-set ch.lanes q (with_facts f (lane ch q)) small (subst (λ (l : Lane). IsSmall (with_facts f l)) (sym is) new)
+small-after config ch (Finished q) may small =
+    let is : lane ch q ≡ may.lane = at_or ch.lanes q no_lane may.lane may.at in
+    let old = small q may.lane may.at in
+    let new : IsSmall (finish_of may.lane) = record { total = old.total; bare = old.bare } in
+    small-set ch.lanes q (finish_of (lane ch q)) small (subst (λ (l : Lane). IsSmall (finish_of l)) (sym is) new)
+small-after config ch (Slid count) may small = small
+small-after config ch (Trimmed q floor) may small =
+    let is : lane ch q ≡ may.lane = at_or ch.lanes q no_lane may.lane may.at in
+    let old = small q may.lane may.at in
+    let new : IsSmall (with_floor floor may.lane) = record { total = old.total; bare = old.bare } in
+    small-set ch.lanes q (with_floor floor (lane ch q)) small (subst (λ (l : Lane). IsSmall (with_floor floor l)) (sym is) new)
+
+small-from : (config : ConfigData) (ch : Channel) (log : List Entry) → LegalFrom config ch log → AllSmall ch.lanes → AllSmall (channel_from ch log).lanes
+unfolding LegalFrom channel_from
+small-from config ch [] legal small = small
+small-from config ch (e ∷ es) legal small =
+    small-from config (after e.event ch) es legal.1 (small-after config ch e.event legal.0 small)
+
+small-first : (config : ConfigData) → AllSmall (opening config).lanes
+unfolding AllSmall
+small-first config r l at =
+    let m = mapped_at fresh config.renditions r l at in
+    subst (λ (x : Lane). IsSmall x) m.2 (record { total = omega arith; bare = λ e. refl })
+
+pub lane-small : (s : State) → IsState s → (r : ℕ) (l : Lane) → slice_get (channel s).lanes r ≡ Some l → total_of l ≤ 2 ^ 40
+unfolding AllSmall
+lane-small s state r l at =
+    (small-from s.config (opening s.config) s.log (entries_of s.config s.log state.legal) (small-first s.config) r l at).total

@@ -1,0 +1,13 @@
+//! Theorems about the definitions. Each function has no body: its contract is the law.
+
+ghost use Rattle.hls_live_lists_laws.specs.Laws.{LiveListsHaveTexts, LiveListsFollow};
+
+/// The live lists of a state can be written.
+pub fn live_lists_have_texts()
+    ensures { LiveListsHaveTexts }
+{}
+
+/// A live list of a state and one of a state that follows stand as a reload of a live playlist may (RFC 8216 section 6.2.2).
+pub fn live_lists_follow()
+    ensures { LiveListsFollow }
+{}
