@@ -2,3 +2,4 @@ pub mod Media
 pub mod Jobs
 pub mod Segments
 pub mod Laws
+pub mod Masters
