@@ -11,3 +11,4 @@ pub mod Bounded
 pub mod Covered
 pub mod Spans
 pub mod Plays
+pub mod Names

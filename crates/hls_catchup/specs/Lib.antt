@@ -9,3 +9,4 @@ pub mod Replies
 pub mod Plays
 pub mod Resources
 pub mod Spans
+pub mod Named
