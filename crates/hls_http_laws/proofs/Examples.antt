@@ -6,14 +6,14 @@ use Rattle.percent_encoding.specs.Percent.{percent_decode}
 use Rattle.hls_http_laws.specs.declared.body.Body.TheVariants.{Length, Size}
 use Rattle.hls_http_laws.specs.declared.fault.HttpFault.TheVariants.{BadHead, BadFraming}
 use Rattle.hls_http_laws.specs.declared.range.Part.TheVariants as parts
-use Rattle.hls_http_laws.specs.declared.reply.Status.TheVariants.{Done, RangeNotSatisfiable}
-use Rattle.hls_http_laws.specs.declared.reply.Kind.TheVariants.{Text}
-use Rattle.hls_http_laws.specs.declared.reply.Extra.TheVariants.{Nothing, NoRange}
+use Rattle.hls_http_laws.specs.declared.reply.Status.TheVariants.{Done, Accepted, NoContent, PartialContent, RangeNotSatisfiable}
+use Rattle.hls_http_laws.specs.declared.reply.Kind.TheVariants.{Text, Media}
+use Rattle.hls_http_laws.specs.declared.reply.Extra.TheVariants.{Nothing, Range, NoRange, Job}
 use Rattle.hls_http_laws.specs.Fields.{Fields, values, number_of, between_commas, has_word, closes, expects}
 use Rattle.hls_http_laws.specs.Framing.{body_of}
 use Rattle.hls_http_laws.specs.Range.{asked, part_of}
 use Rattle.hls_http_laws.specs.Query.{first_of, value_in}
-use Rattle.hls_http_laws.specs.Reply.{head_text, refusal}
+use Rattle.hls_http_laws.specs.Reply.{head_text, no_memory, no_memory_head, refusal}
 
 -- a Host in upper case, and a Content-Length
 unfoldable long : List ℕ → Fields
@@ -107,3 +107,20 @@ range_outside = refl
 opening_status : head_text Done Text 47 Nothing false ≡ codes "HTTP/1.1 200 OK\r\nContent-Type: text/plain\r\nContent-Length: 47\r\n\r\n"
 unfolding digits
 opening_status = refl
+
+want_of_memory : no_memory ≡ codes "HTTP/1.1 503 Service Unavailable\r\nContent-Type: text/plain\r\nContent-Length: 15\r\nConnection: close\r\n\r\nrefused Memory\n"
+unfolding no_memory no_memory_head digits
+want_of_memory = refl
+
+partial_media : head_text PartialContent Media 1000 (Range 600 1599 3600) false
+    ≡ codes "HTTP/1.1 206 Partial Content\r\nContent-Type: video/mp4\r\nContent-Length: 1000\r\nContent-Range: bytes 600-1599/3600\r\n\r\n"
+unfolding digits
+partial_media = refl
+
+job_posted : head_text Accepted Text 16 (Job 1) true
+    ≡ codes "HTTP/1.1 202 Accepted\r\nContent-Type: text/plain\r\nContent-Length: 16\r\nLocation: /job/1\r\nConnection: close\r\n\r\n"
+unfolding digits
+job_posted = refl
+
+job_removed : head_text NoContent Text 0 Nothing false ≡ codes "HTTP/1.1 204 No Content\r\n\r\n"
+job_removed = refl

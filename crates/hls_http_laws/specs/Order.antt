@@ -1,21 +1,15 @@
 -- The order in which a request is looked at: its fields, its path, its body, and only then the rest.
--- For sessions, which stand above; no public clause of this crate cites it.
 use Rattle.std.specs.Prelude.{ℕ, nat_lt, nat_eq, Bool, true, false, not, ◌||◌, ◌&&◌, cond, Result, Ok, Err}
 use Rattle.httparse.specs.Grammar.{RequestHead}
 use Rattle.hls_http_laws.specs.declared.body.Body.{Body}
 use Rattle.hls_http_laws.specs.declared.body.Body.TheVariants.{Length, Size, Data, Trailers}
 use Rattle.hls_http_laws.specs.declared.fault.HttpFault.{HttpFault}
 use Rattle.hls_http_laws.specs.declared.fault.HttpFault.TheVariants.{TooLarge, NotFound}
+use Rattle.hls_http_laws.specs.declared.plan.Plan.{Plan}
+use Rattle.hls_http_laws.specs.declared.plan.Plan.TheVariants.{Refuse, Feed, Skip}
 use Rattle.hls_http_laws.specs.declared.limits.TheConstants.{MOST_DROPPED}
 use Rattle.hls_http_laws.specs.Fields.{closes, expects}
 use Rattle.hls_http_laws.specs.Requests.{fields_of}
-
--- what is done with a request whose head was read: refused before its body, its body handed on part by part, or its
--- body dropped
-pub data Plan : Type 0 where
-  Refuse : (fault : HttpFault) (closing : Bool) → Plan
-  Feed : (body : Body) → Plan
-  Drop : (body : Body) → Plan
 
 abbrev pub is_over : Body → Bool
 is_over (Length n) = nat_eq n 0
@@ -35,13 +29,13 @@ abbrev pub plan_by : Result Body HttpFault → Bool → Bool → Plan
 plan_by (Err fault) known feeds = Refuse fault true
 plan_by (Ok body) false feeds = Refuse NotFound (not (is_over body))
 plan_by (Ok body) true true = Feed body
-plan_by (Ok body) true false = cond (is_past body) (Refuse TooLarge true) (Drop body)
+plan_by (Ok body) true false = cond (is_past body) (Refuse TooLarge true) (Skip body)
 
 -- 100 Continue goes out before a body that will be read, and not before an empty one
 abbrev pub reads_body : Plan → Bool
 reads_body (Refuse fault closing) = false
 reads_body (Feed body) = not (is_over body)
-reads_body (Drop body) = not (is_over body)
+reads_body (Skip body) = not (is_over body)
 
 abbrev pub continues : RequestHead → Plan → Bool
 continues head plan = expects head.minor (fields_of head) && reads_body plan

@@ -1,5 +1,5 @@
 -- The text of a reply's head (RFC 9112, section 4), and the reply to want of memory.
-use Rattle.std.specs.Prelude.{ℕ, Bool, true, false, cond, List, [], ◌∷◌, ◌++◌, codes}
+use Rattle.std.specs.Prelude.{ℕ, Bool, true, false, cond, List, [], ◌∷◌, ◌++◌, length, codes}
 use Rattle.std.specs.Fmt.{decimal}
 use Rattle.hls_http_laws.specs.declared.fault.HttpFault.{HttpFault}
 use Rattle.hls_http_laws.specs.declared.fault.HttpFault.TheVariants as faults
@@ -8,6 +8,7 @@ use Rattle.hls_http_laws.specs.declared.reply.Status.TheVariants.{Done, Accepted
 use Rattle.hls_http_laws.specs.declared.reply.Kind.{Kind}
 use Rattle.hls_http_laws.specs.declared.reply.Kind.TheVariants.{Text, Media, Playlist}
 use Rattle.hls_http_laws.specs.declared.reply.Extra.{Extra}
+use Rattle.hls_http_laws.specs.declared.reply.ReplyHead.{ReplyHead}
 use Rattle.hls_http_laws.specs.declared.reply.Extra.TheVariants.{Nothing, Range, NoRange, Job, Allow}
 
 -- the name of a fault, as replies print it
@@ -71,6 +72,14 @@ abbrev pub has_content : Status → Bool
 has_content NoContent = false
 has_content _ = true
 
+-- what was asked for is given or done (RFC 9110, section 15.3)
+abbrev pub is_success : Status → Bool
+is_success Done = true
+is_success Accepted = true
+is_success NoContent = true
+is_success PartialContent = true
+is_success _ = false
+
 abbrev pub type_line : Kind → List ℕ
 type_line kind = codes "Content-Type: " ++ (kind_name kind ++ crlf)
 
@@ -97,6 +106,13 @@ abbrev pub head_text : Status → Kind → ℕ → Extra → Bool → List ℕ
 head_text status kind len extra closing =
     status_line status ++ (content_lines status kind len ++ (extra_line extra ++ (close_line closing ++ crlf)))
 
+abbrev pub head_text_of : ReplyHead → ℕ → List ℕ
+head_text_of head len = head_text head.status head.kind len head.extra head.closing
+
+-- the whole text of a reply whose body is a text; to HEAD without the body
+abbrev pub reply_text : ReplyHead → List ℕ → Bool → List ℕ
+reply_text head body to_head = head_text_of head (length body) ++ cond to_head [] body
+
 -- the body of a refusal
 abbrev pub refusal : List ℕ → List ℕ
 refusal name = codes "refused " ++ (name ++ 10 ∷ [])
@@ -107,6 +123,10 @@ no_memory_head = head_text Unavailable Text 15 Nothing true
 
 unfoldable pub no_memory : List ℕ
 no_memory = no_memory_head ++ refusal (codes "Memory")
+
+-- the reply to want of memory; to HEAD without its body
+abbrev pub no_memory_to : Bool → List ℕ
+no_memory_to to_head = cond to_head no_memory_head no_memory
 
 -- 100 Continue (RFC 9110, section 15.2.1)
 abbrev pub continue_text : List ℕ

@@ -1,4 +1,4 @@
-//! How a stream of requests ends.
+//! How a stream of requests ends, and how a session does.
 
 /// What stands behind the last whole request of a stream.
 #[derive(Clone, Copy, Debug, PartialEq, Eq, Drop)]
@@ -13,4 +13,19 @@ pub enum InputEnd {
     HeadTooLarge,
     /// A head whose Host or framing is bad, or a body that breaks the grammar of chunks.
     BadRequest,
+}
+
+/// Why a session takes no further request.
+#[derive(Clone, Copy, Debug, PartialEq, Eq, Drop)]
+pub enum SessionEnd {
+    /// The input ended between two requests, or a reply that gave what was asked for said `Connection: close`.
+    Closed,
+    /// A reply that refuses said `Connection: close`.
+    Refused,
+    /// The input ended inside a head or a body; nothing is replied.
+    CutShort,
+    /// A read failed, and was counted.
+    ReadFailed,
+    /// A write failed, and was counted: a beginning of the reply is written.
+    WriteFailed,
 }

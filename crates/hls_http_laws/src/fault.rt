@@ -1,8 +1,9 @@
 //! Why a request is refused by HTTP alone.
 
 ghost use Rattle.std.specs.Prelude.{◌≡◌};
-ghost use Rattle.hls_http_laws.specs.Reply.{fault_name};
+ghost use Rattle.hls_http_laws.specs.Reply.{fault_name, fault_status};
 
+use crate::reply::Status;
 use thiserror::Error;
 
 /// Why a request is refused, by what HTTP says of it.
@@ -60,6 +61,25 @@ impl HttpFault {
             HttpFault::Conflict => "Conflict",
             HttpFault::Memory => "Memory",
             HttpFault::Full => "Full",
+        }
+    }
+
+    /// The status of its reply.
+    pub fn status(&self) -> Status
+        ensures { result ≡ fault_status self.now }
+    {
+        match self {
+            HttpFault::BadHead => Status::BadRequest,
+            HttpFault::HeadTooLarge => Status::HeadTooLarge,
+            HttpFault::BadFraming => Status::BadRequest,
+            HttpFault::TooLarge => Status::ContentTooLarge,
+            HttpFault::RangeOutside => Status::RangeNotSatisfiable,
+            HttpFault::BadMethod => Status::MethodNotAllowed,
+            HttpFault::NotFound => Status::NotFound,
+            HttpFault::Gone => Status::Gone,
+            HttpFault::Conflict => Status::Conflict,
+            HttpFault::Memory => Status::Unavailable,
+            HttpFault::Full => Status::InsufficientStorage,
         }
     }
 }

@@ -1,7 +1,8 @@
 //! What a reply's head says.
 
 ghost use Rattle.std.specs.Prelude.{◌≡◌};
-ghost use Rattle.hls_http_laws.specs.Reply.{has_content, no_memory, no_memory_head};
+ghost use Rattle.hls_http_laws.specs.Reply as spec;
+ghost use Rattle.hls_http_laws.specs.Reply.{has_content, is_success, no_memory, no_memory_head};
 
 /// The status of a reply (RFC 9110 15).
 #[derive(Clone, Copy, Debug, PartialEq, Eq, Drop)]
@@ -62,12 +63,35 @@ pub enum Extra<'a> {
     Allow(&'a [u8]),
 }
 
+/// What the head of a reply says, but for the length of its content.
+#[derive(Clone, Copy, Debug, PartialEq, Eq)]
+pub struct ReplyHead<'a> {
+    /// The status.
+    pub status: Status,
+    /// The type of the content.
+    pub kind: Kind,
+    /// The one field that only some replies have.
+    pub extra: Extra<'a>,
+    /// Whether `Connection: close` stands: no further request is taken.
+    pub closing: bool,
+}
+
 impl Status {
     /// Whether a reply of this status says the type and the length of a content.
     pub fn has_content(self) -> bool
         ensures { result ≡ has_content self }
     {
         !matches!(self, Status::NoContent)
+    }
+
+    /// Whether what was asked for is given or done (RFC 9110 15.3).
+    pub fn is_success(self) -> bool
+        ensures { result ≡ is_success self }
+    {
+        matches!(
+            self,
+            Status::Done | Status::Accepted | Status::NoContent | Status::PartialContent
+        )
     }
 }
 
@@ -91,4 +115,11 @@ pub fn no_memory_head_text() -> &'static [u8]
     ensures { result.now ≡ no_memory_head }
 {
     NO_MEMORY_HEAD
+}
+
+/// What is sent to a client that waits for it before it sends a body (RFC 9110 15.2.1).
+pub fn continue_text() -> &'static [u8]
+    ensures { result.now ≡ spec.continue_text }
+{
+    b"HTTP/1.1 100 Continue\r\n\r\n"
 }
