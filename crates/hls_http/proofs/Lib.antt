@@ -3,7 +3,9 @@ pub mod Buffers
 pub mod Digits
 pub mod DropLaws
 pub mod HeadLaws
+pub mod ListParts
 pub mod MediaLaws
 pub mod QueryLaws
+pub mod ReplyLaws
 pub mod Values
 pub mod Words

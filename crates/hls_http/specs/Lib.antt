@@ -2,5 +2,7 @@ pub mod Bodies
 pub mod Drained
 pub mod Heads
 pub mod Media
+pub mod Replies
+pub mod Sessions
 pub mod Source
 pub mod Values

@@ -1,5 +1,5 @@
 -- Pieces of a resource.
-use Rattle.std.specs.Prelude.{◌≡◌, ℕ, ◌+◌, ◌-◌, ◌<◌, List, ◌++◌, length, take, Option, Some, None}
+use Rattle.std.specs.Prelude.{◌≡◌, ℕ, ◌+◌, ◌-◌, ◌<◌, nat_le, cond, List, ◌++◌, length, take, drop, Option, Some, None}
 
 -- a piece that isn't empty, whose front is that of the bytes; the others stand behind it
 pub record IsPieceOf (part : ℕ → ℕ → Option (List ℕ)) (at len : ℕ) (bytes piece : List ℕ) : Type 0 where
@@ -17,3 +17,14 @@ pub record HasPart (part : ℕ → ℕ → Option (List ℕ)) (from len : ℕ) :
   pub bytes : List ℕ
   pub is : part from len ≡ Some bytes
   pub size : length bytes ≡ len
+
+-- the first of the bytes; the others stand behind them
+pub record IsFrontOf (part : ℕ → ℕ → Option (List ℕ)) (from len : ℕ) (bytes first : List ℕ) : Type 0 where
+  pub rest : List ℕ
+  pub split : bytes ≡ first ++ rest
+  pub size : length first + length rest ≡ len
+  pub behind : part (from + length first) (len - length first) ≡ Some rest
+
+-- a list as a resource: so many of its bytes from an offset on, where all of them are there
+abbrev pub part_of_list : List ℕ → ℕ → ℕ → Option (List ℕ)
+part_of_list bytes at len = cond (nat_le (at + len) (length bytes)) (Some (take len (drop at bytes))) None

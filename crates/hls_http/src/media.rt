@@ -3,7 +3,7 @@
 ghost use Rattle.std.specs.Prelude.{◌≡◌, ◌+◌, ◌-◌, ◌<◌, ◌≤◌, ◌^◌, ℕ, List, Option, Some, length, min, option_map, take};
 ghost use Rattle.hls_io.specs.Counted.{failures_of, inside_of};
 ghost use Rattle.hls_io.specs.Writing.{CountsWrite, Writes};
-ghost use Rattle.hls_http.specs.Media.{GivesPiece, HasPart};
+ghost use Rattle.hls_http.specs.Media.{GivesPiece, HasPart, IsFrontOf};
 
 use hls_io::{Counted, write_whole};
 use std::io::Write;
@@ -29,6 +29,25 @@ fn front(piece: &[u8], len: u64) -> &[u8]
     } else {
         piece
     }
+}
+
+/// The first slice of so many bytes of a resource from an offset on, where it has at most so many bytes; else none.
+pub fn front_slice<M: Resource>(media: &M, from: u64, len: u64, most: u64) -> &[u8]
+    requires { HasPart (M.part media.now) from len }
+    ensures { (bytes : List ℕ) → M.part media.entry.now from len ≡ Some bytes → length bytes ≡ len
+        → IsFrontOf (M.part media.entry.now) from len bytes result.now }
+{
+    if len == 0 {
+        return b"";
+    }
+    let Some(piece) = media.piece(from) else {
+        unreachable!();
+    };
+    let first = front(piece, len);
+    if first.len() as u64 > most {
+        return b"";
+    }
+    first
 }
 
 /// Writes so many bytes of a resource from an offset on, from its own slices by as many calls as it takes. After a

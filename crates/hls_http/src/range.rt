@@ -57,14 +57,27 @@ fn slice_of(total: u64, from: u64, len: u64) -> Part
     }
 }
 
+/// From the first byte to the last, which is cut to that of the resource.
+fn between(total: u64, first: u64, last: u64) -> Part
+    ensures { result ≡ part_of (Asked.Between first last) total }
+{
+    if first >= total {
+        return Part::Outside;
+    }
+    let end = last.min(total - 1) + 1;
+    Part::Slice {
+        from: first,
+        len: end.saturating_sub(first),
+    }
+}
+
 /// The part of a resource of `total` bytes that is asked for.
 pub fn part(range: Asked, total: u64) -> Part
-    requires { IsAsked range }
     ensures { result ≡ part_of range total }
 {
     match range {
         Asked::All => Part::Whole,
-        Asked::Between(first, last) => slice_of(total, first, last + 1 - first),
+        Asked::Between(first, last) => between(total, first, last),
         Asked::From(first) => slice_of(total, first, total),
         Asked::Last(0) => Part::Outside,
         Asked::Last(len) => slice_of(total, total.saturating_sub(len), len),

@@ -1,10 +1,10 @@
 //! Replies: a head is one text, made before the first write.
 
-ghost use Rattle.std.specs.Prelude.{◌≡◌, ◌++◌, [], if◌then◌else◌, length, IfOk};
+ghost use Rattle.std.specs.Prelude.{◌≡◌, ◌++◌, IfOk};
 ghost use Rattle.std.specs.Fmt.{decimal};
-ghost use Rattle.hls_http_laws.specs.Reply.{close_line, content_lines, crlf, extra_line, head_text, refusal, status_line, type_line};
+ghost use Rattle.hls_http_laws.specs.Reply.{close_line, content_lines, crlf, extra_line, head_text_of, refusal, status_line, type_line};
 
-use hls_http_laws::reply::{Extra, Kind, Status};
+use hls_http_laws::reply::{Extra, Kind, ReplyHead, Status};
 use std::alloc::{AllocError, Global};
 
 /// Room for most heads, taken at once.
@@ -102,43 +102,16 @@ fn end_text(closing: bool) -> &'static [u8]
     }
 }
 
-/// The text of a reply's head: status line, Content-Type, Content-Length, then Content-Range, Location or Allow, then
-/// Connection, and the empty line.
-pub fn head_bytes(
-    alloc: Global,
-    status: Status,
-    kind: Kind,
-    len: u64,
-    extra: Extra<'_>,
-    closing: bool,
-) -> Result<Vec<u8>, AllocError>
-    ensures { IfOk result (λ v. v.items ≡ head_text status kind len extra.entry closing) }
+/// The text of a reply's head, whose content has so many bytes: status line, Content-Type, Content-Length, then
+/// Content-Range, Location or Allow, then Connection, and the empty line.
+pub fn head_bytes(alloc: Global, head: &ReplyHead<'_>, len: u64) -> Result<Vec<u8>, AllocError>
+    ensures { IfOk result (λ v. v.items ≡ head_text_of head.now len) }
 {
     let mut out = Vec::with_capacity(alloc, HEAD_ROOM)?;
-    out.extend_from_slice(status_text(status))?;
-    push_content(&mut out, status, kind, len)?;
-    push_extra(&mut out, extra)?;
-    out.extend_from_slice(end_text(closing))?;
-    Ok(out)
-}
-
-/// The whole text of a reply whose body is a text; to HEAD without the body.
-pub fn reply_bytes(
-    alloc: Global,
-    status: Status,
-    kind: Kind,
-    extra: Extra<'_>,
-    closing: bool,
-    body: &[u8],
-    to_head: bool,
-) -> Result<Vec<u8>, AllocError>
-    ensures { IfOk result (λ v. v.items
-        ≡ head_text status kind (length body.now) extra.entry closing ++ (if to_head then [] else body.now)) }
-{
-    let mut out = head_bytes(alloc, status, kind, body.len() as u64, extra, closing)?;
-    if !to_head {
-        out.extend_from_slice(body)?;
-    }
+    out.extend_from_slice(status_text(head.status))?;
+    push_content(&mut out, head.status, head.kind, len)?;
+    push_extra(&mut out, head.extra)?;
+    out.extend_from_slice(end_text(head.closing))?;
     Ok(out)
 }
 

@@ -1,35 +1,24 @@
 //! Requests read in any pieces, and whole replies, over memory.
 
+mod answers;
+mod digits;
+mod echo;
+mod fakes;
+mod refused;
+mod replies;
+
+use crate::tests::fakes::Drips;
 use crate::{
-    BodyEnd, DropEnd, Given, HeadEnd, HttpFault, Method, Source, drop_body, next_head, part,
-    read_body, refusal_body, reply_bytes, split_target, value_of,
+    BodyEnd, DropEnd, Given, HeadEnd, HttpFault, Method, Source, drop_body, next_head, read_body,
+    split_target, value_of,
 };
 use hls_http_laws::body::Body;
-use hls_http_laws::range::{Asked, Part};
-use hls_http_laws::reply::{Extra, Kind, Status, no_memory_text};
+use hls_http_laws::range::Asked;
 use std::alloc::{AllocError, Global};
-use std::io;
-use std::io::Read;
 use std::test::Fail;
 
-/// A reader that gives at most `step` bytes a call.
-#[derive(Drop)]
-struct Drips<'a> {
-    rest: &'a [u8],
-    step: usize,
-}
-
-impl<'a> Read for Drips<'a> {
-    fn read(&mut self, buf: &mut [u8]) -> io::Result<usize> {
-        let len = self.rest.len().min(self.step).min(buf.len());
-        buf[..len].copy_from_slice(&self.rest[..len]);
-        self.rest = &self.rest[len..];
-        Ok(len)
-    }
-}
-
 fn source<'a>(alloc: Global, text: &'a [u8], step: usize) -> Result<Source<Drips<'a>>, AllocError> {
-    Source::new(alloc, Drips { rest: text, step })
+    Source::new(alloc, Drips::new(text, step, 0))
 }
 
 /// The content of a body, and how it ended.
@@ -84,7 +73,7 @@ fn three_requests_in_any_pieces(rt: HostRuntime) -> Result<(), Fail> {
 }
 
 /// Why no head comes of a text, or why its fields are refused.
-fn refused(alloc: Global, text: &[u8]) -> Result<(Option<HeadEnd>, Option<HttpFault>), AllocError> {
+fn refusal(alloc: Global, text: &[u8]) -> Result<(Option<HeadEnd>, Option<HttpFault>), AllocError> {
     let mut source = source(alloc, text, 4096)?;
     Ok(match next_head(&mut source) {
         Ok(head) => (None, head.body.err()),
@@ -95,25 +84,25 @@ fn refused(alloc: Global, text: &[u8]) -> Result<(Option<HeadEnd>, Option<HttpFa
 #[test]
 fn heads_that_are_refused(rt: HostRuntime) -> Result<(), Fail> {
     assert_eq!(rt;
-        refused(rt.alloc(), b"GET /\r\n")?,
+        refusal(rt.alloc(), b"GET /\r\n")?,
         (Some(HeadEnd::BadHead), None)
     );
     assert_eq!(rt;
-        refused(rt.alloc(), b"GET / HTTP/1.1\r\nHost: a\r\n")?,
+        refusal(rt.alloc(), b"GET / HTTP/1.1\r\nHost: a\r\n")?,
         (Some(HeadEnd::CutShort), None)
     );
     assert_eq!(rt;
-        refused(rt.alloc(), &[b'\n'; 16384])?,
+        refusal(rt.alloc(), &[b'\n'; 16384])?,
         (Some(HeadEnd::HeadTooLarge), None)
     );
     assert_eq!(rt;
-        refused(rt.alloc(), b"GET / HTTP/1.1\r\n\r\n")?,
+        refusal(rt.alloc(), b"GET / HTTP/1.1\r\n\r\n")?,
         (None, Some(HttpFault::BadHead))
     );
     let both =
         b"PUT / HTTP/1.1\r\nHost: a\r\nContent-Length: 5\r\nTransfer-Encoding: chunked\r\n\r\n";
     assert_eq!(rt;
-        refused(rt.alloc(), both)?,
+        refusal(rt.alloc(), both)?,
         (None, Some(HttpFault::BadFraming))
     );
     Ok(())
@@ -138,67 +127,6 @@ fn bodies_that_stop(rt: HostRuntime) -> Result<(), Fail> {
         drop_body(&mut small, &mut body),
         Err(DropEnd::Stopped(BodyEnd::CutShort))
     );
-    Ok(())
-}
-
-#[test]
-fn whole_replies(rt: HostRuntime) -> Result<(), Fail> {
-    let body = refusal_body(rt.alloc(), "RangeOutside")?;
-    assert_eq!(rt; part(Asked::From(3600), 3600), Part::Outside);
-    let outside = reply_bytes(
-        rt.alloc(),
-        Status::RangeNotSatisfiable,
-        Kind::Text,
-        Extra::NoRange(3600),
-        false,
-        &body,
-        false,
-    )?;
-    assert_eq!(rt;
-        outside.as_slice(),
-        b"HTTP/1.1 416 Range Not Satisfiable\r\nContent-Type: text/plain\r\nContent-Length: 21\r\nContent-Range: bytes */3600\r\n\r\nrefused RangeOutside\n".as_slice()
-    );
-    let status = b"version 0\nplaces 0\nsegments 0\nremoved 0\njobs 0\n";
-    let opening = reply_bytes(
-        rt.alloc(),
-        Status::Done,
-        Kind::Text,
-        Extra::Nothing,
-        false,
-        status,
-        false,
-    )?;
-    assert_eq!(rt;
-        opening.as_slice(),
-        b"HTTP/1.1 200 OK\r\nContent-Type: text/plain\r\nContent-Length: 47\r\n\r\nversion 0\nplaces 0\nsegments 0\nremoved 0\njobs 0\n".as_slice()
-    );
-    let allow = reply_bytes(
-        rt.alloc(),
-        Status::MethodNotAllowed,
-        Kind::Text,
-        Extra::Allow(b"GET, HEAD"),
-        true,
-        b"refused BadMethod\n",
-        true,
-    )?;
-    assert_eq!(rt;
-        allow.as_slice(),
-        b"HTTP/1.1 405 Method Not Allowed\r\nContent-Type: text/plain\r\nContent-Length: 18\r\nAllow: GET, HEAD\r\nConnection: close\r\n\r\n".as_slice()
-    );
-    let gone = reply_bytes(
-        rt.alloc(),
-        Status::NoContent,
-        Kind::Text,
-        Extra::Nothing,
-        false,
-        b"",
-        false,
-    )?;
-    assert_eq!(rt;
-        gone.as_slice(),
-        b"HTTP/1.1 204 No Content\r\n\r\n".as_slice()
-    );
-    assert_eq!(rt; no_memory_text().len(), 116);
     Ok(())
 }
 

@@ -1,0 +1,4 @@
+use Rattle.hls_http.proofs.session.Session.reply.Goals as goal
+
+pub returns-clause-answers : goal.returns-clause-answers
+returns-clause-answers g c = λ held known. c.finish.ensures.answers held _ (c.write_reply-sent.ensures.writes held known)

@@ -1,0 +1,104 @@
+//! What is done with a request once its head was read, in the order of the fields, the path and the body.
+
+ghost use Rattle.std.specs.Prelude.{◌≡◌, List, ℕ};
+ghost use Rattle.httparse.specs.Grammar.{RequestHead};
+ghost use Rattle.hls_http_laws.specs.Order as spec;
+ghost use Rattle.hls_http_laws.specs.Requests.{begins};
+ghost use Rattle.hls_http.specs.Heads.{IsHead};
+
+use crate::head::Head;
+use hls_http_laws::body::Body;
+use hls_http_laws::fault::HttpFault;
+use hls_http_laws::limits::MOST_DROPPED;
+use hls_http_laws::plan::Plan;
+
+fn is_over(body: Body) -> bool
+    ensures { result ≡ spec.is_over body }
+{
+    matches!(body, Body::Length(0))
+}
+
+/// Whether a Content-Length alone shows a body that is too large to be dropped.
+fn is_past(body: Body) -> bool
+    ensures { result ≡ spec.is_past body }
+{
+    match body {
+        Body::Length(len) => len > MOST_DROPPED,
+        _ => false,
+    }
+}
+
+/// By where the body begins, or why it can't be told.
+fn plan_by(begins: Result<Body, HttpFault>, known: bool, feeds: bool) -> Plan
+    ensures { result ≡ spec.plan_by begins known feeds }
+{
+    let body = match begins {
+        Ok(body) => body,
+        Err(fault) => {
+            return Plan::Refuse {
+                fault,
+                closing: true,
+            };
+        }
+    };
+    if !known {
+        return Plan::Refuse {
+            fault: HttpFault::NotFound,
+            closing: !is_over(body),
+        };
+    }
+    if feeds {
+        return Plan::Feed(body);
+    }
+    if is_past(body) {
+        return Plan::Refuse {
+            fault: HttpFault::TooLarge,
+            closing: true,
+        };
+    }
+    Plan::Skip(body)
+}
+
+/// What is done with a request, by whether its path is known, and whether the route takes its body part by part: the
+/// fields' fault comes first, then an unknown path, then a Content-Length past 65536 bytes of a body to be dropped.
+pub fn plan(head: &Head, known: bool, feeds: bool) -> Plan
+    ensures { (h : RequestHead) (text : List ℕ) → IsHead h head.now text → result ≡ spec.plan_by (begins h) known feeds }
+{
+    plan_by(head.body, known, feeds)
+}
+
+fn reads_body(plan: Plan) -> bool
+    ensures { result ≡ spec.reads_body plan }
+{
+    match plan {
+        Plan::Refuse { .. } => false,
+        Plan::Feed(body) => !is_over(body),
+        Plan::Skip(body) => !is_over(body),
+    }
+}
+
+/// Whether 100 Continue goes out before the body is read (RFC 9110 10.1.1).
+pub fn continues(head: &Head, plan: Plan) -> bool
+    ensures { (h : RequestHead) (text : List ℕ) → IsHead h head.now text → result ≡ spec.continues h plan }
+{
+    head.expects && reads_body(plan)
+}
+
+/// Whether a reply says `Connection: close`: where it is given early, before the body was read to its end, or where
+/// the request asks for it (RFC 9112 9.6).
+pub fn says_close(head: &Head, early: bool) -> bool
+    ensures { (h : RequestHead) (text : List ℕ) → IsHead h head.now text → result ≡ spec.says_close h early }
+{
+    early || head.closes
+}
+
+/// Whether a refusal at a position of a body's content, in bytes from its beginning, comes before the body's end. In
+/// chunks it always does, since the last chunk is still to come.
+pub fn ends_early(body: Body, position: u64) -> bool
+    ensures { result ≡ spec.ends_early body position }
+{
+    match body {
+        Body::Length(len) => position != len,
+        _ => true,
+    }
+}

@@ -1,0 +1,157 @@
+//! Replies written: a small one by one write, media from the slices that hold them.
+
+ghost use Rattle.std.specs.Prelude.{◌≡◌, ◌++◌, ◌+◌, ◌<◌, ◌^◌, ℕ, List, Some, IfOk, length};
+ghost use Rattle.hls_io.specs.Counted.{failures_of, inside_of};
+ghost use Rattle.hls_http_laws.specs.Reply.{head_text_of, reply_text};
+ghost use Rattle.hls_http.specs.Media.{HasPart, IsFrontOf};
+ghost use Rattle.hls_http.specs.Replies.{CountsReply, Replies};
+
+use crate::media::{Resource, front_slice, write_part};
+use crate::reply::head_bytes;
+use hls_http_laws::reply::ReplyHead;
+use hls_io::{Counted, write_whole};
+use std::alloc::{AllocError, Global};
+use std::io::Write;
+
+/// The most bytes of a content, or of the first slice of one, that go out in one write with the head.
+const MOST_JOINED: usize = 16384;
+
+/// Why a reply wasn't written.
+#[derive(Clone, Copy, Debug, PartialEq, Eq, Drop)]
+pub enum ReplyEnd {
+    /// No memory was left for its head; nothing is written.
+    Memory,
+    /// A write failed, and was counted; a beginning of the reply is written.
+    WriteFailed,
+}
+
+/// A head, and the front of its content.
+fn joined(
+    alloc: Global,
+    head: &ReplyHead<'_>,
+    len: u64,
+    front: &[u8],
+) -> Result<Vec<u8>, AllocError>
+    ensures { IfOk result (λ v. v.items ≡ head_text_of head.now len ++ front.now) }
+{
+    let mut out = head_bytes(alloc, head, len)?;
+    out.extend_from_slice(front)?;
+    Ok(out)
+}
+
+/// All of a small content and nothing, or nothing and all of a large one.
+fn split_small(content: &[u8]) -> (&[u8], &[u8])
+    ensures { content.entry.now ≡ result.0.now ++ result.1.now }
+{
+    if content.len() <= MOST_JOINED {
+        (content, b"")
+    } else {
+        (b"", content)
+    }
+}
+
+/// Writes two texts, one after the other.
+fn write_both<W: Write>(
+    output: &mut Counted<W>,
+    first: &[u8],
+    second: &[u8],
+) -> Result<(), ReplyEnd>
+    ensures writes { (held : List ℕ) → W.contents (inside_of output.old) ≡ Some held
+        → Replies held (first.now ++ second.now) (W.contents (inside_of output.new)) result }
+    ensures counts { CountsReply result (failures_of output.old) (failures_of output.new) }
+{
+    if !write_whole(output, first) {
+        return Err(ReplyEnd::WriteFailed);
+    }
+    if !write_whole(output, second) {
+        return Err(ReplyEnd::WriteFailed);
+    }
+    Ok(())
+}
+
+/// Writes a text, and then so many bytes of a resource from an offset on.
+fn write_before<W: Write, M: Resource>(
+    output: &mut Counted<W>,
+    first: &[u8],
+    media: &M,
+    from: u64,
+    len: u64,
+) -> Result<(), ReplyEnd>
+    requires room { from + len < 2 ^ 64 }
+    requires held { HasPart (M.part media.now) from len }
+    ensures writes { (held bytes : List ℕ) → W.contents (inside_of output.old) ≡ Some held
+        → M.part media.now from len ≡ Some bytes → length bytes ≡ len
+        → Replies held (first.now ++ bytes) (W.contents (inside_of output.new)) result }
+    ensures counts { CountsReply result (failures_of output.old) (failures_of output.new) }
+{
+    if !write_whole(output, first) {
+        return Err(ReplyEnd::WriteFailed);
+    }
+    if !write_part(output, media, from, len) {
+        return Err(ReplyEnd::WriteFailed);
+    }
+    Ok(())
+}
+
+/// Writes the head of a reply to HEAD, whose content would have so many bytes.
+pub fn write_head<W: Write>(
+    alloc: Global,
+    output: &mut Counted<W>,
+    head: &ReplyHead<'_>,
+    len: u64,
+) -> Result<(), ReplyEnd>
+    ensures writes { (held : List ℕ) → W.contents (inside_of output.old) ≡ Some held
+        → Replies held (head_text_of head.now len) (W.contents (inside_of output.new)) result }
+    ensures counts { CountsReply result (failures_of output.old) (failures_of output.new) }
+{
+    match joined(alloc, head, len, b"") {
+        Ok(text) => write_both(output, &text, b""),
+        Err(_) => Err(ReplyEnd::Memory),
+    }
+}
+
+/// Writes a reply whose content is a text; to HEAD without it. A small one goes out in one write.
+pub fn write_reply<W: Write>(
+    alloc: Global,
+    output: &mut Counted<W>,
+    head: &ReplyHead<'_>,
+    body: &[u8],
+    to_head: bool,
+) -> Result<(), ReplyEnd>
+    ensures writes { (held : List ℕ) → W.contents (inside_of output.old) ≡ Some held
+        → Replies held (reply_text head.now body.now to_head) (W.contents (inside_of output.new)) result }
+    ensures counts { CountsReply result (failures_of output.old) (failures_of output.new) }
+{
+    let content: &[u8] = if to_head { b"" } else { body };
+    let (front, rest) = split_small(content);
+    match joined(alloc, head, body.len() as u64, front) {
+        Ok(text) => write_both(output, &text, rest),
+        Err(_) => Err(ReplyEnd::Memory),
+    }
+}
+
+/// Writes a reply whose content is so many bytes of a resource from an offset on, from the resource's own slices.
+/// Memory is taken for the head alone, with which the first slice goes out in one write where it is small.
+pub fn write_media<W: Write, M: Resource>(
+    alloc: Global,
+    output: &mut Counted<W>,
+    head: &ReplyHead<'_>,
+    media: &M,
+    from: u64,
+    len: u64,
+) -> Result<(), ReplyEnd>
+    requires room { from + len < 2 ^ 64 }
+    requires held { HasPart (M.part media.now) from len }
+    ensures writes { (held bytes : List ℕ) → W.contents (inside_of output.old) ≡ Some held
+        → M.part media.now from len ≡ Some bytes → length bytes ≡ len
+        → Replies held (head_text_of head.now len ++ bytes) (W.contents (inside_of output.new)) result }
+    ensures counts { CountsReply result (failures_of output.old) (failures_of output.new) }
+{
+    let front = front_slice(media, from, len, MOST_JOINED as u64);
+    let text = match joined(alloc, head, len, front) {
+        Ok(text) => text,
+        Err(_) => return Err(ReplyEnd::Memory),
+    };
+    let given = front.len() as u64;
+    write_before(output, &text, media, from + given, len - given)
+}

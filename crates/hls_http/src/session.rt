@@ -1,0 +1,206 @@
+//! A session: the requests that come of a reader, and the replies that go to a writer.
+
+ghost use Rattle.std.specs.Prelude.{◌≡◌, ◌++◌, ◌+◌, ◌<◌, ◌≤◌, ◌^◌, ℕ, List, Some, true, false, length};
+ghost use Rattle.hls_io.specs.Counted.{failures_of, inside_of};
+ghost use Rattle.hls_http_laws.specs.Reply.{head_text_of, no_memory_to, reply_text};
+ghost use Rattle.hls_http.specs.Bodies.{CountsBody, Passes};
+ghost use Rattle.hls_http.specs.Drained.{announced_by, CountsDrop, Drops};
+ghost use Rattle.hls_http.specs.Heads.{CountsHead, Hears};
+ghost use Rattle.hls_http.specs.Media.{HasPart};
+ghost use Rattle.hls_http.specs.Replies.{Answers, AnswersMemory, CountsAnswer, CountsEnding, CountsReply, EndsBy, Replies};
+ghost use Rattle.hls_http.specs.Source.{held_of, read_failures, reader_of, taken_of};
+
+use crate::body::{BodyEnd, Given, read_body};
+use crate::drain::DropEnd;
+use crate::head::{Head, HeadEnd};
+use crate::media::Resource;
+use crate::send::{ReplyEnd, write_head, write_media, write_reply};
+use crate::source::Source;
+use crate::{drain, head};
+use hls_http_laws::body::Body;
+use hls_http_laws::end::SessionEnd;
+use hls_http_laws::reply::{ReplyHead, no_memory_head_text, no_memory_text};
+use hls_io::{Counted, write_whole};
+use std::alloc::{AllocError, Global};
+use std::io::{Read, Write};
+
+/// A session over a reader and a writer, both counted.
+#[derive(Drop)]
+pub struct Session<R, W> {
+    /// The reader, with the bytes that were read and not yet taken.
+    pub source: Source<R>,
+    /// The writer.
+    pub writer: Counted<W>,
+}
+
+impl<R: Drop, W: Drop> Session<R, W> {
+    ghost use Rattle.std.specs.Prelude.{IfOk};
+    ghost use Rattle.hls_http.specs.Sessions.{IsNew};
+
+    /// A session of which nothing was read or written. Memory is taken for the buffer of 65536 bytes, and never again
+    /// but for the heads of replies.
+    pub fn new(alloc: Global, reader: R, writer: W) -> Result<Session<R, W>, AllocError>
+        ensures { IfOk result (IsNew reader writer) }
+    {
+        let source = Source::new(alloc, reader)?;
+        Ok(Session {
+            source,
+            writer: Counted::new(writer),
+        })
+    }
+}
+
+impl<R: Read, W> Session<R, W> {
+    /// Takes the next head, as [`next_head`](head::next_head) does.
+    pub fn next_head(&mut self) -> Result<Head, HeadEnd>
+        ensures hears { (rest : List ℕ) → R.remaining (reader_of self.old.source) ≡ Some rest
+            → Hears (held_of self.old.source ++ rest) (taken_of self.new.source) (held_of self.new.source) (R.remaining (reader_of self.new.source)) result }
+        ensures counts { CountsHead result (read_failures self.old.source) (read_failures self.new.source) }
+        ensures writer { self.new.writer ≡ self.old.writer }
+    {
+        head::next_head(&mut self.source)
+    }
+
+    /// Takes the next piece of a body, as [`read_body`] does.
+    pub fn body(&mut self, body: &mut Body) -> Result<Given, BodyEnd>
+        ensures passes { (rest : List ℕ) → R.remaining (reader_of self.old.source) ≡ Some rest
+            → Passes body.old (held_of self.old.source ++ rest) body.new (taken_of self.new.source) (held_of self.new.source) (R.remaining (reader_of self.new.source)) result }
+        ensures counts { CountsBody result (read_failures self.old.source) (read_failures self.new.source) }
+        ensures writer { self.new.writer ≡ self.old.writer }
+    {
+        read_body(&mut self.source, body)
+    }
+
+    /// Takes a body of at most 65536 bytes to its end and drops it, as [`drop_body`](drain::drop_body) does.
+    pub fn drop_body(&mut self, body: &mut Body) -> Result<(), DropEnd>
+        requires { announced_by body.old ≤ 65536 }
+        ensures drops { (rest : List ℕ) → R.remaining (reader_of self.old.source) ≡ Some rest
+            → Drops body.old (held_of self.old.source ++ rest) body.new (held_of self.new.source) (R.remaining (reader_of self.new.source)) result }
+        ensures counts { CountsDrop result (read_failures self.old.source) (read_failures self.new.source) }
+        ensures writer { self.new.writer ≡ self.old.writer }
+    {
+        drain::drop_body(&mut self.source, body)
+    }
+}
+
+fn no_memory_for(to_head: bool) -> &'static [u8]
+    ensures { result.now ≡ no_memory_to to_head }
+{
+    if to_head {
+        no_memory_head_text()
+    } else {
+        no_memory_text()
+    }
+}
+
+/// Writes the fixed reply to want of memory, which takes none; to HEAD without its body.
+fn write_no_memory<W: Write>(output: &mut Counted<W>, to_head: bool) -> SessionEnd
+    ensures answers { (held : List ℕ) → W.contents (inside_of output.old) ≡ Some held
+        → AnswersMemory to_head held (W.contents (inside_of output.new)) result }
+    ensures counts { CountsEnding result (failures_of output.old) (failures_of output.new) }
+{
+    if write_whole(output, no_memory_for(to_head)) {
+        SessionEnd::Refused
+    } else {
+        SessionEnd::WriteFailed
+    }
+}
+
+/// How a session goes on after a reply of this head was written.
+fn after_reply(head: &ReplyHead<'_>) -> Result<(), SessionEnd>
+    ensures { EndsBy head.now result }
+{
+    if !head.closing {
+        return Ok(());
+    }
+    if head.status.is_success() {
+        Err(SessionEnd::Closed)
+    } else {
+        Err(SessionEnd::Refused)
+    }
+}
+
+/// How a session goes on after a reply was sent or not; for want of memory the fixed reply is written.
+fn finish<W: Write>(
+    output: &mut Counted<W>,
+    sent: Result<(), ReplyEnd>,
+    head: &ReplyHead<'_>,
+    to_head: bool,
+) -> Result<(), SessionEnd>
+    ensures answers { (held text : List ℕ) → Replies held text (W.contents (inside_of output.old)) sent
+        → Answers head.now to_head held text (W.contents (inside_of output.new)) result }
+    ensures counts { (before : ℕ) → CountsReply sent before (failures_of output.old) → CountsAnswer result before (failures_of output.new) }
+{
+    match sent {
+        Ok(()) => after_reply(head),
+        Err(ReplyEnd::Memory) => Err(write_no_memory(output, to_head)),
+        Err(ReplyEnd::WriteFailed) => Err(SessionEnd::WriteFailed),
+    }
+}
+
+impl<R, W: Write> Session<R, W> {
+    /// Replies with a text; to HEAD without it. For want of memory the fixed 503 is the reply. The session goes on
+    /// unless a reply said `Connection: close` or wasn't written whole.
+    pub fn reply(
+        &mut self,
+        alloc: Global,
+        head: &ReplyHead<'_>,
+        body: &[u8],
+        to_head: bool,
+    ) -> Result<(), SessionEnd>
+        ensures answers { (held : List ℕ) → W.contents (inside_of self.old.writer) ≡ Some held
+            → Answers head.now to_head held (reply_text head.now body.now to_head) (W.contents (inside_of self.new.writer)) result }
+        ensures counts { CountsAnswer result (failures_of self.old.writer) (failures_of self.new.writer) }
+        ensures reader { self.new.source ≡ self.old.source }
+    {
+        let sent = write_reply(alloc, &mut self.writer, head, body, to_head);
+        finish(&mut self.writer, sent, head, to_head)
+    }
+
+    /// Replies to HEAD where the content of a GET would have so many bytes.
+    pub fn reply_head(
+        &mut self,
+        alloc: Global,
+        head: &ReplyHead<'_>,
+        len: u64,
+    ) -> Result<(), SessionEnd>
+        ensures answers { (held : List ℕ) → W.contents (inside_of self.old.writer) ≡ Some held
+            → Answers head.now true held (head_text_of head.now len) (W.contents (inside_of self.new.writer)) result }
+        ensures counts { CountsAnswer result (failures_of self.old.writer) (failures_of self.new.writer) }
+        ensures reader { self.new.source ≡ self.old.source }
+    {
+        let sent = write_head(alloc, &mut self.writer, head, len);
+        finish(&mut self.writer, sent, head, true)
+    }
+
+    /// Replies with so many bytes of a resource from an offset on, from the resource's own slices.
+    pub fn reply_media<M: Resource>(
+        &mut self,
+        alloc: Global,
+        head: &ReplyHead<'_>,
+        media: &M,
+        from: u64,
+        len: u64,
+    ) -> Result<(), SessionEnd>
+        requires room { from + len < 2 ^ 64 }
+        requires held { HasPart (M.part media.now) from len }
+        ensures answers { (held bytes : List ℕ) → W.contents (inside_of self.old.writer) ≡ Some held
+            → M.part media.now from len ≡ Some bytes → length bytes ≡ len
+            → Answers head.now false held (head_text_of head.now len ++ bytes) (W.contents (inside_of self.new.writer)) result }
+        ensures counts { CountsAnswer result (failures_of self.old.writer) (failures_of self.new.writer) }
+        ensures reader { self.new.source ≡ self.old.source }
+    {
+        let sent = write_media(alloc, &mut self.writer, head, media, from, len);
+        finish(&mut self.writer, sent, head, false)
+    }
+
+    /// Replies to want of memory by its fixed bytes, which takes none; to HEAD without its body. The session ends.
+    pub fn reply_no_memory(&mut self, to_head: bool) -> SessionEnd
+        ensures answers { (held : List ℕ) → W.contents (inside_of self.old.writer) ≡ Some held
+            → AnswersMemory to_head held (W.contents (inside_of self.new.writer)) result }
+        ensures counts { CountsEnding result (failures_of self.old.writer) (failures_of self.new.writer) }
+        ensures reader { self.new.source ≡ self.old.source }
+    {
+        write_no_memory(&mut self.writer, to_head)
+    }
+}
