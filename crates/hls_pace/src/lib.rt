@@ -1,0 +1,14 @@
+//! How long a connection may keep a worker waiting: a reader and a writer over a stream that give up on a silent, idle or
+//! slow peer. A session over them knows nothing of time: it sees the end of its input, or a failed call.
+#![tactic(auto)]
+
+mod clock;
+mod pace;
+mod reader;
+#[cfg(test)]
+mod tests;
+mod writer;
+
+pub use pace::{Pace, Silence, Turn};
+pub use reader::PatientReader;
+pub use writer::PatientWriter;

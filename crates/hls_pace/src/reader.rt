@@ -1,0 +1,86 @@
+//! The reading half of a connection.
+ghost use Rattle.std.specs.Prelude.{◌≡◌, ◌≤◌, IfOk};
+
+use crate::clock::milliseconds;
+use crate::pace::{Pace, Silence};
+use std::cell::Cell;
+use std::io::{self, ErrorKind, Read};
+use std::sync::atomic::{AtomicU64, Ordering};
+use std::time::Clock;
+
+/// A reader over a stream whose own calls wait a short while (`WouldBlock` where nothing came). Silence counts from the
+/// last byte and is told by `Pace::silence`: its end is `Ok(0)`, a failure `TimedOut`. A request that comes too slowly
+/// (`Pace::is_slow`) is `TimedOut` too.
+#[derive(Drop)]
+pub struct PatientReader<'a, C, S> {
+    clock: &'a C,
+    stream: S,
+    pace: &'a Cell<Pace>,
+    free: &'a AtomicU64,
+    patience: u64,
+    ghost in_range: { patience ≤ 3600 },
+}
+
+impl<'a, C: Clock, S: Read + Drop> PatientReader<'a, C, S> {
+    /// `free` counts the workers that wait for a connection; `patience` is in seconds, and counts as 3600 above that.
+    pub fn new(
+        clock: &'a C,
+        stream: S,
+        pace: &'a Cell<Pace>,
+        free: &'a AtomicU64,
+        patience: u64,
+    ) -> PatientReader<'a, C, S> {
+        PatientReader {
+            clock,
+            stream,
+            pace,
+            free,
+            patience: patience.min(3600),
+        }
+    }
+}
+
+impl<'a, C: Clock, S: Read> PatientReader<'a, C, S> {
+    /// Counts bytes that came.
+    fn hear(&self, bytes: usize) -> io::Result<usize>
+        ensures { IfOk result (λ n. n ≡ bytes) }
+    {
+        let now = milliseconds(self.clock);
+        let pace = self.pace.get().heard(bytes as u64, now);
+        self.pace.set(pace);
+        if pace.is_slow(self.patience, now) {
+            return Err(ErrorKind::TimedOut.into());
+        }
+        Ok(bytes)
+    }
+
+    /// What follows of silence since a moment.
+    fn silence(&self, since: u64) -> Silence {
+        let waited = milliseconds(self.clock).saturating_sub(since);
+        let free = self.free.load(Ordering::SeqCst) > 0;
+        self.pace.get().silence(self.patience, waited, free)
+    }
+}
+
+impl<'a, C: Clock, S: Read> Read for PatientReader<'a, C, S> {
+    fn read(&mut self, buf: &mut [u8]) -> io::Result<usize> {
+        let begun = milliseconds(self.clock);
+        for _ in 0..u64::MAX {
+            match self.stream.read(buf) {
+                Ok(0) => return Ok(0),
+                Ok(bytes) => return self.hear(bytes),
+                Err(error) => {
+                    if error.kind() != ErrorKind::WouldBlock {
+                        return Err(error);
+                    }
+                }
+            }
+            match self.silence(begun) {
+                Silence::Wait => {}
+                Silence::End => return Ok(0),
+                Silence::GiveUp => return Err(ErrorKind::TimedOut.into()),
+            }
+        }
+        Err(ErrorKind::TimedOut.into())
+    }
+}

@@ -1,0 +1,130 @@
+//! Silent, idle and slow peers, on a clock that goes on by a quarter of a second at each look.
+
+use crate::{Pace, PatientReader, PatientWriter};
+use std::cell::Cell;
+use std::io::{self, ErrorKind, Read, Write};
+use std::sync::atomic::AtomicU64;
+use std::test::Fail;
+use std::time::{Clock, Duration};
+
+#[derive(Drop)]
+struct Steps {
+    at: Cell<u64>,
+    step: u64,
+}
+
+fn clock_by(step: u64) -> Steps {
+    Steps {
+        at: Cell::new(0),
+        step,
+    }
+}
+
+impl Clock for Steps {
+    fn monotonic(&self) -> io::Result<Duration> {
+        let at = self.at.get().saturating_add(self.step);
+        self.at.set(at);
+        Ok(Duration::from_millis(at))
+    }
+
+    fn since_1970(&self) -> io::Result<Duration> {
+        self.monotonic()
+    }
+}
+
+/// A stream that gives, and takes, `lens` bytes in turn; where it is 0, nothing comes for a while. Then nothing comes at all.
+#[derive(Drop)]
+struct Stream<'a> {
+    lens: &'a [usize],
+}
+
+impl<'a> Stream<'a> {
+    fn next(&mut self) -> io::Result<usize> {
+        let Some((len, rest)) = self.lens.split_first() else {
+            return Err(ErrorKind::WouldBlock.into());
+        };
+        self.lens = rest;
+        if *len == 0 {
+            return Err(ErrorKind::WouldBlock.into());
+        }
+        Ok(*len)
+    }
+}
+
+impl<'a> Read for Stream<'a> {
+    fn read(&mut self, buf: &mut [u8]) -> io::Result<usize> {
+        let len = self.next()?;
+        Ok(len.min(buf.len()))
+    }
+}
+
+impl<'a> Write for Stream<'a> {
+    fn write(&mut self, buf: &[u8]) -> io::Result<usize> {
+        let len = self.next()?;
+        Ok(len.min(buf.len()))
+    }
+
+    fn flush(&mut self) -> io::Result<()> {
+        Ok(())
+    }
+}
+
+/// How a call ended: its bytes, or 1000 where it failed.
+fn bytes_of(ended: io::Result<usize>) -> usize {
+    ended.unwrap_or(1000)
+}
+
+fn read_by(lens: &[usize], calls: usize, workers: u64, step: u64) -> usize {
+    let clock = clock_by(step);
+    let pace = Cell::new(Pace::new());
+    let free = AtomicU64::new(workers);
+    let mut reader = PatientReader::new(&clock, Stream { lens }, &pace, &free, 2);
+    let mut buf = [0; 100];
+    let mut last = 0;
+    for _ in 0..calls {
+        last = bytes_of(reader.read(&mut buf));
+    }
+    last
+}
+
+#[test]
+fn an_idle_connection_ends(rt: HostRuntime) -> Result<(), Fail> {
+    assert!(rt; read_by(&[], 1, 1, 250) == 0);
+    assert!(rt; read_by(&[0, 0, 5], 1, 1, 250) == 5);
+    assert!(rt; read_by(&[0, 0, 5], 1, 0, 250) == 0);
+    Ok(())
+}
+
+#[test]
+fn a_silent_request_fails(rt: HostRuntime) -> Result<(), Fail> {
+    assert!(rt; read_by(&[5], 2, 0, 250) == 1000);
+    assert!(rt; read_by(&[5, 0, 0, 7], 2, 0, 250) == 7);
+    Ok(())
+}
+
+#[test]
+fn a_trickle_fails(rt: HostRuntime) -> Result<(), Fail> {
+    assert!(rt; read_by(&[1, 1, 1, 1, 1, 1], 3, 0, 250) == 1);
+    assert!(rt; read_by(&[1, 1, 1, 1, 1, 1], 6, 0, 250) == 1000);
+    assert!(rt; read_by(&[100, 100, 100, 100, 100, 100], 6, 0, 25) == 100);
+    Ok(())
+}
+
+fn write_by(text: &[u8], lens: &[usize], calls: usize, step: u64) -> usize {
+    let clock = clock_by(step);
+    let pace = Cell::new(Pace::new());
+    let mut writer = PatientWriter::new(&clock, Stream { lens }, &pace, 2);
+    let mut last = 0;
+    for _ in 0..calls {
+        last = bytes_of(writer.write(text));
+    }
+    last
+}
+
+#[test]
+fn a_reply_that_isnt_taken_fails(rt: HostRuntime) -> Result<(), Fail> {
+    assert!(rt; write_by(b"HTTP/1.1 200 OK", &[], 1, 250) == 1000);
+    assert!(rt; write_by(b"HTTP/1.1 200 OK", &[0, 0, 5], 1, 250) == 5);
+    assert!(rt; write_by(b"HTTP/1.1 200 OK", &[1, 1, 1, 1, 1, 1], 6, 250) == 1000);
+    Ok(())
+}
