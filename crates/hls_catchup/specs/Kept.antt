@@ -6,6 +6,8 @@ use Rattle.hls_places_laws.specs.Programmes.{kept}
 use Rattle.hls_core_laws.specs.State.{State}
 use Rattle.hls_core_laws.specs.Places.{places, floors}
 use Rattle.hls_catchup.specs.declared.kept.KeptPlaces.TheInside.{Inside}
+use Rattle.hls_blocks.specs.Numbered.{list_limit}
+use Rattle.hls_check_laws.specs.Tables.{rendition_limit}
 
 -- all places so far, and of each rendition the number of the first fragment that isn't trimmed
 pub record Kept : Type 0 where
@@ -17,8 +19,8 @@ seen k = record { items = k.places.now.items; floors = take k.renditions k.floor
 
 pub record IsWhole (k : Inside) : Type 0 where
   pub all : k.places.now.first ≡ 0
-  pub few : length k.places.now.items ≤ 16777216
-  pub renditions : k.renditions ≤ 16
+  pub few : length k.places.now.items ≤ list_limit
+  pub renditions : k.renditions ≤ rendition_limit
 
 -- those of a state
 abbrev pub kept_in : State → Kept

@@ -4,13 +4,14 @@ ghost use Rattle.std.specs.Prelude.{◌≡◌, length, take, slice_index_or};
 ghost use Rattle.hls_core_laws.specs.State.{channel};
 ghost use Rattle.hls_core_laws.specs.Places.{floors};
 
+use hls_check_laws::RENDITION_LIMIT;
 use hls_core::snapshot::Snapshot;
 
 /// Of each rendition the number of the first unit that isn't trimmed; 0 where it hasn't begun, and past the last rendition.
-pub fn floors_of(snapshot: &Snapshot) -> [u64; 16]
+pub fn floors_of(snapshot: &Snapshot) -> [u64; RENDITION_LIMIT]
     ensures { take (length (channel snapshot.now).lanes) result ≡ floors snapshot.now }
 {
-    let mut floors = [0; 16];
+    let mut floors = [0; RENDITION_LIMIT];
     for rendition in 0..snapshot.config().renditions().len() {
         floors[rendition] = floor_of(snapshot, rendition);
     }

@@ -11,6 +11,7 @@ ghost use Rattle.hls_catchup.specs.Kept.{kept_in, all_kept, kept_from, IsLastBy,
 
 use crate::floors::floors_of;
 use hls_blocks::Shared;
+use hls_check_laws::RENDITION_LIMIT;
 use hls_core::snapshot::Snapshot;
 use hls_places::{Place, Spots, is_kept};
 use std::alloc::{AllocError, Global};
@@ -20,7 +21,7 @@ use std::marker::Model;
 #[derive(Drop)]
 pub struct KeptPlaces<'a> {
     places: &'a Shared<Place>,
-    floors: [u64; 16],
+    floors: [u64; RENDITION_LIMIT],
     renditions: usize,
 }
 

@@ -4,6 +4,7 @@ use Rattle.hls_core_laws.specs.State.{channel}
 use Rattle.hls_core_laws.specs.Places.{floor_of, floors}
 use Rattle.hls_core_laws.proofs.Sources.{lanes_count}
 use Rattle.hls_catchup.proofs.floors.floors_of.Goals as goal
+use Rattle.hls_check_laws.specs.Tables.{rendition_limit}
 
 pub loop-rendition-preserved : goal.loop-rendition-preserved
 loop-rendition-preserved c =
@@ -14,7 +15,7 @@ loop-rendition-preserved c =
     let renditions = c.renditions-rendition-end.ensures.value in
     let end : length c.renditions-rendition-end.result.now ≡ length s.config.renditions = cc in
     let lanes = lanes_count s.config s.log in
-    let few : length s.config.renditions ≤ 16 = c.config.ensures.valid.configured.renditions.few in
+    let few : length s.config.renditions ≤ rendition_limit = c.config.ensures.valid.configured.renditions.few in
     let count : length (floors s) ≡ length (channel s).lanes = length-map (channel s).lanes floor_of in
     record {
       long = length-set fs r c.floor_of.result ∙ c.loop-rendition.invariant.long;
