@@ -3,3 +3,4 @@ pub mod Good
 pub mod Whole
 pub mod Singles
 pub mod Made
+pub mod ListTexts

@@ -4,7 +4,7 @@ use Rattle.std.proofs.lemmas.List.{length-map}
 use Rattle.std.proofs.lemmas.List.Elements.{All-get_or}
 use Rattle.hls_record.specs.Recorded.{Recorded}
 use Rattle.hls_check_laws.specs.declared.spot.Spot.{Spot}
-use Rattle.hls_check_laws.specs.Tables.{IsTable, IsPlaceOf, spot_in, table_of}
+use Rattle.hls_check_laws.specs.Tables.{IsTable, IsPlaceOf, spot_in, table_of, target_limit, preferred_limit, place_limit}
 use Rattle.hls_check_laws.specs.Orders.{IsOrderly}
 use Rattle.hls_places_laws.specs.declared.place.Place.{Place}
 use Rattle.hls_places_laws.specs.Order.{no_place, spots_of, renditions_in, ArePlaces}
@@ -21,7 +21,7 @@ pub one_each : (places : List Place) → ArePlaces places → renditions_in plac
 one_each places are single = subst (λ (n : ℕ). All (IsPlaceOf n) (spots_of places)) single are.each
 
 pub whole_is_table : (target preferred : ℕ) (places : List Place) → ArePlaces places → renditions_in places ≡ 1 →
-    (1 ≤ target) × (target ≤ 3600) → (1 ≤ preferred) × (preferred ≤ 3600000000) → 2 ≤ length places → length places ≤ 16384 →
+    (1 ≤ target) × (target ≤ target_limit) → (1 ≤ preferred) × (preferred ≤ preferred_limit) → 2 ≤ length places → length places ≤ place_limit →
     IsTable (table_of target preferred 1 (spots_of places))
 whole_is_table target preferred places are single target_fits preferred_fits some few =
     let count : length (spots_of places) ≡ length places = length_spots places in

@@ -1,12 +1,13 @@
 -- The playlist with one segment from each place to the next.
-use Rattle.std.specs.Prelude.{◌≡◌, ℕ, ◌+◌, ◌<◌, ◌≤◌, List, length, Result, Ok, Err}
+use Rattle.std.specs.Prelude.{ℕ, ◌+◌, ◌<◌, ◌≤◌, List, length, Result, Ok, Err}
 use Rattle.std.specs.List.{range_with_len}
 use Rattle.hls_record.specs.Recorded.{Recorded}
 use Rattle.hls_check_laws.specs.declared.spot.Spot.{Spot}
 use Rattle.hls_check_laws.specs.Tables.{place_at}
 use Rattle.hls_check_laws.specs.Steps.{IsPlaceStep}
 use Rattle.hls_m3u8.specs.Forms.{vod_list}
-use Rattle.hls_m3u8.specs.Lines.{media_text}
+use Rattle.hls_m3u8.specs.Playlist.{Playlist}
+use Rattle.hls_m3u8.specs.Written.{IsWritten}
 use Rattle.hls_catchup_laws.specs.Segments.{segments_of}
 use Rattle.hls_catchup.specs.Lists.{cutting}
 use Rattle.hls_origin_listing.specs.declared.forms.Listed.{Listed}
@@ -14,11 +15,10 @@ use Rattle.hls_origin_listing.specs.declared.forms.Listed.TheVariants.{Text, NoC
 use Rattle.hls_origin_listing.specs.declared.fault.ListFault.{ListFault}
 use Rattle.hls_origin_listing.specs.declared.fault.ListFault.TheVariants.{NoPlace, ProgrammeTooLong, NotAllowed, Memory}
 
--- the text of the list of VOD with a plan's steps as segments, in a resource that is the recording's init section and then
--- all units
-abbrev pub text_by : ℕ → Recorded → List ℕ → List (List Spot) → List ℕ → List ℕ
-text_by target recorded uri places plan =
-    media_text (vod_list target uri (length recorded.head) (segments_of (cutting recorded 0 uri 0) places plan))
+-- the list of VOD with a plan's steps as segments, in a resource that is the recording's init section and then all units
+abbrev pub list_by : ℕ → Recorded → List ℕ → List (List Spot) → List ℕ → Playlist
+list_by target recorded uri places plan =
+    vod_list target uri (length recorded.head) (segments_of (cutting recorded 0 uri 0) places plan)
 
 -- the plan that leaves no place out
 abbrev pub each_place : List (List Spot) → List ℕ
@@ -41,7 +41,7 @@ pub record IsFirstRefused (target : ℕ) (places : List (List Spot)) (i : ℕ) :
 -- the list's text, where each place reaches the next; want of memory may come in its place alone
 abbrev pub ListsEach : ℕ → Recorded → List (List Spot) → List ℕ → Result Listed ListFault → Type 0
 ListsEach target recorded places uri (Ok (Text text)) =
-    (2 ≤ length places) × AllReach target places × (text.items ≡ text_by target recorded uri places (each_place places))
+    (2 ≤ length places) × AllReach target places × IsWritten (list_by target recorded uri places (each_place places)) text.items
 ListsEach target recorded places uri (Ok (NoCut text)) = ⊥
 ListsEach target recorded places uri (Err NoPlace) = length places < 2
 ListsEach target recorded places uri (Err ProgrammeTooLong) = ⊥

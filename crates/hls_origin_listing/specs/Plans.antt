@@ -1,7 +1,7 @@
 -- What is listed by a least plan of all places.
 use Rattle.std.specs.Prelude.{◌≡◌, ℕ, ◌<◌, ◌≤◌, Bool, true, false, List, [], length, Option, Result, Ok, Err}
 use Rattle.hls_record.specs.Recorded.{Recorded}
-use Rattle.hls_check_laws.specs.Tables.{Table}
+use Rattle.hls_check_laws.specs.Tables.{Table, place_limit}
 use Rattle.hls_check_laws.specs.Plans.{IsLeast, HasNoPlan}
 use Rattle.hls_check_laws.specs.Certificates.{Shown, CutShown, NoneShown, IsCertificate, IsGood}
 use Rattle.hls_check_text.specs.Text.{text}
@@ -9,7 +9,8 @@ use Rattle.hls_origin_listing.specs.declared.forms.Listed.{Listed}
 use Rattle.hls_origin_listing.specs.declared.forms.Listed.TheVariants.{Text, NoCut}
 use Rattle.hls_origin_listing.specs.declared.fault.ListFault.{ListFault}
 use Rattle.hls_origin_listing.specs.declared.fault.ListFault.TheVariants.{NoPlace, ProgrammeTooLong, NotAllowed, Memory}
-use Rattle.hls_origin_listing.specs.Each.{text_by}
+use Rattle.hls_m3u8.specs.Written.{IsWritten}
+use Rattle.hls_origin_listing.specs.Each.{list_by}
 
 -- the text of a good certificate over this very table that shows this
 pub record IsGoodText (t : Table) (shown : Shown) (bytes : List ℕ) : Type 0 where
@@ -21,7 +22,7 @@ pub record IsGoodText (t : Table) (shown : Shown) (bytes : List ℕ) : Type 0 wh
 pub record IsLeastPlaylist (t : Table) (recorded : Recorded) (uri : List ℕ) (bytes : List ℕ) : Type 0 where
   pub plan : List ℕ
   pub least : IsLeast t plan
-  pub is : bytes ≡ text_by t.target recorded uri t.places plan
+  pub written : IsWritten (list_by t.target recorded uri t.places plan) bytes
 
 -- the certificate of a least plan, with its cost and prices
 pub record IsLeastCertificate (t : Table) (bytes : List ℕ) : Type 0 where
@@ -58,13 +59,13 @@ IsCertified t (NoCut bytes) = HasNoPlan t × IsNoCertificate t bytes.items
 
 -- so many places that they make up a table
 abbrev pub HasTable : Table → Type 0
-HasTable t = (2 ≤ length t.places) × (length t.places ≤ 16384)
+HasTable t = (2 ≤ length t.places) × (length t.places ≤ place_limit)
 
 -- what is listed of a table of all places; want of memory may come in place of a text alone
 abbrev pub ListsPlanned : Bool → Table → Recorded → List ℕ → Result Listed ListFault → Type 0
 ListsPlanned certificate t recorded uri (Ok (Text bytes)) = HasTable t × IsLeastText certificate t recorded uri bytes.items
 ListsPlanned certificate t recorded uri (Ok (NoCut bytes)) = HasTable t × HasNoPlan t × IsNoneText certificate t bytes.items
 ListsPlanned certificate t recorded uri (Err NoPlace) = length t.places < 2
-ListsPlanned certificate t recorded uri (Err ProgrammeTooLong) = 16384 < length t.places
+ListsPlanned certificate t recorded uri (Err ProgrammeTooLong) = place_limit < length t.places
 ListsPlanned certificate t recorded uri (Err (NotAllowed place)) = ⊥
 ListsPlanned certificate t recorded uri (Err Memory) = HasTable t

@@ -1,5 +1,7 @@
 ghost use Rattle.std.specs.Prelude.{◌≡◌, ◌≤◌, length};
+ghost use Rattle.hls_blocks.specs.Numbered.{list_limit};
 ghost use Rattle.hls_m3u8.specs.Uri.{IsUri};
+ghost use Rattle.hls_check_laws.specs.Tables.{target_limit};
 ghost use Rattle.hls_places_laws.specs.Order.{spots_of};
 ghost use Rattle.hls_origin_listing.specs.Each.{ListsEach};
 ghost use Rattle.hls_origin_listing.specs.Places.{ArePlacesOf};
@@ -24,9 +26,9 @@ pub fn list_each(
     uri: &str,
 ) -> Result<Listed, ListFault>
     requires first { places.now.first ≡ 0 }
-    requires target { target ≤ 3600 }
+    requires target { target ≤ target_limit }
     requires places { ArePlacesOf recording.now places.now.items }
-    requires count { 2 ≤ length places.now.items }
+    requires count { (2 ≤ length places.now.items) × (length places.now.items ≤ list_limit) }
     requires uri { IsUri uri.now }
     ensures { ListsEach target recording.now (spots_of places.now.items) uri.now result }
 {

@@ -1,12 +1,14 @@
 ghost use Rattle.std.specs.Prelude.{◌≡◌, ◌≤◌, length, IfOk};
 ghost use Rattle.hls_m3u8.specs.Uri.{IsUri};
-ghost use Rattle.hls_check_laws.specs.Tables.{table_of};
+ghost use Rattle.hls_record.specs.Valid.{IsRecorded};
+ghost use Rattle.hls_check_laws.specs.Tables.{IsTable, table_of, target_limit, preferred_limit};
 ghost use Rattle.hls_check_laws.specs.Plans.{IsPlan};
 ghost use Rattle.hls_check_laws.specs.Certificates.{IsGood};
 ghost use Rattle.hls_places_laws.specs.Order.{spots_of};
 ghost use Rattle.hls_plan.specs.Planned.{IsBest, CanBeShown, certificate_of};
 ghost use Rattle.hls_catchup_laws.specs.Laws.{end_fragment};
-ghost use Rattle.hls_origin_listing.specs.Each.{text_by};
+ghost use Rattle.hls_m3u8.specs.Written.{IsWritten};
+ghost use Rattle.hls_origin_listing.specs.Each.{list_by};
 ghost use Rattle.hls_origin_listing.specs.Plans.{ListsPlanned, IsCertified, IsPlayed};
 ghost use Rattle.hls_origin_listing.specs.Places.{ArePlacesOf};
 
@@ -17,15 +19,12 @@ use crate::text::vod_text;
 use bytes::ByteStr;
 use hls_blocks::Shared;
 use hls_catchup::segments_of;
-use hls_check_laws::{Claim, PlaceTable};
+use hls_check_laws::{Claim, PLACE_LIMIT, PlaceTable};
 use hls_check_text::write;
 use hls_places::Place;
 use hls_plan::{Planned, certificate, plan};
 use hls_record::Recording;
 use std::alloc::{AllocError, Global};
-
-// The most places of one programme.
-const PLACE_LIMIT: u64 = 16384;
 
 /// The playlist by a plan's steps.
 fn plan_text(
@@ -35,13 +34,13 @@ fn plan_text(
     table: &PlaceTable,
     plan: &[usize],
 ) -> Result<Vec<u8>, AllocError>
+    requires recorded { IsRecorded recording.now }
+    requires table { IsTable table.now }
     requires uri { IsUri uri.now }
     requires plan { IsPlan table.now plan.now }
     requires ever { end_fragment table.now 0 ≤ length recording.now.facts }
-    ensures { IfOk result (λ text. text.items ≡ text_by table.now.target recording.now uri.now table.now.places plan.now) }
+    ensures { IfOk result (λ text. IsWritten (list_by table.now.target recording.now uri.now table.now.places plan.now) text.items) }
 {
-    let _ = recording.count();
-    let _ = table.len();
     let uri = ByteStr::copy_from_str(alloc, uri)?;
     let segments = segments_of(alloc, recording, 0, &uri, 0, table, plan)?;
     vod_text(alloc, table.target(), recording, uri, segments)
@@ -55,6 +54,8 @@ fn played(
     table: &PlaceTable,
     planned: &Planned,
 ) -> Result<Listed, AllocError>
+    requires recorded { IsRecorded recording.now }
+    requires table { IsTable table.now }
     requires uri { IsUri uri.now }
     requires best { IsBest table.now planned.now }
     requires ever { end_fragment table.now 0 ≤ length recording.now.facts }
@@ -96,14 +97,14 @@ pub fn list_planned(
     certificate: bool,
 ) -> Result<Listed, ListFault>
     requires first { places.now.first ≡ 0 }
-    requires target { (1 ≤ target) × (target ≤ 3600) }
-    requires preferred { (1 ≤ preferred) × (preferred ≤ 3600000000) }
+    requires target { (1 ≤ target) × (target ≤ target_limit) }
+    requires preferred { (1 ≤ preferred) × (preferred ≤ preferred_limit) }
     requires places { ArePlacesOf recording.now places.now.items }
     requires count { 2 ≤ length places.now.items }
     requires uri { IsUri uri.now }
     ensures { ListsPlanned certificate (table_of target preferred 1 (spots_of places.now.items)) recording.now uri.now result }
 {
-    if PLACE_LIMIT < places.next() {
+    if places.next() > PLACE_LIMIT as u64 {
         return Err(ListFault::ProgrammeTooLong);
     }
     let table = whole_table(alloc, target, preferred, places)?;

@@ -1,4 +1,5 @@
-ghost use Rattle.std.specs.Prelude.{◌≡◌, MatchOption};
+ghost use Rattle.std.specs.Prelude.{◌≡◌, ◌≤◌, length, MatchOption};
+ghost use Rattle.hls_blocks.specs.Numbered.{list_limit};
 ghost use Rattle.hls_places_laws.specs.Order.{spots_of};
 ghost use Rattle.hls_origin_listing.specs.Each.{AllReach, IsFirstRefused};
 
@@ -7,10 +8,10 @@ use hls_places::{Place, pair_allowed};
 
 /// The number of the first place from which no segment of at most `target` seconds may reach the next. It takes no memory.
 pub fn first_refused(target: u64, places: &Shared<Place>) -> Option<usize>
-    requires { places.now.first ≡ 0 }
+    requires first { places.now.first ≡ 0 }
+    requires few { length places.now.items ≤ list_limit }
     ensures { MatchOption result (AllReach target (spots_of places.now.items)) (IsFirstRefused target (spots_of places.now.items)) }
 {
-    let _ = places.next();
     let mut walk = places.iter_from(0);
     let Some(first) = walk.next() else {
         return None;

@@ -1,5 +1,5 @@
 ghost use Rattle.std.specs.Prelude.{◌≡◌, ◌≤◌, length, IfOk};
-ghost use Rattle.hls_check_laws.specs.Tables.{table_of};
+ghost use Rattle.hls_check_laws.specs.Tables.{IsTable, table_of, target_limit, preferred_limit, place_limit};
 ghost use Rattle.hls_places_laws.specs.Order.{spots_of, renditions_in, ArePlaces};
 
 use hls_blocks::Shared;
@@ -16,12 +16,13 @@ pub fn whole_table(
     places: &Shared<Place>,
 ) -> Result<PlaceTable, AllocError>
     requires first { places.now.first ≡ 0 }
-    requires target { (1 ≤ target) × (target ≤ 3600) }
-    requires preferred { (1 ≤ preferred) × (preferred ≤ 3600000000) }
-    requires count { (2 ≤ length places.now.items) × (length places.now.items ≤ 16384) }
+    requires target { (1 ≤ target) × (target ≤ target_limit) }
+    requires preferred { (1 ≤ preferred) × (preferred ≤ preferred_limit) }
+    requires count { (2 ≤ length places.now.items) × (length places.now.items ≤ place_limit) }
     requires places { ArePlaces places.now.items }
     requires single { renditions_in places.now.items ≡ 1 }
-    ensures { IfOk result (λ table. table ≡ table_of target preferred 1 (spots_of places.now.items)) }
+    ensures value { IfOk result (λ table. table ≡ table_of target preferred 1 (spots_of places.now.items)) }
+    ensures valid { IfOk result IsTable }
 {
     let mut spots = Vec::new(alloc);
     for place in places.iter_from(0) {

@@ -1,7 +1,7 @@
-ghost use Rattle.std.specs.Prelude.{◌≡◌, length, IfOk};
+ghost use Rattle.std.specs.Prelude.{length, IfOk};
 ghost use Rattle.hls_m3u8.specs.Forms.{vod_list};
 ghost use Rattle.hls_m3u8.specs.HasText.{HasText};
-ghost use Rattle.hls_m3u8.specs.Lines.{media_text};
+ghost use Rattle.hls_m3u8.specs.Written.{IsWritten};
 
 use bytes::ByteStr;
 use hls_m3u8::{MediaPlaylist, Segment, write_media};
@@ -17,7 +17,7 @@ pub fn vod_text(
     segments: Vec<Segment>,
 ) -> Result<Vec<u8>, AllocError>
     requires { HasText (vod_list target uri (length recording.now.head) segments.items) }
-    ensures { IfOk result (λ text. text.items ≡ media_text (vod_list target uri (length recording.now.head) segments.items)) }
+    ensures { IfOk result (λ text. IsWritten (vod_list target uri (length recording.now.head) segments.items) text.items) }
 {
     let init_length = recording.head().len() as u64;
     let list = MediaPlaylist::vod(target, uri, init_length, segments);

@@ -1,4 +1,4 @@
-use Rattle.std.proofs.Common.{List, ℕ, length, subst, sym}
+use Rattle.std.proofs.Common.{List, ℕ, length, refl, subst, sym, arith}
 use Rattle.hls_m3u8.specs.declared.playlist.Segment.{Segment}
 use Rattle.hls_m3u8.specs.HasText.{HasText}
 use Rattle.hls_m3u8.specs.Forms.{vod_list}
@@ -7,7 +7,8 @@ use Rattle.hls_catchup.specs.Lists.{cutting}
 use Rattle.hls_places_laws.specs.Order.{spots_of}
 use Rattle.hls_origin_listing.specs.Each.{each_place}
 use Rattle.hls_origin_listing.proofs.Good.{each_has_text}
-use Rattle.hls_origin_listing.proofs.Whole.{one_each, none_past}
+use Rattle.hls_origin_listing.proofs.Whole.{one_each, none_past, length_spots}
+use Rattle.hls_origin_listing.proofs.ListTexts.{written_by}
 use Rattle.hls_origin_listing.proofs.each.list_each.Goals as goal
 
 pub vod_text-requires : goal.vod_text-requires
@@ -20,3 +21,12 @@ vod_text-requires c =
     (none_past r c.args.places.now.items c.requires.places) c.in_default.ensures in
     subst (λ (ss : List Segment). HasText (vod_list c.args.target c.in_ok-uri.uri (length r.head) ss)) (sym c.in_ok-segments.ensures)
     (subst (λ (u : List ℕ). HasText (vod_list c.args.target u (length r.head) (segments_of (cutting r 0 u 0) spots (each_place spots)))) (sym c.in_ok-uri.ensures) good)
+
+pub returns : goal.returns
+returns c =
+    let places = spots_of c.args.places.now.items in (
+      omega (arith, c.requires.count.0, length_spots c.args.places.now.items),
+      c.in_default.ensures,
+      written_by c.args.recording.now c.args.target c.args.target c.args.uri.now c.in_ok-uri.uri c.in_ok-segments.segments.items places
+          (each_place places) c.in_ok-text.text.items refl c.in_ok-uri.ensures c.in_ok-segments.ensures c.in_ok-text.ensures,
+    )

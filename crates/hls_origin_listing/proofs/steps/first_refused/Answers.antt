@@ -8,7 +8,7 @@ use Rattle.hls_origin_listing.proofs.Walked.{next_place, step_more}
 use Rattle.hls_origin_listing.proofs.steps.first_refused.Goals as goal
 
 pub overflow_add-place : goal.overflow_add-place
-overflow_add-place c = omega (arith, c.loop-to.invariant.count, c.next.ensures.value, c.next.ensures.bound)
+overflow_add-place c = omega (arith, c.loop-to.invariant.count, c.requires.few)
 
 pub loop-to-preserved : goal.loop-to-preserved
 loop-to-preserved c =
