@@ -5,3 +5,4 @@ pub mod Slid
 pub mod Totals
 pub mod Texts
 pub mod Follows
+pub mod Origins

@@ -75,7 +75,7 @@ pub record IsListed (s : State) (r : ℕ) (list : Playlist) : Type 0 where
   pub some : 0 < length (closed s)
   pub is : list_over r lane (line s) ≡ list
 
-closed-some : (s : State) → IsState s → has_closed (line s) ≡ true → 0 < length (closed s)
+pub closed-some : (s : State) → IsState s → has_closed (line s) ≡ true → 0 < length (closed s)
 closed-some s state is =
     let any = ltb-true 0 ((channel s).removed + length (segments_of (line s))) is in
     omega (arith, any, removed-few s state, length-drop (channel s).removed (closed s))

@@ -7,6 +7,7 @@ use Rattle.hls_core_laws.specs.IsState.{IsState}
 use Rattle.hls_core_laws.specs.Follows.{Follows}
 use Rattle.hls_live_lists_laws.specs.Lists.{live_list_of}
 use Rattle.hls_live_lists_laws.specs.Later.{IsLater}
+use Rattle.hls_live_lists_laws.specs.Origins.{AreFedAlike, Agree}
 
 -- the live lists of a state can be written
 abbrev pub LiveListsHaveTexts : Type 0
@@ -16,3 +17,8 @@ LiveListsHaveTexts = (s : State) (rendition : ℕ) (list : Playlist) → IsState
 abbrev pub LiveListsFollow : Type 0
 LiveListsFollow = (a b : State) (rendition : ℕ) (earlier : Playlist) → IsState a → Follows a b → live_list_of a rendition ≡ Some earlier →
     (later : Playlist) × (live_list_of b rendition ≡ Some later) × IsLater earlier later
+
+-- live lists of two origins that are fed by the same encoders agree
+abbrev pub LiveListsAgree : Type 0
+LiveListsAgree = (a b : State) (rendition : ℕ) (p q : Playlist) → IsState a → IsState b → AreFedAlike a b →
+    live_list_of a rendition ≡ Some p → live_list_of b rendition ≡ Some q → Agree p q

@@ -1,3 +1,4 @@
 pub mod Lists
 pub mod Later
 pub mod Laws
+pub mod Origins

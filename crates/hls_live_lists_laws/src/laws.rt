@@ -1,6 +1,6 @@
 //! Theorems about the definitions. Each function has no body: its contract is the law.
 
-ghost use Rattle.hls_live_lists_laws.specs.Laws.{LiveListsHaveTexts, LiveListsFollow};
+ghost use Rattle.hls_live_lists_laws.specs.Laws.{LiveListsHaveTexts, LiveListsFollow, LiveListsAgree};
 
 /// The live lists of a state can be written.
 pub fn live_lists_have_texts()
@@ -10,4 +10,10 @@ pub fn live_lists_have_texts()
 /// A live list of a state and one of a state that follows stand as a reload of a live playlist may (RFC 8216 section 6.2.2).
 pub fn live_lists_follow()
     ensures { LiveListsFollow }
+{}
+
+/// Of two origins that are fed by the same encoders, however far each is, segments of the same media sequence number are the
+/// same, and equal media sequence numbers have equal discontinuity sequence numbers.
+pub fn live_lists_agree()
+    ensures { LiveListsAgree }
 {}

@@ -2,6 +2,6 @@
 //! and laws.
 #![tactic(auto)]
 
-pub use laws::{live_lists_follow, live_lists_have_texts};
+pub use laws::{live_lists_agree, live_lists_follow, live_lists_have_texts};
 
 mod laws;
