@@ -3,3 +3,4 @@ pub mod Taken
 pub mod Goes
 pub mod Compared
 pub mod Moved
+pub mod Upkeeps

@@ -7,3 +7,5 @@ pub mod Reads
 pub mod Steps
 pub mod Placed
 pub mod Gathers
+pub mod Upkeeps
+pub mod Cuts

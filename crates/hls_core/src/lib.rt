@@ -13,3 +13,4 @@ pub mod step;
 pub mod stepped;
 #[cfg(test)]
 mod tests;
+pub mod upkeep;

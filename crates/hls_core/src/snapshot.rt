@@ -277,7 +277,7 @@ impl Snapshot {
 }
 
 /// The number of the unit at which a place stands in a rendition; 0 where it stands in none.
-fn fragment_in(place: &Place, rendition: usize) -> u64
+pub(crate) fn fragment_in(place: &Place, rendition: usize) -> u64
     ensures { result ≡ (spot_in place.now.spots rendition).fragment }
 {
     let spots = place.spots.as_slice();

@@ -3,6 +3,8 @@
 use super::{Act, begin, outcome, rendition, unit};
 use crate::config::Config;
 use crate::snapshot::Snapshot;
+use crate::upkeep::upkeep;
+use hls_core_laws::event::Event;
 use std::alloc::Global;
 use std::sync::Arc;
 use std::test::Fail;
@@ -72,5 +74,26 @@ fn trims_to_the_front_of_the_line(rt: HostRuntime) -> Result<(), Fail> {
     };
     assert_eq!(rt; kept(&state), (4, 11600, false));
     assert_eq!(rt; kept(&before), (0, 10600, true));
+    Ok(())
+}
+
+/// What upkeep with a window of 18 s that keeps 18 s gives: how many segments are to slide, and up to which unit is to be
+/// trimmed.
+fn upkept(state: &Snapshot) -> (u64, u64) {
+    match upkeep(state, 18_000_000, 18_000_000) {
+        Some(Event::Slide { count }) => (count, 0),
+        Some(Event::Trim { floor, .. }) => (0, floor),
+        _ => (0, 0),
+    }
+}
+
+#[test]
+fn upkeep_slides_then_trims(rt: HostRuntime) -> Result<(), Fail> {
+    let mut state = recorded(rt.alloc(), &[0, 4, 8, 13, 18, 22, 26])?;
+    assert_eq!(rt; upkept(&state), (1, 0));
+    outcome(rt.alloc(), &mut state, 0, Act::Slide(1))?;
+    assert_eq!(rt; upkept(&state), (0, 1));
+    outcome(rt.alloc(), &mut state, 0, Act::Trim(0, 1))?;
+    assert_eq!(rt; upkept(&state), (0, 0));
     Ok(())
 }

@@ -1,0 +1,354 @@
+-- The upkeep of a state: which event it is, and that nothing but a full log or want of memory refuses it.
+use Rattle.std.proofs.Common.{◌≡◌, ℕ, zero, suc, ◌+◌, ◌-◌, ◌<◌, ◌≤◌, true, false, List, [], ◌∷◌, length, map, get_or, Option, None, Some, leb, ltb, arith, refl, sym, ap, subst, inl, inr, ◌∙◌}
+use Rattle.std.specs.Prelude.{slice_get, slice_index, IfSome, IfNone}
+use Rattle.std.proofs.lemmas.Bool.{cases_lt, and_parts, and_from, leb-true, le-leb, lt-leb, le-ltb, cond-false}
+use Rattle.std.proofs.lemmas.List.{length-map}
+use Rattle.std.proofs.lemmas.Option.{get_or_from_slice_get}
+use Rattle.hls_check_laws.specs.declared.spot.Spot.{Spot}
+use Rattle.hls_check_laws.specs.Tables.{spot_in}
+use Rattle.hls_places_laws.specs.declared.place.Place.{Place}
+use Rattle.hls_places_laws.specs.Order.{no_place, time_of, AreOrdered}
+use Rattle.hls_places_laws.specs.Programmes.{is_kept_above, is_kept}
+use Rattle.hls_places_laws.proofs.Ordered.{places-ordered}
+use Rattle.hls_live_laws.specs.Live.{front_of, has_ended}
+use Rattle.hls_live_laws.specs.Upkeep.{IsMostSlide, Channel, is_old, IsCut, IsSlide, IsTrim, Idle, Trims}
+use Rattle.hls_live_laws.proofs.Ends.{front-stands}
+use Rattle.hls_live_laws.proofs.Upkeeps.{upkeep-slides, upkeep-trims}
+use Rattle.hls_core_laws.specs.declared.event.Event.{Event}
+use Rattle.hls_core_laws.specs.declared.event.Event.TheVariants.{Slide, Trim}
+use Rattle.hls_core_laws.specs.Channel.{Lane}
+use Rattle.hls_core_laws.specs.State.{State, channel}
+use Rattle.hls_core_laws.specs.IsState.{IsState}
+use Rattle.hls_core_laws.specs.Places.{sources, places, floors, floor_of}
+use Rattle.hls_core_laws.specs.Line.{aim_of, line}
+use Rattle.hls_core_laws.specs.Outcome.{logged_by, slide, trim, trim_limit, outcome_of}
+use Rattle.hls_core_laws.proofs.Lists.{at_below, at_some, at_map, at_or}
+use Rattle.hls_core_laws.proofs.Lanes.{sources_count}
+use Rattle.hls_core_laws.proofs.Sources.{states_are_timed}
+use Rattle.hls_core.specs.Upkeeps.{watched, IsUpkeepOf}
+use Rattle.hls_core.specs.Cuts.{TimesRise, IsCountBy, IsOldUntil, NoneOld, IsCutOf, NoCut, ReachedBefore, KeptBefore, IsFirstBelow}
+
+some-is : {A : Type 0} (x y : A) → Some x ≡ Some y → x ≡ y
+some-is x y is = cc
+
+-- the places of a state are in order, each with a spot a rendition
+pub floors-count : (s : State) → length (floors s) ≡ length (sources s)
+floors-count s = length-map (channel s).lanes floor_of ∙ sym (sources_count s)
+
+ordered : (s : State) → IsState s → AreOrdered (length (sources s)) (places s)
+ordered s state = places-ordered (sources s) (states_are_timed s state)
+
+place-is : (ps : List Place) (k : ℕ) (p : Place) → slice_get ps k ≡ Some p → get_or ps k no_place ≡ p
+place-is ps k p at = get_or_from_slice_get ps k p no_place at
+
+pub times-rise : (s : State) → IsState s → TimesRise (places s)
+times-rise s state i j p q before at also =
+    let pair = (ordered s state).pairs i j no_place before (at_below (places s) j q also) in
+    omega (arith, pair.after.rises, ap time_of (place-is (places s) i p at), ap time_of (place-is (places s) j q also))
+
+pub spots-count : (s : State) → IsState s → (k : ℕ) (p : Place) → slice_get (places s) k ≡ Some p → length p.spots ≡ length (floors s)
+spots-count s state k p at =
+    let here = (ordered s state).each k no_place (at_below (places s) k p at) in
+    sym (ap (λ (x : Place). length x.spots) (place-is (places s) k p at)) ∙ (here.place.count ∙ sym (floors-count s))
+
+-- in order of time no fragment falls
+fragments-keep : (s : State) → IsState s → (i j : ℕ) (p q : Place) → i ≤ j → slice_get (places s) i ≡ Some p → slice_get (places s) j ≡ Some q →
+    (r : ℕ) → r < length (floors s) → (spot_in p.spots r).fragment ≤ (spot_in q.spots r).fragment
+fragments-keep s state i j p q before at also r within =
+    elim (cases_lt i j) [
+      | inl less ↦
+          let pair = (ordered s state).pairs i j no_place less (at_below (places s) j q also) in
+          let keeps = pair.after.keeps r (omega (arith, floors-count s, within)) in
+          omega (
+            arith,
+            keeps,
+            ap (λ (x : Place). (spot_in x.spots r).fragment) (place-is (places s) i p at),
+            ap (λ (x : Place). (spot_in x.spots r).fragment) (place-is (places s) j q also),
+          )
+      | inr more ↦
+          let number : i ≡ j = omega arith in
+          let same : p ≡ q = some-is p q (sym at ∙ (ap (slice_get (places s)) number ∙ also)) in
+          omega (arith, ap (λ (x : Place). (spot_in x.spots r).fragment) same)
+    ]
+
+-- kept, by each rendition
+kept-parts : (above : List ℕ) (spots : List Spot) → length spots ≡ length above → is_kept_above above spots ≡ true → (k : ℕ) → k < length above →
+    get_or above k 0 ≤ (spot_in spots k).fragment
+kept-parts [] spots count is k h = absurd (omega arith)
+kept-parts (floor ∷ above) [] count is k h = absurd (omega (arith, count))
+kept-parts (floor ∷ above) (spot ∷ spots) count is zero h = leb-true floor spot.fragment (and_parts (leb floor spot.fragment) (is_kept_above above spots) is).0
+kept-parts (floor ∷ above) (spot ∷ spots) count is (suc k) h =
+    kept-parts above spots (omega (arith, count)) (and_parts (leb floor spot.fragment) (is_kept_above above spots) is).1 k (omega arith)
+
+kept-of : (above : List ℕ) (spots : List Spot) → length spots ≡ length above → ((k : ℕ) → k < length above → get_or above k 0 ≤ (spot_in spots k).fragment) →
+    is_kept_above above spots ≡ true
+kept-of [] spots count each = refl
+kept-of (floor ∷ above) [] count each = absurd (omega (arith, count))
+kept-of (floor ∷ above) (spot ∷ spots) count each =
+    and_from (leb floor spot.fragment) (is_kept_above above spots) (le-leb floor spot.fragment (each 0 (omega arith)))
+    (kept-of above spots (omega (arith, count)) (λ k h. each (suc k) (omega arith)))
+
+pub kept-all : (s : State) (p : Place) (r : ℕ) → length p.spots ≡ length (floors s) → length (floors s) ≤ r → KeptBefore s p r → is_kept (floors s) p ≡ true
+kept-all s p r count past before = kept-of (floors s) p.spots count (λ k h. before k (omega arith))
+
+pub kept-not : (s : State) (p : Place) (r : ℕ) → length p.spots ≡ length (floors s) → r < length (floors s) →
+    (spot_in p.spots r).fragment < slice_index (floors s) r → is_kept (floors s) p ≡ false
+kept-not s p r count within less = elim (is_kept (floors s) p) as (λ b. is_kept (floors s) p ≡ b → b ≡ false) [
+  | true ↦ λ is. absurd (omega (arith, less, kept-parts (floors s) p.spots count is r within))
+  | false ↦ λ is. refl
+] refl
+
+-- old, by times
+old-parts : (keep : ℕ) (front last p : Place) → is_old keep front last p ≡ true → (time_of p ≤ time_of front) × (time_of p + keep ≤ time_of last)
+old-parts keep front last p is =
+    let parts = and_parts (leb (time_of p) (time_of front)) (leb (time_of p + keep) (time_of last)) is in
+    (leb-true (time_of p) (time_of front) parts.0, leb-true (time_of p + keep) (time_of last) parts.1)
+
+old-of : (keep : ℕ) (front last p : Place) → time_of p ≤ time_of front → time_of p + keep ≤ time_of last → is_old keep front last p ≡ true
+old-of keep front last p early by =
+    and_from (leb (time_of p) (time_of front)) (leb (time_of p + keep) (time_of last)) (le-leb _ _ early) (le-leb _ _ by)
+
+pub old-until : (s : State) (keep time : ℕ) (front last : Place) → front_of (line s) ≡ Some front →
+    slice_get (places s) (length (places s) - 1) ≡ Some last → time ≤ time_of front → time + keep ≤ time_of last →
+    ((t : ℕ) → t ≤ time_of front → t + keep ≤ time_of last → t ≤ time) → IsOldUntil s keep time
+old-until s keep time front last front_is last_is early by most = record {
+  front = front;
+  front_is = front_is;
+  last = last;
+  last_is = last_is;
+  before_front = early;
+  before_last = by;
+  most = λ p old. let parts = old-parts keep front last p old in most (time_of p) parts.0 parts.1;
+}
+
+pub none-front : (s : State) (keep : ℕ) → front_of (line s) ≡ None → NoneOld s keep
+none-front s keep none front last p is last_is old =
+    let never : None ≡ Some front = sym none ∙ is in
+    absurd (cc)
+
+pub none-last : (s : State) (keep : ℕ) → slice_get (places s) (length (places s) - 1) ≡ None → NoneOld s keep
+none-last s keep none front last p is last_is old =
+    let never : None ≡ Some last = sym none ∙ last_is in
+    absurd (cc)
+
+pub none-long : (s : State) (keep : ℕ) (end : Place) → slice_get (places s) (length (places s) - 1) ≡ Some end → time_of end < keep → NoneOld s keep
+none-long s keep end there short front last p is last_is old =
+    let same : end ≡ last = some-is end last (sym there ∙ last_is) in
+    absurd (omega (arith, short, ap time_of same, (old-parts keep front last p old).1))
+
+-- the cut
+cut-late : (s : State) (keep time count window : ℕ) (cut : Place) → IsOldUntil s keep time → IsCountBy (places s) time count → (is : IsCut (watched s window keep) cut) →
+    is.number < count
+cut-late s keep time count window cut until by is =
+    let front : is.front ≡ until.front = some-is is.front until.front (sym is.front_is ∙ until.front_is) in
+    let last : is.last ≡ until.last = some-is is.last until.last (sym is.last_is ∙ until.last_is) in
+    let old : is_old keep until.front until.last cut ≡ true =
+    subst (λ (l : Place). is_old keep until.front l cut ≡ true) last
+    (subst (λ (f : Place). is_old keep f is.last cut ≡ true) front is.old) in
+    elim (cases_lt is.number count) [
+      | inl less ↦ less
+      | inr more ↦ absurd (omega (arith, until.most cut old, by.late is.number cut more is.there))
+    ]
+
+pub no-cut-old : (s : State) (keep : ℕ) → NoneOld s keep → NoCut s keep
+no-cut-old s keep none window cut is = none is.front is.last cut is.front_is is.last_is is.old
+
+pub no-cut-count : (s : State) (keep time : ℕ) → IsOldUntil s keep time → IsCountBy (places s) time 0 → NoCut s keep
+no-cut-count s keep time until by window cut is = absurd (omega (arith, cut-late s keep time 0 window cut until by is))
+
+pub no-cut-kept : (s : State) → IsState s → (keep time count : ℕ) (p : Place) → IsOldUntil s keep time → IsCountBy (places s) time count →
+    slice_get (places s) (count - 1) ≡ Some p → is_kept (floors s) p ≡ false → NoCut s keep
+no-cut-kept s state keep time count p until by at trimmed window cut is =
+    let late = cut-late s keep time count window cut until by is in
+    let kept : is_kept (floors s) p ≡ true =
+    kept-of (floors s) p.spots (spots-count s state (count - 1) p at) (λ k h.
+    omega (
+      arith,
+      kept-parts (floors s) cut.spots (spots-count s state is.number cut is.there) is.kept k h,
+      fragments-keep s state is.number (count - 1) cut p (omega (arith, late)) is.there at k h,
+    )) in
+    let never : false ≡ true = sym trimmed ∙ kept in
+    absurd (cc)
+
+pub cut-is : (s : State) (keep time count : ℕ) (p : Place) → IsOldUntil s keep time → IsCountBy (places s) time count → 0 < count →
+    slice_get (places s) (count - 1) ≡ Some p → is_kept (floors s) p ≡ true → IsCutOf s keep p
+cut-is s keep time count p until by some at kept window =
+    let early : time_of p ≤ time = by.early (count - 1) p (omega arith) at in
+    record {
+      front = until.front;
+      front_is = until.front_is;
+      last = until.last;
+      last_is = until.last_is;
+      number = count - 1;
+      there = at;
+      kept = kept;
+      old = old-of keep until.front until.last p (omega (arith, early, until.before_front)) (omega (arith, early, until.before_last));
+      latest = λ k q q-at q-kept old.
+          elim (cases_lt k count) [
+            | inl less ↦ omega (arith, less)
+            | inr more ↦ absurd (omega (arith, until.most q old, by.late k q more q-at))
+          ];
+    }
+
+-- which upkeep it is
+pub ended-idle : (s : State) (window keep : ℕ) → has_ended (line s) ≡ true → IsUpkeepOf s window keep None
+ended-idle s window keep over = record {
+  upkeep = Idle;
+  is = (
+    λ n slide. let never : true ≡ false = sym over ∙ slide.goes_on in absurd (cc),
+    λ r floor trim. let never : true ≡ false = sym over ∙ trim.goes_on in absurd (cc),
+  );
+  event_is = refl;
+}
+
+pub slides-on : (s : State) (window keep count : ℕ) → has_ended (line s) ≡ false → IsMostSlide (line s) window count → 0 < count →
+    IsSlide (watched s window keep) count
+slides-on s window keep count on most some = record { goes_on = on; some = some; most = most }
+
+no-slide : (s : State) (window keep n : ℕ) → IsMostSlide (line s) window 0 → IsSlide (watched s window keep) n → ⊥
+no-slide s window keep n most slide =
+    let few = most.most n (slide.most.leaves slide.some) in
+    absurd (omega (arith, few, slide.some))
+
+pub uncut-idle : (s : State) (window keep : ℕ) → IsMostSlide (line s) window 0 → NoCut s keep → IsUpkeepOf s window keep None
+uncut-idle s window keep most none = record {
+  upkeep = Idle;
+  is = (λ n slide. no-slide s window keep n most slide, λ r floor trim. none window trim.cut trim.cut_is);
+  event_is = refl;
+}
+
+cut-later : (c : Channel) (x y : Place) (x-is : IsCut c x) (y-is : IsCut c y) → x-is.number ≤ y-is.number
+cut-later c x y x-is y-is =
+    let front : x-is.front ≡ y-is.front = some-is x-is.front y-is.front (sym x-is.front_is ∙ y-is.front_is) in
+    let last : x-is.last ≡ y-is.last = some-is x-is.last y-is.last (sym x-is.last_is ∙ y-is.last_is) in
+    let old : is_old c.keep y-is.front y-is.last x ≡ true =
+    subst (λ (l : Place). is_old c.keep y-is.front l x ≡ true) last
+    (subst (λ (f : Place). is_old c.keep f x-is.last x ≡ true) front x-is.old) in
+    y-is.latest x-is.number x x-is.there x-is.kept old
+
+cut-once : (c : Channel) (x y : Place) → IsCut c x → IsCut c y → x ≡ y
+cut-once c x y x-is y-is =
+    let number : x-is.number ≡ y-is.number = omega (arith, cut-later c x y x-is y-is, cut-later c y x y-is x-is) in
+    some-is x y (sym x-is.there ∙ (ap (slice_get c.places) number ∙ y-is.there))
+
+pub trimmed-idle : (s : State) (window keep : ℕ) (cut : Place) → IsMostSlide (line s) window 0 → IsCutOf s keep cut →
+    ReachedBefore s cut (length (floors s)) → IsUpkeepOf s window keep None
+trimmed-idle s window keep cut most is reached = record {
+  upkeep = Idle;
+  is = (
+    λ n slide. no-slide s window keep n most slide,
+    λ r floor trim.
+        let same : trim.cut ≡ cut = cut-once (watched s window keep) trim.cut cut trim.cut_is (is window) in
+        absurd (omega (
+          arith,
+          trim.floor_is,
+          trim.below,
+          reached r trim.within,
+          ap (λ (p : Place). (spot_in p.spots r).fragment) same,
+        )),
+  );
+  event_is = refl;
+}
+
+pub trims-to : (s : State) (window keep : ℕ) (cut : Place) (event : Event) → has_ended (line s) ≡ false → IsMostSlide (line s) window 0 →
+    IsCutOf s keep cut → (below : IsFirstBelow s cut event) → IsTrim (watched s window keep) below.rendition below.floor
+trims-to s window keep cut event on most is below = record {
+  goes_on = on;
+  stays = most;
+  cut = cut;
+  cut_is = is window;
+  within = below.within;
+  floor_is = below.floor_is;
+  below = below.below;
+  others = below.before;
+}
+
+-- nothing but a full log or want of memory refuses it
+pub slide-taken : (s : State) (window keep count : ℕ) → IsSlide (watched s window keep) count → outcome_of s (Slide count) ≡ logged_by (length s.log)
+slide-taken s window keep count is = ap (λ may. slide may (length s.log)) (upkeep-slides (watched s window keep) count is)
+
+trim-passed : (s : State) (r floor : ℕ) (l : Lane) (o : Option Place) (front : Place) → slice_get (channel s).lanes r ≡ Some l → o ≡ Some front → l.floor < floor →
+    floor ≤ (spot_in front.spots r).fragment → trim (slice_get (channel s).lanes r) (trim_limit o r) floor (length s.log) ≡ logged_by (length s.log)
+trim-passed s r floor l o front at is rises within =
+    ap (λ (x : Option Lane). trim x (trim_limit o r) floor (length s.log)) at
+    ∙ (ap (λ (x : Option Place). trim (Some l) (trim_limit x r) floor (length s.log)) is
+    ∙ (cond-false (leb floor l.floor) _ _ (lt-leb floor l.floor rises)
+    ∙ cond-false (ltb (spot_in front.spots r).fragment floor) _ _ (le-ltb (spot_in front.spots r).fragment floor within)))
+
+pub trim-taken : (s : State) → IsState s → (window keep r floor : ℕ) → IsTrim (watched s window keep) r floor →
+    outcome_of s (Trim r floor) ≡ logged_by (length s.log)
+trim-taken s state window keep r floor is =
+    let raises = upkeep-trims (watched s window keep) (length (sources s)) r floor (ordered s state) (floors-count s)
+    (λ p front_is. front-stands (aim_of s.config) (places s) (channel s).removed p front_is) is in
+    let l = at_some (channel s).lanes r (omega (arith, is.within, floors-count s, sources_count s)) in
+    let old : get_or (floors s) r 0 ≡ l.0.floor = at_or (floors s) r 0 l.0.floor (at_map floor_of (channel s).lanes r l.0 l.1) in
+    trim-passed s r floor l.0 (front_of (line s)) raises.front l.1 raises.front_is (omega (arith, raises.rises, old)) raises.stays
+
+-- the loops
+none-floor : (lanes : List Lane) (r : ℕ) → slice_get lanes r ≡ None → get_or (map floor_of lanes) r 0 ≡ 0
+none-floor [] r is = refl
+none-floor (l ∷ lanes) zero is = absurd (cc)
+none-floor (l ∷ lanes) (suc r) is = none-floor lanes r is
+
+pub floor-none : (s : State) (r : ℕ) → slice_get (channel s).lanes r ≡ None → 0 ≡ slice_index (floors s) r
+floor-none s r is = sym (none-floor (channel s).lanes r is)
+
+pub kept-more : (s : State) (p : Place) (r : ℕ) → KeptBefore s p r → slice_index (floors s) r ≤ (spot_in p.spots r).fragment → KeptBefore s p (r + 1)
+kept-more s p r before here k less =
+    elim (cases_lt k r) [
+      | inl earlier ↦ before k earlier
+      | inr later ↦
+          let same : k ≡ r = omega arith in
+          rw same here
+    ]
+
+pub reached-more : (s : State) (p : Place) (r : ℕ) → ReachedBefore s p r → (spot_in p.spots r).fragment ≤ slice_index (floors s) r → ReachedBefore s p (r + 1)
+reached-more s p r before here k less =
+    elim (cases_lt k r) [
+      | inl earlier ↦ before k earlier
+      | inr later ↦
+          let same : k ≡ r = omega arith in
+          rw same here
+    ]
+
+-- on either side of the place in the middle
+pub early-more : (ps : List Place) (middle time : ℕ) (here : Place) → TimesRise ps → slice_get ps middle ≡ Some here → time_of here ≤ time →
+    (k : ℕ) (p : Place) → k < middle + 1 → slice_get ps k ≡ Some p → time_of p ≤ time
+early-more ps middle time here rise there by k p less at =
+    elim (cases_lt k middle) [
+      | inl earlier ↦ omega (arith, rise k middle p here earlier at there, by)
+      | inr later ↦
+          let number : k ≡ middle = omega arith in
+          let same : p ≡ here = some-is p here (sym at ∙ (ap (slice_get ps) number ∙ there)) in
+          omega (arith, ap time_of same, by)
+    ]
+
+pub late-more : (ps : List Place) (middle time : ℕ) (here : Place) → TimesRise ps → slice_get ps middle ≡ Some here → time < time_of here →
+    (k : ℕ) (p : Place) → middle ≤ k → slice_get ps k ≡ Some p → time < time_of p
+late-more ps middle time here rise there past k p more at =
+    elim (cases_lt middle k) [
+      | inl later ↦ omega (arith, rise middle k here p later there at, past)
+      | inr same_number ↦
+          let number : k ≡ middle = omega arith in
+          let same : p ≡ here = some-is p here (sym at ∙ (ap (slice_get ps) number ∙ there)) in
+          omega (arith, ap time_of same, past)
+    ]
+
+pub none-late : (ps : List Place) (time k : ℕ) (p : Place) → length ps ≤ k → slice_get ps k ≡ Some p → time < time_of p
+none-late ps time k p past at = absurd (omega (arith, at_below ps k p at))
+
+-- what a search for a rendition to be trimmed comes to
+pub trimmed-by : (s : State) (window keep : ℕ) (cut : Place) (found : Option Event) → has_ended (line s) ≡ false → IsMostSlide (line s) window 0 → IsCutOf s keep cut →
+    IfSome found (IsFirstBelow s cut) → IfNone found (ReachedBefore s cut (length (floors s))) → IsUpkeepOf s window keep found
+trimmed-by s window keep cut None on most is some none = trimmed-idle s window keep cut most is none
+trimmed-by s window keep cut (Some event) on most is below none = record {
+  upkeep = Trims below.rendition below.floor;
+  is = trims-to s window keep cut event on most is below;
+  event_is = ap (λ (e : Event). Some e) below.is;
+}
+
+pub taken-by : (s : State) → IsState s → (window keep : ℕ) (cut : Place) (found : Option Event) → has_ended (line s) ≡ false → IsMostSlide (line s) window 0 → IsCutOf s keep cut →
+    IfSome found (IsFirstBelow s cut) → IfSome found (λ event. outcome_of s event ≡ logged_by (length s.log))
+taken-by s state window keep cut None on most is some = tt
+taken-by s state window keep cut (Some event) on most is below =
+    ap (outcome_of s) below.is ∙ trim-taken s state window keep below.rendition below.floor (trims-to s window keep cut event on most is below)
