@@ -1,0 +1,4 @@
+pub mod ByIds
+pub mod Valid
+pub mod Calls
+pub mod Keeps

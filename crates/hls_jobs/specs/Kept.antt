@@ -1,0 +1,13 @@
+-- What a table keeps, and what always holds of it.
+use Rattle.std.specs.Prelude.{◌≤◌}
+use Rattle.std.specs.Vec.{vec_capacity}
+use Rattle.hls_jobs.specs.Tables.{TableData, IsTable, place_limit}
+use Rattle.hls_jobs.specs.declared.table.JobTable.TheInside.{Inside}
+
+abbrev pub seen : Inside → TableData
+seen t = record { next = t.next; rows = t.rows.items }
+
+-- it is a table, with room for each job
+pub record IsKept (t : Inside) : Type 0 where
+  pub table : IsTable (seen t)
+  pub room : place_limit ≤ vec_capacity t.rows

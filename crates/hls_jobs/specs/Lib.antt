@@ -1,0 +1,9 @@
+pub mod FaultName
+pub mod Answers
+pub mod Finishes
+pub mod Phases
+pub mod Tables
+pub mod Changes
+pub mod Rows
+pub mod Kept
+pub mod Shared

@@ -1,0 +1,47 @@
+//! Why a call on the job table is refused.
+
+ghost use Rattle.std.specs.Prelude.{◌≡◌};
+ghost use Rattle.hls_jobs.specs.declared.fault.JobFault.TheVariants.{Memory};
+ghost use Rattle.hls_jobs.specs.FaultName.{job_fault_name};
+
+use std::alloc::AllocError;
+use thiserror::Error;
+
+/// Why a call on the job table is refused.
+#[derive(Clone, Copy, Debug, PartialEq, Eq, Error)]
+pub enum JobFault {
+    /// All 64 places are taken, or the last id is used.
+    #[error("TableFull")]
+    TableFull,
+    /// The table has no job of this id.
+    #[error("UnknownJob")]
+    UnknownJob,
+    /// The job isn't running, or runs for another version or request.
+    #[error("Stray")]
+    Stray,
+    /// Memory ran out.
+    #[error("Memory")]
+    Memory,
+}
+
+impl JobFault {
+    /// The variant's name, as replies print it.
+    pub fn name(&self) -> &'static str
+        ensures { result.now ≡ job_fault_name self.now }
+    {
+        match self {
+            JobFault::TableFull => "TableFull",
+            JobFault::UnknownJob => "UnknownJob",
+            JobFault::Stray => "Stray",
+            JobFault::Memory => "Memory",
+        }
+    }
+}
+
+impl From<AllocError> for JobFault {
+    ghost from_gives = { λ _ e. e ≡ Memory };
+
+    fn from(_error: AllocError) -> JobFault {
+        JobFault::Memory
+    }
+}

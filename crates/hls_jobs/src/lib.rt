@@ -1,0 +1,26 @@
+//! The jobs of a channel: catch-up requests that wait, are worked on side by side, and are kept with their answers.
+//!
+//! A job's answer is right for the snapshot and the request that it holds: its type says so, under the lock and out of it.
+#![tactic(auto)]
+
+pub use answered::Answered;
+pub use fault::JobFault;
+pub use finished::{Ending, Finished, run_job};
+pub use gate::{Gate, work_loop};
+pub use job::Job;
+pub use jobs::Jobs;
+pub use table::JobTable;
+pub use work::Work;
+
+mod answered;
+mod fault;
+mod finished;
+mod gate;
+mod job;
+mod jobs;
+mod row;
+mod rows;
+mod table;
+#[cfg(test)]
+mod tests;
+mod work;

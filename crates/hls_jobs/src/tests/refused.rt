@@ -1,0 +1,45 @@
+//! A job that was refused memory failed, and the same request again is answered.
+
+use super::{SECOND, request, with_units};
+use crate::{Job, JobTable, run_job};
+use hls_core::snapshot::Snapshot;
+use std::alloc::Global;
+use std::sync::Arc;
+
+/// A channel of two units, built once more where memory was refused.
+fn two_units(alloc: Global) -> Option<Arc<Snapshot>> {
+    match with_units(alloc, 2) {
+        Some(snapshot) => Some(snapshot),
+        None => with_units(alloc, 2),
+    }
+}
+
+/// Adds a job and runs it: how far it is then.
+fn run(alloc: Global, jobs: &mut JobTable, snapshot: &Arc<Snapshot>) -> Option<Job> {
+    let id = jobs
+        .add(Arc::try_clone(snapshot).ok()?, request(0, 4 * SECOND))
+        .ok()?;
+    let work = jobs.take_work()?;
+    jobs.finish(run_job(alloc, work)).ok()?;
+    jobs.get(id).ok()
+}
+
+fn is_answered(job: &Option<Job>) -> bool {
+    match job {
+        Some(Job::Finished(answered)) => answered.result().is_ok(),
+        _ => false,
+    }
+}
+
+#[test]
+fn refused_memory_fails_one_job_alone(rt: HostRuntime) {
+    let alloc = rt.alloc();
+    let snapshot = two_units(alloc).expect(&rt, "a snapshot with two units");
+    let mut jobs = match JobTable::new(alloc) {
+        Ok(jobs) => jobs,
+        Err(_) => JobTable::new(alloc).expect(&rt, "a table"),
+    };
+    let first = run(alloc, &mut jobs, &snapshot);
+    assert!(rt; is_answered(&first) || matches!(first, Some(Job::Failed)));
+    assert!(rt; is_answered(&first) || is_answered(&run(alloc, &mut jobs, &snapshot)));
+}
