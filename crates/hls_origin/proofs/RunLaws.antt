@@ -129,24 +129,24 @@ whole_stream : (stream taken rest : List ℕ) → stream ≡ taken ++ rest → r
 whole_stream stream taken rest split none = split ∙ ap (λ xs. taken ++ xs) none ∙ append-nil taken
 
 -- what ends a run that lists this
-abbrev pub end_of : Bool → CutEnd
-end_of true = end.Done
-end_of false = end.NoCut
+abbrev pub cut_end : Bool → CutEnd
+cut_end true = end.Done
+cut_end false = end.NoCut
 
 answers_done : (choice : Choice) (stream taken rest text : List ℕ) (listed : Listed) (cut : Bool) → rest ≡ [] → Outcome choice stream (Ok listed) → bytes_of listed ≡ text → is_cut listed ≡ cut
-    → Answers choice stream taken rest text (end_of cut)
+    → Answers choice stream taken rest text (cut_end cut)
 answers_done choice stream taken rest text listed true none outcome is cut = record { whole = none; listed = listed; outcome = outcome; text_is = is; cut_is = cut }
 answers_done choice stream taken rest text listed false none outcome is cut = record { whole = none; listed = listed; outcome = outcome; text_is = is; cut_is = cut }
 
 answers_printed : (choice : Choice) (stream taken rest written left : List ℕ) (listed : Listed) (cut done : Bool) → rest ≡ [] → Outcome choice stream (Ok listed) → bytes_of listed ≡ written ++ left → is_cut listed ≡ cut
-    → (done ≡ true → left ≡ []) → Answers choice stream taken rest written (ended_by done (end_of cut))
+    → (done ≡ true → left ≡ []) → Answers choice stream taken rest written (ended_by done (cut_end cut))
 answers_printed choice stream taken rest written left listed cut true none outcome is of whole =
     answers_done choice stream taken rest written listed cut none outcome (is ∙ ap (λ xs. written ++ xs) (whole refl) ∙ append-nil written) of
 answers_printed choice stream taken rest written left listed cut false none outcome is of whole =
     record { whole = none; listed = listed; outcome = outcome; beginning = record { missing = left; is = is } }
 
 pub runs_printed : (choice : Choice) (stream held text : List ℕ) (left contents : Option (List ℕ)) (listed : Listed) (cut : Bool) (answer : CutEnd) → Takes choice stream left (Ok listed) → bytes_of listed ≡ text → is_cut listed ≡ cut
-    → Prints held text contents (end_of cut) answer → Runs (Some choice) stream held left contents answer
+    → Prints held text contents (cut_end cut) answer → Runs (Some choice) stream held left contents answer
 runs_printed choice stream held text left contents listed cut answer h is of w =
     let outcome : Outcome choice stream (Ok listed) =
     subst (λ (xs : List ℕ). Outcome choice xs (Ok listed)) (sym (whole_stream stream h.taken h.rest h.split h.comes.0)) h.comes.1 in
@@ -166,22 +166,22 @@ counts_err fault.ReadFailed read_old read_new write_old write_new h quiet = (h, 
 counts_err fault.WriteFailed read_old read_new write_old write_new h quiet = absurd h
 counts_err f read_old read_new write_old write_new h quiet = (h, quiet)
 
-counts_done : (cut : Bool) (done : Bool) (read_old read_new write_old write_new : ℕ) → read_new ≡ read_old → CountsWrite done write_old write_new → CountsFailures (ended_by done (end_of cut)) read_old read_new write_old write_new
+counts_done : (cut : Bool) (done : Bool) (read_old read_new write_old write_new : ℕ) → read_new ≡ read_old → CountsWrite done write_old write_new → CountsFailures (ended_by done (cut_end cut)) read_old read_new write_old write_new
 counts_done true true read_old read_new write_old write_new quiet h = (quiet, h)
 counts_done false true read_old read_new write_old write_new quiet h = (quiet, h)
 counts_done cut false read_old read_new write_old write_new quiet h = (quiet, h)
 
-pub counts_printed : (cut : Bool) (answer : CutEnd) (read_old read_new write_old write_new : ℕ) → read_new ≡ read_old → CountsPrint (end_of cut) answer write_old write_new → CountsFailures answer read_old read_new write_old write_new
+pub counts_printed : (cut : Bool) (answer : CutEnd) (read_old read_new write_old write_new : ℕ) → read_new ≡ read_old → CountsPrint (cut_end cut) answer write_old write_new → CountsFailures answer read_old read_new write_old write_new
 counts_printed cut answer read_old read_new write_old write_new quiet h =
     let P : CutEnd → Type 0 = λ e. CountsFailures e read_old read_new write_old write_new in
     subst P (sym h.answer_is) (counts_done cut h.done read_old read_new write_old write_new quiet h.counts)
 
-not_usage : (cut done : Bool) → ended_by done (end_of cut) ≢ end.Usage
+not_usage : (cut done : Bool) → ended_by done (cut_end cut) ≢ end.Usage
 not_usage true true is = cc
 not_usage false true is = cc
 not_usage cut false is = cc
 
-pub printed_is_used : (cut : Bool) (answer : CutEnd) (old new : ℕ) → CountsPrint (end_of cut) answer old new → answer ≢ end.Usage
+pub printed_is_used : (cut : Bool) (answer : CutEnd) (old new : ℕ) → CountsPrint (cut_end cut) answer old new → answer ≢ end.Usage
 printed_is_used cut answer old new h is = not_usage cut h.done (sym h.answer_is ∙ is)
 
 -- ---- a run that reads and writes nothing

@@ -1,12 +1,13 @@
 -- What the words after `cut` ask for.
 use Rattle.std.specs.Prelude.{ℕ, ◌*◌, List, [], ◌∷◌, Option, Some, None, Bool, true, false, not, ◌≤◌, ◌&&◌, ◌||◌, cond, codes, is_some}
-use Rattle.std.specs.Prelude.{nat_lt, option_and_then}
+use Rattle.std.specs.Prelude.{nat_lt, nat_le, option_and_then}
 use Rattle.std.specs.Str.{bytes_eq}
 use Rattle.clap.specs.Words.{App, Row, Rule, Text, fault_of, first_of, matches_of, new_app, new_rule, with_rule}
 use Rattle.clap.specs.Kinds.{Kinds}
 use Rattle.clap.specs.declared.builder.action.ArgAction.TheVariants.{SetTrue}
 use Rattle.hls_m3u8.specs.Uri.{IsUri, is_uri_text}
 use Rattle.hls_origin.specs.Number.{number_of}
+use Rattle.hls_check_laws.specs.Tables.{target_limit}
 
 -- the options: the target duration in seconds, the URI's bytes, the preferred length in µs where a least plan is wanted,
 -- and whether its certificate is wanted in place of the playlist
@@ -23,7 +24,7 @@ IsPreferred target (Some length) = (1 ≤ length) × (length ≤ target * 100000
 -- all are in their ranges
 pub record IsGood (choice : Choice) : Type 0 where
   pub least : 1 ≤ choice.target
-  pub most : choice.target ≤ 3600
+  pub most : choice.target ≤ target_limit
   pub is_uri : IsUri choice.uri
   pub preferred : IsPreferred choice.target choice.preferred
 
@@ -50,7 +51,7 @@ cut_app =
 
 -- a target duration in its range of 1 to 3600 seconds
 abbrev pub in_range : ℕ → Option ℕ
-in_range target = cond (nat_lt 0 target && nat_lt target 3601) (Some target) None
+in_range target = cond (nat_lt 0 target && nat_le target target_limit) (Some target) None
 
 -- the target duration: the text's, or 6
 abbrev pub target_in : Option Text → Option ℕ

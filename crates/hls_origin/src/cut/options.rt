@@ -5,10 +5,12 @@ ghost use Rattle.hls_core_laws.specs.Config.{ConfigData};
 ghost use Rattle.hls_m3u8.specs.Uri.{IsUri};
 ghost use Rattle.hls_origin.specs.Channel.{config_of, listing_of};
 ghost use Rattle.hls_origin.specs.Options.{IsPreferred, agrees, checked_uri, choice_in, cut_app, flag_rule, is_set, options_of, preferred_in, target_in, uri_in, value_rule};
+ghost use Rattle.hls_check_laws.specs.Tables.{target_limit};
 
 use crate::number;
 use clap::error::ErrorKind;
 use clap::{Arg, ArgAction, ArgMatches, Command};
+use hls_check_laws::TARGET_LIMIT;
 use hls_m3u8::is_uri;
 use hls_origin_listing::Listing;
 use std::alloc::{AllocError, Global};
@@ -17,9 +19,6 @@ use std::marker::Model;
 
 /// The target duration where the words name none, in seconds.
 const DEFAULT_TARGET: u64 = 6;
-
-/// The greatest target duration, in seconds.
-const MOST_TARGET: u64 = 3600;
 
 /// What `cut` is asked for.
 #[derive(Debug, Drop)]
@@ -91,13 +90,13 @@ fn command<'a>(alloc: Global) -> Result<Command<'a>, AllocError>
 /// The target duration that was given, or the default; `None` where it isn't 1 to 3600 seconds.
 fn target_of(text: Option<&str>) -> Option<u64>
     ensures value { result ≡ target_in (option_map (λ t. t.now) text.entry) }
-    ensures in_range { IfSome result (λ target. (1 ≤ target) × (target ≤ 3600)) }
+    ensures in_range { IfSome result (λ target. (1 ≤ target) × (target ≤ target_limit)) }
 {
     let Some(text) = text else {
         return Some(DEFAULT_TARGET);
     };
     let target = number::read_number(text.as_bytes())?;
-    if target >= 1 && target <= MOST_TARGET {
+    if target >= 1 && target <= TARGET_LIMIT {
         Some(target)
     } else {
         None
@@ -107,7 +106,7 @@ fn target_of(text: Option<&str>) -> Option<u64>
 /// The preferred length that was given, if one was; `None` where it isn't 1 microsecond to the
 /// target.
 fn preferred_of(target: u64, text: Option<&str>) -> Option<Option<u64>>
-    requires { target ≤ 3600 }
+    requires { target ≤ target_limit }
     ensures value { result ≡ preferred_in target (option_map (λ t. t.now) text.entry) }
     ensures in_range { IfSome result (λ preferred. IsPreferred target preferred) }
 {
