@@ -24,7 +24,7 @@ use Rattle.hls_m3u8.specs.HasText.{HasText, IsSegment}
 use Rattle.hls_m3u8.proofs.Building.{ascii_uri, live_has_text}
 use Rattle.hls_catchup_laws.specs.Jobs.{bytes_between}
 use Rattle.hls_catchup_laws.proofs.Good.{some_bytes, few_bytes}
-use Rattle.hls_core_laws.specs.Channel.{Lane, total_of}
+use Rattle.hls_core_laws.specs.Channel.{Lane, lane_len}
 use Rattle.hls_core_laws.specs.State.{State, channel}
 use Rattle.hls_core_laws.specs.IsState.{IsState}
 use Rattle.hls_core_laws.specs.Places.{sources}
@@ -149,7 +149,7 @@ has-begun s state r l at any =
     begun-at s state r l l.init at refl (omega (arith, one.rises, one.within))
 
 -- a listed segment can be written
-good-segment : (s : State) (r : ℕ) (l : Lane) (x : live_line.Segment) → s.config.target ≤ 3600 → HasBegun s r l → total_of l ≤ 2 ^ 40 →
+good-segment : (s : State) (r : ℕ) (l : Lane) (x : live_line.Segment) → s.config.target ≤ 3600 → HasBegun s r l → lane_len l ≤ 2 ^ 40 →
     IsAmong s.config.target r l x → IsSegment (live_uri r) (listed (live_cutting r l) x)
 good-segment s r l x target begun total among =
     let from : ℕ = (spot_in x.from.spots r).fragment in

@@ -8,7 +8,7 @@ use Rattle.hls_core_laws.specs.declared.event.Entry.{Entry}
 use Rattle.hls_core_laws.specs.declared.event.Logged.{Logged}
 use Rattle.hls_core_laws.specs.declared.event.Logged.TheVariants.{Begun, Accepted, Finished, Slid, Trimmed}
 use Rattle.hls_core_laws.specs.Config.{ConfigData}
-use Rattle.hls_core_laws.specs.Channel.{Channel, Lane, no_lane, fresh, lane, begun_with, with_facts, finish_of, with_floor, after, channel_from, opening, total_of}
+use Rattle.hls_core_laws.specs.Channel.{Channel, Lane, no_lane, fresh, lane, begun_with, with_facts, finish_of, with_floor, after, channel_from, opening, lane_len}
 use Rattle.hls_core_laws.specs.State.{State, channel}
 use Rattle.hls_core_laws.specs.IsState.{IsState}
 use Rattle.hls_core_laws.proofs.Additions.{MayAdd, LegalFrom}
@@ -17,7 +17,7 @@ use Rattle.hls_core_laws.proofs.Added.{entries_of}
 
 -- so much, and nothing before the init section
 record IsSmall (l : Lane) : Type 0 where
-  total : total_of l ≤ 2 ^ 40
+  total : lane_len l ≤ 2 ^ 40
   bare : l.init ≡ None → l.facts ≡ []
 
 AllSmall : List Lane → Type 0
@@ -72,7 +72,7 @@ small-first config r l at =
     let m = mapped_at fresh config.renditions r l at in
     subst (λ (x : Lane). IsSmall x) m.2 (record { total = omega arith; bare = λ e. refl })
 
-pub lane-small : (s : State) → IsState s → (r : ℕ) (l : Lane) → slice_get (channel s).lanes r ≡ Some l → total_of l ≤ 2 ^ 40
+pub lane-small : (s : State) → IsState s → (r : ℕ) (l : Lane) → slice_get (channel s).lanes r ≡ Some l → lane_len l ≤ 2 ^ 40
 unfolding AllSmall
 lane-small s state r l at =
     (small-from s.config (opening s.config) s.log (entries_of s.config s.log state.legal) (small-first s.config) r l at).total
