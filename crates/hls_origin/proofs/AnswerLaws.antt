@@ -11,13 +11,14 @@ use Rattle.hls_check.proofs.OneAnswer as answers
 use Rattle.hls_check_text.specs.Text.{text}
 use Rattle.hls_check_text.proofs.Wrongs.{text_is_told, wrong_is_one}
 use Rattle.hls_io.specs.Writing.{Writes}
-use Rattle.hls_origin.specs.declared.check.reading.Unread.{Unread}
+use Rattle.hls_origin.specs.declared.reading.Unread.{Unread}
 use Rattle.hls_origin.specs.declared.check.run.CheckEnd.{CheckEnd}
 use Rattle.hls_origin.specs.declared.check.run.CheckEnd.TheVariants.{Yes, Refused, ReadFailed, WriteFailed}
 use Rattle.hls_origin.specs.Beginning.{IsBeginning}
 use Rattle.hls_origin.specs.CheckAnswer.{AnswerOf, printed}
 use Rattle.hls_origin.specs.CheckRun.{Answers, AnswersStream, CountsFailures, Runs}
-use Rattle.hls_origin.specs.CheckParts.{AnswersText, CountsPrinting, Prints, PrintsAnswer, Reads, TellsAnswer}
+use Rattle.hls_origin.specs.CheckParts.{AnswersText, CountsPrinting, Prints, PrintsAnswer, TellsAnswer}
+use Rattle.hls_origin.specs.Reads.{Reads}
 
 -- ---- what is answered
 
@@ -26,7 +27,7 @@ answers_whole stream (Ok verdict) h = (refl, h)
 answers_whole stream (Err Memory) h = tt
 answers_whole stream (Err f) h = (refl, h)
 
-pub tells_answer : (stream bytes : List ℕ) (text : Vec ℕ Global) (left : Option (List ℕ)) (answer : Result Verdict CertFault) → Reads stream left (Ok text) → bytes ≡ text.items → AnswersText bytes answer → TellsAnswer stream left (Some answer)
+pub tells_answer : (stream bytes : List ℕ) (text : Vec ℕ Global) (left : Option (List ℕ)) (answer : Result Verdict CertFault) → Reads None stream left (Ok text) → bytes ≡ text.items → AnswersText bytes answer → TellsAnswer stream left (Some answer)
 tells_answer stream bytes text left answer h same answers =
     let whole : stream ≡ bytes = h.split ∙ ap (λ xs. h.taken ++ xs) h.comes.0 ∙ append-nil h.taken ∙ sym h.comes.1 ∙ sym same in
     record {
@@ -37,10 +38,10 @@ tells_answer stream bytes text left answer h same answers =
       tells = answers_whole stream answer (subst (λ (xs : List ℕ). AnswersText xs answer) (sym whole) answers);
     }
 
-pub tells_failed : (stream : List ℕ) (left : Option (List ℕ)) (f : Unread) → Reads stream left (Err f) → TellsAnswer stream left None
+pub tells_failed : (stream : List ℕ) (left : Option (List ℕ)) (f : Unread) → Reads None stream left (Err f) → TellsAnswer stream left None
 tells_failed stream left f h = record { taken = h.taken; rest = h.rest; left_is = h.left_is; split = h.split; tells = tt }
 
-pub tells_memory : (stream : List ℕ) (left : Option (List ℕ)) (f : Unread) → Reads stream left (Err f) → TellsAnswer stream left (Some (Err Memory))
+pub tells_memory : (stream : List ℕ) (left : Option (List ℕ)) (f : Unread) → Reads None stream left (Err f) → TellsAnswer stream left (Some (Err Memory))
 tells_memory stream left f h = record { taken = h.taken; rest = h.rest; left_is = h.left_is; split = h.split; tells = tt }
 
 -- ---- what is written

@@ -4,6 +4,8 @@ pub mod Begun
 mod CheckExamples
 mod Examples
 pub mod GatherLaws
+pub mod LintLaws
+pub mod LintLines
 pub mod Numbers
 pub mod PrintLaws
 pub mod ReadLaws

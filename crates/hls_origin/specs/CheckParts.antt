@@ -1,37 +1,16 @@
 -- For the proofs of this crate; no public clause cites it.
 -- What the parts of a run of `check` pass on to each other.
-use Rattle.std.specs.Prelude.{◌≡◌, ℕ, List, [], ◌++◌, Option, Some, None, Result, Ok, Err, Vec}
-use Rattle.std.specs.Global.{Global}
+use Rattle.std.specs.Prelude.{◌≡◌, ℕ, List, ◌++◌, Option, Some, None, Result, Ok, Err}
 use Rattle.hls_check_laws.specs.declared.cert_fault.CertFault.{CertFault}
 use Rattle.hls_check_laws.specs.declared.cert_fault.CertFault.TheVariants.{Memory}
 use Rattle.hls_check_laws.specs.declared.verdict.Verdict.{Verdict}
 use Rattle.hls_check_text.specs.Wrong.{IsGoodText}
 use Rattle.hls_io.specs.Rose.{Rose}
-use Rattle.hls_origin.specs.declared.check.reading.Unread.{Unread}
-use Rattle.hls_origin.specs.declared.check.reading.Unread.TheVariants as unread
 use Rattle.hls_origin.specs.declared.check.run.CheckEnd.{CheckEnd}
 use Rattle.hls_origin.specs.declared.check.run.CheckEnd.TheVariants.{Yes, Refused, ReadFailed, WriteFailed}
 use Rattle.hls_origin.specs.Beginning.{IsBeginning}
 use Rattle.hls_origin.specs.CheckAnswer.{AnswerOf, printed}
 use Rattle.hls_origin.specs.CheckRun.{AnswersStream}
-
--- a text was read whole, with nothing left of the stream; or some of it
-abbrev pub ReadsOf : List ℕ → List ℕ → Result (Vec ℕ Global) Unread → Type 0
-ReadsOf taken rest (Ok bytes) = (rest ≡ []) × (bytes.items ≡ taken)
-ReadsOf taken rest (Err f) = Unit {0}
-
--- what was taken of the stream and what is left make it
-pub record Reads (stream : List ℕ) (left : Option (List ℕ)) (result : Result (Vec ℕ Global) Unread) : Type 0 where
-  pub taken : List ℕ
-  pub rest : List ℕ
-  pub left_is : left ≡ Some rest
-  pub split : stream ≡ taken ++ rest
-  pub comes : ReadsOf taken rest result
-
--- a failed read is told, and only where one was counted
-abbrev pub CountsReading : Result (Vec ℕ Global) Unread → ℕ → ℕ → Type 0
-CountsReading (Err unread.ReadFailed) old new = Rose old new
-CountsReading result old new = new ≡ old
 
 -- the answer to a text; want of memory only of a certificate's
 abbrev pub AnswersText : List ℕ → Result Verdict CertFault → Type 0

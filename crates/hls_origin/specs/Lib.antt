@@ -6,8 +6,12 @@ pub mod CheckParts
 pub mod CheckRun
 pub mod FaultName
 pub mod Gather
+pub mod LintAnswer
+pub mod LintParts
+pub mod LintRun
 pub mod Number
 pub mod Options
+pub mod Reads
 pub mod Recorded
 pub mod Run
 pub mod RunParts

@@ -4,6 +4,8 @@ use Rattle.hls_origin.specs.declared.check.run.CheckEnd.{CheckEnd}
 use Rattle.hls_origin.specs.declared.check.run.CheckEnd.TheVariants as check
 use Rattle.hls_origin.specs.declared.cut.run.CutEnd.{CutEnd}
 use Rattle.hls_origin.specs.declared.cut.run.CutEnd.TheVariants as cut
+use Rattle.hls_origin.specs.declared.lint.run.LintEnd.{LintEnd}
+use Rattle.hls_origin.specs.declared.lint.run.LintEnd.TheVariants as lint
 
 -- words that ask for nothing that the program does
 abbrev pub usage_status : ℕ
@@ -20,3 +22,9 @@ check_status check.Yes = 0
 check_status check.Refused = 1
 check_status check.ReadFailed = 1
 check_status (check.WriteFailed answer) = 1
+
+abbrev pub lint_status : LintEnd → ℕ
+lint_status lint.Readable = 0
+lint_status lint.Refused = 1
+lint_status lint.ReadFailed = 1
+lint_status lint.WriteFailed = 1

@@ -8,18 +8,24 @@
 //! `hls_origin check` reads a certificate from standard input and writes the answer to it to standard
 //! output: `cut` and its cost, `none`, or `refused` and why. Status 0 is a good certificate, 1 a
 //! refused one or a failed call, 2 a usage fault.
+//!
+//! `hls_origin lint` reads a media playlist from standard input and writes to standard output what it
+//! is in one line, or `refused`, why, and the line's number where there is one. Status 0 is a playlist,
+//! 1 a refusal or a failed call, 2 a usage fault.
 #![tactic(auto)]
 
 ghost use Rattle.std.specs.Prelude.{◌≡◌};
 ghost use Rattle.std.specs.Process.{exit_status};
-ghost use Rattle.hls_origin.specs.Status.{check_status, cut_status, usage_status};
+ghost use Rattle.hls_origin.specs.Status.{check_status, cut_status, lint_status, usage_status};
 
 mod check;
 mod cut;
 #[cfg(test)]
 mod fakes;
+mod lint;
 mod number;
 mod pieces;
+mod reading;
 #[cfg(test)]
 mod refused_memory;
 #[cfg(test)]
@@ -28,6 +34,7 @@ mod vectors;
 use crate::check::run::{CheckEnd, run_check};
 use crate::cut::fault::CutFault;
 use crate::cut::run::{CutEnd, run_cut};
+use crate::lint::run::{LintEnd, run_lint};
 use hls_io::Counted;
 use hls_origin_listing::ListFault;
 use std::process::ExitCode;
@@ -37,6 +44,7 @@ use std::{env, io};
 const USAGE: &str = "usage: hls_origin [cut [--each] [--target N] [--uri TEXT]] < STREAM > PLAYLIST
        hls_origin cut --preferred N [--certificate] [--target N] [--uri TEXT] < STREAM > OUTPUT
        hls_origin check < CERTIFICATE
+       hls_origin lint < PLAYLIST
   --each         one segment for each place where the stream may be cut (the default)
   --preferred N  a least plan: segments whose lengths come nearest to N microseconds in sum; N is 1 to
                  the target, at most 16 digits
@@ -45,7 +53,7 @@ const USAGE: &str = "usage: hls_origin [cut [--each] [--target N] [--uri TEXT]] 
   --uri TEXT     the media file as the playlist names it: not empty, not beginning with #, without
                  line ends and quotation marks; media.mp4 if not given
 Each option may stand once, after the word cut; --each excludes --preferred and --certificate.
-No word may follow check, and other words are not known.
+No word may follow check or lint, and other words are not known.
 ";
 
 /// The words after the program's own name.
@@ -135,6 +143,34 @@ fn run_check_words(
     end_check(rt, run_check(threads, rt.alloc(), &mut input, &mut output))
 }
 
+/// Ends the program as `lint` ended.
+fn end_lint(rt: &HostRuntime, end: LintEnd) -> ExitCode
+    ensures { exit_status result ≡ lint_status end }
+{
+    match end {
+        LintEnd::Readable => ExitCode::SUCCESS,
+        LintEnd::Refused => ExitCode::from(1),
+        LintEnd::ReadFailed => {
+            let _ = eprintln!(rt; "lint: ReadFailed");
+            ExitCode::from(1)
+        }
+        LintEnd::WriteFailed => {
+            let _ = eprintln!(rt; "lint: WriteFailed");
+            ExitCode::from(1)
+        }
+    }
+}
+
+/// Does `lint`, after which no word may stand.
+fn run_lint_words(rt: &HostRuntime, words: &[String]) -> ExitCode {
+    if !words.is_empty() {
+        return usage_fault(rt);
+    }
+    let mut input = Counted::new(rt.stdin());
+    let mut output = Counted::new(io::writer(rt));
+    end_lint(rt, run_lint(rt.alloc(), &mut input, &mut output))
+}
+
 /// Does what the first word names; without a word `cut`.
 fn run_words(rt: &HostRuntime, threads: &(impl Threads + Sync), words: &[String]) -> ExitCode {
     let Some((first, rest)) = words.split_first() else {
@@ -143,6 +179,7 @@ fn run_words(rt: &HostRuntime, threads: &(impl Threads + Sync), words: &[String]
     match first.as_str() {
         "cut" => run_cut_words(rt, rest),
         "check" => run_check_words(rt, threads, rest),
+        "lint" => run_lint_words(rt, rest),
         _ => usage_fault(rt),
     }
 }

@@ -1,4 +1,4 @@
-//! Both programs with any one request for memory refused: each run answers want of memory, or what it
+//! The programs with any one request for memory refused: each run answers want of memory, or what it
 //! answers with ample memory, and one of two runs is ample. `tests/refuse_each_allocation` refuses
 //! each request in turn.
 
@@ -6,7 +6,8 @@ use crate::check::run::{CheckEnd, run_check};
 use crate::cut::fault::CutFault;
 use crate::cut::run::{CutEnd, run_cut};
 use crate::fakes::{Drips, Page};
-use crate::vectors::{FIVE_UNITS, ONE_UNIT, stream, sync};
+use crate::lint::run::{LintEnd, run_lint};
+use crate::vectors::{FIVE_UNITS, ONE_LINE, ONE_UNIT, stream, sync};
 use hls_io::Counted;
 use std::alloc::Global;
 use std::process::Abort;
@@ -42,6 +43,18 @@ fn check_once(rt: &(impl Threads + Sync), alloc: Global) -> Answer {
     match end {
         CheckEnd::Yes if page.says(b"cut 1000000\n") => Answer::Ample,
         CheckEnd::Refused if page.says(b"refused Memory\n") => Answer::Memory,
+        _ => Answer::Other,
+    }
+}
+
+fn lint_once(alloc: Global) -> Answer {
+    let mut input = Counted::new(Drips::new(ONE_UNIT.as_bytes(), 70, 0));
+    let mut output = Counted::new(Page::new());
+    let end = run_lint(alloc, &mut input, &mut output);
+    let page = output.into_inner();
+    match end {
+        LintEnd::Readable if page.says(ONE_LINE.as_bytes()) => Answer::Ample,
+        LintEnd::Refused if page.says(b"refused Memory\n") => Answer::Memory,
         _ => Answer::Other,
     }
 }
@@ -86,5 +99,12 @@ fn of_least_plans(rt: HostRuntime) -> Result<(), Fail> {
 fn of_check(rt: HostRuntime) -> Result<(), Fail> {
     let alloc = rt.alloc();
     assert!(rt; is_right(check_once(&rt, alloc), check_once(&rt, alloc)));
+    Ok(())
+}
+
+#[test]
+fn of_lint(rt: HostRuntime) -> Result<(), Fail> {
+    let alloc = rt.alloc();
+    assert!(rt; is_right(lint_once(alloc), lint_once(alloc)));
     Ok(())
 }

@@ -16,6 +16,10 @@ media.mp4
 #EXT-X-ENDLIST
 ";
 
+/// What `lint` says of it.
+pub const ONE_LINE: &str =
+    "media playlist: 1 segments, 4.000000 seconds, target 6, version 6, media sequence 0, discontinuity sequence 0, VOD, ended\n";
+
 /// The certificate of units to 3, 6, 7 and 11 seconds.
 pub const FIVE_UNITS: &str = "HLS-CUT-CERTIFICATE 1
 target 6

@@ -12,7 +12,7 @@ use hls_check_laws::{CertFault, Verdict};
 pub const LINE_LEN: usize = 65;
 
 /// Adds a space and a number.
-fn push_number(line: &mut ArrayString<LINE_LEN>, number: u64)
+pub fn push_number(line: &mut ArrayString<LINE_LEN>, number: u64)
     requires { array_string_len line.old + 21 ≤ LINE_LEN }
     ensures bytes { line.new.bytes ≡ line.old.bytes ++ spaced (number ∷ []) }
     ensures len { array_string_len line.new ≤ array_string_len line.old + 21 }

@@ -5,7 +5,7 @@ ghost use Rattle.hls_origin.specs.CheckParts.{AnswersText, CountsPrinting, Count
 ghost use Rattle.hls_origin.specs.CheckRun.{CountsFailures, Runs};
 
 use crate::check::printing::answer_line;
-use crate::check::reading::{Unread, read_whole};
+use crate::reading::{Unread, read_whole};
 use hls_check_laws::{CertFault, Verdict};
 use hls_io::{Counted, write_whole};
 use std::alloc::Global;
@@ -48,7 +48,7 @@ fn answer_stream<R: Read>(
     ensures tells { (stream : List ℕ) → R.remaining (inside_of input.old) ≡ Some stream → TellsAnswer stream (R.remaining (inside_of input.new)) result }
     ensures counts { CountsTelling result (failures_of input.old) (failures_of input.new) }
 {
-    match read_whole(alloc, input) {
+    match read_whole(alloc, input, None) {
         Ok(bytes) => Some(answer_text(rt, alloc, &bytes)),
         Err(Unread::ReadFailed) => None,
         Err(Unread::Memory) => Some(Err(CertFault::Memory)),

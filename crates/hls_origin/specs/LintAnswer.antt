@@ -1,0 +1,78 @@
+-- What is said of the text of a media playlist, in one line.
+use Rattle.std.specs.Prelude.{ℕ, ◌-◌, ◌^◌, Bool, true, false, List, [], ◌∷◌, ◌++◌, length, min, Option, Some, None, Result, Ok, Err, codes}
+use Rattle.std.specs.Fmt.{decimal}
+use Rattle.std.specs.List.{sum_by}
+use Rattle.hls_time.specs.Seconds.{seconds_text}
+use Rattle.hls_text.specs.Numbers.{spaced}
+use Rattle.hls_m3u8.specs.declared.fault.ListFault.{ListFault}
+use Rattle.hls_m3u8.specs.declared.fault.ListFault.TheVariants.{NotM3u, Utf8, BadTag, MissingTag, TooLong, Memory}
+use Rattle.hls_m3u8.specs.declared.playlist.Kind.{Kind}
+use Rattle.hls_m3u8.specs.declared.playlist.Kind.TheVariants.{Vod, Event}
+use Rattle.hls_m3u8.specs.declared.playlist.Segment.{Segment}
+use Rattle.hls_m3u8.specs.Faults.{fault_name}
+use Rattle.hls_m3u8.specs.Playlist.{Playlist}
+
+-- a label and a number
+abbrev pub field : List ℕ → ℕ → List ℕ
+field label n = label ++ decimal n
+
+abbrev pub us_of : Segment → ℕ
+us_of segment = segment.us
+
+-- the longest time that is told, in microseconds
+abbrev pub longest : ℕ
+longest = 2 ^ 53 - 1
+
+-- the segments' lengths together, or the longest time that is told
+abbrev pub total_us : List Segment → ℕ
+total_us segments = min (sum_by us_of segments) longest
+
+-- how many segments there are
+abbrev pub count_words : List Segment → List ℕ
+count_words segments = field (codes "media playlist: ") (length segments)
+
+-- how long they are
+abbrev pub length_words : ℕ → List ℕ
+length_words us = codes " segments, " ++ seconds_text us
+
+abbrev pub extent : List Segment → List ℕ
+extent segments = (count_words segments ++ length_words (total_us segments)) ++ codes " seconds"
+
+-- target duration and version
+abbrev pub header : Playlist → List ℕ
+header list = field (codes ", target ") list.target ++ field (codes ", version ") list.version
+
+-- the two sequence numbers
+abbrev pub sequences : Playlist → List ℕ
+sequences list = field (codes ", media sequence ") list.media_sequence ++ field (codes ", discontinuity sequence ") list.discontinuity_sequence
+
+abbrev pub kind_words : Option Kind → List ℕ
+kind_words None = codes ", live"
+kind_words (Some Vod) = codes ", VOD"
+kind_words (Some Event) = codes ", EVENT"
+
+abbrev pub end_words : Bool → List ℕ
+end_words true = codes ", ended"
+end_words false = []
+
+-- what a list is, in short
+abbrev pub summary : Playlist → List ℕ
+summary list = (extent list.segments ++ (header list ++ sequences list)) ++ (kind_words list.kind ++ end_words list.ended)
+
+-- the line of a tag that is refused
+abbrev pub fault_lines : ListFault → List ℕ
+fault_lines NotM3u = []
+fault_lines Utf8 = []
+fault_lines (BadTag line) = line ∷ []
+fault_lines MissingTag = []
+fault_lines TooLong = []
+fault_lines Memory = []
+
+-- an answer without its line feed
+abbrev pub lint_words : Result Playlist ListFault → List ℕ
+lint_words (Ok list) = summary list
+lint_words (Err f) = codes "refused " ++ (fault_name f ++ spaced (fault_lines f))
+
+-- the line of an answer
+abbrev pub printed : Result Playlist ListFault → List ℕ
+printed answer = lint_words answer ++ (10 ∷ [])

@@ -1,0 +1,6 @@
+//! The command `lint`: a media playlist's text in, what it is out.
+
+mod printing;
+pub mod run;
+#[cfg(test)]
+mod tests;
