@@ -12,3 +12,4 @@ pub mod Covered
 pub mod Spans
 pub mod Plays
 pub mod Names
+pub mod LiveLists

@@ -1,0 +1,38 @@
+use Rattle.std.proofs.Common.{◌≡◌, ◌+◌, ◌<◌, length, Some, None, arith, sym, ap, ◌∙◌}
+use Rattle.hls_blocks.specs.Numbered.{next_of}
+use Rattle.hls_core.specs.Reads.{recording_of}
+use Rattle.hls_core_laws.specs.Config.{ConfigData}
+use Rattle.hls_core_laws.specs.Line.{line}
+use Rattle.hls_live_laws.specs.Live.{Live, segments_of}
+use Rattle.hls_m3u8.specs.Playlist.{Playlist}
+use Rattle.hls_catchup.proofs.LiveLists.{unbegun, listed-by, list-made}
+use Rattle.hls_catchup.proofs.live.live_playlist.Goals as goal
+
+pub returns-in_default-clause-list : goal.returns-in_default-clause-list
+returns-in_default-clause-list c =
+    let value = c.in_default.ensures.value in
+    let none : recording_of c.args.snapshot.now c.args.rendition ≡ None = cc in
+    sym (unbegun c.args.snapshot.now c.recording.ensures.valid c.args.rendition none)
+
+pub returns-clause-list : goal.returns-clause-list
+returns-clause-list c =
+    let value = c.in-Some.ensures.value in
+    let is : recording_of c.args.snapshot.now c.args.rendition ≡ Some c.in-Some.recording.now = cc in
+    let next = ap next_of c.segments.ensures in
+    let some : 0 < c.line-line.result.now.removed + length (segments_of c.line-line.result.now) = omega (arith, c.next.ensures.value, next, c.if-next-eq0.false) in
+    let closed : 0 < (line c.args.snapshot.now).removed + length (segments_of (line c.args.snapshot.now)) =
+    omega (
+      arith,
+      some,
+      ap (λ (l : Live). l.removed) c.line-line.ensures.value,
+      ap (λ (l : Live). length (segments_of l)) c.line-line.ensures.value,
+    ) in
+    let made = list-made c.args.snapshot.now c.args.rendition c.in-Some.recording.now c.line-line.result.now
+    c.target.result c.removed.result c.removed_breaks.result _ c.len.result _ c.ended.result
+    c.line-line.ensures.value
+    (c.target.ensures.value ∙ ap (λ (x : ConfigData). x.target) c.config.ensures.value)
+    c.removed.ensures c.removed_breaks.ensures c.in_ok-uri.ensures
+    (c.len.ensures.value ∙ ap length c.head.ensures)
+    c.in_ok-segments.ensures c.ended.ensures in
+    ap (λ (x : Playlist). Some x) (c.live.ensures ∙ made)
+    ∙ sym (listed-by c.args.snapshot.now c.recording.ensures.valid c.args.rendition c.in-Some.recording.now is closed)

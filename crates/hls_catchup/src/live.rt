@@ -1,0 +1,116 @@
+//! The live list of a rendition.
+
+ghost use Rattle.std.specs.Prelude.{◌≡◌, map, IfOk};
+ghost use Rattle.std.specs.Option.{option_map};
+ghost use Rattle.hls_check_laws.specs.Tables.{spot_in};
+ghost use Rattle.hls_live_laws.specs.Live.{segments_of};
+ghost use Rattle.hls_m3u8.specs.Playlist.{playlist_of};
+ghost use Rattle.hls_core_laws.specs.IsState.{IsState};
+ghost use Rattle.hls_live_lists_laws.specs.Lists.{live_uri, listed, live_list_of};
+ghost use Rattle.hls_catchup.specs.Lists.{cutting};
+
+use crate::segments::bytes_between;
+use bytes::ByteStr;
+use hls_check_laws::Spot;
+use hls_core::snapshot::Snapshot;
+use hls_live::LiveLine;
+use hls_m3u8::{ByteRange, MediaPlaylist, Segment};
+use hls_places_laws::Place;
+use hls_record::Recording;
+use std::alloc::{AllocError, Global};
+
+/// The live list of a rendition (RFC 8216 section 6.2.2): the segments that the live line keeps, with ranges in the rendition's
+/// recording, and how many segments and marks left its front. None until a segment was ever closed, and where the channel has
+/// no such rendition. A list that comes has a text.
+pub fn live_playlist(
+    alloc: Global,
+    snapshot: &Snapshot,
+    rendition: usize,
+) -> Result<Option<MediaPlaylist>, AllocError>
+    ensures list { IfOk result (λ found. option_map playlist_of found ≡ live_list_of snapshot.now rendition) }
+    ensures valid { IsState snapshot.now }
+{
+    let line = snapshot.line();
+    let Some(recording) = snapshot.recording(rendition) else {
+        return Ok(None);
+    };
+    if line.segments().next() == 0 {
+        return Ok(None);
+    }
+    let uri = live_uri(alloc, rendition)?;
+    let segments = live_segments(alloc, recording, rendition, &uri, line)?;
+    Ok(Some(MediaPlaylist::live(
+        snapshot.config().target(),
+        line.removed(),
+        line.removed_breaks(),
+        uri,
+        recording.head().len() as u64,
+        segments,
+        line.ended(),
+    )))
+}
+
+/// The URI of a rendition's recording, as live lists name it.
+fn live_uri(alloc: Global, rendition: usize) -> Result<ByteStr, AllocError>
+    ensures { IfOk result (λ uri. uri ≡ live_uri rendition) }
+{
+    ByteStr::from_string(format!(in alloc; "/media/{rendition}.mp4")?)
+}
+
+/// The kept segments of the live line in one rendition, with ranges in its recording.
+fn live_segments(
+    alloc: Global,
+    recording: &Recording,
+    rendition: usize,
+    uri: &ByteStr,
+    line: &LiveLine,
+) -> Result<Vec<Segment>, AllocError>
+    ensures { IfOk result (λ v. v.items ≡ map (listed (cutting recording.now rendition uri.now 0)) (segments_of line.now)) }
+{
+    let mut list = Vec::new(alloc);
+    let segments = line.segments();
+    for segment in segments.iter_from(segments.first()) {
+        list.push(listed(recording, rendition, uri.clone()?, segment))?;
+    }
+    Ok(list)
+}
+
+/// A segment of the live line in one rendition, with its range in the recording.
+fn listed(
+    recording: &Recording,
+    rendition: usize,
+    uri: ByteStr,
+    segment: &hls_live::Segment,
+) -> Segment
+    ensures { result ≡ listed (cutting recording.now rendition uri 0) segment.now }
+{
+    let from = spot_of(&segment.from, rendition);
+    let to = spot_of(&segment.to, rendition);
+    let range = ByteRange {
+        length: bytes_between(recording, from.fragment, to.fragment),
+        offset: recording.offset(0) + bytes_between(recording, 0, from.fragment),
+    };
+    Segment {
+        mark: segment.mark,
+        us: to.prev_end.saturating_sub(from.start),
+        range: Some(range),
+        uri,
+    }
+}
+
+/// A place's spot in a rendition, one of zeros where it has none.
+fn spot_of(place: &Place, rendition: usize) -> Spot
+    ensures { result ≡ spot_in place.now.spots rendition }
+{
+    let spots = place.spots.as_slice();
+    if rendition < spots.len() {
+        return spots[rendition];
+    }
+    Spot {
+        fragment: 0,
+        prev_end: 0,
+        start: 0,
+        run_in: 0,
+        run_out: 0,
+    }
+}

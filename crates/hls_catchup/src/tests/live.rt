@@ -1,0 +1,215 @@
+//! Live lists that were worked out by hand: target 6 s, preferred length 4 s.
+
+use super::{
+    SECOND, assert_list, begun, channel, double, fault, request, single, stepped, ten_units,
+    with_unit, with_units,
+};
+use crate::{CatchFault, live_playlist};
+use hls_core::snapshot::Snapshot;
+use hls_core_laws::event::Event;
+use hls_m3u8::{MediaPlaylist, write_media};
+use std::alloc::Global;
+use std::process::Abort;
+use std::sync::Arc;
+use std::test::Fail;
+
+/// The live list of the first rendition.
+fn live(alloc: Global, snapshot: &Snapshot) -> Result<MediaPlaylist, Fail> {
+    match live_playlist(alloc, snapshot, 0)? {
+        Some(list) => Ok(list),
+        None => Err(Fail::from("no list")),
+    }
+}
+
+/// Its text.
+fn text_of(alloc: Global, snapshot: &Snapshot) -> Result<Vec<u8>, Fail> {
+    match live_playlist(alloc, snapshot, 0)? {
+        Some(list) => Ok(write_media(alloc, &list)?),
+        None => Err(Fail::from("no list")),
+    }
+}
+
+/// One rendition, not finished.
+fn recorded(alloc: Global, units: &[(u32, u32)]) -> Result<Arc<Snapshot>, Fail> {
+    let none = single(alloc)?;
+    with_units(alloc, &none, 0, units)
+}
+
+fn slid(alloc: Global, snapshot: &Snapshot, count: u64) -> Result<Arc<Snapshot>, Fail> {
+    stepped(alloc, snapshot, Event::Slide { count })
+}
+
+#[test]
+fn writes_a_live_list_after_a_slide(rt: HostRuntime) -> Result<(), Fail> {
+    let alloc = rt.alloc();
+    let units = [(0, 4), (4, 8), (8, 13), (13, 18), (18, 22), (22, 26)];
+    let state = recorded(alloc, &units)?;
+    let state = slid(alloc, &state, 1)?;
+    let text = text_of(alloc, &state)?;
+    let wanted = b"#EXTM3U
+#EXT-X-VERSION:6
+#EXT-X-TARGETDURATION:6
+#EXT-X-MEDIA-SEQUENCE:1
+#EXT-X-DISCONTINUITY-SEQUENCE:0
+#EXT-X-MAP:URI=\"/media/0.mp4\",BYTERANGE=\"600@0\"
+#EXTINF:4.000000,
+#EXT-X-BYTERANGE:1000@1600
+/media/0.mp4
+#EXTINF:5.000000,
+#EXT-X-BYTERANGE:1000@2600
+/media/0.mp4
+#EXTINF:5.000000,
+#EXT-X-BYTERANGE:1000@3600
+/media/0.mp4
+#EXTINF:4.000000,
+#EXT-X-BYTERANGE:1000@4600
+/media/0.mp4
+";
+    assert!(rt; text.as_slice() == wanted.as_slice(), "the list's text");
+    Ok(())
+}
+
+#[test]
+fn begins_anew_where_no_segment_reaches(rt: HostRuntime) -> Result<(), Fail> {
+    let alloc = rt.alloc();
+    let state = channel(alloc, &[(0, 4), (4, 11), (11, 15)])?;
+    let list = live(alloc, &state)?;
+    let first = (false, 4 * SECOND, 1000, 600);
+    assert_list(&rt, &list, &[first, (true, 4 * SECOND, 1000, 2600)]);
+    assert!(rt; list.ended);
+    let state = slid(alloc, &state, 2)?;
+    let list = live(alloc, &state)?;
+    assert_list(&rt, &list, &[]);
+    assert_eq!(rt; list.media_sequence, 2);
+    assert_eq!(rt; list.discontinuity_sequence, 1);
+    Ok(())
+}
+
+#[test]
+fn is_cut_by_one_rule(rt: HostRuntime) -> Result<(), Fail> {
+    let alloc = rt.alloc();
+    // past the preferred length, where a least plan would stop before it
+    let state = channel(alloc, &[(0, 3), (3, 6), (6, 7), (7, 11)])?;
+    let wanted = [
+        (false, 6 * SECOND, 2000, 600),
+        (false, 5 * SECOND, 2000, 2600),
+    ];
+    assert_list(&rt, &live(alloc, &state)?, &wanted);
+    // back to the best place
+    let state = recorded(alloc, &[(0, 3), (3, 8), (8, 12), (12, 13)])?;
+    let wanted = [
+        (false, 3 * SECOND, 1000, 600),
+        (false, 5 * SECOND, 1000, 1600),
+        (false, 4 * SECOND, 1000, 2600),
+    ];
+    assert_list(&rt, &live(alloc, &state)?, &wanted);
+    // and then anew
+    let state = recorded(alloc, &[(0, 3), (3, 10), (10, 14), (14, 15)])?;
+    let wanted = [
+        (false, 3 * SECOND, 1000, 600),
+        (true, 4 * SECOND, 1000, 2600),
+    ];
+    assert_list(&rt, &live(alloc, &state)?, &wanted);
+    Ok(())
+}
+
+#[test]
+fn has_no_list_before_a_segment(rt: HostRuntime) -> Result<(), Fail> {
+    let alloc = rt.alloc();
+    let state = recorded(alloc, &[(0, 4)])?;
+    assert!(rt; live_playlist(alloc, &state, 0)?.is_none());
+    let state = recorded(alloc, &[(0, 4), (4, 8)])?;
+    assert!(rt; live_playlist(alloc, &state, 0)?.is_some());
+    assert!(rt; live_playlist(alloc, &state, 1)?.is_none());
+    Ok(())
+}
+
+#[test]
+fn trimmed_units_are_before_the_recording(rt: HostRuntime) -> Result<(), Fail> {
+    let alloc = rt.alloc();
+    let state = ten_units(alloc)?;
+    assert_eq!(rt; fault(alloc, &state, request(0, 8 * SECOND)), None);
+    let state = slid(alloc, &state, 4)?;
+    let trim = Event::Trim {
+        rendition: 0,
+        floor: 4,
+    };
+    let state = stepped(alloc, &state, trim)?;
+    let early = fault(alloc, &state, request(0, 8 * SECOND));
+    assert_eq!(rt; early, Some(CatchFault::BeforeRecording));
+    assert_eq!(rt;
+        fault(alloc, &state, request(16 * SECOND, 20 * SECOND)),
+        None
+    );
+    Ok(())
+}
+
+/// Two renditions with the units of 4 s that come in this order, each by its rendition and number.
+fn fed(alloc: Global, order: &[(usize, u64)]) -> Result<Arc<Snapshot>, Fail> {
+    let none = double(alloc, 0)?;
+    let state = begun(alloc, &none, 0, 90000)?;
+    let mut state = begun(alloc, &state, 1, 90000)?;
+    for &(rendition, n) in order {
+        state = with_unit(alloc, &state, rendition, n % 4096 * 360000, 360000)?;
+    }
+    Ok(state)
+}
+
+fn assert_fed(rt: &impl Abort, list: &MediaPlaylist, removed: u64) {
+    assert_eq!(rt; list.media_sequence, removed);
+    for (segment, n) in list.segments.iter().zip(removed..) {
+        assert!(rt; !segment.mark);
+        assert_eq!(rt; segment.us, 4 * SECOND);
+        match segment.range {
+            Some(range) => assert!(rt; range.length == 1000 && range.offset / 1000 == n),
+            None => assert!(rt; false, "no range"),
+        }
+    }
+}
+
+#[test]
+fn origins_agree_whatever_the_order(rt: HostRuntime) -> Result<(), Fail> {
+    let alloc = rt.alloc();
+    let apart = [
+        (0, 0),
+        (0, 1),
+        (0, 2),
+        (0, 3),
+        (0, 4),
+        (0, 5),
+        (0, 6),
+        (1, 0),
+        (1, 1),
+        (1, 2),
+        (1, 3),
+        (1, 4),
+        (1, 5),
+        (1, 6),
+    ];
+    let in_turn = [
+        (1, 0),
+        (0, 0),
+        (1, 1),
+        (0, 1),
+        (0, 2),
+        (1, 2),
+        (1, 3),
+        (1, 4),
+        (0, 3),
+        (0, 4),
+        (1, 5),
+        (0, 5),
+        (1, 6),
+        (0, 6),
+    ];
+    let one = fed(alloc, &apart)?;
+    let other = fed(alloc, &in_turn)?;
+    let other = slid(alloc, &other, 1)?;
+    let whole = live(alloc, &one)?;
+    let rest = live(alloc, &other)?;
+    assert_eq!(rt; whole.segments.len(), 6);
+    assert_eq!(rt; rest.segments.len(), 5);
+    assert_fed(&rt, &whole, 0);
+    assert_fed(&rt, &rest, 1);
+    Ok(())
+}
