@@ -1,0 +1,241 @@
+-- What one request comes to: the acts on the channel that it leads to, and the bytes that are due.
+use Rattle.std.specs.Prelude.{◌≡◌, ◌≢◌, ◌⊎◌, ℕ, Bool, true, false, not, cond, List, [], ◌∷◌, ◌++◌, length, Option, Some, None, Result, Ok, Err, codes}
+use Rattle.std.specs.Option.{is_some}
+use Rattle.std.specs.Io.KnownBytes.{prepend_known}
+use Rattle.httparse.specs.Grammar.{RequestHead}
+use Rattle.hls_core_laws.specs.declared.event.Event.TheVariants.{Finish}
+use Rattle.hls_core_laws.specs.declared.refusal.Refusal.{Refusal}
+use Rattle.hls_core_laws.specs.declared.refusal.Refusal.TheVariants.{Memory}
+use Rattle.hls_core_laws.specs.State.{State}
+use Rattle.hls_turn.specs.declared.done.Done.{Done}
+use Rattle.hls_turn.specs.Passes.{Known}
+use Rattle.hls_turn.specs.Calls.{LookedOn, Looks, Submits}
+use Rattle.hls_http_laws.specs.declared.body.Body.{Body}
+use Rattle.hls_http_laws.specs.declared.end.SessionEnd.{SessionEnd}
+use Rattle.hls_http_laws.specs.declared.end.SessionEnd.TheVariants as ends
+use Rattle.hls_http_laws.specs.declared.fault.HttpFault.{HttpFault}
+use Rattle.hls_http_laws.specs.declared.fault.HttpFault.TheVariants as http
+use Rattle.hls_http_laws.specs.declared.plan.Plan.{Plan}
+use Rattle.hls_http_laws.specs.declared.plan.Plan.TheVariants.{Refuse, Feed, Skip}
+use Rattle.hls_http_laws.specs.declared.range.Asked.{Asked}
+use Rattle.hls_http_laws.specs.declared.range.Asked.TheVariants as asks
+use Rattle.hls_http_laws.specs.declared.reply.Status.TheVariants as statuses
+use Rattle.hls_http_laws.specs.Heads.{ReadsSmall}
+use Rattle.hls_http_laws.specs.Fields.{values}
+use Rattle.hls_http_laws.specs.Range.{asked_of}
+use Rattle.hls_http_laws.specs.Requests.{begins, fields_of}
+use Rattle.hls_http_laws.specs.Order.{plan_by, continues, says_close, is_over}
+use Rattle.hls_http_laws.specs.Reply.{continue_text, is_success, no_memory_to}
+use Rattle.hls_http.specs.declared.head.Method.{Method}
+use Rattle.hls_http.specs.declared.head.HeadEnd.{HeadEnd}
+use Rattle.hls_http.specs.declared.head.HeadEnd.TheVariants as heads
+use Rattle.hls_http.specs.declared.body.BodyEnd.{BodyEnd}
+use Rattle.hls_http.specs.declared.body.BodyEnd.TheVariants as bodies
+use Rattle.hls_http.specs.declared.drain.DropEnd.{DropEnd}
+use Rattle.hls_http.specs.declared.drain.DropEnd.TheVariants as drops
+use Rattle.hls_http.specs.Heads.{method_of, Hears}
+use Rattle.hls_http.specs.Drained.{Drops}
+use Rattle.hls_serve_laws.specs.declared.fault.IngestFault.{IngestFault}
+use Rattle.hls_serve_laws.specs.declared.ingest.Intake.{Intake}
+use Rattle.hls_serve_laws.specs.declared.ingest.Intake.TheVariants as came
+use Rattle.hls_serve_laws.specs.declared.route.Route.{Route}
+use Rattle.hls_serve_laws.specs.declared.route.Route.TheVariants as routes
+use Rattle.hls_serve_laws.specs.Faults.{name_of, status_of}
+use Rattle.hls_serve_laws.specs.Ingest.{Ingests, Progress, counts_text}
+use Rattle.hls_serve_laws.specs.Replies.{Answer, Lists, answer_text, catch_up_answer, fault_answer, finish_answer, list_answer, media_answer, method_answer, playlist_answer, status_answer, text_answer}
+use Rattle.hls_serve_laws.specs.Routes.{allows, feeds, is_to_head, path_of, query_of, route_of}
+
+-- what a request's head asks
+pub record Asks : Type 0 where
+  pub route : Option Route
+  pub method : Method
+  pub query : List ℕ
+  pub range : Asked
+
+abbrev pub asks_of : ℕ → RequestHead → Asks
+asks_of count h = record {
+  route = route_of count (path_of h.target);
+  method = method_of h.method;
+  query = query_of h.target;
+  range = asked_of (values (codes "range") (fields_of h));
+}
+
+-- HEAD is answered as GET without Range (RFC 9110, sections 9.3.2 and 14.2)
+abbrev pub range_for : Bool → Asked → Asked
+range_for to_head range = cond to_head asks.All range
+
+-- ---- acts: at most one look or one event for each request that isn't an encoder's body
+
+-- the state that is seen is replied
+abbrev pub ShowsState : Known → Known → (State → Answer) → Answer → Type 0
+ShowsState a b shown answer = (s : State) × Looks a s b × (answer ≡ shown s)
+
+-- the event's outcome is replied
+abbrev pub Finishes : Known → ℕ → Known → Answer → Type 0
+Finishes a r b answer = (done : Result Done Refusal) × Submits a (Finish r) done b × (done ≢ Err Memory) × (answer ≡ finish_answer done)
+
+-- by the route, where the method is one of its own
+abbrev pub Serves : Lists → Asks → Route → Known → Answer → Known → Type 0
+Serves lists q (routes.Ingest r) a answer b = ⊥
+Serves lists q (routes.Finish r) a answer b = Finishes a r b answer
+Serves lists q routes.LiveMaster a answer b = ShowsState a b (λ s. playlist_answer (lists.master s)) answer
+Serves lists q (routes.LiveList r) a answer b = ShowsState a b (λ s. list_answer (lists.live s r)) answer
+Serves lists q (routes.Media r) a answer b = ShowsState a b (λ s. media_answer s r (range_for (is_to_head q.method) q.range)) answer
+Serves lists q routes.CatchUp a answer b = (b ≡ a) × (answer ≡ catch_up_answer q.query)
+Serves lists q (routes.Job id) a answer b = ⊥
+Serves lists q (routes.JobFile id file) a answer b = ⊥
+Serves lists q routes.Status a answer b = ShowsState a b status_answer answer
+
+-- no job is there
+abbrev pub is_missing : Route → Bool
+is_missing (routes.Job id) = true
+is_missing (routes.JobFile id file) = true
+is_missing route = false
+
+abbrev pub ServesAllowed : Lists → Asks → Route → Known → Answer → Known → Bool → Type 0
+ServesAllowed lists q route a answer b true = Serves lists q route a answer b
+ServesAllowed lists q route a answer b false = (b ≡ a) × (answer ≡ method_answer route)
+
+abbrev pub ServesKnown : Lists → Asks → Route → Known → Answer → Known → Bool → Type 0
+ServesKnown lists q route a answer b true = (b ≡ a) × (answer ≡ fault_answer http.NotFound)
+ServesKnown lists q route a answer b false = ServesAllowed lists q route a answer b (allows route q.method)
+
+-- an unknown job comes first, then a method that the route hasn't
+abbrev pub Responds : Lists → Asks → Route → Known → Option Answer → Known → Type 0
+Responds lists q route a (Some answer) b = ServesKnown lists q route a answer b (is_missing route)
+Responds lists q route a None b = LookedOn a b
+
+-- ---- what is due
+
+-- a whole text; whether it says that the connection closes, and whether it gives what was asked for. Or, behind a first
+-- text, nothing more, since the session ends so
+pub data Due : Type 0 where
+  Reply : (text : List ℕ) (closing : Bool) (success : Bool) → Due
+  Silence : (first : List ℕ) (end : SessionEnd) → Due
+
+-- 100 Continue, where it is waited for and the body will be read
+abbrev pub first_of : RequestHead → Plan → List ℕ
+first_of h plan = cond (continues h plan) continue_text []
+
+abbrev pub to_head : RequestHead → Bool
+to_head h = is_to_head (method_of h.method)
+
+abbrev pub due_for : RequestHead → Plan → Answer → Bool → Due
+due_for h plan answer early =
+    Reply (first_of h plan ++ answer_text answer (says_close h early) (to_head h)) (says_close h early) (is_success answer.status)
+
+-- want of memory has one reply
+abbrev pub due_for_memory : RequestHead → Plan → Due
+due_for_memory h plan = Reply (first_of h plan ++ no_memory_to (to_head h)) true false
+
+abbrev pub due_for_maybe : RequestHead → Plan → Option Answer → Bool → Due
+due_for_maybe h plan None early = due_for_memory h plan
+due_for_maybe h plan (Some answer) early = due_for h plan answer early
+
+-- the answer, or the one to want of memory
+abbrev pub IsDue : RequestHead → Plan → Answer → Bool → Due → Type 0
+IsDue h plan answer early due = (due ≡ due_for h plan answer early) ⊎ (due ≡ due_for_memory h plan)
+
+-- why no more of a body comes
+abbrev pub IsDueAtStop : RequestHead → Plan → BodyEnd → Due → Type 0
+IsDueAtStop h plan bodies.BadFraming due = IsDue h plan (fault_answer http.BadFraming) true due
+IsDueAtStop h plan bodies.CutShort due = due ≡ Silence (first_of h plan) ends.CutShort
+IsDueAtStop h plan bodies.ReadFailed due = due ≡ Silence (first_of h plan) ends.ReadFailed
+
+-- ---- bodies that are dropped
+
+abbrev pub IsSkipped : Lists → RequestHead → Asks → Route → Plan → Known → Known → Due → Result (Unit {0}) DropEnd → Type 0
+IsSkipped lists h q route plan a b due (Ok done) =
+    (answer : Option Answer) × Responds lists q route a answer b × ((due ≡ due_for_maybe h plan answer false) ⊎ (due ≡ due_for_memory h plan))
+IsSkipped lists h q route plan a b due (Err drops.TooLarge) = (b ≡ a) × IsDue h plan (fault_answer http.TooLarge) true due
+IsSkipped lists h q route plan a b due (Err (drops.Stopped end)) = (b ≡ a) × IsDueAtStop h plan end due
+
+pub record Skips (lists : Lists) (h : RequestHead) (q : Asks) (route : Route) (plan : Plan) (a : Known) (body : Body) (input : List ℕ) (due : Due) (b : Known) (held : List ℕ) (left : Option (List ℕ)) : Type 0 where
+  pub last : Body
+  pub result : Result (Unit {0}) DropEnd
+  pub drops : Drops body input last held left result
+  pub skipped : IsSkipped lists h q route plan a b due result
+
+-- ---- encoders' bodies
+
+abbrev pub taken_answer : Progress → Answer
+taken_answer y = text_answer statuses.Done (counts_text y.counts)
+
+-- the deepest fault's name, and what was taken before
+abbrev pub refused_answer : IngestFault → Progress → Answer
+refused_answer fault y = text_answer (status_of fault) (codes "refused " ++ (name_of fault ++ (32 ∷ counts_text y.counts)))
+
+-- a refusal at the body's last byte stands at its end
+abbrev pub IsFed : RequestHead → Plan → Body → Progress → Due → Result (Unit {0}) Intake → Type 0
+IsFed h plan last y due (Ok done) = IsDue h plan (taken_answer y) false due
+IsFed h plan last y due (Err (came.Refused fault)) = IsDue h plan (refused_answer fault y) (not (is_over last)) due
+IsFed h plan last y due (Err came.Memory) = due ≡ due_for_memory h plan
+IsFed h plan last y due (Err (came.Stopped end)) = IsDueAtStop h plan end due
+
+pub record Feeds (h : RequestHead) (plan : Plan) (r : ℕ) (a : Known) (body : Body) (input : List ℕ) (due : Due) (b : Known) (held : List ℕ) (left : Option (List ℕ)) : Type 0 where
+  pub last : Body
+  pub progress : Progress
+  pub result : Result (Unit {0}) Intake
+  pub ingests : Ingests r a body input last held left progress result
+  pub known : b ≡ progress.known
+  pub fed : IsFed h plan last progress due result
+
+-- ---- a request
+
+-- the rendition that an encoder's body is for
+abbrev pub FeedsBy : Option Route → RequestHead → Plan → Known → Body → List ℕ → Due → Known → List ℕ → Option (List ℕ) → Type 0
+FeedsBy (Some (routes.Ingest r)) h plan a body input due b held left = Feeds h plan r a body input due b held left
+FeedsBy route h plan a body input due b held left = ⊥
+
+abbrev pub SkipsBy : Option Route → Lists → RequestHead → Asks → Plan → Known → Body → List ℕ → Due → Known → List ℕ → Option (List ℕ) → Type 0
+SkipsBy None lists h q plan a body input due b held left = ⊥
+SkipsBy (Some route) lists h q plan a body input due b held left = Skips lists h q route plan a body input due b held left
+
+-- by what is done with it: refused before its body, its body taken part by part, or its body dropped
+abbrev pub Follows : Lists → RequestHead → Asks → Plan → Known → List ℕ → Due → Known → List ℕ → Option (List ℕ) → Type 0
+Follows lists h q (Refuse fault closing) a input due b held left =
+    (b ≡ a) × (prepend_known held left ≡ Some input) × IsDue h (Refuse fault closing) (fault_answer fault) closing due
+Follows lists h q (Feed body) a input due b held left = FeedsBy q.route h (Feed body) a body input due b held left
+Follows lists h q (Skip body) a input due b held left = SkipsBy q.route lists h q (Skip body) a body input due b held left
+
+abbrev pub plan_for : RequestHead → Asks → Plan
+plan_for h q = plan_by (begins h) (is_some q.route) (feeds q.route q.method)
+
+-- 100 Continue couldn't be written: nothing more is done
+pub record IsUnheard (h : RequestHead) (plan : Plan) (a : Known) (due : Due) (b : Known) : Type 0 where
+  pub same : b ≡ a
+  pub waited : continues h plan ≡ true
+  pub due_is : due ≡ Silence continue_text ends.WriteFailed
+
+-- a request whose head stands at the front of the input, in a channel of so many renditions
+pub record HearsHead (lists : Lists) (a : Known) (input : List ℕ) (due : Due) (b : Known) (held : List ℕ) (left : Option (List ℕ)) : Type 0 where
+  pub head : RequestHead
+  pub behind : List ℕ
+  pub reads : ReadsSmall input head behind
+  pub asked : Asks
+  pub asked_is : asked ≡ asks_of (length a.seen.config.renditions) head
+  pub plan : Plan
+  pub plan_is : plan ≡ plan_for head asked
+  pub follows : Follows lists head asked plan a behind due b held left ⊎ IsUnheard head plan a due b
+
+-- what is due where no head comes
+abbrev pub refused_head : HttpFault → Due
+refused_head fault = Reply (answer_text (fault_answer fault) true false) true false
+
+abbrev pub IsDueWithoutHead : HeadEnd → Due → Type 0
+IsDueWithoutHead heads.Closed due = due ≡ Silence [] ends.Closed
+IsDueWithoutHead heads.CutShort due = due ≡ Silence [] ends.CutShort
+IsDueWithoutHead heads.BadHead due = (due ≡ refused_head http.BadHead) ⊎ (due ≡ Reply (no_memory_to false) true false)
+IsDueWithoutHead heads.HeadTooLarge due = (due ≡ refused_head http.HeadTooLarge) ⊎ (due ≡ Reply (no_memory_to false) true false)
+IsDueWithoutHead heads.ReadFailed due = due ≡ Silence [] ends.ReadFailed
+
+pub record HearsNone (a : Known) (input : List ℕ) (due : Due) (b : Known) (held : List ℕ) (left : Option (List ℕ)) : Type 0 where
+  pub same : b ≡ a
+  pub taken : List ℕ
+  pub end : HeadEnd
+  pub hears : Hears input taken held left (Err end)
+  pub due_is : IsDueWithoutHead end due
+
+-- what stands at the front of the input comes to this: what is due, what the pass then knows, and what is still to be read
+abbrev pub Heard : Lists → Known → List ℕ → Due → Known → List ℕ → Option (List ℕ) → Type 0
+Heard lists a input due b held left = HearsHead lists a input due b held left ⊎ HearsNone a input due b held left

@@ -1,0 +1,164 @@
+-- What a target names, and which methods that has.
+use Rattle.std.specs.Prelude.{ℕ, nat_lt, min, position, Bool, true, false, not, ◌&&◌, ◌==◌, ◌-◌, ◌+◌, cond, bytes_eq, List, [], ◌∷◌, length, take, drop, Option, Some, None, option_map, unwrap_or, codes}
+use Rattle.std.specs.List.{position_or_len}
+use Rattle.std.specs.Str.{all_ascii_digits}
+use Rattle.hls_http_laws.specs.Fields.{number_of}
+use Rattle.hls_http.specs.declared.head.Method.{Method}
+use Rattle.hls_http.specs.declared.head.Method.TheVariants.{Get, Head, Post, Put, Delete}
+use Rattle.hls_serve_laws.specs.declared.route.Route.{Route}
+use Rattle.hls_serve_laws.specs.declared.route.Route.TheVariants as routes
+use Rattle.hls_serve_laws.specs.declared.route.JobFile.{JobFile}
+use Rattle.hls_serve_laws.specs.declared.route.JobFile.TheVariants as files
+
+-- what stands before the first such byte, and behind it
+abbrev pub place_of : ℕ → List ℕ → ℕ
+place_of byte text = position_or_len (λ b. b == byte) text
+
+-- the path of a target, and its query (RFC 9112, section 3.2.1)
+abbrev pub path_of : List ℕ → List ℕ
+path_of target = take (place_of 63 target) target
+
+abbrev pub query_of : List ℕ → List ℕ
+query_of target = drop (place_of 63 target + 1) target
+
+-- what follows this front
+abbrev pub behind : List ℕ → List ℕ → Option (List ℕ)
+behind front text = cond (bytes_eq (take (length front) text) front) (Some (drop (length front) text)) None
+
+-- what stands before this back
+abbrev pub before : List ℕ → List ℕ → Option (List ℕ)
+before back text = cond (bytes_eq (drop (length text - length back) text) back) (Some (take (length text - length back) text)) None
+
+-- no leading zero, but in `0` itself
+abbrev pub is_plain : List ℕ → Bool
+is_plain [] = false
+is_plain (d ∷ []) = true
+is_plain (d ∷ e ∷ ds) = not (d == 48)
+
+-- the number of a rendition of which there are so many
+abbrev pub below : ℕ → Option ℕ → Option ℕ
+below count None = None
+below count (Some r) = cond (nat_lt r count) (Some r) None
+
+abbrev pub rendition_in : ℕ → List ℕ → Option ℕ
+rendition_in count text = cond (is_plain text) (below count (number_of 16 text)) None
+
+-- above the number of every job
+abbrev pub no_job : ℕ
+no_job = 9007199254740992
+
+-- the number of a job, or that of none where it has too many digits
+abbrev pub job_in : List ℕ → Option ℕ
+job_in text = cond (is_plain text && all_ascii_digits text) (Some (min (unwrap_or (number_of 16 text) no_job) no_job)) None
+
+-- the route of what stands there; without that, another
+abbrev pub or_else : {A : Type 0} → Option A → (A → Option Route) → Option Route → Option Route
+or_else None route other = other
+or_else (Some a) route other = route a
+
+abbrev pub live_route : ℕ → List ℕ → Option Route
+live_route count text =
+    cond (bytes_eq text (codes "master.m3u8")) (Some routes.LiveMaster)
+    (or_else (before (codes ".m3u8") text) (λ number. option_map routes.LiveList (rendition_in count number)) None)
+
+abbrev pub media_route : ℕ → List ℕ → Option Route
+media_route count text = or_else (before (codes ".mp4") text) (λ number. option_map routes.Media (rendition_in count number)) None
+
+-- a file of a job by its name
+abbrev pub or_file : Option (List ℕ) → (List ℕ → Option JobFile) → Option JobFile → Option JobFile
+or_file None file other = other
+or_file (Some text) file other = file text
+
+abbrev pub media_file : ℕ → List ℕ → Option JobFile
+media_file count name = or_file (before (codes ".mp4") name) (λ number. option_map files.Media (rendition_in count number)) None
+
+abbrev pub list_file : ℕ → List ℕ → Option JobFile
+list_file count name =
+    or_file (before (codes ".m3u8") name) (λ number. option_map files.List (rendition_in count number)) (media_file count name)
+
+abbrev pub file_of : ℕ → List ℕ → Option JobFile
+file_of count name =
+    cond (bytes_eq name (codes "master.m3u8")) (Some files.Master)
+    (cond (bytes_eq name (codes "certificate.txt")) (Some files.Certificate) (list_file count name))
+
+abbrev pub file_route : Option ℕ → Option JobFile → Option Route
+file_route None file = None
+file_route (Some id) None = None
+file_route (Some id) (Some file) = Some (routes.JobFile id file)
+
+-- a job, or behind the next `/` one of its files
+abbrev pub job_route_at : ℕ → List ℕ → Option ℕ → Option Route
+job_route_at count text None = option_map routes.Job (job_in text)
+job_route_at count text (Some at) = file_route (job_in (take at text)) (file_of count (drop (at + 1) text))
+
+abbrev pub job_route : ℕ → List ℕ → Option Route
+job_route count text = job_route_at count text (position (λ b. b == 47) text)
+
+abbrev pub folder_route : ℕ → List ℕ → Option Route
+folder_route count path =
+    or_else (behind (codes "/ingest/") path) (λ number. option_map routes.Ingest (rendition_in count number))
+    (or_else (behind (codes "/finish/") path) (λ number. option_map routes.Finish (rendition_in count number))
+    (or_else (behind (codes "/live/") path) (live_route count)
+    (or_else (behind (codes "/media/") path) (media_route count)
+    (or_else (behind (codes "/job/") path) (job_route count) None))))
+
+-- what a path names, in a channel of so many renditions; paths aren't percent-decoded
+abbrev pub route_of : ℕ → List ℕ → Option Route
+route_of count path =
+    cond (bytes_eq path (codes "/status")) (Some routes.Status)
+    (cond (bytes_eq path (codes "/catchup")) (Some routes.CatchUp) (folder_route count path))
+
+-- ---- methods
+
+abbrev pub is_read : Method → Bool
+is_read Get = true
+is_read Head = true
+is_read _ = false
+
+abbrev pub is_post : Method → Bool
+is_post Post = true
+is_post _ = false
+
+abbrev pub is_sent : Method → Bool
+is_sent Put = true
+is_sent Post = true
+is_sent _ = false
+
+abbrev pub is_read_or_deleted : Method → Bool
+is_read_or_deleted Get = true
+is_read_or_deleted Head = true
+is_read_or_deleted Delete = true
+is_read_or_deleted _ = false
+
+-- the methods that a route has
+abbrev pub allows : Route → Method → Bool
+allows (routes.Ingest r) method = is_sent method
+allows (routes.Finish r) method = is_post method
+allows routes.LiveMaster method = is_read method
+allows (routes.LiveList r) method = is_read method
+allows (routes.Media r) method = is_read method
+allows routes.CatchUp method = is_post method
+allows (routes.Job id) method = is_read_or_deleted method
+allows (routes.JobFile id file) method = is_read method
+allows routes.Status method = is_read method
+
+-- their names (RFC 9110, section 10.2.1)
+abbrev pub methods_of : Route → List ℕ
+methods_of (routes.Ingest r) = codes "PUT, POST"
+methods_of (routes.Finish r) = codes "POST"
+methods_of routes.LiveMaster = codes "GET, HEAD"
+methods_of (routes.LiveList r) = codes "GET, HEAD"
+methods_of (routes.Media r) = codes "GET, HEAD"
+methods_of routes.CatchUp = codes "POST"
+methods_of (routes.Job id) = codes "GET, HEAD, DELETE"
+methods_of (routes.JobFile id file) = codes "GET, HEAD"
+methods_of routes.Status = codes "GET, HEAD"
+
+-- the body of such a request is taken part by part
+abbrev pub feeds : Option Route → Method → Bool
+feeds (Some (routes.Ingest r)) method = is_sent method
+feeds route method = false
+
+abbrev pub is_to_head : Method → Bool
+is_to_head Head = true
+is_to_head _ = false

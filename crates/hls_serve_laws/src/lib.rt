@@ -1,0 +1,11 @@
+//! What a server of a channel answers, as definitions: the routes, the acts that a request leads to, the replies of the
+//! states that those acts show, what an encoder's body comes to, and a whole session.
+//!
+//! The definitions stand in `specs/`: [`Routes`](../specs/Routes.antt) reads a path, [`Replies`](../specs/Replies.antt)
+//! says what a state is replied as, [`Ingest`](../specs/Ingest.antt) what the parts of a body come to,
+//! [`Heard`](../specs/Heard.antt) what one request comes to, and [`Sessions`](../specs/Sessions.antt) a session.
+#![tactic(auto)]
+
+pub mod fault;
+pub mod ingest;
+pub mod route;
