@@ -1,0 +1,3 @@
+mod IngestLaws
+mod PartLaws
+mod PassLaws

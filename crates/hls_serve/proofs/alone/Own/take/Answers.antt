@@ -1,0 +1,16 @@
+use Rattle.std.proofs.Common.{inl, refl, subst}
+use Rattle.hls_core_laws.specs.State.{State}
+use Rattle.hls_core_laws.specs.Outcome.{Refused}
+use Rattle.hls_core_laws.specs.Moves.{Moves}
+use Rattle.hls_serve.proofs.alone.Own.take.Goals as goal
+
+pub returns-in-Err : goal.returns-in-Err
+returns-in-Err c = record {
+  number = refl;
+  met = c.args.self.now.snapshot.value;
+  outcome = Refused c.in-Err.refusal;
+  follows = inl refl;
+  entries = refl;
+  moves = subst (λ (s : State). Moves s c.args.self.now.number c.args.event (Refused c.in-Err.refusal) s) c.deref-2.ensures c.in-Err.ensures;
+  answers = (refl, refl);
+}

@@ -1,0 +1,5 @@
+pub mod Counted
+pub mod Ingesting
+pub mod Owned
+pub mod Pieces
+pub mod Taken

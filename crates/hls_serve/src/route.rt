@@ -1,0 +1,293 @@
+//! Paths read.
+
+ghost use Rattle.std.specs.Prelude.{◌≡◌, ◌<◌, ◌+◌, ◌^◌, ◌==◌, length, min, option_map, position, unwrap_or, IfSome};
+ghost use Rattle.std.specs.Str.{all_ascii_digits};
+ghost use Rattle.hls_serve_laws.specs.Routes as spec;
+ghost use Rattle.hls_serve_laws.specs.Routes.{route_of};
+
+use hls_http::{Method, read_number};
+use hls_serve_laws::route::{JobFile, Route};
+
+/// Above the number of every job: 2^53.
+const NO_JOB: u64 = 1 << 53;
+
+/// What follows a front.
+fn behind<'a>(front: &[u8], text: &'a [u8]) -> Option<&'a [u8]>
+    ensures { option_map (λ rest. rest.now) result ≡ spec.behind front.now text.entry.now }
+{
+    text.strip_prefix(front)
+}
+
+/// What stands before a back.
+fn before<'a>(back: &[u8], text: &'a [u8]) -> Option<&'a [u8]>
+    ensures { option_map (λ rest. rest.now) result ≡ spec.before back.now text.entry.now }
+{
+    text.strip_suffix(back)
+}
+
+/// Whether a number has no leading zero.
+fn is_plain(text: &[u8]) -> bool
+    ensures { result ≡ spec.is_plain text.now }
+{
+    match text {
+        [] => false,
+        [_] => true,
+        [first, _, ..] => *first != b'0',
+    }
+}
+
+/// The number of a rendition, of which there are `count`.
+fn rendition(count: usize, text: &[u8]) -> Option<usize>
+    ensures { result ≡ spec.rendition_in count text.now }
+{
+    if !is_plain(text) {
+        return None;
+    }
+    let number = read_number(text, 16)?;
+    if number < count as u64 {
+        Some(number as usize)
+    } else {
+        None
+    }
+}
+
+fn are_digits(text: &[u8]) -> bool
+    ensures { result ≡ all_ascii_digits text.now }
+{
+    for byte in text {
+        if !byte.is_ascii_digit() {
+            return false;
+        }
+    }
+    true
+}
+
+/// A job's number, or that of none where it has too many digits.
+fn job_number(number: Option<u64>) -> u64
+    ensures { result ≡ min (unwrap_or number spec.no_job) spec.no_job }
+{
+    match number {
+        Some(number) => number.min(NO_JOB),
+        None => NO_JOB,
+    }
+}
+
+/// The number of a job.
+fn job(text: &[u8]) -> Option<u64>
+    ensures { result ≡ spec.job_in text.now }
+{
+    if !is_plain(text) {
+        return None;
+    }
+    if !are_digits(text) {
+        return None;
+    }
+    Some(job_number(read_number(text, 16)))
+}
+
+fn live(count: usize, text: &[u8]) -> Option<Route>
+    ensures { result ≡ spec.live_route count text.now }
+{
+    if text == b"master.m3u8".as_slice() {
+        return Some(Route::LiveMaster);
+    }
+    match before(b".m3u8", text) {
+        Some(number) => Some(Route::LiveList(rendition(count, number)?)),
+        None => None,
+    }
+}
+
+fn media(count: usize, text: &[u8]) -> Option<Route>
+    ensures { result ≡ spec.media_route count text.now }
+{
+    match before(b".mp4", text) {
+        Some(number) => Some(Route::Media(rendition(count, number)?)),
+        None => None,
+    }
+}
+
+fn media_file(count: usize, name: &[u8]) -> Option<JobFile>
+    ensures { result ≡ spec.media_file count name.now }
+{
+    match before(b".mp4", name) {
+        Some(number) => Some(JobFile::Media(rendition(count, number)?)),
+        None => None,
+    }
+}
+
+fn list_file(count: usize, name: &[u8]) -> Option<JobFile>
+    ensures { result ≡ spec.list_file count name.now }
+{
+    match before(b".m3u8", name) {
+        Some(number) => Some(JobFile::List(rendition(count, number)?)),
+        None => media_file(count, name),
+    }
+}
+
+/// A file of a job by its name.
+fn file(count: usize, name: &[u8]) -> Option<JobFile>
+    ensures { result ≡ spec.file_of count name.now }
+{
+    if name == b"master.m3u8".as_slice() {
+        return Some(JobFile::Master);
+    }
+    if name == b"certificate.txt".as_slice() {
+        return Some(JobFile::Certificate);
+    }
+    list_file(count, name)
+}
+
+fn file_route(id: Option<u64>, file: Option<JobFile>) -> Option<Route>
+    ensures { result ≡ spec.file_route id file }
+{
+    match id {
+        Some(id) => match file {
+            Some(file) => Some(Route::JobFile(id, file)),
+            None => None,
+        },
+        None => None,
+    }
+}
+
+fn slash(text: &[u8]) -> Option<usize>
+    ensures value { result ≡ position (λ b. b == 47) text.now }
+    ensures within { IfSome result (λ at. at < length text.now) }
+    ensures small { IfSome result (λ at. at + 1 < 2 ^ 64) }
+{
+    text.iter().position(|byte| *byte == b'/')
+}
+
+/// A job, or one of its files.
+fn job_route(count: usize, text: &[u8]) -> Option<Route>
+    ensures { result ≡ spec.job_route count text.now }
+{
+    match slash(text) {
+        Some(slash) => file_route(job(&text[..slash]), file(count, &text[slash + 1..])),
+        None => match job(text) {
+            Some(id) => Some(Route::Job(id)),
+            None => None,
+        },
+    }
+}
+
+fn ingest(count: usize, number: &[u8]) -> Option<Route>
+    ensures { result ≡ option_map (λ r. Route.Ingest r) (spec.rendition_in count number.now) }
+{
+    Some(Route::Ingest(rendition(count, number)?))
+}
+
+fn finish(count: usize, number: &[u8]) -> Option<Route>
+    ensures { result ≡ option_map (λ r. Route.Finish r) (spec.rendition_in count number.now) }
+{
+    Some(Route::Finish(rendition(count, number)?))
+}
+
+/// What a path with a folder names.
+fn folder(count: usize, path: &[u8]) -> Option<Route>
+    ensures { result ≡ spec.folder_route count path.now }
+{
+    if let Some(number) = behind(b"/ingest/", path) {
+        return ingest(count, number);
+    }
+    if let Some(number) = behind(b"/finish/", path) {
+        return finish(count, number);
+    }
+    if let Some(text) = behind(b"/live/", path) {
+        return live(count, text);
+    }
+    if let Some(text) = behind(b"/media/", path) {
+        return media(count, text);
+    }
+    match behind(b"/job/", path) {
+        Some(text) => job_route(count, text),
+        None => None,
+    }
+}
+
+/// What a path names in a channel of `count` renditions.
+pub fn route(count: usize, path: &[u8]) -> Option<Route>
+    ensures { result ≡ route_of count path.now }
+{
+    if path == b"/status".as_slice() {
+        return Some(Route::Status);
+    }
+    if path == b"/catchup".as_slice() {
+        return Some(Route::CatchUp);
+    }
+    folder(count, path)
+}
+
+fn is_read(method: Method) -> bool
+    ensures { result ≡ spec.is_read method }
+{
+    matches!(method, Method::Get | Method::Head)
+}
+
+fn is_sent(method: Method) -> bool
+    ensures { result ≡ spec.is_sent method }
+{
+    matches!(method, Method::Put | Method::Post)
+}
+
+fn is_post(method: Method) -> bool
+    ensures { result ≡ spec.is_post method }
+{
+    matches!(method, Method::Post)
+}
+
+fn is_read_or_deleted(method: Method) -> bool
+    ensures { result ≡ spec.is_read_or_deleted method }
+{
+    matches!(method, Method::Get | Method::Head | Method::Delete)
+}
+
+/// Whether a route has a method.
+pub fn allows(route: Route, method: Method) -> bool
+    ensures { result ≡ spec.allows route method }
+{
+    match route {
+        Route::Ingest(_) => is_sent(method),
+        Route::Finish(_) => is_post(method),
+        Route::LiveMaster => is_read(method),
+        Route::LiveList(_) => is_read(method),
+        Route::Media(_) => is_read(method),
+        Route::CatchUp => is_post(method),
+        Route::Job(_) => is_read_or_deleted(method),
+        Route::JobFile(_, _) => is_read(method),
+        Route::Status => is_read(method),
+    }
+}
+
+/// The names of a route's methods.
+pub fn methods(route: Route) -> &'static [u8]
+    ensures { result.now ≡ spec.methods_of route }
+{
+    match route {
+        Route::Ingest(_) => b"PUT, POST",
+        Route::Finish(_) => b"POST",
+        Route::LiveMaster => b"GET, HEAD",
+        Route::LiveList(_) => b"GET, HEAD",
+        Route::Media(_) => b"GET, HEAD",
+        Route::CatchUp => b"POST",
+        Route::Job(_) => b"GET, HEAD, DELETE",
+        Route::JobFile(_, _) => b"GET, HEAD",
+        Route::Status => b"GET, HEAD",
+    }
+}
+
+/// Whether a request's body is taken part by part.
+pub fn feeds(route: Option<Route>, method: Method) -> bool
+    ensures { result ≡ spec.feeds route method }
+{
+    match route {
+        Some(Route::Ingest(_)) => is_sent(method),
+        _ => false,
+    }
+}
+
+/// Whether a request is answered without a body.
+pub fn is_to_head(method: Method) -> bool
+    ensures { result ≡ spec.is_to_head method }
+{
+    matches!(method, Method::Head)
+}
