@@ -30,6 +30,14 @@ bench_program() {
     cp "$bench_root/HANDLES" "$bench_work/HANDLES"
     cp "$bench_root/bench/$name/program.txt" "$bench_work/crates/bench_$name/src/main.rt"
     touch "$bench_work/crates/bench_$name/specs/Lib.antt"
+    # Where the program's proof needs answers, bench/NAME/proofs/PATH.txt holds those of proofs/PATH.antt.
+    local answer
+    if [ -d "$bench_root/bench/$name/proofs" ]; then
+        (cd "$bench_root/bench/$name/proofs" && find . -name '*.txt') | while read -r answer; do
+            mkdir -p "$bench_work/crates/bench_$name/proofs/$(dirname "$answer")"
+            cp "$bench_root/bench/$name/proofs/$answer" "$bench_work/crates/bench_$name/proofs/${answer%.txt}.antt"
+        done
+    fi
     # Without arguments the program prints its usage; the run proves and builds it.
     if ! (cd "$bench_work/crates/bench_$name" && rt run > "$bench_work/log" 2>&1); then
         if [ ! -x "$bench_work/crates/bench_$name/out/bench_$name" ]; then
