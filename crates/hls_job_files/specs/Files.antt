@@ -1,0 +1,25 @@
+-- The texts among a job's files.
+use Rattle.std.specs.Prelude.{ℕ, List, option_map, Option, None, slice_get}
+use Rattle.hls_check_laws.specs.Certificates.{Printed}
+use Rattle.hls_check_text.specs.Text.{text}
+use Rattle.hls_m3u8.specs.Playlist.{playlist_of}
+use Rattle.hls_m3u8.specs.Lines.{media_text}
+use Rattle.hls_catchup.specs.declared.cutout.Cutout.{Cutout}
+use Rattle.hls_catchup.specs.declared.cutout.Cutout.TheVariants.{Cut, NoCut}
+use Rattle.hls_catchup.specs.Replies.{ReplyData}
+
+abbrev pub certificate_of : Cutout → Printed
+certificate_of (Cut lists certificate) = certificate
+certificate_of (NoCut certificate) = certificate
+
+-- the one text of its certificate
+abbrev pub certificate_file : ReplyData → List ℕ
+certificate_file reply = text (certificate_of reply.cutout)
+
+-- the text of a rendition's playlist; none where there is no cut, or no such rendition
+abbrev pub playlist_in : Cutout → ℕ → Option (List ℕ)
+playlist_in (Cut lists certificate) r = option_map (λ list. media_text (playlist_of list)) (slice_get lists.items r)
+playlist_in (NoCut certificate) r = None
+
+abbrev pub playlist_file : ReplyData → ℕ → Option (List ℕ)
+playlist_file reply r = playlist_in reply.cutout r
