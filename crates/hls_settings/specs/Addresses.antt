@@ -1,0 +1,38 @@
+-- Where the server listens: `a.b.c.d:port` in decimal, without leading zeros.
+use Rattle.std.specs.Prelude.{ℕ, List, [], ◌∷◌, Option, Some, None, cond, Bool, true, false, not, option_and_then, ◌==◌}
+use Rattle.hls_settings.specs.declared.address.Address.{Address}
+use Rattle.hls_settings.specs.Numbers.{cut_at, number_of, within}
+
+-- no leading zero, but in `0` itself
+abbrev pub is_plain : List ℕ → Bool
+is_plain [] = false
+is_plain (d ∷ []) = true
+is_plain (d ∷ e ∷ ds) = not (d == 48)
+
+-- a number of at most so much
+abbrev pub small_of : ℕ → List ℕ → Option ℕ
+small_of most text = cond (is_plain text) (option_and_then (within 0 most) (number_of text)) None
+
+abbrev pub numbered_by : Option ℕ → List ℕ → Option (ℕ × List ℕ)
+numbered_by None rest = None
+numbered_by (Some n) rest = Some (n, rest)
+
+-- a number before a mark, and what stands after it
+abbrev pub numbered : ℕ → Option (List ℕ × List ℕ) → Option (ℕ × List ℕ)
+numbered most None = None
+numbered most (Some parts) = numbered_by (small_of most parts.0) parts.1
+
+abbrev pub octet_of : List ℕ → Option (ℕ × List ℕ)
+octet_of text = numbered 255 (cut_at 46 text)
+
+abbrev pub last_octet_of : List ℕ → Option (ℕ × List ℕ)
+last_octet_of text = numbered 255 (cut_at 58 text)
+
+abbrev pub address_with : ℕ → ℕ → ℕ → ℕ → Option ℕ → Option Address
+address_with a b c d None = None
+address_with a b c d (Some port) = Some (record { a = a; b = b; c = c; d = d; port = port })
+
+abbrev pub address_of : List ℕ → Option Address
+address_of text =
+    option_and_then (λ a. option_and_then (λ b. option_and_then (λ c. option_and_then (λ d. address_with a.0 b.0 c.0 d.0 (small_of 65535 d.1))
+    (last_octet_of c.1)) (octet_of b.1)) (octet_of a.1)) (octet_of text)

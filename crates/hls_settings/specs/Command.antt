@@ -1,0 +1,60 @@
+-- The words after `serve` as `clap` reads them: options with a value each, an address, and words of renditions.
+use Rattle.std.specs.Prelude.{List, Some, true, codes, option_map}
+use Rattle.clap.specs.Words.{App, Row, Rule, Text, all_of, first_of, first_value, matched_of, new_app, new_rule, raw_values, with_rule}
+use Rattle.clap.specs.declared.parser.matches.Found.{Found}
+use Rattle.clap.specs.declared.builder.action.ArgAction.TheVariants.{Append}
+use Rattle.hls_settings.specs.Settings.{Texts}
+
+-- an option that takes a value, by its long name
+abbrev pub value_rule : Text → Rule
+value_rule name = record (new_rule name) { long = Some name }
+
+-- words that stand one after the other
+abbrev pub words_rule : Text → Rule
+words_rule name = record (new_rule name) { action = Some Append }
+
+-- words that don't begin with the program's own name
+abbrev pub without_name : App → App
+without_name app = record app { top = record app.top { no_binary_name = true } }
+
+abbrev pub named_app : App
+named_app = without_name (new_app (codes "serve"))
+
+unfoldable pub timing_app : App
+timing_app = with_rule (with_rule (with_rule (with_rule named_app (value_rule (codes "target"))) (value_rule (codes "preferred"))) (value_rule (codes "window"))) (value_rule (codes "keep"))
+
+unfoldable pub options_app : App
+options_app = with_rule (with_rule (with_rule (with_rule timing_app (value_rule (codes "workers"))) (value_rule (codes "planners"))) (value_rule (codes "patience"))) (value_rule (codes "log"))
+
+unfoldable pub serve_app : App
+serve_app = with_rule (with_rule options_app (new_rule (codes "address"))) (words_rule (codes "renditions"))
+
+-- the texts among what was found
+abbrev pub texts_in : Found → Texts
+texts_in found = record {
+  target = first_value found (codes "target");
+  preferred = first_value found (codes "preferred");
+  window = first_value found (codes "window");
+  keep = first_value found (codes "keep");
+  workers = first_value found (codes "workers");
+  planners = first_value found (codes "planners");
+  patience = first_value found (codes "patience");
+  log = first_value found (codes "log");
+  address = first_value found (codes "address");
+  renditions = option_map raw_values (matched_of found (codes "renditions"));
+}
+
+-- the texts of the words
+abbrev pub texts_of : List Row → Texts
+texts_of rows = record {
+  target = first_of (codes "target") rows;
+  preferred = first_of (codes "preferred") rows;
+  window = first_of (codes "window") rows;
+  keep = first_of (codes "keep") rows;
+  workers = first_of (codes "workers") rows;
+  planners = first_of (codes "planners") rows;
+  patience = first_of (codes "patience") rows;
+  log = first_of (codes "log") rows;
+  address = first_of (codes "address") rows;
+  renditions = all_of (codes "renditions") rows;
+}

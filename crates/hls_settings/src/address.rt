@@ -1,0 +1,78 @@
+//! Where the server listens.
+ghost use Rattle.std.specs.Prelude.{◌≡◌, option_map};
+ghost use Rattle.hls_settings.specs.Addresses.{address_of, is_plain, last_octet_of, octet_of, small_of};
+
+use crate::number::{cut_at, read_number};
+
+/// An IPv4 address and a port.
+#[derive(Clone, Copy, Debug, PartialEq, Eq, Drop)]
+pub struct Address {
+    pub a: u8,
+    pub b: u8,
+    pub c: u8,
+    pub d: u8,
+    pub port: u16,
+}
+
+/// Whether a number has no leading zero.
+fn is_plain(text: &[u8]) -> bool
+    ensures { result ≡ is_plain text.now }
+{
+    match text {
+        [] => false,
+        [_] => true,
+        [first, ..] => *first != b'0',
+    }
+}
+
+fn read_octet(text: &str) -> Option<u8>
+    ensures { result ≡ small_of 255 text.now }
+{
+    if !is_plain(text.as_bytes()) {
+        return None;
+    }
+    u8::try_from(read_number(text.as_bytes())?).ok()
+}
+
+fn read_port(text: &str) -> Option<u16>
+    ensures { result ≡ small_of 65535 text.now }
+{
+    if !is_plain(text.as_bytes()) {
+        return None;
+    }
+    u16::try_from(read_number(text.as_bytes())?).ok()
+}
+
+/// A number before the next dot, and what follows.
+fn take_octet(text: &str) -> Option<(u8, &str)>
+    ensures { option_map (λ found. (found.0, found.1.now)) result ≡ octet_of text.now }
+{
+    let (number, rest) = cut_at(text, '.')?;
+    Some((read_octet(number)?, rest))
+}
+
+/// A number before the colon, and what follows.
+fn take_last_octet(text: &str) -> Option<(u8, &str)>
+    ensures { option_map (λ found. (found.0, found.1.now)) result ≡ last_octet_of text.now }
+{
+    let (number, rest) = cut_at(text, ':')?;
+    Some((read_octet(number)?, rest))
+}
+
+/// The address that `a.b.c.d:port` names: four numbers of 0 to 255 and a port of 0 to 65535, in decimal and without leading
+/// zeros.
+pub fn read_address(text: &str) -> Option<Address>
+    ensures { result ≡ address_of text.now }
+{
+    let (a, rest) = take_octet(text)?;
+    let (b, rest) = take_octet(rest)?;
+    let (c, rest) = take_octet(rest)?;
+    let (d, rest) = take_last_octet(rest)?;
+    Some(Address {
+        a,
+        b,
+        c,
+        d,
+        port: read_port(rest)?,
+    })
+}

@@ -1,0 +1,31 @@
+//! Which word is wrong.
+
+/// Which word after `serve` is wrong first, in the order of the variants.
+#[derive(Clone, Copy, Debug, PartialEq, Eq, Drop)]
+pub enum SettingsFault {
+    /// An option that there isn't, that stands twice or has no value, or too many words.
+    Words,
+    /// `--target` isn't 1 to 3600 seconds.
+    Target,
+    /// `--preferred` isn't 1 microsecond to the target.
+    Preferred,
+    /// `--window` is shorter than three targets.
+    Window,
+    /// `--keep` is shorter than the window.
+    Keep,
+    /// `--workers` isn't 1 to 63.
+    Workers,
+    /// `--planners` isn't 1 to 16.
+    Planners,
+    /// `--patience` isn't 1 to 3600 seconds.
+    Patience,
+    /// `--log` isn't `requests`.
+    Log,
+    /// The address isn't `a.b.c.d:port` in decimal.
+    Address,
+    /// The first rendition that isn't `name:kind:bandwidth:tolerance`, is outside its limits, or has an earlier one's name; 0
+    /// where there is none, and 16 where only the seventeenth is too many.
+    Rendition(usize),
+    /// Memory was wanted.
+    Memory,
+}

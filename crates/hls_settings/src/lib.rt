@@ -1,0 +1,22 @@
+//! What the words after `serve` ask for: options, an address and renditions; or which word is wrong.
+#![tactic(auto)]
+
+mod address;
+mod command;
+mod fault;
+mod number;
+mod plain;
+mod rendition;
+mod settings;
+#[cfg(test)]
+mod tests;
+mod timing;
+mod workers;
+
+pub use address::{Address, read_address};
+pub use fault::SettingsFault;
+pub use number::read_number;
+pub use plain::Plain;
+pub use settings::{Settings, read_settings};
+pub use timing::Timing;
+pub use workers::Workers;

@@ -1,0 +1,53 @@
+//! Numbers among the words of the command line, and words cut at a mark.
+ghost use Rattle.std.specs.Prelude.{◌≡◌, ◌<◌, ◌≤◌, IfSome, option_map};
+ghost use Rattle.hls_settings.specs.Numbers.{cut_at, number_in, number_of, within};
+
+/// The most digits that a number may have.
+const MOST_DIGITS: usize = 16;
+
+/// The number that 1 to 16 decimal digits write, and `None` for any other text. Leading zeros are digits.
+pub fn read_number(text: &[u8]) -> Option<u64>
+    ensures { result ≡ number_of text.now }
+{
+    if text.is_empty() || text.len() > MOST_DIGITS {
+        return None;
+    }
+    let mut number = 0;
+    for byte in text {
+        if !byte.is_ascii_digit() {
+            return None;
+        }
+        number = number * 10 + u64::from(*byte - b'0');
+    }
+    Some(number)
+}
+
+fn within(least: u64, most: u64, number: u64) -> Option<u64>
+    ensures value { result ≡ within least most number }
+    ensures bounds { IfSome result (λ n. (least ≤ n) × (n ≤ most)) }
+{
+    if least <= number && number <= most {
+        Some(number)
+    } else {
+        None
+    }
+}
+
+/// An option's number, or the one that stands where it isn't given; `None` where it isn't within its bounds.
+pub fn number_in(least: u64, most: u64, default: u64, text: Option<&str>) -> Option<u64>
+    ensures value { result ≡ number_in least most default (option_map (λ t. t.now) text.entry) }
+    ensures bounds { IfSome result (λ n. (least ≤ n) × (n ≤ most)) }
+{
+    match text {
+        None => within(least, most, default),
+        Some(text) => within(least, most, read_number(text.as_bytes())?),
+    }
+}
+
+/// What stands before the first such mark, which is one byte of ASCII, and what stands after it.
+pub fn cut_at(text: &str, mark: char) -> Option<(&str, &str)>
+    requires { mark < 128 }
+    ensures { option_map (λ parts. (parts.0.now, parts.1.now)) result ≡ cut_at mark text.now }
+{
+    text.split_once(mark)
+}

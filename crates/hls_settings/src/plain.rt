@@ -1,0 +1,68 @@
+//! All that stands apart from the renditions.
+ghost use Rattle.std.specs.Prelude.{◌≡◌, IfOk, option_map};
+ghost use Rattle.hls_core_laws.specs.Config.{IsTarget, IsPreferred};
+ghost use Rattle.clap.specs.Words.{first_value, found_of};
+ghost use Rattle.hls_settings.specs.Settings.{address_in, log_of, plain_of};
+ghost use Rattle.hls_settings.specs.Command.{texts_in};
+
+use crate::address::{Address, read_address};
+use crate::fault::SettingsFault;
+use crate::timing::{Timing, read_timing};
+use crate::workers::{Workers, read_workers};
+use clap::ArgMatches;
+
+/// Settings but for the channel's renditions.
+#[derive(Clone, Copy, Debug, Drop)]
+pub struct Plain {
+    pub timing: Timing,
+    pub workers: Workers,
+    /// Whether each request is told to the operator.
+    pub logs_requests: bool,
+    pub address: Address,
+}
+
+/// Whether requests are logged; `None` where the text asks for something else.
+fn read_log(text: Option<&str>) -> Option<bool>
+    ensures { result ≡ log_of (option_map (λ t. t.now) text.entry) }
+{
+    let Some(text) = text else {
+        return Some(false);
+    };
+    if text == "requests" { Some(true) } else { None }
+}
+
+fn address_in(text: Option<&str>) -> Option<Address>
+    ensures { result ≡ address_in (option_map (λ t. t.now) text.entry) }
+{
+    read_address(text?)
+}
+
+/// What was given but for the renditions, or what of it is wrong first.
+pub fn read_plain(matches: &ArgMatches) -> Result<Plain, SettingsFault>
+    ensures valid { IfOk result (λ p. IsTarget p.timing.target × IsPreferred p.timing.target p.timing.preferred) }
+    ensures value { result ≡ plain_of (texts_in (found_of matches.now)) }
+{
+    let timing = read_timing(
+        matches.get_str("target"),
+        matches.get_str("preferred"),
+        matches.get_str("window"),
+        matches.get_str("keep"),
+    )?;
+    let workers = read_workers(
+        matches.get_str("workers"),
+        matches.get_str("planners"),
+        matches.get_str("patience"),
+    )?;
+    let Some(logs_requests) = read_log(matches.get_str("log")) else {
+        return Err(SettingsFault::Log);
+    };
+    let Some(address) = address_in(matches.get_str("address")) else {
+        return Err(SettingsFault::Address);
+    };
+    Ok(Plain {
+        timing,
+        workers,
+        logs_requests,
+        address,
+    })
+}

@@ -1,0 +1,114 @@
+//! What the words ask for, as a whole.
+ghost use Rattle.std.specs.Prelude.{◌≡◌, map};
+ghost use Rattle.clap.specs.Words.{found_of, matched_of, raw_values};
+ghost use Rattle.hls_core_laws.specs.Config.{IsTarget, IsPreferred};
+ghost use Rattle.hls_settings.specs.Command.{texts_in};
+ghost use Rattle.clap.specs.Words.{kind_of};
+ghost use Rattle.hls_settings.specs.Reading.{Configures, Reads, ReadsRenditions, Sets, SetsBy, refused_by, words_of};
+ghost use Rattle.hls_settings.specs.Settings.{plain_of};
+
+use crate::command::command;
+use crate::fault::SettingsFault;
+use crate::plain::{Plain, read_plain};
+use crate::rendition::{named, read_word};
+use crate::timing::Timing;
+use clap::error::ErrorKind;
+use clap::{ArgMatches, Error};
+use hls_core::config::{Config, ConfigFault};
+use hls_core_laws::rendition::Rendition;
+use std::alloc::Global;
+use std::convert::AsStr;
+
+/// What a server is started with.
+#[derive(Drop)]
+pub struct Settings {
+    pub plain: Plain,
+    /// The channel.
+    pub config: Config,
+}
+
+/// The renditions that the words say, in their order.
+fn read_renditions(alloc: Global, words: &[&str]) -> Result<Vec<Rendition>, SettingsFault>
+    ensures { ReadsRenditions (map (λ w. w.now) words.now) result }
+{
+    let mut renditions = Vec::new(alloc);
+    for (n, word) in words.iter().enumerate() {
+        let Some(word) = read_word(word) else {
+            return Err(SettingsFault::Rendition(n));
+        };
+        let Ok(rendition) = named(alloc, word) else {
+            return Err(SettingsFault::Memory);
+        };
+        let Ok(()) = renditions.push(rendition) else {
+            return Err(SettingsFault::Memory);
+        };
+    }
+    Ok(renditions)
+}
+
+/// The channel of these renditions.
+fn configure(
+    alloc: Global,
+    timing: Timing,
+    renditions: Vec<Rendition>,
+) -> Result<Config, SettingsFault>
+    requires target { IsTarget timing.target }
+    requires preferred { IsPreferred timing.target timing.preferred }
+    ensures { Configures timing renditions.items result }
+{
+    match Config::new(alloc, timing.target, timing.preferred, renditions) {
+        Ok(config) => Ok(config),
+        Err(ConfigFault::BadTarget) => Err(SettingsFault::Target),
+        Err(ConfigFault::BadPreferred) => Err(SettingsFault::Preferred),
+        Err(ConfigFault::BadRendition(n)) => Err(SettingsFault::Rendition(n)),
+        Err(ConfigFault::Memory) => Err(SettingsFault::Memory),
+    }
+}
+
+/// The settings with these renditions.
+fn set(alloc: Global, plain: Plain, words: &[&str]) -> Result<Settings, SettingsFault>
+    requires target { IsTarget plain.timing.target }
+    requires preferred { IsPreferred plain.timing.target plain.timing.preferred }
+    ensures { Sets plain (map (λ w. w.now) words.now) result }
+{
+    let renditions = read_renditions(alloc, words)?;
+    let config = configure(alloc, plain.timing, renditions)?;
+    Ok(Settings { plain, config })
+}
+
+/// The settings among what `clap` found.
+fn settings_in(alloc: Global, matches: &ArgMatches) -> Result<Settings, SettingsFault>
+    ensures { SetsBy (plain_of (texts_in (found_of matches.now))) (words_of (texts_in (found_of matches.now)).renditions) result }
+{
+    let plain = read_plain(matches)?;
+    match matches.get_strs("renditions") {
+        Some(words) => set(alloc, plain, words),
+        None => set(alloc, plain, &[]),
+    }
+}
+
+/// Why `clap` took no settings.
+fn refused(error: &Error) -> SettingsFault
+    ensures { result ≡ refused_by (kind_of error.now) }
+{
+    if error.kind() == ErrorKind::OutOfMemory {
+        SettingsFault::Memory
+    } else {
+        SettingsFault::Words
+    }
+}
+
+/// Reads the words after `serve`: options, then the address `a.b.c.d:port`, then a word `name:kind:bandwidth:tolerance` for
+/// each rendition. The first word that is wrong is told, in the order of the variants of `SettingsFault`; `Memory` comes only
+/// where a growth was refused.
+pub fn read_settings<'a, S: AsStr>(alloc: Global, words: &'a [S]) -> Result<Settings, SettingsFault>
+    ensures { Reads (map S.text words.entry.now) result }
+{
+    let Ok(command) = command(alloc) else {
+        return Err(SettingsFault::Memory);
+    };
+    match command.try_get_matches_from(words) {
+        Ok(matches) => settings_in(alloc, &matches),
+        Err(error) => Err(refused(&error)),
+    }
+}

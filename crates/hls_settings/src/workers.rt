@@ -1,0 +1,41 @@
+//! The server's threads.
+ghost use Rattle.std.specs.Prelude.{◌≡◌, option_map};
+ghost use Rattle.hls_settings.specs.Settings.{workers_of};
+
+use crate::fault::SettingsFault;
+use crate::number::number_in;
+
+/// How many threads there are, and how long a connection may keep one waiting.
+#[derive(Clone, Copy, Debug, PartialEq, Eq, Drop)]
+pub struct Workers {
+    /// Threads that serve connections, 1 to 63.
+    pub workers: u64,
+    /// Threads that plan catch-up recordings, 1 to 16.
+    pub planners: u64,
+    /// In seconds, 1 to 3600.
+    pub patience: u64,
+}
+
+/// The numbers that were given, or those that stand where they aren't.
+pub fn read_workers(
+    workers: Option<&str>,
+    planners: Option<&str>,
+    patience: Option<&str>,
+) -> Result<Workers, SettingsFault>
+    ensures { result ≡ workers_of (option_map (λ t. t.now) workers.entry) (option_map (λ t. t.now) planners.entry) (option_map (λ t. t.now) patience.entry) }
+{
+    let Some(workers) = number_in(1, 63, 8, workers) else {
+        return Err(SettingsFault::Workers);
+    };
+    let Some(planners) = number_in(1, 16, 2, planners) else {
+        return Err(SettingsFault::Planners);
+    };
+    let Some(patience) = number_in(1, 3600, 30, patience) else {
+        return Err(SettingsFault::Patience);
+    };
+    Ok(Workers {
+        workers,
+        planners,
+        patience,
+    })
+}
