@@ -1,7 +1,7 @@
 -- Worked examples: the definitions, computed.
 use Rattle.std.proofs.Common.{◌≡◌, [], ◌∷◌, Some, None, codes, true, false, refl}
 use Rattle.clap.proofs.OnLiterals.{clap_on_literals}
-use Rattle.hls_origin.specs.Number.{number_of}
+use Rattle.hls_settings.specs.Numbers.{number_of}
 use Rattle.hls_origin.specs.Options.{cut_app, options_of}
 
 -- no words

@@ -6,7 +6,6 @@ mod Examples
 pub mod GatherLaws
 pub mod LintLaws
 pub mod LintLines
-pub mod Numbers
 pub mod PrintLaws
 pub mod ReadLaws
 pub mod RunLaws

@@ -9,7 +9,6 @@ pub mod Gather
 pub mod LintAnswer
 pub mod LintParts
 pub mod LintRun
-pub mod Number
 pub mod Options
 pub mod Reads
 pub mod Recorded

@@ -6,7 +6,7 @@ use Rattle.clap.specs.Words.{App, Row, Rule, Text, fault_of, first_of, matches_o
 use Rattle.clap.specs.Kinds.{Kinds}
 use Rattle.clap.specs.declared.builder.action.ArgAction.TheVariants.{SetTrue}
 use Rattle.hls_m3u8.specs.Uri.{IsUri, is_uri_text}
-use Rattle.hls_origin.specs.Number.{number_of}
+use Rattle.hls_settings.specs.Numbers.{number_of}
 use Rattle.hls_check_laws.specs.Tables.{target_limit}
 
 -- the options: the target duration in seconds, the URI's bytes, the preferred length in µs where a least plan is wanted,

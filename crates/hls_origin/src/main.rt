@@ -23,7 +23,6 @@ mod cut;
 #[cfg(test)]
 mod fakes;
 mod lint;
-mod number;
 mod pieces;
 mod reading;
 #[cfg(test)]

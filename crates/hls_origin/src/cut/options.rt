@@ -7,12 +7,12 @@ ghost use Rattle.hls_origin.specs.Channel.{config_of, listing_of};
 ghost use Rattle.hls_origin.specs.Options.{IsPreferred, agrees, checked_uri, choice_in, cut_app, flag_rule, is_set, options_of, preferred_in, target_in, uri_in, value_rule};
 ghost use Rattle.hls_check_laws.specs.Tables.{target_limit};
 
-use crate::number;
 use clap::error::ErrorKind;
 use clap::{Arg, ArgAction, ArgMatches, Command};
 use hls_check_laws::TARGET_LIMIT;
 use hls_m3u8::is_uri;
 use hls_origin_listing::Listing;
+use hls_settings::read_number;
 use std::alloc::{AllocError, Global};
 use std::convert::AsStr;
 use std::marker::Model;
@@ -95,7 +95,7 @@ fn target_of(text: Option<&str>) -> Option<u64>
     let Some(text) = text else {
         return Some(DEFAULT_TARGET);
     };
-    let target = number::read_number(text.as_bytes())?;
+    let target = read_number(text.as_bytes())?;
     if target >= 1 && target <= TARGET_LIMIT {
         Some(target)
     } else {
@@ -113,7 +113,7 @@ fn preferred_of(target: u64, text: Option<&str>) -> Option<Option<u64>>
     let Some(text) = text else {
         return Some(None);
     };
-    let length = number::read_number(text.as_bytes())?;
+    let length = read_number(text.as_bytes())?;
     if length >= 1 && length <= target * 1_000_000 {
         Some(Some(length))
     } else {
