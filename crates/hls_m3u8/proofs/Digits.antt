@@ -6,6 +6,7 @@ use Rattle.std.specs.List.{list_all}
 use Rattle.std.proofs.lemmas.Bool.{and_parts, and_from, leb-true, le-leb, ltb-true, lt-ltb}
 use Rattle.std.proofs.lemmas.List.{drop_all, drop_more}
 use Rattle.std.proofs.lemmas.Str.Parse.{IsNumeralModel, digit_at, digits_value_short, numerals_by_fold}
+use Rattle.hls_m3u8.specs.Limits.{number_digits, number_limit}
 use Rattle.hls_m3u8.specs.Values.{has_digits}
 use Rattle.hls_time.specs.Digits.{AreDigits, number_after, number_of}
 
@@ -26,11 +27,11 @@ number_after_ge n (d ∷ ds) = omega (arith, number_after_ge (10 * n + (d - 48))
 pub number_bound : (ds : List ℕ) (most : ℕ) → AreDigits ds → length ds ≤ most → number_of ds < 10 ^ most
 number_bound ds most digits few = digits_value_short numerals ds most digits few
 
-pub number_fits : (ds : List ℕ) (n i : ℕ) → AreDigits ds → length ds ≤ 15 → i < length ds → number_after n (drop i ds) ≡ number_of ds
-    → 10 * n + (slice_index_or ds i 0 - 48) < 1000000000000000
+pub number_fits : (ds : List ℕ) (n i : ℕ) → AreDigits ds → length ds ≤ number_digits → i < length ds → number_after n (drop i ds) ≡ number_of ds
+    → 10 * n + (slice_index_or ds i 0 - 48) < number_limit
 number_fits ds n i digits few small so_far =
     let more = number_after_ge (10 * n + (slice_index_or ds i 0 - 48)) (drop (i + 1) ds) in
-    omega (arith, more, number_step n ds i small, so_far, number_bound ds 15 digits few)
+    omega (arith, more, number_step n ds i small, so_far, number_bound ds number_digits digits few)
 
 pub number_at_end : (n : ℕ) (ds : List ℕ) (i : ℕ) → length ds ≤ i → number_after n (drop i ds) ≡ n
 number_at_end n ds i past = ap (number_after n) (drop_all i ds past)

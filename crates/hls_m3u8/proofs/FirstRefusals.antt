@@ -5,10 +5,9 @@ use Rattle.std.specs.Prelude.{Result, Ok, Err, ◌↔◌}
 use Rattle.hls_m3u8.specs.declared.fault.ListFault.{ListFault}
 use Rattle.hls_m3u8.specs.declared.playlist.Segment.{Segment}
 use Rattle.hls_m3u8.specs.declared.reading.Reading.{Reading}
-use Rattle.hls_m3u8.specs.declared.reading.Stepped.{Stepped}
 use Rattle.hls_m3u8.specs.Playlist.{Playlist}
 use Rattle.hls_m3u8.specs.Readable.{IsReadable}
-use Rattle.hls_m3u8.specs.Reading.{AllRead, step, segments_of, with_front, read_from}
+use Rattle.hls_m3u8.specs.Reading.{Stepped, AllRead, step, segments_of, with_front, read_from}
 use Rattle.hls_m3u8.specs.ReadLaws.{IsFirstRefused}
 
 pub one_list : (text : List ℕ) (a b : Playlist) → IsReadable text a → IsReadable text b → a ≡ b

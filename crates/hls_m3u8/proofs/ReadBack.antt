@@ -17,6 +17,7 @@ use Rattle.hls_m3u8.specs.declared.playlist.Map.{Map}
 use Rattle.hls_m3u8.specs.declared.resource.Resource.{Resource}
 use Rattle.hls_m3u8.specs.declared.value.RangeTag.{RangeTag}
 use Rattle.hls_m3u8.specs.declared.reading.Reading.{Reading}
+use Rattle.hls_m3u8.specs.Limits.{text_limit, segment_limit}
 use Rattle.hls_m3u8.specs.Playlist.{Playlist}
 use Rattle.hls_m3u8.specs.Uri.{is_uri_byte, is_uri_text, IsUri}
 use Rattle.hls_m3u8.specs.HasText.{IsShort, IsRange, IsForm, IsSegmentRange, IsSegment, resource, HasText}
@@ -80,18 +81,18 @@ uri_line n r (b ∷ uri) is =
     ]
 
 segment_step : (n : ℕ) (h : Reading) (last : Option Resource) (count : ℕ) (mark : Bool) (us : ℕ) (range : ByteRange) (uri : List ℕ)
-    → count < 131072 → IsTrue (is_uri_text uri)
+    → count < segment_limit → IsTrue (is_uri_text uri)
     → step n (tagged h last count mark (Some us) (Some (record { length = range.length; offset = Some range.offset }))) uri
     ≡ Ok (record {
       reading = between h (Some (record { uri = uri; range = Some range })) (count + 1);
       found = Some (record { mark = mark; us = us; range = Some range });
     })
 segment_step n h last count mark us range uri small is =
-    uri_line n (tagged h last count mark (Some us) (Some (record { length = range.length; offset = Some range.offset }))) uri is ∙ rw (lt-ltb count 131072 small) refl
+    uri_line n (tagged h last count mark (Some us) (Some (record { length = range.length; offset = Some range.offset }))) uri is ∙ rw (lt-ltb count segment_limit small) refl
 
 -- the three lines of a segment
 three_lines : (n : ℕ) (h : Reading) (last : Option Resource) (count : ℕ) (mark : Bool) (us : ℕ) (range : ByteRange) (uri : List ℕ) (lines : List (List ℕ))
-    → us < 2 ^ 53 → IsSeconds (seconds_text us) us → IsRange range → count < 131072 → IsTrue (is_uri_text uri)
+    → us < 2 ^ 53 → IsSeconds (seconds_text us) us → IsRange range → count < segment_limit → IsTrue (is_uri_text uri)
     → read_from n (tagged h last count mark None None) (extinf_line us ∷ (codes "#EXT-X-BYTERANGE:" ++ range_text range) ∷ uri ∷ lines)
     ≡ with_front (record { mark = mark; us = us; range = Some range; uri = uri } ∷ []) (read_from (n + 1 + 1 + 1) (between h (Some (record { uri = uri; range = Some range })) (count + 1)) lines)
 three_lines n h last count mark us range uri lines small is is_range few is_uri =
@@ -119,7 +120,7 @@ unfolding split_at
 mark_step n h last count = refl
 
 one_segment : (n : ℕ) (h : Reading) (last : Option Resource) (count : ℕ) (mark : Bool) (us : ℕ) (range : ByteRange) (uri : List ℕ) (lines : List (List ℕ))
-    → us < 2 ^ 53 → IsSeconds (seconds_text us) us → IsRange range → count < 131072 → IsTrue (is_uri_text uri)
+    → us < 2 ^ 53 → IsSeconds (seconds_text us) us → IsRange range → count < segment_limit → IsTrue (is_uri_text uri)
     → SegmentsRead n h last count (segment_lines (record { mark = mark; us = us; range = Some range; uri = uri })) lines (record { mark = mark; us = us; range = Some range; uri = uri } ∷ [])
 one_segment n h last count false us range uri lines small is is_range few is_uri = record {
   number = n + 1 + 1 + 1;
@@ -140,14 +141,14 @@ one_segment n h last count true us range uri lines small is is_range few is_uri 
 }
 
 segment_read : (n : ℕ) (h : Reading) (last : Option Resource) (count : ℕ) (uri : List ℕ) (mark : Bool) (us : ℕ) (range : Option ByteRange) (own : List ℕ) (lines : List (List ℕ))
-    → us < 2 ^ 53 → IsSeconds (seconds_text us) us → IsSegmentRange range → own ≡ uri → count < 131072 → IsTrue (is_uri_text uri)
+    → us < 2 ^ 53 → IsSeconds (seconds_text us) us → IsSegmentRange range → own ≡ uri → count < segment_limit → IsTrue (is_uri_text uri)
     → SegmentsRead n h last count (segment_lines (record { mark = mark; us = us; range = range; uri = own })) lines (record { mark = mark; us = us; range = range; uri = own } ∷ [])
 segment_read n h last count uri mark us None own lines small is is_range same few is_uri = absurd is_range
 segment_read n h last count uri mark us (Some range) own lines small is is_range same few is_uri =
     one_segment n h last count mark us range own lines small is is_range few (subst (λ u. IsTrue (is_uri_text u)) (sym same) is_uri)
 
 segments_read : (uri : List ℕ) (segments : List Segment) (n : ℕ) (h : Reading) (last : Option Resource) (count : ℕ) (lines : List (List ℕ))
-    → AllSecondsRead → All (IsSegment uri) segments → IsTrue (is_uri_text uri) → count + length segments ≤ 131072
+    → AllSecondsRead → All (IsSegment uri) segments → IsTrue (is_uri_text uri) → count + length segments ≤ segment_limit
     → SegmentsRead n h last count (all_segment_lines segments) lines segments
 segments_read uri [] n h last count lines times are is_uri few = record {
   number = n;
@@ -275,7 +276,7 @@ no_quote : (b : ℕ) → is_uri_byte b ≡ true → (b == 34) ≡ false
 no_quote b h = false_not (b == 34) (and_parts (not (b == 10) && not (b == 13)) (not (b == 34)) h).1
 
 pub lines_read : (list : Playlist) (uri : List ℕ) (range : ByteRange) → AllSecondsRead → HasText list → list.map ≡ Some (record { uri = uri; range = Some range })
-    → IsTrue (is_uri_text uri) → IsRange range → All (IsSegment uri) list.segments → length list.segments ≤ 131072
+    → IsTrue (is_uri_text uri) → IsRange range → All (IsSegment uri) list.segments → length list.segments ≤ segment_limit
     → read_lines (media_lines list) ≡ Ok list
 lines_read list uri range times has map_is is_uri is_range are few =
     let v = list.version in
@@ -383,7 +384,7 @@ plain_quoted text is =
 
 plain_seconds : (us : ℕ) → us < 2 ^ 53 → IsPlain (seconds_text us)
 plain_seconds us small =
-    let whole : us / 1000000 < 10 ^ 15 = omega arith in
+    let whole : IsShort (us / 1000000) = omega arith in
     plain-append (decimal (us / 1000000)) (46 ∷ six_digits (us % 1000000)) (plain_decimal (us / 1000000) whole)
     (plain-append (46 ∷ []) (six_digits (us % 1000000)) (ascii_utf8 (46 ∷ []) refl, refl, refl) (plain_digits (six_digits (us % 1000000)) (six_are (us % 1000000))))
 
@@ -494,13 +495,13 @@ no_order_mark : (list : Playlist) → has_order_mark (media_text list) ≡ false
 unfolding media_text
 no_order_mark list = refl
 
-text_read : (list : Playlist) → ArePlain (media_lines list) → read_lines (media_lines list) ≡ Ok list → length (media_text list) ≤ 16777216 → reading_of (media_text list) ≡ Ok list
+text_read : (list : Playlist) → ArePlain (media_lines list) → read_lines (media_lines list) ≡ Ok list → length (media_text list) ≤ text_limit → reading_of (media_text list) ≡ Ok list
 unfolding media_text
 text_read list plain read small =
     let lines : (text_lines (joined (media_lines list)) ≡ media_lines list) × IsUtf8 (joined (media_lines list)) = lines_of_text (media_lines list) plain in
     reads_lines (joined (media_lines list)) small lines.1 (no_order_mark list) ∙ ap read_lines lines.0 ∙ read
 
-pub reads_back : ((us : ℕ) → us < 2 ^ 53 → IsSeconds (seconds_text us) us) → (list : Playlist) (text : List ℕ) → IsWritten list text → length text ≤ 16777216 → length list.segments ≤ 131072
+pub reads_back : ((us : ℕ) → us < 2 ^ 53 → IsSeconds (seconds_text us) us) → (list : Playlist) (text : List ℕ) → IsWritten list text → length text ≤ text_limit → length list.segments ≤ segment_limit
     → IsReadable text list
 reads_back times list text w small few =
     let has : HasText list = written_has_text list text w in
@@ -516,4 +517,4 @@ reads_back times list text w small few =
     all_plain (head_lines list) (all_segment_lines list.segments ++ end_lines list.ended) head
     (all_plain (all_segment_lines list.segments) (end_lines list.ended) (plain_segments w.uri list.segments w.is_uri are) (plain_end list.ended)) in
     let read : read_lines (media_lines list) ≡ Ok list = lines_read list w.uri range times has w.map_is w.is_uri.0 is_range are few in
-    subst (λ t. reading_of t ≡ Ok list) (sym text_is) (text_read list plain read (subst (λ t. length t ≤ 16777216) text_is small))
+    subst (λ t. reading_of t ≡ Ok list) (sym text_is) (text_read list plain read (subst (λ t. length t ≤ text_limit) text_is small))

@@ -13,12 +13,13 @@ use Rattle.hls_m3u8.specs.declared.fault.ListFault.{ListFault}
 use Rattle.hls_m3u8.specs.declared.fault.ListFault.TheVariants.{NotM3u, Utf8, BadTag, MissingTag, TooLong, Memory}
 use Rattle.hls_m3u8.specs.declared.playlist.Segment.{Segment}
 use Rattle.hls_m3u8.specs.declared.reading.Reading.{Reading}
-use Rattle.hls_m3u8.specs.declared.reading.Stepped.{Stepped}
+use Rattle.hls_m3u8.specs.declared.reading.Kept.{Kept}
+use Rattle.hls_m3u8.specs.Limits.{text_limit, segment_limit}
 use Rattle.hls_m3u8.specs.Playlist.{Playlist}
 use Rattle.hls_m3u8.specs.TextLines.{split_at, text_lines}
 use Rattle.hls_m3u8.specs.NextLine.{IsNextLine}
 use Rattle.hls_m3u8.specs.Readable.{IsAnswer}
-use Rattle.hls_m3u8.specs.Reading.{AllRead, after_tag, tag_step, segment_range, after_segment, segment_within, uri_step, has_order_mark, read_lines, reading_of, step, segments_of, with_front, read_from, list_of, closed_target, closed_list, finished}
+use Rattle.hls_m3u8.specs.Reading.{Stepped, AllRead, after_tag, tag_step, segment_range, after_segment, segment_within, uri_step, has_order_mark, read_lines, reading_of, step, segments_of, with_front, read_from, list_of, closed_target, closed_list, finished}
 use Rattle.hls_m3u8.specs.Scans.{IsScan, IsLineKept, IsKept, IsBuilt, StandsAt}
 
 -- what the whole gives, from what a rest of its lines gives
@@ -94,7 +95,7 @@ tag_has_memory n (Some r) h = cc
 segment_has_memory : (n : ℕ) (r : Reading) (uri : List ℕ) (us : ℕ) (range : Option (Option ByteRange)) → segment_within n r uri us range ≡ Err Memory → ⊥
 segment_has_memory n r uri us None h = cc
 segment_has_memory n r uri us (Some range) h =
-    elim (cases_Bool (nat_lt r.count 131072)) [
+    elim (cases_Bool (nat_lt r.count segment_limit)) [
       | inl e ↦ let no : Ok (after_segment r uri us range) ≡ Err Memory = rw e at h in cc
       | inr e ↦
           let bad : Result Stepped ListFault = Err TooLong in
@@ -135,14 +136,14 @@ refused : (whole : Result AllRead ListFault) (segments : List Segment) (n : ℕ)
 refused whole segments n r text line rest fault so_far next given =
     so_far ∙ ap (with_front segments) (one_line_bad n r text line rest fault next (sym given))
 
-pub kept_refused : (whole : Result AllRead ListFault) (segments : List Segment) (n : ℕ) (r : Reading) (text line rest : List ℕ) (fault : ListFault)
-    → whole ≡ with_front segments (read_from n r (text_lines text)) → IsNextLine text line rest → IsLineKept n r line segments (Err fault) → IsKept whole (Err fault)
-kept_refused whole segments n r text line rest NotM3u so_far next given = refused whole segments n r text line rest NotM3u so_far next given
-kept_refused whole segments n r text line rest Utf8 so_far next given = refused whole segments n r text line rest Utf8 so_far next given
-kept_refused whole segments n r text line rest (BadTag k) so_far next given = refused whole segments n r text line rest (BadTag k) so_far next given
-kept_refused whole segments n r text line rest MissingTag so_far next given = refused whole segments n r text line rest MissingTag so_far next given
-kept_refused whole segments n r text line rest TooLong so_far next given = refused whole segments n r text line rest TooLong so_far next given
-kept_refused whole segments n r text line rest Memory so_far next given = tt
+pub kept_refused : (whole : Result AllRead ListFault) (n : ℕ) (old new : Kept) (text line rest : List ℕ) (fault : ListFault)
+    → whole ≡ with_front old.segments.items (read_from n old.reading (text_lines text)) → IsNextLine text line rest → IsLineKept n old line new (Err fault) → IsKept whole (Err fault)
+kept_refused whole n old new text line rest NotM3u so_far next given = refused whole old.segments.items n old.reading text line rest NotM3u so_far next given
+kept_refused whole n old new text line rest Utf8 so_far next given = refused whole old.segments.items n old.reading text line rest Utf8 so_far next given
+kept_refused whole n old new text line rest (BadTag k) so_far next given = refused whole old.segments.items n old.reading text line rest (BadTag k) so_far next given
+kept_refused whole n old new text line rest MissingTag so_far next given = refused whole old.segments.items n old.reading text line rest MissingTag so_far next given
+kept_refused whole n old new text line rest TooLong so_far next given = refused whole old.segments.items n old.reading text line rest TooLong so_far next given
+kept_refused whole n old new text line rest Memory so_far next given = tt
 
 pub kept_more : (whole : Result AllRead ListFault) (segments after : List Segment) (n : ℕ) (r s : Reading) (text line rest : List ℕ) (stepped : Stepped)
     → whole ≡ with_front segments (read_from n r (text_lines text)) → IsNextLine text line rest
@@ -207,15 +208,15 @@ kept_is_built whole MissingTag h = ap finished h
 kept_is_built whole TooLong h = ap finished h
 kept_is_built whole Memory h = tt
 
-pub not_utf8 : (text : List ℕ) → length text ≤ 16777216 → (IsUtf8 text → ⊥) → reading_of text ≡ Err Utf8
+pub not_utf8 : (text : List ℕ) → length text ≤ text_limit → (IsUtf8 text → ⊥) → reading_of text ≡ Err Utf8
 not_utf8 text small never =
     elim (cases_Bool (is_utf8 text)) [
       | inl e ↦ absurd (never (IsUtf8-from_is_utf8 text e))
-      | inr e ↦ rw (le-ltb 16777216 (length text) small, e) refl
+      | inr e ↦ rw (le-ltb text_limit (length text) small, e) refl
     ]
 
-pub reads_lines : (text : List ℕ) → length text ≤ 16777216 → IsUtf8 text → has_order_mark text ≡ false → reading_of text ≡ read_lines (text_lines text)
-reads_lines text small utf8 none = rw (le-ltb 16777216 (length text) small, is_utf8-from_IsUtf8 text utf8, none) refl
+pub reads_lines : (text : List ℕ) → length text ≤ text_limit → IsUtf8 text → has_order_mark text ≡ false → reading_of text ≡ read_lines (text_lines text)
+reads_lines text small utf8 none = rw (le-ltb text_limit (length text) small, is_utf8-from_IsUtf8 text utf8, none) refl
 
 pub scan_answers : (text : List ℕ) (read : Result Playlist ListFault) (fault : ListFault) → reading_of text ≡ read → IsScan read (Err fault) → IsAnswer text (Err fault)
 scan_answers text read NotM3u is h = is ∙ h

@@ -8,6 +8,7 @@ use Rattle.std.proofs.lemmas.Fmt.{digits_decimal, digits_value-decimal, decimal_
 use Rattle.hls_time.specs.Digits.{IsDigit, AreDigits, number_of}
 use Rattle.hls_time.specs.Seconds.{six_digits, seconds_text, IsSeconds}
 use Rattle.hls_m3u8.specs.declared.playlist.ByteRange.{ByteRange}
+use Rattle.hls_m3u8.specs.Limits.{number_digits}
 use Rattle.hls_m3u8.specs.HasText.{IsShort, IsRange}
 use Rattle.hls_m3u8.specs.Lines.{range_text, quoted, map_range}
 use Rattle.hls_m3u8.specs.TextLines.{split_at}
@@ -26,9 +27,9 @@ decimal_digits n few = digits_decimal numerals n (omega arith)
 pub short_decimal : (n : ℕ) → IsShort n → short (decimal n) ≡ Some n
 short_decimal n few =
     let some : 0 < length (decimal n) = decimal_nonempty n (omega arith) in
-    let long : length (decimal n) ≤ 15 = length-decimal-le 15 n (omega arith) (omega arith) (omega arith) in
+    let long : length (decimal n) ≤ number_digits = length-decimal-le number_digits n (omega arith) (omega arith) (omega arith) in
     let value : number_of (decimal n) ≡ n = digits_value-decimal numerals n (omega arith) in
-    rw (digits_from 15 (decimal n) (decimal_digits n few) some long) (ap Some value)
+    rw (digits_from number_digits (decimal n) (decimal_digits n few) some long) (ap Some value)
 
 pub clean_decimal : (byte n : ℕ) → (IsDigit byte → ⊥) → IsShort n → IsClean byte (decimal n)
 clean_decimal byte n other few = digits_clean byte (decimal n) other (decimal_digits n few)
@@ -69,7 +70,7 @@ six_are n = (
 
 clean_seconds : (byte us : ℕ) → (IsDigit byte → ⊥) → (46 == byte) ≡ false → us < 2 ^ 53 → IsClean byte (seconds_text us)
 clean_seconds byte us other point small =
-    let whole : us / 1000000 < 10 ^ 15 = omega arith in
+    let whole : IsShort (us / 1000000) = omega arith in
     clean-append byte (decimal (us / 1000000)) (46 ∷ six_digits (us % 1000000)) (clean_decimal byte (us / 1000000) other whole)
     (rw point (digits_clean byte (six_digits (us % 1000000)) other (six_are (us % 1000000))))
 

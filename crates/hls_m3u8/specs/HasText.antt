@@ -7,12 +7,13 @@ use Rattle.hls_m3u8.specs.declared.playlist.Kind.TheVariants.{Vod, Event}
 use Rattle.hls_m3u8.specs.declared.playlist.Map.{Map}
 use Rattle.hls_m3u8.specs.declared.playlist.ByteRange.{ByteRange}
 use Rattle.hls_m3u8.specs.declared.playlist.Segment.{Segment}
+use Rattle.hls_m3u8.specs.Limits.{number_limit}
 use Rattle.hls_m3u8.specs.Playlist.{Playlist}
 use Rattle.hls_m3u8.specs.Uri.{IsUri}
 
--- at most 15 digits
+-- a number of few enough digits
 abbrev pub IsShort : ℕ → Type 0
-IsShort n = n < 10 ^ 15
+IsShort n = n < number_limit
 
 abbrev pub IsRange : ByteRange → Type 0
 IsRange range = (0 < range.length) × IsShort range.length × IsShort range.offset

@@ -1,3 +1,4 @@
+pub mod Limits
 pub mod Playlist
 pub mod Uri
 pub mod HasText

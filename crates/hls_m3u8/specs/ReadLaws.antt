@@ -3,6 +3,7 @@
 use Rattle.std.specs.Prelude.{◌≡◌, ℕ, ◌+◌, ◌≤◌, ◌↔◌, List, ◌∷◌, ◌++◌, length, Ok, Err}
 use Rattle.hls_m3u8.specs.declared.fault.ListFault.{ListFault}
 use Rattle.hls_m3u8.specs.declared.reading.Reading.{Reading}
+use Rattle.hls_m3u8.specs.Limits.{text_limit, segment_limit}
 use Rattle.hls_m3u8.specs.Playlist.{Playlist}
 use Rattle.hls_m3u8.specs.Written.{IsWritten}
 use Rattle.hls_m3u8.specs.Reading.{AllRead, step, read_from}
@@ -28,4 +29,4 @@ RefusedAtFirst = (n : ℕ) (r : Reading) (lines : List (List ℕ)) (fault : List
 
 -- a written text within the limits is readable as its own list
 abbrev pub WrittenReadsBack : Type 0
-WrittenReadsBack = (list : Playlist) (text : List ℕ) → IsWritten list text → length text ≤ 16777216 → length list.segments ≤ 131072 → IsReadable text list
+WrittenReadsBack = (list : Playlist) (text : List ℕ) → IsWritten list text → length text ≤ text_limit → length list.segments ≤ segment_limit → IsReadable text list

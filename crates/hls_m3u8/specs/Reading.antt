@@ -14,7 +14,7 @@ use Rattle.hls_m3u8.specs.declared.value.RangeTag.{RangeTag}
 use Rattle.hls_m3u8.specs.declared.resource.Resource.{Resource}
 use Rattle.hls_m3u8.specs.declared.reading.Reading.{Reading}
 use Rattle.hls_m3u8.specs.declared.reading.Found.{Found}
-use Rattle.hls_m3u8.specs.declared.reading.Stepped.{Stepped}
+use Rattle.hls_m3u8.specs.Limits.{text_limit, segment_limit, number_limit}
 use Rattle.hls_m3u8.specs.Playlist.{Playlist}
 use Rattle.hls_m3u8.specs.TextLines.{split_at, text_lines}
 use Rattle.hls_m3u8.specs.Tags.{tag_of}
@@ -124,11 +124,16 @@ after_tag r tag.Unknown value = Some r
 
 -- What a URI does
 
+-- what is known after a line, and the segment whose URI it is
+pub record Stepped : Type 0 where
+  pub reading : Reading
+  pub found : Option Found
+
 -- a range without an offset begins where the last segment's ended, in the same resource
 abbrev pub behind_range : Option ByteRange → ℕ → Option ByteRange
 behind_range None n = None
 behind_range (Some b) n =
-    if nat_lt (b.offset + b.length) 1000000000000000 then Some (record { length = n; offset = b.offset + b.length }) else None
+    if nat_lt (b.offset + b.length) number_limit then Some (record { length = n; offset = b.offset + b.length }) else None
 
 abbrev pub behind : Option Resource → List ℕ → ℕ → Option ByteRange
 behind None uri n = None
@@ -155,7 +160,7 @@ after_segment r uri us range = record {
 
 abbrev pub segment_within : ℕ → Reading → List ℕ → ℕ → Option (Option ByteRange) → Result Stepped ListFault
 segment_within line r uri us None = Err (BadTag line)
-segment_within line r uri us (Some range) = if nat_lt r.count 131072 then Ok (after_segment r uri us range) else Err TooLong
+segment_within line r uri us (Some range) = if nat_lt r.count segment_limit then Ok (after_segment r uri us range) else Err TooLong
 
 abbrev pub uri_step : ℕ → Reading → List ℕ → Option ℕ → Result Stepped ListFault
 uri_step line r uri None = Err MissingTag
@@ -262,7 +267,7 @@ has_order_mark text = false
 -- the list that a text is readable as, or why it is refused
 abbrev pub reading_of : List ℕ → Result Playlist ListFault
 reading_of text =
-    if nat_lt 16777216 (length text) then Err TooLong
+    if nat_lt text_limit (length text) then Err TooLong
     else (if not (is_utf8 text) then Err Utf8
     else (if has_order_mark text then Err Utf8
     else read_lines (text_lines text)))

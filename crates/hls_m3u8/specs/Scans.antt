@@ -1,18 +1,27 @@
 -- For the proofs of this crate; no public clause cites it.
 -- What the passes over a text's lines answer.
 
-use Rattle.std.specs.Prelude.{◌≡◌, ℕ, ◌-◌, ◌<◌, ◌≤◌, ⊤, List, ◌++◌, length, drop, slice_range, Result, Ok, Err}
+use Rattle.std.specs.Prelude.{◌≡◌, ℕ, ◌-◌, ◌<◌, ◌≤◌, ⊤, List, ◌++◌, length, drop, slice_range, Option, None, Some, Result, Ok, Err}
 use Rattle.std.specs.Str.{IsCharBoundary}
 use Rattle.hls_m3u8.specs.declared.fault.ListFault.{ListFault}
 use Rattle.hls_m3u8.specs.declared.fault.ListFault.TheVariants.{NotM3u, Utf8, BadTag, MissingTag, TooLong, Memory}
 use Rattle.hls_m3u8.specs.declared.playlist.MediaPlaylist.{MediaPlaylist}
-use Rattle.hls_m3u8.specs.declared.playlist.Segment.{Segment}
 use Rattle.hls_m3u8.specs.declared.reading.Reading.{Reading}
-use Rattle.hls_m3u8.specs.declared.reading.Stepped.{Stepped}
+use Rattle.hls_m3u8.specs.declared.reading.Found.{Found}
 use Rattle.hls_m3u8.specs.declared.reading.Kept.{Kept}
 use Rattle.hls_m3u8.specs.Playlist.{Playlist, playlist_of}
 use Rattle.hls_m3u8.specs.TextLines.{text_lines}
-use Rattle.hls_m3u8.specs.Reading.{AllRead, step, segments_of, nothing_read, read_from, finished, read_lines}
+use Rattle.hls_m3u8.specs.Reading.{Stepped, AllRead, step, segments_of, nothing_read, read_from, finished, read_lines}
+
+-- what is known after a tag, where it is taken
+abbrev pub taken : Option (Unit {0}) → Reading → Option Reading
+taken None r = None
+taken (Some done) r = Some r
+
+-- what is known after a line, and the segment whose URI it is, where the line is read
+abbrev pub stepped : Reading → Result (Option Found) ListFault → Result Stepped ListFault
+stepped r (Err fault) = Err fault
+stepped r (Ok found) = Ok (record { reading = r; found = found })
 
 -- a list, or just this refusal; never want of memory
 abbrev pub IsScan : Result Playlist ListFault → Result ℕ ListFault → Type 0
@@ -35,15 +44,16 @@ IsBuilt read (Err MissingTag) = read ≡ Err MissingTag
 IsBuilt read (Err TooLong) = read ≡ Err TooLong
 
 -- what a line gives, with its segment kept, or just this refusal; want of memory at any time
-abbrev pub IsLineKept : ℕ → Reading → List ℕ → List Segment → Result Kept ListFault → Type 0
-IsLineKept n r line before (Ok kept) =
-    (stepped : Stepped) × (step n r line ≡ Ok stepped) × (kept.reading ≡ stepped.reading) × (kept.segments.items ≡ before ++ segments_of line stepped.found)
-IsLineKept n r line before (Err Memory) = ⊤
-IsLineKept n r line before (Err NotM3u) = step n r line ≡ Err NotM3u
-IsLineKept n r line before (Err Utf8) = step n r line ≡ Err Utf8
-IsLineKept n r line before (Err (BadTag k)) = step n r line ≡ Err (BadTag k)
-IsLineKept n r line before (Err MissingTag) = step n r line ≡ Err MissingTag
-IsLineKept n r line before (Err TooLong) = step n r line ≡ Err TooLong
+abbrev pub IsLineKept : ℕ → Kept → List ℕ → Kept → Result (Unit {0}) ListFault → Type 0
+IsLineKept n old line new (Ok done) =
+    (given : Stepped) × (step n old.reading line ≡ Ok given) × (new.reading ≡ given.reading)
+    × (new.segments.items ≡ old.segments.items ++ segments_of line given.found)
+IsLineKept n old line new (Err Memory) = ⊤
+IsLineKept n old line new (Err NotM3u) = step n old.reading line ≡ Err NotM3u
+IsLineKept n old line new (Err Utf8) = step n old.reading line ≡ Err Utf8
+IsLineKept n old line new (Err (BadTag k)) = step n old.reading line ≡ Err (BadTag k)
+IsLineKept n old line new (Err MissingTag) = step n old.reading line ≡ Err MissingTag
+IsLineKept n old line new (Err TooLong) = step n old.reading line ≡ Err TooLong
 
 -- what the lines give, or just this refusal; want of memory at any time
 abbrev pub IsKept : Result AllRead ListFault → Result Kept ListFault → Type 0

@@ -10,15 +10,16 @@ use Rattle.hls_m3u8.specs.declared.playlist.Kind.{Kind}
 use Rattle.hls_m3u8.specs.declared.playlist.Kind.TheVariants.{Vod, Event}
 use Rattle.hls_m3u8.specs.declared.playlist.ByteRange.{ByteRange}
 use Rattle.hls_m3u8.specs.declared.value.RangeTag.{RangeTag}
+use Rattle.hls_m3u8.specs.Limits.{number_digits}
 use Rattle.hls_m3u8.specs.TextLines.{split_at}
 
 -- 1 to so many digits
 abbrev pub has_digits : ℕ → List ℕ → Bool
 has_digits most text = list_all is_ascii_digit text && (nat_lt 0 (length text) && nat_le (length text) most)
 
--- a whole number of 1 to 15 digits
+-- a whole number of 1 to that many digits
 abbrev pub short : List ℕ → Option ℕ
-short text = if has_digits 15 text then Some (number_of text) else None
+short text = if has_digits number_digits text then Some (number_of text) else None
 
 -- below 2^53 microseconds
 abbrev pub time_below : ℕ → Option ℕ

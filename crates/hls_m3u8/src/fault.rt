@@ -28,7 +28,7 @@ pub enum ListFault {
     #[error("MissingTag")]
     MissingTag,
 
-    /// More than 16777216 bytes or 131072 segments.
+    /// More than `TEXT_LIMIT` bytes or `SEGMENT_LIMIT` segments.
     #[error("TooLong")]
     TooLong,
 

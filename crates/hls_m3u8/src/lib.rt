@@ -6,6 +6,7 @@ mod attribute;
 mod fault;
 mod forms;
 mod laws;
+mod limits;
 mod map_tag;
 mod master;
 mod master_writer;
@@ -28,9 +29,10 @@ mod write;
 
 pub use fault::ListFault;
 pub use laws::{
-    list_has_one_text, readable_as_one_list, refused_at_first, text_exactly_where, written_is_text,
-    written_reads_back,
+    limits_are_defined, list_has_one_text, readable_as_one_list, refused_at_first,
+    text_exactly_where, written_is_text, written_reads_back,
 };
+pub use limits::{NUMBER_DIGITS, NUMBER_LIMIT, SEGMENT_LIMIT, TEXT_LIMIT};
 pub use master::{AudioRendition, MasterPlaylist, VariantStream};
 pub use master_writer::write_master;
 pub use playlist::{ByteRange, Kind, Map, MediaPlaylist, Segment};

@@ -2,11 +2,13 @@
 
 ghost use Rattle.std.specs.Prelude.{◌≡◌, ℕ, ◌+◌, ◌-◌, ◌^◌, ◌<◌, ◌≤◌, List, [], ◌++◌, Ok, Err, length, drop, IfOk, OnOk, MatchOption};
 ghost use Rattle.hls_m3u8.specs.declared.fault.ListFault.TheVariants.{NotM3u};
+ghost use Rattle.hls_m3u8.specs.Limits.{text_limit};
 ghost use Rattle.hls_m3u8.specs.TextLines.{text_lines};
 ghost use Rattle.hls_m3u8.specs.Reading.{nothing_read, read_from, segments_of, map_of, closed_target, finished, read_lines, has_order_mark};
 ghost use Rattle.hls_m3u8.specs.Readable.{IsAnswer};
 ghost use Rattle.hls_m3u8.specs.Scans.{IsScan, IsBuilt, IsLineKept, IsKept, IsBehindHeader, StandsAt};
 
+use crate::limits::TEXT_LIMIT;
 use crate::reading::{Found, Kept, Reading};
 use crate::resource::Resource;
 use crate::split::next_line;
@@ -46,14 +48,14 @@ fn closed_target(reading: &Reading<'_>) -> Option<u64>
 
 // Reads the lines behind the header without keeping a segment: how many segments there are, or why the text is refused.
 fn scan(text: &str) -> Result<usize, ListFault>
-    requires { length text.now ≤ 16777216 }
+    requires { length text.now ≤ text_limit }
     ensures { IsScan (finished (read_from 2 nothing_read (text_lines text.now))) result }
 {
     let mut reading = nothing_read();
     let mut number = 2;
     let mut rest = text;
     while let Some((line, after)) = next_line(rest) {
-        reading = step(number, reading, line)?.reading;
+        step(number, &mut reading, line)?;
         number += 1;
         rest = after;
     }
@@ -126,30 +128,20 @@ fn list_of(
 
 // Reads a line that begins here, and keeps its segment, where the line is a URI.
 fn keep_line<'a>(
-    kept: Kept<'a>,
+    kept: &mut Kept<'a>,
     whole: &ByteStr,
     start: usize,
     number: usize,
     line: &'a str,
-) -> Result<Kept<'a>, ListFault>
+) -> Result<(), ListFault>
     requires room { start + length line.now < 2 ^ 63 }
     requires stands { StandsAt whole.now start (start + length line.now) line.now }
-    ensures { IsLineKept number kept.entry.reading line.entry.now kept.entry.segments.items result }
+    ensures { IsLineKept number kept.old line.entry.now kept.new result }
 {
-    let stepped = step(number, kept.reading, line)?;
-    let mut segments = kept.segments;
-    push_found(
-        &mut segments,
-        whole,
-        start,
-        start + line.len(),
-        line,
-        stepped.found,
-    )?;
-    Ok(Kept {
-        reading: stepped.reading,
-        segments,
-    })
+    let found = step(number, &mut kept.reading, line)?;
+    let end = start + line.len();
+    push_found(&mut kept.segments, whole, start, end, line, found)?;
+    Ok(())
 }
 
 // Reads the lines behind the header of a whole text, and keeps the segments.
@@ -159,7 +151,7 @@ fn keep_segments<'a>(
     text: &'a str,
 ) -> Result<Kept<'a>, ListFault>
     requires empty { segments.items ≡ [] }
-    requires short { length text.now ≤ 16777216 }
+    requires short { length text.now ≤ text_limit }
     requires shorter { length text.now ≤ length whole.now }
     requires place { text.now ≡ drop (length whole.now - length text.now) whole.now }
     ensures { IsKept (read_from 2 nothing_read (text_lines text.entry.now)) result }
@@ -172,7 +164,7 @@ fn keep_segments<'a>(
     let mut rest = text;
     while let Some((line, after)) = next_line(rest) {
         let start = whole.len() - rest.len();
-        kept = keep_line(kept, whole, start, number, line)?;
+        keep_line(&mut kept, whole, start, number, line)?;
         number += 1;
         rest = after;
     }
@@ -181,7 +173,7 @@ fn keep_segments<'a>(
 
 // Reads the lines behind the header of a whole text, of which there are so many segments.
 fn build(alloc: Global, whole: &str, text: &str, count: usize) -> Result<MediaPlaylist, ListFault>
-    requires short { length text.now ≤ 16777216 }
+    requires short { length text.now ≤ text_limit }
     requires shorter { length text.now ≤ length whole.now }
     requires place { text.now ≡ drop (length whole.now - length text.now) whole.now }
     ensures { IsBuilt (finished (read_from 2 nothing_read (text_lines text.now))) result }
@@ -216,7 +208,7 @@ fn has_order_mark(text: &[u8]) -> bool
 pub fn read_media(alloc: Global, text: &[u8]) -> Result<MediaPlaylist, ListFault>
     ensures { IsAnswer text.now result }
 {
-    if text.len() > 16_777_216 {
+    if text.len() > TEXT_LIMIT {
         return Err(ListFault::TooLong);
     }
     let Ok(whole) = std::str::from_utf8(text) else {

@@ -29,13 +29,6 @@ pub(crate) struct Found {
     pub(crate) range: Option<ByteRange>,
 }
 
-/// What is known after one line more, and the segment whose URI it is.
-#[derive(Drop)]
-pub(crate) struct Stepped<'a> {
-    pub(crate) reading: Reading<'a>,
-    pub(crate) found: Option<Found>,
-}
-
 /// What is known after some lines, and the segments so far.
 #[derive(Drop)]
 pub(crate) struct Kept<'a> {

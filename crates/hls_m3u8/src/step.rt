@@ -1,11 +1,17 @@
-//! What one line does.
+//! What one line does. What was read stands in one place and is changed there: a line costs what it says, and an
+//! empty one nothing. What a refusal leaves of it is no matter, since the text is refused.
 
-ghost use Rattle.std.specs.Prelude.{◌≡◌, ◌<◌, ℕ, List, option_map};
+ghost use Rattle.std.specs.Prelude.{◌≡◌, ◌<◌, ℕ, List, Some, option_map};
+ghost use Rattle.hls_m3u8.specs.TextLines.{split_at};
+ghost use Rattle.hls_m3u8.specs.Tags.{tag_of};
 ghost use Rattle.std.specs.Borrow.{Bor};
 ghost use Rattle.hls_m3u8.specs.Reading.{once, at_front, number, with_version, with_target, with_media_sequence, with_discontinuity_sequence, kind_value, with_kind, length_value, with_length, range_value, with_range_tag, map_value, same_range, same_resource, with_map, with_mark, with_end, after_tag, behind_range, behind, placed, segment_range, after_segment, segment_within, uri_step, tag_step, step};
+ghost use Rattle.hls_m3u8.specs.Scans.{taken, stepped};
+ghost use Rattle.hls_m3u8.specs.Limits.{segment_limit};
 
+use crate::limits::{NUMBER_LIMIT, SEGMENT_LIMIT};
 use crate::map_tag::map_tag;
-use crate::reading::{Found, Reading, Stepped};
+use crate::reading::{Found, Reading};
 use crate::resource::{Resource, UriRef};
 use crate::split::split;
 use crate::tag::{Tag, tag_of};
@@ -18,62 +24,54 @@ fn number(value: Option<&str>) -> Option<u64>
     short(value?)
 }
 
-fn with_version(reading: Reading<'_>, number: Option<u64>) -> Option<Reading<'_>>
-    ensures { result ≡ with_version reading.entry number }
+fn with_version(reading: &mut Reading<'_>, number: Option<u64>) -> Option<()>
+    ensures { taken result reading.new ≡ with_version reading.old number }
 {
     let n = number?;
-    match reading.version {
-        Some(_) => None,
-        None => Some(Reading {
-            version: Some(n),
-            ..reading
-        }),
+    if reading.version.is_some() {
+        return None;
     }
+    reading.version = Some(n);
+    Some(())
 }
 
-fn with_target(reading: Reading<'_>, number: Option<u64>) -> Option<Reading<'_>>
-    ensures { result ≡ with_target reading.entry number }
+fn with_target(reading: &mut Reading<'_>, number: Option<u64>) -> Option<()>
+    ensures { taken result reading.new ≡ with_target reading.old number }
 {
     let n = number?;
-    match reading.target {
-        Some(_) => None,
-        None => Some(Reading {
-            target: Some(n),
-            ..reading
-        }),
+    if reading.target.is_some() {
+        return None;
     }
+    reading.target = Some(n);
+    Some(())
 }
 
-fn with_media_sequence(reading: Reading<'_>, number: Option<u64>) -> Option<Reading<'_>>
-    ensures { result ≡ with_media_sequence reading.entry number }
+fn with_media_sequence(reading: &mut Reading<'_>, number: Option<u64>) -> Option<()>
+    ensures { taken result reading.new ≡ with_media_sequence reading.old number }
 {
     let n = number?;
     if reading.count != 0 {
         return None;
     }
-    match reading.media_sequence {
-        Some(_) => None,
-        None => Some(Reading {
-            media_sequence: Some(n),
-            ..reading
-        }),
+    if reading.media_sequence.is_some() {
+        return None;
     }
+    reading.media_sequence = Some(n);
+    Some(())
 }
 
-fn with_discontinuity_sequence(reading: Reading<'_>, number: Option<u64>) -> Option<Reading<'_>>
-    ensures { result ≡ with_discontinuity_sequence reading.entry number }
+fn with_discontinuity_sequence(reading: &mut Reading<'_>, number: Option<u64>) -> Option<()>
+    ensures { taken result reading.new ≡ with_discontinuity_sequence reading.old number }
 {
     let n = number?;
     if reading.count != 0 {
         return None;
     }
-    match reading.discontinuity_sequence {
-        Some(_) => None,
-        None => Some(Reading {
-            discontinuity_sequence: Some(n),
-            ..reading
-        }),
+    if reading.discontinuity_sequence.is_some() {
+        return None;
     }
+    reading.discontinuity_sequence = Some(n);
+    Some(())
 }
 
 fn kind_value(value: Option<&str>) -> Option<Kind>
@@ -82,17 +80,15 @@ fn kind_value(value: Option<&str>) -> Option<Kind>
     kind_of(value?)
 }
 
-fn with_kind(reading: Reading<'_>, kind: Option<Kind>) -> Option<Reading<'_>>
-    ensures { result ≡ with_kind reading.entry kind }
+fn with_kind(reading: &mut Reading<'_>, kind: Option<Kind>) -> Option<()>
+    ensures { taken result reading.new ≡ with_kind reading.old kind }
 {
     let given = kind?;
-    match reading.kind {
-        Some(_) => None,
-        None => Some(Reading {
-            kind: Some(given),
-            ..reading
-        }),
+    if reading.kind.is_some() {
+        return None;
     }
+    reading.kind = Some(given);
+    Some(())
 }
 
 fn length_value(value: Option<&str>) -> Option<u64>
@@ -101,17 +97,15 @@ fn length_value(value: Option<&str>) -> Option<u64>
     seconds(split(b',', value?).front)
 }
 
-fn with_length(reading: Reading<'_>, length: Option<u64>) -> Option<Reading<'_>>
-    ensures { result ≡ with_length reading.entry length }
+fn with_length(reading: &mut Reading<'_>, length: Option<u64>) -> Option<()>
+    ensures { taken result reading.new ≡ with_length reading.old length }
 {
     let us = length?;
-    match reading.us {
-        Some(_) => None,
-        None => Some(Reading {
-            us: Some(us),
-            ..reading
-        }),
+    if reading.us.is_some() {
+        return None;
     }
+    reading.us = Some(us);
+    Some(())
 }
 
 fn range_value(value: Option<&str>) -> Option<RangeTag>
@@ -120,17 +114,15 @@ fn range_value(value: Option<&str>) -> Option<RangeTag>
     range_tag(value?)
 }
 
-fn with_range_tag(reading: Reading<'_>, range: Option<RangeTag>) -> Option<Reading<'_>>
-    ensures { result ≡ with_range_tag reading.entry range }
+fn with_range_tag(reading: &mut Reading<'_>, range: Option<RangeTag>) -> Option<()>
+    ensures { taken result reading.new ≡ with_range_tag reading.old range }
 {
     let tag = range?;
-    match reading.range {
-        Some(_) => None,
-        None => Some(Reading {
-            range: Some(tag),
-            ..reading
-        }),
+    if reading.range.is_some() {
+        return None;
     }
+    reading.range = Some(tag);
+    Some(())
 }
 
 fn map_value(value: Option<&str>) -> Option<Resource<'_>>
@@ -157,27 +149,25 @@ fn same_resource(a: &Resource<'_>, b: &Resource<'_>) -> bool
     a.uri.text() == b.uri.text() && same_range(a.range, b.range)
 }
 
-fn with_map<'a>(reading: Reading<'a>, map: Option<Resource<'a>>) -> Option<Reading<'a>>
-    ensures { result ≡ with_map reading.entry map.entry }
+fn with_map<'a>(reading: &mut Reading<'a>, map: Option<Resource<'a>>) -> Option<()>
+    ensures { taken result reading.new ≡ with_map reading.old map.entry }
 {
     let named = map?;
     if let Some(first) = &reading.map {
         if same_resource(first, &named) {
-            return Some(reading);
+            return Some(());
         }
         return None;
     }
     if reading.count != 0 {
         return None;
     }
-    Some(Reading {
-        map: Some(named),
-        ..reading
-    })
+    reading.map = Some(named);
+    Some(())
 }
 
-fn with_mark<'a>(reading: Reading<'a>, value: Option<&str>) -> Option<Reading<'a>>
-    ensures { result ≡ with_mark reading.entry (option_map (λ (v : Bor (List ℕ)). v.now) value.entry) }
+fn with_mark(reading: &mut Reading<'_>, value: Option<&str>) -> Option<()>
+    ensures { taken result reading.new ≡ with_mark reading.old (option_map (λ (v : Bor (List ℕ)). v.now) value.entry) }
 {
     if value.is_some() {
         return None;
@@ -185,14 +175,12 @@ fn with_mark<'a>(reading: Reading<'a>, value: Option<&str>) -> Option<Reading<'a
     if reading.mark {
         return None;
     }
-    Some(Reading {
-        mark: true,
-        ..reading
-    })
+    reading.mark = true;
+    Some(())
 }
 
-fn with_end<'a>(reading: Reading<'a>, value: Option<&str>) -> Option<Reading<'a>>
-    ensures { result ≡ with_end reading.entry (option_map (λ (v : Bor (List ℕ)). v.now) value.entry) }
+fn with_end(reading: &mut Reading<'_>, value: Option<&str>) -> Option<()>
+    ensures { taken result reading.new ≡ with_end reading.old (option_map (λ (v : Bor (List ℕ)). v.now) value.entry) }
 {
     if value.is_some() {
         return None;
@@ -200,15 +188,13 @@ fn with_end<'a>(reading: Reading<'a>, value: Option<&str>) -> Option<Reading<'a>
     if reading.ended {
         return None;
     }
-    Some(Reading {
-        ended: true,
-        ..reading
-    })
+    reading.ended = true;
+    Some(())
 }
 
 // A tag, and what stands behind its colon.
-fn after_tag<'a>(reading: Reading<'a>, tag: Tag, value: Option<&'a str>) -> Option<Reading<'a>>
-    ensures { result ≡ after_tag reading.entry tag (option_map (λ (v : Bor (List ℕ)). v.now) value.entry) }
+fn after_tag<'a>(reading: &mut Reading<'a>, tag: Tag, value: Option<&'a str>) -> Option<()>
+    ensures { taken result reading.new ≡ after_tag reading.old tag (option_map (λ (v : Bor (List ℕ)). v.now) value.entry) }
 {
     match tag {
         Tag::Version => with_version(reading, number(value)),
@@ -222,7 +208,7 @@ fn after_tag<'a>(reading: Reading<'a>, tag: Tag, value: Option<&'a str>) -> Opti
         Tag::Discontinuity => with_mark(reading, value),
         Tag::Endlist => with_end(reading, value),
         Tag::Refused => None,
-        Tag::Unknown => Some(reading),
+        Tag::Unknown => Some(()),
     }
 }
 
@@ -232,7 +218,7 @@ fn behind_range(last: Option<ByteRange>, length: u64) -> Option<ByteRange>
 {
     let range = last?;
     let offset = range.offset.checked_add(range.length)?;
-    if offset >= 1_000_000_000_000_000 {
+    if offset >= NUMBER_LIMIT {
         return None;
     }
     Some(ByteRange { length, offset })
@@ -283,39 +269,37 @@ fn segment_range(
 }
 
 fn after_segment<'a>(
-    reading: Reading<'a>,
+    reading: &mut Reading<'a>,
     uri: &'a str,
     us: u64,
     range: Option<ByteRange>,
-) -> Stepped<'a>
-    requires { reading.count < 131072 }
-    ensures { result ≡ after_segment reading.entry uri.entry.now us range }
+) -> Found
+    requires { reading.old.count < segment_limit }
+    ensures { record { reading = reading.new; found = Some result } ≡ after_segment reading.old uri.entry.now us range }
 {
     let found = Found {
         mark: reading.mark,
         us,
         range,
     };
-    let last = Resource {
+    reading.us = None;
+    reading.range = None;
+    reading.mark = false;
+    reading.last = Some(Resource {
         uri: UriRef::new(uri),
         range,
-    };
-    Stepped {
-        reading: Reading {
-            us: None,
-            range: None,
-            mark: false,
-            last: Some(last),
-            count: reading.count + 1,
-            ..reading
-        },
-        found: Some(found),
-    }
+    });
+    reading.count += 1;
+    found
 }
 
 // A URI's line.
-fn uri_step<'a>(line: usize, reading: Reading<'a>, uri: &'a str) -> Result<Stepped<'a>, ListFault>
-    ensures { result ≡ uri_step line reading.entry uri.entry.now reading.entry.us }
+fn uri_step<'a>(
+    line: usize,
+    reading: &mut Reading<'a>,
+    uri: &'a str,
+) -> Result<Option<Found>, ListFault>
+    ensures { stepped reading.new result ≡ uri_step line reading.old uri.entry.now reading.old.us }
 {
     let Some(us) = reading.us else {
         return Err(ListFault::MissingTag);
@@ -323,44 +307,39 @@ fn uri_step<'a>(line: usize, reading: Reading<'a>, uri: &'a str) -> Result<Stepp
     let Some(range) = segment_range(&reading.last, uri, reading.range) else {
         return Err(ListFault::BadTag { line });
     };
-    if reading.count >= 131072 {
+    if reading.count >= SEGMENT_LIMIT {
         return Err(ListFault::TooLong);
     }
-    Ok(after_segment(reading, uri, us, range))
+    Ok(Some(after_segment(reading, uri, us, range)))
 }
 
-fn tag_step<'a>(line: usize, reading: Option<Reading<'a>>) -> Result<Stepped<'a>, ListFault>
-    ensures { result ≡ tag_step line reading.entry }
+// A tag's or a comment's line.
+fn tag_step<'a>(
+    line: usize,
+    reading: &mut Reading<'a>,
+    tag: &'a str,
+) -> Result<Option<Found>, ListFault>
+    ensures { stepped reading.new result ≡ tag_step line
+        (after_tag reading.old (tag_of (split_at 58 tag.entry.now).front) (split_at 58 tag.entry.now).behind) }
 {
-    match reading {
+    let cut = split(b':', tag);
+    match after_tag(reading, tag_of(cut.front), cut.behind) {
         None => Err(ListFault::BadTag { line }),
-        Some(next) => Ok(Stepped {
-            reading: next,
-            found: None,
-        }),
+        Some(()) => Ok(None),
     }
 }
 
 // The line of this number, from 1: empty, a tag or a comment, or a URI.
 pub(crate) fn step<'a>(
     number: usize,
-    reading: Reading<'a>,
+    reading: &mut Reading<'a>,
     line: &'a str,
-) -> Result<Stepped<'a>, ListFault>
-    ensures { result ≡ step number reading.entry line.entry.now }
+) -> Result<Option<Found>, ListFault>
+    ensures { stepped reading.new result ≡ step number reading.old line.entry.now }
 {
     match line.as_bytes() {
-        [] => Ok(Stepped {
-            reading,
-            found: None,
-        }),
-        [first, ..] => {
-            if *first == b'#' {
-                let cut = split(b':', line);
-                tag_step(number, after_tag(reading, tag_of(cut.front), cut.behind))
-            } else {
-                uri_step(number, reading, line)
-            }
-        }
+        [] => Ok(None),
+        [b'#', ..] => tag_step(number, reading, line),
+        _ => uri_step(number, reading, line),
     }
 }

@@ -4,8 +4,8 @@ ghost use Rattle.std.specs.Prelude.{All, IfOk};
 ghost use Rattle.hls_m3u8.specs.HasText.{IsSegment};
 
 use crate::{
-    AudioRendition, ByteRange, MasterPlaylist, MediaPlaylist, Segment, VariantStream, is_uri,
-    write_master, write_media,
+    AudioRendition, ByteRange, MasterPlaylist, MediaPlaylist, NUMBER_LIMIT, Segment, VariantStream,
+    is_uri, write_master, write_media,
 };
 use bytes::ByteStr;
 use std::alloc::{AllocError, Global};
@@ -24,8 +24,8 @@ fn segment(
 {
     assert!(rt; us < 1 << 53);
     assert!(rt; 0 < range.length);
-    assert!(rt; range.length < 1_000_000_000_000_000);
-    assert!(rt; range.offset < 1_000_000_000_000_000);
+    assert!(rt; range.length < NUMBER_LIMIT);
+    assert!(rt; range.offset < NUMBER_LIMIT);
     let shared = uri.clone()?;
     Ok(Segment {
         mark,

@@ -4,8 +4,10 @@ ghost use Rattle.std.specs.Prelude.{◌≡◌, ℕ, ◌≤◌, length};
 ghost use Rattle.std.specs.List.{list_all};
 ghost use Rattle.std.specs.Char.{is_ascii_digit};
 ghost use Rattle.hls_time.specs.Digits.{AreDigits, number_of};
+ghost use Rattle.hls_m3u8.specs.Limits.{number_digits};
 ghost use Rattle.hls_m3u8.specs.Values.{has_digits, short, seconds, positive, range_tag, whole_range, kind_of};
 
+use crate::limits::NUMBER_DIGITS;
 use crate::split::split;
 use crate::{ByteRange, Kind};
 use hls_time::read_seconds;
@@ -35,11 +37,11 @@ fn has_digits(most: usize, text: &[u8]) -> bool
     are_digits(text) && !text.is_empty() && text.len() <= most
 }
 
-// The number that at most 15 digits write.
+// The number that so few digits write.
 #[tactic(auto, using(crate::proofs::Digits::number_step, crate::proofs::Digits::number_fits, crate::proofs::Digits::digit_low, crate::proofs::Digits::number_at_end))]
 fn number(digits: &[u8]) -> u64
     requires digits { AreDigits digits.now }
-    requires few { length digits.now ≤ 15 }
+    requires few { length digits.now ≤ number_digits }
     ensures { result ≡ number_of digits.now }
 {
     let mut n = 0;
@@ -49,12 +51,12 @@ fn number(digits: &[u8]) -> u64
     n
 }
 
-// A whole number of 1 to 15 digits.
+// A whole number of 1 to `NUMBER_DIGITS` digits.
 pub(crate) fn short(text: &str) -> Option<u64>
     ensures { result ≡ short text.now }
 {
     let digits = text.as_bytes();
-    if has_digits(15, digits) {
+    if has_digits(NUMBER_DIGITS, digits) {
         Some(number(digits))
     } else {
         None

@@ -8,12 +8,12 @@ use Rattle.hls_m3u8.proofs.read.read_media.Goals as goal
 use Rattle.hls_m3u8.proofs.read.read_media.Goals.{In-Ok}
 
 pub returns-in_default : goal.returns-in_default
-returns-in_default c = not_utf8 c.args.text.now c.if-text-gt16777216.false c.in_default.ensures.cases.0
+returns-in_default c = not_utf8 c.args.text.now c.if-text-gt-TEXT_LIMIT.false c.in_default.ensures.cases.0
 
 pub returns-in_default-behind_header : goal.returns-in_default-behind_header
 returns-in_default-behind_header c =
     let cases = c.in-Ok.ensures.cases in
-    reads_lines c.args.text.now c.if-text-gt16777216.false cases.1 (sym c.if-has_order_mark.ensures)
+    reads_lines c.args.text.now c.if-text-gt-TEXT_LIMIT.false cases.1 (sym c.if-has_order_mark.ensures)
     ∙ ap (λ (t : List ℕ). read_lines (text_lines t)) (sym cases.0)
     ∙ c.in_default-behind_header.ensures
 
@@ -23,7 +23,7 @@ returns-in_err-count c =
     let behind : IsBehindHeader c.in-Ok.whole.now c.in-Some.lines.now = c.in-Some.ensures in
     let read = finished (read_from 2 nothing_read (text_lines c.in-Some.lines.now)) in
     let reads : reading_of c.args.text.now ≡ read =
-    reads_lines c.args.text.now c.if-text-gt16777216.false cases.1 (sym c.if-has_order_mark.ensures)
+    reads_lines c.args.text.now c.if-text-gt-TEXT_LIMIT.false cases.1 (sym c.if-has_order_mark.ensures)
     ∙ ap (λ (t : List ℕ). read_lines (text_lines t)) (sym cases.0)
     ∙ behind.is in
     let is : c.from_residual.result ≡ Err c.in_err-count.field-0.0 = search rules in
@@ -35,7 +35,7 @@ returns c =
     let behind : IsBehindHeader c.in-Ok.whole.now c.in-Some.lines.now = c.in-Some.ensures in
     let read = finished (read_from 2 nothing_read (text_lines c.in-Some.lines.now)) in
     let reads : reading_of c.args.text.now ≡ read =
-    reads_lines c.args.text.now c.if-text-gt16777216.false cases.1 (sym c.if-has_order_mark.ensures)
+    reads_lines c.args.text.now c.if-text-gt-TEXT_LIMIT.false cases.1 (sym c.if-has_order_mark.ensures)
     ∙ ap (λ (t : List ℕ). read_lines (text_lines t)) (sym cases.0)
     ∙ behind.is in
     build_answers c.args.text.now read c.build.result reads c.in_ok-count.ensures c.build.ensures
