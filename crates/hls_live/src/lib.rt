@@ -7,3 +7,5 @@ pub use line::LiveLine;
 mod line;
 mod reach;
 mod sums;
+#[cfg(test)]
+mod tests;
