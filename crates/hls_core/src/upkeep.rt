@@ -1,6 +1,6 @@
 //! What is to be done so that a channel keeps no more than its window and what lies a while behind it.
 
-ghost use Rattle.std.specs.Prelude.{◌≡◌, ◌-◌, ◌<◌, length, Some, IfSome, IfNone, slice_get, slice_index};
+ghost use Rattle.std.specs.Prelude.{◌≡◌, ◌-◌, ◌<◌, ◌≤◌, length, Some, IfSome, IfNone, slice_get, slice_index};
 ghost use Rattle.std.specs.Option.{option_copied};
 ghost use Rattle.hls_places_laws.specs.Order.{time_of};
 ghost use Rattle.hls_places_laws.specs.Programmes.{is_kept};
@@ -13,6 +13,9 @@ use crate::snapshot::{Snapshot, fragment_in};
 use hls_blocks::Shared;
 use hls_core_laws::event::Event;
 use hls_places::Place;
+
+/// So often a search guesses where a place is. Then it goes by halves, which takes few looks however the places come.
+const MOST_GUESSES: u32 = 8;
 
 /// The event that a housekeeper is to bring next, or none where there is nothing to do.
 ///
@@ -96,7 +99,7 @@ fn time_of(place: &Place) -> u64
     }
 }
 
-/// How many places, in order of time, are at or before a time.
+/// How many places, in order of time, are at or before a time. Where they come about evenly, some three of them are looked at.
 fn count_by_time(places: &Shared<Place>, time: u64) -> u64
     requires all { places.now.first ≡ 0 }
     requires rising { TimesRise places.now.items }
@@ -104,15 +107,45 @@ fn count_by_time(places: &Shared<Place>, time: u64) -> u64
 {
     let mut low = 0;
     let mut high = places.next();
+    let mut since = time_at(places, 0);
+    let mut until = time_at(places, high.saturating_sub(1));
+    let mut guesses = MOST_GUESSES;
     while low < high {
-        let middle = low + (high - low) / 2;
-        if time_of(place_there(places, middle)) <= time {
+        let spread = until.saturating_sub(since);
+        let middle = next_look(low, high, spread, time.saturating_sub(since), guesses);
+        guesses = guesses.saturating_sub(1);
+        let there = time_of(place_there(places, middle));
+        if there <= time {
             low = middle + 1;
+            since = there;
         } else {
             high = middle;
+            until = there;
         }
     }
     low
+}
+
+/// The place to look at next, from number `low` on and below `high`: the one `further` microseconds behind the first, if they
+/// come evenly over `spread` microseconds; once no guess is left, the middle one.
+fn next_look(low: u64, high: u64, spread: u64, further: u64, guesses: u32) -> u64
+    requires { low < high }
+    ensures low { low ≤ result }
+    ensures high { result < high }
+{
+    if guesses == 0 {
+        return low + (high - low) / 2;
+    }
+    let apart = (spread / (high - low)).max(1);
+    low + (further / apart).min(high - low - 1)
+}
+
+/// When the place of number `n` starts, in microseconds; 0 where there is none.
+fn time_at(places: &Shared<Place>, n: u64) -> u64 {
+    match places.get(n) {
+        Some(place) => time_of(place),
+        None => 0,
+    }
 }
 
 /// The place of number `n`.
