@@ -7,13 +7,14 @@ use Rattle.std.proofs.lemmas.Option.{slice_get-get_or, slice_get_within}
 use Rattle.hls_core_laws.specs.declared.event.Event.{Event}
 use Rattle.hls_core_laws.specs.Config.{ConfigData}
 use Rattle.hls_core_laws.specs.State.{State}
+use Rattle.hls_core_laws.specs.Moves.{IsFitting}
 use Rattle.hls_core_laws.specs.Runs.{first_state, next_state, replayed, AreFitting}
 use Rattle.hls_catchup.specs.declared.request.Request.{Request}
 use Rattle.hls_catchup.specs.declared.request.CatchFault.{CatchFault}
 use Rattle.hls_catchup.specs.declared.actions.Action.{Action}
 use Rattle.hls_catchup.specs.declared.actions.Action.TheVariants as action
 use Rattle.hls_catchup.specs.Replies.{ReplyData}
-use Rattle.hls_catchup.specs.Plays.{events_in, requests_in, state_before, IsAnswered, IsPlayed}
+use Rattle.hls_catchup.specs.Plays.{events_in, requests_in, state_before, IsAnswered, IsPlayed, IsRunTo}
 
 events_in-append : (xs ys : List Action) → events_in (xs ++ ys) ≡ events_in xs ++ events_in ys
 events_in-append [] ys = refl
@@ -157,3 +158,28 @@ all_played config actions i state answers all played =
       count = played.count ∙ ap (λ (xs : List Action). length (requests_in xs)) whole;
       each = λ k request at. let within : k < length actions = slice_get_within actions k (action.Ask request) at in played.each k request (omega arith) at;
     }
+
+-- one more event that fits in the state where the others lead
+fitting-more : (s : State) (events : List (ℕ × Event)) (by : ℕ) (event : Event) → AreFitting s events → IsFitting (replayed s events) event →
+    AreFitting s (events ++ ((by, event) ∷ []))
+fitting-more s [] by event fitting fits = (fits, tt)
+fitting-more s (e ∷ events) by event fitting fits = (fitting.0, fitting-more (next_state s e.0 e.1) events by event fitting.1 fits)
+
+-- a run with an event more
+pub run_with_event : (config : ConfigData) (actions : List Action) (state next : State) (by : ℕ) (event : Event) → IsRunTo config actions state →
+    IsFitting state event → next ≡ next_state state by event → IsRunTo config (actions ++ action.Event by event ∷ []) next
+run_with_event config actions state next by event run fits stepped =
+    let told : events_in (actions ++ action.Event by event ∷ []) ≡ events_in actions ++ ((by, event) ∷ []) = events_in-append actions (action.Event by event ∷ []) in
+    let fits_there : IsFitting (replayed (first_state config) (events_in actions)) event = subst (λ (s : State). IsFitting s event) run.1 fits in (
+      subst (AreFitting (first_state config)) (sym told) (fitting-more (first_state config) (events_in actions) by event run.0 fits_there),
+      stepped ∙ ap (λ (s : State). next_state s by event) run.1
+          ∙ sym (replayed-append (first_state config) (events_in actions) ((by, event) ∷ []))
+          ∙ ap (replayed (first_state config)) (sym told),
+    )
+
+-- a run with a request more
+pub run_with_request : (config : ConfigData) (actions : List Action) (state : State) (request : Request) → IsRunTo config actions state →
+    IsRunTo config (actions ++ action.Ask request ∷ []) state
+run_with_request config actions state request run =
+    let told : events_in (actions ++ action.Ask request ∷ []) ≡ events_in actions = events_in-append actions (action.Ask request ∷ []) ∙ append-nil (events_in actions) in
+    (subst (AreFitting (first_state config)) (sym told) run.0, run.1 ∙ ap (replayed (first_state config)) (sym told))

@@ -3,7 +3,7 @@ use Rattle.std.specs.Prelude.{◌≡◌, ℕ, List, [], ◌∷◌, length, take,
 use Rattle.hls_core_laws.specs.declared.event.Event.{Event}
 use Rattle.hls_core_laws.specs.Config.{ConfigData}
 use Rattle.hls_core_laws.specs.State.{State}
-use Rattle.hls_core_laws.specs.Runs.{first_state, replayed}
+use Rattle.hls_core_laws.specs.Runs.{first_state, replayed, AreFitting}
 use Rattle.hls_catchup.specs.declared.request.Request.{Request}
 use Rattle.hls_catchup.specs.declared.request.CatchFault.{CatchFault}
 use Rattle.hls_catchup.specs.declared.request.CatchFault.TheVariants.{Memory}
@@ -39,3 +39,8 @@ pub record IsPlayed (config : ConfigData) (actions : List Action) (last : State)
   pub count : length answers ≡ length (requests_in actions)
   pub each : (k : ℕ) (request : Request) → slice_get actions k ≡ Some (action.Ask request) →
       IsAnswered (state_before config actions k) request (slice_get answers (length (requests_in (take k actions))))
+
+-- the events of these actions may come in this order, and lead to the state
+abbrev pub IsRunTo : ConfigData → List Action → State → Type 0
+IsRunTo config actions state =
+    AreFitting (first_state config) (events_in actions) × (state ≡ replayed (first_state config) (events_in actions))

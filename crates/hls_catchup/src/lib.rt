@@ -4,6 +4,7 @@
 
 pub use actions::{Action, play};
 pub use cutout::{Cutout, cut};
+pub use floors::floors_of;
 pub use laws::good_is_accepted;
 pub use lists::job_lists;
 pub use live::live_playlist;

@@ -7,6 +7,7 @@ mod live;
 mod masters;
 mod plays;
 mod refused;
+mod runs;
 
 use crate::{CatchFault, Cutout, Reply, Request, answer, reply_piece, reply_total, table_of};
 use bytes::Bytes;
