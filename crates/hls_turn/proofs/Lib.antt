@@ -1,5 +1,5 @@
 mod Meetings
-mod Openings
+pub mod Openings
 mod Pairs
 mod Steps
 mod Told

@@ -1,6 +1,11 @@
 -- The passes of an opening, one made after the other.
-use Rattle.std.proofs.Common.{◌≡◌, ◌+◌, ◌-◌, ◌≤◌, ℕ, zero, suc, List, [], ◌∷◌, ◌++◌, map, ap, ◌∙◌, arith}
+use Rattle.std.proofs.Common.{◌≡◌, ◌+◌, ◌-◌, ◌≤◌, ℕ, zero, suc, List, [], ◌∷◌, ◌++◌, All, map, ap, refl, ◌∙◌, arith}
 use Rattle.std.specs.List.{range_with_len}
+use Rattle.std.proofs.lemmas.List.Elements.{All-map}
+use Rattle.atomic_table.specs.Seated.{TableId}
+use Rattle.hls_core_laws.specs.State.{State}
+use Rattle.hls_turn.specs.Passes.{PassData}
+use Rattle.hls_turn.specs.Calls.{opening_pass, opening_passes}
 
 module _ {A : Type 0} where
   range-more : (f : ℕ → A) (a n : ℕ) → map f (range_with_len a (suc n)) ≡ map f (range_with_len a n) ++ f (a + n) ∷ []
@@ -17,3 +22,7 @@ module _ {A : Type 0} where
   pub all_passes : (f : ℕ → A) (n m : ℕ) → 1 ≤ n → m ≡ n → f 0 ∷ map f (range_with_len 1 (m - 1)) ≡ map f (range_with_len 0 n)
   all_passes f zero m some is = absurd (omega arith)
   all_passes f (suc n) m some is = let less : m - 1 ≡ n = omega (arith, is) in ap (λ (k : ℕ). f 0 ∷ map f (range_with_len 1 k)) less
+
+-- the passes of an opening came with its turn
+pub all_opening : (turn : TableId) (s : State) (count : ℕ) → All (λ (p : PassData). p.turn ≡ turn) (opening_passes turn s count)
+all_opening turn s count = All-map (λ (p : PassData). p.turn ≡ turn) (opening_pass turn s) (range_with_len 0 count) (λ k d low. refl)

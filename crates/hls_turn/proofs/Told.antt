@@ -1,5 +1,5 @@
 -- From the steps of a call to what it says of its pass.
-use Rattle.std.proofs.Common.{◌≡◌, ℕ, Option, Result, [], ◌∷◌, ◌++◌, inr, sym, refl, ap, ◌∙◌, subst}
+use Rattle.std.proofs.Common.{◌≡◌, ℕ, length, Option, Result, [], ◌∷◌, ◌++◌, inr, sym, refl, ap, ◌∙◌, subst}
 use Rattle.hls_core_laws.specs.declared.event.Event.{Event}
 use Rattle.hls_core_laws.specs.declared.refusal.Refusal.{Refusal}
 use Rattle.hls_core_laws.specs.State.{State}
@@ -8,11 +8,13 @@ use Rattle.hls_core_laws.specs.Outcome.{Outcome, New, Refused}
 use Rattle.hls_core_laws.specs.Moves.{Moves, IsFitting, IsFittingAsSeen, logged}
 use Rattle.hls_core_laws.specs.Follows.{Follows}
 use Rattle.hls_core_laws.specs.Workers.{events_by}
-use Rattle.hls_core_laws.proofs.Theorems.{follows_itself, seen_suffices, workers_apart}
+use Rattle.hls_core_laws.specs.Config.{ConfigData}
+use Rattle.hls_core_laws.proofs.Follows.{state_of, continues_of}
+use Rattle.hls_core_laws.proofs.Theorems.{follows_itself, moves_follow, seen_suffices, workers_apart}
 use Rattle.hls_turn.specs.declared.view.View.{View}
 use Rattle.hls_turn.specs.declared.done.Done.{Done}
 use Rattle.hls_turn.specs.Rule.{Takes, FollowsSeen, after_put, MayPut}
-use Rattle.hls_turn.specs.Passes.{Known, PassData, IsPass, known_by, seen_by}
+use Rattle.hls_turn.specs.Passes.{Known, PassData, IsPass, known_by, seen_by, renditions_seen}
 use Rattle.hls_turn.specs.Calls.{Answers, Submits, Looked, LooksAt}
 
 -- what is taken follows what the pass has seen
@@ -61,3 +63,22 @@ looked_self p = record { turn = refl; looked = record { number = refl; follows =
 
 pub looks_looked : (p q : PassData) → LooksAt p q → Looked p q
 looks_looked p q looks = record { turn = looks.turn; looked = looks.looks.looked }
+
+-- what is taken is a state
+pub met_is_state : (v : View) (s : State) (w : View) → IsPass v → Takes v s w → IsState s
+met_is_state v s w pass takes = state_of (seen_by v) s (taken_follows v s w pass takes) pass.valid
+
+-- the pass that put a state has seen it
+pub put_is_pass : (w u : View) (after : State) → u ≡ after_put w after → IsState after → IsPass u
+put_is_pass w u after put valid = subst (λ (y : View). IsPass y) (sym put) (record { seen = refl; holds = refl; mine = refl; valid = valid })
+
+-- and its channel has as many renditions as before
+pub put_renditions : (v w u : View) (met after : State) → IsPass v → Takes v met w → Follows met after → u ≡ after_put w after → renditions_seen u ≡ renditions_seen v
+put_renditions v w u met after pass takes follows put =
+    ap renditions_seen put ∙ ap (λ (c : ConfigData). length c.renditions) ((continues_of met after follows).config ∙ (continues_of (seen_by v) met (taken_follows v met w pass takes)).config)
+
+-- after a new event the pass has seen the state behind it
+pub new_is_pass : (v w u : View) (met after : State) (event : Event) → IsPass v → Takes v met w → IsFitting met event → Moves met v.number event New after → u ≡ after_put w after → IsPass u × (renditions_seen u ≡ renditions_seen v)
+new_is_pass v w u met after event pass takes fits moves put =
+    let moved = moves_follow met after v.number event New (met_is_state v met w pass takes) fits moves in
+    (put_is_pass w u after put moved.0, put_renditions v w u met after pass takes moved.1 put)

@@ -1,8 +1,9 @@
 -- What a pass is to its callers: the turn that it came with, its number, the state that it saw last, and the events that it brought.
-use Rattle.std.specs.Prelude.{◌≡◌, ℕ, List, [], Some, None, unwrap_or}
+use Rattle.std.specs.Prelude.{◌≡◌, ℕ, List, [], Some, None, length, unwrap_or}
 use Rattle.atomic_table.specs.Seated.{TableId}
 use Rattle.hls_core_laws.specs.declared.event.Logged.{Logged}
 use Rattle.hls_core_laws.specs.State.{State}
+use Rattle.hls_core_laws.specs.IsState.{IsState}
 use Rattle.hls_core_laws.specs.Workers.{events_by}
 use Rattle.hls_turn.specs.declared.view.View.{View}
 
@@ -25,8 +26,13 @@ seen_by v = unwrap_or v.seen no_state
 abbrev pub known_by : View → Known
 known_by v = record { number = v.number; seen = seen_by v; mine = v.mine }
 
--- between calls a pass has seen a state, holds none, and its events are the entries of its number in what it saw
+-- between calls a pass has seen a state, which is one, holds none, and its events are the entries of its number in what it saw
 pub record IsPass (v : View) : Type 0 where
   pub seen : v.seen ≡ Some (seen_by v)
   pub holds : v.holds ≡ None
   pub mine : events_by v.number (seen_by v).log ≡ v.mine
+  pub valid : IsState (seen_by v)
+
+-- the number of renditions of the channel whose state a pass has seen; it never changes
+abbrev pub renditions_seen : View → ℕ
+renditions_seen v = length (seen_by v).config.renditions

@@ -47,7 +47,7 @@ fn two_passes_bring_events_into_one_log(rt: HostRuntime) -> Result<(), Fail> {
     let alloc = rt.alloc();
     let (turn, mut passes) = Turn::new(&rt, alloc, opening(alloc)?, 2)?;
     let first = &mut passes[0];
-    assert_eq!(rt; first.number(), 0);
+    assert_eq!(rt; (first.number(), first.renditions()), (0, 1));
     assert_eq!(rt;
         turn.submit(&rt, alloc, first, begin(alloc, 0)?),
         Ok(Done::New { version: 1 })

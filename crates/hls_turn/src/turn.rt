@@ -59,14 +59,25 @@ impl Turn {
         ensures { IfOk result (λ r. r.1.items ≡ opening_passes r.0 snapshot workers) }
     {
         let mut passes = Vec::with_capacity(alloc, workers as usize)?;
+        let _ = snapshot.version();
+        let renditions = snapshot.config().renditions().len();
         let state = Arc::new(alloc, snapshot)?;
         let (queue, mut seat) = Queue::ruled(alloc, 1)?;
         put(rt, &queue, &mut seat, state);
         for number in 1..workers {
             let seat = queue.another::<Beside>(&mut seat);
-            passes.push(Pass { number, seat })?;
+            passes.push(Pass {
+                number,
+                renditions,
+                seat,
+            })?;
         }
-        passes.insert(0, Pass { number: 0, seat })?;
+        let first = Pass {
+            number: 0,
+            renditions,
+            seat,
+        };
+        passes.insert(0, first)?;
         let turn = Turn {
             queue,
             told: Mutex::new(false),

@@ -1,4 +1,4 @@
-use Rattle.std.proofs.Common.{Ok, Err, sym, refl, subst}
+use Rattle.std.proofs.Common.{rules, Ok, Err, sym, refl, ◌∙◌, subst}
 use Rattle.crossbeam_queue.specs.Passes.{view}
 use Rattle.hls_core_laws.specs.State.{State}
 use Rattle.hls_core_laws.specs.IsState.{IsState}
@@ -8,7 +8,7 @@ use Rattle.hls_core.specs.declared.stepped.Stepped.{Stepped}
 use Rattle.hls_core.specs.Steps.{Steps}
 use Rattle.hls_turn.specs.Passes.{PassData, known_by}
 use Rattle.hls_turn.specs.Calls.{Submits}
-use Rattle.hls_turn.proofs.Told.{fits_met, submits, moves_at, refused_at, may_put_new}
+use Rattle.hls_turn.proofs.Told.{fits_met, submits, moves_at, refused_at, may_put_new, new_is_pass}
 use Rattle.hls_turn.proofs.turn.Turn.submit.Goals as goal
 
 pub step-requires : goal.step-requires
@@ -29,3 +29,13 @@ returns-in-Err-clause-submits g c = subst (λ (p : PassData). Submits p.known c.
     (submits (view c.pass.inside.seat) (view c.take-state.new.seat) (view c.put-in-Err.new.seat) c.take-state.result.value c.take-state.result.value c.args.event (Refused c.in-Err.refusal) _ c.pass.invariant.2 c.take-state.ensures.takes
     (refused_at c.deref-2.result.now c.take-state.result.value _ _ c.args.event c.in-Err.refusal c.deref-2.ensures c.pass.invariant.1 c.in-Err.ensures)
     c.put-in-Err.ensures.puts (refl, c.take-state.ensures.takes.entries))
+
+pub invariant_of-pass : goal.invariant_of-pass
+invariant_of-pass g c =
+    let kept = new_is_pass (view c.pass.inside.seat) (view c.take-state.new.seat) (view c.put.new.seat) c.take-state.result.value c.in-Ok-New.next.value c.args.event c.pass.invariant.2 c.take-state.ensures.takes
+    (fits_met (view c.pass.inside.seat) c.take-state.result.value (view c.take-state.new.seat) c.args.event c.pass.invariant.2 c.take-state.ensures.takes
+    (subst (λ (p : PassData). IsFittingAsSeen p.known.seen c.args.event) (sym c.pass.view_is) c.requires.fitting))
+    (moves_at c.deref-2.result.now c.take-state.result.value c.in-Ok-New.next.value _ _ c.args.event New c.deref-2.ensures c.pass.invariant.1
+    (subst (λ (s : Stepped). Steps c.deref-2.result.now c.pass.inside.number c.args.event (Ok s)) c.in-Ok-New.field-0-is c.in-Ok-New.ensures))
+    c.put.ensures.puts in
+    (search rules, search rules, kept.0, kept.1 ∙ c.pass.invariant.3)
