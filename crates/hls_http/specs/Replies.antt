@@ -47,11 +47,12 @@ Answers head to_head held text contents (Err ends.ReadFailed) = ⊥
 Answers head to_head held text contents (Err ends.WriteFailed) =
     Writes held text contents false ⊎ Writes held (no_memory_to to_head) contents false
 
+-- no reply ends a session as an input does
 abbrev pub CountsEnding : SessionEnd → ℕ → ℕ → Type 0
 CountsEnding ends.Closed old new = new ≡ old
 CountsEnding ends.Refused old new = new ≡ old
-CountsEnding ends.CutShort old new = new ≡ old
-CountsEnding ends.ReadFailed old new = Rose old new
+CountsEnding ends.CutShort old new = ⊥
+CountsEnding ends.ReadFailed old new = ⊥
 CountsEnding ends.WriteFailed old new = Rose old new
 
 abbrev pub CountsAnswer : Result (Unit {0}) SessionEnd → ℕ → ℕ → Type 0

@@ -1,9 +1,10 @@
 //! What is done with a request once its head was read, in the order of the fields, the path and the body.
 
-ghost use Rattle.std.specs.Prelude.{◌≡◌, List, ℕ};
+ghost use Rattle.std.specs.Prelude.{◌≡◌, ◌≤◌, List, ℕ, false};
 ghost use Rattle.httparse.specs.Grammar.{RequestHead};
 ghost use Rattle.hls_http_laws.specs.Order as spec;
 ghost use Rattle.hls_http_laws.specs.Requests.{begins};
+ghost use Rattle.hls_http.specs.Drained.{announced_by};
 ghost use Rattle.hls_http.specs.Heads.{IsHead};
 
 use crate::head::Head;
@@ -12,25 +13,30 @@ use hls_http_laws::fault::HttpFault;
 use hls_http_laws::limits::MOST_DROPPED;
 use hls_http_laws::plan::Plan;
 
-fn is_over(body: Body) -> bool
+/// Whether nothing of a body is still to come.
+pub fn is_over(body: Body) -> bool
     ensures { result ≡ spec.is_over body }
 {
     matches!(body, Body::Length(0))
 }
 
-/// Whether a Content-Length alone shows a body that is too large to be dropped.
+/// Whether what is announced alone shows a body that is too large to be dropped.
 fn is_past(body: Body) -> bool
-    ensures { result ≡ spec.is_past body }
+    ensures is { result ≡ spec.is_past body }
+    ensures fits { result ≡ false → announced_by body ≤ 65536 }
 {
     match body {
         Body::Length(len) => len > MOST_DROPPED,
-        _ => false,
+        Body::Size => false,
+        Body::Data(len) => len > MOST_DROPPED,
+        Body::Trailers => false,
     }
 }
 
 /// By where the body begins, or why it can't be told.
 fn plan_by(begins: Result<Body, HttpFault>, known: bool, feeds: bool) -> Plan
-    ensures { result ≡ spec.plan_by begins known feeds }
+    ensures plan { result ≡ spec.plan_by begins known feeds }
+    ensures fits { (body : Body) → result ≡ Plan.Skip body → announced_by body ≤ 65536 }
 {
     let body = match begins {
         Ok(body) => body,
@@ -60,9 +66,12 @@ fn plan_by(begins: Result<Body, HttpFault>, known: bool, feeds: bool) -> Plan
 }
 
 /// What is done with a request, by whether its path is known, and whether the route takes its body part by part: the
-/// fields' fault comes first, then an unknown path, then a Content-Length past 65536 bytes of a body to be dropped.
+/// fields' fault comes first, then an unknown path, then a Content-Length past 65536 bytes of a body to be dropped. So
+/// a body to be dropped fits [`drop_body`](crate::drop_body).
 pub fn plan(head: &Head, known: bool, feeds: bool) -> Plan
-    ensures { (h : RequestHead) (text : List ℕ) → IsHead h head.now text → result ≡ spec.plan_by (begins h) known feeds }
+    ensures plan { (h : RequestHead) (text : List ℕ) → IsHead h head.now text → result ≡ spec.plan_by (begins h) known feeds }
+    ensures by { result ≡ spec.plan_by head.now.body known feeds }
+    ensures fits { (body : Body) → result ≡ Plan.Skip body → announced_by body ≤ 65536 }
 {
     plan_by(head.body, known, feeds)
 }

@@ -17,11 +17,11 @@ is_over Size = false
 is_over (Data n) = false
 is_over Trailers = false
 
--- a length past the limit of bodies that are dropped
+-- what is announced is past the limit of bodies that are dropped
 abbrev pub is_past : Body → Bool
 is_past (Length n) = nat_lt MOST_DROPPED n
 is_past Size = false
-is_past (Data n) = false
+is_past (Data n) = nat_lt MOST_DROPPED n
 is_past Trailers = false
 
 -- by the body or the fault of the fields, whether the path is known, and whether its parts are wanted
