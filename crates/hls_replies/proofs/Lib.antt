@@ -1,0 +1,4 @@
+pub mod Wholes
+pub mod Parts
+pub mod Sent
+pub mod Shown

@@ -1,0 +1,3 @@
+pub mod Playlists
+pub mod Contents
+pub mod Sends

@@ -1,0 +1,84 @@
+//! How far a channel is, as a few numbers.
+
+ghost use Rattle.std.specs.Prelude.{◌≡◌, ◌++◌, IfOk, length};
+ghost use Rattle.hls_places_laws.specs.Programmes.{kept};
+ghost use Rattle.hls_live_laws.specs.Live.{segments_of};
+ghost use Rattle.hls_core_laws.specs.Places.{kept_places};
+ghost use Rattle.hls_serve_laws.specs.Replies as spec;
+ghost use Rattle.hls_serve_laws.specs.Replies.{status_row, status_text};
+
+use crate::answer::Answer;
+use crate::texts::text_answer;
+use hls_blocks::Shared;
+use hls_catchup::floors_of;
+use hls_core::snapshot::Snapshot;
+use hls_http_laws::reply::Status;
+use hls_live::LiveLine;
+use hls_places::{Place, is_kept};
+use std::alloc::{AllocError, Global};
+
+/// How many places have no fragment below its rendition's floor.
+fn count_kept(places: &Shared<Place>, floors: &[u64]) -> u64
+    requires { places.now.first ≡ 0 }
+    ensures { result ≡ length (kept floors.now places.now.items) }
+{
+    let _ = places.next();
+    let mut count = 0;
+    for place in places.iter_from(0) {
+        if is_kept(place, floors) {
+            count += 1;
+        }
+    }
+    count
+}
+
+/// How many common places have no trimmed fragment.
+fn kept_count(snapshot: &Snapshot) -> u64
+    ensures { result ≡ length (kept_places snapshot.now) }
+{
+    let floors = floors_of(snapshot);
+    let renditions = snapshot.config().renditions().len();
+    count_kept(snapshot.places(), &floors[..renditions])
+}
+
+/// How many segments a live line keeps.
+fn live_count(line: &LiveLine) -> u64
+    ensures { result ≡ length (segments_of line.now) }
+{
+    let segments = line.segments();
+    segments.next() - segments.first()
+}
+
+/// Adds a line of a name and a number.
+fn push_row(out: &mut Vec<u8>, name: &[u8], number: u64) -> Result<(), AllocError>
+    ensures { IfOk result (λ done. out.new.items ≡ out.old.items ++ status_row name.now number) }
+{
+    out.extend_from_slice(name)?;
+    out.push(b' ')?;
+    out.extend_from_slice(itoa::Buffer::new().format(number).as_bytes())?;
+    out.push(b'\n')?;
+    Ok(())
+}
+
+/// The lines of a status, without jobs.
+fn status_text(alloc: Global, snapshot: &Snapshot) -> Result<Vec<u8>, AllocError>
+    ensures { IfOk result (λ text. text.items ≡ status_text snapshot.now 0) }
+{
+    let line = snapshot.line();
+    let mut out = Vec::new(alloc);
+    push_row(&mut out, b"version", snapshot.version())?;
+    push_row(&mut out, b"places", kept_count(snapshot))?;
+    push_row(&mut out, b"segments", live_count(line))?;
+    push_row(&mut out, b"removed", line.removed())?;
+    push_row(&mut out, b"jobs", 0)?;
+    Ok(out)
+}
+
+/// The status of a channel without jobs: five lines of the numbers of log entries, places with no trimmed fragment,
+/// segments of the live line, segments that slid away, and jobs.
+pub fn status_answer(alloc: Global, snapshot: &Snapshot) -> Result<Answer, AllocError>
+    ensures { IfOk result (λ a. a ≡ spec.status_answer snapshot.now) }
+{
+    let text = status_text(alloc, snapshot)?;
+    Ok(text_answer(Status::Done, text))
+}
