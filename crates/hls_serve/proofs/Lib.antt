@@ -1,3 +1,5 @@
 mod IngestLaws
 mod PartLaws
 mod PassLaws
+mod SessionLaws
+mod TurnLaws

@@ -3,3 +3,4 @@ pub mod Ingesting
 pub mod Owned
 pub mod Pieces
 pub mod Taken
+pub mod Turns

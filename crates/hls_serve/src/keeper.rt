@@ -6,6 +6,7 @@ ghost use Rattle.hls_core_laws.specs.Moves.{IsFittingAsSeen};
 ghost use Rattle.hls_turn.specs.Passes.{Known};
 ghost use Rattle.hls_turn.specs.Calls.{LookedOn, Looks, Submits};
 
+use crate::news::News;
 use hls_core::snapshot::Snapshot;
 use hls_core_laws::event::Event;
 use hls_core_laws::refusal::Refusal;
@@ -54,4 +55,7 @@ pub trait Keeper {
         requires fitting { IsFittingAsSeen (known pass.old).seen event }
         ensures serves { serves self.now pass.new }
         ensures submits { Submits (known pass.old) event result (known pass.new) };
+
+    /// Tells an operator; nothing is promised of it. A keeper without an operator does nothing.
+    fn tell(&self, _pass: &Self::Pass, _news: &News) {}
 }

@@ -1,12 +1,21 @@
-//! A server of one channel, below its sessions: what a path names, who keeps the channel, and an encoder's body taken
-//! part by part, from any reader.
+//! A server of one channel, over any reader and writer: what a path names, who keeps the channel, an encoder's body taken
+//! part by part, and whole sessions.
 //!
-//! What a whole session is stands in `hls_serve_laws`. The channel is kept by a [`Keeper`](keeper::Keeper): by
-//! [`Alone`](alone::Alone) on one thread.
+//! What a session is stands in `hls_serve_laws`. The channel is kept by a [`Keeper`](keeper::Keeper): by
+//! [`Alone`](alone::Alone) on one thread, by a turn for many.
 #![tactic(auto)]
 
 pub mod alone;
+mod call;
 pub mod ingest;
 pub mod keeper;
+pub mod news;
 pub mod piece;
+mod reply;
+mod request;
+mod respond;
 pub mod route;
+pub mod session;
+#[cfg(test)]
+mod tests;
+pub mod turn;

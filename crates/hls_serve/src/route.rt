@@ -258,23 +258,6 @@ pub fn allows(route: Route, method: Method) -> bool
     }
 }
 
-/// The names of a route's methods.
-pub fn methods(route: Route) -> &'static [u8]
-    ensures { result.now ≡ spec.methods_of route }
-{
-    match route {
-        Route::Ingest(_) => b"PUT, POST",
-        Route::Finish(_) => b"POST",
-        Route::LiveMaster => b"GET, HEAD",
-        Route::LiveList(_) => b"GET, HEAD",
-        Route::Media(_) => b"GET, HEAD",
-        Route::CatchUp => b"POST",
-        Route::Job(_) => b"GET, HEAD, DELETE",
-        Route::JobFile(_, _) => b"GET, HEAD",
-        Route::Status => b"GET, HEAD",
-    }
-}
-
 /// Whether a request's body is taken part by part.
 pub fn feeds(route: Option<Route>, method: Method) -> bool
     ensures { result ≡ spec.feeds route method }

@@ -1,0 +1,13 @@
+use Rattle.std.proofs.Common.{◌≡◌, ◌∙◌, List, ℕ, IfSome, ap, subst}
+use Rattle.hls_serve_laws.specs.Replies.{is_good_query}
+use Rattle.hls_serve_laws.specs.Routes.{path_of, query_of, route_of}
+use Rattle.hls_serve.proofs.call.read_call.Goals as goal
+
+pub returns : goal.returns
+returns c = λ h is.
+    let target : c.target_of.result.now ≡ h.target = c.target_of.ensures is.target_ordered is.target_within ∙ is.target in record {
+      text = c.args.text.now;
+      head = is;
+      route = c.route-route.ensures ∙ ap (route_of c.args.renditions) (c.split_target.ensures.path ∙ ap path_of target);
+      good = λ catch. subst (λ (query : List ℕ). IfSome c.is_good.result (λ good. good ≡ is_good_query query)) (c.split_target.ensures.query ∙ ap query_of target) (c.is_good.ensures catch);
+    }

@@ -1,0 +1,27 @@
+use Rattle.std.proofs.Common.{◌++◌, refl, sym}
+use Rattle.hls_http_laws.specs.declared.plan.Plan.TheVariants.{Feed}
+use Rattle.hls_http.specs.Source.{held_of, reader_of}
+use Rattle.hls_serve_laws.specs.Heard.{Feeds}
+use Rattle.hls_serve.specs.Taken.{progress_of}
+use Rattle.hls_serve.proofs.TurnLaws.{settles_at}
+use Rattle.hls_serve.proofs.request.feed.Goals as goal
+
+pub returns-clause-feeds : goal.returns-clause-feeds
+returns-clause-feeds g c = λ count h input out call known there.
+    let progress = progress_of (g.K.Keeper.known c.ingest-intake.new.pass) c.ingest-intake.new.taken in
+    let s = c.fed.ensures.fed count h (Feed c.args.body) progress out call refl there in
+    settles_at c.ingest-intake.new.source c.fed.new.session.source (λ source due. Feeds h (Feed c.args.body) c.args.rendition (g.K.Keeper.known c.args.pass.now) c.args.body
+    (held_of c.args.session.now.source ++ input) due (g.K.Keeper.known c.ingest-intake.new.pass) (held_of source) (g.R.Read.remaining (reader_of source))) out _ _
+    (sym c.fed.ensures.source)
+    (record {
+      due = s.due;
+      is = record {
+        last = c.ingest-intake.new.body;
+        progress = progress;
+        result = c.ingest-intake.result;
+        ingests = c.ingest-intake.ensures.ingests input known;
+        known = refl;
+        fed = s.is;
+      };
+      comes = s.comes;
+    })

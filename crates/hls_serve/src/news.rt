@@ -1,0 +1,29 @@
+//! What an operator is told.
+
+use hls_http::Method;
+use hls_http_laws::reply::Status;
+use hls_serve_laws::ingest::{Counts, Intake};
+use hls_serve_laws::route::Route;
+
+/// What an operator is told of a session while it goes on. It is no part of what a session promises.
+#[derive(Clone, Copy, Debug, PartialEq, Eq, Drop)]
+pub enum News {
+    /// An encoder's body ended, or no more of it is taken.
+    Ingested {
+        /// The rendition that it was for.
+        rendition: usize,
+        /// How many of its parts were taken.
+        counts: Counts,
+        /// Why no more of it is taken, where it didn't end.
+        result: Result<(), Intake>,
+    },
+    /// A reply was made; whether it is written isn't known yet.
+    Replied {
+        /// The request's method; another than those that are known where no head could be read.
+        method: Method,
+        /// What its path names.
+        route: Option<Route>,
+        /// The status of the reply.
+        status: Status,
+    },
+}

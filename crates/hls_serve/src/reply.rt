@@ -1,0 +1,178 @@
+//! Replies of a request.
+
+ghost use Rattle.std.specs.Prelude.{◌≡◌, ◌++◌, ℕ, List, Some, Err};
+ghost use Rattle.httparse.specs.Grammar.{RequestHead};
+ghost use Rattle.hls_io.specs.Counted.{failures_of, inside_of};
+ghost use Rattle.hls_http_laws.specs.declared.plan.Plan.{Plan};
+ghost use Rattle.hls_http_laws.specs.Order.{says_close};
+ghost use Rattle.hls_http.specs.Bodies.{CountsEnd};
+ghost use Rattle.hls_http.specs.Heads.{CountsHead};
+ghost use Rattle.hls_http.specs.Replies.{CountsAnswer};
+ghost use Rattle.hls_http.specs.Source.{read_failures};
+ghost use Rattle.hls_serve_laws.specs.Heard.{IsDue, IsDueAtStop, IsDueWithoutHead, first_of, to_head};
+ghost use Rattle.hls_serve_laws.specs.Replies as replies;
+ghost use Rattle.hls_serve.specs.Counted.{CountsTurn};
+ghost use Rattle.hls_serve.specs.Turns.{IsCall, IsMade, IsRefusedHead, Settles};
+
+use crate::call::Call;
+use crate::keeper::Keeper;
+use crate::news::News;
+use crate::route::is_to_head;
+use hls_http::{BodyEnd, HeadEnd, HttpFault, Method, Session, SessionEnd, says_close};
+use hls_http_laws::reply::Status;
+use hls_replies::{Answer, fault_answer, send};
+use std::alloc::{AllocError, Global};
+use std::io::Write;
+
+/// The status of what was made; want of memory is 503.
+fn status_of(made: &Result<Answer, AllocError>) -> Status {
+    match made {
+        Ok(answer) => answer.status(),
+        Err(_) => Status::Unavailable,
+    }
+}
+
+/// Sends what was made; where memory was wanted for it, the fixed reply.
+fn send_made<R, W: Write>(
+    alloc: Global,
+    session: &mut Session<R, W>,
+    made: Result<Answer, AllocError>,
+    closing: bool,
+    to_head: bool,
+) -> Result<(), SessionEnd>
+    ensures sends { (first out : List ℕ) → W.contents (inside_of session.old.writer) ≡ Some (out ++ first)
+        → Settles (IsMade first made closing to_head) out (W.contents (inside_of session.new.writer)) result }
+    ensures counts { CountsAnswer result (failures_of session.old.writer) (failures_of session.new.writer) }
+    ensures source { session.new.source ≡ session.old.source }
+{
+    match made {
+        Ok(answer) => send(alloc, session, &answer, closing, to_head),
+        Err(_) => Err(session.reply_no_memory(to_head)),
+    }
+}
+
+/// Replies to a request; `early` is said of a reply before the body's end.
+pub fn reply<K: Keeper, R, W: Write>(
+    alloc: Global,
+    session: &mut Session<R, W>,
+    keeper: &K,
+    pass: &K::Pass,
+    call: &Call,
+    made: Result<Answer, AllocError>,
+    early: bool,
+) -> Result<(), SessionEnd>
+    ensures sends { (count : ℕ) (h : RequestHead) (first out : List ℕ) → IsCall count h call.now
+        → W.contents (inside_of session.old.writer) ≡ Some (out ++ first)
+        → Settles (IsMade first made (says_close h early) (to_head h)) out (W.contents (inside_of session.new.writer)) result }
+    ensures counts { CountsAnswer result (failures_of session.old.writer) (failures_of session.new.writer) }
+    ensures source { session.new.source ≡ session.old.source }
+{
+    let news = News::Replied {
+        method: call.head.method,
+        route: call.route,
+        status: status_of(&made),
+    };
+    keeper.tell(pass, &news);
+    let closing = says_close(&call.head, early);
+    let to_head = is_to_head(call.head.method);
+    send_made(alloc, session, made, closing, to_head)
+}
+
+/// Refuses a request.
+pub fn refuse<K: Keeper, R, W: Write>(
+    alloc: Global,
+    session: &mut Session<R, W>,
+    keeper: &K,
+    pass: &K::Pass,
+    call: &Call,
+    fault: HttpFault,
+    early: bool,
+) -> Result<(), SessionEnd>
+    ensures sends { (count : ℕ) (h : RequestHead) (plan : Plan) (out : List ℕ) → IsCall count h call.now
+        → W.contents (inside_of session.old.writer) ≡ Some (out ++ first_of h plan)
+        → Settles (IsDue h plan (replies.fault_answer fault) early) out (W.contents (inside_of session.new.writer)) result }
+    ensures counts { CountsAnswer result (failures_of session.old.writer) (failures_of session.new.writer) }
+    ensures source { session.new.source ≡ session.old.source }
+{
+    let made = fault_answer(alloc, fault);
+    reply(alloc, session, keeper, pass, call, made, early)
+}
+
+/// What is replied where no more of a body comes.
+pub fn stopped<K: Keeper, R, W: Write>(
+    alloc: Global,
+    session: &mut Session<R, W>,
+    keeper: &K,
+    pass: &K::Pass,
+    call: &Call,
+    end: BodyEnd,
+) -> Result<(), SessionEnd>
+    ensures sends { (count : ℕ) (h : RequestHead) (plan : Plan) (out : List ℕ) → IsCall count h call.now
+        → W.contents (inside_of session.old.writer) ≡ Some (out ++ first_of h plan)
+        → Settles (IsDueAtStop h plan end) out (W.contents (inside_of session.new.writer)) result }
+    ensures counts { (before now : ℕ) → CountsEnd end before now
+        → CountsTurn result before now (failures_of session.old.writer) (failures_of session.new.writer) }
+    ensures source { session.new.source ≡ session.old.source }
+{
+    match end {
+        BodyEnd::BadFraming => {
+            refuse(
+                alloc,
+                session,
+                keeper,
+                pass,
+                call,
+                HttpFault::BadFraming,
+                true,
+            )
+        }
+        BodyEnd::CutShort => Err(SessionEnd::CutShort),
+        BodyEnd::ReadFailed => Err(SessionEnd::ReadFailed),
+    }
+}
+
+/// Refuses what is no head.
+fn refuse_head<K: Keeper, R, W: Write>(
+    alloc: Global,
+    session: &mut Session<R, W>,
+    keeper: &K,
+    pass: &K::Pass,
+    fault: HttpFault,
+) -> Result<(), SessionEnd>
+    ensures sends { (out : List ℕ) → W.contents (inside_of session.old.writer) ≡ Some out
+        → Settles (IsRefusedHead fault) out (W.contents (inside_of session.new.writer)) result }
+    ensures counts { CountsAnswer result (failures_of session.old.writer) (failures_of session.new.writer) }
+    ensures source { session.new.source ≡ session.old.source }
+{
+    let made = fault_answer(alloc, fault);
+    let news = News::Replied {
+        method: Method::Other,
+        route: None,
+        status: status_of(&made),
+    };
+    keeper.tell(pass, &news);
+    send_made(alloc, session, made, true, false)
+}
+
+/// What is replied where no head comes.
+pub fn without_head<K: Keeper, R, W: Write>(
+    alloc: Global,
+    session: &mut Session<R, W>,
+    keeper: &K,
+    pass: &K::Pass,
+    end: HeadEnd,
+) -> Result<(), SessionEnd>
+    ensures sends { (out : List ℕ) → W.contents (inside_of session.old.writer) ≡ Some out
+        → Settles (IsDueWithoutHead end) out (W.contents (inside_of session.new.writer)) result }
+    ensures counts { (before now : ℕ) → CountsHead (Err end) before now
+        → CountsTurn result before now (failures_of session.old.writer) (failures_of session.new.writer) }
+    ensures source { session.new.source ≡ session.old.source }
+{
+    match end {
+        HeadEnd::Closed => Err(SessionEnd::Closed),
+        HeadEnd::CutShort => Err(SessionEnd::CutShort),
+        HeadEnd::BadHead => refuse_head(alloc, session, keeper, pass, HttpFault::BadHead),
+        HeadEnd::HeadTooLarge => refuse_head(alloc, session, keeper, pass, HttpFault::HeadTooLarge),
+        HeadEnd::ReadFailed => Err(SessionEnd::ReadFailed),
+    }
+}

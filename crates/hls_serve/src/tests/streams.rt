@@ -1,0 +1,63 @@
+//! Requests with encoders' bodies.
+
+use hls_samples::{boxed, init_bytes, unit_bytes, word_box};
+use std::alloc::{AllocError, Global};
+
+/// An init section of 600 bytes, 90000 ticks a second.
+pub fn init(alloc: Global) -> Result<Vec<u8>, AllocError> {
+    init_bytes(alloc, b"vide", 90000)
+}
+
+/// The unit of 4 s and 1000 bytes with this number, from 0.
+pub fn unit(alloc: Global, number: u32) -> Result<Vec<u8>, AllocError> {
+    unit_bytes(alloc, u64::from(number) * 360_000, 360_000, true, 1000)
+}
+
+/// An init section and the first units.
+pub fn stream(alloc: Global, units: u32) -> Result<Vec<u8>, AllocError> {
+    let mut bytes = init(alloc)?;
+    for number in 0..units {
+        bytes.extend_from_slice(&unit(alloc, number)?)?;
+    }
+    Ok(bytes)
+}
+
+/// An init section, and a unit whose `tfhd` has a base data offset.
+pub fn with_base_offset(alloc: Global) -> Result<Vec<u8>, AllocError> {
+    let number = word_box(alloc, b"mfhd", &[0, 1])?;
+    let header = word_box(alloc, b"tfhd", &[0x0002_0001, 1, 0, 0])?;
+    let time = word_box(alloc, b"tfdt", &[0x0100_0000, 0, 0])?;
+    let run = word_box(alloc, b"trun", &[0x0701, 1, 116, 360_000, 892, 0x0200_0000])?;
+    let track = boxed(alloc, b"traf", &[&header, &time, &run])?;
+    let mut bytes = init(alloc)?;
+    bytes.extend_from_slice(&boxed(alloc, b"moof", &[&number, &track])?)?;
+    bytes.extend_from_slice(&boxed(alloc, b"mdat", &[&[0xaa; 892]])?)?;
+    Ok(bytes)
+}
+
+/// A PUT of a body with its length, and further fields.
+pub fn put(alloc: Global, fields: &str, body: &[u8]) -> Result<Vec<u8>, AllocError> {
+    let len = body.len();
+    let head = format!(in alloc;
+        "PUT /ingest/0 HTTP/1.1\r\nHost: a\r\n{fields}Content-Length: {len}\r\n\r\n"
+    )?;
+    let mut text = head.into_bytes();
+    text.extend_from_slice(body)?;
+    Ok(text)
+}
+
+/// The same in chunks of 7 bytes.
+pub fn put_in_chunks(alloc: Global, body: &[u8]) -> Result<Vec<u8>, AllocError> {
+    let mut text = Vec::from_slice(
+        alloc,
+        b"PUT /ingest/0 HTTP/1.1\r\nHost: a\r\nTransfer-Encoding: chunked\r\n\r\n",
+    )?;
+    for chunk in body.chunks(7) {
+        let size = format!(in alloc; "{:x}\r\n", chunk.len())?;
+        text.extend_from_slice(size.as_bytes())?;
+        text.extend_from_slice(chunk)?;
+        text.extend_from_slice(b"\r\n")?;
+    }
+    text.extend_from_slice(b"0\r\n\r\n")?;
+    Ok(text)
+}
