@@ -9,6 +9,7 @@ mod reader;
 mod tests;
 mod writer;
 
+pub use clock::milliseconds;
 pub use pace::{Pace, Silence, Turn};
 pub use reader::PatientReader;
 pub use writer::PatientWriter;
