@@ -1,0 +1,91 @@
+//! One connection, from its accept to its end.
+
+ghost use Rattle.std.specs.Prelude.{◌≡◌};
+
+use crate::station::Station;
+use hls_http::{Counted, Session, SessionEnd, write_whole};
+use hls_http_laws::reply::no_memory_text;
+use hls_pace::{Pace, PatientReader, PatientWriter};
+use hls_serve::session::session_on;
+use hls_settings::Settings;
+use hls_turn::{Pass, Turn};
+use std::alloc::Global;
+use std::cell::Cell;
+use std::io::{self, Eprint, Read};
+use std::net::{Shutdown, SocketAddr, TcpStream};
+use std::sync::Wait;
+use std::sync::atomic::AtomicU64;
+use std::time::{Clock, Duration};
+
+/// How long a call on a socket waits before its reader or writer looks at the clock, in milliseconds. Where more clients are
+/// idle than workers serve, each of them holds a worker for as long, one after the other: the system's queue of 128 passes
+/// 8 workers in less than a second.
+const TICK: u64 = 50;
+
+/// How often a refused client's bytes are waited for, so that its reply isn't lost.
+const LINGERS: usize = 8;
+
+/// How long they are waited for each time, in milliseconds.
+const LINGER: u64 = 250;
+
+/// Calls on the socket return after a short while, and what is written goes out at once.
+fn set_up(stream: &TcpStream) -> io::Result<()> {
+    stream.set_nodelay(true)?;
+    stream.set_read_timeout(Some(Duration::from_millis(TICK)))?;
+    stream.set_write_timeout(Some(Duration::from_millis(TICK)))
+}
+
+/// Drops what a refused client still sends, for a while: a socket that is closed with unread bytes takes back the reply
+/// (RFC 9112 9.6).
+fn linger(stream: &TcpStream) {
+    if stream.shutdown(Shutdown::Write).is_err() {
+        return;
+    }
+    let _ = stream.set_read_timeout(Some(Duration::from_millis(LINGER)));
+    let mut input = stream;
+    let mut buffer = [0; 16384];
+    for _ in 0..LINGERS {
+        match input.read(&mut buffer) {
+            Ok(0) => return,
+            Ok(_) => {}
+            Err(_) => return,
+        }
+    }
+}
+
+/// Serves a connection until its session ends, or the reader or writer gives up on it.
+pub fn serve_stream<R: Wait + Clock + Eprint>(
+    rt: &R,
+    alloc: Global,
+    turn: &Turn,
+    settings: &Settings,
+    free: &AtomicU64,
+    pass: &mut Pass,
+    stream: &TcpStream,
+    peer: SocketAddr,
+)
+    requires { pass.old.turn ≡ turn.now }
+    ensures { pass.new.turn ≡ turn.now }
+{
+    if set_up(stream).is_err() {
+        return;
+    }
+    let pace = Cell::new(Pace::new());
+    let patience = settings.plain.workers.patience;
+    let reader = PatientReader::new(rt, stream, &pace, free, patience);
+    let writer = PatientWriter::new(rt, stream, &pace, patience);
+    let Ok(mut session) = Session::new(alloc, reader, writer) else {
+        let _ = write_whole(&mut Counted::new(stream), no_memory_text());
+        return;
+    };
+    let station = Station {
+        rt,
+        turn,
+        renditions: settings.config.renditions(),
+        peer,
+        logs_requests: settings.plain.logs_requests,
+    };
+    if session_on(rt, alloc, &mut session, &station, pass) == SessionEnd::Refused {
+        linger(stream);
+    }
+}

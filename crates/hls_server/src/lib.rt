@@ -1,0 +1,20 @@
+//! A running server of a channel: threads that serve connections from one turn, one that keeps the channel to its window,
+//! and what the operator is told.
+//!
+//! What a connection is answered is a session over the turn, and stands in `hls_serve_laws`. Of threads, sockets and time
+//! nothing is claimed.
+#![tactic(auto)]
+
+mod connection;
+mod house;
+mod lines;
+mod log;
+mod server;
+mod station;
+#[cfg(test)]
+mod tests;
+mod worker;
+
+pub use log::tell_listening;
+pub use server::run_server;
+pub use station::Station;

@@ -1,0 +1,166 @@
+//! The operator's lines, as texts.
+
+use hls_core_laws::rendition::Rendition;
+use hls_http::{BodyEnd, Method};
+use hls_http_laws::reply::Status;
+use hls_serve_laws::ingest::{Counts, Intake};
+use hls_serve_laws::route::{JobFile, Route};
+use hls_settings::Settings;
+use std::fmt::{self, Display, Formatter, Write};
+use std::net::SocketAddr;
+
+/// A rendition's name, which is ASCII.
+#[derive(Clone, Copy, Drop)]
+pub struct Name<'a>(pub &'a [u8]);
+
+impl<'a> Display for Name<'a> {
+    fn fmt<W: Write>(&self, f: &mut Formatter<W>) -> fmt::Result {
+        for byte in self.0 {
+            f.write_char(char::from(*byte))?;
+        }
+        Ok(())
+    }
+}
+
+/// Renditions' names, each behind a space.
+#[derive(Clone, Copy, Drop)]
+pub struct Names<'a>(pub &'a [Rendition]);
+
+impl<'a> Display for Names<'a> {
+    fn fmt<W: Write>(&self, f: &mut Formatter<W>) -> fmt::Result {
+        for rendition in self.0 {
+            let name = Name(&rendition.name);
+            write!(f, " {name}")?;
+        }
+        Ok(())
+    }
+}
+
+/// What is in force, by the options' words and in their units.
+#[derive(Clone, Copy, Drop)]
+pub struct Limits<'a>(pub &'a Settings);
+
+impl<'a> Display for Limits<'a> {
+    fn fmt<W: Write>(&self, f: &mut Formatter<W>) -> fmt::Result {
+        let timing = self.0.plain.timing;
+        let workers = self.0.plain.workers;
+        write!(
+            f,
+            "target {} preferred {} window {} keep {}",
+            timing.target, timing.preferred, timing.window, timing.keep
+        )?;
+        write!(
+            f,
+            " workers {} patience {}",
+            workers.workers, workers.patience
+        )
+    }
+}
+
+/// How an encoder's body ended.
+fn ended_as(ended: Result<(), Intake>) -> (&'static str, &'static str) {
+    match ended {
+        Ok(()) => ("done", ""),
+        Err(Intake::Refused(fault)) => ("refused ", fault.name()),
+        Err(Intake::Memory) => ("refused ", "Memory"),
+        Err(Intake::Stopped(BodyEnd::BadFraming)) => ("refused ", "BadFraming"),
+        Err(Intake::Stopped(BodyEnd::CutShort)) => ("cut short", ""),
+        Err(Intake::Stopped(BodyEnd::ReadFailed)) => ("read failed", ""),
+    }
+}
+
+/// An encoder's body that ended.
+#[derive(Drop)]
+pub struct Ingest<'a> {
+    pub name: Name<'a>,
+    pub peer: SocketAddr,
+    pub counts: Counts,
+    pub ended: Result<(), Intake>,
+}
+
+impl<'a> Display for Ingest<'a> {
+    fn fmt<W: Write>(&self, f: &mut Formatter<W>) -> fmt::Result {
+        let (how, fault) = ended_as(self.ended);
+        let counts = self.counts;
+        write!(f, "ingest {} from {}: {how}{fault}", self.name, self.peer)?;
+        write!(
+            f,
+            " init {} accepted {} repeated {}",
+            counts.inits, counts.units, counts.repeats
+        )
+    }
+}
+
+/// A method's name.
+fn method_name(method: Method) -> &'static str {
+    match method {
+        Method::Get => "GET",
+        Method::Head => "HEAD",
+        Method::Post => "POST",
+        Method::Put => "PUT",
+        Method::Delete => "DELETE",
+        Method::Other => "OTHER",
+    }
+}
+
+/// A status by its number.
+fn number_of(status: Status) -> u16 {
+    match status {
+        Status::Done => 200,
+        Status::Accepted => 202,
+        Status::NoContent => 204,
+        Status::PartialContent => 206,
+        Status::BadRequest => 400,
+        Status::NotFound => 404,
+        Status::MethodNotAllowed => 405,
+        Status::Conflict => 409,
+        Status::Gone => 410,
+        Status::ContentTooLarge => 413,
+        Status::RangeNotSatisfiable => 416,
+        Status::HeadTooLarge => 431,
+        Status::Unavailable => 503,
+        Status::InsufficientStorage => 507,
+    }
+}
+
+/// What a route names, as a path; `-` for a path that names nothing.
+#[derive(Clone, Copy, Drop)]
+struct Path(Option<Route>);
+
+impl Display for Path {
+    fn fmt<W: Write>(&self, f: &mut Formatter<W>) -> fmt::Result {
+        match self.0 {
+            None => f.write_str("-"),
+            Some(Route::Ingest(n)) => write!(f, "/ingest/{n}"),
+            Some(Route::Finish(n)) => write!(f, "/finish/{n}"),
+            Some(Route::LiveMaster) => f.write_str("/live/master.m3u8"),
+            Some(Route::LiveList(n)) => write!(f, "/live/{n}.m3u8"),
+            Some(Route::Media(n)) => write!(f, "/media/{n}.mp4"),
+            Some(Route::CatchUp) => f.write_str("/catchup"),
+            Some(Route::Job(id)) => write!(f, "/job/{id}"),
+            Some(Route::JobFile(id, JobFile::Master)) => write!(f, "/job/{id}/master.m3u8"),
+            Some(Route::JobFile(id, JobFile::List(n))) => write!(f, "/job/{id}/{n}.m3u8"),
+            Some(Route::JobFile(id, JobFile::Media(n))) => write!(f, "/job/{id}/{n}.mp4"),
+            Some(Route::JobFile(id, JobFile::Certificate)) => write!(f, "/job/{id}/certificate"),
+            Some(Route::Status) => f.write_str("/status"),
+        }
+    }
+}
+
+/// A request that was answered.
+#[derive(Drop)]
+pub struct Request {
+    pub peer: SocketAddr,
+    pub method: Method,
+    pub route: Option<Route>,
+    pub status: Status,
+}
+
+impl Display for Request {
+    fn fmt<W: Write>(&self, f: &mut Formatter<W>) -> fmt::Result {
+        let method = method_name(self.method);
+        let path = Path(self.route);
+        let status = number_of(self.status);
+        write!(f, "request {method} {path} from {}: {status}", self.peer)
+    }
+}

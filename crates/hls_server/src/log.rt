@@ -1,0 +1,43 @@
+//! What the operator is told: each line by one write to standard error. A line that can't be written is dropped.
+
+use crate::lines::{Limits, Names};
+use hls_core_laws::refusal::Refusal;
+use hls_settings::Settings;
+use std::fmt::Display;
+use std::io::{Eprint, Error};
+use std::net::SocketAddr;
+
+/// A line of the server's.
+pub fn tell<E: Eprint, D: Display + Drop>(rt: &E, line: D) {
+    let _ = eprintln!(rt; "serve: {line}");
+}
+
+/// The line of a server that listens: where, its renditions, and what is in force.
+pub fn tell_listening<E: Eprint>(rt: &E, address: SocketAddr, settings: &Settings) {
+    let names = Names(settings.config.renditions());
+    let limits = Limits(settings);
+    let _ = eprintln!(rt; "serve: listening on {address}, renditions{names}, {limits}");
+}
+
+/// An event of the housekeeper's that was refused, or couldn't be found.
+pub fn tell_refused_upkeep<E: Eprint>(rt: &E, refusal: Refusal) {
+    let name = refusal.name();
+    let _ = eprintln!(rt; "serve: upkeep refused {name}");
+}
+
+/// An accept that failed; told once a minute at most.
+pub fn tell_failed_accept<E: Eprint>(rt: &E, error: Error) {
+    let _ = eprintln!(rt; "serve: accept failed, tried again until it works: {error}");
+}
+
+/// Not all threads could be started.
+pub fn tell_fewer_threads<E: Eprint>(rt: &E, workers: usize, wanted: usize, keeps: bool) {
+    if !keeps {
+        let _ = eprintln!(rt;
+            "serve: no thread for upkeep: live lists don't slide, and nothing is trimmed"
+        );
+    }
+    if workers < wanted {
+        let _ = eprintln!(rt; "serve: {workers} of {wanted} workers could be started");
+    }
+}

@@ -1,0 +1,115 @@
+//! The server: its threads, from their start to their end.
+
+ghost use Rattle.std.specs.Prelude.{◌≡◌, ◌≤◌, All};
+
+use crate::house::keep_house;
+use crate::log::tell_fewer_threads;
+use crate::worker::{Door, work};
+use hls_core::snapshot::Snapshot;
+use hls_settings::Settings;
+use hls_turn::{Pass, Turn};
+use std::alloc::{AllocError, Global};
+use std::io::Eprint;
+use std::net::TcpListener;
+use std::sync::Wait;
+use std::sync::atomic::{AtomicBool, AtomicU64, Ordering};
+use std::thread::{self, Threads};
+use std::time::Clock;
+
+/// The most workers: each has a pass, and so has the housekeeper.
+const MOST_WORKERS: u64 = 63;
+
+/// How many passes there are: one for each worker that is asked for, 1 to 63, and the housekeeper's.
+fn passes_for(workers: u64) -> u16
+    ensures { (1 ≤ result) × (result ≤ 64) }
+{
+    let workers = workers.clamp(1, MOST_WORKERS);
+    (workers + 1) as u16
+}
+
+/// Serves connections from a channel that begins empty, each worker so many of them, or without end where no number is given.
+/// The housekeeper ends when all workers have.
+///
+/// Each worker serves one connection at a time, so idle ones are closed early where none is free. Where a thread can't be
+/// started, the rest serve, and the operator is told; want of memory comes before a thread is started, or where no worker
+/// could be. May wait.
+pub fn run_server<R: Threads + Wait + Clock + Eprint + Sync>(
+    rt: &R,
+    alloc: Global,
+    settings: &Settings,
+    listener: &TcpListener,
+    connections: Option<u64>,
+) -> Result<(), AllocError> {
+    let config = settings.config.share()?;
+    let snapshot = Snapshot::first(alloc, config)?;
+    let count = passes_for(settings.plain.workers.workers);
+    let (turn, passes) = Turn::new(rt, alloc, snapshot, count)?;
+    let most = connections.unwrap_or(u64::MAX);
+    run_threads(rt, alloc, &turn, settings, listener, passes, most)
+}
+
+/// Runs a thread for each pass: the last one's keeps house, and the others serve so many connections each.
+fn run_threads<R: Threads + Wait + Clock + Eprint + Sync>(
+    rt: &R,
+    alloc: Global,
+    turn: &Turn,
+    settings: &Settings,
+    listener: &TcpListener,
+    passes: Vec<Pass>,
+    most: u64,
+) -> Result<(), AllocError>
+    requires { All (λ p. p.turn ≡ turn.now) passes.items }
+{
+    let free = AtomicU64::new(0);
+    let told = AtomicU64::new(0);
+    let closed = AtomicBool::new(false);
+    let closed = &closed;
+    let door = Door {
+        listener,
+        free: &free,
+        told: &told,
+    };
+    let door = &door;
+    let timing = settings.plain.timing;
+    thread::scope(
+        thread::scope_env(),
+        rt,
+        move |scope| -> Result<(), AllocError>
+            requires { All (λ p. p.turn ≡ turn.now) passes.items }
+        {
+            let mut workers = Vec::with_capacity(alloc, passes.len())?;
+            let mut passes = passes;
+            let Some(mut last) = passes.pop() else {
+                return Ok(());
+            };
+            let wanted = passes.len();
+            let keeper = scope.spawn(
+                move || -> ()
+                    requires { last.turn ≡ turn.now }
+                { keep_house(rt, alloc, turn, timing, closed, &mut last) },
+            );
+            for pass in passes {
+                let mut pass = pass;
+                let worker = scope.spawn(
+                    move || -> ()
+                        requires { pass.turn ≡ turn.now }
+                    { work(rt, alloc, turn, settings, door, &mut pass, most) },
+                );
+                if let Ok(worker) = worker {
+                    let _ = workers.push(worker);
+                }
+            }
+            let started = workers.len();
+            tell_fewer_threads(rt, started, wanted, keeper.is_ok());
+            for worker in workers {
+                worker.join(rt);
+            }
+            closed.store(true, Ordering::SeqCst);
+            turn.tell(rt);
+            if started == 0 {
+                return Err(AllocError);
+            }
+            Ok(())
+        },
+    )
+}

@@ -1,0 +1,105 @@
+//! The turn as one connection's session sees it.
+
+ghost use Rattle.std.specs.Prelude.{◌≡◌};
+
+use crate::lines::{Ingest, Name, Request};
+use crate::log::tell;
+use hls_core::snapshot::Snapshot;
+use hls_core_laws::event::Event;
+use hls_core_laws::refusal::Refusal;
+use hls_core_laws::rendition::Rendition;
+use hls_serve::keeper::Keeper;
+use hls_serve::news::News;
+use hls_turn::{Done, Pass, Turn};
+use std::alloc::{AllocError, Global};
+use std::io::Eprint;
+use std::net::SocketAddr;
+use std::sync::{Arc, Wait};
+
+/// The turn as the keeper of one connection's session: what the session brings is told to the operator.
+#[derive(Drop)]
+pub struct Station<'a, E> {
+    pub rt: &'a E,
+    pub turn: &'a Turn,
+    /// The channel's renditions.
+    pub renditions: &'a [Rendition],
+    /// Who is at the other end.
+    pub peer: SocketAddr,
+    /// Whether each request is told.
+    pub logs_requests: bool,
+}
+
+impl<'a, E: Eprint> Station<'a, E> {
+    /// The name of a rendition, and nothing where there is no such one.
+    fn name(&self, rendition: usize) -> Name<'_> {
+        match self.renditions.get(rendition) {
+            Some(found) => Name(&found.name),
+            None => Name(b""),
+        }
+    }
+}
+
+impl<'a, E: Eprint> Keeper for Station<'a, E> {
+    type Pass = Pass;
+
+    ghost serves = { λ station pass. pass.turn ≡ station.turn.now };
+
+    ghost known = { λ pass. pass.known };
+
+    fn renditions(&self, pass: &Pass) -> usize {
+        pass.renditions()
+    }
+
+    fn look<R: Wait>(
+        &self,
+        rt: &R,
+        alloc: Global,
+        pass: &mut Pass,
+    ) -> Result<Arc<Snapshot>, AllocError> {
+        self.turn.look(rt, alloc, pass)
+    }
+
+    fn submit<R: Wait>(
+        &self,
+        rt: &R,
+        alloc: Global,
+        pass: &mut Pass,
+        event: Event,
+    ) -> Result<Done, Refusal> {
+        self.turn.submit(rt, alloc, pass, event)
+    }
+
+    fn tell(&self, _pass: &Pass, news: &News) {
+        match *news {
+            News::Ingested {
+                rendition,
+                counts,
+                result: ended,
+            } => {
+                let name = self.name(rendition);
+                let line = Ingest {
+                    name,
+                    peer: self.peer,
+                    counts,
+                    ended,
+                };
+                tell(self.rt, line);
+            }
+            News::Replied {
+                method,
+                route,
+                status,
+            } => {
+                if self.logs_requests {
+                    let line = Request {
+                        peer: self.peer,
+                        method,
+                        route,
+                        status,
+                    };
+                    tell(self.rt, line);
+                }
+            }
+        }
+    }
+}

@@ -1,0 +1,80 @@
+//! A worker: takes one connection after the other.
+
+ghost use Rattle.std.specs.Prelude.{◌≡◌, ◌-◌, ◌||◌, nat_eq, nat_le};
+
+use crate::connection::serve_stream;
+use crate::log::tell_failed_accept;
+use hls_pace::milliseconds;
+use hls_settings::Settings;
+use hls_turn::{Pass, Turn};
+use std::alloc::Global;
+use std::io::{Eprint, Error};
+use std::net::TcpListener;
+use std::sync::Wait;
+use std::sync::atomic::{AtomicU64, Ordering};
+use std::thread;
+use std::time::{Clock, Duration};
+
+/// How long a worker waits after a failed accept, in milliseconds.
+const PAUSE: u64 = 10;
+
+/// For how long a failed accept isn't told again, in milliseconds.
+const QUIET: u64 = 60000;
+
+/// Where workers find connections, and what they know of one another.
+#[derive(Drop)]
+pub struct Door<'a> {
+    pub listener: &'a TcpListener,
+    /// How many workers wait for a connection.
+    pub free: &'a AtomicU64,
+    /// When a failed accept was told last, in milliseconds of the clock; 0 where none was.
+    pub told: &'a AtomicU64,
+}
+
+/// Whether what was told at a moment, or never (0), is told again.
+fn is_due(told: u64, now: u64) -> bool
+    ensures { result ≡ (nat_eq told 0 || nat_le 60000 (now - told)) }
+{
+    told == 0 || now.saturating_sub(told) >= QUIET
+}
+
+/// Whether this failed accept is told: the first one, and then one a minute. Of workers that ask at once, one tells.
+fn is_told<R: Clock>(rt: &R, door: &Door<'_>) -> bool {
+    let now = milliseconds(rt).max(1);
+    let told = door.told.load(Ordering::SeqCst);
+    is_due(told, now) && door.told.swap(now, Ordering::SeqCst) == told
+}
+
+/// Waits a short while after a failed accept, so that a row of them doesn't keep a processor busy.
+fn wait_out<R: Clock + Eprint>(rt: &R, door: &Door<'_>, error: Error) {
+    if is_told(rt, door) {
+        tell_failed_accept(rt, error);
+    }
+    let _ = thread::sleep(rt, Duration::from_millis(PAUSE));
+}
+
+/// Serves so many connections, one after the other; a failed accept counts as one. May wait.
+pub fn work<R: Wait + Clock + Eprint>(
+    rt: &R,
+    alloc: Global,
+    turn: &Turn,
+    settings: &Settings,
+    door: &Door<'_>,
+    pass: &mut Pass,
+    connections: u64,
+)
+    requires { pass.old.turn ≡ turn.now }
+    ensures { pass.new.turn ≡ turn.now }
+{
+    for _ in 0..connections {
+        door.free.fetch_add(1, Ordering::SeqCst);
+        let accepted = door.listener.accept();
+        door.free.fetch_sub(1, Ordering::SeqCst);
+        match accepted {
+            Ok((stream, peer)) => {
+                serve_stream(rt, alloc, turn, settings, door.free, pass, &stream, peer);
+            }
+            Err(error) => wait_out(rt, door, error),
+        }
+    }
+}
