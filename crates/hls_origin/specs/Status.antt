@@ -6,6 +6,8 @@ use Rattle.hls_origin.specs.declared.cut.run.CutEnd.{CutEnd}
 use Rattle.hls_origin.specs.declared.cut.run.CutEnd.TheVariants as cut
 use Rattle.hls_origin.specs.declared.lint.run.LintEnd.{LintEnd}
 use Rattle.hls_origin.specs.declared.lint.run.LintEnd.TheVariants as lint
+use Rattle.hls_origin.specs.declared.serve.run.ServeEnd.{ServeEnd}
+use Rattle.hls_origin.specs.declared.serve.run.ServeEnd.TheVariants as serve
 
 -- words that ask for nothing that the program does
 abbrev pub usage_status : ℕ
@@ -28,3 +30,9 @@ lint_status lint.Readable = 0
 lint_status lint.Refused = 1
 lint_status lint.ReadFailed = 1
 lint_status lint.WriteFailed = 1
+
+abbrev pub serve_status : ServeEnd → ℕ
+serve_status serve.Done = 0
+serve_status (serve.Usage fault) = usage_status
+serve_status serve.BindFailed = 1
+serve_status serve.Memory = 1

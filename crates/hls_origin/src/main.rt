@@ -12,11 +12,16 @@
 //! `hls_origin lint` reads a media playlist from standard input and writes to standard output what it
 //! is in one line, or `refused`, why, and the line's number where there is one. Status 0 is a playlist,
 //! 1 a refusal or a failed call, 2 a usage fault.
+//!
+//! `hls_origin serve [OPTIONS] ADDRESS SPEC..` serves a channel over HTTP until a signal ends it. Status 2 is a usage fault, 1
+//! that the address can't be listened on or that memory was wanted.
+//!
+//! `hls_origin help`, `--help` and `-h`, alone or after a command, print how the program is used, and `--version` its version.
 #![tactic(auto)]
 
 ghost use Rattle.std.specs.Prelude.{◌≡◌};
 ghost use Rattle.std.specs.Process.{exit_status};
-ghost use Rattle.hls_origin.specs.Status.{check_status, cut_status, lint_status, usage_status};
+ghost use Rattle.hls_origin.specs.Status.{check_status, cut_status, lint_status, serve_status, usage_status};
 
 mod check;
 mod cut;
@@ -27,6 +32,7 @@ mod pieces;
 mod reading;
 #[cfg(test)]
 mod refused_memory;
+mod serve;
 #[cfg(test)]
 mod vectors;
 
@@ -34,16 +40,33 @@ use crate::check::run::{CheckEnd, run_check};
 use crate::cut::fault::CutFault;
 use crate::cut::run::{CutEnd, run_cut};
 use crate::lint::run::{LintEnd, run_lint};
+use crate::serve::run::{ServeEnd, run_serve};
+use crate::serve::wrong::Wrong;
 use hls_io::Counted;
 use hls_origin_listing::ListFault;
+use std::io::Eprint;
+use std::net::{Net, TcpListener, TcpStream};
 use std::process::ExitCode;
+use std::sync::Wait;
 use std::thread::Threads;
+use std::time::Clock;
 use std::{env, io};
+
+/// The program's version, and the toolchain that it is proved with.
+const VERSION: &str = "hls_origin 0.1.0
+proved with rattle-kit-13b logic dac8208d650f15bf
+";
 
 const USAGE: &str = "usage: hls_origin [cut [--each] [--target N] [--uri TEXT]] < STREAM > PLAYLIST
        hls_origin cut --preferred N [--certificate] [--target N] [--uri TEXT] < STREAM > OUTPUT
        hls_origin check < CERTIFICATE
        hls_origin lint < PLAYLIST
+       hls_origin serve [OPTIONS] ADDRESS SPEC..
+       hls_origin --help | --version
+";
+
+const HELP: &str = "
+cut: the playlist of a recorded stream of one rendition, fragmented MP4
   --each         one segment for each place where the stream may be cut (the default)
   --preferred N  a least plan: segments whose lengths come nearest to N microseconds in sum; N is 1 to
                  the target, at most 16 digits
@@ -51,8 +74,28 @@ const USAGE: &str = "usage: hls_origin [cut [--each] [--target N] [--uri TEXT]] 
   --target N     the target duration in whole seconds, 1 to 3600, at most 16 digits; 6 if not given
   --uri TEXT     the media file as the playlist names it: not empty, not beginning with #, without
                  line ends and quotation marks; media.mp4 if not given
-Each option may stand once, after the word cut; --each excludes --preferred and --certificate.
-No word may follow check or lint, and other words are not known.
+check: whether a certificate proves that its plan is least
+lint: what a media playlist is, or which line of it is wrong
+serve: a live channel over HTTP; encoders PUT to /ingest/0, /ingest/1, .. and players read
+       /live/master.m3u8. ADDRESS is a.b.c.d:port, and each SPEC is name:kind:bandwidth:tolerance, where
+       kind is video or audio, bandwidth is in bits a second and tolerance in microseconds
+  --target N     the longest segment in whole seconds, 1 to 3600; 6 if not given
+  --preferred N  the length in microseconds at which a segment ends, 1 to the target; 4000000
+  --window N     what live lists hold in microseconds, three targets or more; 30000000
+  --keep N       what is kept for catch-up in microseconds, the window or more; 3600000000
+  --workers N    connections that are served at once, 1 to 63: one for each encoder and each player or
+                 edge that reads; 8
+  --planners N   threads for catch-up recordings, 1 to 16; 2
+  --patience N   seconds that a silent or slow connection may keep a worker, 1 to 3600; 30
+  --log requests a line for each request on standard error
+Each option may stand once, after its command; --each excludes --preferred and --certificate. No word
+may follow check or lint.
+
+An example: a channel of one rendition, one encoder, one player.
+  hls_origin serve 127.0.0.1:8080 v720:video:3000000:0 &
+  ffmpeg -re -f lavfi -i testsrc=s=1280x720:r=25 -c:v libx264 -g 50 -sc_threshold 0 -f mp4 \\
+         -movflags +cmaf+frag_keyframe -method PUT http://127.0.0.1:8080/ingest/0 &
+  ffplay http://127.0.0.1:8080/live/master.m3u8
 ";
 
 /// The words after the program's own name.
@@ -64,12 +107,26 @@ fn words_of(rt: &HostRuntime) -> io::Result<Vec<String>> {
     Ok(words)
 }
 
-/// Tells how the program is used.
+/// Tells how the program is used, after the line that is wrong.
 fn usage_fault(rt: &HostRuntime) -> ExitCode
     ensures { exit_status result ≡ usage_status }
 {
-    let _ = eprint!(rt; "{USAGE}");
+    let _ = eprint!(rt;
+        "hls_origin: these words aren't understood; hls_origin --help says more\n{USAGE}"
+    );
     ExitCode::from(2)
+}
+
+/// Prints how the program is used, in full.
+fn print_help(rt: &HostRuntime) -> ExitCode {
+    let _ = print!(rt; "{USAGE}{HELP}");
+    ExitCode::SUCCESS
+}
+
+/// Prints the program's version.
+fn print_version(rt: &HostRuntime) -> ExitCode {
+    let _ = print!(rt; "{VERSION}");
+    ExitCode::SUCCESS
 }
 
 /// Prints why a stream was refused.
@@ -170,8 +227,45 @@ fn run_lint_words(rt: &HostRuntime, words: &[String]) -> ExitCode {
     end_lint(rt, run_lint(rt.alloc(), &mut input, &mut output))
 }
 
+/// Ends the program as `serve` ended.
+fn end_serve(rt: &HostRuntime, end: ServeEnd) -> ExitCode
+    ensures { exit_status result ≡ serve_status end }
+{
+    match end {
+        ServeEnd::Done => ExitCode::SUCCESS,
+        ServeEnd::Usage(fault) => {
+            let wrong = Wrong(fault);
+            let _ = eprint!(rt; "serve: {wrong}; hls_origin --help says more\n{USAGE}");
+            ExitCode::from(2)
+        }
+        ServeEnd::BindFailed => {
+            let _ = eprintln!(rt; "serve: BindFailed");
+            ExitCode::from(1)
+        }
+        ServeEnd::Memory => {
+            let _ = eprintln!(rt; "serve: Memory");
+            ExitCode::from(1)
+        }
+    }
+}
+
+/// Whether the words ask how the program is used: `help`, or an option for it alone or after a command.
+fn asks_for_help(words: &[String]) -> bool {
+    match words {
+        [word] => matches!(word.as_str(), "help" | "--help" | "-h"),
+        [_, word] => matches!(word.as_str(), "--help" | "-h"),
+        _ => false,
+    }
+}
+
 /// Does what the first word names; without a word `cut`.
-fn run_words(rt: &HostRuntime, threads: &(impl Threads + Sync), words: &[String]) -> ExitCode {
+fn run_words<R>(rt: &HostRuntime, threads: &R, words: &[String]) -> ExitCode
+where
+    R: Net<Listener = TcpListener, Stream = TcpStream> + Threads + Wait + Clock + Eprint + Sync,
+{
+    if asks_for_help(words) {
+        return print_help(rt);
+    }
     let Some((first, rest)) = words.split_first() else {
         return run_cut_words(rt, words);
     };
@@ -179,6 +273,8 @@ fn run_words(rt: &HostRuntime, threads: &(impl Threads + Sync), words: &[String]
         "cut" => run_cut_words(rt, rest),
         "check" => run_check_words(rt, threads, rest),
         "lint" => run_lint_words(rt, rest),
+        "serve" => end_serve(rt, run_serve(threads, rt.alloc(), rest)),
+        "--version" if rest.is_empty() => print_version(rt),
         _ => usage_fault(rt),
     }
 }

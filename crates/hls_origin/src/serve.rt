@@ -1,0 +1,4 @@
+//! The command `serve`: a live channel over HTTP.
+
+pub mod run;
+pub mod wrong;

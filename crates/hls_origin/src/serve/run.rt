@@ -1,0 +1,50 @@
+//! `serve`, from its words to its end.
+
+use hls_server::{run_server, tell_listening};
+use hls_settings::{Address, SettingsFault, read_settings};
+use std::alloc::Global;
+use std::io::Eprint;
+use std::net::{Ipv4Addr, Net, SocketAddrV4, TcpListener, TcpStream};
+use std::sync::Wait;
+use std::thread::Threads;
+use std::time::Clock;
+
+/// How `serve` ended. While it serves it doesn't end, but by a signal.
+#[derive(Clone, Copy, Debug, PartialEq, Eq, Drop)]
+pub enum ServeEnd {
+    /// The server has ended: status 0.
+    Done,
+    /// A word is wrong, and nothing was started: status 2.
+    Usage(SettingsFault),
+    /// The address can't be listened on: status 1.
+    BindFailed,
+    /// Memory was wanted: status 1.
+    Memory,
+}
+
+fn socket_of(address: Address) -> SocketAddrV4 {
+    let ip = Ipv4Addr::new(address.a, address.b, address.c, address.d);
+    SocketAddrV4::new(ip, address.port)
+}
+
+/// Reads the words, listens, and serves. It says on standard error where it listens, and what comes of each encoder's body.
+pub fn run_serve<R>(rt: &R, alloc: Global, words: &[String]) -> ServeEnd
+where
+    R: Net<Listener = TcpListener, Stream = TcpStream> + Threads + Wait + Clock + Eprint + Sync,
+{
+    let settings = match read_settings(alloc, words) {
+        Ok(settings) => settings,
+        Err(SettingsFault::Memory) => return ServeEnd::Memory,
+        Err(fault) => return ServeEnd::Usage(fault),
+    };
+    let Ok(listener) = TcpListener::bind(rt, socket_of(settings.plain.address)) else {
+        return ServeEnd::BindFailed;
+    };
+    if let Ok(address) = listener.local_addr() {
+        tell_listening(rt, address, &settings);
+    }
+    match run_server(rt, alloc, &settings, &listener, None) {
+        Ok(()) => ServeEnd::Done,
+        Err(_) => ServeEnd::Memory,
+    }
+}

@@ -1,0 +1,54 @@
+//! What to change in the words of `serve`.
+
+use hls_settings::SettingsFault;
+use std::fmt::{self, Display, Formatter, Write};
+
+/// The line that says which word is wrong, and what it may be.
+#[derive(Clone, Copy, Drop)]
+pub struct Wrong(pub SettingsFault);
+
+/// A rendition's word that is wrong.
+fn wrong_rendition<W: Write>(f: &mut Formatter<W>, n: usize) -> fmt::Result {
+    if n >= 16 {
+        return f.write_str("a channel has at most 16 renditions");
+    }
+    write!(
+        f,
+        "rendition {n}: give name:kind:bandwidth:tolerance as in v720:video:3000000:0; "
+    )?;
+    f.write_str(
+        "names are 1 to 32 letters, digits, - and _, all different; kind is video or audio; ",
+    )?;
+    f.write_str(
+        "bandwidth is 1 to 10^12 bits a second; tolerance is 0 to 500000 microseconds, and 0 for the first",
+    )
+}
+
+impl Display for Wrong {
+    fn fmt<W: Write>(&self, f: &mut Formatter<W>) -> fmt::Result {
+        let text = match self.0 {
+            SettingsFault::Words =>
+                "there is an option that isn't known, stands twice or has no value",
+            SettingsFault::Target => "--target takes 1 to 3600 whole seconds",
+            SettingsFault::Preferred => {
+                "--preferred takes 1 to the target, in microseconds (4000000 if not given): with a target below 4, give it"
+            }
+            SettingsFault::Window => {
+                "--window takes three targets or more, in microseconds (30000000 if not given): with a target above 10, give it"
+            }
+            SettingsFault::Keep => {
+                "--keep takes the window or more, in microseconds (3600000000 if not given)"
+            }
+            SettingsFault::Workers => "--workers takes 1 to 63",
+            SettingsFault::Planners => "--planners takes 1 to 16",
+            SettingsFault::Patience => "--patience takes 1 to 3600 whole seconds",
+            SettingsFault::Log => "--log takes the word requests",
+            SettingsFault::Address => {
+                "give an address a.b.c.d:port before the renditions, as in 0.0.0.0:8080, without leading zeros"
+            }
+            SettingsFault::Rendition(n) => return wrong_rendition(f, n),
+            SettingsFault::Memory => "memory was wanted",
+        };
+        f.write_str(text)
+    }
+}
