@@ -4,6 +4,7 @@ pub mod RunLaws
 pub mod ColumnLaws
 pub mod NearLaws
 pub mod Slices
+pub mod Counts
 pub mod BridgeLaws
 pub mod ReadLaws
 pub mod FactLaws

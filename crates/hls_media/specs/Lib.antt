@@ -11,3 +11,4 @@ pub mod Shapes
 pub mod Firsts
 pub mod Given
 pub mod Gathered
+pub mod Counted

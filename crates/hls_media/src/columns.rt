@@ -1,15 +1,17 @@
 //! The values of a run's samples: from the fields of its rows, or by defaults (ISO/IEC 14496-12 8.8.8).
 
-ghost use Rattle.std.specs.Prelude.{◌≡◌, ◌+◌, ◌*◌, ◌^◌, ◌<◌, ◌≤◌, Option, true, length, sum};
+ghost use Rattle.std.specs.Prelude.{◌≡◌, ◌+◌, ◌*◌, ◌^◌, ◌<◌, ◌≤◌, Option, true, false, length, sum};
 ghost use Rattle.hls_media_laws.specs.Fields.{column, values, durations, sizes};
 ghost use Rattle.hls_media_laws.specs.Runs.{first_sample_flags};
 ghost use Rattle.hls_media.specs.Kept.{IsRun};
 ghost use Rattle.hls_media.specs.Valued.{valued};
+ghost use Rattle.hls_media.specs.Counted.{RisesBy};
 
+use crate::fields::short_field;
 use crate::flags::{field_if, field_len};
 use crate::trun::Run;
-use hls_boxes_laws::numbers::u32_at;
 use hls_media_laws::flags::{SAMPLE_DURATION_PRESENT, SAMPLE_FLAGS_PRESENT, SAMPLE_SIZE_PRESENT};
+use hls_time::Ticks;
 
 /// What the values of a run's samples come to.
 #[derive(Clone, Copy)]
@@ -21,16 +23,18 @@ pub struct Values {
 }
 
 /// The sum of the numbers that stand at `at` in the first `count` rows of `row` bytes.
-pub fn column_sum(rows: &[u8], count: u32, row: usize, at: usize) -> u64
+pub fn column_sum(rows: &[u8], count: u32, row: usize, at: usize, ticks: &mut Ticks) -> u64
     requires in_row { at + 4 ≤ row }
     requires in_rows { count * row ≤ length rows.now }
-    ensures { result ≡ sum (column count row at rows.now) }
+    requires room { ticks.old < 2 ^ 62 + 2 ^ 61 }
+    ensures value { result ≡ sum (column count row at rows.now) }
+    ensures counted { ticks.new ≡ ticks.old + count }
 {
     let mut total: u64 = 0;
     let mut rest = rows;
     let mut left = count;
     'rows: while left > 0 {
-        total += u64::from(u32_at(rest, at));
+        total += u64::from(short_field(rest, at, ticks));
         rest = &rest[row..];
         left -= 1;
     }
@@ -38,14 +42,26 @@ pub fn column_sum(rows: &[u8], count: u32, row: usize, at: usize) -> u64
 }
 
 /// The values of the samples of a run: the fields at `at` where rows have them, else the default.
-pub fn values_of(content: &[u8], run: Run, there: bool, at: usize, default: Option<u32>) -> Values
+///
+/// Where rows don't have them, one product serves for all samples, and nothing is read.
+pub fn values_of(
+    content: &[u8],
+    run: Run,
+    there: bool,
+    at: usize,
+    default: Option<u32>,
+    ticks: &mut Ticks,
+) -> Values
     requires is_run { IsRun run content.now }
     requires in_row { there ≡ true → at + 4 ≤ run.row }
-    ensures { result ≡ valued (values there at default content.now) }
+    requires room { ticks.old < 2 ^ 62 + 2 ^ 61 }
+    ensures value { result ≡ valued (values there at default content.now) }
+    ensures counted { RisesBy (length content.now) ticks.old ticks.new }
+    ensures by_product { there ≡ false → ticks.new ≡ ticks.old }
 {
     if there {
         return Values {
-            total: column_sum(&content[run.rows..], run.count, run.row, at),
+            total: column_sum(&content[run.rows..], run.count, run.row, at, ticks),
             lacking: false,
         };
     }
@@ -62,9 +78,11 @@ pub fn values_of(content: &[u8], run: Run, there: bool, at: usize, default: Opti
 }
 
 /// The durations of a run's samples.
-pub fn durations_of(content: &[u8], run: Run, default: Option<u32>) -> Values
-    requires { IsRun run content.now }
-    ensures { result ≡ valued (durations default content.now) }
+pub fn durations_of(content: &[u8], run: Run, default: Option<u32>, ticks: &mut Ticks) -> Values
+    requires is_run { IsRun run content.now }
+    requires room { ticks.old < 2 ^ 62 + 2 ^ 61 }
+    ensures value { result ≡ valued (durations default content.now) }
+    ensures counted { RisesBy (length content.now) ticks.old ticks.new }
 {
     values_of(
         content,
@@ -72,13 +90,16 @@ pub fn durations_of(content: &[u8], run: Run, default: Option<u32>) -> Values
         run.flags & SAMPLE_DURATION_PRESENT != 0,
         0,
         default,
+        ticks,
     )
 }
 
 /// The sizes of a run's samples.
-pub fn sizes_of(content: &[u8], run: Run, default: Option<u32>) -> Values
-    requires { IsRun run content.now }
-    ensures { result ≡ valued (sizes default content.now) }
+pub fn sizes_of(content: &[u8], run: Run, default: Option<u32>, ticks: &mut Ticks) -> Values
+    requires is_run { IsRun run content.now }
+    requires room { ticks.old < 2 ^ 62 + 2 ^ 61 }
+    ensures value { result ≡ valued (sizes default content.now) }
+    ensures counted { RisesBy (length content.now) ticks.old ticks.new }
 {
     values_of(
         content,
@@ -86,17 +107,20 @@ pub fn sizes_of(content: &[u8], run: Run, default: Option<u32>) -> Values
         run.flags & SAMPLE_SIZE_PRESENT != 0,
         field_len(run.flags, SAMPLE_DURATION_PRESENT),
         default,
+        ticks,
     )
 }
 
 /// The flags of the first sample of a run that has one.
-pub fn first_flags(content: &[u8], run: Run, default: Option<u32>) -> Option<u32>
+pub fn first_flags(content: &[u8], run: Run, default: Option<u32>, ticks: &mut Ticks) -> Option<u32>
     requires is_run { IsRun run content.now }
     requires some { 0 < run.count }
-    ensures { result ≡ first_sample_flags default content.now }
+    requires room { ticks.old < 2 ^ 63 }
+    ensures value { result ≡ first_sample_flags default content.now }
+    ensures counted { RisesBy 1 ticks.old ticks.new }
 {
     let at = run.rows
         + field_len(run.flags, SAMPLE_DURATION_PRESENT)
         + field_len(run.flags, SAMPLE_SIZE_PRESENT);
-    run.first_flags.or(field_if(content, run.flags, SAMPLE_FLAGS_PRESENT, at).or(default))
+    run.first_flags.or(field_if(content, run.flags, SAMPLE_FLAGS_PRESENT, at, ticks).or(default))
 }

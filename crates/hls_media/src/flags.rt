@@ -1,9 +1,11 @@
 //! Fields of four bytes that a box's flags announce.
 
-ghost use Rattle.std.specs.Prelude.{◌≡◌, ◌+◌, ◌≤◌, ◌==◌, true, not, bit_and, length};
+ghost use Rattle.std.specs.Prelude.{◌≡◌, ◌+◌, ◌^◌, ◌<◌, ◌≤◌, ◌==◌, true, not, bit_and, length};
 ghost use Rattle.hls_media_laws.specs.Fields.{wide, field_if as field_if_there};
+ghost use Rattle.hls_media.specs.Counted.{RisesBy};
 
-use hls_boxes_laws::numbers::u32_at;
+use crate::fields::short_field;
+use hls_time::Ticks;
 
 /// The length of a field that is there if `flag` is set.
 pub fn field_len(flags: u32, flag: u32) -> usize
@@ -13,12 +15,14 @@ pub fn field_len(flags: u32, flag: u32) -> usize
 }
 
 /// The field at `at`, if `flag` is set.
-pub fn field_if(content: &[u8], flags: u32, flag: u32, at: usize) -> Option<u32>
-    requires { not (bit_and flags flag == 0) ≡ true → at + 4 ≤ length content.now }
-    ensures { result ≡ field_if_there (not (bit_and flags flag == 0)) at content.now }
+pub fn field_if(content: &[u8], flags: u32, flag: u32, at: usize, ticks: &mut Ticks) -> Option<u32>
+    requires within { not (bit_and flags flag == 0) ≡ true → at + 4 ≤ length content.now }
+    requires room { ticks.old < 2 ^ 63 }
+    ensures value { result ≡ field_if_there (not (bit_and flags flag == 0)) at content.now }
+    ensures counted { RisesBy 1 ticks.old ticks.new }
 {
     if flags & flag != 0 {
-        Some(u32_at(content, at))
+        Some(short_field(content, at, ticks))
     } else {
         None
     }

@@ -2,6 +2,7 @@
 #![tactic(auto)]
 
 mod columns;
+mod fields;
 mod flags;
 mod headers;
 mod headings;
@@ -23,4 +24,4 @@ mod units;
 mod verdict;
 
 pub use inits::read_init;
-pub use units::read_facts;
+pub use units::{read_facts, read_facts_counted};

@@ -1,17 +1,18 @@
 //! What the track fragments of a unit come to, one after the other.
 
-ghost use Rattle.std.specs.Prelude.{◌≡◌, ℕ, ◌+◌, ◌^◌, ◌≤◌, ◌==◌, pos, Option, option_map, option_and_then, find, length, IfSome, if◌then◌else◌};
+ghost use Rattle.std.specs.Prelude.{◌≡◌, ℕ, ◌+◌, ◌*◌, ◌^◌, ◌<◌, ◌≤◌, ◌==◌, pos, Option, option_map, option_and_then, find, length, IfSome, if◌then◌else◌};
 ghost use Rattle.std.specs.Option.{option_or};
 ghost use Rattle.hls_boxes_laws.specs.Boxes.{Child};
 ghost use Rattle.hls_media_laws.specs.declared.track.Track.{Track};
 ghost use Rattle.hls_media_laws.specs.declared.track.Defaults.{Defaults};
 ghost use Rattle.hls_media_laws.specs.Trafs.{traf_at};
+ghost use Rattle.hls_media.specs.Counted.{RisesBy};
 ghost use Rattle.hls_media.specs.Folds.{over};
 ghost use Rattle.hls_media.specs.Placed.{IsNear};
 ghost use Rattle.hls_media.specs.Timed.{timed_step, no_samples};
 ghost use Rattle.hls_media.specs.Tallies.{given, tally_more, tally_step, timing_by, empty, IsShort};
 
-use crate::headers::box_header;
+use crate::headers::counted_header;
 use crate::places::{Frame, Placed, either, place_runs};
 use crate::tfhd::Head;
 use crate::times::{Timed, time_runs};
@@ -19,6 +20,7 @@ use crate::trafs::traf_of;
 use hls_media_laws::flags::{BASE_DATA_OFFSET_PRESENT, DEFAULT_BASE_IS_MOOF};
 use hls_media_laws::kinds::TRAF;
 use hls_media_laws::track::{Defaults, Track};
+use hls_time::Ticks;
 
 /// From where to where the content of the `mdat` goes, counted from the first byte of the `moof`.
 #[derive(Clone, Copy)]
@@ -120,13 +122,16 @@ fn timing_after(
     content: &[u8],
     duration: Option<u32>,
     flags: Option<u32>,
+    ticks: &mut Ticks,
 ) -> Option<Timing>
-    requires { length content.now ≤ 2 ^ 26 }
+    requires len { length content.now ≤ 2 ^ 26 }
+    requires count { ticks.old < 2 ^ 62 + 2 ^ 58 }
     ensures value { result ≡ timing_by time (over (timed_step duration flags) Some no_samples content.now) so_far }
     ensures short { IfSome result IsShort }
+    ensures counted { RisesBy (length content.now * 3) ticks.old ticks.new }
 {
     if let Timing::Missing = so_far {
-        let Some(timed) = time_runs(content, duration, flags) else {
+        let Some(timed) = time_runs(content, duration, flags, ticks) else {
             return None;
         };
         return Some(Timing::One(time, timed));
@@ -142,16 +147,19 @@ fn timing_with(
     content: &[u8],
     duration: Option<u32>,
     flags: Option<u32>,
+    ticks: &mut Ticks,
 ) -> Option<Timing>
     requires len { length content.now ≤ 2 ^ 26 }
     requires short { IsShort so_far }
+    requires count { ticks.old < 2 ^ 62 + 2 ^ 58 }
     ensures value { result ≡ (if own then timing_by time (over (timed_step duration flags) Some no_samples content.now) so_far else Some so_far) }
     ensures short { IfSome result IsShort }
+    ensures counted { RisesBy (length content.now * 3) ticks.old ticks.new }
 {
     if !own {
         return Some(so_far);
     }
-    timing_after(so_far, time, content, duration, flags)
+    timing_after(so_far, time, content, duration, flags, ticks)
 }
 
 /// One more track fragment, with this content.
@@ -161,15 +169,18 @@ fn with_traf(
     bounds: Bounds,
     so_far: Tally,
     content: &[u8],
+    ticks: &mut Ticks,
 ) -> Option<Tally>
     requires len { length content.now ≤ 2 ^ 26 }
     requires end { IsNear (2 ^ 26) so_far.placed.end }
     requires short { IsShort so_far.timing }
+    requires count { ticks.old < 2 ^ 62 + 2 ^ 57 }
     ensures value { result ≡ option_map (tally_more (given tracks.now timing bounds) so_far) (traf_at content.now) }
     ensures near { (n : ℕ) → IsNear n so_far.placed.end → IfSome result (λ s. IsNear (n + length content.now) s.placed.end) }
     ensures short { IfSome result (λ s. IsShort s.timing) }
+    ensures counted { RisesBy (length content.now * 6) ticks.old ticks.new }
 {
-    let Some(heading) = traf_of(content) else {
+    let Some(heading) = traf_of(content, ticks) else {
         return None;
     };
     let head = heading.head;
@@ -177,7 +188,7 @@ fn with_traf(
     let trex = trex_of(track);
     let start = start_of(head.flags & DEFAULT_BASE_IS_MOOF != 0, so_far.placed);
     let frame = frame_at(start, bounds);
-    let Some(placed) = place_runs(content, size_for(head, trex), frame, start) else {
+    let Some(placed) = place_runs(content, size_for(head, trex), frame, start, ticks) else {
         return None;
     };
     let Some(timing_now) = timing_with(
@@ -187,6 +198,7 @@ fn with_traf(
         content,
         duration_for(head, trex),
         flags_for(head, trex),
+        ticks,
     ) else {
         return None;
     };
@@ -209,25 +221,36 @@ fn with_box(
     so_far: Tally,
     kind: u32,
     content: &[u8],
+    ticks: &mut Ticks,
 ) -> Option<Tally>
     requires len { length content.now ≤ 2 ^ 26 }
     requires end { IsNear (2 ^ 26) so_far.placed.end }
     requires short { IsShort so_far.timing }
+    requires count { ticks.old < 2 ^ 62 + 2 ^ 57 }
     ensures value { let child : Child = record { kind = kind; head = 0; content = content.now } in result ≡ tally_step (given tracks.now timing bounds) so_far child }
     ensures near { (n : ℕ) → IsNear n so_far.placed.end → IfSome result (λ s. IsNear (n + length content.now) s.placed.end) }
     ensures short { IfSome result (λ s. IsShort s.timing) }
+    ensures counted { RisesBy (length content.now * 6) ticks.old ticks.new }
 {
     if kind != TRAF {
         return Some(so_far);
     }
-    with_traf(tracks, timing, bounds, so_far, content)
+    with_traf(tracks, timing, bounds, so_far, content, ticks)
 }
 
 /// What all track fragments of the `moof` with this content come to.
-pub fn tally_of(tracks: &[Track], timing: Track, bounds: Bounds, moof: &[u8]) -> Option<Tally>
-    requires { length moof.now ≤ 2 ^ 26 }
+pub fn tally_of(
+    tracks: &[Track],
+    timing: Track,
+    bounds: Bounds,
+    moof: &[u8],
+    ticks: &mut Ticks,
+) -> Option<Tally>
+    requires len { length moof.now ≤ 2 ^ 26 }
+    requires count { ticks.old < 2 ^ 62 + 2 ^ 56 }
     ensures value { result ≡ over (tally_step (given tracks.now timing bounds)) Some empty moof.now }
     ensures short { IfSome result (λ s. IsShort s.timing) }
+    ensures counted { RisesBy (length moof.now * 6) ticks.old ticks.new }
 {
     let mut so_far = Tally {
         unknown: false,
@@ -241,11 +264,12 @@ pub fn tally_of(tracks: &[Track], timing: Track, bounds: Bounds, moof: &[u8]) ->
     };
     let mut rest = moof;
     'boxes: while !rest.is_empty() {
-        let Some(header) = box_header(rest) else {
+        let Some(header) = counted_header(rest, ticks) else {
             return None;
         };
         let content = &rest[header.head as usize..header.size as usize];
-        let Some(next) = with_box(tracks, timing, bounds, so_far, header.kind, content) else {
+        let Some(next) = with_box(tracks, timing, bounds, so_far, header.kind, content, ticks)
+        else {
             return None;
         };
         so_far = next;

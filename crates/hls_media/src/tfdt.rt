@@ -1,23 +1,28 @@
 //! Track fragment decode times (ISO/IEC 14496-12 8.8.12).
 
-ghost use Rattle.std.specs.Prelude.{◌≡◌};
+ghost use Rattle.std.specs.Prelude.{◌≡◌, ◌+◌, ◌^◌, ◌<◌, length};
 ghost use Rattle.hls_media.specs.Kept.{time_kept};
+ghost use Rattle.hls_media.specs.Counted.{RisesBy};
 
-use hls_boxes_laws::numbers::{u32_at, u64_at};
+use crate::fields::{long_field, short_field};
+use hls_time::Ticks;
 
 /// The decode time in a `tfdt` with this content, if its version is known and its field lies in it.
 #[tactic(auto, unfolding(hls_media_laws::specs::Fields::time_fits, hls_media_laws::specs::Fields::decode_time, crate::specs::Kept::time_kept))]
-pub fn time_of(content: &[u8]) -> Option<u64>
-    ensures { result ≡ time_kept content.now }
+pub fn time_of(content: &[u8], ticks: &mut Ticks) -> Option<u64>
+    requires { ticks.old < 2 ^ 62 + 2 ^ 61 }
+    ensures value { result ≡ time_kept content.now }
+    ensures counted { RisesBy (length content.now) ticks.old ticks.new }
 {
     if content.len() < 8 {
         return None;
     }
+    ticks.tick();
     if content[0] == 0 {
-        return Some(u64::from(u32_at(content, 4)));
+        return Some(u64::from(short_field(content, 4, ticks)));
     }
     if content[0] != 1 || content.len() < 12 {
         return None;
     }
-    Some(u64_at(content, 4))
+    Some(long_field(content, 4, ticks))
 }

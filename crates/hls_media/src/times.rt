@@ -1,16 +1,18 @@
 //! How long a track fragment's samples last, and the flags of its first one (ISO/IEC 14496-12 8.8.8).
 
-ghost use Rattle.std.specs.Prelude.{◌≡◌, ◌+◌, ◌*◌, ◌^◌, ◌≤◌, Some, length, IfSome};
+ghost use Rattle.std.specs.Prelude.{◌≡◌, ◌+◌, ◌*◌, ◌^◌, ◌<◌, ◌≤◌, Some, length, IfSome};
 ghost use Rattle.hls_boxes_laws.specs.Boxes.{Child};
+ghost use Rattle.hls_media.specs.Counted.{RisesBy};
 ghost use Rattle.hls_media.specs.Folds.{over};
 ghost use Rattle.hls_media.specs.Kept.{IsRun};
 ghost use Rattle.hls_media.specs.Timed.{no_samples, flags_more, timed_more, timed_step};
 
 use crate::columns::{durations_of, first_flags};
-use crate::headers::box_header;
+use crate::headers::counted_header;
 use crate::places::either;
 use crate::trun::{Run, run_of};
 use hls_media_laws::kinds::TRUN;
+use hls_time::Ticks;
 
 /// What is known of the samples so far.
 #[derive(Clone, Copy)]
@@ -26,14 +28,22 @@ pub struct Timed {
 }
 
 /// The first sample's flags once this run is known.
-fn flags_after(so_far: Timed, flags: Option<u32>, content: &[u8], run: Run) -> Option<u32>
-    requires { IsRun run content.now }
-    ensures { result ≡ flags_more flags so_far content.now }
+fn flags_after(
+    so_far: Timed,
+    flags: Option<u32>,
+    content: &[u8],
+    run: Run,
+    ticks: &mut Ticks,
+) -> Option<u32>
+    requires is_run { IsRun run content.now }
+    requires room { ticks.old < 2 ^ 63 }
+    ensures value { result ≡ flags_more flags so_far content.now }
+    ensures counted { RisesBy 1 ticks.old ticks.new }
 {
     if so_far.samples || run.count == 0 {
         return so_far.flags;
     }
-    first_flags(content, run, flags)
+    first_flags(content, run, flags, ticks)
 }
 
 /// One more run.
@@ -43,18 +53,22 @@ fn time_run(
     flags: Option<u32>,
     content: &[u8],
     run: Run,
+    ticks: &mut Ticks,
 ) -> Timed
     requires is_run { IsRun run content.now }
     requires room { so_far.duration ≤ 2 ^ 100 }
+    requires len { length content.now ≤ 2 ^ 26 }
+    requires count { ticks.old < 2 ^ 62 + 2 ^ 60 }
     ensures value { result ≡ timed_more duration flags so_far content.now }
     ensures bound { result.duration ≤ so_far.duration + length content.now * 2 ^ 61 }
+    ensures counted { RisesBy (length content.now * 2) ticks.old ticks.new }
 {
-    let durations = durations_of(content, run, duration);
+    let durations = durations_of(content, run, duration, ticks);
     Timed {
         duration: so_far.duration + u128::from(durations.total),
         lacking: either(so_far.lacking, durations.lacking),
         samples: either(so_far.samples, run.count > 0),
-        flags: flags_after(so_far, flags, content, run),
+        flags: flags_after(so_far, flags, content, run, ticks),
     }
 }
 
@@ -65,25 +79,36 @@ fn time_box(
     flags: Option<u32>,
     kind: u32,
     content: &[u8],
+    ticks: &mut Ticks,
 ) -> Option<Timed>
-    requires { so_far.duration ≤ 2 ^ 100 }
+    requires room { so_far.duration ≤ 2 ^ 100 }
+    requires len { length content.now ≤ 2 ^ 26 }
+    requires count { ticks.old < 2 ^ 62 + 2 ^ 59 }
     ensures value { let child : Child = record { kind = kind; head = 0; content = content.now } in result ≡ timed_step duration flags so_far child }
     ensures bound { IfSome result (λ t. t.duration ≤ so_far.duration + length content.now * 2 ^ 61) }
+    ensures counted { RisesBy (length content.now * 3) ticks.old ticks.new }
 {
     if kind != TRUN {
         return Some(so_far);
     }
-    let Some(run) = run_of(content) else {
+    let Some(run) = run_of(content, ticks) else {
         return None;
     };
-    Some(time_run(so_far, duration, flags, content, run))
+    Some(time_run(so_far, duration, flags, content, run, ticks))
 }
 
 /// What is known of all samples of the track fragment with this content.
-pub fn time_runs(content: &[u8], duration: Option<u32>, flags: Option<u32>) -> Option<Timed>
-    requires { length content.now ≤ 2 ^ 26 }
+pub fn time_runs(
+    content: &[u8],
+    duration: Option<u32>,
+    flags: Option<u32>,
+    ticks: &mut Ticks,
+) -> Option<Timed>
+    requires len { length content.now ≤ 2 ^ 26 }
+    requires count { ticks.old < 2 ^ 62 + 2 ^ 58 }
     ensures value { result ≡ over (timed_step duration flags) Some no_samples content.now }
     ensures bound { IfSome result (λ t. t.duration ≤ length content.now * 2 ^ 61) }
+    ensures counted { RisesBy (length content.now * 3) ticks.old ticks.new }
 {
     let mut so_far = Timed {
         duration: 0,
@@ -93,7 +118,7 @@ pub fn time_runs(content: &[u8], duration: Option<u32>, flags: Option<u32>) -> O
     };
     let mut rest = content;
     'boxes: while !rest.is_empty() {
-        let Some(header) = box_header(rest) else {
+        let Some(header) = counted_header(rest, ticks) else {
             return None;
         };
         let Some(next) = time_box(
@@ -102,6 +127,7 @@ pub fn time_runs(content: &[u8], duration: Option<u32>, flags: Option<u32>) -> O
             flags,
             header.kind,
             &rest[header.head as usize..header.size as usize],
+            ticks,
         ) else {
             return None;
         };

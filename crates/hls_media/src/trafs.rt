@@ -1,15 +1,17 @@
 //! Track fragments (ISO/IEC 14496-12 8.8.6): whether one is good, its header and its decode time.
 
-ghost use Rattle.std.specs.Prelude.{◌≡◌, option_map};
+ghost use Rattle.std.specs.Prelude.{◌≡◌, ◌+◌, ◌^◌, ◌<◌, ◌≤◌, length, option_map};
 ghost use Rattle.hls_boxes_laws.specs.Boxes.{Child};
 ghost use Rattle.hls_media_laws.specs.Trafs.{traf_at};
+ghost use Rattle.hls_media.specs.Counted.{RisesBy};
 ghost use Rattle.hls_media.specs.Noted.{noted, whole_heading, heading_of};
 
-use crate::headers::box_header;
+use crate::headers::counted_header;
 use crate::tfdt::time_of;
 use crate::tfhd::{Head, head_of};
 use crate::trun::run_of;
 use hls_media_laws::kinds::{TFDT, TFHD, TRUN};
+use hls_time::Ticks;
 
 /// The header of a track fragment, and its decode time if it has one.
 #[derive(Clone, Copy)]
@@ -26,15 +28,17 @@ pub struct Noted {
 }
 
 /// Takes note of one more box.
-fn with_box(so_far: Noted, kind: u32, content: &[u8]) -> Option<Noted>
-    ensures { let child : Child = record { kind = kind; head = 0; content = content.now } in result ≡ noted so_far child }
+fn with_box(so_far: Noted, kind: u32, content: &[u8], ticks: &mut Ticks) -> Option<Noted>
+    requires { ticks.old < 2 ^ 62 + 2 ^ 59 }
+    ensures value { let child : Child = record { kind = kind; head = 0; content = content.now } in result ≡ noted so_far child }
+    ensures counted { RisesBy (length content.now) ticks.old ticks.new }
 {
     match kind {
         TFHD => {
             if so_far.head.is_some() {
                 return None;
             }
-            let head = head_of(content)?;
+            let head = head_of(content, ticks)?;
             Some(Noted {
                 head: Some(head),
                 time: so_far.time,
@@ -44,14 +48,14 @@ fn with_box(so_far: Noted, kind: u32, content: &[u8]) -> Option<Noted>
             if so_far.time.is_some() {
                 return None;
             }
-            let time = time_of(content)?;
+            let time = time_of(content, ticks)?;
             Some(Noted {
                 head: so_far.head,
                 time: Some(time),
             })
         }
         TRUN => {
-            if run_of(content).is_none() {
+            if run_of(content, ticks).is_none() {
                 return None;
             }
             Some(so_far)
@@ -72,8 +76,11 @@ fn heading_from(so_far: Noted) -> Option<Heading>
 }
 
 /// The heading of the track fragment with this content, if all that counts in it is good.
-pub fn traf_of(content: &[u8]) -> Option<Heading>
-    ensures { result ≡ option_map heading_of (traf_at content.now) }
+pub fn traf_of(content: &[u8], ticks: &mut Ticks) -> Option<Heading>
+    requires len { length content.now ≤ 2 ^ 26 }
+    requires count { ticks.old < 2 ^ 62 + 2 ^ 58 }
+    ensures value { result ≡ option_map heading_of (traf_at content.now) }
+    ensures counted { RisesBy (length content.now) ticks.old ticks.new }
 {
     let mut so_far = Noted {
         head: None,
@@ -81,13 +88,14 @@ pub fn traf_of(content: &[u8]) -> Option<Heading>
     };
     let mut rest = content;
     'boxes: while !rest.is_empty() {
-        let Some(header) = box_header(rest) else {
+        let Some(header) = counted_header(rest, ticks) else {
             return None;
         };
         let Some(next) = with_box(
             so_far,
             header.kind,
             &rest[header.head as usize..header.size as usize],
+            ticks,
         ) else {
             return None;
         };

@@ -1,15 +1,17 @@
 //! Track runs (ISO/IEC 14496-12 8.8.8).
 
-ghost use Rattle.std.specs.Prelude.{◌≡◌, option_map, IfSome};
+ghost use Rattle.std.specs.Prelude.{◌≡◌, ◌+◌, ◌^◌, ◌<◌, length, option_map, IfSome};
 ghost use Rattle.std.specs.Int.{w32, cast_signed};
 ghost use Rattle.hls_media.specs.Kept.{run_kept, IsRun};
+ghost use Rattle.hls_media.specs.Counted.{RisesBy};
 
+use crate::fields::short_field;
 use crate::flags::{field_if, field_len};
-use hls_boxes_laws::numbers::u32_at;
 use hls_media_laws::flags::{
     DATA_OFFSET_PRESENT, FIRST_SAMPLE_FLAGS_PRESENT, SAMPLE_COMPOSITION_TIME_OFFSETS_PRESENT,
     SAMPLE_DURATION_PRESENT, SAMPLE_FLAGS_PRESENT, SAMPLE_SIZE_PRESENT,
 };
+use hls_time::Ticks;
 
 /// What is used of a `trun`, and where its rows of fields stand.
 #[derive(Clone, Copy)]
@@ -26,15 +28,17 @@ pub struct Run {
 
 /// The run with this content, if its fields lie in it.
 #[tactic(auto, unfolding(hls_media_laws::specs::Fields::count_of, hls_media_laws::specs::Fields::first_flags_place, hls_media_laws::specs::Fields::rows_place, hls_media_laws::specs::Fields::row_len, hls_media_laws::specs::Fields::run_fits, hls_media_laws::specs::Fields::data_offset, hls_media_laws::specs::Fields::first_flags_of, crate::specs::Kept::run_kept))]
-pub fn run_of(content: &[u8]) -> Option<Run>
+pub fn run_of(content: &[u8], ticks: &mut Ticks) -> Option<Run>
+    requires { ticks.old < 2 ^ 62 + 2 ^ 61 }
     ensures value { result ≡ run_kept content.now }
     ensures is_run { IfSome result (λ run. IsRun run content.now) }
+    ensures counted { RisesBy (length content.now) ticks.old ticks.new }
 {
     if content.len() < 8 {
         return None;
     }
-    let flags = u32_at(content, 0);
-    let count = u32_at(content, 4);
+    let flags = short_field(content, 0, ticks);
+    let count = short_field(content, 4, ticks);
     let first_flags_at = 8 + field_len(flags, DATA_OFFSET_PRESENT);
     let rows = first_flags_at + field_len(flags, FIRST_SAMPLE_FLAGS_PRESENT);
     let row = field_len(flags, SAMPLE_DURATION_PRESENT)
@@ -47,8 +51,14 @@ pub fn run_of(content: &[u8]) -> Option<Run>
     Some(Run {
         flags,
         count,
-        offset: signed(field_if(content, flags, DATA_OFFSET_PRESENT, 8)),
-        first_flags: field_if(content, flags, FIRST_SAMPLE_FLAGS_PRESENT, first_flags_at),
+        offset: signed(field_if(content, flags, DATA_OFFSET_PRESENT, 8, ticks)),
+        first_flags: field_if(
+            content,
+            flags,
+            FIRST_SAMPLE_FLAGS_PRESENT,
+            first_flags_at,
+            ticks,
+        ),
         rows,
         row,
     })

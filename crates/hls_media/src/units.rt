@@ -1,13 +1,14 @@
 //! Units: their boxes at the top, and their facts.
 
-ghost use Rattle.std.specs.Prelude.{pos, option_map, IfSome, ◌≡◌, ◌^◌, ◌<◌, ◌≤◌, length};
+ghost use Rattle.std.specs.Prelude.{pos, option_map, IfSome, ◌≡◌, ◌+◌, ◌*◌, ◌^◌, ◌<◌, ◌≤◌, length};
 ghost use Rattle.hls_media_laws.specs.UnitFacts.{facts};
 ghost use Rattle.hls_media_laws.specs.Layout.{layout_of};
 ghost use Rattle.hls_media_laws.specs.FactCases.{facts_of_moof as facts_by_moof};
+ghost use Rattle.hls_media.specs.Counted.{RisesBy};
 ghost use Rattle.hls_media.specs.Shapes.{seen_by};
 ghost use Rattle.hls_media.specs.Tallies.{given};
 
-use crate::headers::box_header;
+use crate::headers::counted_header;
 use crate::tallies::{Bounds, tally_of};
 use crate::verdict::judge;
 use hls_boxes_laws::kinds::{MDAT, MOOF, MOOV, UNIT_LIMIT};
@@ -15,6 +16,7 @@ use hls_media_laws::facts::Facts;
 use hls_media_laws::fault::MediaFault;
 use hls_media_laws::init::Init;
 use hls_media_laws::track::Track;
+use hls_time::Ticks;
 
 /// The facts of a unit of `len` bytes whose `moof` has this content, or the first fault.
 fn facts_of_moof(
@@ -23,12 +25,15 @@ fn facts_of_moof(
     bounds: Bounds,
     len: u64,
     moof: &[u8],
+    ticks: &mut Ticks,
 ) -> Result<Facts, MediaFault>
     requires some { 0 < timing.scale }
     requires short { length moof.now ≤ 2 ^ 26 }
-    ensures { result ≡ facts_by_moof (given tracks.now timing bounds) len moof.now }
+    requires count { ticks.old < 2 ^ 62 + 2 ^ 56 }
+    ensures value { result ≡ facts_by_moof (given tracks.now timing bounds) len moof.now }
+    ensures counted { RisesBy (length moof.now * 6) ticks.old ticks.new }
 {
-    let Some(tally) = tally_of(tracks, timing, bounds, moof) else {
+    let Some(tally) = tally_of(tracks, timing, bounds, moof, ticks) else {
         return Err(MediaFault::BadBox);
     };
     judge(timing, len, tally)
@@ -54,9 +59,12 @@ pub struct Met {
 }
 
 /// The layout of a unit, if the bytes are just one.
-fn shape_of(unit: &[u8]) -> Option<Shape>
+fn shape_of(unit: &[u8], ticks: &mut Ticks) -> Option<Shape>
+    requires { ticks.old < 2 ^ 62 }
     ensures value { option_map (seen_by unit.now) result ≡ layout_of unit.now }
     ensures within { IfSome result (λ s. (s.from ≤ s.to) × (s.to ≤ length unit.now) × (length unit.now ≤ 2 ^ 26)) }
+    ensures counted { RisesBy (length unit.now) ticks.old ticks.new }
+    ensures room { IfSome result (λ _. ticks.new ≤ ticks.old + 2 ^ 26) }
 {
     if unit.len() > UNIT_LIMIT as usize {
         return None;
@@ -64,7 +72,7 @@ fn shape_of(unit: &[u8]) -> Option<Shape>
     let mut met: Option<Met> = None;
     let mut rest = unit;
     'boxes: while !rest.is_empty() {
-        let Some(header) = box_header(rest) else {
+        let Some(header) = counted_header(rest, ticks) else {
             return None;
         };
         let at = unit.len() - rest.len();
@@ -112,14 +120,20 @@ fn bounds_of(shape: Shape) -> Bounds
     }
 }
 
-/// Reads the facts of a unit under its init section (ISO/IEC 14496-12 8.8). It takes no memory.
+/// Reads the facts of a unit under its init section (ISO/IEC 14496-12 8.8). It takes no memory. The count rises by one
+/// for each field that is read: of a box its size, its type, and its size in 64 bits where it has one; of its content each
+/// number that is used, each time that it is. However many samples a unit announces, that is at most 16 for each of its
+/// bytes.
 ///
 /// The first fault of the whole unit, in this order: `BadBox`, `UnknownTrack`, `BaseOffset`, `NoTimingTraf`,
 /// `TwoTimingTrafs`, `NoDecodeTime`, `NoDefault`, `EmptyFragment`, `TimeTooLarge`, `DataOutside`.
-pub fn read_facts(init: &Init, unit: &[u8]) -> Result<Facts, MediaFault>
-    ensures { result ≡ facts init.now unit.now }
+pub fn read_facts_counted(init: &Init, unit: &[u8], ticks: &mut Ticks) -> Result<Facts, MediaFault>
+    requires { ticks.old < 2 ^ 62 }
+    ensures value { result ≡ facts init.now unit.now }
+    ensures rises { ticks.old ≤ ticks.new }
+    ensures bound { ticks.new ≤ ticks.old + 16 * length unit.now }
 {
-    let Some(shape) = shape_of(unit) else {
+    let Some(shape) = shape_of(unit, ticks) else {
         return Err(MediaFault::BadBox);
     };
     let moof = &unit[shape.from..shape.to];
@@ -129,5 +143,13 @@ pub fn read_facts(init: &Init, unit: &[u8]) -> Result<Facts, MediaFault>
         bounds_of(shape),
         unit.len() as u64,
         moof,
+        ticks,
     )
+}
+
+/// What `read_facts_counted` gives, by a count of its own.
+pub fn read_facts(init: &Init, unit: &[u8]) -> Result<Facts, MediaFault>
+    ensures { result ≡ facts init.now unit.now }
+{
+    read_facts_counted(init, unit, &mut Ticks::new())
 }

@@ -8,13 +8,14 @@ rows-preserved c =
     let some : 0 < c.rows.left = omega arith in
     rw (take_rest c.rows.rest.now c.args.row)
     (record {
-      value = omega (arith, c.rows.invariant.value, column-step c.rows.left c.args.row c.args.at c.rows.rest.now some, c.u32_at.ensures, c.from-total.ensures);
+      value = omega (arith, c.rows.invariant.value, column-step c.rows.left c.args.row c.args.at c.rows.rest.now some, c.short_field.ensures.value, c.from-total.ensures);
       room = omega (arith, rows_less c.rows.left c.args.row (length c.rows.rest.now) some c.rows.invariant.room, length-drop c.args.row c.rows.rest.now);
       bound = omega (arith, c.rows.invariant.bound, c.from-total.ensures);
       counted = omega (arith, c.rows.invariant.counted);
+      ticked = omega (arith, c.rows.invariant.ticked, c.short_field.ensures.counted);
     })
 
-pub returns : goal.returns
-returns c =
+pub returns-clause-value : goal.returns-clause-value
+returns-clause-value c =
     let none : c.rows.left ≡ 0 = omega arith in
     omega (arith, c.rows.invariant.value, column-none c.rows.left c.args.row c.args.at c.rows.rest.now none)

@@ -26,15 +26,15 @@ nothing at run =
     let zero : count_of run * 0 ≡ 0 = omega arith in
     same 0 _ (nat_lt 0 (count_of run)) _ (sym (total-defaults (count_of run) None ∙ zero)) (sym (lacks-none (count_of run)))
 
-pub returns-then-there : goal.returns-then-there
-returns-then-there c =
+pub returns-then-there-clause-value : goal.returns-then-there-clause-value
+returns-then-there-clause-value c =
     let is : c.column_sum.result ≡ sum (column (count_of c.args.content.now) (row_len c.args.content.now) c.args.at (drop (rows_place c.args.content.now) c.args.content.now)) =
-    rw (← c.requires.is_run.count, ← c.requires.is_run.row, ← c.requires.is_run.rows, ← take_rest c.args.content.now c.args.run.rows) c.column_sum.ensures in
+    rw (← c.requires.is_run.count, ← c.requires.is_run.row, ← c.requires.is_run.rows, ← take_rest c.args.content.now c.args.run.rows) c.column_sum.ensures.value in
     rw c.if-there.true (fields c.args.at c.args.default c.args.content.now c.column_sum.result is)
 
-pub returns-in_default : goal.returns-in_default
-returns-in_default c = rw (c.if-there.false, c.in_default.is, c.requires.is_run.count) (nothing c.args.at c.args.content.now)
+pub returns-in_default-clause-value : goal.returns-in_default-clause-value
+returns-in_default-clause-value c = rw (c.if-there.false, c.in_default.is, c.requires.is_run.count) (nothing c.args.at c.args.content.now)
 
-pub returns : goal.returns
-returns c =
+pub returns-clause-value : goal.returns-clause-value
+returns-clause-value c =
     rw (c.if-there.false, c.in-Some.is, c.from.ensures, c.from-2.ensures, c.requires.is_run.count) (defaults c.args.at c.in-Some.value c.args.content.now)

@@ -7,7 +7,7 @@ use Rattle.hls_media.proofs.places.place_run.Goals as goal
 pub returns-clause-value : goal.returns-clause-value
 unfolding placed_more run_begin
 returns-clause-value c =
-    rw (c.ended.ensures.value, c.either-lacking.ensures, c.either-outside.ensures, c.is_outside.ensures, c.stretch_of-stretch.ensures.value, c.sizes_of-sizes.ensures, c.requires.is_run.offset) refl
+    rw (c.ended.ensures.value, c.either-lacking.ensures, c.either-outside.ensures, c.is_outside.ensures, c.stretch_of-stretch.ensures.value, c.sizes_of-sizes.ensures.value, c.requires.is_run.offset) refl
 
 pub returns-clause-near : goal.returns-clause-near
 returns-clause-near c = λ n base end.

@@ -5,7 +5,7 @@ use Rattle.hls_media.proofs.times.time_run.Goals as goal
 pub returns-clause-value : goal.returns-clause-value
 unfolding timed_more
 returns-clause-value c =
-    rw (c.from.ensures, c.either.ensures, c.either-2.ensures, c.flags_after.ensures, c.durations_of-durations.ensures, c.requires.is_run.count) refl
+    rw (c.from.ensures, c.either.ensures, c.either-2.ensures, c.flags_after.ensures.value, c.durations_of-durations.ensures.value, c.requires.is_run.count) refl
 
 pub returns-clause-bound : goal.returns-clause-bound
 returns-clause-bound c =
