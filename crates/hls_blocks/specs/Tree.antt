@@ -1,3 +1,4 @@
+-- For the proofs of this crate; no public clause cites it.
 -- What the nodes of each level are seen as, and what holds of them.
 use Rattle.std.specs.Prelude.{◌≡◌, ℕ, ◌+◌, ◌<◌, ◌≤◌, List, [], ◌∷◌, ◌++◌, length, map}
 use Rattle.hls_blocks.specs.Numbered.{Numbered}

@@ -1,3 +1,4 @@
+-- For the proofs of this crate; no public clause cites it.
 -- How a snapshot's parts make up its state.
 use Rattle.std.specs.Prelude.{◌≡◌, ℕ, List, Some, map, slice_get}
 use Rattle.hls_places_laws.specs.Positions.{IsCursor, IsThrough}

@@ -1,3 +1,4 @@
+-- For the proofs of this crate; no public clause cites it.
 -- What a rendition of a snapshot says of its lane in the log, and which bytes it keeps.
 use Rattle.std.specs.Prelude.{◌≡◌, ℕ, Bool, false, List, [], ◌∷◌, ◌++◌, Option, Some, None, length, map, slice_get, slice_set}
 use Rattle.hls_record.specs.Recorded.{Recorded}

@@ -1,3 +1,4 @@
+-- For the proofs of this crate; no public clause cites it.
 -- The values of a head's fields, as its spans show them.
 use Rattle.std.specs.Prelude.{◌≡◌, ℕ, ◌<◌, ◌≤◌, cond, List, [], ◌∷◌, length, drop, map, Option, Some, None, Ok, Err}
 use Rattle.httparse.specs.declared.spans.HeaderSpan.{HeaderSpan}

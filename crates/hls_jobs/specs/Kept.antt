@@ -1,3 +1,4 @@
+-- For the proofs of this crate; no public clause cites it.
 -- What a table keeps, and what always holds of it.
 use Rattle.std.specs.Prelude.{◌≤◌}
 use Rattle.std.specs.Vec.{vec_capacity}

@@ -1,3 +1,4 @@
+-- For the proofs of this crate; no public clause cites it.
 -- What holds of a recording and its common places.
 use Rattle.std.specs.Prelude.{◌≡◌, ◌≤◌, List, length, All}
 use Rattle.hls_record.specs.Recorded.{Recorded}

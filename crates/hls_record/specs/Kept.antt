@@ -1,3 +1,4 @@
+-- For the proofs of this crate; no public clause cites it.
 -- How a recording's fields are seen, and what holds of them.
 use Rattle.std.specs.Prelude.{◌≡◌, ℕ, map, Some, slice_get}
 use Rattle.hls_record.specs.declared.item.Item.{Item}

@@ -1,3 +1,4 @@
+-- For the tests of this crate; no public clause cites it.
 -- The sample recordings of the tests: what a sample init section and a sample unit read as.
 use Rattle.std.specs.Prelude.{ℕ, ◌+◌, true, List, [], ◌∷◌, Some, codes}
 use Rattle.hls_samples.specs.Init as sections
