@@ -6,6 +6,7 @@ use super::{
 };
 use crate::{CatchFault, live_playlist};
 use hls_core::snapshot::Snapshot;
+use hls_core::upkeep::upkeep;
 use hls_core_laws::event::Event;
 use hls_m3u8::{MediaPlaylist, write_media};
 use std::alloc::Global;
@@ -21,9 +22,9 @@ fn live(alloc: Global, snapshot: &Snapshot) -> Result<MediaPlaylist, Fail> {
     }
 }
 
-/// Its text.
-fn text_of(alloc: Global, snapshot: &Snapshot) -> Result<Vec<u8>, Fail> {
-    match live_playlist(alloc, snapshot, 0)? {
+/// The text of a rendition's live list.
+fn text_of(alloc: Global, snapshot: &Snapshot, rendition: usize) -> Result<Vec<u8>, Fail> {
+    match live_playlist(alloc, snapshot, rendition)? {
         Some(list) => Ok(write_media(alloc, &list)?),
         None => Err(Fail::from("no list")),
     }
@@ -45,7 +46,7 @@ fn writes_a_live_list_after_a_slide(rt: HostRuntime) -> Result<(), Fail> {
     let units = [(0, 4), (4, 8), (8, 13), (13, 18), (18, 22), (22, 26)];
     let state = recorded(alloc, &units)?;
     let state = slid(alloc, &state, 1)?;
-    let text = text_of(alloc, &state)?;
+    let text = text_of(alloc, &state, 0)?;
     let wanted = b"#EXTM3U
 #EXT-X-VERSION:6
 #EXT-X-TARGETDURATION:6
@@ -144,72 +145,81 @@ fn trimmed_units_are_before_the_recording(rt: HostRuntime) -> Result<(), Fail> {
     Ok(())
 }
 
-/// Two renditions with the units of 4 s that come in this order, each by its rendition and number.
-fn fed(alloc: Global, order: &[(usize, u64)]) -> Result<Arc<Snapshot>, Fail> {
+/// The state after all that upkeep gives, one event after the other.
+fn kept_up(
+    alloc: Global,
+    state: Arc<Snapshot>,
+    window: u64,
+    keep: u64,
+) -> Result<Arc<Snapshot>, Fail> {
+    let mut state = state;
+    for _ in 0..8 {
+        state = match upkeep(&state, window, keep) {
+            Some(Event::Slide { count }) => slid(alloc, &state, count)?,
+            Some(Event::Trim { rendition, floor }) => {
+                stepped(alloc, &state, Event::Trim { rendition, floor })?
+            }
+            _ => return Ok(state),
+        };
+    }
+    Err(Fail::from("no end of upkeep"))
+}
+
+/// Two renditions with units of 4 s, which come in the order of these digits, each its rendition's number; a second is
+/// missing before each sixth unit. Upkeep follows each unit, by this window and this much behind it, in seconds.
+fn fed(alloc: Global, order: &[u8], window: u32, keep: u32) -> Result<Arc<Snapshot>, Fail> {
     let none = double(alloc, 0)?;
     let state = begun(alloc, &none, 0, 90000)?;
     let mut state = begun(alloc, &state, 1, 90000)?;
-    for &(rendition, n) in order {
-        state = with_unit(alloc, &state, rendition, n % 4096 * 360000, 360000)?;
+    for digit in order {
+        let rendition = usize::from(*digit == b'1');
+        let n = state
+            .recording(rendition)
+            .map_or(0, |recording| recording.count());
+        let missing = if n < 5 { 0 } else { 90000 };
+        state = with_unit(
+            alloc,
+            &state,
+            rendition,
+            n % 4096 * 360000 + missing,
+            360000,
+        )?;
+        let (window, keep) = (u64::from(window) * SECOND, u64::from(keep) * SECOND);
+        state = kept_up(alloc, state, window, keep)?;
     }
     Ok(state)
 }
 
-fn assert_fed(rt: &impl Abort, list: &MediaPlaylist, removed: u64) {
-    assert_eq!(rt; list.media_sequence, removed);
-    for (segment, n) in list.segments.iter().zip(removed..) {
-        assert!(rt; !segment.mark);
-        assert_eq!(rt; segment.us, 4 * SECOND);
-        match segment.range {
-            Some(range) => assert!(rt; range.length == 1000 && range.offset / 1000 == n),
-            None => assert!(rt; false, "no range"),
-        }
-    }
+/// How many segments and marks were removed, and the number of the first kept unit in each rendition.
+fn removed(snapshot: &Snapshot) -> (u64, u64, [u64; 2]) {
+    let floor = |rendition| {
+        snapshot
+            .recording(rendition)
+            .map_or(0, |recording| recording.floor())
+    };
+    let line = snapshot.line();
+    (line.removed(), line.removed_breaks(), [floor(0), floor(1)])
 }
 
 #[test]
 fn origins_agree_whatever_the_order(rt: HostRuntime) -> Result<(), Fail> {
     let alloc = rt.alloc();
-    let apart = [
-        (0, 0),
-        (0, 1),
-        (0, 2),
-        (0, 3),
-        (0, 4),
-        (0, 5),
-        (0, 6),
-        (1, 0),
-        (1, 1),
-        (1, 2),
-        (1, 3),
-        (1, 4),
-        (1, 5),
-        (1, 6),
-    ];
-    let in_turn = [
-        (1, 0),
-        (0, 0),
-        (1, 1),
-        (0, 1),
-        (0, 2),
-        (1, 2),
-        (1, 3),
-        (1, 4),
-        (0, 3),
-        (0, 4),
-        (1, 5),
-        (0, 5),
-        (1, 6),
-        (0, 6),
-    ];
-    let one = fed(alloc, &apart)?;
-    let other = fed(alloc, &in_turn)?;
-    let other = slid(alloc, &other, 1)?;
-    let whole = live(alloc, &one)?;
-    let rest = live(alloc, &other)?;
-    assert_eq!(rt; whole.segments.len(), 6);
-    assert_eq!(rt; rest.segments.len(), 5);
-    assert_fed(&rt, &whole, 0);
-    assert_fed(&rt, &rest, 1);
+    let apart = fed(alloc, b"000000000000111111111111", 18, 8)?;
+    let in_turn = fed(alloc, b"100110100101011010010110", 30, 40)?;
+    // of eleven segments the last five, and the last eight; at 45 s the last place
+    assert_eq!(rt; removed(&apart), (6, 1, [6, 6]));
+    assert_eq!(rt; removed(&in_turn), (3, 0, [1, 1]));
+    for rendition in 0..2 {
+        let one = text_of(alloc, &apart, rendition)?;
+        let other = text_of(alloc, &in_turn, rendition)?;
+        // behind a head of six lines; three segments more, one of them marked, are ten lines
+        let mut lines = one.split(|byte| *byte == b'\n').skip(6);
+        let mut others = other.split(|byte| *byte == b'\n').skip(16);
+        for n in 0..17 {
+            let line = lines.next();
+            assert_eq!(rt; line.is_some(), n < 16);
+            assert!(rt; line == others.next(), "line {n} behind the head");
+        }
+    }
     Ok(())
 }

@@ -9,5 +9,5 @@ pub write_media-requires : goal.write_media-requires
 write_media-requires c =
     let made = c.in_ok-list.ensures.list in
     let is = c.in-Some.is in
-    let listed : live_list_of c.args.snapshot.now 0 ≡ Some (playlist_of c.in-Some.list) = sym made ∙ ap (option_map playlist_of) is in
-    live-lists-have-texts c.args.snapshot.now 0 (playlist_of c.in-Some.list) c.in_ok-list.ensures.valid listed
+    let listed : live_list_of c.args.snapshot.now c.args.rendition ≡ Some (playlist_of c.in-Some.list) = sym made ∙ ap (option_map playlist_of) is in
+    live-lists-have-texts c.args.snapshot.now c.args.rendition (playlist_of c.in-Some.list) c.in_ok-list.ensures.valid listed
