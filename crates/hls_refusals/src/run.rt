@@ -1,0 +1,56 @@
+//! The command `explain`, from a word to the bytes out.
+
+ghost use Rattle.std.specs.Prelude.{◌≡◌, ℕ, List, Some, option_map};
+ghost use Rattle.hls_io.specs.Counted.{failures_of, inside_of};
+ghost use Rattle.hls_refusals.specs.Lines.{said_of};
+ghost use Rattle.hls_refusals.specs.Explained.{CountsFailures, Explains, Prints};
+
+use crate::lines::explain;
+use hls_io::{Counted, write_whole};
+use std::alloc::Global;
+use std::io::Write;
+
+/// How `explain` ended.
+#[derive(Clone, Copy, Debug, PartialEq, Eq)]
+pub enum ExplainEnd {
+    /// What was asked for was written: status 0.
+    Explained,
+    /// No refusal has the name, and nothing was written: status 1.
+    Unknown,
+    /// A write failed: status 1.
+    WriteFailed,
+    /// Memory was wanted, and nothing was written: status 1.
+    Memory,
+}
+
+/// Writes what is said.
+fn print_said<W: Write>(output: &mut Counted<W>, said: &[u8]) -> ExplainEnd
+    ensures prints { (held : List ℕ) → W.contents (inside_of output.old) ≡ Some held
+        → Prints said.now held (W.contents (inside_of output.new)) result }
+    ensures counts { CountsFailures result (failures_of output.old) (failures_of output.new) }
+{
+    if write_whole(output, said) {
+        ExplainEnd::Explained
+    } else {
+        ExplainEnd::WriteFailed
+    }
+}
+
+/// Writes what a text says of a name: its line; without a name, all names, a line each. Nothing is written before the whole
+/// of it is there.
+pub fn run_explain<W: Write>(
+    alloc: Global,
+    text: &[u8],
+    name: Option<&[u8]>,
+    output: &mut Counted<W>,
+) -> ExplainEnd
+    ensures explains { (held : List ℕ) → W.contents (inside_of output.old) ≡ Some held
+        → Explains (said_of text.now (option_map (λ n. n.now) name.entry)) held (W.contents (inside_of output.new)) result }
+    ensures counts { CountsFailures result (failures_of output.old) (failures_of output.new) }
+{
+    match explain(alloc, text, name) {
+        Ok(Some(said)) => print_said(output, &said),
+        Ok(None) => ExplainEnd::Unknown,
+        Err(_) => ExplainEnd::Memory,
+    }
+}
