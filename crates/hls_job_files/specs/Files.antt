@@ -1,9 +1,12 @@
 -- The texts among a job's files.
-use Rattle.std.specs.Prelude.{ℕ, List, option_map, Option, None, slice_get}
+use Rattle.std.specs.Prelude.{ℕ, List, option_map, Option, Some, None, slice_get}
 use Rattle.hls_check_laws.specs.Certificates.{Printed}
 use Rattle.hls_check_text.specs.Text.{text}
 use Rattle.hls_m3u8.specs.Playlist.{playlist_of}
 use Rattle.hls_m3u8.specs.Lines.{media_text}
+use Rattle.hls_m3u8.specs.Masters.{master_text}
+use Rattle.hls_core_laws.specs.State.{State}
+use Rattle.hls_catchup_laws.specs.Masters.{job_master}
 use Rattle.hls_catchup.specs.declared.cutout.Cutout.{Cutout}
 use Rattle.hls_catchup.specs.declared.cutout.Cutout.TheVariants.{Cut, NoCut}
 use Rattle.hls_catchup.specs.Replies.{ReplyData}
@@ -23,3 +26,11 @@ playlist_in (NoCut certificate) r = None
 
 abbrev pub playlist_file : ReplyData → ℕ → Option (List ℕ)
 playlist_file reply r = playlist_in reply.cutout r
+
+-- the text of the master playlist, beside which they stand; none where there is no cut
+abbrev pub master_in : State → Cutout → Option (List ℕ)
+master_in s (Cut lists certificate) = Some (master_text (job_master s))
+master_in s (NoCut certificate) = None
+
+abbrev pub master_file : ReplyData → Option (List ℕ)
+master_file reply = master_in reply.state reply.cutout

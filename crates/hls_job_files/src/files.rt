@@ -1,12 +1,12 @@
 //! The texts among a job's files.
 
 ghost use Rattle.std.specs.Prelude.{◌≡◌, IfOk, option_map};
-ghost use Rattle.hls_job_files.specs.Files.{certificate_of, certificate_file, playlist_file};
+ghost use Rattle.hls_job_files.specs.Files.{certificate_of, certificate_file, master_file, playlist_file};
 
-use hls_catchup::{Cutout, Reply};
+use hls_catchup::{Cutout, Reply, job_master};
 use hls_check_laws::Certificate;
 use hls_check_text::write;
-use hls_m3u8::write_media;
+use hls_m3u8::{write_master, write_media};
 use std::alloc::{AllocError, Global};
 
 /// The certificate of a cut, or that there is none.
@@ -40,6 +40,19 @@ pub fn playlist_text(
             Some(list) => Ok(Some(write_media(alloc, list)?)),
             None => Ok(None),
         },
+        Cutout::NoCut { .. } => Ok(None),
+    }
+}
+
+/// The text of the master playlist, beside which the renditions' playlists stand; None where the reply is no cut.
+pub fn master_text(alloc: Global, reply: &Reply) -> Result<Option<Vec<u8>>, AllocError>
+    ensures { IfOk result (λ text. option_map (λ t. t.items) text ≡ master_file reply.now) }
+{
+    match reply.cutout() {
+        Cutout::Cut { .. } => {
+            let list = job_master(alloc, reply)?;
+            Ok(Some(write_master(alloc, &list)?))
+        }
         Cutout::NoCut { .. } => Ok(None),
     }
 }

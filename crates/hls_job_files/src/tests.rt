@@ -2,7 +2,7 @@
 //! each unit 1000.
 ghost use Rattle.hls_core_laws.specs.Moves.{IsFitting};
 
-use crate::{Withheld, certificate_text, job_line, playlist_text, reply_in};
+use crate::{Withheld, certificate_text, job_line, master_text, playlist_text, reply_in};
 use bytes::Bytes;
 use hls_catchup::Request;
 use hls_core::config::Config;
@@ -108,6 +108,8 @@ fn line(alloc: Global, job: &Job) -> Result<String, Fail> {
 const PLAYLIST: &str =
     "#EXTM3U\n#EXT-X-VERSION:6\n#EXT-X-TARGETDURATION:6\n#EXT-X-MEDIA-SEQUENCE:0\n#EXT-X-DISCONTINUITY-SEQUENCE:0\n#EXT-X-PLAYLIST-TYPE:VOD\n#EXT-X-MAP:URI=\"0.mp4\",BYTERANGE=\"600@0\"\n#EXTINF:4.000000,\n#EXT-X-BYTERANGE:1000@600\n0.mp4\n#EXT-X-ENDLIST\n";
 
+const MASTER: &[u8] = b"#EXTM3U\n#EXT-X-VERSION:6\n#EXT-X-STREAM-INF:BANDWIDTH=3000000\n0.m3u8\n";
+
 #[test]
 fn a_cut_has_its_files(rt: HostRuntime) -> Result<(), Fail> {
     let alloc = rt.alloc();
@@ -121,6 +123,10 @@ fn a_cut_has_its_files(rt: HostRuntime) -> Result<(), Fail> {
     };
     assert_eq!(rt; playlist.as_slice(), PLAYLIST.as_bytes());
     assert!(rt; playlist_text(alloc, reply, 1)?.is_none());
+    let Some(master) = master_text(alloc, reply)? else {
+        return Err(Fail::from("no master playlist"));
+    };
+    assert_eq!(rt; master.as_slice(), MASTER);
     assert!(rt; certificate_text(alloc, reply)?.starts_with(b"HLS-CUT-CERTIFICATE 1\ntarget 6\n"));
     Ok(())
 }

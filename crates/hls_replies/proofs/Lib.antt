@@ -1,4 +1,5 @@
 pub mod Wholes
 pub mod Parts
+pub mod Lists
 pub mod Sent
 pub mod Shown

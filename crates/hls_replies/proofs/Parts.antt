@@ -67,7 +67,7 @@ behind r at len k bytes few is =
     sym (drop-map Some k bytes) ∙ ap (drop k) is ∙ ap (λ n. drop k (take n (drop at (bytes_of r)))) (sym sum)
     ∙ drop-take k (len - k) (drop at (bytes_of r)) ∙ ap (take (len - k)) (drop-drop k at (bytes_of r) ∙ ap (λ n. drop n (bytes_of r)) (omega arith))
 
-take-under : {X : Type 0} (k n : ℕ) (xs : List X) → k ≤ length (take n xs) → take k (take n xs) ≡ take k xs
+pub take-under : {X : Type 0} (k n : ℕ) (xs : List X) → k ≤ length (take n xs) → take k (take n xs) ≡ take k xs
 take-under k n xs few = sym (take-append-le k (take n xs) (drop n xs) few) ∙ ap (take k) (take-append-drop n xs)
 
 piece-is : (r : Recorded) (at len : ℕ) (bytes piece : List ℕ) → IsRecorded r → at + len ≤ total_of r → media_bytes r at len ≡ Some bytes → piece_at r at ≡ Some piece

@@ -6,36 +6,35 @@ use Rattle.hls_http_laws.specs.declared.end.SessionEnd.{SessionEnd}
 use Rattle.hls_http_laws.specs.declared.end.SessionEnd.TheVariants as ends
 use Rattle.hls_http_laws.specs.declared.reply.ReplyHead.{ReplyHead}
 use Rattle.hls_http_laws.specs.Reply.{extra_line, head_text_of, reply_text}
+use Rattle.hls_http.specs.Media.{HasPart}
 use Rattle.hls_http.specs.Replies.{Answers}
 use Rattle.hls_serve_laws.specs.Replies.{Answer, answer_text}
-use Rattle.hls_replies.specs.declared.answer.Slice.{Slice}
-use Rattle.hls_replies.specs.declared.answer.Content.TheVariants.{Media}
-use Rattle.hls_replies.specs.Contents.{HasSlice, body_of}
 use Rattle.hls_replies.specs.Sends.{Sends}
 
-slice-body : (slice : Slice) (has : HasSlice slice) → body_of (Media slice) ≡ has.bytes
-slice-body slice has = ap (λ (found : Option (List ℕ)). unwrap_or found []) has.is
-
 -- to HEAD the head alone
-pub slice-to_head : (head : ReplyHead) (slice : Slice) (to_head : Bool) (held : List ℕ) (contents : Option (List ℕ)) (result : Result (Unit {0}) SessionEnd)
-    → HasSlice slice → to_head ≡ true → Answers head true held (head_text_of head slice.len) contents result
-    → Answers head to_head held (reply_text head (body_of (Media slice)) to_head) contents result
-slice-to_head head slice to_head held contents result has to answers =
-    let size : length (body_of (Media slice)) ≡ slice.len = ap length (slice-body slice has) ∙ has.size in
-    let text : reply_text head (body_of (Media slice)) true ≡ head_text_of head slice.len =
-    append-nil (head_text_of head (length (body_of (Media slice)))) ∙ ap (head_text_of head) size in
-    subst (λ (t : Bool). Answers head t held (reply_text head (body_of (Media slice)) t) contents result) (sym to)
+pub part-to_head : (head : ReplyHead) (bytes : List ℕ) (len : ℕ) (to_head : Bool) (held : List ℕ) (contents : Option (List ℕ)) (result : Result (Unit {0}) SessionEnd)
+    → length bytes ≡ len → to_head ≡ true → Answers head true held (head_text_of head len) contents result
+    → Answers head to_head held (reply_text head bytes to_head) contents result
+part-to_head head bytes len to_head held contents result size to answers =
+    let text : reply_text head bytes true ≡ head_text_of head len = append-nil (head_text_of head (length bytes)) ∙ ap (head_text_of head) size in
+    subst (λ (t : Bool). Answers head t held (reply_text head bytes t) contents result) (sym to)
     (subst (λ (xs : List ℕ). Answers head true held xs contents result) (sym text) answers)
 
-pub slice-to_get : (head : ReplyHead) (slice : Slice) (to_head : Bool) (held : List ℕ) (contents : Option (List ℕ)) (result : Result (Unit {0}) SessionEnd)
-    → (has : HasSlice slice) → to_head ≡ false → Answers head false held (head_text_of head slice.len ++ has.bytes) contents result
-    → Answers head to_head held (reply_text head (body_of (Media slice)) to_head) contents result
-slice-to_get head slice to_head held contents result has to answers =
-    let size : length (body_of (Media slice)) ≡ slice.len = ap length (slice-body slice has) ∙ has.size in
-    let text : reply_text head (body_of (Media slice)) false ≡ head_text_of head slice.len ++ has.bytes =
-    ap (λ n. head_text_of head n ++ body_of (Media slice)) size ∙ ap (λ xs. head_text_of head slice.len ++ xs) (slice-body slice has) in
-    subst (λ (t : Bool). Answers head t held (reply_text head (body_of (Media slice)) t) contents result) (sym to)
+pub part-to_get : (head : ReplyHead) (bytes : List ℕ) (len : ℕ) (to_head : Bool) (held : List ℕ) (contents : Option (List ℕ)) (result : Result (Unit {0}) SessionEnd)
+    → length bytes ≡ len → to_head ≡ false → Answers head false held (head_text_of head len ++ bytes) contents result
+    → Answers head to_head held (reply_text head bytes to_head) contents result
+part-to_get head bytes len to_head held contents result size to answers =
+    let text : reply_text head bytes false ≡ head_text_of head len ++ bytes = ap (λ n. head_text_of head n ++ bytes) size in
+    subst (λ (t : Bool). Answers head t held (reply_text head bytes t) contents result) (sym to)
     (subst (λ (xs : List ℕ). Answers head false held xs contents result) (sym text) answers)
+
+-- bytes that are there are the answer's body
+pub body-sent : (head : ReplyHead) (part : ℕ → ℕ → Option (List ℕ)) (from len : ℕ) (to_head : Bool) (held : List ℕ) (contents : Option (List ℕ))
+    (result : Result (Unit {0}) SessionEnd) → (has : HasPart part from len) → Answers head to_head held (reply_text head has.bytes to_head) contents result
+    → Answers head to_head held (reply_text head (unwrap_or (part from len) []) to_head) contents result
+body-sent head part from len to_head held contents result has answers =
+    subst (λ (body : List ℕ). Answers head to_head held (reply_text head body to_head) contents result)
+    (sym (ap (λ (found : Option (List ℕ)). unwrap_or found []) has.is)) answers
 
 reply-text : (a : Answer) (head : ReplyHead) (closing to_head : Bool) (body : List ℕ) → head.status ≡ a.status → head.kind ≡ a.kind → extra_line head.extra ≡ a.field
     → head.closing ≡ closing → body ≡ a.body → reply_text head body to_head ≡ answer_text a closing to_head

@@ -2,10 +2,11 @@
 
 ghost use Rattle.std.specs.Prelude.{◌≡◌, []};
 ghost use Rattle.hls_http_laws.specs.Reply.{extra_line};
-ghost use Rattle.hls_replies.specs.Contents.{HasSlice, body_of};
+ghost use Rattle.hls_replies.specs.Contents.{HasJobSlice, HasSlice, body_of};
 
 use hls_core::snapshot::Snapshot;
 use hls_http_laws::reply::{Extra, Kind, ReplyHead, Status};
+use hls_jobs::Job;
 use std::marker::Model;
 use std::sync::Arc;
 
@@ -22,6 +23,19 @@ pub struct Slice {
     pub len: u64,
 }
 
+/// So many bytes of the resource of a job's rendition from an offset on.
+#[derive(Drop)]
+pub struct JobSlice {
+    /// The job, whose answer keeps them.
+    pub job: Job,
+    /// The rendition.
+    pub rendition: usize,
+    /// The offset of the first byte.
+    pub from: u64,
+    /// The number of bytes.
+    pub len: u64,
+}
+
 /// What the body of an answer is.
 #[derive(Drop)]
 pub enum Content {
@@ -29,6 +43,8 @@ pub enum Content {
     Text(Vec<u8>),
     /// Bytes of a recording, which stay where they are.
     Media(Slice),
+    /// Bytes of a job's resource, which stay where they are.
+    JobMedia(JobSlice),
 }
 
 /// A reply but for `Connection`: its status, the type of its body, the one field that only some replies have, and its body.
@@ -82,6 +98,19 @@ impl Answer {
             kind: Kind::Media,
             extra,
             content: Content::Media(slice),
+        }
+    }
+
+    /// An answer whose body stands in a job's resource.
+    pub(crate) fn of_job_media(status: Status, extra: Extra<'static>, slice: JobSlice) -> Answer
+        requires { HasJobSlice slice }
+        ensures { result ≡ record { status = status; kind = Kind.Media; field = extra_line extra.entry; body = body_of (Content.JobMedia slice) } }
+    {
+        Answer {
+            status,
+            kind: Kind::Media,
+            extra,
+            content: Content::JobMedia(slice),
         }
     }
 

@@ -1,21 +1,22 @@
-//! What a server of a channel replies, made from the channel's state: the answers of its routes and its refusals, and how
-//! they are sent. Media go out from the recording itself.
+//! What a server of a channel replies, made from the channel's state and its jobs: the answers of its routes and its
+//! refusals, and how they are sent. Media go out from the recording itself, and a job's from its own snapshot.
 #![tactic(auto)]
 
 pub use answer::Answer;
+pub use jobs::{added_answer, bad_query_answer, file_answer, removed_answer, told_answer};
 pub use media::media_answer;
 pub use playlists::{list_answer, master_answer};
-pub use query::is_good_query;
+pub use query::{read_query, request_for};
 pub use sending::send;
 pub use standing::status_answer;
-pub use texts::{
-    catch_up_answer, fault_answer, finish_answer, method_answer, refused_answer, taken_answer,
-};
+pub use texts::{fault_answer, finish_answer, method_answer, refused_answer, taken_answer};
 
 mod answer;
+mod jobs;
 mod media;
 mod playlists;
 mod query;
+mod resource;
 mod sending;
 mod standing;
 #[cfg(test)]

@@ -77,7 +77,7 @@ fn slice_answer(
 }
 
 /// A part that holds no byte of a resource: 416 with the total (RFC 9110 15.5.17).
-fn outside_answer(alloc: Global, total: u64) -> Result<Answer, AllocError>
+pub(crate) fn outside_answer(alloc: Global, total: u64) -> Result<Answer, AllocError>
     ensures { IfOk result (λ a. a ≡ record {
       status = Status.RangeNotSatisfiable;
       kind = Kind.Text;

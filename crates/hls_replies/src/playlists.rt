@@ -34,6 +34,16 @@ fn live_text(
     }
 }
 
+/// A playlist; 404 where there is none.
+pub(crate) fn playlist_or_none(alloc: Global, text: Option<Vec<u8>>) -> Result<Answer, AllocError>
+    ensures { IfOk result (λ a. a ≡ spec.list_answer (option_map (λ t. t.items) text)) }
+{
+    match text {
+        Some(text) => Ok(playlist_answer(text)),
+        None => fault_answer(alloc, HttpFault::NotFound),
+    }
+}
+
 /// The live list of a rendition; 404 until a segment was ever closed.
 pub fn list_answer(
     alloc: Global,
@@ -42,10 +52,7 @@ pub fn list_answer(
 ) -> Result<Answer, AllocError>
     ensures { IfOk result (λ a. a ≡ spec.list_answer (lists.live snapshot.now rendition)) }
 {
-    match live_text(alloc, snapshot, rendition)? {
-        Some(text) => Ok(playlist_answer(text)),
-        None => fault_answer(alloc, HttpFault::NotFound),
-    }
+    playlist_or_none(alloc, live_text(alloc, snapshot, rendition)?)
 }
 
 /// The master playlist of the live lists.

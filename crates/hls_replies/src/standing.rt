@@ -60,9 +60,9 @@ fn push_row(out: &mut Vec<u8>, name: &[u8], number: u64) -> Result<(), AllocErro
     Ok(())
 }
 
-/// The lines of a status, without jobs.
-fn status_text(alloc: Global, snapshot: &Snapshot) -> Result<Vec<u8>, AllocError>
-    ensures { IfOk result (λ text. text.items ≡ status_text snapshot.now 0) }
+/// The lines of a status.
+fn status_text(alloc: Global, snapshot: &Snapshot, jobs: u64) -> Result<Vec<u8>, AllocError>
+    ensures { IfOk result (λ text. text.items ≡ status_text snapshot.now jobs) }
 {
     let line = snapshot.line();
     let mut out = Vec::new(alloc);
@@ -70,15 +70,15 @@ fn status_text(alloc: Global, snapshot: &Snapshot) -> Result<Vec<u8>, AllocError
     push_row(&mut out, b"places", kept_count(snapshot))?;
     push_row(&mut out, b"segments", live_count(line))?;
     push_row(&mut out, b"removed", line.removed())?;
-    push_row(&mut out, b"jobs", 0)?;
+    push_row(&mut out, b"jobs", jobs)?;
     Ok(out)
 }
 
-/// The status of a channel without jobs: five lines of the numbers of log entries, places with no trimmed fragment,
+/// The status of a channel with so many jobs: five lines of the numbers of log entries, places with no trimmed fragment,
 /// segments of the live line, segments that slid away, and jobs.
-pub fn status_answer(alloc: Global, snapshot: &Snapshot) -> Result<Answer, AllocError>
-    ensures { IfOk result (λ a. a ≡ spec.status_answer snapshot.now) }
+pub fn status_answer(alloc: Global, snapshot: &Snapshot, jobs: usize) -> Result<Answer, AllocError>
+    ensures { IfOk result (λ a. a ≡ spec.status_answer snapshot.now jobs) }
 {
-    let text = status_text(alloc, snapshot)?;
+    let text = status_text(alloc, snapshot, jobs as u64)?;
     Ok(text_answer(Status::Done, text))
 }

@@ -1,11 +1,16 @@
-//! Whole replies of a channel of one rendition: target 6 s, preferred length 4 s, an init section of 600 bytes, and units of
-//! 4 s with 1000 bytes each.
+//! Whole replies of small channels: target 6 s, preferred length 4 s, init sections of 600 bytes, and units of 1000 bytes,
+//! mostly of 4 s.
 
 ghost use Rattle.hls_core_laws.specs.Moves.{IsFitting};
 
+mod jobs;
+mod queries;
+mod refused;
+mod refused_jobs;
+
 use crate::{
-    Answer, catch_up_answer, fault_answer, finish_answer, is_good_query, list_answer,
-    master_answer, media_answer, method_answer, refused_answer, send, status_answer, taken_answer,
+    Answer, fault_answer, finish_answer, list_answer, master_answer, media_answer, method_answer,
+    refused_answer, send, status_answer, taken_answer,
 };
 use bytes::Bytes;
 use hls_core::config::Config;
@@ -28,18 +33,27 @@ use std::alloc::{AllocError, Global};
 use std::sync::Arc;
 use std::test::Fail;
 
-/// A channel of one rendition, before anything came.
-fn opened(alloc: Global) -> Result<Arc<Snapshot>, Fail> {
-    let rendition = Rendition {
-        name: Bytes::copy_from_slice(alloc, b"v1")?,
-        video: true,
+/// A rendition of this name and kind, with this tolerance.
+fn rendition(alloc: Global, name: &[u8], video: bool, tolerance: u64) -> Result<Rendition, Fail> {
+    Ok(Rendition {
+        name: Bytes::copy_from_slice(alloc, name)?,
+        video,
         bandwidth: 3_000_000,
-        tolerance: 0,
-    };
-    let mut renditions = Vec::new(alloc);
-    renditions.push(rendition)?;
+        tolerance,
+    })
+}
+
+/// A channel of these renditions, before anything came.
+fn opened_with(alloc: Global, renditions: Vec<Rendition>) -> Result<Arc<Snapshot>, Fail> {
     let config = Config::new(alloc, 6, 4_000_000, renditions)?;
     Ok(Arc::new(alloc, Snapshot::first(alloc, config)?)?)
+}
+
+/// A channel of one rendition, before anything came.
+fn opened(alloc: Global) -> Result<Arc<Snapshot>, Fail> {
+    let mut renditions = Vec::new(alloc);
+    renditions.push(rendition(alloc, b"v1", true, 0)?)?;
+    opened_with(alloc, renditions)
 }
 
 /// The next snapshot.
@@ -52,13 +66,46 @@ fn stepped(alloc: Global, snapshot: &Snapshot, event: Event) -> Result<Arc<Snaps
     }
 }
 
-fn begun(alloc: Global, snapshot: &Snapshot) -> Result<Arc<Snapshot>, Fail> {
-    let bytes = init_bytes(alloc, b"vide", 90000)?;
+/// With the init section of a rendition, by its handler and timescale.
+fn begun_in(
+    alloc: Global,
+    snapshot: &Snapshot,
+    rendition: usize,
+    handler: &[u8; 4],
+    scale: u32,
+) -> Result<Arc<Snapshot>, Fail> {
+    let bytes = init_bytes(alloc, handler, scale)?;
     let init = read_init(alloc, &bytes)?;
     let bytes = Bytes::copy_from_slice(alloc, &bytes)?;
     let event = Event::Begin {
-        rendition: 0,
+        rendition,
         init,
+        bytes,
+    };
+    stepped(alloc, snapshot, event)
+}
+
+fn begun(alloc: Global, snapshot: &Snapshot) -> Result<Arc<Snapshot>, Fail> {
+    begun_in(alloc, snapshot, 0, b"vide", 90000)
+}
+
+/// With one more unit of a rendition, in its ticks.
+fn unit_in(
+    alloc: Global,
+    snapshot: &Snapshot,
+    rendition: usize,
+    start: u64,
+    ticks: u32,
+) -> Result<Arc<Snapshot>, Fail> {
+    let Some(recording) = snapshot.recording(rendition) else {
+        return Err(Fail::from("no recording"));
+    };
+    let bytes = unit_bytes(alloc, start, ticks, true, 1000)?;
+    let facts = read_facts(recording.init(), &bytes)?;
+    let bytes = Bytes::copy_from_slice(alloc, &bytes)?;
+    let event = Event::Accept {
+        rendition,
+        facts,
         bytes,
     };
     stepped(alloc, snapshot, event)
@@ -71,19 +118,17 @@ fn with_unit(
     from: u32,
     to: u32,
 ) -> Result<Arc<Snapshot>, Fail> {
-    let Some(recording) = snapshot.recording(0) else {
-        return Err(Fail::from("no recording"));
-    };
     let ticks = to.wrapping_sub(from).wrapping_mul(90000);
-    let bytes = unit_bytes(alloc, u64::from(from) * 90000, ticks, true, 1000)?;
-    let facts = read_facts(recording.init(), &bytes)?;
-    let bytes = Bytes::copy_from_slice(alloc, &bytes)?;
-    let event = Event::Accept {
-        rendition: 0,
-        facts,
-        bytes,
-    };
-    stepped(alloc, snapshot, event)
+    unit_in(alloc, snapshot, 0, u64::from(from) * 90000, ticks)
+}
+
+/// With a rendition at its end.
+fn finished_in(
+    alloc: Global,
+    snapshot: &Snapshot,
+    rendition: usize,
+) -> Result<Arc<Snapshot>, Fail> {
+    stepped(alloc, snapshot, Event::Finish { rendition })
 }
 
 /// A channel with units that go from each of these seconds to the next; more may come.
@@ -102,7 +147,7 @@ fn sent(
     closing: bool,
     to_head: bool,
 ) -> Result<Vec<u8>, AllocError> {
-    let mut out = Vec::new(alloc);
+    let mut out = Vec::with_capacity(alloc, 8192)?;
     let mut session = Session::new(alloc, b"".as_slice(), &mut out)?;
     let _ = send(alloc, &mut session, &answer, closing, to_head);
     drop(session);
@@ -122,11 +167,11 @@ fn opening_status(rt: HostRuntime) -> Result<(), Fail> {
     let text: &[u8] =
         b"HTTP/1.1 200 OK\r\nContent-Type: text/plain\r\nContent-Length: 47\r\n\r\nversion 0\nplaces 0\nsegments 0\nremoved 0\njobs 0\n";
     assert_eq!(rt;
-        sent(alloc, status_answer(alloc, &state)?, false, false)?.as_slice(),
+        sent(alloc, status_answer(alloc, &state, 0)?, false, false)?.as_slice(),
         text
     );
     assert_eq!(rt;
-        sent(alloc, status_answer(alloc, &state)?, false, true)?.as_slice(),
+        sent(alloc, status_answer(alloc, &state, 0)?, false, true)?.as_slice(),
         &text[..text.len() - 47]
     );
     Ok(())
@@ -171,15 +216,24 @@ fn slid(alloc: Global, snapshot: &Snapshot, count: u64) -> Result<Arc<Snapshot>,
     stepped(alloc, snapshot, Event::Slide { count })
 }
 
-#[test]
-fn trimmed_bytes_are_gone(rt: HostRuntime) -> Result<(), Fail> {
-    let alloc = rt.alloc();
-    let state = recorded(alloc, &[0, 4, 8, 12, 16, 20, 24, 28, 32, 36, 40])?;
+/// A channel of ten units, not finished.
+fn ten_units(alloc: Global) -> Result<Arc<Snapshot>, Fail> {
+    recorded(alloc, &[0, 4, 8, 12, 16, 20, 24, 28, 32, 36, 40])
+}
+
+/// The same once four segments have slid away and their units are trimmed.
+fn trimmed(alloc: Global, snapshot: &Snapshot) -> Result<Arc<Snapshot>, Fail> {
     let trim = Event::Trim {
         rendition: 0,
         floor: 4,
     };
-    let state = stepped(alloc, &*slid(alloc, &state, 4)?, trim)?;
+    stepped(alloc, &*slid(alloc, snapshot, 4)?, trim)
+}
+
+#[test]
+fn trimmed_bytes_are_gone(rt: HostRuntime) -> Result<(), Fail> {
+    let alloc = rt.alloc();
+    let state = trimmed(alloc, &*ten_units(alloc)?)?;
     for asked in [
         Asked::All,
         Asked::Between(600, 1599),
@@ -192,7 +246,7 @@ fn trimmed_bytes_are_gone(rt: HostRuntime) -> Result<(), Fail> {
     let fifth = unit_bytes(alloc, 1_440_000, 360_000, true, 1000)?;
     assert!(rt; part(alloc, &state, Asked::Between(4600, 5599))?.ends_with(&fifth));
     assert!(rt;
-        sent(alloc, status_answer(alloc, &state)?, false, false)?.ends_with(
+        sent(alloc, status_answer(alloc, &state, 0)?, false, false)?.ends_with(
             b"version 13\nplaces 6\nsegments 5\nremoved 4\njobs 0\n"
         )
     );
@@ -289,26 +343,5 @@ fn short_texts(rt: HostRuntime) -> Result<(), Fail> {
     );
     let early = finish_answer(alloc, Err(Refusal::NoInit))?;
     assert!(rt; says(alloc, early, b"HTTP/1.1 409 ", b"refused NoInit\n")?);
-    let full = catch_up_answer(alloc, true)?;
-    assert!(rt; says(alloc, full, b"HTTP/1.1 503 ", b"refused TableFull\n")?);
-    Ok(())
-}
-
-#[test]
-fn queries(rt: HostRuntime) -> Result<(), Fail> {
-    let alloc = rt.alloc();
-    assert!(rt; is_good_query(alloc, b"from=0&to=8000000")?);
-    assert!(rt; is_good_query(alloc, b"x&%66rom=0000000000000000&to=%31&to=x&preferred=4")?);
-    for query in [
-        b"from=0".as_slice(),
-        b"to=1".as_slice(),
-        b"from=&to=1".as_slice(),
-        b"from=x&from=0&to=1".as_slice(),
-        b"from=0&to=00000000000000001".as_slice(),
-        b"from=0&to=1&preferred".as_slice(),
-        b"from=+0&to=1".as_slice(),
-    ] {
-        assert!(rt; !is_good_query(alloc, query)?);
-    }
     Ok(())
 }

@@ -1,6 +1,6 @@
 //! Answers of a short text: refusals, and what was done.
 
-ghost use Rattle.std.specs.Prelude.{◌≡◌, ◌++◌, ◌∷◌, cond, codes, string_bytes, IfOk};
+ghost use Rattle.std.specs.Prelude.{◌≡◌, ◌++◌, ◌∷◌, codes, string_bytes, IfOk};
 ghost use Rattle.hls_http_laws.specs.Reply.{refusal};
 ghost use Rattle.hls_core_laws.specs.RefusalName as core_names;
 ghost use Rattle.hls_serve_laws.specs.Faults.{core_status, name_of, status_of};
@@ -28,7 +28,11 @@ pub(crate) fn text_answer(status: Status, body: Vec<u8>) -> Answer
 }
 
 /// A refusal by its name.
-fn refusal_answer(alloc: Global, status: Status, name: &str) -> Result<Answer, AllocError>
+pub(crate) fn refusal_answer(
+    alloc: Global,
+    status: Status,
+    name: &str,
+) -> Result<Answer, AllocError>
     ensures { IfOk result (λ a. a ≡ text_answer status (refusal name.now)) }
 {
     let body = refusal_body(alloc, name)?;
@@ -85,19 +89,6 @@ fn done_answer(alloc: Global, text: &[u8]) -> Result<Answer, AllocError>
 {
     let body = Vec::from_slice(alloc, text)?;
     Ok(text_answer(Status::Done, body))
-}
-
-/// A request for catch-up where no job can be added: 503 `refused TableFull` for a good query, and 400 `refused BadQuery`
-/// for a bad one.
-pub fn catch_up_answer(alloc: Global, good: bool) -> Result<Answer, AllocError>
-    ensures { IfOk result (λ a. a ≡ cond good (text_answer Status.Unavailable (refusal (codes "TableFull")))
-        (text_answer Status.BadRequest (refusal (codes "BadQuery")))) }
-{
-    if good {
-        refusal_answer(alloc, Status::Unavailable, "TableFull")
-    } else {
-        refusal_answer(alloc, Status::BadRequest, "BadQuery")
-    }
 }
 
 /// What was taken of an encoder's body.

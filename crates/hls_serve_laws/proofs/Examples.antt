@@ -1,18 +1,28 @@
 -- The definitions, computed on known rows.
-use Rattle.std.proofs.Common.{◌≡◌, ℕ, true, false, [], ◌∷◌, Some, None, Ok, refl, codes}
+use Rattle.std.proofs.Common.{◌≡◌, ℕ, true, false, [], ◌∷◌, ◌++◌, Some, None, Ok, Err, refl, codes}
 use Rattle.std.specs.Fmt.{digits}
+use Rattle.form_urlencoded.specs.Form.{raw_pairs, split}
+use Rattle.percent_encoding.specs.Percent.{percent_decode}
 use Rattle.hls_boxes_laws.specs.declared.fault.BoxFault.TheVariants as boxes
 use Rattle.hls_core_laws.specs.declared.refusal.Refusal.TheVariants as core
 use Rattle.hls_http_laws.specs.declared.fault.HttpFault.TheVariants as http
+use Rattle.hls_http_laws.specs.declared.range.Asked.TheVariants as ranges
+use Rattle.hls_http_laws.specs.declared.reply.Kind.TheVariants.{Media}
+use Rattle.hls_http_laws.specs.declared.reply.Status.TheVariants as statuses
 use Rattle.hls_http_laws.specs.Fields.{number_of}
+use Rattle.hls_http_laws.specs.Query.{first_of}
 use Rattle.hls_http.specs.declared.head.Method.TheVariants as methods
+use Rattle.hls_jobs.specs.declared.fault.JobFault.TheVariants as jobs
+use Rattle.hls_jobs.specs.declared.job.Job.TheVariants as told
 use Rattle.hls_turn.specs.declared.done.Done.TheVariants as moved
 use Rattle.hls_serve_laws.specs.declared.fault.IngestFault.TheVariants.{Boxes, Core}
 use Rattle.hls_serve_laws.specs.declared.route.Route.TheVariants as routes
 use Rattle.hls_serve_laws.specs.declared.route.JobFile.TheVariants as files
 use Rattle.hls_serve_laws.specs.Heard.{refused_answer, taken_answer}
 use Rattle.hls_serve_laws.specs.Ingest.{Progress}
-use Rattle.hls_serve_laws.specs.Replies.{answer_text, fault_answer, finish_answer, method_answer, status_row, whole}
+use Rattle.hls_serve_laws.specs.JobReplies.{added_answer, bad_query_answer, file_answer, removed_answer, resource_answer, told_answer}
+use Rattle.hls_serve_laws.specs.Queries.{wanted_in}
+use Rattle.hls_serve_laws.specs.Replies.{answer_text, fault_answer, finish_answer, method_answer, status_row, text_answer, whole}
 use Rattle.hls_serve_laws.specs.Routes.{allows, path_of, route_of}
 use Rattle.hls_turn.specs.Passes.{no_state}
 
@@ -84,6 +94,68 @@ overlap : answer_text (refused_answer (Core core.Overlap) (progress 0 0 0)) true
     ≡ codes "HTTP/1.1 409 Conflict\r\nContent-Type: text/plain\r\nContent-Length: 45\r\nConnection: close\r\n\r\nrefused Overlap init 0 accepted 0 repeated 0\n"
 unfolding digits progress
 overlap = refl
+
+-- ---- jobs
+
+-- a job is added to a state of 11 log entries: 17 bytes
+added : answer_text (added_answer 11 (Ok 1)) false false
+    ≡ codes "HTTP/1.1 202 Accepted\r\nContent-Type: text/plain\r\nContent-Length: 17\r\nLocation: /job/1\r\n\r\njob 1 version 11\n"
+unfolding digits
+added = refl
+
+full : answer_text (added_answer 11 (Err jobs.TableFull)) false false
+    ≡ codes "HTTP/1.1 503 Service Unavailable\r\nContent-Type: text/plain\r\nContent-Length: 18\r\n\r\nrefused TableFull\n"
+unfolding digits
+full = refl
+
+bad_query : answer_text bad_query_answer false false
+    ≡ codes "HTTP/1.1 400 Bad Request\r\nContent-Type: text/plain\r\nContent-Length: 17\r\n\r\nrefused BadQuery\n"
+unfolding digits
+bad_query = refl
+
+-- one is taken away, and then isn't there
+removed : answer_text (removed_answer (Ok tt)) false false ≡ codes "HTTP/1.1 204 No Content\r\n\r\n"
+removed = refl
+
+not_there : removed_answer (Err jobs.UnknownJob) ≡ fault_answer http.NotFound
+not_there = refl
+
+-- before it is worked on it has a line and no files: 8 bytes, and 409
+waiting : told_answer told.Waiting ≡ Some (text_answer statuses.Done (codes "waiting\n"))
+waiting = refl
+
+no_file_yet : file_answer files.Certificate ranges.All told.Running ≡ Some (text_answer statuses.Conflict (codes "refused Conflict\n"))
+no_file_yet = refl
+
+-- one that failed for memory has neither
+no_line : told_answer told.Failed ≡ None
+no_line = refl
+
+no_file : file_answer files.Certificate ranges.All told.Failed ≡ None
+no_file = refl
+
+-- a resource of five bytes, from its second to its third byte, past its end, and whole
+part : answer_text (resource_answer (Some (10 ∷ 20 ∷ 30 ∷ 40 ∷ 50 ∷ [])) (ranges.Between 1 2)) false false
+    ≡ codes "HTTP/1.1 206 Partial Content\r\nContent-Type: video/mp4\r\nContent-Length: 2\r\nContent-Range: bytes 1-2/5\r\n\r\n" ++ 20 ∷ 30 ∷ []
+unfolding digits
+part = refl
+
+outside : answer_text (resource_answer (Some (10 ∷ 20 ∷ 30 ∷ 40 ∷ 50 ∷ [])) (ranges.From 5)) false false
+    ≡ codes "HTTP/1.1 416 Range Not Satisfiable\r\nContent-Type: text/plain\r\nContent-Length: 21\r\nContent-Range: bytes */5\r\n\r\nrefused RangeOutside\n"
+unfolding digits
+outside = refl
+
+whole_resource : resource_answer (Some (10 ∷ 20 ∷ [])) ranges.All ≡ record { status = statuses.Done; kind = Media; field = []; body = 10 ∷ 20 ∷ [] }
+whole_resource = refl
+
+-- what a query asks: keys are decoded, the first of a key counts, and `preferred` needn't be there
+asks : wanted_in (codes "x&%66rom=0&to=%31&to=x") ≡ Some (record { start_us = 0; stop_us = 1; preferred = None })
+unfolding number_of first_of raw_pairs split percent_decode
+asks = refl
+
+no_end : wanted_in (codes "from=0") ≡ None
+unfolding number_of first_of raw_pairs split percent_decode
+no_end = refl
 
 -- a row of the status
 version : status_row (codes "version") 0 ≡ codes "version 0\n"

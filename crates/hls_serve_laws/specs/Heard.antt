@@ -1,4 +1,4 @@
--- What one request comes to: the acts on the channel that it leads to, and the bytes that are due.
+-- What one request comes to: the acts on the channel and on the table of jobs that it leads to, and the bytes that are due.
 use Rattle.std.specs.Prelude.{◌≡◌, ◌≢◌, ◌⊎◌, ℕ, Bool, true, false, not, cond, List, [], ◌∷◌, ◌++◌, length, Option, Some, None, Result, Ok, Err, codes}
 use Rattle.std.specs.Option.{is_some}
 use Rattle.std.specs.Io.KnownBytes.{prepend_known}
@@ -35,15 +35,22 @@ use Rattle.hls_http.specs.declared.drain.DropEnd.{DropEnd}
 use Rattle.hls_http.specs.declared.drain.DropEnd.TheVariants as drops
 use Rattle.hls_http.specs.Heads.{method_of, Hears}
 use Rattle.hls_http.specs.Drained.{Drops}
+use Rattle.hls_jobs.specs.declared.fault.JobFault.{JobFault}
+use Rattle.hls_jobs.specs.declared.fault.JobFault.TheVariants.{UnknownJob}
+use Rattle.hls_jobs.specs.declared.job.Job.{Job}
 use Rattle.hls_serve_laws.specs.declared.fault.IngestFault.{IngestFault}
 use Rattle.hls_serve_laws.specs.declared.ingest.Intake.{Intake}
 use Rattle.hls_serve_laws.specs.declared.ingest.Intake.TheVariants as came
 use Rattle.hls_serve_laws.specs.declared.route.Route.{Route}
 use Rattle.hls_serve_laws.specs.declared.route.Route.TheVariants as routes
+use Rattle.hls_serve_laws.specs.declared.wanted.Wanted.{Wanted}
+use Rattle.hls_serve_laws.specs.Desks.{Desk}
 use Rattle.hls_serve_laws.specs.Faults.{name_of, status_of}
 use Rattle.hls_serve_laws.specs.Ingest.{Ingests, Progress, counts_text}
-use Rattle.hls_serve_laws.specs.Replies.{Answer, Lists, answer_text, catch_up_answer, fault_answer, finish_answer, list_answer, media_answer, method_answer, playlist_answer, status_answer, text_answer}
-use Rattle.hls_serve_laws.specs.Routes.{allows, feeds, is_to_head, path_of, query_of, route_of}
+use Rattle.hls_serve_laws.specs.JobReplies.{added_answer, bad_query_answer, file_answer, removed_answer, told_answer}
+use Rattle.hls_serve_laws.specs.Queries.{request_for, wanted_in}
+use Rattle.hls_serve_laws.specs.Replies.{Answer, Lists, answer_text, fault_answer, finish_answer, list_answer, media_answer, method_answer, playlist_answer, status_answer, text_answer}
+use Rattle.hls_serve_laws.specs.Routes.{allows, feeds, is_to_head, path_of, query_of, removes, route_of}
 
 -- what a request's head asks
 pub record Asks : Type 0 where
@@ -64,46 +71,95 @@ asks_of count h = record {
 abbrev pub range_for : Bool → Asked → Asked
 range_for to_head range = cond to_head asks.All range
 
--- ---- acts: at most one look or one event for each request that isn't an encoder's body
+-- ---- acts on the channel: at most one look or one event for each request that isn't an encoder's body
 
 -- the state that is seen is replied
 abbrev pub ShowsState : Known → Known → (State → Answer) → Answer → Type 0
 ShowsState a b shown answer = (s : State) × Looks a s b × (answer ≡ shown s)
 
+-- .. with the number of jobs
+abbrev pub ShowsStatus : Desk → Known → Known → Answer → Type 0
+ShowsStatus desk a b answer = (jobs : ℕ) × desk.counts jobs × ShowsState a b (λ s. status_answer s jobs) answer
+
 -- the event's outcome is replied
 abbrev pub Finishes : Known → ℕ → Known → Answer → Type 0
 Finishes a r b answer = (done : Result Done Refusal) × Submits a (Finish r) done b × (done ≢ Err Memory) × (answer ≡ finish_answer done)
 
--- by the route, where the method is one of its own
-abbrev pub Serves : Lists → Asks → Route → Known → Answer → Known → Type 0
-Serves lists q (routes.Ingest r) a answer b = ⊥
-Serves lists q (routes.Finish r) a answer b = Finishes a r b answer
-Serves lists q routes.LiveMaster a answer b = ShowsState a b (λ s. playlist_answer (lists.master s)) answer
-Serves lists q (routes.LiveList r) a answer b = ShowsState a b (λ s. list_answer (lists.live s r)) answer
-Serves lists q (routes.Media r) a answer b = ShowsState a b (λ s. media_answer s r (range_for (is_to_head q.method) q.range)) answer
-Serves lists q routes.CatchUp a answer b = (b ≡ a) × (answer ≡ catch_up_answer q.query)
-Serves lists q (routes.Job id) a answer b = ⊥
-Serves lists q (routes.JobFile id file) a answer b = ⊥
-Serves lists q routes.Status a answer b = ShowsState a b status_answer answer
+-- ---- acts on the table of jobs: one for each request
 
--- no job is there
-abbrev pub is_missing : Route → Bool
-is_missing (routes.Job id) = true
-is_missing (routes.JobFile id file) = true
-is_missing route = false
+-- a job is added with the state that is seen, and what came of that is replied
+pub record AddsJob (desk : Desk) (wanted : Wanted) (a b : Known) (answer : Answer) : Type 0 where
+  pub state : State
+  pub looks : Looks a state b
+  pub result : Result ℕ JobFault
+  pub adds : desk.adds state (request_for state wanted) result
+  pub answer_is : answer ≡ added_answer (length state.log) result
 
-abbrev pub ServesAllowed : Lists → Asks → Route → Known → Answer → Known → Bool → Type 0
-ServesAllowed lists q route a answer b true = Serves lists q route a answer b
-ServesAllowed lists q route a answer b false = (b ≡ a) × (answer ≡ method_answer route)
+-- a bad query comes before a full table
+abbrev pub CatchesUp : Desk → Option Wanted → Known → Known → Answer → Type 0
+CatchesUp desk None a b answer = (b ≡ a) × (answer ≡ bad_query_answer)
+CatchesUp desk (Some wanted) a b answer = AddsJob desk wanted a b answer
 
-abbrev pub ServesKnown : Lists → Asks → Route → Known → Answer → Known → Bool → Type 0
-ServesKnown lists q route a answer b true = (b ≡ a) × (answer ≡ fault_answer http.NotFound)
-ServesKnown lists q route a answer b false = ServesAllowed lists q route a answer b (allows route q.method)
+-- what is told of a job is replied; where there is none it isn't found, and want of memory has one reply
+abbrev pub IsOfJob : Result Job JobFault → (Job → Option Answer) → Answer → Type 0
+IsOfJob (Ok job) shown answer = shown job ≡ Some answer
+IsOfJob (Err UnknownJob) shown answer = answer ≡ fault_answer http.NotFound
+IsOfJob (Err fault) shown answer = ⊥
 
--- an unknown job comes first, then a method that the route hasn't
-abbrev pub Responds : Lists → Asks → Route → Known → Option Answer → Known → Type 0
-Responds lists q route a (Some answer) b = ServesKnown lists q route a answer b (is_missing route)
-Responds lists q route a None b = LookedOn a b
+abbrev pub ShowsJob : Desk → ℕ → (Job → Option Answer) → Answer → Type 0
+ShowsJob desk id shown answer = (told : Result Job JobFault) × desk.tells id told × IsOfJob told shown answer
+
+abbrev pub RemovesJob : Desk → ℕ → Answer → Type 0
+RemovesJob desk id answer = (gone : Result (Unit {0}) JobFault) × desk.removes id gone × (answer ≡ removed_answer gone)
+
+-- what is replied of a job that is there: how far it is, or a file
+abbrev pub shown_at : Asks → Route → Job → Option Answer
+shown_at q (routes.Job id) job = told_answer job
+shown_at q (routes.JobFile id file) job = file_answer file (range_for (is_to_head q.method) q.range) job
+shown_at q route job = None
+
+-- .. or that the route hasn't the method
+abbrev pub shown_if : Asks → Route → Bool → Job → Option Answer
+shown_if q route true job = shown_at q route job
+shown_if q route false job = Some (method_answer route)
+
+abbrev pub ServesJob : Desk → Asks → Route → ℕ → Answer → Bool → Type 0
+ServesJob desk q route id answer true = RemovesJob desk id answer
+ServesJob desk q route id answer false = ShowsJob desk id (shown_if q route (allows route q.method)) answer
+
+-- ---- by the route
+
+-- where the method is one of its own
+abbrev pub Serves : Lists → Desk → Asks → Route → Known → Answer → Known → Type 0
+Serves lists desk q (routes.Ingest r) a answer b = ⊥
+Serves lists desk q (routes.Finish r) a answer b = Finishes a r b answer
+Serves lists desk q routes.LiveMaster a answer b = ShowsState a b (λ s. playlist_answer (lists.master s)) answer
+Serves lists desk q (routes.LiveList r) a answer b = ShowsState a b (λ s. list_answer (lists.live s r)) answer
+Serves lists desk q (routes.Media r) a answer b = ShowsState a b (λ s. media_answer s r (range_for (is_to_head q.method) q.range)) answer
+Serves lists desk q routes.CatchUp a answer b = CatchesUp desk (wanted_in q.query) a b answer
+Serves lists desk q (routes.Job id) a answer b = ⊥
+Serves lists desk q (routes.JobFile id file) a answer b = ⊥
+Serves lists desk q routes.Status a answer b = ShowsStatus desk a b answer
+
+abbrev pub ServesAllowed : Lists → Desk → Asks → Route → Known → Answer → Known → Bool → Type 0
+ServesAllowed lists desk q route a answer b true = Serves lists desk q route a answer b
+ServesAllowed lists desk q route a answer b false = (b ≡ a) × (answer ≡ method_answer route)
+
+-- the job of a route
+abbrev pub job_at : Route → Option ℕ
+job_at (routes.Job id) = Some id
+job_at (routes.JobFile id file) = Some id
+job_at route = None
+
+-- an unknown job comes before a method that the route hasn't
+abbrev pub ServesBy : Lists → Desk → Asks → Route → Known → Answer → Known → Option ℕ → Type 0
+ServesBy lists desk q route a answer b (Some id) = (b ≡ a) × ServesJob desk q route id answer (removes route q.method)
+ServesBy lists desk q route a answer b None = ServesAllowed lists desk q route a answer b (allows route q.method)
+
+-- the answer to a request, or want of memory for one
+abbrev pub Responds : Lists → Desk → Asks → Route → Known → Option Answer → Known → Type 0
+Responds lists desk q route a (Some answer) b = ServesBy lists desk q route a answer b (job_at route)
+Responds lists desk q route a None b = LookedOn a b
 
 -- ---- what is due
 
@@ -144,17 +200,17 @@ IsDueAtStop h plan bodies.ReadFailed due = due ≡ Silence (first_of h plan) end
 
 -- ---- bodies that are dropped
 
-abbrev pub IsSkipped : Lists → RequestHead → Asks → Route → Plan → Known → Known → Due → Result (Unit {0}) DropEnd → Type 0
-IsSkipped lists h q route plan a b due (Ok done) =
-    (answer : Option Answer) × Responds lists q route a answer b × ((due ≡ due_for_maybe h plan answer false) ⊎ (due ≡ due_for_memory h plan))
-IsSkipped lists h q route plan a b due (Err drops.TooLarge) = (b ≡ a) × IsDue h plan (fault_answer http.TooLarge) true due
-IsSkipped lists h q route plan a b due (Err (drops.Stopped end)) = (b ≡ a) × IsDueAtStop h plan end due
+abbrev pub IsSkipped : Lists → Desk → RequestHead → Asks → Route → Plan → Known → Known → Due → Result (Unit {0}) DropEnd → Type 0
+IsSkipped lists desk h q route plan a b due (Ok done) =
+    (answer : Option Answer) × Responds lists desk q route a answer b × ((due ≡ due_for_maybe h plan answer false) ⊎ (due ≡ due_for_memory h plan))
+IsSkipped lists desk h q route plan a b due (Err drops.TooLarge) = (b ≡ a) × IsDue h plan (fault_answer http.TooLarge) true due
+IsSkipped lists desk h q route plan a b due (Err (drops.Stopped end)) = (b ≡ a) × IsDueAtStop h plan end due
 
-pub record Skips (lists : Lists) (h : RequestHead) (q : Asks) (route : Route) (plan : Plan) (a : Known) (body : Body) (input : List ℕ) (due : Due) (b : Known) (held : List ℕ) (left : Option (List ℕ)) : Type 0 where
+pub record Skips (lists : Lists) (desk : Desk) (h : RequestHead) (q : Asks) (route : Route) (plan : Plan) (a : Known) (body : Body) (input : List ℕ) (due : Due) (b : Known) (held : List ℕ) (left : Option (List ℕ)) : Type 0 where
   pub last : Body
   pub result : Result (Unit {0}) DropEnd
   pub drops : Drops body input last held left result
-  pub skipped : IsSkipped lists h q route plan a b due result
+  pub skipped : IsSkipped lists desk h q route plan a b due result
 
 -- ---- encoders' bodies
 
@@ -187,16 +243,16 @@ abbrev pub FeedsBy : Option Route → RequestHead → Plan → Known → Body �
 FeedsBy (Some (routes.Ingest r)) h plan a body input due b held left = Feeds h plan r a body input due b held left
 FeedsBy route h plan a body input due b held left = ⊥
 
-abbrev pub SkipsBy : Option Route → Lists → RequestHead → Asks → Plan → Known → Body → List ℕ → Due → Known → List ℕ → Option (List ℕ) → Type 0
-SkipsBy None lists h q plan a body input due b held left = ⊥
-SkipsBy (Some route) lists h q plan a body input due b held left = Skips lists h q route plan a body input due b held left
+abbrev pub SkipsBy : Option Route → Lists → Desk → RequestHead → Asks → Plan → Known → Body → List ℕ → Due → Known → List ℕ → Option (List ℕ) → Type 0
+SkipsBy None lists desk h q plan a body input due b held left = ⊥
+SkipsBy (Some route) lists desk h q plan a body input due b held left = Skips lists desk h q route plan a body input due b held left
 
 -- by what is done with it: refused before its body, its body taken part by part, or its body dropped
-abbrev pub Follows : Lists → RequestHead → Asks → Plan → Known → List ℕ → Due → Known → List ℕ → Option (List ℕ) → Type 0
-Follows lists h q (Refuse fault closing) a input due b held left =
+abbrev pub Follows : Lists → Desk → RequestHead → Asks → Plan → Known → List ℕ → Due → Known → List ℕ → Option (List ℕ) → Type 0
+Follows lists desk h q (Refuse fault closing) a input due b held left =
     (b ≡ a) × (prepend_known held left ≡ Some input) × IsDue h (Refuse fault closing) (fault_answer fault) closing due
-Follows lists h q (Feed body) a input due b held left = FeedsBy q.route h (Feed body) a body input due b held left
-Follows lists h q (Skip body) a input due b held left = SkipsBy q.route lists h q (Skip body) a body input due b held left
+Follows lists desk h q (Feed body) a input due b held left = FeedsBy q.route h (Feed body) a body input due b held left
+Follows lists desk h q (Skip body) a input due b held left = SkipsBy q.route lists desk h q (Skip body) a body input due b held left
 
 abbrev pub plan_for : RequestHead → Asks → Plan
 plan_for h q = plan_by (begins h) (is_some q.route) (feeds q.route q.method)
@@ -208,7 +264,7 @@ pub record IsUnheard (h : RequestHead) (plan : Plan) (a : Known) (due : Due) (b 
   pub due_is : due ≡ Silence continue_text ends.WriteFailed
 
 -- a request whose head stands at the front of the input, in a channel of so many renditions
-pub record HearsHead (lists : Lists) (a : Known) (input : List ℕ) (due : Due) (b : Known) (held : List ℕ) (left : Option (List ℕ)) : Type 0 where
+pub record HearsHead (lists : Lists) (desk : Desk) (a : Known) (input : List ℕ) (due : Due) (b : Known) (held : List ℕ) (left : Option (List ℕ)) : Type 0 where
   pub head : RequestHead
   pub behind : List ℕ
   pub reads : ReadsSmall input head behind
@@ -216,7 +272,7 @@ pub record HearsHead (lists : Lists) (a : Known) (input : List ℕ) (due : Due) 
   pub asked_is : asked ≡ asks_of (length a.seen.config.renditions) head
   pub plan : Plan
   pub plan_is : plan ≡ plan_for head asked
-  pub follows : Follows lists head asked plan a behind due b held left ⊎ IsUnheard head plan a due b
+  pub follows : Follows lists desk head asked plan a behind due b held left ⊎ IsUnheard head plan a due b
 
 -- what is due where no head comes
 abbrev pub refused_head : HttpFault → Due
@@ -237,5 +293,5 @@ pub record HearsNone (a : Known) (input : List ℕ) (due : Due) (b : Known) (hel
   pub due_is : IsDueWithoutHead end due
 
 -- what stands at the front of the input comes to this: what is due, what the pass then knows, and what is still to be read
-abbrev pub Heard : Lists → Known → List ℕ → Due → Known → List ℕ → Option (List ℕ) → Type 0
-Heard lists a input due b held left = HearsHead lists a input due b held left ⊎ HearsNone a input due b held left
+abbrev pub Heard : Lists → Desk → Known → List ℕ → Due → Known → List ℕ → Option (List ℕ) → Type 0
+Heard lists desk a input due b held left = HearsHead lists desk a input due b held left ⊎ HearsNone a input due b held left

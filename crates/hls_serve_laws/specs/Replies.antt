@@ -1,6 +1,5 @@
 -- What is replied: the refusals, and what a state is shown as.
-use Rattle.std.specs.Prelude.{ℕ, ◌+◌, ◌-◌, Bool, true, false, cond, List, [], ◌∷◌, ◌++◌, length, Option, Some, None, Result, Ok, Err, codes}
-use Rattle.std.specs.Option.{is_some}
+use Rattle.std.specs.Prelude.{ℕ, ◌+◌, ◌-◌, Bool, cond, List, [], ◌∷◌, ◌++◌, length, Option, Some, None, Result, Ok, Err, codes}
 use Rattle.std.specs.Fmt.{decimal}
 use Rattle.hls_http_laws.specs.declared.fault.HttpFault.{HttpFault}
 use Rattle.hls_http_laws.specs.declared.fault.HttpFault.TheVariants as http
@@ -8,13 +7,11 @@ use Rattle.hls_http_laws.specs.declared.range.Asked.{Asked}
 use Rattle.hls_http_laws.specs.declared.range.Part.{Part}
 use Rattle.hls_http_laws.specs.declared.range.Part.TheVariants as parts
 use Rattle.hls_http_laws.specs.declared.reply.Status.{Status}
-use Rattle.hls_http_laws.specs.declared.reply.Status.TheVariants.{Done, PartialContent, BadRequest, MethodNotAllowed, RangeNotSatisfiable, Unavailable}
+use Rattle.hls_http_laws.specs.declared.reply.Status.TheVariants.{Done, PartialContent, MethodNotAllowed, RangeNotSatisfiable}
 use Rattle.hls_http_laws.specs.declared.reply.Kind.{Kind}
 use Rattle.hls_http_laws.specs.declared.reply.Kind.TheVariants.{Text, Media, Playlist}
 use Rattle.hls_http_laws.specs.declared.reply.Extra.{Extra}
 use Rattle.hls_http_laws.specs.declared.reply.Extra.TheVariants.{Nothing, Range, NoRange}
-use Rattle.hls_http_laws.specs.Fields.{number_of}
-use Rattle.hls_http_laws.specs.Query.{value_in}
 use Rattle.hls_http_laws.specs.Range.{part_of}
 use Rattle.hls_http_laws.specs.Reply.{fault_name, fault_status, status_line, content_lines, extra_line, close_line, crlf, refusal}
 use Rattle.hls_record.specs.Recorded.{Recorded, total_of, range_of}
@@ -67,27 +64,6 @@ finish_answer (Ok (moved.New version)) = text_answer Done (codes "finished\n")
 finish_answer (Ok moved.Repeat) = text_answer Done (codes "repeated\n")
 finish_answer (Err refusal_) = text_answer (core_status refusal_) (refusal (core_names.name_of refusal_))
 
--- ---- catch-up
-
-abbrev pub is_instant : Option (List ℕ) → Bool
-is_instant None = false
-is_instant (Some text) = is_some (number_of 16 text)
-
-abbrev pub is_optional : Option (List ℕ) → Bool
-is_optional None = true
-is_optional (Some text) = is_some (number_of 16 text)
-
--- `from` and `to`, and perhaps `preferred`, each of 1 to 16 digits
-abbrev pub is_good_query : List ℕ → Bool
-is_good_query query =
-    cond (is_instant (value_in (codes "from") query))
-    (cond (is_instant (value_in (codes "to") query)) (is_optional (value_in (codes "preferred") query)) false) false
-
--- no job can be added to a table that has no place
-abbrev pub catch_up_answer : List ℕ → Answer
-catch_up_answer query =
-    cond (is_good_query query) (text_answer Unavailable (refusal (codes "TableFull"))) (text_answer BadRequest (refusal (codes "BadQuery")))
-
 -- ---- the status
 
 abbrev pub status_row : List ℕ → ℕ → List ℕ
@@ -102,8 +78,8 @@ status_text s jobs =
     ++ (status_row (codes "removed") (line s).removed
     ++ status_row (codes "jobs") jobs)))
 
-abbrev pub status_answer : State → Answer
-status_answer s = text_answer Done (status_text s 0)
+abbrev pub status_answer : State → ℕ → Answer
+status_answer s jobs = text_answer Done (status_text s jobs)
 
 -- ---- media
 
@@ -118,29 +94,29 @@ unfoldable pub whole : List (Option ℕ) → Option (List ℕ)
 whole [] = Some []
 whole (b ∷ bytes) = onto b (whole bytes)
 
--- so many bytes of a rendition's resource from an offset on, where none of them is trimmed
-abbrev pub media_bytes : Recorded → ℕ → ℕ → Option (List ℕ)
-media_bytes rec from len = whole (range_of rec from (from + len))
-
 abbrev pub media_given : Status → Extra → Option (List ℕ) → Answer
 media_given status extra None = fault_answer http.Gone
 media_given status extra (Some bytes) = record { status = status; kind = Media; field = extra_line extra; body = bytes }
 
--- by the part that is asked for
-abbrev pub media_part : Recorded → ℕ → Part → Answer
-media_part rec total parts.Outside = record {
+-- by the part that is asked for of a resource, which is told as so many bytes from an offset on, where they are there
+abbrev pub part_answer : (ℕ → ℕ → Option (List ℕ)) → ℕ → Part → Answer
+part_answer bytes total parts.Outside = record {
   status = RangeNotSatisfiable;
   kind = Text;
   field = extra_line (NoRange total);
   body = refusal (fault_name http.RangeOutside);
 }
-media_part rec total parts.Whole = media_given Done Nothing (media_bytes rec 0 total)
-media_part rec total (parts.Slice from len) = media_given PartialContent (Range from (from + len - 1) total) (media_bytes rec from len)
+part_answer bytes total parts.Whole = media_given Done Nothing (bytes 0 total)
+part_answer bytes total (parts.Slice from len) = media_given PartialContent (Range from (from + len - 1) total) (bytes from len)
+
+-- so many bytes of a rendition's resource from an offset on, where none of them is trimmed
+abbrev pub media_bytes : Recorded → ℕ → ℕ → Option (List ℕ)
+media_bytes rec from len = whole (range_of rec from (from + len))
 
 -- a rendition's resource: its init section and all its units; not found before its init section
 abbrev pub media_by : Option Recorded → Asked → Answer
 media_by None asked = fault_answer http.NotFound
-media_by (Some rec) asked = media_part rec (total_of rec) (part_of asked (total_of rec))
+media_by (Some rec) asked = part_answer (media_bytes rec) (total_of rec) (part_of asked (total_of rec))
 
 abbrev pub media_answer : State → ℕ → Asked → Answer
 media_answer s r asked = media_by (recording_of s r) asked
@@ -150,7 +126,7 @@ media_answer s r asked = media_by (recording_of s r) asked
 abbrev pub playlist_answer : List ℕ → Answer
 playlist_answer text = record { status = Done; kind = Playlist; field = []; body = text }
 
--- none until a segment was ever closed
+-- a list that isn't there, as a live one until a segment was ever closed, isn't found
 abbrev pub list_answer : Option (List ℕ) → Answer
 list_answer None = fault_answer http.NotFound
 list_answer (Some text) = playlist_answer text

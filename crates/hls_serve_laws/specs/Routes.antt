@@ -154,6 +154,11 @@ methods_of (routes.Job id) = codes "GET, HEAD, DELETE"
 methods_of (routes.JobFile id file) = codes "GET, HEAD"
 methods_of routes.Status = codes "GET, HEAD"
 
+-- the job of such a request is taken away
+abbrev pub removes : Route → Method → Bool
+removes (routes.Job id) Delete = true
+removes route method = false
+
 -- the body of such a request is taken part by part
 abbrev pub feeds : Option Route → Method → Bool
 feeds (Some (routes.Ingest r)) method = is_sent method

@@ -8,4 +8,6 @@
 
 pub mod fault;
 pub mod ingest;
+pub mod laws;
 pub mod route;
+pub mod wanted;

@@ -1,0 +1,324 @@
+//! Answers that were refused memory: the state stays as it was, and the same answer again is the one that is wanted; where it
+//! is the reply's head that finds no memory, the fixed reply is sent in its place.
+
+ghost use Rattle.hls_core_laws.specs.Moves.{IsFitting};
+
+use crate::{
+    Answer, fault_answer, finish_answer, list_answer, master_answer, media_answer, method_answer,
+    read_query, refused_answer, send, status_answer, taken_answer,
+};
+use bytes::Bytes;
+use hls_core::config::Config;
+use hls_core::snapshot::Snapshot;
+use hls_core::step::step;
+use hls_core::stepped::Stepped;
+use hls_core_laws::event::Event;
+use hls_core_laws::refusal::Refusal;
+use hls_core_laws::rendition::Rendition;
+use hls_http::{Session, SessionEnd};
+use hls_http_laws::fault::HttpFault;
+use hls_http_laws::range::Asked;
+use hls_http_laws::reply::{no_memory_head_text, no_memory_text};
+use hls_media::{read_facts, read_init};
+use hls_samples::{init_bytes, unit_bytes};
+use hls_serve_laws::fault::IngestFault;
+use hls_serve_laws::ingest::Counts;
+use hls_serve_laws::route::Route;
+use hls_serve_laws::wanted::Wanted;
+use hls_turn::Done;
+use std::alloc::{AllocError, Global};
+use std::io::{self, Write};
+use std::sync::Arc;
+
+/// How many bytes a page takes.
+const PAGE_LEN: usize = 4096;
+
+/// A writer that takes a page of bytes, and no memory.
+#[derive(Drop)]
+struct Page {
+    bytes: [u8; PAGE_LEN],
+    len: usize,
+}
+
+impl Page {
+    fn new() -> Page {
+        Page {
+            bytes: [0; PAGE_LEN],
+            len: 0,
+        }
+    }
+
+    /// What was written.
+    fn written(&self) -> &[u8] {
+        self.bytes.get(..self.len).unwrap_or(b"")
+    }
+}
+
+impl Write for Page {
+    fn write(&mut self, buf: &[u8]) -> io::Result<usize> {
+        let Some(room) = self.bytes.get_mut(self.len..) else {
+            return Ok(0);
+        };
+        let len = buf.len().min(room.len());
+        room[..len].copy_from_slice(&buf[..len]);
+        self.len = self.len.wrapping_add(len);
+        Ok(len)
+    }
+
+    fn flush(&mut self) -> io::Result<()> {
+        Ok(())
+    }
+}
+
+/// A channel of one rendition; none where memory was refused.
+fn opened(alloc: Global) -> Option<Snapshot> {
+    let rendition = Rendition {
+        name: Bytes::copy_from_slice(alloc, b"v1").ok()?,
+        video: true,
+        bandwidth: 3_000_000,
+        tolerance: 0,
+    };
+    let mut renditions = Vec::new(alloc);
+    renditions.push(rendition).ok()?;
+    let config = Config::new(alloc, 6, 4_000_000, renditions).ok()?;
+    Snapshot::first(alloc, config).ok()
+}
+
+/// The next snapshot; none where memory was refused, or the event isn't new.
+fn stepped(alloc: Global, snapshot: &Snapshot, event: Event) -> Option<Arc<Snapshot>>
+    requires { IsFitting snapshot.now event }
+{
+    match step(snapshot, alloc, 0, event) {
+        Ok(Stepped::New(next)) => Some(next),
+        _ => None,
+    }
+}
+
+fn begun(alloc: Global, snapshot: &Snapshot) -> Option<Arc<Snapshot>> {
+    let bytes = init_bytes(alloc, b"vide", 90000).ok()?;
+    let init = read_init(alloc, &bytes).ok()?;
+    let bytes = Bytes::copy_from_slice(alloc, &bytes).ok()?;
+    let event = Event::Begin {
+        rendition: 0,
+        init,
+        bytes,
+    };
+    stepped(alloc, snapshot, event)
+}
+
+/// With a unit of 4 s at `start` ticks.
+fn with_unit(alloc: Global, snapshot: &Snapshot, start: u64) -> Option<Arc<Snapshot>> {
+    let bytes = unit_bytes(alloc, start, 360_000, true, 1000).ok()?;
+    let facts = read_facts(snapshot.recording(0)?.init(), &bytes).ok()?;
+    let bytes = Bytes::copy_from_slice(alloc, &bytes).ok()?;
+    let event = Event::Accept {
+        rendition: 0,
+        facts,
+        bytes,
+    };
+    stepped(alloc, snapshot, event)
+}
+
+/// Two units, of which more may come: one live segment.
+pub fn recorded(alloc: Global) -> Option<Arc<Snapshot>> {
+    let none = begun(alloc, &opened(alloc)?)?;
+    let one = with_unit(alloc, &none, 0)?;
+    with_unit(alloc, &one, 360_000)
+}
+
+/// The same, recorded once more where memory was refused.
+fn recorded_at_last(alloc: Global) -> Option<Arc<Snapshot>> {
+    match recorded(alloc) {
+        Some(snapshot) => Some(snapshot),
+        None => recorded(alloc),
+    }
+}
+
+/// What is asked of the channel, or done with it.
+#[derive(Clone, Copy)]
+enum Act {
+    Status,
+    Master,
+    List,
+    Part,
+    Outside,
+    Taken,
+    Refused,
+    Finished,
+    Full,
+    Method,
+    Unknown,
+}
+
+const COUNTS: Counts = Counts {
+    inits: 1,
+    units: 2,
+    repeats: 0,
+};
+
+fn part(alloc: Global, snapshot: &Arc<Snapshot>, asked: Asked) -> Result<Answer, AllocError> {
+    media_answer(alloc, Arc::try_clone(snapshot)?, 0, asked)
+}
+
+fn answer(alloc: Global, snapshot: &Arc<Snapshot>, act: Act) -> Result<Answer, AllocError> {
+    match act {
+        Act::Status => status_answer(alloc, snapshot, 0),
+        Act::Master => master_answer(alloc, snapshot),
+        Act::List => list_answer(alloc, snapshot, 0),
+        Act::Part => part(alloc, snapshot, Asked::Between(0, 7)),
+        Act::Outside => part(alloc, snapshot, Asked::From(2600)),
+        Act::Taken => taken_answer(alloc, COUNTS),
+        Act::Refused => refused_answer(alloc, IngestFault::Core(Refusal::RecordingFull), COUNTS),
+        Act::Finished => finish_answer(alloc, Ok(Done::Repeat)),
+        Act::Full => finish_answer(alloc, Err(Refusal::LedgerFull)),
+        Act::Method => method_answer(alloc, Route::Status),
+        Act::Unknown => fault_answer(alloc, HttpFault::NotFound),
+    }
+}
+
+/// What became of an answer.
+#[derive(Clone, Copy, PartialEq, Eq)]
+enum Came {
+    /// There was no memory to make it, or for the session.
+    Nowhere,
+    /// The fixed reply was sent in its place.
+    Short,
+    /// It was sent.
+    Far,
+    /// Something else was sent.
+    Astray,
+}
+
+/// Sends an answer, to HEAD or to GET, whose reply is wanted to be this one.
+fn give(alloc: Global, snapshot: &Arc<Snapshot>, act: Act, reply: &[u8], to_head: bool) -> Came {
+    let Ok(answer) = answer(alloc, snapshot, act) else {
+        return Came::Nowhere;
+    };
+    let Ok(mut session) = Session::new(alloc, b"".as_slice(), Page::new()) else {
+        return Came::Nowhere;
+    };
+    let sent = send(alloc, &mut session, &answer, false, to_head);
+    let page = session.writer.into_inner();
+    let no_memory = if to_head {
+        no_memory_head_text()
+    } else {
+        no_memory_text()
+    };
+    if sent == Ok(()) && page.written() == reply {
+        Came::Far
+    } else if sent == Err(SessionEnd::Refused) && page.written() == no_memory {
+        Came::Short
+    } else {
+        Came::Astray
+    }
+}
+
+/// Whether of two tries the second gives the answer where the first found no memory, and no other one in any case.
+fn gives_at_last(
+    alloc: Global,
+    snapshot: &Arc<Snapshot>,
+    act: Act,
+    reply: &[u8],
+    to_head: bool,
+) -> bool {
+    match give(alloc, snapshot, act, reply, to_head) {
+        Came::Far => true,
+        Came::Astray => false,
+        Came::Nowhere | Came::Short => give(alloc, snapshot, act, reply, to_head) == Came::Far,
+    }
+}
+
+const LIST: &[u8] =
+    b"HTTP/1.1 200 OK\r\nContent-Type: application/vnd.apple.mpegurl\r\nContent-Length: 210\r\n\r\n#EXTM3U\n#EXT-X-VERSION:6\n#EXT-X-TARGETDURATION:6\n#EXT-X-MEDIA-SEQUENCE:0\n#EXT-X-DISCONTINUITY-SEQUENCE:0\n#EXT-X-MAP:URI=\"/media/0.mp4\",BYTERANGE=\"600@0\"\n#EXTINF:4.000000,\n#EXT-X-BYTERANGE:1000@600\n/media/0.mp4\n";
+
+/// Answers with their whole replies.
+const GIVEN: [(Act, &[u8]); 11] = [
+    (
+        Act::Status,
+        b"HTTP/1.1 200 OK\r\nContent-Type: text/plain\r\nContent-Length: 47\r\n\r\nversion 3\nplaces 2\nsegments 1\nremoved 0\njobs 0\n",
+    ),
+    (
+        Act::Master,
+        b"HTTP/1.1 200 OK\r\nContent-Type: application/vnd.apple.mpegurl\r\nContent-Length: 74\r\n\r\n#EXTM3U\n#EXT-X-VERSION:6\n#EXT-X-STREAM-INF:BANDWIDTH=3000000\n/live/0.m3u8\n",
+    ),
+    (Act::List, LIST),
+    (
+        Act::Part,
+        b"HTTP/1.1 206 Partial Content\r\nContent-Type: video/mp4\r\nContent-Length: 8\r\nContent-Range: bytes 0-7/2600\r\n\r\n\0\0\0\x10ftyp",
+    ),
+    (
+        Act::Outside,
+        b"HTTP/1.1 416 Range Not Satisfiable\r\nContent-Type: text/plain\r\nContent-Length: 21\r\nContent-Range: bytes */2600\r\n\r\nrefused RangeOutside\n",
+    ),
+    (
+        Act::Taken,
+        b"HTTP/1.1 200 OK\r\nContent-Type: text/plain\r\nContent-Length: 29\r\n\r\ninit 1 accepted 2 repeated 0\n",
+    ),
+    (
+        Act::Refused,
+        b"HTTP/1.1 507 Insufficient Storage\r\nContent-Type: text/plain\r\nContent-Length: 51\r\n\r\nrefused RecordingFull init 1 accepted 2 repeated 0\n",
+    ),
+    (
+        Act::Finished,
+        b"HTTP/1.1 200 OK\r\nContent-Type: text/plain\r\nContent-Length: 9\r\n\r\nrepeated\n",
+    ),
+    (
+        Act::Full,
+        b"HTTP/1.1 507 Insufficient Storage\r\nContent-Type: text/plain\r\nContent-Length: 19\r\n\r\nrefused LedgerFull\n",
+    ),
+    (
+        Act::Method,
+        b"HTTP/1.1 405 Method Not Allowed\r\nContent-Type: text/plain\r\nContent-Length: 18\r\nAllow: GET, HEAD\r\n\r\nrefused BadMethod\n",
+    ),
+    (
+        Act::Unknown,
+        b"HTTP/1.1 404 Not Found\r\nContent-Type: text/plain\r\nContent-Length: 17\r\n\r\nrefused NotFound\n",
+    ),
+];
+
+#[test]
+fn refused_memory_changes_no_answer(rt: HostRuntime) {
+    let alloc = rt.alloc();
+    let snapshot = recorded_at_last(alloc).expect(&rt, "a snapshot with two units");
+    for (act, reply) in GIVEN {
+        assert!(rt; gives_at_last(alloc, &snapshot, act, reply, false));
+    }
+    assert_eq!(rt; snapshot.version(), 3);
+}
+
+/// Answers with their replies to HEAD: of a playlist, and of media.
+const HEADS: [(Act, &[u8]); 2] = [
+    (
+        Act::Master,
+        b"HTTP/1.1 200 OK\r\nContent-Type: application/vnd.apple.mpegurl\r\nContent-Length: 74\r\n\r\n",
+    ),
+    (
+        Act::Part,
+        b"HTTP/1.1 206 Partial Content\r\nContent-Type: video/mp4\r\nContent-Length: 8\r\nContent-Range: bytes 0-7/2600\r\n\r\n",
+    ),
+];
+
+#[test]
+fn refused_memory_to_head_has_no_body(rt: HostRuntime) {
+    let alloc = rt.alloc();
+    let snapshot = recorded_at_last(alloc).expect(&rt, "a snapshot with two units");
+    for (act, reply) in HEADS {
+        assert!(rt; gives_at_last(alloc, &snapshot, act, reply, true));
+    }
+}
+
+#[test]
+fn refused_memory_tells_nothing_of_a_query(rt: HostRuntime) {
+    let alloc = rt.alloc();
+    let query = b"fro%6d=%30&to=8000000";
+    let wanted = match read_query(alloc, query) {
+        Ok(wanted) => wanted,
+        Err(_) => read_query(alloc, query).ok().flatten(),
+    };
+    let asked = Wanted {
+        start_us: 0,
+        stop_us: 8_000_000,
+        preferred: None,
+    };
+    assert_eq!(rt; wanted, Some(asked));
+}

@@ -1,0 +1,46 @@
+-- What is served of a table of jobs that threads share is right, whichever jobs it has.
+use Rattle.std.specs.Prelude.{◌≡◌, ◌⊎◌, ℕ, length, Some, Result, codes}
+use Rattle.hls_core_laws.specs.State.{State}
+use Rattle.hls_http_laws.specs.declared.fault.HttpFault.TheVariants as http
+use Rattle.hls_http_laws.specs.declared.range.Asked.{Asked}
+use Rattle.hls_http_laws.specs.declared.reply.Status.TheVariants.{Done}
+use Rattle.hls_catchup.specs.declared.request.Request.{Request}
+use Rattle.hls_catchup.specs.declared.request.CatchFault.{CatchFault}
+use Rattle.hls_catchup.specs.Replies.{ReplyData, IsRightReply}
+use Rattle.hls_catchup.specs.Plays.{IsAnswered}
+use Rattle.hls_job_files.specs.Line.{result_line}
+use Rattle.hls_serve_laws.specs.declared.route.JobFile.{JobFile}
+use Rattle.hls_serve_laws.specs.Desks.{shared_desk}
+use Rattle.hls_serve_laws.specs.Heard.{ShowsJob}
+use Rattle.hls_serve_laws.specs.JobReplies.{file_answer, reply_answer, told_answer}
+use Rattle.hls_serve_laws.specs.Replies.{Answer, fault_answer, text_answer}
+
+-- the file of the right reply of some state to some request
+pub record IsOfRightReply (file : JobFile) (asked : Asked) (answer : Answer) : Type 0 where
+  pub state : State
+  pub request : Request
+  pub reply : ReplyData
+  pub right : IsRightReply state request reply
+  pub answer_is : answer ≡ reply_answer file asked reply
+
+-- whatever is replied to a request for a job's file, it is that of a right reply; or there is no such job, or no reply
+abbrev pub FilesAreRight : Type 0
+FilesAreRight = (id : ℕ) (file : JobFile) (asked : Asked) (answer : Answer) → ShowsJob shared_desk id (file_answer file asked) answer →
+    (answer ≡ fault_answer http.NotFound) ⊎ ((answer ≡ fault_answer http.Conflict) ⊎ IsOfRightReply file asked answer)
+
+-- the line of the right answer of some state to some request, with that state's version
+pub record IsOfRightAnswer (answer : Answer) : Type 0 where
+  pub state : State
+  pub request : Request
+  pub result : Result ReplyData CatchFault
+  pub right : IsAnswered state request (Some result)
+  pub answer_is : answer ≡ text_answer Done (result_line result (length state.log))
+
+-- a job has no answer yet
+abbrev pub IsOfUnfinished : Answer → Type 0
+IsOfUnfinished answer = (answer ≡ text_answer Done (codes "waiting\n")) ⊎ (answer ≡ text_answer Done (codes "running\n"))
+
+-- whatever is told of a job, it is that of a right answer; or there is no such job, or no answer yet
+abbrev pub LinesAreRight : Type 0
+LinesAreRight = (id : ℕ) (answer : Answer) → ShowsJob shared_desk id told_answer answer →
+    (answer ≡ fault_answer http.NotFound) ⊎ (IsOfUnfinished answer ⊎ IsOfRightAnswer answer)

@@ -1,0 +1,15 @@
+//! Theorems about the definitions. Each function has no body: its contract is the law.
+
+ghost use Rattle.hls_serve_laws.specs.JobLaws.{FilesAreRight, LinesAreRight};
+
+/// Whatever a session replies to a request for a job's file, it is a file of the right reply of some state to some request;
+/// or it says that there is none.
+pub fn files_are_right()
+    ensures { FilesAreRight }
+{}
+
+/// Whatever a session tells of a job, it is what the right answer of some state to some request came to, with that state's
+/// version; or that there is no answer yet, or no such job.
+pub fn lines_are_right()
+    ensures { LinesAreRight }
+{}

@@ -1,0 +1,13 @@
+//! What is asked of catch-up.
+
+/// What the query of a request for catch-up asks: the programme from `start_us` to `stop_us`, and how long its segments
+/// should be; all in microseconds. Whether a channel has such a programme is no matter here.
+#[derive(Clone, Copy, Debug, PartialEq, Eq, Drop)]
+pub struct Wanted {
+    /// `from`.
+    pub start_us: u64,
+    /// `to`.
+    pub stop_us: u64,
+    /// `preferred`; None where the channel's own length is meant.
+    pub preferred: Option<u64>,
+}
