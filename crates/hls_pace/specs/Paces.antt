@@ -1,5 +1,5 @@
 -- How long a connection may keep a worker waiting. Times are milliseconds of one clock; patience is in seconds.
-use Rattle.std.specs.Prelude.{ℕ, ◌+◌, ◌-◌, ◌*◌, ◌^◌, Bool, cond, ◌&&◌, nat_lt, nat_le, min}
+use Rattle.std.specs.Prelude.{ℕ, ◌+◌, ◌-◌, ◌*◌, ◌^◌, Bool, cond, ◌&&◌, ◌||◌, nat_lt, nat_le, min}
 use Rattle.hls_pace.specs.declared.pace.Turn.{Turn}
 use Rattle.hls_pace.specs.declared.pace.Turn.TheVariants.{Between, Hearing, Speaking}
 use Rattle.hls_pace.specs.declared.pace.Pace.{Pace}
@@ -37,11 +37,15 @@ abbrev pub is_slow : ℕ → Pace → ℕ → Bool
 is_slow patience pace now = nat_lt (patience * 1000) (now - pace.since) && nat_lt pace.bytes (now - pace.since)
 
 -- no byte came for so many milliseconds: within a request that is a failure once patience is over; between two requests
--- the input ends then, and at once where no worker is free for another connection
-abbrev pub silence_in : Turn → Bool → Bool → Silence
-silence_in Hearing late free = cond late GiveUp Wait
-silence_in Between late free = cond late End (cond free Wait End)
-silence_in Speaking late free = cond late End (cond free Wait End)
+-- the input ends then, and at once where no worker is free for another connection. A peer that has sent nothing yet has a
+-- second, where few such ones are waited for
+abbrev pub idle : Bool → Bool → Silence
+idle late waits = cond late End (cond waits Wait End)
 
-abbrev pub silence : ℕ → Pace → ℕ → Bool → Silence
-silence patience pace waited free = silence_in pace.turn (nat_le (patience * 1000) waited) free
+abbrev pub silence_in : Turn → Bool → Bool → Bool → Silence
+silence_in Hearing late free spared = cond late GiveUp Wait
+silence_in Between late free spared = idle late (free || spared)
+silence_in Speaking late free spared = idle late free
+
+abbrev pub silence : ℕ → Pace → ℕ → Bool → Bool → Silence
+silence patience pace waited free few = silence_in pace.turn (nat_le (patience * 1000) waited) free (few && nat_lt waited 1000)

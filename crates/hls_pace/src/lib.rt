@@ -3,6 +3,7 @@
 #![tactic(auto)]
 
 mod clock;
+mod crowd;
 mod pace;
 mod reader;
 #[cfg(test)]
@@ -10,6 +11,7 @@ mod tests;
 mod writer;
 
 pub use clock::milliseconds;
+pub use crowd::Crowd;
 pub use pace::{Pace, Silence, Turn};
 pub use reader::PatientReader;
 pub use writer::PatientWriter;

@@ -2,6 +2,10 @@
 ghost use Rattle.std.specs.Prelude.{◌≡◌, ◌≤◌};
 ghost use Rattle.hls_pace.specs.Paces.{begun, heard, is_slow, silence, spoken};
 
+/// How long a peer that has sent nothing yet is waited for where no worker is free, in milliseconds: a client's first
+/// segment may be lost, or the client be busy.
+const GRACE: u64 = 1000;
+
 /// Whose turn it is on a connection.
 #[derive(Clone, Copy, Debug, PartialEq, Eq)]
 pub enum Turn {
@@ -98,24 +102,25 @@ impl Pace {
         passed > patience * 1000 && self.bytes < passed
     }
 
-    /// What follows where no byte came for so many milliseconds; `free` says whether a worker waits for a connection.
-    pub fn silence(self, patience: u64, waited: u64, free: bool) -> Silence
+    /// What follows where no byte came for so many milliseconds; `free` says whether a worker waits for a connection, and
+    /// `few` whether few workers have one that has sent nothing yet.
+    pub fn silence(self, patience: u64, waited: u64, free: bool, few: bool) -> Silence
         requires { patience ≤ 3600 }
-        ensures { result ≡ silence patience self waited free }
+        ensures { result ≡ silence patience self waited free few }
     {
         let late = waited >= patience * 1000;
         match self.turn {
             Turn::Hearing => if late { Silence::GiveUp } else { Silence::Wait },
-            Turn::Between => between(late, free),
-            Turn::Speaking => between(late, free),
+            Turn::Between => idle(late, free || (few && waited < GRACE)),
+            Turn::Speaking => idle(late, free),
         }
     }
 }
 
-fn between(late: bool, free: bool) -> Silence
-    ensures { result ≡ Rattle.hls_pace.specs.Paces.silence_in Turn.Between late free }
+fn idle(late: bool, waits: bool) -> Silence
+    ensures { result ≡ Rattle.hls_pace.specs.Paces.idle late waits }
 {
-    if late || !free {
+    if late || !waits {
         return Silence::End;
     }
     Silence::Wait

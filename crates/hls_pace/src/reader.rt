@@ -2,10 +2,10 @@
 ghost use Rattle.std.specs.Prelude.{◌≡◌, ◌≤◌, IfOk};
 
 use crate::clock::milliseconds;
-use crate::pace::{Pace, Silence};
+use crate::crowd::Crowd;
+use crate::pace::{Pace, Silence, Turn};
 use std::cell::Cell;
 use std::io::{self, ErrorKind, Read};
-use std::sync::atomic::{AtomicU64, Ordering};
 use std::time::Clock;
 
 /// A reader over a stream whose own calls wait a short while (`WouldBlock` where nothing came). Silence counts from the
@@ -16,25 +16,25 @@ pub struct PatientReader<'a, C, S> {
     clock: &'a C,
     stream: S,
     pace: &'a Cell<Pace>,
-    free: &'a AtomicU64,
+    crowd: &'a Crowd,
     patience: u64,
     ghost in_range: { patience ≤ 3600 },
 }
 
 impl<'a, C: Clock, S: Read + Drop> PatientReader<'a, C, S> {
-    /// `free` counts the workers that wait for a connection; `patience` is in seconds, and counts as 3600 above that.
+    /// `patience` is in seconds, and counts as 3600 above that.
     pub fn new(
         clock: &'a C,
         stream: S,
         pace: &'a Cell<Pace>,
-        free: &'a AtomicU64,
+        crowd: &'a Crowd,
         patience: u64,
     ) -> PatientReader<'a, C, S> {
         PatientReader {
             clock,
             stream,
             pace,
-            free,
+            crowd,
             patience: patience.min(3600),
         }
     }
@@ -46,7 +46,11 @@ impl<'a, C: Clock, S: Read> PatientReader<'a, C, S> {
         ensures { IfOk result (λ n. n ≡ bytes) }
     {
         let now = milliseconds(self.clock);
-        let pace = self.pace.get().heard(bytes as u64, now);
+        let before = self.pace.get();
+        if before.turn == Turn::Between {
+            self.crowd.hear();
+        }
+        let pace = before.heard(bytes as u64, now);
         self.pace.set(pace);
         if pace.is_slow(self.patience, now) {
             return Err(ErrorKind::TimedOut.into());
@@ -57,8 +61,9 @@ impl<'a, C: Clock, S: Read> PatientReader<'a, C, S> {
     /// What follows of silence since a moment.
     fn silence(&self, since: u64) -> Silence {
         let waited = milliseconds(self.clock).saturating_sub(since);
-        let free = self.free.load(Ordering::SeqCst) > 0;
-        self.pace.get().silence(self.patience, waited, free)
+        let free = self.crowd.has_free();
+        let few = self.crowd.has_few();
+        self.pace.get().silence(self.patience, waited, free, few)
     }
 }
 

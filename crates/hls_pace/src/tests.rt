@@ -1,9 +1,8 @@
 //! Silent, idle and slow peers, on a clock that goes on by a quarter of a second at each look.
 
-use crate::{Pace, PatientReader, PatientWriter};
+use crate::{Crowd, Pace, PatientReader, PatientWriter};
 use std::cell::Cell;
 use std::io::{self, ErrorKind, Read, Write};
-use std::sync::atomic::AtomicU64;
 use std::test::Fail;
 use std::time::{Clock, Duration};
 
@@ -74,11 +73,19 @@ fn bytes_of(ended: io::Result<usize>) -> usize {
     ended.unwrap_or(1000)
 }
 
-fn read_by(lens: &[usize], calls: usize, workers: u64, step: u64) -> usize {
+/// What a connection gives at the last of so many reads, beside `others` that are mute, where `free` of four workers wait.
+fn read_beside(others: usize, free: usize, lens: &[usize], calls: usize, step: u64) -> usize {
     let clock = clock_by(step);
     let pace = Cell::new(Pace::new());
-    let free = AtomicU64::new(workers);
-    let mut reader = PatientReader::new(&clock, Stream { lens }, &pace, &free, 2);
+    let crowd = Crowd::new(4);
+    for _ in 0..free {
+        crowd.wait();
+    }
+    crowd.begin();
+    for _ in 0..others {
+        crowd.begin();
+    }
+    let mut reader = PatientReader::new(&clock, Stream { lens }, &pace, &crowd, 2);
     let mut buf = [0; 100];
     let mut last = 0;
     for _ in 0..calls {
@@ -87,11 +94,42 @@ fn read_by(lens: &[usize], calls: usize, workers: u64, step: u64) -> usize {
     last
 }
 
+fn read_by(lens: &[usize], calls: usize, free: usize, step: u64) -> usize {
+    read_beside(0, free, lens, calls, step)
+}
+
 #[test]
 fn an_idle_connection_ends(rt: HostRuntime) -> Result<(), Fail> {
     assert!(rt; read_by(&[], 1, 1, 250) == 0);
     assert!(rt; read_by(&[0, 0, 5], 1, 1, 250) == 5);
-    assert!(rt; read_by(&[0, 0, 5], 1, 0, 250) == 0);
+    Ok(())
+}
+
+/// One of few has a second to begin where no worker is free, and one of many has none.
+#[test]
+fn a_mute_connection_ends(rt: HostRuntime) -> Result<(), Fail> {
+    assert!(rt; read_by(&[0, 0, 5], 1, 0, 250) == 5);
+    assert!(rt; read_by(&[0, 0, 0, 0, 5], 1, 0, 250) == 0);
+    assert!(rt; read_beside(1, 0, &[0, 0, 5], 1, 250) == 0);
+    assert!(rt; read_beside(1, 1, &[0, 0, 5], 1, 250) == 5);
+    Ok(())
+}
+
+/// A worker that waits no longer isn't free, and a connection that ended isn't mute.
+#[test]
+fn a_crowd_is_counted(rt: HostRuntime) -> Result<(), Fail> {
+    let crowd = Crowd::new(4);
+    assert!(rt; !crowd.has_free() && crowd.has_few());
+    crowd.wait();
+    crowd.begin();
+    crowd.begin();
+    assert!(rt; crowd.has_free() && !crowd.has_few());
+    crowd.go_on();
+    crowd.end(Pace::new());
+    assert!(rt; !crowd.has_free() && crowd.has_few());
+    crowd.begin();
+    crowd.end(Pace::new().heard(1, 0));
+    assert!(rt; !crowd.has_few());
     Ok(())
 }
 
