@@ -1,5 +1,5 @@
 -- What is due of a request, and what was written of it.
-use Rattle.std.proofs.Common.{◌≡◌, ◌≢◌, ◌∙◌, ℕ, Bool, true, false, ◌⊎◌, inl, inr, List, [], ◌++◌, Option, Some, None, IfOk, Result, Ok, Err, refl, sym, ap, subst, append_assoc}
+use Rattle.std.proofs.Common.{◌≡◌, ◌≢◌, ◌∙◌, ℕ, Bool, true, false, ◌⊎◌, inl, inr, List, [], ◌++◌, Option, Some, None, IfOk, Result, Ok, Err, length, refl, sym, ap, subst, append_assoc}
 use Rattle.std.proofs.lemmas.Bool.{cond-true}
 use Rattle.httparse.specs.Grammar.{RequestHead}
 use Rattle.hls_io.specs.Writing.{Writes}
@@ -16,16 +16,23 @@ use Rattle.hls_http.proofs.ReplyLaws.{second_cut, writes_whole}
 use Rattle.hls_core_laws.specs.declared.event.Event.TheVariants.{Finish}
 use Rattle.hls_core_laws.specs.declared.refusal.Refusal.{Refusal}
 use Rattle.hls_core_laws.specs.declared.refusal.Refusal.TheVariants.{Memory}
+use Rattle.hls_core_laws.specs.State.{State}
 use Rattle.hls_turn.specs.declared.done.Done.{Done as Moved}
 use Rattle.hls_turn.specs.Passes.{Known}
-use Rattle.hls_turn.specs.Calls.{Submits}
+use Rattle.hls_turn.specs.Calls.{LookedOn, Looks, Submits}
+use Rattle.hls_jobs.specs.declared.fault.JobFault.{JobFault}
+use Rattle.hls_jobs.specs.declared.job.Job.{Job}
 use Rattle.hls_serve_laws.specs.declared.fault.IngestFault.{IngestFault}
 use Rattle.hls_serve_laws.specs.declared.ingest.Counts.{Counts}
 use Rattle.hls_serve_laws.specs.declared.route.Route.{Route}
-use Rattle.hls_serve_laws.specs.Heard.{Asks, Due, Reply, Silence, Finishes, IsDue, IsSkipped, Serves, ServesAllowed, ServesKnown, due_for, first_of, is_missing, to_head, taken_answer, refused_answer}
+use Rattle.hls_serve_laws.specs.Desks.{Desk}
+use Rattle.hls_serve_laws.specs.Heard.{AddsJob, Asks, Due, Reply, Silence, Finishes, IsDue, IsSkipped, Serves, ServesAllowed, ServesBy, ServesJob, ShowsJob, ShowsStatus, due_for, first_of, job_at, to_head, taken_answer, refused_answer}
 use Rattle.hls_serve_laws.specs.Ingest.{Progress, counts_text}
-use Rattle.hls_serve_laws.specs.Replies.{Answer, Lists, answer_text, fault_answer, finish_answer, text_answer}
-use Rattle.hls_serve_laws.specs.Routes.{allows}
+use Rattle.hls_serve_laws.specs.declared.wanted.Wanted.{Wanted}
+use Rattle.hls_serve_laws.specs.JobReplies.{added_answer}
+use Rattle.hls_serve_laws.specs.Queries.{request_for}
+use Rattle.hls_serve_laws.specs.Replies.{Answer, Lists, answer_text, fault_answer, finish_answer, status_answer, text_answer}
+use Rattle.hls_serve_laws.specs.Routes.{allows, removes}
 use Rattle.hls_replies.specs.Sends.{Sends}
 use Rattle.hls_serve.specs.Turns.{Settles, IsMade, IsRefusedHead, IsResponse, Makes, WritesFirst, memory_due, reply_due}
 use Rattle.hls_serve.proofs.PassLaws.{looked_self}
@@ -119,11 +126,11 @@ pub wanting_due : {E : Type 0} (e : E) (first : List ℕ) (closing head : Bool) 
 wanting_due e first closing head due (inl p) = p
 wanting_due e first closing head due (inr p) = p
 
-pub skipped_due : {E : Type 0} (lists : Lists) (h : RequestHead) (q : Asks) (route : Route) (plan : Plan) (a b : Known) (made : Result Answer E) (due : Due)
-    → Makes (IsResponse lists q route a b) a b made → IsMade (first_of h plan) made (says_close h false) (to_head h) due → IsSkipped lists h q route plan a b due (Ok tt)
-skipped_due lists h q route plan a b (Ok x) due made is = (Some x, made, is)
-skipped_due lists h q route plan a b (Err e) due (inl looked) is = (None, looked, inr (wanting_due e (first_of h plan) (says_close h false) (to_head h) due is))
-skipped_due lists h q route plan a b (Err e) due (inr made) is =
+pub skipped_due : {E : Type 0} (lists : Lists) (desk : Desk) (h : RequestHead) (q : Asks) (route : Route) (plan : Plan) (a b : Known) (made : Result Answer E) (due : Due)
+    → Makes (IsResponse lists desk q route a b) a b made → IsMade (first_of h plan) made (says_close h false) (to_head h) due → IsSkipped lists desk h q route plan a b due (Ok tt)
+skipped_due lists desk h q route plan a b (Ok x) due made is = (Some x, made, is)
+skipped_due lists desk h q route plan a b (Err e) due (inl looked) is = (None, looked, inr (wanting_due e (first_of h plan) (says_close h false) (to_head h) due is))
+skipped_due lists desk h q route plan a b (Err e) due (inr made) is =
     (Some made.0, made.1, inr (wanting_due e (first_of h plan) (says_close h false) (to_head h) due is))
 
 -- a refused head's reply closes the session, and is no success
@@ -167,8 +174,35 @@ pub finish_made : {E : Type 0} (a b : Known) (r : ℕ) (done : Result Moved Refu
 finish_made a b r done (Ok x) submits told same = (done, submits, told, same)
 finish_made a b r done (Err e) submits told same = inr (finish_answer done, (done, submits, told, refl))
 
-pub response_made : {E : Type 0} (lists : Lists) (q : Asks) (route : Route) (a b : Known) (made : Result Answer E) → is_missing route ≡ false → allows route q.method ≡ true
-    → Makes (λ answer. Serves lists q route a answer b) a b made → Makes (IsResponse lists q route a b) a b made
-response_made lists q route a b made there allowed serves =
-    subst (λ (m : Bool). Makes (λ answer. ServesKnown lists q route a answer b m) a b made) (sym there)
-    (subst (λ (m : Bool). Makes (λ answer. ServesAllowed lists q route a answer b m) a b made) (sym allowed) serves)
+pub response_made : {E : Type 0} (lists : Lists) (desk : Desk) (q : Asks) (route : Route) (a b : Known) (made : Result Answer E) → job_at route ≡ None → allows route q.method ≡ true
+    → Makes (λ answer. Serves lists desk q route a answer b) a b made → Makes (IsResponse lists desk q route a b) a b made
+response_made lists desk q route a b made of_none allowed serves =
+    subst (λ (job : Option ℕ). Makes (λ answer. ServesBy lists desk q route a answer b job) a b made) (sym of_none)
+    (subst (λ (m : Bool). Makes (λ answer. ServesAllowed lists desk q route a answer b m) a b made) (sym allowed) serves)
+
+pub job_made : {E : Type 0} (lists : Lists) (desk : Desk) (q : Asks) (route : Route) (id : ℕ) (a b : Known) (made : Result Answer E) → job_at route ≡ Some id → b ≡ a
+    → IfOk made (λ x. ServesJob desk q route id x (removes route q.method)) → Makes (IsResponse lists desk q route a b) a b made
+job_made lists desk q route id a b (Ok x) of_job same serves =
+    subst (λ (job : Option ℕ). ServesBy lists desk q route a x b job) (sym of_job) (same, serves)
+job_made lists desk q route id a b (Err e) of_job same serves = inl (subst (λ (k : Known). LookedOn a k) (sym same) (looked_self a))
+
+pub status_made : {E : Type 0} (desk : Desk) (a b : Known) (s : State) (jobs : ℕ) (made : Result Answer E) → Looks a s b → desk.counts jobs
+    → IfOk made (λ x. x ≡ status_answer s jobs) → Makes (ShowsStatus desk a b) a b made
+status_made desk a b s jobs (Ok x) looks counts is = (jobs, counts, (s, looks, is))
+status_made desk a b s jobs (Err e) looks counts is = inl looks.looked
+
+pub added_made : {E : Type 0} (desk : Desk) (wanted : Wanted) (a b c : Known) (s : State) (version : ℕ) (result : Result ℕ JobFault) (made : Result Answer E) → Looks a s b → c ≡ b
+    → version ≡ length s.log → desk.adds s (request_for s wanted) result → IfOk made (λ x. x ≡ added_answer version result) → Makes (AddsJob desk wanted a c) a c made
+added_made desk wanted a b c s version result (Ok x) looks same is adds told = record {
+  state = s;
+  looks = subst (λ (k : Known). Looks a s k) (sym same) looks;
+  result = result;
+  adds = adds;
+  answer_is = told ∙ ap (λ v. added_answer v result) is;
+}
+added_made desk wanted a b c s version result (Err e) looks same is adds told = inl (subst (λ (k : Known). LookedOn a k) (sym same) looks.looked)
+
+pub shown_job : {E : Type 0} (desk : Desk) (id : ℕ) (shown : Job → Option Answer) (told : Result Job JobFault) (job : Job) (made : Result Answer E) → told ≡ Ok job → desk.tells id told
+    → IfOk made (λ a. Some a ≡ shown job) → IfOk made (ShowsJob desk id shown)
+shown_job desk id shown told job (Ok x) is tells same = (Ok job, subst (λ (t : Result Job JobFault). desk.tells id t) is tells, sym same)
+shown_job desk id shown told job (Err e) is tells same = same

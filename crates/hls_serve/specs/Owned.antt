@@ -1,3 +1,4 @@
+-- For the proofs of this crate; no public clause cites it.
 -- What is known of a channel of one's own.
 use Rattle.hls_core_laws.specs.Workers.{events_by}
 use Rattle.hls_turn.specs.Passes.{Known}

@@ -1,5 +1,5 @@
 -- One request in the middle of its answering. For the functions below `session_on`; no public clause cites it.
-use Rattle.std.specs.Prelude.{◌≡◌, ◌⊎◌, ℕ, Bool, true, false, List, ◌++◌, length, Option, Some, IfSome, Result, Ok, Err}
+use Rattle.std.specs.Prelude.{◌≡◌, ◌⊎◌, ℕ, Bool, true, false, List, ◌++◌, length, Option, Some, IfOk, Result, Ok, Err}
 use Rattle.std.specs.Io.KnownBytes.{prepend_known}
 use Rattle.httparse.specs.Grammar.{RequestHead}
 use Rattle.hls_http_laws.specs.declared.end.SessionEnd.{SessionEnd}
@@ -13,8 +13,10 @@ use Rattle.hls_turn.specs.Passes.{Known}
 use Rattle.hls_turn.specs.Calls.{LookedOn}
 use Rattle.hls_serve_laws.specs.declared.route.Route.{Route}
 use Rattle.hls_serve_laws.specs.declared.route.Route.TheVariants as routes
-use Rattle.hls_serve_laws.specs.Heard.{Asks, Due, Reply, Follows, IsUnheard, ServesKnown, asks_of, first_of, is_missing, plan_for, refused_head}
-use Rattle.hls_serve_laws.specs.Replies.{Answer, Lists, answer_text, is_good_query}
+use Rattle.hls_serve_laws.specs.Desks.{Desk}
+use Rattle.hls_serve_laws.specs.Heard.{Asks, Due, Reply, Follows, IsUnheard, ServesBy, asks_of, first_of, job_at, plan_for, refused_head}
+use Rattle.hls_serve_laws.specs.Queries.{wanted_in}
+use Rattle.hls_serve_laws.specs.Replies.{Answer, Lists, answer_text}
 use Rattle.hls_serve_laws.specs.Routes.{path_of, query_of, route_of}
 use Rattle.hls_serve_laws.specs.Sessions.{Comes, Runs}
 use Rattle.hls_serve.specs.declared.call.Call.{Call}
@@ -58,7 +60,7 @@ pub record IsCall (count : ℕ) (h : RequestHead) (call : Call) : Type 0 where
   pub text : List ℕ
   pub head : IsHead h call.head text
   pub route : call.route ≡ route_of count (path_of h.target)
-  pub good : call.route ≡ Some routes.CatchUp → IfSome call.good (λ good. good ≡ is_good_query (query_of h.target))
+  pub wanted : call.route ≡ Some routes.CatchUp → IfOk call.wanted (λ wanted. wanted ≡ wanted_in (query_of h.target))
 
 -- ---- answers
 
@@ -67,21 +69,21 @@ abbrev pub Makes : {E : Type 0} → (Answer → Type 0) → Known → Known → 
 Makes Is a b (Ok answer) = Is answer
 Makes Is a b (Err e) = LookedOn a b ⊎ ((answer : Answer) × Is answer)
 
-abbrev pub IsResponse : Lists → Asks → Route → Known → Known → Answer → Type 0
-IsResponse lists q route a b answer = ServesKnown lists q route a answer b (is_missing route)
+abbrev pub IsResponse : Lists → Desk → Asks → Route → Known → Known → Answer → Type 0
+IsResponse lists desk q route a b answer = ServesBy lists desk q route a answer b (job_at route)
 
 -- ---- a request
 
 -- what a request whose head was read comes to
-abbrev pub HearsBehind : Lists → RequestHead → Known → List ℕ → Due → Known → List ℕ → Option (List ℕ) → Type 0
-HearsBehind lists h a behind due b held left =
-    Follows lists h (asks_of (length a.seen.config.renditions) h) (plan_for h (asks_of (length a.seen.config.renditions) h)) a behind due b held left
+abbrev pub HearsBehind : Lists → Desk → RequestHead → Known → List ℕ → Due → Known → List ℕ → Option (List ℕ) → Type 0
+HearsBehind lists desk h a behind due b held left =
+    Follows lists desk h (asks_of (length a.seen.config.renditions) h) (plan_for h (asks_of (length a.seen.config.renditions) h)) a behind due b held left
     ⊎ IsUnheard h (plan_for h (asks_of (length a.seen.config.renditions) h)) a due b
 
 -- so many requests were answered, and the rest is still to come
-pub record SoFar (lists : Lists) (a : Known) (input out : List ℕ) (b : Known) (held : List ℕ) (left contents : Option (List ℕ)) : Type 0 where
+pub record SoFar (lists : Lists) (desk : Desk) (a : Known) (input out : List ℕ) (b : Known) (held : List ℕ) (left contents : Option (List ℕ)) : Type 0 where
   pub text : List ℕ
   pub rest : List ℕ
-  pub runs : Runs lists a input text b rest
+  pub runs : Runs lists desk a input text b rest
   pub known : prepend_known held left ≡ Some rest
   pub contents_are : contents ≡ Some (out ++ text)

@@ -1,6 +1,6 @@
 //! What is kept of a request's head while its body is read.
 
-ghost use Rattle.std.specs.Prelude.{◌≡◌, ◌≤◌, ℕ, Some, IfSome, length};
+ghost use Rattle.std.specs.Prelude.{◌≡◌, ◌≤◌, ℕ, Some, IfOk, length};
 ghost use Rattle.std.specs.Option.{is_some};
 ghost use Rattle.httparse.specs.Grammar.{RequestHead};
 ghost use Rattle.httparse.specs.Spans.{span_bytes};
@@ -9,15 +9,16 @@ ghost use Rattle.hls_http_laws.specs.Order.{plan_by};
 ghost use Rattle.hls_http.specs.Drained.{announced_by};
 ghost use Rattle.hls_http.specs.Heads.{IsHead};
 ghost use Rattle.hls_serve_laws.specs.Heard.{asks_of, plan_for};
-ghost use Rattle.hls_serve_laws.specs.Replies as replies;
+ghost use Rattle.hls_serve_laws.specs.Queries.{wanted_in};
 ghost use Rattle.hls_serve_laws.specs.Routes as spec;
 ghost use Rattle.hls_serve.specs.Turns.{IsCall};
 
 use crate::route::{feeds, route};
 use hls_http::{Head, Plan, plan, split_target};
-use hls_replies::is_good_query;
+use hls_replies::read_query;
 use hls_serve_laws::route::Route;
-use std::alloc::Global;
+use hls_serve_laws::wanted::Wanted;
+use std::alloc::{AllocError, Global};
 
 /// What is kept of a request's head, whose text is gone once its body is read.
 #[derive(Clone, Copy, Debug)]
@@ -26,8 +27,8 @@ pub struct Call {
     pub head: Head,
     /// What its path names.
     pub route: Option<Route>,
-    /// Whether the query of a request for a catch-up recording is a good one; none where memory was wanted to tell.
-    pub good: Option<bool>,
+    /// What the query of a request for a catch-up recording asks, and none where it isn't good; or memory was wanted to tell.
+    pub wanted: Result<Option<Wanted>, AllocError>,
 }
 
 /// The target in a head's text.
@@ -37,16 +38,17 @@ fn target_of<'a>(text: &'a [u8], head: &Head) -> &'a [u8]
     text.get(head.target.start..head.target.end).unwrap_or(b"")
 }
 
-/// Whether a request for a catch-up recording has a good query. That of another request isn't looked at.
-fn is_good(alloc: Global, route: Option<Route>, query: &[u8]) -> Option<bool>
-    ensures { route ≡ Some Route.CatchUp → IfSome result (λ good. good ≡ replies.is_good_query query.now) }
+/// What the query of a request for a catch-up recording asks. That of another request isn't looked at.
+fn read_wanted(
+    alloc: Global,
+    route: Option<Route>,
+    query: &[u8],
+) -> Result<Option<Wanted>, AllocError>
+    ensures { route ≡ Some Route.CatchUp → IfOk result (λ wanted. wanted ≡ wanted_in query.now) }
 {
     match route {
-        Some(Route::CatchUp) => match is_good_query(alloc, query) {
-            Ok(good) => Some(good),
-            Err(_) => None,
-        },
-        _ => None,
+        Some(Route::CatchUp) => read_query(alloc, query),
+        _ => Ok(None),
     }
 }
 
@@ -59,7 +61,7 @@ pub fn read_call(alloc: Global, text: &[u8], renditions: usize, head: Head) -> C
     Call {
         head,
         route,
-        good: is_good(alloc, route, query),
+        wanted: read_wanted(alloc, route, query),
     }
 }
 

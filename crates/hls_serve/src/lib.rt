@@ -2,11 +2,12 @@
 //! part by part, and whole sessions.
 //!
 //! What a session is stands in `hls_serve_laws`. The channel is kept by a [`Keeper`](keeper::Keeper): by
-//! [`Alone`](alone::Alone) on one thread, by a turn for many.
+//! [`Alone`](alone::Alone) on one thread, by a [`Channel`](channel::Channel) for many.
 #![tactic(auto)]
 
 pub mod alone;
 mod call;
+pub mod channel;
 pub mod ingest;
 pub mod keeper;
 pub mod news;
@@ -18,4 +19,3 @@ pub mod route;
 pub mod session;
 #[cfg(test)]
 mod tests;
-pub mod turn;

@@ -139,7 +139,7 @@ fn skipped<K: Keeper, T: Wait, R, W: Write>(
     ensures serves { K.serves keeper.now pass.new }
     ensures skipped { (count : ℕ) (h : RequestHead) (plan : Plan) (out : List ℕ) → IsCall count h call.now → call.now.route ≡ Some route
         → W.contents (inside_of session.old.writer) ≡ Some (out ++ first_of h plan)
-        → Settles (λ due. IsSkipped lists h (asks_of count h) route plan (K.known pass.old) (K.known pass.new) due dropped) out
+        → Settles (λ due. IsSkipped lists K.desk h (asks_of count h) route plan (K.known pass.old) (K.known pass.new) due dropped) out
         (W.contents (inside_of session.new.writer)) result }
     ensures counts { (before now : ℕ) → CountsDrop dropped before now
         → CountsTurn result before now (failures_of session.old.writer) (failures_of session.new.writer) }
@@ -182,7 +182,7 @@ fn skip<K: Keeper, T: Wait, R: Read, W: Write>(
     ensures serves { K.serves keeper.now pass.new }
     ensures skips { (count : ℕ) (h : RequestHead) (input out : List ℕ) → IsCall count h call.now → call.now.route ≡ Some route
         → R.remaining (reader_of session.old.source) ≡ Some input → W.contents (inside_of session.old.writer) ≡ Some (out ++ first_of h (Plan.Skip body))
-        → Settles (λ due. Skips lists h (asks_of count h) route (Plan.Skip body) (K.known pass.old) body (held_of session.old.source ++ input) due
+        → Settles (λ due. Skips lists K.desk h (asks_of count h) route (Plan.Skip body) (K.known pass.old) body (held_of session.old.source ++ input) due
         (K.known pass.new) (held_of session.new.source) (R.remaining (reader_of session.new.source))) out
         (W.contents (inside_of session.new.writer)) result }
     ensures counts { CountsTurn result (read_failures session.old.source) (read_failures session.new.source) (failures_of session.old.writer)
@@ -210,7 +210,7 @@ fn follow<K: Keeper, T: Wait, R: Read, W: Write>(
     ensures serves { K.serves keeper.now pass.new }
     ensures follows { (count : ℕ) (h : RequestHead) (input out : List ℕ) → IsCall count h call.now → R.remaining (reader_of session.old.source) ≡ Some input
         → W.contents (inside_of session.old.writer) ≡ Some (out ++ first_of h plan)
-        → Settles (λ due. Follows lists h (asks_of count h) plan (K.known pass.old) (held_of session.old.source ++ input) due (K.known pass.new)
+        → Settles (λ due. Follows lists K.desk h (asks_of count h) plan (K.known pass.old) (held_of session.old.source ++ input) due (K.known pass.new)
         (held_of session.new.source) (R.remaining (reader_of session.new.source))) out (W.contents (inside_of session.new.writer)) result }
     ensures counts { CountsTurn result (read_failures session.old.source) (read_failures session.new.source) (failures_of session.old.writer)
         (failures_of session.new.writer) }
@@ -245,7 +245,7 @@ fn answer_head<K: Keeper, T: Wait, R: Read, W: Write>(
     ensures serves { K.serves keeper.now pass.new }
     ensures hears { (h : RequestHead) (input out : List ℕ) → IsHead h head (taken_of session.old.source)
         → R.remaining (reader_of session.old.source) ≡ Some input → W.contents (inside_of session.old.writer) ≡ Some out
-        → Settles (λ due. HearsBehind lists h (K.known pass.old) (held_of session.old.source ++ input) due (K.known pass.new)
+        → Settles (λ due. HearsBehind lists K.desk h (K.known pass.old) (held_of session.old.source ++ input) due (K.known pass.new)
         (held_of session.new.source) (R.remaining (reader_of session.new.source))) out (W.contents (inside_of session.new.writer)) result }
     ensures counts { CountsTurn result (read_failures session.old.source) (read_failures session.new.source) (failures_of session.old.writer)
         (failures_of session.new.writer) }
@@ -270,7 +270,7 @@ pub fn one_request<K: Keeper, T: Wait, R: Read, W: Write>(
     requires serves { K.serves keeper.now pass.old }
     ensures serves { K.serves keeper.now pass.new }
     ensures heard { (input out : List ℕ) → R.remaining (reader_of session.old.source) ≡ Some input → W.contents (inside_of session.old.writer) ≡ Some out
-        → Settles (λ due. Heard lists (K.known pass.old) (held_of session.old.source ++ input) due (K.known pass.new)
+        → Settles (λ due. Heard lists K.desk (K.known pass.old) (held_of session.old.source ++ input) due (K.known pass.new)
         (held_of session.new.source) (R.remaining (reader_of session.new.source))) out (W.contents (inside_of session.new.writer)) result }
     ensures counts { CountsTurn result (read_failures session.old.source) (read_failures session.new.source) (failures_of session.old.writer)
         (failures_of session.new.writer) }

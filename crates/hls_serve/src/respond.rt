@@ -1,28 +1,32 @@
 //! What a request whose body was dropped comes to.
 
-ghost use Rattle.std.specs.Prelude.{◌≡◌, ℕ, List, Some, IfOk, IfSome, true, false};
+ghost use Rattle.std.specs.Prelude.{◌≡◌, ℕ, List, Some, None, IfOk, true, false};
 ghost use Rattle.httparse.specs.Grammar.{RequestHead};
 ghost use Rattle.hls_http_laws.specs.declared.fault.HttpFault.TheVariants as http;
 ghost use Rattle.hls_replies.specs.Playlists.{lists};
-ghost use Rattle.hls_serve_laws.specs.Heard.{Finishes, Serves, ServesAllowed, ShowsState, asks_of};
+ghost use Rattle.hls_serve_laws.specs.Heard.{AddsJob, CatchesUp, Finishes, RemovesJob, Serves, ServesJob, ShowsJob, ShowsState, ShowsStatus, asks_of, shown_if};
+ghost use Rattle.hls_serve_laws.specs.Queries.{wanted_in};
 ghost use Rattle.hls_serve_laws.specs.Replies as replies;
-ghost use Rattle.hls_serve_laws.specs.Replies.{is_good_query, playlist_answer};
+ghost use Rattle.hls_serve_laws.specs.Replies.{playlist_answer};
 ghost use Rattle.hls_serve_laws.specs.Routes as spec;
 ghost use Rattle.hls_serve_laws.specs.Heard as heard;
 ghost use Rattle.hls_serve.specs.Turns.{IsCall, IsResponse, Makes};
 
 use crate::call::Call;
 use crate::keeper::Keeper;
-use crate::route::{allows, is_to_head};
+use crate::route::{allows, is_to_head, job_at, removes};
 use hls_core_laws::event::Event;
 use hls_core_laws::refusal::Refusal;
 use hls_http::HttpFault;
 use hls_http_laws::range::Asked;
+use hls_jobs::{Job, JobFault};
 use hls_replies::{
-    Answer, catch_up_answer, fault_answer, finish_answer, list_answer, master_answer, media_answer,
-    method_answer, status_answer,
+    Answer, added_answer, bad_query_answer, fault_answer, file_answer, finish_answer, list_answer,
+    master_answer, media_answer, method_answer, removed_answer, request_for, status_answer,
+    told_answer,
 };
 use hls_serve_laws::route::Route;
+use hls_serve_laws::wanted::Wanted;
 use std::alloc::{AllocError, Global};
 use std::sync::Wait;
 
@@ -82,10 +86,11 @@ fn show_status<K: Keeper, T: Wait>(
 ) -> Result<Answer, AllocError>
     requires { K.serves keeper.now pass.old }
     ensures serves { K.serves keeper.now pass.new }
-    ensures shows { Makes (ShowsState (K.known pass.old) (K.known pass.new) replies.status_answer) (K.known pass.old) (K.known pass.new) result }
+    ensures shows { Makes (ShowsStatus K.desk (K.known pass.old) (K.known pass.new)) (K.known pass.old) (K.known pass.new) result }
 {
     let state = keeper.look(rt, alloc, pass)?;
-    status_answer(alloc, &state)
+    let jobs = keeper.jobs(rt, pass);
+    status_answer(alloc, &state, jobs)
 }
 
 /// The end of a rendition.
@@ -119,17 +124,130 @@ fn range_of(call: &Call) -> Asked
     }
 }
 
-/// By whether the query is a good one, if that is known.
-fn catch_up(alloc: Global, good: Option<bool>) -> Result<Answer, AllocError>
-    ensures { (query : List ℕ) → IfSome good (λ known. known ≡ is_good_query query) → IfOk result (λ a. a ≡ replies.catch_up_answer query) }
+/// Adds a job that answers from the current state.
+fn add_job<K: Keeper, T: Wait>(
+    rt: &T,
+    alloc: Global,
+    keeper: &K,
+    pass: &mut K::Pass,
+    wanted: Wanted,
+) -> Result<Answer, AllocError>
+    requires { K.serves keeper.now pass.old }
+    ensures serves { K.serves keeper.now pass.new }
+    ensures adds { Makes (AddsJob K.desk wanted (K.known pass.old) (K.known pass.new)) (K.known pass.old) (K.known pass.new) result }
 {
-    match good {
-        Some(good) => catch_up_answer(alloc, good),
-        None => Err(AllocError),
+    let state = keeper.look(rt, alloc, pass)?;
+    let version = state.version();
+    let request = request_for(&state, wanted);
+    let added = keeper.add_job(rt, pass, state, request);
+    added_answer(alloc, version, added)
+}
+
+/// A catch-up recording is asked for, by a query that was read before.
+fn catch_up<K: Keeper, T: Wait>(
+    rt: &T,
+    alloc: Global,
+    keeper: &K,
+    pass: &mut K::Pass,
+    wanted: Result<Option<Wanted>, AllocError>,
+) -> Result<Answer, AllocError>
+    requires { K.serves keeper.now pass.old }
+    ensures serves { K.serves keeper.now pass.new }
+    ensures adds { (query : List ℕ) → IfOk wanted (λ w. w ≡ wanted_in query)
+        → Makes (CatchesUp K.desk (wanted_in query) (K.known pass.old) (K.known pass.new)) (K.known pass.old) (K.known pass.new) result }
+{
+    match wanted {
+        Ok(Some(wanted)) => add_job(rt, alloc, keeper, pass, wanted),
+        Ok(None) => bad_query_answer(alloc),
+        Err(error) => Err(error),
     }
 }
 
-/// By the route, whose method is one of its own.
+/// What is replied of a job that is there: how far it is, or a file; or that its route hasn't the method.
+fn show_found(
+    alloc: Global,
+    call: &Call,
+    route: Route,
+    id: u64,
+    job: Job,
+) -> Result<Answer, AllocError>
+    requires { heard.job_at route ≡ Some id }
+    ensures { (count : ℕ) (h : RequestHead) → IsCall count h call.now
+        → IfOk result (λ a. Some a ≡ shown_if (asks_of count h) route (spec.allows route (asks_of count h).method) job) }
+{
+    if !allows(route, call.head.method) {
+        return method_answer(alloc, route);
+    }
+    match route {
+        Route::Job(_) => told_answer(alloc, &job),
+        Route::JobFile(_, file) => file_answer(alloc, job, file, range_of(call)),
+        _ => unreachable!(),
+    }
+}
+
+/// What is replied of a job that stays; 404 where there is none.
+fn show_job<K: Keeper, T: Wait>(
+    rt: &T,
+    alloc: Global,
+    keeper: &K,
+    pass: &K::Pass,
+    call: &Call,
+    route: Route,
+    id: u64,
+) -> Result<Answer, AllocError>
+    requires serves { K.serves keeper.now pass.now }
+    requires of_job { heard.job_at route ≡ Some id }
+    ensures { (count : ℕ) (h : RequestHead) → IsCall count h call.now
+        → IfOk result (ShowsJob K.desk id (shown_if (asks_of count h) route (spec.allows route (asks_of count h).method))) }
+{
+    match keeper.job(rt, pass, id) {
+        Ok(job) => show_found(alloc, call, route, id, job),
+        Err(JobFault::UnknownJob) => fault_answer(alloc, HttpFault::NotFound),
+        Err(_) => Err(AllocError),
+    }
+}
+
+/// Takes a job away; 404 where there is none.
+fn remove_job<K: Keeper, T: Wait>(
+    rt: &T,
+    alloc: Global,
+    keeper: &K,
+    pass: &mut K::Pass,
+    id: u64,
+) -> Result<Answer, AllocError>
+    requires { K.serves keeper.now pass.old }
+    ensures serves { K.serves keeper.now pass.new }
+    ensures known { K.known pass.new ≡ K.known pass.old }
+    ensures removes { IfOk result (RemovesJob K.desk id) }
+{
+    let removed = keeper.remove_job(rt, pass, id);
+    removed_answer(alloc, removed)
+}
+
+/// By the route of a job: an unknown job comes first, then a method that the route hasn't.
+fn serve_job<K: Keeper, T: Wait>(
+    rt: &T,
+    alloc: Global,
+    keeper: &K,
+    pass: &mut K::Pass,
+    call: &Call,
+    route: Route,
+    id: u64,
+) -> Result<Answer, AllocError>
+    requires serves { K.serves keeper.now pass.old }
+    requires of_job { heard.job_at route ≡ Some id }
+    ensures serves { K.serves keeper.now pass.new }
+    ensures known { K.known pass.new ≡ K.known pass.old }
+    ensures answers { (count : ℕ) (h : RequestHead) → IsCall count h call.now
+        → IfOk result (λ a. ServesJob K.desk (asks_of count h) route id a (spec.removes route (asks_of count h).method)) }
+{
+    if removes(route, call.head.method) {
+        return remove_job(rt, alloc, keeper, pass, id);
+    }
+    show_job(rt, alloc, keeper, pass, call, route, id)
+}
+
+/// By the route, which is no job's, and whose method is one of its own.
 fn serve<K: Keeper, T: Wait>(
     rt: &T,
     alloc: Global,
@@ -139,40 +257,23 @@ fn serve<K: Keeper, T: Wait>(
     route: Route,
 ) -> Result<Answer, AllocError>
     requires serves { K.serves keeper.now pass.old }
-    requires there { heard.is_missing route ≡ false }
+    requires of_none { heard.job_at route ≡ None }
     requires dropped { spec.feeds (Some route) call.now.head.method ≡ false }
     requires allowed { spec.allows route call.now.head.method ≡ true }
     ensures serves { K.serves keeper.now pass.new }
     ensures answers { (count : ℕ) (h : RequestHead) → IsCall count h call.now → call.now.route ≡ Some route
-        → Makes (λ answer. Serves lists (asks_of count h) route (K.known pass.old) answer (K.known pass.new)) (K.known pass.old) (K.known pass.new) result }
+        → Makes (λ answer. Serves lists K.desk (asks_of count h) route (K.known pass.old) answer (K.known pass.new)) (K.known pass.old) (K.known pass.new) result }
 {
     match route {
         Route::Finish(rendition) => finish(rt, alloc, keeper, pass, rendition),
         Route::LiveMaster => show_master(rt, alloc, keeper, pass),
         Route::LiveList(rendition) => show_list(rt, alloc, keeper, pass, rendition),
         Route::Media(rendition) => show_media(rt, alloc, keeper, pass, rendition, range_of(call)),
-        Route::CatchUp => catch_up(alloc, call.good),
+        Route::CatchUp => catch_up(rt, alloc, keeper, pass, call.wanted),
         Route::Status => show_status(rt, alloc, keeper, pass),
         Route::Ingest(_) => unreachable!(),
         Route::Job(_) => unreachable!(),
         Route::JobFile(_, _) => unreachable!(),
-    }
-}
-
-/// Whether a route is one of a job: none is there.
-fn is_missing(route: Route) -> bool
-    ensures { result ≡ heard.is_missing route }
-{
-    match route {
-        Route::Ingest(_) => false,
-        Route::Finish(_) => false,
-        Route::LiveMaster => false,
-        Route::LiveList(_) => false,
-        Route::Media(_) => false,
-        Route::CatchUp => false,
-        Route::Job(_) => true,
-        Route::JobFile(_, _) => true,
-        Route::Status => false,
     }
 }
 
@@ -190,10 +291,10 @@ pub fn respond<K: Keeper, T: Wait>(
     requires dropped { spec.feeds (Some route) call.now.head.method ≡ false }
     ensures serves { K.serves keeper.now pass.new }
     ensures responds { (count : ℕ) (h : RequestHead) → IsCall count h call.now → call.now.route ≡ Some route
-        → Makes (IsResponse lists (asks_of count h) route (K.known pass.old) (K.known pass.new)) (K.known pass.old) (K.known pass.new) result }
+        → Makes (IsResponse lists K.desk (asks_of count h) route (K.known pass.old) (K.known pass.new)) (K.known pass.old) (K.known pass.new) result }
 {
-    if is_missing(route) {
-        return fault_answer(alloc, HttpFault::NotFound);
+    if let Some(id) = job_at(route) {
+        return serve_job(rt, alloc, keeper, pass, call, route, id);
     }
     if !allows(route, call.head.method) {
         return method_answer(alloc, route);

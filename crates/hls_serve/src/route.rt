@@ -2,6 +2,7 @@
 
 ghost use Rattle.std.specs.Prelude.{◌≡◌, ◌<◌, ◌+◌, ◌^◌, ◌==◌, length, min, option_map, position, unwrap_or, IfSome};
 ghost use Rattle.std.specs.Str.{all_ascii_digits};
+ghost use Rattle.hls_serve_laws.specs.Heard as heard;
 ghost use Rattle.hls_serve_laws.specs.Routes as spec;
 ghost use Rattle.hls_serve_laws.specs.Routes.{route_of};
 
@@ -256,6 +257,30 @@ pub fn allows(route: Route, method: Method) -> bool
         Route::JobFile(_, _) => is_read(method),
         Route::Status => is_read(method),
     }
+}
+
+/// The number of the job that a route names, or of whose files it names one.
+pub fn job_at(route: Route) -> Option<u64>
+    ensures { result ≡ heard.job_at route }
+{
+    match route {
+        Route::Ingest(_) => None,
+        Route::Finish(_) => None,
+        Route::LiveMaster => None,
+        Route::LiveList(_) => None,
+        Route::Media(_) => None,
+        Route::CatchUp => None,
+        Route::Job(id) => Some(id),
+        Route::JobFile(id, _) => Some(id),
+        Route::Status => None,
+    }
+}
+
+/// Whether a request takes the route's job away.
+pub fn removes(route: Route, method: Method) -> bool
+    ensures { result ≡ spec.removes route method }
+{
+    matches!(route, Route::Job(_)) && matches!(method, Method::Delete)
 }
 
 /// Whether a request's body is taken part by part.

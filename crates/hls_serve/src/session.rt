@@ -29,7 +29,7 @@ pub fn session_on<K: Keeper, T: Wait, R: Read, W: Write>(
     requires serves { K.serves keeper.now pass.old }
     ensures serves { K.serves keeper.now pass.new }
     ensures session { (input out : List ℕ) → R.remaining (reader_of session.old.source) ≡ Some input → W.contents (inside_of session.old.writer) ≡ Some out
-        → spec.Session lists (K.known pass.old) (held_of session.old.source ++ input) out (W.contents (inside_of session.new.writer))
+        → spec.Session lists K.desk (K.known pass.old) (held_of session.old.source ++ input) out (W.contents (inside_of session.new.writer))
         (K.known pass.new) result }
     ensures counts { CountsSession result (read_failures session.old.source) (read_failures session.new.source) (failures_of session.old.writer)
         (failures_of session.new.writer) }

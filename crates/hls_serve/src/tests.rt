@@ -2,6 +2,8 @@
 //! units of 4 s with 1000 bytes each.
 
 mod fakes;
+mod jobs;
+mod smuggling;
 mod streams;
 
 use crate::alone::{Alone, Own};
@@ -13,10 +15,21 @@ use hls_core::config::Config;
 use hls_core::snapshot::Snapshot;
 use hls_core_laws::rendition::Rendition;
 use hls_http::Session;
+use hls_jobs::JobTable;
 use hls_samples::{boxed, unit_bytes};
 use std::alloc::Global;
 use std::sync::{Arc, Wait};
 use std::test::Fail;
+
+/// A channel of these renditions, before anything came.
+fn channel_of(alloc: Global, renditions: Vec<Rendition>) -> Result<Own, Fail> {
+    let config = Config::new(alloc, 6, 4_000_000, renditions)?;
+    Ok(Own {
+        snapshot: Arc::new(alloc, Snapshot::first(alloc, config)?)?,
+        number: 0,
+        jobs: JobTable::new(alloc)?,
+    })
+}
 
 /// A channel of one rendition, before anything came.
 fn opened(alloc: Global) -> Result<Own, Fail> {
@@ -28,11 +41,7 @@ fn opened(alloc: Global) -> Result<Own, Fail> {
     };
     let mut renditions = Vec::new(alloc);
     renditions.push(rendition)?;
-    let config = Config::new(alloc, 6, 4_000_000, renditions)?;
-    Ok(Own {
-        snapshot: Arc::new(alloc, Snapshot::first(alloc, config)?)?,
-        number: 0,
-    })
+    channel_of(alloc, renditions)
 }
 
 /// What goes out for the requests of a reader.
@@ -96,7 +105,7 @@ const REFUSED: [(&[u8], &[u8]); 14] = [
     ),
     (
         b"POST /catchup?from=0&to=4000000 HTTP/1.1\r\nHost: a\r\nContent-Length: 2\r\n\r\nxy",
-        b"HTTP/1.1 503 Service Unavailable\r\nContent-Type: text/plain\r\nContent-Length: 18\r\n\r\nrefused TableFull\n",
+        b"HTTP/1.1 202 Accepted\r\nContent-Type: text/plain\r\nContent-Length: 16\r\nLocation: /job/1\r\n\r\njob 1 version 0\n",
     ),
     (
         b"POST /catchup?from=0 HTTP/1.1\r\nHost: a\r\n\r\n",
@@ -168,11 +177,11 @@ fn a_unit_taken(rt: HostRuntime) -> Result<(), Fail> {
     Ok(())
 }
 
-/// A reply to an encoder's body, whose connection may close.
-fn refused(alloc: Global, status: &str, closing: &str, text: &str) -> Result<String, Fail> {
+/// A reply of a short text, with one field more or none.
+fn replied(alloc: Global, status: &str, field: &str, text: &str) -> Result<String, Fail> {
     let len = text.len();
     Ok(format!(in alloc;
-        "HTTP/1.1 {status}\r\nContent-Type: text/plain\r\nContent-Length: {len}\r\n{closing}\r\n{text}"
+        "HTTP/1.1 {status}\r\nContent-Type: text/plain\r\nContent-Length: {len}\r\n{field}\r\n{text}"
     )?)
 }
 
@@ -228,7 +237,7 @@ fn bodies_that_are_refused(rt: HostRuntime) -> Result<(), Fail> {
         ),
     ];
     for (body, status, closing, text) in rows {
-        let want = refused(alloc, status, closing, text)?;
+        let want = replied(alloc, status, closing, text)?;
         assert_eq!(rt; first_put(&rt, alloc, body)?.as_slice(), want.as_bytes());
     }
     Ok(())
@@ -242,7 +251,7 @@ fn parts_that_come_again(rt: HostRuntime) -> Result<(), Fail> {
     let mut half = stream(alloc, 3)?;
     half.truncate(3100);
     let cut = answered(&rt, alloc, &mut own, &put(alloc, "", &half)?)?;
-    let want = refused(
+    let want = replied(
         alloc,
         "400 Bad Request",
         "",
@@ -253,7 +262,7 @@ fn parts_that_come_again(rt: HostRuntime) -> Result<(), Fail> {
     assert!(rt; whole.ends_with(b"\r\n\r\ninit 0 accepted 1 repeated 3\n"));
     let other = unit_bytes(alloc, 0, 360_000, true, 1100)?;
     let overlap = answered(&rt, alloc, &mut own, &put(alloc, "", &other)?)?;
-    let want = refused(
+    let want = replied(
         alloc,
         "409 Conflict",
         "",
@@ -357,7 +366,7 @@ fn a_head_that_is_too_large(rt: HostRuntime) -> Result<(), Fail> {
     for _ in 0..16384u32 {
         text.push(b'x')?;
     }
-    let want = refused(
+    let want = replied(
         alloc,
         "431 Request Header Fields Too Large",
         CLOSE,

@@ -35,11 +35,21 @@ pub fn with_base_offset(alloc: Global) -> Result<Vec<u8>, AllocError> {
     Ok(bytes)
 }
 
-/// A PUT of a body with its length, and further fields.
+/// A PUT of a body with its length, and further fields, to the first rendition.
 pub fn put(alloc: Global, fields: &str, body: &[u8]) -> Result<Vec<u8>, AllocError> {
+    put_to(alloc, 0, fields, body)
+}
+
+/// A PUT of a body with its length, and further fields.
+pub fn put_to(
+    alloc: Global,
+    rendition: usize,
+    fields: &str,
+    body: &[u8],
+) -> Result<Vec<u8>, AllocError> {
     let len = body.len();
     let head = format!(in alloc;
-        "PUT /ingest/0 HTTP/1.1\r\nHost: a\r\n{fields}Content-Length: {len}\r\n\r\n"
+        "PUT /ingest/{rendition} HTTP/1.1\r\nHost: a\r\n{fields}Content-Length: {len}\r\n\r\n"
     )?;
     let mut text = head.into_bytes();
     text.extend_from_slice(body)?;

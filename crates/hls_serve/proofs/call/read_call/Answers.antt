@@ -1,5 +1,5 @@
-use Rattle.std.proofs.Common.{◌≡◌, ◌∙◌, List, ℕ, IfSome, ap, subst}
-use Rattle.hls_serve_laws.specs.Replies.{is_good_query}
+use Rattle.std.proofs.Common.{◌≡◌, ◌∙◌, List, ℕ, IfOk, ap, subst}
+use Rattle.hls_serve_laws.specs.Queries.{wanted_in}
 use Rattle.hls_serve_laws.specs.Routes.{path_of, query_of, route_of}
 use Rattle.hls_serve.proofs.call.read_call.Goals as goal
 
@@ -9,5 +9,6 @@ returns c = λ h is.
       text = c.args.text.now;
       head = is;
       route = c.route-route.ensures ∙ ap (route_of c.args.renditions) (c.split_target.ensures.path ∙ ap path_of target);
-      good = λ catch. subst (λ (query : List ℕ). IfSome c.is_good.result (λ good. good ≡ is_good_query query)) (c.split_target.ensures.query ∙ ap query_of target) (c.is_good.ensures catch);
+      wanted = λ catch. subst (λ (query : List ℕ). IfOk c.read_wanted.result (λ wanted. wanted ≡ wanted_in query)) (c.split_target.ensures.query ∙ ap query_of target)
+          (c.read_wanted.ensures catch);
     }

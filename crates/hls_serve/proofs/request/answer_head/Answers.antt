@@ -14,7 +14,7 @@ returns-then-not-write_first-clause-hears g c = λ h input out is known there.
     let call = subst (λ (n : ℕ). IsCall n h c.read_call-call.result) c.renditions-renditions.ensures.count here in
     let written = g.W.Write.contents _ in
     let w = subst (λ (done : Bool). WritesFirst h c.plan_of-plan.result out written done) c.if-not-write_first.true (c.write_first.ensures.writes h call.text out call.head there) in
-    behind_unheard lists h c.plan_of-plan.result (g.K.Keeper.known c.args.pass.now) (held_of c.args.session.now.source ++ input) out _ _ _ (c.plan_of-plan.ensures.plan _ h call) w
+    behind_unheard lists g.K.Keeper.desk h c.plan_of-plan.result (g.K.Keeper.known c.args.pass.now) (held_of c.args.session.now.source ++ input) out _ _ _ (c.plan_of-plan.ensures.plan _ h call) w
 
 pub returns-clause-hears : goal.returns-clause-hears
 returns-clause-hears g c = λ h input out is known there.
@@ -29,5 +29,5 @@ returns-clause-hears g c = λ h input out is known there.
     let same = c.write_first.ensures.source in
     let s = c.follow.ensures.follows _ h input out call (ap (λ source. g.R.Read.remaining (reader_of source)) same ∙ known) w in
     let all = settles_at c.write_first.new.session.source c.args.session.now.source
-    (λ source due. Follows lists h (asks_of (length (g.K.Keeper.known c.args.pass.now).seen.config.renditions) h) plan a (held_of source ++ input) due b (held_of now) (g.R.Read.remaining (reader_of now))) out _ _ same s in
-    behind_follows lists h plan a b (held_of c.args.session.now.source ++ input) out _ _ _ _ (c.plan_of-plan.ensures.plan _ h call) all
+    (λ source due. Follows lists g.K.Keeper.desk h (asks_of (length (g.K.Keeper.known c.args.pass.now).seen.config.renditions) h) plan a (held_of source ++ input) due b (held_of now) (g.R.Read.remaining (reader_of now))) out _ _ same s in
+    behind_follows lists g.K.Keeper.desk h plan a b (held_of c.args.session.now.source ++ input) out _ _ _ _ (c.plan_of-plan.ensures.plan _ h call) all

@@ -11,7 +11,7 @@ pub returns-clause-skips : goal.returns-clause-skips
 returns-clause-skips g c = λ count h input out call there known held.
     let same = ap (λ w. g.W.Write.contents (inside_of w)) c.drop_body-dropped.ensures.writer in
     let s = c.skipped.ensures.skipped count h (Skip c.args.body) out call there (same ∙ held) in
-    settles_at c.drop_body-dropped.new.self.source c.skipped.new.session.source (λ source due. Skips lists h (asks_of count h) c.args.route (Skip c.args.body)
+    settles_at c.drop_body-dropped.new.self.source c.skipped.new.session.source (λ source due. Skips lists g.K.Keeper.desk h (asks_of count h) c.args.route (Skip c.args.body)
     (g.K.Keeper.known c.args.pass.now) c.args.body (held_of c.args.session.now.source ++ input) due (g.K.Keeper.known c.skipped.new.pass) (held_of source)
     (g.R.Read.remaining (reader_of source))) out _ _
     (sym c.skipped.ensures.source)

@@ -14,18 +14,18 @@ returns-in-Ok-clause-skipped g c = λ count h plan out call there known.
     let a = g.K.Keeper.known c.args.pass.now in
     let b = g.K.Keeper.known c.respond-made.new.pass in
     let made = c.respond-made.result in
-    settles_at (Ok tt) c.args.dropped (λ d due. IsSkipped lists h (asks_of count h) c.args.route plan a b due d) out _ _ (sym c.in-Ok.is)
-    (settles_as (IsMade (first_of h plan) made (says_close h false) (to_head h)) (λ due. IsSkipped lists h (asks_of count h) c.args.route plan a b due (Ok tt)) out _ _
-    (λ due. skipped_due lists h (asks_of count h) c.args.route plan a b made due (c.respond-made.ensures.responds count h call there))
+    settles_at (Ok tt) c.args.dropped (λ d due. IsSkipped lists g.K.Keeper.desk h (asks_of count h) c.args.route plan a b due d) out _ _ (sym c.in-Ok.is)
+    (settles_as (IsMade (first_of h plan) made (says_close h false) (to_head h)) (λ due. IsSkipped lists g.K.Keeper.desk h (asks_of count h) c.args.route plan a b due (Ok tt)) out _ _
+    (λ due. skipped_due lists g.K.Keeper.desk h (asks_of count h) c.args.route plan a b made due (c.respond-made.ensures.responds count h call there))
     (c.reply.ensures.sends count h (first_of h plan) out call known))
 
 pub returns-in-Err-TooLarge-clause-skipped : goal.returns-in-Err-TooLarge-clause-skipped
 returns-in-Err-TooLarge-clause-skipped g c = λ count h plan out call there known.
     let a = g.K.Keeper.known c.args.pass.now in
     let is : c.args.dropped ≡ Err drops.TooLarge = search rules in
-    settles_at (Err drops.TooLarge) c.args.dropped (λ d due. IsSkipped lists h (asks_of count h) c.args.route plan a a due d) out _ _
+    settles_at (Err drops.TooLarge) c.args.dropped (λ d due. IsSkipped lists g.K.Keeper.desk h (asks_of count h) c.args.route plan a a due d) out _ _
     (sym is)
-    (settles_as (IsDue h plan (fault_answer http.TooLarge) true) (λ due. IsSkipped lists h (asks_of count h) c.args.route plan a a due (Err drops.TooLarge)) out _ _
+    (settles_as (IsDue h plan (fault_answer http.TooLarge) true) (λ due. IsSkipped lists g.K.Keeper.desk h (asks_of count h) c.args.route plan a a due (Err drops.TooLarge)) out _ _
     (λ due is. (refl, is)) (c.refuse.ensures.sends count h plan out call known))
 
 pub returns-in-Err-Stopped-clause-skipped : goal.returns-in-Err-Stopped-clause-skipped
@@ -33,7 +33,7 @@ returns-in-Err-Stopped-clause-skipped g c = λ count h plan out call there known
     let a = g.K.Keeper.known c.args.pass.now in
     let stop = c.in-Err-Stopped.end in
     let is : c.args.dropped ≡ Err (drops.Stopped stop) = search rules in
-    settles_at (Err (drops.Stopped stop)) c.args.dropped (λ d due. IsSkipped lists h (asks_of count h) c.args.route plan a a due d) out _ _
+    settles_at (Err (drops.Stopped stop)) c.args.dropped (λ d due. IsSkipped lists g.K.Keeper.desk h (asks_of count h) c.args.route plan a a due d) out _ _
     (sym is)
-    (settles_as (IsDueAtStop h plan stop) (λ due. IsSkipped lists h (asks_of count h) c.args.route plan a a due (Err (drops.Stopped stop))) out _ _
+    (settles_as (IsDueAtStop h plan stop) (λ due. IsSkipped lists g.K.Keeper.desk h (asks_of count h) c.args.route plan a a due (Err (drops.Stopped stop))) out _ _
     (λ due is. (refl, is)) (c.stopped.ensures.sends count h plan out call known))

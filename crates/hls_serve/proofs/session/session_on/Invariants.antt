@@ -11,7 +11,7 @@ invariant-loop g l = record {
   is_finite : (goal.iterator-loop g).is_finite l.iterator';
   serves : g.K.Keeper.serves l.keeper l.pass;
   reading : (input out : List ℕ) → g.R.Read.remaining (reader_of l.initial.session.source) ≡ Some input → g.W.Write.contents (inside_of l.initial.session.writer) ≡ Some out
-      → SoFar lists (g.K.Keeper.known l.initial.pass) (held_of l.initial.session.source ++ input) out (g.K.Keeper.known l.pass) (held_of l.session.source)
+      → SoFar lists g.K.Keeper.desk (g.K.Keeper.known l.initial.pass) (held_of l.initial.session.source ++ input) out (g.K.Keeper.known l.pass) (held_of l.session.source)
       (g.R.Read.remaining (reader_of l.session.source)) (g.W.Write.contents (inside_of l.session.writer));
   reads : read_failures l.session.source ≡ read_failures l.initial.session.source;
   writes : failures_of l.session.writer ≡ failures_of l.initial.session.writer;

@@ -1,4 +1,4 @@
-//! A channel that many threads share: its turn as a keeper, and the sessions of one pass.
+//! A channel that many threads share: its turn and its jobs as a keeper, and the sessions of one pass.
 
 ghost use Rattle.std.specs.Prelude.{◌≡◌, ◌++◌, ℕ, List, Some, IfOk, length};
 ghost use Rattle.hls_core_laws.specs.IsState.{IsState};
@@ -6,27 +6,41 @@ ghost use Rattle.hls_core_laws.specs.Moves.{IsFittingAsSeen};
 ghost use Rattle.hls_io.specs.Counted.{failures_of, inside_of};
 ghost use Rattle.hls_http.specs.Source.{held_of, read_failures, reader_of};
 ghost use Rattle.hls_replies.specs.Playlists.{lists};
+ghost use Rattle.hls_serve_laws.specs.Desks.{shared_desk};
 ghost use Rattle.hls_serve_laws.specs.Sessions as spec;
 ghost use Rattle.hls_serve.specs.Counted.{CountsSession};
 ghost use Rattle.hls_turn.specs.Calls.{LookedOn, Looks, Submits};
 
 use crate::keeper::Keeper;
 use crate::session::session_on;
+use hls_catchup::Request;
 use hls_core::snapshot::Snapshot;
 use hls_core_laws::event::Event;
 use hls_core_laws::refusal::Refusal;
 use hls_http::{Session, SessionEnd};
+use hls_jobs::{Job, JobFault, Jobs};
 use hls_turn::{Done, Pass, Turn};
 use std::alloc::{AllocError, Global};
 use std::io::{Read, Write};
 use std::sync::{Arc, Wait};
 
-impl Keeper for Turn {
+/// A channel that many threads share: its turn and its jobs.
+#[derive(Clone, Copy)]
+pub struct Channel<'a> {
+    /// The turn, by which the state goes on.
+    pub turn: &'a Turn,
+    /// The jobs of catch-up recordings.
+    pub jobs: &'a Jobs,
+}
+
+impl<'a> Keeper for Channel<'a> {
     type Pass = Pass;
 
-    ghost serves = { λ turn pass. pass.turn ≡ turn };
+    ghost serves = { λ channel pass. pass.turn ≡ channel.turn.now };
 
     ghost known = { λ pass. pass.known };
+
+    ghost desk = { shared_desk };
 
     fn renditions(&self, pass: &Pass) -> usize {
         pass.renditions()
@@ -38,7 +52,7 @@ impl Keeper for Turn {
         alloc: Global,
         pass: &mut Pass,
     ) -> Result<Arc<Snapshot>, AllocError> {
-        Turn::look(self, rt, alloc, pass)
+        self.turn.look(rt, alloc, pass)
     }
 
     fn submit<R: Wait>(
@@ -48,25 +62,48 @@ impl Keeper for Turn {
         pass: &mut Pass,
         event: Event,
     ) -> Result<Done, Refusal> {
-        Turn::submit(self, rt, alloc, pass, event)
+        self.turn.submit(rt, alloc, pass, event)
+    }
+
+    fn add_job<R: Wait>(
+        &self,
+        rt: &R,
+        _pass: &mut Pass,
+        snapshot: Arc<Snapshot>,
+        request: Request,
+    ) -> Result<u64, JobFault> {
+        self.jobs.add(rt, snapshot, request)
+    }
+
+    fn job<R: Wait>(&self, rt: &R, _pass: &Pass, id: u64) -> Result<Job, JobFault> {
+        self.jobs.get(rt, id)
+    }
+
+    fn remove_job<R: Wait>(&self, rt: &R, _pass: &mut Pass, id: u64) -> Result<(), JobFault> {
+        self.jobs.remove(rt, id)
+    }
+
+    fn jobs<R: Wait>(&self, rt: &R, _pass: &Pass) -> usize {
+        self.jobs.len(rt)
     }
 }
 
-/// Serves the requests of a session from the channel's turn, with a pass that came with it: what other passes bring
-/// meanwhile is seen at the next look or event. Nothing is held of the turn while a request or its body is read, or a reply
-/// written. May wait.
+/// Serves the requests of a session from a channel's turn, with a pass that came with it, and from its jobs: what other passes
+/// bring meanwhile is seen at the next look or event. Nothing is held of the turn or the jobs while a request or its body is
+/// read, or a reply made or written. May wait.
 pub fn serve_session<T: Wait, R: Read, W: Write>(
     rt: &T,
     alloc: Global,
     session: &mut Session<R, W>,
     turn: &Turn,
     pass: &mut Pass,
+    jobs: &Jobs,
 ) -> SessionEnd
     requires ours { pass.old.turn ≡ turn.now }
     ensures ours { pass.new.turn ≡ turn.now }
     ensures session { (input out : List ℕ) → R.remaining (reader_of session.old.source) ≡ Some input → W.contents (inside_of session.old.writer) ≡ Some out
-        → spec.Session lists pass.old.known (held_of session.old.source ++ input) out (W.contents (inside_of session.new.writer)) pass.new.known result }
+        → spec.Session lists shared_desk pass.old.known (held_of session.old.source ++ input) out (W.contents (inside_of session.new.writer)) pass.new.known result }
     ensures counts { CountsSession result (read_failures session.old.source) (read_failures session.new.source) (failures_of session.old.writer) (failures_of session.new.writer) }
 {
-    session_on(rt, alloc, session, turn, pass)
+    session_on(rt, alloc, session, &Channel { turn, jobs }, pass)
 }

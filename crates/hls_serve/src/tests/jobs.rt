@@ -1,0 +1,354 @@
+//! Catch-up over sessions on one thread. Whoever asks runs the jobs, between two sessions.
+
+use super::{PARTS, answered, channel_of, opened, replied};
+use crate::alone::{Alone, Own};
+use crate::keeper::Keeper;
+use crate::tests::streams::{init, put, put_to, stream, unit};
+use bytes::Bytes;
+use hls_core_laws::event::Event;
+use hls_core_laws::rendition::Rendition;
+use hls_jobs::run_job;
+use hls_samples::{init_bytes, unit_bytes};
+use hls_turn::Done;
+use std::alloc::Global;
+use std::sync::Wait;
+use std::test::Fail;
+
+/// Runs all jobs that wait.
+fn run_all(alloc: Global, own: &mut Own) -> Result<(), Fail> {
+    for _ in 0..64u32 {
+        let Some(work) = own.jobs.take_work() else {
+            return Ok(());
+        };
+        own.jobs.finish(run_job(alloc, work))?;
+    }
+    Ok(())
+}
+
+/// What a request without a body is answered.
+fn asked<T: Wait>(
+    rt: &T,
+    alloc: Global,
+    own: &mut Own,
+    method: &str,
+    target: &str,
+) -> Result<Vec<u8>, Fail> {
+    let text = format!(in alloc; "{method} {target} HTTP/1.1\r\nHost: a\r\n\r\n")?;
+    answered(rt, alloc, own, text.as_bytes())
+}
+
+/// Whether a request without a body is answered by a short text, with one field more or none.
+fn says<T: Wait>(
+    rt: &T,
+    alloc: Global,
+    own: &mut Own,
+    request: (&str, &str),
+    reply: (&str, &str, &str),
+) -> Result<bool, Fail> {
+    let (method, target) = request;
+    let (status, field, text) = reply;
+    let want = replied(alloc, status, field, text)?;
+    Ok(asked(rt, alloc, own, method, target)?.as_slice() == want.as_bytes())
+}
+
+/// Whether a job's line is this one.
+fn tells<T: Wait>(
+    rt: &T,
+    alloc: Global,
+    own: &mut Own,
+    target: &str,
+    line: &str,
+) -> Result<bool, Fail> {
+    says(rt, alloc, own, ("GET", target), ("200 OK", "", line))
+}
+
+/// Whether a request for catch-up adds a job of this number, for this version.
+fn adds<T: Wait>(
+    rt: &T,
+    alloc: Global,
+    own: &mut Own,
+    query: &str,
+    id: u32,
+    version: u32,
+) -> Result<bool, Fail> {
+    let target = format!(in alloc; "/catchup?{query}")?;
+    let field = format!(in alloc; "Location: /job/{id}\r\n")?;
+    let text = format!(in alloc; "job {id} version {version}\n")?;
+    let reply = ("202 Accepted", field.as_str(), text.as_str());
+    says(rt, alloc, own, ("POST", target.as_str()), reply)
+}
+
+const NOT_FOUND: (&str, &str, &str) = ("404 Not Found", "", "refused NotFound\n");
+
+const CONFLICT: (&str, &str, &str) = ("409 Conflict", "", "refused Conflict\n");
+
+/// A channel of one rendition with the first units.
+fn with_units<T: Wait>(rt: &T, alloc: Global, units: u32) -> Result<Own, Fail> {
+    let mut own = opened(alloc)?;
+    let _ = answered(
+        rt,
+        alloc,
+        &mut own,
+        &put(alloc, "", &stream(alloc, units)?)?,
+    )?;
+    Ok(own)
+}
+
+const FULL: &[u8] =
+    b"HTTP/1.1 503 Service Unavailable\r\nContent-Type: text/plain\r\nContent-Length: 18\r\n\r\nrefused TableFull\nHTTP/1.1 200 OK\r\nContent-Type: text/plain\r\nContent-Length: 8\r\n\r\nwaiting\n";
+
+#[test]
+fn a_full_table(rt: HostRuntime) -> Result<(), Fail> {
+    let alloc = rt.alloc();
+    let mut own = with_units(&rt, alloc, 10)?;
+    let own = &mut own;
+    for id in 1..65u32 {
+        assert!(rt; adds(&rt, alloc, own, "from=0&to=8000000", id, 11)?);
+    }
+    let full =
+        b"POST /catchup?from=0&to=8000000 HTTP/1.1\r\nHost: a\r\n\r\nGET /job/64 HTTP/1.1\r\nHost: a\r\n\r\n";
+    assert_eq!(rt; answered(&rt, alloc, own, full)?.as_slice(), FULL);
+    let status = asked(&rt, alloc, own, "GET", "/status")?;
+    assert!(rt; status.ends_with(b"\nremoved 0\njobs 64\n"));
+    let gone = asked(&rt, alloc, own, "DELETE", "/job/64")?;
+    assert_eq!(rt;
+        gone.as_slice(),
+        b"HTTP/1.1 204 No Content\r\n\r\n".as_slice()
+    );
+    assert!(rt; says(&rt, alloc, own, ("DELETE", "/job/64"), NOT_FOUND)?);
+    assert!(rt; says(&rt, alloc, own, ("GET", "/job/64"), NOT_FOUND)?);
+    assert!(rt; adds(&rt, alloc, own, "from=0&to=8000000", 65, 11)?);
+    Ok(())
+}
+
+const ALLOWED: (&str, &str, &str) = (
+    "405 Method Not Allowed",
+    "Allow: GET, HEAD, DELETE\r\n",
+    "refused BadMethod\n",
+);
+
+const READ_ONLY: (&str, &str, &str) = (
+    "405 Method Not Allowed",
+    "Allow: GET, HEAD\r\n",
+    "refused BadMethod\n",
+);
+
+const POSTED: (&str, &str, &str) = (
+    "405 Method Not Allowed",
+    "Allow: POST\r\n",
+    "refused BadMethod\n",
+);
+
+const BAD_QUERY: (&str, &str, &str) = ("400 Bad Request", "", "refused BadQuery\n");
+
+#[test]
+fn parts_of_a_jobs_media(rt: HostRuntime) -> Result<(), Fail> {
+    let alloc = rt.alloc();
+    let mut own = with_units(&rt, alloc, 4)?;
+    let own = &mut own;
+    assert!(rt; adds(&rt, alloc, own, "from=0&to=12000000", 1, 5)?);
+    run_all(alloc, own)?;
+    for (field, head, len) in PARTS {
+        let get = format!(in alloc; "GET /job/1/0.mp4 HTTP/1.1\r\nHost: a\r\n{field}\r\n")?;
+        let reply = answered(&rt, alloc, own, get.as_bytes())?;
+        assert!(rt; reply.starts_with(head));
+        assert_eq!(rt; reply.len().wrapping_sub(head.len()), len);
+    }
+    let whole = asked(&rt, alloc, own, "GET", "/job/1/0.mp4")?;
+    assert!(rt; whole.ends_with(&stream(alloc, 3)?));
+    Ok(())
+}
+
+/// Brings an event of upkeep; whether it was new.
+fn is_new<T: Wait>(rt: &T, alloc: Global, own: &mut Own, event: Event) -> bool {
+    match event {
+        Event::Slide { .. } => {}
+        Event::Trim { .. } => {}
+        _ => return false,
+    }
+    matches!(Alone.submit(rt, alloc, own, event), Ok(Done::New { .. }))
+}
+
+/// What a GET of the first unit's bytes is answered.
+fn first_unit<T: Wait>(
+    rt: &T,
+    alloc: Global,
+    own: &mut Own,
+    target: &str,
+) -> Result<Vec<u8>, Fail> {
+    let text = format!(in alloc;
+        "GET {target} HTTP/1.1\r\nHost: a\r\nRange: bytes=600-1599\r\n\r\n"
+    )?;
+    answered(rt, alloc, own, text.as_bytes())
+}
+
+#[test]
+fn a_jobs_media_stay_when_the_channel_is_trimmed(rt: HostRuntime) -> Result<(), Fail> {
+    let alloc = rt.alloc();
+    let mut own = with_units(&rt, alloc, 10)?;
+    let own = &mut own;
+    assert!(rt; adds(&rt, alloc, own, "from=0&to=8000000", 1, 11)?);
+    run_all(alloc, own)?;
+    assert!(rt; is_new(&rt, alloc, own, Event::Slide { count: 4 }));
+    let too_far = Event::Trim {
+        rendition: 0,
+        floor: 5,
+    };
+    assert!(rt; !is_new(&rt, alloc, own, too_far));
+    let trim = Event::Trim {
+        rendition: 0,
+        floor: 4,
+    };
+    assert!(rt; is_new(&rt, alloc, own, trim));
+    let want = replied(alloc, "410 Gone", "", "refused Gone\n")?;
+    let live = first_unit(&rt, alloc, own, "/media/0.mp4")?;
+    assert_eq!(rt; live.as_slice(), want.as_bytes());
+    let kept = first_unit(&rt, alloc, own, "/job/1/0.mp4")?;
+    assert!(rt;
+        kept.starts_with(
+            b"HTTP/1.1 206 Partial Content\r\nContent-Type: video/mp4\r\nContent-Length: 1000\r\nContent-Range: bytes 600-1599/2600\r\n\r\n"
+        )
+    );
+    assert!(rt; kept.ends_with(&unit(alloc, 0)?));
+    assert!(rt; adds(&rt, alloc, own, "from=0&to=8000000", 2, 13)?);
+    run_all(alloc, own)?;
+    assert!(rt;
+        tells(
+            &rt,
+            alloc,
+            own,
+            "/job/2",
+            "refused BeforeRecording version 13\n"
+        )?
+    );
+    Ok(())
+}
+
+/// A playlist of segments of 4 s.
+const TWO_SEGMENTS: &str =
+    "#EXTM3U\n#EXT-X-VERSION:6\n#EXT-X-TARGETDURATION:6\n#EXT-X-MEDIA-SEQUENCE:0\n#EXT-X-DISCONTINUITY-SEQUENCE:0\n#EXT-X-PLAYLIST-TYPE:VOD\n#EXT-X-MAP:URI=\"0.mp4\",BYTERANGE=\"600@0\"\n#EXTINF:4.000000,\n#EXT-X-BYTERANGE:1000@600\n0.mp4\n#EXTINF:4.000000,\n#EXT-X-BYTERANGE:1000@1600\n0.mp4\n#EXT-X-ENDLIST\n";
+
+const CERTIFICATE: &str =
+    "\r\n\r\nHLS-CUT-CERTIFICATE 1\ntarget 6\npreferred 4000000\nrenditions 1\nplaces 3\n1 4000000 4000000 0 0\n2 8000000 8000000 0 0\n3 12000000 12000000 0 0\ncut 0\nplan 0 1 2\nprice 0 0\nprice 1 0\nprice 2 0\nend\n";
+
+/// Whether a GET is answered by a playlist.
+fn lists<T: Wait>(
+    rt: &T,
+    alloc: Global,
+    own: &mut Own,
+    target: &str,
+    text: &str,
+) -> Result<bool, Fail> {
+    let len = text.len();
+    let want = format!(in alloc;
+        "HTTP/1.1 200 OK\r\nContent-Type: application/vnd.apple.mpegurl\r\nContent-Length: {len}\r\n\r\n{text}"
+    )?;
+    Ok(asked(rt, alloc, own, "GET", target)?.as_slice() == want.as_bytes())
+}
+
+/// A channel of a video and an audio rendition, before anything came.
+fn video_and_audio(alloc: Global, tolerance: u64) -> Result<Own, Fail> {
+    let mut renditions = Vec::new(alloc);
+    renditions.push(Rendition {
+        name: Bytes::copy_from_slice(alloc, b"v1")?,
+        video: true,
+        bandwidth: 3_000_000,
+        tolerance: 0,
+    })?;
+    renditions.push(Rendition {
+        name: Bytes::copy_from_slice(alloc, b"en")?,
+        video: false,
+        bandwidth: 128_000,
+        tolerance,
+    })?;
+    channel_of(alloc, renditions)
+}
+
+/// Sends a rendition its init section and units, each by its start and its length in ticks, and its end.
+fn send_all<T: Wait>(
+    rt: &T,
+    alloc: Global,
+    own: &mut Own,
+    rendition: usize,
+    init: &[u8],
+    units: &[(u64, u32)],
+) -> Result<(), Fail> {
+    let mut body = Vec::from_slice(alloc, init)?;
+    for (start, ticks) in units {
+        body.extend_from_slice(&unit_bytes(alloc, *start, *ticks, true, 1000)?)?;
+    }
+    let mut text = put_to(alloc, rendition, "", &body)?;
+    let end = format!(in alloc; "POST /finish/{rendition} HTTP/1.1\r\nHost: a\r\n\r\n")?;
+    text.extend_from_slice(end.as_bytes())?;
+    let replies = answered(rt, alloc, own, &text)?;
+    if replies.ends_with(b"finished\n") {
+        Ok(())
+    } else {
+        Err(Fail::from("a stream is refused"))
+    }
+}
+
+const AUDIO_ENDS: &str =
+    "#EXTM3U\n#EXT-X-VERSION:6\n#EXT-X-TARGETDURATION:6\n#EXT-X-MEDIA-SEQUENCE:0\n#EXT-X-DISCONTINUITY-SEQUENCE:0\n#EXT-X-PLAYLIST-TYPE:VOD\n#EXT-X-MAP:URI=\"1.mp4\",BYTERANGE=\"600@0\"\n#EXTINF:4.010666,\n#EXT-X-BYTERANGE:1000@600\n1.mp4\n#EXTINF:4.010667,\n#EXT-X-BYTERANGE:1000@1600\n1.mp4\n#EXT-X-ENDLIST\n";
+
+const JOB_MASTER: &str =
+    "#EXTM3U\n#EXT-X-VERSION:6\n#EXT-X-MEDIA:TYPE=AUDIO,GROUP-ID=\"audio\",NAME=\"en\",DEFAULT=YES,AUTOSELECT=YES,URI=\"1.m3u8\"\n#EXT-X-STREAM-INF:BANDWIDTH=3000000,AUDIO=\"audio\"\n0.m3u8\n";
+
+#[test]
+fn audio_that_ends_elsewhere(rt: HostRuntime) -> Result<(), Fail> {
+    let alloc = rt.alloc();
+    let mut own = video_and_audio(alloc, 30_000)?;
+    let own = &mut own;
+    let video = [(0, 360_000), (360_000, 360_000)];
+    send_all(&rt, alloc, own, 0, &init(alloc)?, &video)?;
+    let sound = init_bytes(alloc, b"soun", 48000)?;
+    let audio = [(0, 192_512), (192_512, 192_512)];
+    send_all(&rt, alloc, own, 1, &sound, &audio)?;
+    assert!(rt; adds(&rt, alloc, own, "from=0&to=8000000", 1, 8)?);
+    run_all(alloc, own)?;
+    assert!(rt; tells(&rt, alloc, own, "/job/1", "cut 0 version 8\n")?);
+    assert!(rt; lists(&rt, alloc, own, "/job/1/0.m3u8", TWO_SEGMENTS)?);
+    assert!(rt; lists(&rt, alloc, own, "/job/1/1.m3u8", AUDIO_ENDS)?);
+    assert!(rt; lists(&rt, alloc, own, "/job/1/master.m3u8", JOB_MASTER)?);
+    Ok(())
+}
+
+const GAP: &str =
+    "#EXTINF:4.000000,\n#EXT-X-BYTERANGE:1000@600\n1.mp4\n#EXT-X-DISCONTINUITY\n#EXTINF:4.000000,\n#EXT-X-BYTERANGE:1000@1600\n1.mp4\n#EXT-X-ENDLIST\n";
+
+#[test]
+fn a_gap_in_both_renditions(rt: HostRuntime) -> Result<(), Fail> {
+    let alloc = rt.alloc();
+    let mut own = video_and_audio(alloc, 0)?;
+    let own = &mut own;
+    let units = [(0, 360_000), (540_000, 360_000)];
+    send_all(&rt, alloc, own, 0, &init(alloc)?, &units)?;
+    let sound = init_bytes(alloc, b"soun", 90000)?;
+    send_all(&rt, alloc, own, 1, &sound, &units)?;
+    assert!(rt; adds(&rt, alloc, own, "from=0&to=10000000", 1, 8)?);
+    run_all(alloc, own)?;
+    assert!(rt; tells(&rt, alloc, own, "/job/1", "cut 0 version 8\n")?);
+    assert!(rt; asked(&rt, alloc, own, "GET", "/job/1/1.m3u8")?.ends_with(GAP.as_bytes()));
+    Ok(())
+}
+
+#[test]
+fn no_cut_has_a_certificate_alone(rt: HostRuntime) -> Result<(), Fail> {
+    let alloc = rt.alloc();
+    let mut own = video_and_audio(alloc, 0)?;
+    let own = &mut own;
+    let video = [(0, 360_000), (360_000, 360_000)];
+    send_all(&rt, alloc, own, 0, &init(alloc)?, &video)?;
+    let sound = init_bytes(alloc, b"soun", 90000)?;
+    let audio = [(0, 180_000), (270_000, 90_000), (360_000, 360_000)];
+    send_all(&rt, alloc, own, 1, &sound, &audio)?;
+    assert!(rt; adds(&rt, alloc, own, "from=0&to=8000000", 1, 9)?);
+    run_all(alloc, own)?;
+    assert!(rt; tells(&rt, alloc, own, "/job/1", "none version 9\n")?);
+    let certificate = asked(&rt, alloc, own, "GET", "/job/1/certificate.txt")?;
+    assert!(rt; certificate.ends_with(b"\nnone\nclosed 0\nend\n"));
+    for file in ["/job/1/master.m3u8", "/job/1/0.m3u8", "/job/1/1.mp4"] {
+        assert!(rt; says(&rt, alloc, own, ("GET", file), NOT_FOUND)?);
+    }
+    Ok(())
+}
