@@ -5,16 +5,16 @@ ghost use Rattle.std.specs.Prelude.{◌≡◌};
 use crate::station::Station;
 use hls_http::{Counted, Session, SessionEnd, write_whole};
 use hls_http_laws::reply::no_memory_text;
-use hls_pace::{Pace, PatientReader, PatientWriter};
+use hls_pace::{Crowd, Pace, PatientReader, PatientWriter};
+use hls_serve::channel::Channel;
 use hls_serve::session::session_on;
 use hls_settings::Settings;
-use hls_turn::{Pass, Turn};
+use hls_turn::Pass;
 use std::alloc::Global;
 use std::cell::Cell;
 use std::io::{self, Eprint, Read};
 use std::net::{Shutdown, SocketAddr, TcpStream};
 use std::sync::Wait;
-use std::sync::atomic::AtomicU64;
 use std::time::{Clock, Duration};
 
 /// How long a call on a socket waits before its reader or writer looks at the clock, in milliseconds. Where more clients are
@@ -53,34 +53,34 @@ fn linger(stream: &TcpStream) {
     }
 }
 
-/// Serves a connection until its session ends, or the reader or writer gives up on it.
+/// Serves a connection until its session ends, or the reader or writer gives up on it. Its pace says what it did last.
 pub fn serve_stream<R: Wait + Clock + Eprint>(
     rt: &R,
     alloc: Global,
-    turn: &Turn,
+    channel: &Channel<'_>,
     settings: &Settings,
-    free: &AtomicU64,
+    crowd: &Crowd,
+    pace: &Cell<Pace>,
     pass: &mut Pass,
     stream: &TcpStream,
     peer: SocketAddr,
 )
-    requires { pass.old.turn ≡ turn.now }
-    ensures { pass.new.turn ≡ turn.now }
+    requires { pass.old.turn ≡ channel.now.turn.now }
+    ensures { pass.new.turn ≡ channel.now.turn.now }
 {
     if set_up(stream).is_err() {
         return;
     }
-    let pace = Cell::new(Pace::new());
     let patience = settings.plain.workers.patience;
-    let reader = PatientReader::new(rt, stream, &pace, free, patience);
-    let writer = PatientWriter::new(rt, stream, &pace, patience);
+    let reader = PatientReader::new(rt, stream, pace, crowd, patience);
+    let writer = PatientWriter::new(rt, stream, pace, patience);
     let Ok(mut session) = Session::new(alloc, reader, writer) else {
         let _ = write_whole(&mut Counted::new(stream), no_memory_text());
         return;
     };
     let station = Station {
         rt,
-        turn,
+        channel: *channel,
         renditions: settings.config.renditions(),
         peer,
         logs_requests: settings.plain.logs_requests,

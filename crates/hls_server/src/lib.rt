@@ -1,5 +1,5 @@
-//! A running server of a channel: threads that serve connections from one turn, one that keeps the channel to its window,
-//! and what the operator is told.
+//! A running server of a channel: threads that serve connections from one turn, threads that work on catch-up jobs, one that
+//! keeps the channel to its window, and what the operator is told.
 //!
 //! What a connection is answered is a session over the turn, and stands in `hls_serve_laws`. Of threads, sockets and time
 //! nothing is claimed.
@@ -9,6 +9,7 @@ mod connection;
 mod house;
 mod lines;
 mod log;
+mod planner;
 mod server;
 mod station;
 #[cfg(test)]

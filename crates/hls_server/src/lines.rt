@@ -51,8 +51,8 @@ impl<'a> Display for Limits<'a> {
         )?;
         write!(
             f,
-            " workers {} patience {}",
-            workers.workers, workers.patience
+            " workers {} planners {} patience {}",
+            workers.workers, workers.planners, workers.patience
         )
     }
 }

@@ -30,14 +30,30 @@ pub fn tell_failed_accept<E: Eprint>(rt: &E, error: Error) {
     let _ = eprintln!(rt; "serve: accept failed, tried again until it works: {error}");
 }
 
-/// Not all threads could be started.
-pub fn tell_fewer_threads<E: Eprint>(rt: &E, workers: usize, wanted: usize, keeps: bool) {
-    if !keeps {
+/// How many threads there are of each kind.
+#[derive(Clone, Copy)]
+pub struct Crew {
+    /// Whether one keeps house.
+    pub keeps_house: bool,
+    pub workers: u64,
+    pub planners: u64,
+}
+
+/// Not all threads that are wanted could be started.
+pub fn tell_fewer_threads<E: Eprint>(rt: &E, started: Crew, wanted: Crew) {
+    if !started.keeps_house {
         let _ = eprintln!(rt;
             "serve: no thread for upkeep: live lists don't slide, and nothing is trimmed"
         );
     }
-    if workers < wanted {
-        let _ = eprintln!(rt; "serve: {workers} of {wanted} workers could be started");
+    let (workers, all) = (started.workers, wanted.workers);
+    if workers < all {
+        let _ = eprintln!(rt; "serve: {workers} of {all} workers could be started");
+    }
+    let (planners, all) = (started.planners, wanted.planners);
+    if planners == 0 {
+        let _ = eprintln!(rt; "serve: no thread for planning: catch-up jobs wait for ever");
+    } else if planners < all {
+        let _ = eprintln!(rt; "serve: {planners} of {all} planners could be started");
     }
 }

@@ -3,9 +3,13 @@
 ghost use Rattle.std.specs.Prelude.{◌≡◌, ◌≤◌, All};
 
 use crate::house::keep_house;
-use crate::log::tell_fewer_threads;
+use crate::log::{Crew, tell_fewer_threads};
+use crate::planner::plan_jobs;
 use crate::worker::{Door, work};
 use hls_core::snapshot::Snapshot;
+use hls_jobs::Jobs;
+use hls_pace::Crowd;
+use hls_serve::channel::Channel;
 use hls_settings::Settings;
 use hls_turn::{Pass, Turn};
 use std::alloc::{AllocError, Global};
@@ -28,7 +32,7 @@ fn passes_for(workers: u64) -> u16
 }
 
 /// Serves connections from a channel that begins empty, each worker so many of them, or without end where no number is given.
-/// The housekeeper ends when all workers have.
+/// The housekeeper and the planners end when all workers have, and the planners finish the jobs that wait by then.
 ///
 /// Each worker serves one connection at a time, so idle ones are closed early where none is free. Where a thread can't be
 /// started, the rest serve, and the operator is told; want of memory comes before a thread is started, or where no worker
@@ -44,69 +48,93 @@ pub fn run_server<R: Threads + Wait + Clock + Eprint + Sync>(
     let snapshot = Snapshot::first(alloc, config)?;
     let count = passes_for(settings.plain.workers.workers);
     let (turn, passes) = Turn::new(rt, alloc, snapshot, count)?;
+    let jobs = Jobs::new(alloc)?;
+    let channel = Channel {
+        turn: &turn,
+        jobs: &jobs,
+    };
     let most = connections.unwrap_or(u64::MAX);
-    run_threads(rt, alloc, &turn, settings, listener, passes, most)
+    run_threads(rt, alloc, &channel, settings, listener, passes, most)
 }
 
-/// Runs a thread for each pass: the last one's keeps house, and the others serve so many connections each.
+/// Runs a thread for each pass: the last one's keeps house, and the others serve so many connections each. The planners' are
+/// beside them.
 fn run_threads<R: Threads + Wait + Clock + Eprint + Sync>(
     rt: &R,
     alloc: Global,
-    turn: &Turn,
+    channel: &Channel<'_>,
     settings: &Settings,
     listener: &TcpListener,
     passes: Vec<Pass>,
     most: u64,
 ) -> Result<(), AllocError>
-    requires { All (λ p. p.turn ≡ turn.now) passes.items }
+    requires { All (λ p. p.turn ≡ channel.now.turn.now) passes.items }
 {
-    let free = AtomicU64::new(0);
+    let crowd = Crowd::new(settings.plain.workers.workers);
     let told = AtomicU64::new(0);
     let closed = AtomicBool::new(false);
     let closed = &closed;
     let door = Door {
         listener,
-        free: &free,
+        crowd: &crowd,
         told: &told,
     };
     let door = &door;
     let timing = settings.plain.timing;
+    let planners = settings.plain.workers.planners;
     thread::scope(
         thread::scope_env(),
         rt,
         move |scope| -> Result<(), AllocError>
-            requires { All (λ p. p.turn ≡ turn.now) passes.items }
+            requires { All (λ p. p.turn ≡ channel.now.turn.now) passes.items }
         {
             let mut workers = Vec::with_capacity(alloc, passes.len())?;
             let mut passes = passes;
             let Some(mut last) = passes.pop() else {
                 return Ok(());
             };
-            let wanted = passes.len();
+            let wanted = Crew {
+                keeps_house: true,
+                workers: passes.len() as u64,
+                planners,
+            };
             let keeper = scope.spawn(
                 move || -> ()
-                    requires { last.turn ≡ turn.now }
-                { keep_house(rt, alloc, turn, timing, closed, &mut last) },
+                    requires { last.turn ≡ channel.now.turn.now }
+                { keep_house(rt, alloc, channel.turn, timing, closed, &mut last) },
             );
             for pass in passes {
                 let mut pass = pass;
                 let worker = scope.spawn(
                     move || -> ()
-                        requires { pass.turn ≡ turn.now }
-                    { work(rt, alloc, turn, settings, door, &mut pass, most) },
+                        requires { pass.turn ≡ channel.now.turn.now }
+                    { work(rt, alloc, channel, settings, door, &mut pass, most) },
                 );
                 if let Ok(worker) = worker {
                     let _ = workers.push(worker);
                 }
             }
-            let started = workers.len();
-            tell_fewer_threads(rt, started, wanted, keeper.is_ok());
+            let mut started = Crew {
+                keeps_house: keeper.is_ok(),
+                workers: workers.len() as u64,
+                planners: 0,
+            };
+            for _ in 0..planners {
+                if scope
+                    .spawn(move || plan_jobs(rt, alloc, channel.jobs))
+                    .is_ok()
+                {
+                    started.planners = started.planners.saturating_add(1);
+                }
+            }
+            tell_fewer_threads(rt, started, wanted);
             for worker in workers {
                 worker.join(rt);
             }
+            channel.jobs.close(rt);
             closed.store(true, Ordering::SeqCst);
-            turn.tell(rt);
-            if started == 0 {
+            channel.turn.tell(rt);
+            if started.workers == 0 {
                 return Err(AllocError);
             }
             Ok(())

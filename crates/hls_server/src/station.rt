@@ -1,26 +1,30 @@
-//! The turn as one connection's session sees it.
+//! The channel as one connection's session sees it.
 
 ghost use Rattle.std.specs.Prelude.{◌≡◌};
+ghost use Rattle.hls_serve_laws.specs.Desks.{shared_desk};
 
 use crate::lines::{Ingest, Name, Request};
 use crate::log::tell;
+use hls_catchup::Request as CatchUp;
 use hls_core::snapshot::Snapshot;
 use hls_core_laws::event::Event;
 use hls_core_laws::refusal::Refusal;
 use hls_core_laws::rendition::Rendition;
+use hls_jobs::{Job, JobFault};
+use hls_serve::channel::Channel;
 use hls_serve::keeper::Keeper;
 use hls_serve::news::News;
-use hls_turn::{Done, Pass, Turn};
+use hls_turn::{Done, Pass};
 use std::alloc::{AllocError, Global};
 use std::io::Eprint;
 use std::net::SocketAddr;
 use std::sync::{Arc, Wait};
 
-/// The turn as the keeper of one connection's session: what the session brings is told to the operator.
+/// The channel as the keeper of one connection's session: what the session brings is told to the operator.
 #[derive(Drop)]
 pub struct Station<'a, E> {
     pub rt: &'a E,
-    pub turn: &'a Turn,
+    pub channel: Channel<'a>,
     /// The channel's renditions.
     pub renditions: &'a [Rendition],
     /// Who is at the other end.
@@ -42,9 +46,11 @@ impl<'a, E: Eprint> Station<'a, E> {
 impl<'a, E: Eprint> Keeper for Station<'a, E> {
     type Pass = Pass;
 
-    ghost serves = { λ station pass. pass.turn ≡ station.turn.now };
+    ghost serves = { λ station pass. pass.turn ≡ station.channel.turn.now };
 
     ghost known = { λ pass. pass.known };
+
+    ghost desk = { shared_desk };
 
     fn renditions(&self, pass: &Pass) -> usize {
         pass.renditions()
@@ -56,7 +62,7 @@ impl<'a, E: Eprint> Keeper for Station<'a, E> {
         alloc: Global,
         pass: &mut Pass,
     ) -> Result<Arc<Snapshot>, AllocError> {
-        self.turn.look(rt, alloc, pass)
+        self.channel.look(rt, alloc, pass)
     }
 
     fn submit<R: Wait>(
@@ -66,7 +72,29 @@ impl<'a, E: Eprint> Keeper for Station<'a, E> {
         pass: &mut Pass,
         event: Event,
     ) -> Result<Done, Refusal> {
-        self.turn.submit(rt, alloc, pass, event)
+        self.channel.submit(rt, alloc, pass, event)
+    }
+
+    fn add_job<R: Wait>(
+        &self,
+        rt: &R,
+        pass: &mut Pass,
+        snapshot: Arc<Snapshot>,
+        request: CatchUp,
+    ) -> Result<u64, JobFault> {
+        self.channel.add_job(rt, pass, snapshot, request)
+    }
+
+    fn job<R: Wait>(&self, rt: &R, pass: &Pass, id: u64) -> Result<Job, JobFault> {
+        self.channel.job(rt, pass, id)
+    }
+
+    fn remove_job<R: Wait>(&self, rt: &R, pass: &mut Pass, id: u64) -> Result<(), JobFault> {
+        self.channel.remove_job(rt, pass, id)
+    }
+
+    fn jobs<R: Wait>(&self, rt: &R, pass: &Pass) -> usize {
+        self.channel.jobs(rt, pass)
     }
 
     fn tell(&self, _pass: &Pass, news: &News) {

@@ -1,5 +1,6 @@
-//! The operator's lines, and sessions on threads.
+//! The operator's lines, and sessions and jobs on threads.
 
+mod catch_up;
 mod fakes;
 mod lines;
 mod sessions;

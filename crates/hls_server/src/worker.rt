@@ -4,10 +4,12 @@ ghost use Rattle.std.specs.Prelude.{◌≡◌, ◌-◌, ◌||◌, nat_eq, nat_le
 
 use crate::connection::serve_stream;
 use crate::log::tell_failed_accept;
-use hls_pace::milliseconds;
+use hls_pace::{Crowd, Pace, milliseconds};
+use hls_serve::channel::Channel;
 use hls_settings::Settings;
-use hls_turn::{Pass, Turn};
+use hls_turn::Pass;
 use std::alloc::Global;
+use std::cell::Cell;
 use std::io::{Eprint, Error};
 use std::net::TcpListener;
 use std::sync::Wait;
@@ -25,8 +27,8 @@ const QUIET: u64 = 60000;
 #[derive(Drop)]
 pub struct Door<'a> {
     pub listener: &'a TcpListener,
-    /// How many workers wait for a connection.
-    pub free: &'a AtomicU64,
+    /// Who waits for a connection, and who has one that has sent nothing yet.
+    pub crowd: &'a Crowd,
     /// When a failed accept was told last, in milliseconds of the clock; 0 where none was.
     pub told: &'a AtomicU64,
 }
@@ -57,22 +59,27 @@ fn wait_out<R: Clock + Eprint>(rt: &R, door: &Door<'_>, error: Error) {
 pub fn work<R: Wait + Clock + Eprint>(
     rt: &R,
     alloc: Global,
-    turn: &Turn,
+    channel: &Channel<'_>,
     settings: &Settings,
     door: &Door<'_>,
     pass: &mut Pass,
     connections: u64,
 )
-    requires { pass.old.turn ≡ turn.now }
-    ensures { pass.new.turn ≡ turn.now }
+    requires { pass.old.turn ≡ channel.now.turn.now }
+    ensures { pass.new.turn ≡ channel.now.turn.now }
 {
     for _ in 0..connections {
-        door.free.fetch_add(1, Ordering::SeqCst);
+        door.crowd.wait();
         let accepted = door.listener.accept();
-        door.free.fetch_sub(1, Ordering::SeqCst);
+        door.crowd.go_on();
         match accepted {
             Ok((stream, peer)) => {
-                serve_stream(rt, alloc, turn, settings, door.free, pass, &stream, peer);
+                let pace = Cell::new(Pace::new());
+                door.crowd.begin();
+                serve_stream(
+                    rt, alloc, channel, settings, door.crowd, &pace, pass, &stream, peer,
+                );
+                door.crowd.end(pace.get());
             }
             Err(error) => wait_out(rt, door, error),
         }

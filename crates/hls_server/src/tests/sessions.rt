@@ -10,8 +10,9 @@ use hls_core::snapshot::Snapshot;
 use hls_core_laws::event::Logged;
 use hls_core_laws::rendition::Rendition;
 use hls_http::Session;
+use hls_jobs::Jobs;
 use hls_samples::{init_bytes, unit_bytes};
-use hls_serve::turn::serve_session;
+use hls_serve::channel::serve_session;
 use hls_turn::{Pass, Turn};
 use std::alloc::{AllocError, Global};
 use std::sync::Wait;
@@ -29,7 +30,7 @@ const UNITS: u64 = 25;
 const EVENTS: u64 = 104;
 
 /// A channel of four video renditions, before anything came.
-fn opening(alloc: Global) -> Result<Snapshot, Fail> {
+pub fn opening(alloc: Global) -> Result<Snapshot, Fail> {
     let mut renditions = Vec::new(alloc);
     for name in [b"v0", b"v1", b"v2", b"v3"] {
         renditions.push(Rendition {
@@ -44,7 +45,7 @@ fn opening(alloc: Global) -> Result<Snapshot, Fail> {
 }
 
 /// An init section and so many units.
-fn stream(alloc: Global, units: u64) -> Result<Vec<u8>, AllocError> {
+pub fn stream(alloc: Global, units: u64) -> Result<Vec<u8>, AllocError> {
     let mut stream = init_bytes(alloc, b"vide", 90000)?;
     for n in 0..units.min(UNITS) {
         let unit = unit_bytes(alloc, n * 360000, 360000, true, 1000)?;
@@ -54,7 +55,7 @@ fn stream(alloc: Global, units: u64) -> Result<Vec<u8>, AllocError> {
 }
 
 /// The head of an encoder's request.
-fn head(alloc: Global, rendition: usize, len: usize) -> Result<String, AllocError> {
+pub fn head(alloc: Global, rendition: usize, len: usize) -> Result<String, AllocError> {
     Ok(format!(in alloc;
         "PUT /ingest/{rendition} HTTP/1.1\r\nHost: a\r\nContent-Length: {len}\r\n\r\n"
     )?)
@@ -75,7 +76,10 @@ fn is_answered<R: Wait>(
     let Ok(mut session) = Session::new(alloc, reader, Page::new()) else {
         return false;
     };
-    let _ = serve_session(rt, alloc, &mut session, turn, pass);
+    let Ok(jobs) = Jobs::new(alloc) else {
+        return false;
+    };
+    let _ = serve_session(rt, alloc, &mut session, turn, pass, &jobs);
     session.writer.into_inner().says(wanted)
 }
 
