@@ -4,6 +4,8 @@ use Rattle.hls_origin.specs.declared.check.run.CheckEnd.{CheckEnd}
 use Rattle.hls_origin.specs.declared.check.run.CheckEnd.TheVariants as check
 use Rattle.hls_origin.specs.declared.cut.run.CutEnd.{CutEnd}
 use Rattle.hls_origin.specs.declared.cut.run.CutEnd.TheVariants as cut
+use Rattle.hls_refusals.specs.declared.run.ExplainEnd.{ExplainEnd}
+use Rattle.hls_refusals.specs.declared.run.ExplainEnd.TheVariants as explain
 use Rattle.hls_origin.specs.declared.lint.run.LintEnd.{LintEnd}
 use Rattle.hls_origin.specs.declared.lint.run.LintEnd.TheVariants as lint
 use Rattle.hls_origin.specs.declared.serve.run.ServeEnd.{ServeEnd}
@@ -30,6 +32,12 @@ lint_status lint.Readable = 0
 lint_status lint.Refused = 1
 lint_status lint.ReadFailed = 1
 lint_status lint.WriteFailed = 1
+
+abbrev pub explain_status : ExplainEnd → ℕ
+explain_status explain.Explained = 0
+explain_status explain.Unknown = 1
+explain_status explain.WriteFailed = 1
+explain_status explain.Memory = 1
 
 abbrev pub serve_status : ServeEnd → ℕ
 serve_status serve.Done = 0

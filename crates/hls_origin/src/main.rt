@@ -13,6 +13,9 @@
 //! is in one line, or `refused`, why, and the line's number where there is one. Status 0 is a playlist,
 //! 1 a refusal or a failed call, 2 a usage fault.
 //!
+//! `hls_origin explain [NAME]` writes what a refusal's name means and what to change, or all names, a line each. Status 1 is an
+//! unknown name or a failed call, 2 a usage fault.
+//!
 //! `hls_origin serve [OPTIONS] ADDRESS SPEC..` serves a channel over HTTP until a signal ends it. Status 2 is a usage fault, 1
 //! that the address can't be listened on or that memory was wanted.
 //!
@@ -21,7 +24,7 @@
 
 ghost use Rattle.std.specs.Prelude.{◌≡◌};
 ghost use Rattle.std.specs.Process.{exit_status};
-ghost use Rattle.hls_origin.specs.Status.{check_status, cut_status, lint_status, serve_status, usage_status};
+ghost use Rattle.hls_origin.specs.Status.{check_status, cut_status, explain_status, lint_status, serve_status, usage_status};
 
 mod check;
 mod cut;
@@ -44,6 +47,7 @@ use crate::serve::run::{ServeEnd, run_serve};
 use crate::serve::wrong::Wrong;
 use hls_io::Counted;
 use hls_origin_listing::ListFault;
+use hls_refusals::{ExplainEnd, MEANINGS, run_explain};
 use std::io::Eprint;
 use std::net::{Net, TcpListener, TcpStream};
 use std::process::ExitCode;
@@ -61,6 +65,7 @@ const USAGE: &str = "usage: hls_origin [cut [--each] [--target N] [--uri TEXT]] 
        hls_origin cut --preferred N [--certificate] [--target N] [--uri TEXT] < STREAM > OUTPUT
        hls_origin check < CERTIFICATE
        hls_origin lint < PLAYLIST
+       hls_origin explain [NAME]
        hls_origin serve [OPTIONS] ADDRESS SPEC..
        hls_origin --help | --version
 ";
@@ -76,6 +81,7 @@ cut: the playlist of a recorded stream of one rendition, fragmented MP4
                  line ends and quotation marks; media.mp4 if not given
 check: whether a certificate proves that its plan is least
 lint: what a media playlist is, or which line of it is wrong
+explain: what a refusal's name means, and what to change; without NAME, all names
 serve: a live channel over HTTP; encoders PUT to /ingest/0, /ingest/1, .. and players read
        /live/master.m3u8. ADDRESS is a.b.c.d:port, and each SPEC is name:kind:bandwidth:tolerance, where
        kind is video or audio, bandwidth is in bits a second and tolerance in microseconds
@@ -227,6 +233,42 @@ fn run_lint_words(rt: &HostRuntime, words: &[String]) -> ExitCode {
     end_lint(rt, run_lint(rt.alloc(), &mut input, &mut output))
 }
 
+/// Ends the program as `explain` of this word ended.
+fn end_explain(rt: &HostRuntime, word: &str, end: ExplainEnd) -> ExitCode
+    ensures { exit_status result ≡ explain_status end }
+{
+    match end {
+        ExplainEnd::Explained => ExitCode::SUCCESS,
+        ExplainEnd::Unknown => {
+            let _ = eprintln!(rt;
+                "explain: no refusal is named {word}; hls_origin explain has the names"
+            );
+            ExitCode::from(1)
+        }
+        ExplainEnd::WriteFailed => {
+            let _ = eprintln!(rt; "explain: WriteFailed");
+            ExitCode::from(1)
+        }
+        ExplainEnd::Memory => {
+            let _ = eprintln!(rt; "explain: Memory");
+            ExitCode::from(1)
+        }
+    }
+}
+
+/// Does `explain`, after which one word may stand.
+fn run_explain_words(rt: &HostRuntime, words: &[String]) -> ExitCode {
+    let word = match words {
+        [] => None,
+        [word] => Some(word.as_str()),
+        _ => return usage_fault(rt),
+    };
+    let name = word.map(|word| word.as_bytes());
+    let mut output = Counted::new(io::writer(rt));
+    let end = run_explain(rt.alloc(), MEANINGS.as_bytes(), name, &mut output);
+    end_explain(rt, word.unwrap_or(""), end)
+}
+
 /// Ends the program as `serve` ended.
 fn end_serve(rt: &HostRuntime, end: ServeEnd) -> ExitCode
     ensures { exit_status result ≡ serve_status end }
@@ -273,6 +315,7 @@ where
         "cut" => run_cut_words(rt, rest),
         "check" => run_check_words(rt, threads, rest),
         "lint" => run_lint_words(rt, rest),
+        "explain" => run_explain_words(rt, rest),
         "serve" => end_serve(rt, run_serve(threads, rt.alloc(), rest)),
         "--version" if rest.is_empty() => print_version(rt),
         _ => usage_fault(rt),
