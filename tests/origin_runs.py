@@ -1,0 +1,212 @@
+"""What the runs of origins, edges and players share: generated streams, servers, an edge from `edge/nginx.conf`, checks.
+
+No script of its own: tests/edge, tests/two_origins, tests/players and bench/day import it.
+"""
+import os
+import re
+import resource
+import shutil
+import struct
+import subprocess
+import sys
+import time
+from importlib.machinery import SourceFileLoader
+
+sys.dont_write_bytecode = True
+TESTS = os.path.dirname(os.path.abspath(__file__))
+ROOT = os.path.dirname(TESTS)
+PROGRAM = os.path.join(ROOT, "crates", "hls_origin", "out", "hls_origin")
+encoders = SourceFileLoader("encoders", os.path.join(TESTS, "encoders")).load_module()
+ask, check, free_port, is_later, media_list, wait_for_list = (getattr(encoders, name) for name in (
+    "ask", "check", "free_port", "is_later", "media_list", "wait_for_list"))
+
+
+def need(**packages):
+    """Installs the Debian packages of the commands that are missing."""
+    missing = sorted({package for command, names in packages.items() if not shutil.which(command) for package in names.split()})
+    if missing:
+        subprocess.run(["apt-get", "-o", "DPkg::Lock::Timeout=600", "install", "-y", "-q", "--no-install-recommends", *missing],
+                       check=True, stdout=subprocess.DEVNULL)
+
+
+def end():
+    """Says how many checks were right, and ends."""
+    right, wrong = encoders.right, encoders.wrong
+    print(f"{right} of {right + len(wrong)} right")
+    sys.exit(1 if wrong else 0)
+
+
+# Generated streams: a track of one kind, units of one sample each.
+
+def box(kind, *parts):
+    content = b"".join(parts)
+    return struct.pack(">I4s", 8 + len(content), kind) + content
+
+
+def words(kind, *numbers):
+    return box(kind, struct.pack(f">{len(numbers)}I", *numbers))
+
+
+def init_section(kind="video", scale=90000):
+    handler = {"video": b"vide", "audio": b"soun"}[kind]
+    track = box(b"trak", box(b"tkhd", struct.pack(">4I", 3, 0, 0, 1), bytes(68)),
+                box(b"mdia", words(b"mdhd", 0, 0, 0, scale, 0, 0x55c40000), box(b"hdlr", bytes(8), handler, bytes(13))))
+    return box(b"ftyp", b"isom", bytes(4)) + box(b"moov", track, box(b"mvex", words(b"trex", 0, 1, 1, 0, 0, 0)))
+
+
+def unit(start, ticks, size, fill=0xaa):
+    """A unit of one sync sample, of so many bytes in all."""
+    fragment = box(b"traf", words(b"tfhd", 0x20000, 1), box(b"tfdt", b"\1\0\0\0", struct.pack(">Q", start)),
+                   words(b"trun", 0x701, 1, 108, ticks, size - 108, 0x02000000))
+    return box(b"moof", words(b"mfhd", 0, 1), fragment) + box(b"mdat", bytes([fill]) * (size - 108))
+
+
+# Servers
+
+def wait_for(port, seconds=20):
+    import socket
+    for _ in range(seconds * 20):
+        try:
+            socket.create_connection(("127.0.0.1", port)).close()
+            return
+        except OSError:
+            time.sleep(0.05)
+    raise SystemExit(f"nothing listens on port {port}")
+
+
+class Origin:
+    """A server of its own process, and its log."""
+
+    def __init__(self, program, folder, options, renditions, port=None, name="origin"):
+        self.port = port or free_port()
+        self.words = [program, "serve", *options, f"127.0.0.1:{self.port}", *renditions]
+        self.log = os.path.join(folder, f"{name}.log")
+        self.start()
+
+    def start(self):
+        self.process = subprocess.Popen(self.words, stderr=open(self.log, "a"), stdin=subprocess.DEVNULL)
+        wait_for(self.port)
+
+    def kill(self):
+        self.process.kill()
+        self.process.wait()
+
+    def stop(self):
+        self.process.terminate()
+        self.process.wait()
+
+    def lines(self):
+        with open(self.log) as file:
+            return file.read().split("\n")
+
+    def requests(self):
+        """The requests that it has logged so far."""
+        return [line for line in self.lines() if line.startswith("serve: request ")]
+
+
+class Edge:
+    """nginx with `edge/nginx.conf`, of which only addresses, paths and the user's name are changed."""
+
+    def __init__(self, folder, first, second, changes=()):
+        self.folder = os.path.join(folder, "edge")
+        self.port, self.open, plain = free_port(), free_port(), free_port()
+        os.makedirs(os.path.join(self.folder, "cache"))
+        for path in (folder, self.folder):
+            os.chmod(path, 0o755)
+        self.certificate, key = (os.path.join(self.folder, name) for name in ("edge.crt", "edge.key"))
+        subprocess.run(["openssl", "req", "-x509", "-newkey", "ec", "-pkeyopt", "ec_paramgen_curve:prime256v1", "-nodes",
+                        "-keyout", key, "-out", self.certificate, "-days", "2", "-subj", "/CN=localhost",
+                        "-addext", "subjectAltName=DNS:localhost,IP:127.0.0.1"], check=True, stderr=subprocess.DEVNULL)
+        text = open(os.path.join(ROOT, "edge", "nginx.conf")).read()
+        for old, new in [("10.0.0.1:8080", f"127.0.0.1:{first}"), ("10.0.0.2:8080", f"127.0.0.1:{second}"),
+                         ("listen 80;", f"listen 127.0.0.1:{plain};"),
+                         # without TLS too, for players that don't take a certificate of today
+                         ("listen 443 ", f"listen 127.0.0.1:{self.open};\n        listen 127.0.0.1:{self.port} "),
+                         ("/etc/nginx/edge.crt", self.certificate), ("/etc/nginx/edge.key", key),
+                         ("/var/lib/nginx", os.path.join(self.folder, "cache")),
+                         ("/var/log/nginx", self.folder), ("/run/nginx.pid", os.path.join(self.folder, "pid")),
+                         ("/usr/share/hls_origin", os.path.join(ROOT, "edge")), ("allow 10.0.0.0/8;", "allow 127.0.0.1/32;"),
+                         ("worker_rlimit_nofile 65536;", f"worker_rlimit_nofile {resource.getrlimit(resource.RLIMIT_NOFILE)[1]};"),
+                         *changes]:
+            if old not in text:
+                raise SystemExit(f"edge/nginx.conf has no {old}")
+            text = text.replace(old, new)
+        self.conf = os.path.join(self.folder, "nginx.conf")
+        open(self.conf, "w").write(text)
+        words = ["nginx", "-c", self.conf, "-p", self.folder]
+        tried = subprocess.run([*words, "-t"], capture_output=True, text=True)
+        if tried.returncode:
+            raise SystemExit(tried.stderr)
+        self.process = subprocess.Popen([*words, "-g", "daemon off;"], stdin=subprocess.DEVNULL, stderr=subprocess.DEVNULL)
+        wait_for(self.port)
+        self.url, self.open_url = f"https://localhost:{self.port}", f"http://127.0.0.1:{self.open}"
+
+    def reload(self):
+        self.process.send_signal(1)
+
+    def errors(self):
+        with open(os.path.join(self.folder, "error.log")) as file:
+            return file.read()
+
+    def stop(self):
+        self.process.terminate()
+        self.process.wait()
+
+
+def resident(pid):
+    """Resident bytes of a process."""
+    with open(f"/proc/{pid}/status") as file:
+        return int(re.search(r"VmRSS:\s+(\d+)", file.read())[1]) * 1024
+
+
+def part(values, share):
+    """The value below which this share of the values lies."""
+    values = sorted(values)
+    return values[min(len(values) - 1, int(len(values) * share))] if values else float("nan")
+
+
+# Real encoders and a real browser
+
+def push_real(port, seconds, size="320x180", more=(), paths=("/ingest/0", "/ingest/1"), url=None):
+    """ffmpeg in real time: a video in groups of two seconds and an audio, each by its own PUT."""
+    url = url or f"http://127.0.0.1:{port}"
+    clip = ["-re", "-f", "lavfi", "-i", f"testsrc=s={size}:r=25", "-re", "-f", "lavfi", "-i", "sine=f=440:r=48000"]
+    pushed = []
+    for kind, flags, path in [(encoders.VIDEO, "+cmaf+frag_keyframe+skip_trailer", paths[0]), (encoders.AUDIO, "+cmaf+skip_trailer", paths[1])]:
+        pushed.append(subprocess.Popen(
+            ["ffmpeg", "-v", "error", *clip, *kind, "-t", str(seconds), *more, "-f", "mp4", "-movflags", flags,
+             *(["-frag_duration", "200000"] if kind is encoders.AUDIO else []), "-method", "PUT", url + path],
+            stdin=subprocess.DEVNULL, stderr=subprocess.DEVNULL))
+    return pushed
+
+
+def browser_page(url, seconds, enough):
+    """Opens a page of `edge/player.html` in Chromium without a window, and gives the last state that it said: the first that
+    is enough, or the one after so many seconds."""
+    import json
+    import tempfile
+    import threading
+    with tempfile.TemporaryDirectory() as profile:
+        browser = subprocess.Popen(
+            ["chromium", "--headless=new", "--no-sandbox", "--disable-gpu", "--enable-logging=stderr", "--ignore-certificate-errors",
+             "--autoplay-policy=no-user-gesture-required", "--disable-dev-shm-usage", f"--user-data-dir={profile}", url],
+            stdin=subprocess.DEVNULL, stdout=subprocess.DEVNULL, stderr=subprocess.PIPE, text=True, errors="replace", start_new_session=True)
+        timer = threading.Timer(seconds + 20, browser.terminate)
+        timer.start()
+        begun, last = None, None
+        try:
+            for line in browser.stderr:
+                if found := re.search(r'"state (\{.*?\})"', line):
+                    last = json.loads(found[1])
+                    begun = begun or time.monotonic()
+                    if enough(last) or last["error"] or time.monotonic() - begun > seconds:
+                        break
+        finally:
+            timer.cancel()
+            browser.terminate()
+            try:
+                browser.wait(10)
+            except subprocess.TimeoutExpired:
+                browser.kill()
+                browser.wait()
+    return last
