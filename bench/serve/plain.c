@@ -1,7 +1,7 @@
 /* A plain loop beside an origin's ingest: takes one PUT over one connection in reads of 64 KiB and keeps the bytes in blocks of
-   their own, of so many bytes each. Looks at nothing.
+   their own, of so many bytes each; all of them, or the last so many. Looks at nothing.
 
-       plain PORT UNIT */
+       plain PORT UNIT [BLOCKS] */
 #define _GNU_SOURCE
 #include <netinet/in.h>
 #include <stdlib.h>
@@ -11,8 +11,9 @@
 static char buffer[65536];
 
 int main(int count, char **words) {
-    if (count != 3) return 2;
-    size_t unit = strtoul(words[2], 0, 10), filled = unit, rest = 0;
+    if (count != 3 && count != 4) return 2;
+    size_t unit = strtoul(words[2], 0, 10), filled = unit, rest = 0, blocks = count == 4 ? strtoul(words[3], 0, 10) : 0, at = 0;
+    char **last = calloc(blocks + 1, sizeof *last);
     int one = 1, listener = socket(AF_INET, SOCK_STREAM, 0);
     struct sockaddr_in address = { .sin_family = AF_INET, .sin_port = htons(atoi(words[1])) };
     address.sin_addr.s_addr = htonl(INADDR_LOOPBACK);
@@ -34,6 +35,11 @@ int main(int count, char **words) {
             if (filled == unit) {
                 kept = malloc(unit);
                 filled = 0;
+                if (blocks) {
+                    free(last[at]);
+                    last[at] = kept;
+                    at = (at + 1) % blocks;
+                }
             }
             size_t piece = unit - filled < (size_t)(stop - from) ? unit - filled : (size_t)(stop - from);
             memcpy(kept + filled, from, piece);
