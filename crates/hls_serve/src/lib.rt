@@ -17,5 +17,3 @@ mod request;
 mod respond;
 pub mod route;
 pub mod session;
-#[cfg(test)]
-mod tests;

@@ -1,15 +1,13 @@
 //! Catch-up over sessions on one thread. Whoever asks runs the jobs, between two sessions.
 
-use super::{PARTS, answered, channel_of, opened, replied};
-use crate::alone::{Alone, Own};
-use crate::keeper::Keeper;
-use crate::tests::streams::{init, put, put_to, stream, unit};
-use bytes::Bytes;
+use crate::asking::{answered, asked, replied, says};
+use crate::channels::{is_new, video_and_audio, with_units};
+use crate::ranges::PARTS;
+use crate::streams::{init, put, put_to, stream, unit};
 use hls_core_laws::event::Event;
-use hls_core_laws::rendition::Rendition;
 use hls_jobs::run_job;
 use hls_samples::{init_bytes, unit_bytes};
-use hls_turn::Done;
+use hls_serve::alone::Own;
 use std::alloc::Global;
 use std::sync::Wait;
 use std::test::Fail;
@@ -23,32 +21,6 @@ fn run_all(alloc: Global, own: &mut Own) -> Result<(), Fail> {
         own.jobs.finish(run_job(alloc, work))?;
     }
     Ok(())
-}
-
-/// What a request without a body is answered.
-fn asked<T: Wait>(
-    rt: &T,
-    alloc: Global,
-    own: &mut Own,
-    method: &str,
-    target: &str,
-) -> Result<Vec<u8>, Fail> {
-    let text = format!(in alloc; "{method} {target} HTTP/1.1\r\nHost: a\r\n\r\n")?;
-    answered(rt, alloc, own, text.as_bytes())
-}
-
-/// Whether a request without a body is answered by a short text, with one field more or none.
-fn says<T: Wait>(
-    rt: &T,
-    alloc: Global,
-    own: &mut Own,
-    request: (&str, &str),
-    reply: (&str, &str, &str),
-) -> Result<bool, Fail> {
-    let (method, target) = request;
-    let (status, field, text) = reply;
-    let want = replied(alloc, status, field, text)?;
-    Ok(asked(rt, alloc, own, method, target)?.as_slice() == want.as_bytes())
 }
 
 /// Whether a job's line is this one.
@@ -82,18 +54,6 @@ const NOT_FOUND: (&str, &str, &str) = ("404 Not Found", "", "refused NotFound\n"
 
 const CONFLICT: (&str, &str, &str) = ("409 Conflict", "", "refused Conflict\n");
 
-/// A channel of one rendition with the first units.
-fn with_units<T: Wait>(rt: &T, alloc: Global, units: u32) -> Result<Own, Fail> {
-    let mut own = opened(alloc)?;
-    let _ = answered(
-        rt,
-        alloc,
-        &mut own,
-        &put(alloc, "", &stream(alloc, units)?)?,
-    )?;
-    Ok(own)
-}
-
 const FULL: &[u8] =
     b"HTTP/1.1 503 Service Unavailable\r\nContent-Type: text/plain\r\nContent-Length: 18\r\n\r\nrefused TableFull\nHTTP/1.1 200 OK\r\nContent-Type: text/plain\r\nContent-Length: 8\r\n\r\nwaiting\n";
 
@@ -121,6 +81,31 @@ fn a_full_table(rt: HostRuntime) -> Result<(), Fail> {
     Ok(())
 }
 
+#[test]
+fn each_job_is_of_the_state_that_its_request_saw(rt: HostRuntime) -> Result<(), Fail> {
+    let alloc = rt.alloc();
+    let mut own = with_units(&rt, alloc, 10)?;
+    let own = &mut own;
+    assert!(rt; adds(&rt, alloc, own, "from=0&to=8000000", 1, 11)?);
+    assert!(rt; adds(&rt, alloc, own, "from=0&to=36000001", 2, 11)?);
+    assert!(rt; tells(&rt, alloc, own, "/job/1", "waiting\n")?);
+    assert!(rt; says(&rt, alloc, own, ("GET", "/job/1/0.m3u8"), CONFLICT)?);
+    let next = put(alloc, "", &unit(alloc, 10)?)?;
+    assert!(rt;
+        answered(&rt, alloc, own, &next)?.ends_with(b"\r\n\r\ninit 0 accepted 1 repeated 0\n")
+    );
+    assert!(rt; adds(&rt, alloc, own, "from=0&to=8000000", 3, 12)?);
+    run_all(alloc, own)?;
+    assert!(rt; tells(&rt, alloc, own, "/job/1", "cut 0 version 11\n")?);
+    assert!(rt; tells(&rt, alloc, own, "/job/2", "refused NotYet version 11\n")?);
+    assert!(rt; tells(&rt, alloc, own, "/job/3", "cut 0 version 12\n")?);
+    for file in ["master.m3u8", "0.m3u8", "0.mp4", "certificate.txt"] {
+        let target = format!(in alloc; "/job/2/{file}")?;
+        assert!(rt; says(&rt, alloc, own, ("GET", target.as_str()), NOT_FOUND)?);
+    }
+    Ok(())
+}
+
 const ALLOWED: (&str, &str, &str) = (
     "405 Method Not Allowed",
     "Allow: GET, HEAD, DELETE\r\n",
@@ -142,6 +127,32 @@ const POSTED: (&str, &str, &str) = (
 const BAD_QUERY: (&str, &str, &str) = ("400 Bad Request", "", "refused BadQuery\n");
 
 #[test]
+fn an_unknown_job_comes_before_the_method(rt: HostRuntime) -> Result<(), Fail> {
+    let alloc = rt.alloc();
+    let mut own = with_units(&rt, alloc, 3)?;
+    let own = &mut own;
+    assert!(rt; adds(&rt, alloc, own, "from=0&to=8000000", 1, 4)?);
+    let rows = [
+        ("PUT", "/job/2", NOT_FOUND),
+        ("DELETE", "/job/2/0.mp4", NOT_FOUND),
+        ("POST", "/job/01", NOT_FOUND),
+        ("GET", "/job/1/1.mp4", NOT_FOUND),
+        ("PUT", "/job/1", ALLOWED),
+        ("DELETE", "/job/1/0.mp4", READ_ONLY),
+        ("POST", "/job/1/0.m3u8", READ_ONLY),
+        ("PUT", "/job/1/master.m3u8", READ_ONLY),
+        ("DELETE", "/job/1/certificate.txt", READ_ONLY),
+        ("GET", "/catchup?from=0&to=8000000", POSTED),
+        ("POST", "/catchup?from=0&to=", BAD_QUERY),
+        ("POST", "/catchup?from=0&to=12345678901234567", BAD_QUERY),
+    ];
+    for (method, target, reply) in rows {
+        assert!(rt; says(&rt, alloc, own, (method, target), reply)?);
+    }
+    Ok(())
+}
+
+#[test]
 fn parts_of_a_jobs_media(rt: HostRuntime) -> Result<(), Fail> {
     let alloc = rt.alloc();
     let mut own = with_units(&rt, alloc, 4)?;
@@ -157,16 +168,6 @@ fn parts_of_a_jobs_media(rt: HostRuntime) -> Result<(), Fail> {
     let whole = asked(&rt, alloc, own, "GET", "/job/1/0.mp4")?;
     assert!(rt; whole.ends_with(&stream(alloc, 3)?));
     Ok(())
-}
-
-/// Brings an event of upkeep; whether it was new.
-fn is_new<T: Wait>(rt: &T, alloc: Global, own: &mut Own, event: Event) -> bool {
-    match event {
-        Event::Slide { .. } => {}
-        Event::Trim { .. } => {}
-        _ => return false,
-    }
-    matches!(Alone.submit(rt, alloc, own, event), Ok(Done::New { .. }))
 }
 
 /// What a GET of the first unit's bytes is answered.
@@ -244,24 +245,6 @@ fn lists<T: Wait>(
         "HTTP/1.1 200 OK\r\nContent-Type: application/vnd.apple.mpegurl\r\nContent-Length: {len}\r\n\r\n{text}"
     )?;
     Ok(asked(rt, alloc, own, "GET", target)?.as_slice() == want.as_bytes())
-}
-
-/// A channel of a video and an audio rendition, before anything came.
-fn video_and_audio(alloc: Global, tolerance: u64) -> Result<Own, Fail> {
-    let mut renditions = Vec::new(alloc);
-    renditions.push(Rendition {
-        name: Bytes::copy_from_slice(alloc, b"v1")?,
-        video: true,
-        bandwidth: 3_000_000,
-        tolerance: 0,
-    })?;
-    renditions.push(Rendition {
-        name: Bytes::copy_from_slice(alloc, b"en")?,
-        video: false,
-        bandwidth: 128_000,
-        tolerance,
-    })?;
-    channel_of(alloc, renditions)
 }
 
 /// Sends a rendition its init section and units, each by its start and its length in ticks, and its end.
@@ -350,5 +333,100 @@ fn no_cut_has_a_certificate_alone(rt: HostRuntime) -> Result<(), Fail> {
     for file in ["/job/1/master.m3u8", "/job/1/0.m3u8", "/job/1/1.mp4"] {
         assert!(rt; says(&rt, alloc, own, ("GET", file), NOT_FOUND)?);
     }
+    Ok(())
+}
+
+#[test]
+fn bounds_of_a_programme(rt: HostRuntime) -> Result<(), Fail> {
+    let alloc = rt.alloc();
+    let mut own = with_units(&rt, alloc, 10)?;
+    let own = &mut own;
+    assert!(rt; adds(&rt, alloc, own, "from=8000000&to=8000000", 1, 11)?);
+    assert!(rt; adds(&rt, alloc, own, "from=0&to=36000001", 2, 11)?);
+    assert!(rt;
+        adds(
+            &rt,
+            alloc,
+            own,
+            "from=0&to=36000000&preferred=6000001",
+            3,
+            11
+        )?
+    );
+    assert!(rt; adds(&rt, alloc, own, "from=5000000&to=9000000", 4, 11)?);
+    assert!(rt;
+        says(
+            &rt,
+            alloc,
+            own,
+            ("POST", "/finish/0"),
+            ("200 OK", "", "finished\n")
+        )?
+    );
+    assert!(rt; adds(&rt, alloc, own, "from=0&to=40000001", 5, 12)?);
+    run_all(alloc, own)?;
+    let lines = [
+        ("/job/1", "refused BadRange version 11\n"),
+        ("/job/2", "refused NotYet version 11\n"),
+        ("/job/3", "refused BadPreferred version 11\n"),
+        ("/job/4", "cut 0 version 11\n"),
+        ("/job/5", "refused AfterRecording version 12\n"),
+    ];
+    for (job, line) in lines {
+        assert!(rt; tells(&rt, alloc, own, job, line)?);
+    }
+    assert!(rt; lists(&rt, alloc, own, "/job/4/0.m3u8", TWO_SEGMENTS)?);
+    assert!(rt;
+        asked(&rt, alloc, own, "GET", "/job/4/certificate.txt")?.ends_with(CERTIFICATE.as_bytes())
+    );
+    let mut media = init(alloc)?;
+    media.extend_from_slice(&unit(alloc, 1)?)?;
+    media.extend_from_slice(&unit(alloc, 2)?)?;
+    let head = "HTTP/1.1 200 OK\r\nContent-Type: video/mp4\r\nContent-Length: 2600\r\n\r\n";
+    let reply = asked(&rt, alloc, own, "GET", "/job/4/0.mp4")?;
+    assert!(rt; reply.starts_with(head.as_bytes()));
+    assert!(rt; reply.ends_with(&media));
+    assert_eq!(rt; reply.len(), 2600usize.wrapping_add(head.len()));
+    Ok(())
+}
+
+/// Requests for catch-up, each with one for a file of the first job behind it, and their replies where the table has room
+/// for all but the last.
+fn while_the_table_fills(alloc: Global) -> Result<(Vec<u8>, Vec<u8>), Fail> {
+    let mut requests = Vec::new(alloc);
+    let mut replies = Vec::new(alloc);
+    let len = TWO_SEGMENTS.len();
+    for id in 2..66u32 {
+        requests.extend_from_slice(
+            b"POST /catchup?from=0&to=8000000 HTTP/1.1\r\nHost: a\r\n\r\nGET /job/1/0.m3u8 HTTP/1.1\r\nHost: a\r\n\r\n",
+        )?;
+        let reply = if id < 65 {
+            let field = format!(in alloc; "Location: /job/{id}\r\n")?;
+            let text = format!(in alloc; "job {id} version 5\n")?;
+            replied(alloc, "202 Accepted", field.as_str(), text.as_str())?
+        } else {
+            replied(alloc, "503 Service Unavailable", "", "refused TableFull\n")?
+        };
+        replies.extend_from_slice(reply.as_bytes())?;
+        let list = format!(in alloc;
+            "HTTP/1.1 200 OK\r\nContent-Type: application/vnd.apple.mpegurl\r\nContent-Length: {len}\r\n\r\n{TWO_SEGMENTS}"
+        )?;
+        replies.extend_from_slice(list.as_bytes())?;
+    }
+    Ok((requests, replies))
+}
+
+#[test]
+fn a_jobs_files_while_the_table_fills(rt: HostRuntime) -> Result<(), Fail> {
+    let alloc = rt.alloc();
+    let mut own = with_units(&rt, alloc, 4)?;
+    let own = &mut own;
+    assert!(rt; adds(&rt, alloc, own, "from=0&to=8000000", 1, 5)?);
+    run_all(alloc, own)?;
+    let (requests, want) = while_the_table_fills(alloc)?;
+    assert_eq!(rt;
+        answered(&rt, alloc, own, &requests)?.as_slice(),
+        want.as_slice()
+    );
     Ok(())
 }

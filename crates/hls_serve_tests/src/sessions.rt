@@ -1,80 +1,13 @@
-//! Sessions over memory, on a channel of one rendition: target 6 s, preferred length 4 s, an init section of 600 bytes, and
-//! units of 4 s with 1000 bytes each.
+//! Sessions over memory, on a channel of one rendition with units of 4 s and 1000 bytes each.
 
-mod fakes;
-mod jobs;
-mod smuggling;
-mod streams;
-
-use crate::alone::{Alone, Own};
-use crate::session::session_on;
-use crate::tests::fakes::Pieces;
-use crate::tests::streams::{init, put, put_in_chunks, stream, unit, with_base_offset};
-use bytes::Bytes;
-use hls_core::config::Config;
-use hls_core::snapshot::Snapshot;
-use hls_core_laws::rendition::Rendition;
-use hls_http::Session;
-use hls_jobs::JobTable;
+use crate::asking::{CLOSE, STATUS, answered, first_put, first_replies, replied, replies};
+use crate::channels::opened;
+use crate::fakes::Pieces;
+use crate::ranges::{PARTS, WHOLE};
+use crate::streams::{init, put, put_in_chunks, stream, unit, with_base_offset};
 use hls_samples::{boxed, unit_bytes};
 use std::alloc::Global;
-use std::sync::{Arc, Wait};
 use std::test::Fail;
-
-/// A channel of these renditions, before anything came.
-fn channel_of(alloc: Global, renditions: Vec<Rendition>) -> Result<Own, Fail> {
-    let config = Config::new(alloc, 6, 4_000_000, renditions)?;
-    Ok(Own {
-        snapshot: Arc::new(alloc, Snapshot::first(alloc, config)?)?,
-        number: 0,
-        jobs: JobTable::new(alloc)?,
-    })
-}
-
-/// A channel of one rendition, before anything came.
-fn opened(alloc: Global) -> Result<Own, Fail> {
-    let rendition = Rendition {
-        name: Bytes::copy_from_slice(alloc, b"v1")?,
-        video: true,
-        bandwidth: 3_000_000,
-        tolerance: 0,
-    };
-    let mut renditions = Vec::new(alloc);
-    renditions.push(rendition)?;
-    channel_of(alloc, renditions)
-}
-
-/// What goes out for the requests of a reader.
-fn replies<T: Wait>(
-    rt: &T,
-    alloc: Global,
-    own: &mut Own,
-    reader: Pieces<'_>,
-) -> Result<Vec<u8>, Fail> {
-    let mut out = Vec::new(alloc);
-    let mut session = Session::new(alloc, reader, &mut out)?;
-    let _ = session_on(rt, alloc, &mut session, &Alone, own);
-    drop(session);
-    Ok(out)
-}
-
-/// What goes out for a text of requests.
-fn answered<T: Wait>(rt: &T, alloc: Global, own: &mut Own, text: &[u8]) -> Result<Vec<u8>, Fail> {
-    replies(rt, alloc, own, Pieces::new(text, usize::MAX, usize::MAX))
-}
-
-/// What goes out for a text of requests to a channel before anything came.
-fn first_replies<T: Wait>(rt: &T, alloc: Global, text: &[u8]) -> Result<Vec<u8>, Fail> {
-    answered(rt, alloc, &mut opened(alloc)?, text)
-}
-
-/// What goes out for one encoder's body to a channel before anything came.
-fn first_put<T: Wait>(rt: &T, alloc: Global, body: &[u8]) -> Result<Vec<u8>, Fail> {
-    first_replies(rt, alloc, &put(alloc, "", body)?)
-}
-
-const STATUS: &[u8] =
-    b"HTTP/1.1 200 OK\r\nContent-Type: text/plain\r\nContent-Length: 47\r\n\r\nversion 0\nplaces 0\nsegments 0\nremoved 0\njobs 0\n";
 
 /// Requests to a channel before anything came, and their replies. Those that close the connection come alone.
 const REFUSED: [(&[u8], &[u8]); 14] = [
@@ -177,16 +110,6 @@ fn a_unit_taken(rt: HostRuntime) -> Result<(), Fail> {
     Ok(())
 }
 
-/// A reply of a short text, with one field more or none.
-fn replied(alloc: Global, status: &str, field: &str, text: &str) -> Result<String, Fail> {
-    let len = text.len();
-    Ok(format!(in alloc;
-        "HTTP/1.1 {status}\r\nContent-Type: text/plain\r\nContent-Length: {len}\r\n{field}\r\n{text}"
-    )?)
-}
-
-const CLOSE: &str = "Connection: close\r\n";
-
 /// Parts after an init section, or the bytes of an init section alone.
 fn behind_init(alloc: Global, bytes: &[u8]) -> Result<Vec<u8>, Fail> {
     let mut body = init(alloc)?;
@@ -273,29 +196,6 @@ fn parts_that_come_again(rt: HostRuntime) -> Result<(), Fail> {
     Ok(())
 }
 
-/// How the reply to a GET of a part begins, and how many bytes follow.
-const PARTS: [(&str, &[u8], usize); 6] = [
-    (
-        "Range: bytes=600-1599\r\n",
-        b"HTTP/1.1 206 Partial Content\r\nContent-Type: video/mp4\r\nContent-Length: 1000\r\nContent-Range: bytes 600-1599/3600\r\n\r\n",
-        1000,
-    ),
-    ("Range: bytes=-100\r\n", LAST, 100),
-    ("range: bytes=3500-9999\r\n", LAST, 100),
-    (
-        "Range: bytes=3600-\r\n",
-        b"HTTP/1.1 416 Range Not Satisfiable\r\nContent-Type: text/plain\r\nContent-Length: 21\r\nContent-Range: bytes */3600\r\n\r\nrefused RangeOutside\n",
-        0,
-    ),
-    ("Range: bytes=0-1,5-6\r\n", WHOLE, 3600),
-    ("Range: bytes=0-1\r\nRange: bytes=5-6\r\n", WHOLE, 3600),
-];
-
-const LAST: &[u8] =
-    b"HTTP/1.1 206 Partial Content\r\nContent-Type: video/mp4\r\nContent-Length: 100\r\nContent-Range: bytes 3500-3599/3600\r\n\r\n";
-
-const WHOLE: &[u8] = b"HTTP/1.1 200 OK\r\nContent-Type: video/mp4\r\nContent-Length: 3600\r\n\r\n";
-
 #[test]
 fn parts_of_three_units(rt: HostRuntime) -> Result<(), Fail> {
     let alloc = rt.alloc();
@@ -376,5 +276,26 @@ fn a_head_that_is_too_large(rt: HostRuntime) -> Result<(), Fail> {
         first_replies(&rt, alloc, &text)?.as_slice(),
         want.as_bytes()
     );
+    Ok(())
+}
+
+#[test]
+fn chunks_in_any_pieces(rt: HostRuntime) -> Result<(), Fail> {
+    let alloc = rt.alloc();
+    let mut text = put_in_chunks(alloc, &init(alloc)?)?;
+    text.extend_from_slice(
+        b"PUT /ingest/0 HTTP/1.1\r\nHost: a\r\nTransfer-Encoding: chunked\r\n\r\n0;x=\"y\"\r\nT: x\r\nU: y\r\n\r\nGET /x HTTP/1.1\r\nHost: a\r\n\r\n",
+    )?;
+    let want = first_replies(&rt, alloc, &text)?;
+    let taken = replied(alloc, "200 OK", "", "init 1 accepted 0 repeated 0\n")?;
+    assert!(rt; want.starts_with(taken.as_bytes()));
+    assert!(rt; want.ends_with(b"\r\n\r\nrefused NotFound\n"));
+    for first in 1..text.len() {
+        let reader = Pieces::new(&text, first, usize::MAX);
+        assert_eq!(rt;
+            replies(&rt, alloc, &mut opened(alloc)?, reader)?.as_slice(),
+            want.as_slice()
+        );
+    }
     Ok(())
 }

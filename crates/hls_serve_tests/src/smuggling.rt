@@ -1,7 +1,7 @@
 //! Requests that two readers could take in two ways, each with a second request behind it: what is replied, and whether the
 //! second one is answered. The table in docs/HTTP.md has the sections of the standard.
 
-use crate::tests::{STATUS, first_replies};
+use crate::asking::{STATUS, first_replies};
 use std::test::Fail;
 
 const BAD_HEAD: &[u8] =

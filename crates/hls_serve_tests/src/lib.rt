@@ -1,0 +1,24 @@
+//! Tests of sessions: whole texts of requests over memory, and the bytes that are answered. They stand apart from
+//! `hls_serve`, so that its proof isn't made once more for them.
+#![tactic(auto)]
+
+#[cfg(test)]
+mod asking;
+#[cfg(test)]
+mod channels;
+#[cfg(test)]
+mod fakes;
+#[cfg(test)]
+mod jobs;
+#[cfg(test)]
+mod ranges;
+#[cfg(test)]
+mod refusals;
+#[cfg(test)]
+mod sessions;
+#[cfg(test)]
+mod smuggling;
+#[cfg(test)]
+mod streams;
+#[cfg(test)]
+mod trimmed;
