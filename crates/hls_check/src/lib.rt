@@ -4,8 +4,8 @@
 
 pub use checker::{check, check_rows};
 pub use hls_check_laws::{
-    CertFault, Certificate, Claim, PrintedTable, Spot, Spots, Verdict, good_cut_is_least,
-    good_none_has_no_plan,
+    CertFault, Certificate, Claim, CostRule, Goal, PrintedTable, Spot, Spots, Verdict,
+    good_cut_is_least, good_none_has_no_plan,
 };
 pub use laws::answer_is_one;
 

@@ -1,5 +1,8 @@
 //! Both row searches on long tables and on a family of small ones.
-use crate::{CertFault, Certificate, Claim, PrintedTable, Spot, Spots, Verdict, check, check_rows};
+use crate::{
+    CertFault, Certificate, Claim, CostRule, Goal, PrintedTable, Spot, Spots, Verdict, check,
+    check_rows,
+};
 use std::alloc::Global;
 use std::test::Fail;
 
@@ -19,7 +22,12 @@ fn table_at(alloc: Global, seconds: &[u64]) -> Result<PrintedTable, Fail> {
         };
         places.push(Spots::new(vec![in alloc; spot]?))?;
     }
-    Ok(PrintedTable::try_new(6, 4 * SECOND, 1, places).ok_or("out of range")?)
+    let goal = Goal {
+        target: 6,
+        preferred: 4 * SECOND,
+        rule: CostRule::Deviation,
+    };
+    Ok(PrintedTable::try_new(goal, 1, places).ok_or("out of range")?)
 }
 
 /// The least cost of reaching second `k` where there is a place each second: segments of four seconds cost

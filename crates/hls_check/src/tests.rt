@@ -1,4 +1,6 @@
-use crate::{CertFault, Certificate, Claim, PrintedTable, Spot, Spots, Verdict, check};
+use crate::{
+    CertFault, Certificate, Claim, CostRule, Goal, PrintedTable, Spot, Spots, Verdict, check,
+};
 use std::alloc::Global;
 use std::test::Fail;
 
@@ -15,13 +17,23 @@ const fn spot(fragment: u64, time: u64) -> Spot {
     }
 }
 
-/// A table of one rendition, target 6 s, preferred 4 s.
-fn table_of(alloc: Global, spots: &[Spot]) -> Result<PrintedTable, Fail> {
+/// A table of one rendition by a rule, target 6 s, preferred 4 s.
+fn table_by(alloc: Global, rule: CostRule, spots: &[Spot]) -> Result<PrintedTable, Fail> {
     let mut places = Vec::new(alloc);
     for &spot in spots {
         places.push(Spots::new(vec![in alloc; spot]?))?;
     }
-    Ok(PrintedTable::try_new(6, 4 * SECOND, 1, places).ok_or("out of range")?)
+    let goal = Goal {
+        target: 6,
+        preferred: 4 * SECOND,
+        rule,
+    };
+    Ok(PrintedTable::try_new(goal, 1, places).ok_or("out of range")?)
+}
+
+/// A table by rule 1.
+fn table_of(alloc: Global, spots: &[Spot]) -> Result<PrintedTable, Fail> {
+    table_by(alloc, CostRule::Deviation, spots)
 }
 
 /// The places of `five_units.cert`.
@@ -137,6 +149,58 @@ fn answers_cuts_of_five_units(rt: HostRuntime) -> Result<(), Fail> {
         let answer = check_cut(rt.alloc(), table, cost, plan, prices)?;
         assert_eq!(rt; answer, wanted);
     }
+    Ok(())
+}
+
+/// The prices of `five_units` where each segment is charged three seconds.
+const CHARGED_PRICES: [Option<u64>; 5] = [
+    Some(0),
+    Some(4 * SECOND),
+    Some(5 * SECOND),
+    Some(7 * SECOND),
+    Some(9 * SECOND),
+];
+
+#[test]
+fn charges_each_segment(rt: HostRuntime) -> Result<(), Fail> {
+    let mut raised = CHARGED_PRICES;
+    raised[2] = Some(5 * SECOND + 1);
+    let mut charged_once = CHARGED_PRICES;
+    charged_once[4] = Some(6 * SECOND);
+    let cases: [(u64, &[usize], &[Option<u64>], Result<Verdict, CertFault>); 4] = [
+        (
+            9 * SECOND,
+            &[0, 2, 4],
+            &CHARGED_PRICES,
+            Ok(Verdict::Cut { cost: 9 * SECOND }),
+        ),
+        (
+            9 * SECOND,
+            &[0, 2, 4],
+            &raised,
+            Err(CertFault::PriceStep { p: 0, q: 2 }),
+        ),
+        (
+            10 * SECOND,
+            &[0, 1, 3, 4],
+            &CHARGED_PRICES,
+            Err(CertFault::PlanCost),
+        ),
+        (
+            6 * SECOND,
+            &[0, 2, 4],
+            &charged_once,
+            Err(CertFault::PlanCost),
+        ),
+    ];
+    for (cost, plan, prices, wanted) in cases {
+        let table = table_by(rt.alloc(), CostRule::Charged(3 * SECOND), &five_units())?;
+        let answer = check_cut(rt.alloc(), table, cost, plan, prices)?;
+        assert_eq!(rt; answer, wanted);
+    }
+    let table = table_of(rt.alloc(), &five_units())?;
+    let answer = check_cut(rt.alloc(), table, 9 * SECOND, &[0, 2, 4], &CHARGED_PRICES)?;
+    assert_eq!(rt; answer, Err(CertFault::PlanCost));
     Ok(())
 }
 

@@ -24,7 +24,7 @@ spot-never_falls t orderly r in_r q (suc k) h =
 
 -- a place too far in rendition 0 ends a row
 none_past_length : (t : Table) → IsTable t → IsOrderly t → (p q : ℕ) →
-    ¬ Fits (length_between (place_at t.places p) (place_at t.places q)) t.target →
+    ¬ Fits (length_between (place_at t.places p) (place_at t.places q)) t.goal.target →
     (j : ℕ) → q ≤ j → Allowed t p j → ⊥
 none_past_length t ok orderly p q far j after allowed =
     let same : q + (j - q) ≡ j = omega arith in

@@ -58,5 +58,5 @@ pub record IsPastGap (from to : List Spot) : Type 0 where
 -- in rendition 0, or past a gap
 abbrev pub IsRowEnd : Table → ℕ → ℕ → Type 0
 IsRowEnd t p q =
-    (¬ Fits (length_between (place_at t.places p) (place_at t.places q)) t.target) ⊎
+    (¬ Fits (length_between (place_at t.places p) (place_at t.places q)) t.goal.target) ⊎
     IsPastGap (place_at t.places p) (place_at t.places q)

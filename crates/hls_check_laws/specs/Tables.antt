@@ -1,12 +1,14 @@
 -- Tables of places, as certificates print them and programmes are cut from them.
 use Rattle.std.specs.Prelude.{◌≡◌, ℕ, ◌^◌, ◌<◌, ◌≤◌, List, [], length, slice_index_or, All}
+use Rattle.hls_check_laws.specs.declared.cost_rule.CostRule.{CostRule}
+use Rattle.hls_check_laws.specs.declared.cost_rule.CostRule.TheVariants.{Deviation, Charged}
+use Rattle.hls_check_laws.specs.declared.goal.Goal.{Goal}
 use Rattle.hls_check_laws.specs.declared.spot.Spot.{Spot}
 
 -- What a table says, as a certificate prints it. A place is a list of spots, one a rendition, in
 -- the order of the renditions; times and lengths are microseconds, the target is in seconds.
 pub record Table : Type 0 where
-  pub target : ℕ
-  pub preferred : ℕ
+  pub goal : Goal
   pub renditions : ℕ
   pub places : List (List Spot)
 
@@ -35,12 +37,29 @@ pub record IsPlaceOf (renditions : ℕ) (place : List Spot) : Type 0 where
   pub count : length place ≡ renditions
   pub spots : All IsSpotInRange place
 
--- the greatest target, in seconds, and the greatest preferred length, in microseconds
+-- what a rule charges for each segment, in microseconds
+abbrev pub charge_of : CostRule → ℕ
+charge_of Deviation = 0
+charge_of (Charged charge) = charge
+
+-- the greatest target, in seconds, and the greatest preferred length and charge, in microseconds
 abbrev pub target_limit : ℕ
 target_limit = 3600
 
 abbrev pub preferred_limit : ℕ
 preferred_limit = 3600000000
+
+abbrev pub charge_limit : ℕ
+charge_limit = 3600000000
+
+-- the ranges of a goal: how long a segment may be and should be, and the rule by which it costs
+pub record IsGoal (goal : Goal) : Type 0 where
+  pub target : (1 ≤ goal.target) × (goal.target ≤ target_limit)
+  pub preferred : (1 ≤ goal.preferred) × (goal.preferred ≤ preferred_limit)
+  pub charge : charge_of goal.rule ≤ charge_limit
+
+abbrev pub goal_of : ℕ → ℕ → CostRule → Goal
+goal_of target preferred rule = record { target = target; preferred = preferred; rule = rule }
 
 -- the most renditions, and the most places
 abbrev pub rendition_limit : ℕ
@@ -51,13 +70,11 @@ place_limit = 16384
 
 -- the ranges of a printed table
 pub record IsTable (t : Table) : Type 0 where
-  pub target : (1 ≤ t.target) × (t.target ≤ target_limit)
-  pub preferred : (1 ≤ t.preferred) × (t.preferred ≤ preferred_limit)
+  pub goal : IsGoal t.goal
   pub renditions : (1 ≤ t.renditions) × (t.renditions ≤ rendition_limit)
   pub count : (2 ≤ length t.places) × (length t.places ≤ place_limit)
   pub places : All (IsPlaceOf t.renditions) t.places
 
--- the table of these numbers and places
-abbrev pub table_of : ℕ → ℕ → ℕ → List (List Spot) → Table
-table_of target preferred renditions places =
-    record { target = target; preferred = preferred; renditions = renditions; places = places }
+-- the table of a goal and places
+abbrev pub table_of : Goal → ℕ → List (List Spot) → Table
+table_of goal renditions places = record { goal = goal; renditions = renditions; places = places }

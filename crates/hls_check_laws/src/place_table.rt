@@ -6,6 +6,8 @@ ghost use Rattle.hls_check_laws.specs.Tables.{IsTable, spot_in, place_at};
 ghost use Rattle.hls_check_laws.specs.Orders.{IsOrderly, IsPastGap, IsRowEnd};
 ghost use Rattle.hls_check_laws.specs.Steps.{Allowed, cost, cost_limit};
 
+use crate::cost_rule::CostRule;
+use crate::goal::Goal;
 use crate::orders::{first_unsorted, is_rising_throughout};
 use crate::printed_table::PrintedTable;
 use crate::spot::Spot;
@@ -100,10 +102,18 @@ impl PlaceTable {
         self.table().copied(alloc)
     }
 
+    /// What its segments are to be like.
+    #[inline(always)]
+    pub fn goal(&self) -> Goal
+        ensures { result ≡ self.now.goal }
+    {
+        self.table().goal()
+    }
+
     /// The greatest length of a segment, in seconds.
     #[inline(always)]
     pub fn target(&self) -> u64
-        ensures { result ≡ self.now.target }
+        ensures { result ≡ self.now.goal.target }
     {
         self.table().target()
     }
@@ -111,9 +121,17 @@ impl PlaceTable {
     /// The preferred length of a segment, in microseconds.
     #[inline(always)]
     pub fn preferred(&self) -> u64
-        ensures { result ≡ self.now.preferred }
+        ensures { result ≡ self.now.goal.preferred }
     {
         self.table().preferred()
+    }
+
+    /// What a segment costs.
+    #[inline(always)]
+    pub fn rule(&self) -> CostRule
+        ensures { result ≡ self.now.goal.rule }
+    {
+        self.table().rule()
     }
 
     #[inline(always)]

@@ -4,6 +4,8 @@ ghost use Rattle.std.specs.Prelude.{◌≡◌, ◌<◌, ◌≤◌, ◌↔◌, le
 ghost use Rattle.hls_check_laws.specs.Tables.{IsSpotInRange, IsPlaceOf, IsTable, place_at, table_of};
 ghost use Rattle.hls_check_laws.specs.Steps.{Allowed, cost, cost_limit};
 
+use crate::cost_rule::CostRule;
+use crate::goal::{Goal, is_goal};
 use crate::spot::Spot;
 use crate::spots::Spots;
 use crate::steps::{pair_allowed, pair_cost};
@@ -11,11 +13,10 @@ use std::alloc::{AllocError, Global};
 use std::marker::Model;
 
 /// A certificate's table: 2 to 16384 places of 1 to 16 renditions, each number below 2^53, in any
-/// order. The target is 1 to 3600 seconds, the preferred length 1 to 3600000000 microseconds.
+/// order, and a goal in its ranges.
 #[derive(Debug, Drop)]
 pub struct PrintedTable {
-    target: u64,
-    preferred: u64,
+    goal: Goal,
     renditions: usize,
     places: Vec<Spots>,
 }
@@ -25,16 +26,10 @@ impl Model for PrintedTable {
 
     ghost Value = { Table };
 
-    ghost view = { λ t. table_of t.target t.preferred t.renditions t.places.items };
+    ghost view = { λ t. table_of t.goal t.renditions t.places.items };
 
-    ghost invariant = { λ t. IsTable (table_of t.target t.preferred t.renditions t.places.items) };
+    ghost invariant = { λ t. IsTable (table_of t.goal t.renditions t.places.items) };
 }
-
-/// The greatest target, in seconds.
-pub const TARGET_LIMIT: u64 = 3600;
-
-/// The greatest preferred length, in microseconds.
-pub const PREFERRED_LIMIT: u64 = 3_600_000_000;
 
 /// The most renditions of a table, and of a channel.
 pub const RENDITION_LIMIT: usize = 16;
@@ -66,13 +61,10 @@ fn are_places_of(renditions: usize, places: &[Spots]) -> bool
     places.iter().all(|place| is_place_of(renditions, place))
 }
 
-fn is_table(target: u64, preferred: u64, renditions: usize, places: &[Spots]) -> bool
-    ensures { IsTrue result ↔ IsTable (table_of target preferred renditions places.now) }
+fn is_table(goal: Goal, renditions: usize, places: &[Spots]) -> bool
+    ensures { IsTrue result ↔ IsTable (table_of goal renditions places.now) }
 {
-    1 <= target
-        && target <= TARGET_LIMIT
-        && 1 <= preferred
-        && preferred <= PREFERRED_LIMIT
+    is_goal(goal)
         && 1 <= renditions
         && renditions <= RENDITION_LIMIT
         && 2 <= places.len()
@@ -81,47 +73,57 @@ fn is_table(target: u64, preferred: u64, renditions: usize, places: &[Spots]) ->
 }
 
 impl PrintedTable {
-    pub fn new(target: u64, preferred: u64, renditions: usize, places: Vec<Spots>) -> PrintedTable
-        requires { IsTable (table_of target preferred renditions places.items) }
-        ensures { result ≡ table_of target preferred renditions places.items }
+    pub fn new(goal: Goal, renditions: usize, places: Vec<Spots>) -> PrintedTable
+        requires { IsTable (table_of goal renditions places.items) }
+        ensures { result ≡ table_of goal renditions places.items }
     {
         PrintedTable {
-            target,
-            preferred,
+            goal,
             renditions,
             places,
         }
     }
 
     /// The table, or `None` where one of its ranges isn't kept.
-    pub fn try_new(
-        target: u64,
-        preferred: u64,
-        renditions: usize,
-        places: Vec<Spots>,
-    ) -> Option<PrintedTable>
-        ensures { let t = table_of target preferred renditions places.items in MatchOption result (¬ IsTable t) (λ table. IsTable t × (table ≡ t)) }
+    pub fn try_new(goal: Goal, renditions: usize, places: Vec<Spots>) -> Option<PrintedTable>
+        ensures { let t = table_of goal renditions places.items in MatchOption result (¬ IsTable t) (λ table. IsTable t × (table ≡ t)) }
     {
-        if !is_table(target, preferred, renditions, places.as_slice()) {
+        if !is_table(goal, renditions, places.as_slice()) {
             return None;
         }
-        Some(PrintedTable::new(target, preferred, renditions, places))
+        Some(PrintedTable::new(goal, renditions, places))
+    }
+
+    /// What its segments are to be like.
+    #[inline(always)]
+    pub fn goal(&self) -> Goal
+        ensures { result ≡ self.now.goal }
+    {
+        self.goal
     }
 
     /// The greatest length of a segment, in seconds.
     #[inline(always)]
     pub fn target(&self) -> u64
-        ensures { result ≡ self.now.target }
+        ensures { result ≡ self.now.goal.target }
     {
-        self.target
+        self.goal.target
     }
 
     /// The preferred length of a segment, in microseconds.
     #[inline(always)]
     pub fn preferred(&self) -> u64
-        ensures { result ≡ self.now.preferred }
+        ensures { result ≡ self.now.goal.preferred }
     {
-        self.preferred
+        self.goal.preferred
+    }
+
+    /// What a segment costs.
+    #[inline(always)]
+    pub fn rule(&self) -> CostRule
+        ensures { result ≡ self.now.goal.rule }
+    {
+        self.goal.rule
     }
 
     #[inline(always)]
@@ -173,7 +175,7 @@ impl PrintedTable {
         ensures { result ≡ cost self.now p q }
     {
         let _ = self.len();
-        pair_cost(self.preferred(), self.place(p), self.place(q))
+        pair_cost(self.goal(), self.place(p), self.place(q))
     }
 
     /// What an allowed step costs, in microseconds.
@@ -195,6 +197,6 @@ impl PrintedTable {
         for place in self.places() {
             places.push(place.copied(alloc)?)?;
         }
-        Ok(PrintedTable::new(self.target(), self.preferred(), self.renditions(), places))
+        Ok(PrintedTable::new(self.goal(), self.renditions(), places))
     }
 }

@@ -1,8 +1,10 @@
 //! Steps from a place to another, and what they cost.
 
-ghost use Rattle.std.specs.Prelude.{◌≡◌, ◌+◌, ◌-◌, ◌*◌, ◌^◌, ◌<◌, ◌↔◌, length, IsTrue};
+ghost use Rattle.std.specs.Prelude.{◌≡◌, ◌+◌, ◌-◌, ◌*◌, ◌^◌, ◌<◌, ◌≤◌, ◌↔◌, length, IsTrue};
+ghost use Rattle.hls_check_laws.specs.Tables.{IsGoal, spot_in};
 ghost use Rattle.hls_check_laws.specs.Steps.{IsSpotStep, IsPlaceStep, step_cost};
 
+use crate::goal::Goal;
 use crate::spot::Spot;
 use crate::spots::Spots;
 use hls_time::fits;
@@ -37,15 +39,16 @@ pub fn pair_allowed(target: u64, from: &Spots, to: &Spots) -> bool
     true
 }
 
-/// How far the segment's length in rendition 0 is from the preferred one, in microseconds.
+/// How far the segment's length in rendition 0 is from the preferred one, and what the rule charges for it, in
+/// microseconds.
 #[inline(always)]
-pub fn pair_cost(preferred: u64, from: &Spots, to: &Spots) -> u64
+pub fn pair_cost(goal: Goal, from: &Spots, to: &Spots) -> u64
+    requires goal { IsGoal goal }
     requires from_one { 0 < length from.now }
     requires to_one { 0 < length to.now }
-    ensures { result ≡ step_cost preferred from.now to.now }
+    requires small { (spot_in to.now 0).prev_end < 2 ^ 53 }
+    ensures { result ≡ step_cost goal from.now to.now }
 {
-    to.get(0)
-        .prev_end
-        .saturating_sub(from.get(0).start)
-        .abs_diff(preferred)
+    let length = to.get(0).prev_end.saturating_sub(from.get(0).start);
+    length.abs_diff(goal.preferred) + goal.rule.charge()
 }

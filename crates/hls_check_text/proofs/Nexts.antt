@@ -1,9 +1,11 @@
 -- In each certificate whose text begins with the lines that a reader has passed, a line follows that may come next.
-use Rattle.std.proofs.Common.{◌≡◌, refl, ap, subst, ℕ, ◌+◌, ◌<◌, ◌≤◌, List, [], ◌∷◌, ◌++◌, length, map, All, arith, inl, inr, get_or, drop, codes, ◌⊎◌}
+use Rattle.std.proofs.Common.{◌≡◌, refl, sym, ◌∙◌, ap, subst, ℕ, ◌+◌, ◌<◌, ◌≤◌, List, [], ◌∷◌, ◌++◌, length, map, All, append_assoc, arith, inl, inr, get_or, drop, codes, ◌⊎◌}
 use Rattle.std.proofs.lemmas.List.Elements.{All-head, All-tail}
+use Rattle.hls_check_laws.specs.declared.cost_rule.CostRule.{CostRule}
+use Rattle.hls_check_laws.specs.declared.cost_rule.CostRule.TheVariants.{Deviation, Charged}
 use Rattle.hls_check_laws.specs.declared.spot.Spot.{Spot}
-use Rattle.hls_check_laws.specs.Tables.{Table, IsTable, IsPlaceOf}
-use Rattle.hls_check_text.specs.Text.{header_line, target_line, preferred_line, renditions_line, places_line, end_line, price_line, closed_line, place_line, table_lines, Priced}
+use Rattle.hls_check_laws.specs.Tables.{Table, IsTable, IsPlaceOf, charge_of}
+use Rattle.hls_check_text.specs.Text.{header_line, ruled_header_line, rule_lines, target_line, preferred_line, renditions_line, places_line, end_line, price_line, closed_line, place_line, head_lines, table_lines, Priced}
 use Rattle.hls_check_text.specs.Stages.{IsPlaceLine, IsPriceLine, IsClosedLine, past_priced, past_members}
 use Rattle.hls_check_text.proofs.Spellings.{number_same, other_first, RisesFrom, ClimbsFrom, priced_line_same}
 
@@ -30,15 +32,47 @@ places_passed [] (q ∷ qs) tail xs h e = absurd (omega arith)
 places_passed (p ∷ ps) [] tail xs h e = absurd (omega arith)
 places_passed (p ∷ ps) (q ∷ qs) tail xs h e = places_passed ps qs tail xs (omega arith) (ap (drop 1) e)
 
+-- a version is told by its line, and a rule by its lines
+pub other_version : header_line ≡ ruled_header_line → ⊥
+other_version e =
+    let last : get_or header_line 20 0 ≡ get_or ruled_header_line 20 0 = ap (λ (line : List ℕ). get_or line 20 0) e in
+    omega (arith, last)
+
+pub rules_same : (r s : CostRule) (xs ys : List (List ℕ)) → charge_of r ≤ 3600000000 → charge_of s ≤ 3600000000 →
+    rule_lines r ++ xs ≡ rule_lines s ++ ys → (r ≡ s) × (xs ≡ ys)
+rules_same Deviation Deviation xs ys r_small s_small e = (refl, ap (drop 1) e)
+rules_same Deviation (Charged b) xs ys r_small s_small e =
+    absurd (other_version (ap (λ (ls : List (List ℕ)). get_or ls 0 []) e))
+rules_same (Charged a) Deviation xs ys r_small s_small e =
+    absurd (other_version (sym (ap (λ (ls : List (List ℕ)). get_or ls 0 []) e)))
+rules_same (Charged a) (Charged b) xs ys r_small s_small e = (
+  ap Charged (number_same (codes "rule 2 ") a b (omega arith) (omega arith) (ap (λ (ls : List (List ℕ)). get_or ls 1 []) e)),
+  ap (drop 2) e,
+)
+
+-- the lines of a table behind its rule, with what stands behind the table
+abbrev pub behind_rule : Table → List (List ℕ) → List (List ℕ)
+behind_rule t tail =
+    target_line t.goal.target ∷ preferred_line t.goal.preferred ∷ renditions_line t.renditions ∷ places_line (length t.places)
+    ∷ (map place_line t.places ++ tail)
+
+pub rule_first : (t : Table) (tail : List (List ℕ)) → table_lines t ++ tail ≡ rule_lines t.goal.rule ++ behind_rule t tail
+unfolding table_lines
+rule_first t tail =
+    append_assoc (head_lines t.goal t.renditions (length t.places)) (map place_line t.places) tail
+    ∙ append_assoc (rule_lines t.goal.rule)
+    (target_line t.goal.target ∷ preferred_line t.goal.preferred ∷ renditions_line t.renditions ∷ places_line (length t.places) ∷ [])
+    (map place_line t.places ++ tail)
+
 -- the count and the number of renditions are told by their lines
 pub counts_same : (r n r' n' : ℕ) → r ≤ 16 → n ≤ 16384 → r' ≤ 16 → n' ≤ 16384 →
     (a b a' b' : List ℕ) (xs ys : List (List ℕ)) →
-    header_line ∷ a ∷ b ∷ renditions_line r ∷ places_line n ∷ xs ≡ header_line ∷ a' ∷ b' ∷ renditions_line r' ∷ places_line n' ∷ ys →
+    a ∷ b ∷ renditions_line r ∷ places_line n ∷ xs ≡ a' ∷ b' ∷ renditions_line r' ∷ places_line n' ∷ ys →
     (r ≡ r') × (n ≡ n') × (xs ≡ ys)
 counts_same r n r' n' r_small n_small r'_small n'_small a b a' b' xs ys e =
-    let renditions : renditions_line r ≡ renditions_line r' = ap (λ (ls : List (List ℕ)). get_or ls 3 []) e in
-    let places : places_line n ≡ places_line n' = ap (λ (ls : List (List ℕ)). get_or ls 4 []) e in
-    let rest : xs ≡ ys = ap (drop 5) e in (
+    let renditions : renditions_line r ≡ renditions_line r' = ap (λ (ls : List (List ℕ)). get_or ls 2 []) e in
+    let places : places_line n ≡ places_line n' = ap (λ (ls : List (List ℕ)). get_or ls 3 []) e in
+    let rest : xs ≡ ys = ap (drop 4) e in (
       number_same (codes "renditions ") r r' (omega arith) (omega arith) renditions,
       number_same (codes "places ") n n' (omega arith) (omega arith) places,
       rest,
@@ -47,13 +81,15 @@ counts_same r n r' n' r_small n_small r'_small n'_small a b a' b' xs ys e =
 -- what stands behind a table, told by a table that begins alike
 pub table_passed : (t u : Table) (tail xs : List (List ℕ)) → IsTable t → IsTable u →
     table_lines t ++ tail ≡ table_lines u ++ xs → (length t.places ≡ length u.places) × (tail ≡ xs)
-unfolding table_lines
 table_passed t u tail xs t_good u_good e =
+    let behind : (t.goal.rule ≡ u.goal.rule) × (behind_rule t tail ≡ behind_rule u xs) =
+    rules_same t.goal.rule u.goal.rule (behind_rule t tail) (behind_rule u xs) t_good.goal.charge u_good.goal.charge
+    (sym (rule_first t tail) ∙ e ∙ rule_first u xs) in
     let told : (t.renditions ≡ u.renditions) × (length t.places ≡ length u.places) × (map place_line t.places ++ tail ≡ map place_line u.places ++ xs) =
     counts_same t.renditions (length t.places) u.renditions (length u.places)
     t_good.renditions.1 t_good.count.1 u_good.renditions.1 u_good.count.1
-    (target_line t.target) (preferred_line t.preferred) (target_line u.target) (preferred_line u.preferred)
-    (map place_line t.places ++ tail) (map place_line u.places ++ xs) e in
+    (target_line t.goal.target) (preferred_line t.goal.preferred) (target_line u.goal.target) (preferred_line u.goal.preferred)
+    (map place_line t.places ++ tail) (map place_line u.places ++ xs) behind.1 in
     (told.1, places_passed t.places u.places tail xs told.1 told.2)
 
 -- one more price, or the end

@@ -2,15 +2,17 @@
 use Rattle.std.proofs.Common.{◌≡◌, refl, sym, ◌∙◌, ap, ap₂, subst, ℕ, ◌+◌, ◌<◌, ◌≤◌, Bool, true, false, List, [], ◌∷◌, ◌++◌, length, map, All, arith, append_assoc, get_or, drop, codes, Option, Some, None}
 use Rattle.std.proofs.lemmas.List.Elements.{All-head, All-tail, All-cons, All-nil}
 use Rattle.std.proofs.lemmas.List.{append_cancel_left}
+use Rattle.hls_check_laws.specs.declared.cost_rule.CostRule.{CostRule}
+use Rattle.hls_check_laws.specs.declared.goal.Goal.{Goal}
 use Rattle.hls_check_laws.specs.declared.spot.Spot.{Spot}
-use Rattle.hls_check_laws.specs.Tables.{Table, IsTable, IsPlaceOf}
+use Rattle.hls_check_laws.specs.Tables.{Table, IsTable, IsPlaceOf, goal_of, table_of}
 use Rattle.hls_check_laws.specs.Certificates.{Printed, Shown, CutShown, NoneShown, IsForm, IsCertificate}
 use Rattle.hls_text.specs.Numbers.{words, ArePrintable}
 use Rattle.hls_text.proofs.Words.{IsSmall}
 use Rattle.hls_check_text.specs.Text.{target_line, preferred_line, cut_line, none_line, end_line, price_line, closed_line, place_line, place_numbers, table_lines, shown_lines, lines, Priced, priced, priced_from, members_from}
 use Rattle.hls_check_text.specs.Stages.{printed}
 use Rattle.hls_check_text.proofs.Spellings.{words_same, number_same, other_first, numbers_printable, place_same, RisesFrom, ClimbsFrom, priced_rises, members_climb, priced_line_same}
-use Rattle.hls_check_text.proofs.Nexts.{counts_same, places_passed}
+use Rattle.hls_check_text.proofs.Nexts.{behind_rule, rules_same, rule_first, counts_same, places_passed}
 
 pub words_all : (ms ns : List ℕ) → ArePrintable ms → ArePrintable ns → 0 < length ms → 0 < length ns →
     words ms ≡ words ns → ms ≡ ns
@@ -45,31 +47,35 @@ places_same renditions (p ∷ ps) (q ∷ qs) tail xs some len p_good q_good e =
     (places_same renditions ps qs tail xs some (omega arith) (All-tail (IsPlaceOf renditions) p ps p_good)
     (All-tail (IsPlaceOf renditions) q qs q_good) (ap (drop 1) e))
 
-abbrev table_with : ℕ → ℕ → ℕ → List (List Spot) → Table
-table_with t p r places = record { target = t; preferred = p; renditions = r; places = places }
+goal_made : (t p : ℕ) (r : CostRule) (t' p' : ℕ) (r' : CostRule) → t ≡ t' → p ≡ p' → r ≡ r' → goal_of t p r ≡ goal_of t' p' r'
+goal_made t p r t' p' r' a b c = rw (a, b, c) refl
 
-table_made : (t p r : ℕ) (ps : List (List Spot)) (t' p' r' : ℕ) (ps' : List (List Spot)) →
-    t ≡ t' → p ≡ p' → r ≡ r' → ps ≡ ps' → table_with t p r ps ≡ table_with t' p' r' ps'
-table_made t p r ps t' p' r' ps' a b c d = rw (a, b, c, d) refl
+table_made : (g : Goal) (r : ℕ) (ps : List (List Spot)) (g' : Goal) (r' : ℕ) (ps' : List (List Spot)) →
+    g ≡ g' → r ≡ r' → ps ≡ ps' → table_of g r ps ≡ table_of g' r' ps'
+table_made g r ps g' r' ps' a b c = rw (a, b, c) refl
 
 table_same : (t u : Table) (tail xs : List (List ℕ)) → IsTable t → IsTable u →
     table_lines t ++ tail ≡ table_lines u ++ xs → (t ≡ u) × (tail ≡ xs)
-unfolding table_lines
 table_same t u tail xs t_good u_good e =
+    let behind : (t.goal.rule ≡ u.goal.rule) × (behind_rule t tail ≡ behind_rule u xs) =
+    rules_same t.goal.rule u.goal.rule (behind_rule t tail) (behind_rule u xs) t_good.goal.charge u_good.goal.charge
+    (sym (rule_first t tail) ∙ e ∙ rule_first u xs) in
     let told : (t.renditions ≡ u.renditions) × (length t.places ≡ length u.places) × (map place_line t.places ++ tail ≡ map place_line u.places ++ xs) =
     counts_same t.renditions (length t.places) u.renditions (length u.places)
     t_good.renditions.1 t_good.count.1 u_good.renditions.1 u_good.count.1
-    (target_line t.target) (preferred_line t.preferred) (target_line u.target) (preferred_line u.preferred)
-    (map place_line t.places ++ tail) (map place_line u.places ++ xs) e in
-    let t_target : t.target ≤ 3600 = t_good.target.1 in
-    let u_target : u.target ≤ 3600 = u_good.target.1 in
-    let t_preferred : t.preferred ≤ 3600000000 = t_good.preferred.1 in
-    let u_preferred : u.preferred ≤ 3600000000 = u_good.preferred.1 in
+    (target_line t.goal.target) (preferred_line t.goal.preferred) (target_line u.goal.target) (preferred_line u.goal.preferred)
+    (map place_line t.places ++ tail) (map place_line u.places ++ xs) behind.1 in
+    let t_target : t.goal.target ≤ 3600 = t_good.goal.target.1 in
+    let u_target : u.goal.target ≤ 3600 = u_good.goal.target.1 in
+    let t_preferred : t.goal.preferred ≤ 3600000000 = t_good.goal.preferred.1 in
+    let u_preferred : u.goal.preferred ≤ 3600000000 = u_good.goal.preferred.1 in
+    let goals : t.goal ≡ u.goal =
+    goal_made t.goal.target t.goal.preferred t.goal.rule u.goal.target u.goal.preferred u.goal.rule
+    (number_same (codes "target ") t.goal.target u.goal.target (omega arith) (omega arith) (ap (λ (ls : List (List ℕ)). get_or ls 0 []) behind.1))
+    (number_same (codes "preferred ") t.goal.preferred u.goal.preferred (omega arith) (omega arith) (ap (λ (ls : List (List ℕ)). get_or ls 1 []) behind.1))
+    behind.0 in
     let P : ℕ → Type 0 = λ r. All (IsPlaceOf r) t.places in (
-      table_made t.target t.preferred t.renditions t.places u.target u.preferred u.renditions u.places
-          (number_same (codes "target ") t.target u.target (omega arith) (omega arith) (ap (λ (ls : List (List ℕ)). get_or ls 1 []) e))
-          (number_same (codes "preferred ") t.preferred u.preferred (omega arith) (omega arith) (ap (λ (ls : List (List ℕ)). get_or ls 2 []) e))
-          told.0
+      table_made t.goal t.renditions t.places u.goal u.renditions u.places goals told.0
           (places_same u.renditions t.places u.places tail xs u_good.renditions.0 told.1 (subst P told.0 t_good.places) u_good.places told.2),
       places_passed t.places u.places tail xs told.1 told.2,
     )

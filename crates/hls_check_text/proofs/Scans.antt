@@ -73,16 +73,16 @@ one_place_more h text rest p after passed next = record {
       (place_first h.renditions rest next.place after next.good next.is) (place_shorter rest next.place after next.is);
 }
 
-pub wrong_place : (h : Head) (bytes text rest : List ℕ) (p : ℕ) → IsAt (AtPlace h []) bytes text 5 → PlacesPassed h text rest p → p < h.count →
-    ((after : List ℕ) → PassesPlace h.renditions rest after → ⊥) → IsFirstWrong bytes (5 + p + 1)
-wrong_place h bytes text rest p at passed more none =
-    stops (AtPlace h passed.places) tt bytes rest (5 + p) (at_place h bytes text passed.places rest p at passed.read more) (5 + p + 1)
-    (place_refused h.renditions (5 + p) rest (λ place after good is. none after (record { place = place; good = good; is = is })))
+pub wrong_place : (h : Head) (bytes text : List ℕ) (first : ℕ) (rest : List ℕ) (p : ℕ) → IsAt (AtPlace h []) bytes text first → PlacesPassed h text rest p → p < h.count →
+    ((after : List ℕ) → PassesPlace h.renditions rest after → ⊥) → IsFirstWrong bytes (first + p + 1)
+wrong_place h bytes text first rest p at passed more none =
+    stops (AtPlace h passed.places) tt bytes rest (first + p) (at_place h bytes text first passed.places rest p at passed.read more) (first + p + 1)
+    (place_refused h.renditions (first + p) rest (λ place after good is. none after (record { place = place; good = good; is = is })))
 
-pub all_passed : (h : Head) (bytes text rest : List ℕ) → IsAt (AtPlace h []) bytes text 5 → PlacesPassed h text rest h.count →
-    PassesPlaces h bytes rest
-all_passed h bytes text rest at passed =
-    record { places = passed.places; count = passed.read.count; at = at_claim h bytes text passed.places rest at passed.read }
+pub all_passed : (h : Head) (bytes text : List ℕ) (first : ℕ) (rest : List ℕ) → IsAt (AtPlace h []) bytes text first →
+    PlacesPassed h text rest h.count → PassesPlaces h bytes rest (first + h.count)
+all_passed h bytes text first rest at passed =
+    record { places = passed.places; count = passed.read.count; at = at_claim h bytes text first passed.places rest at passed.read }
 
 -- the line of a plan
 pub plan_is : (line numbers : List ℕ) (count : ℕ) → line ≡ codes "plan " ++ numbers → AreNumbersBelow numbers count → IsPlanLine count line

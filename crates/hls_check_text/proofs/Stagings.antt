@@ -1,21 +1,24 @@
 -- Each stage of reading: what follows it in every certificate that begins so.
-use Rattle.std.proofs.Common.{◌≡◌, refl, sym, ◌∙◌, ap, subst, ℕ, ◌^◌, ◌<◌, ◌≤◌, Bool, List, [], ◌∷◌, ◌++◌, length, map, All, arith, append_assoc, inl, inr, get_or, drop, Option, ◌⊎◌}
+use Rattle.std.proofs.Common.{◌≡◌, refl, sym, ◌∙◌, ap, subst, ℕ, ◌^◌, ◌<◌, ◌≤◌, Bool, List, [], ◌∷◌, ◌++◌, length, map, All, arith, append_assoc, append-nil, inl, inr, get_or, drop, Option, ◌⊎◌}
+use Rattle.hls_check_laws.specs.declared.cost_rule.CostRule.{CostRule}
+use Rattle.hls_check_laws.specs.declared.cost_rule.CostRule.TheVariants.{Deviation, Charged}
 use Rattle.hls_check_laws.specs.declared.spot.Spot.{Spot}
-use Rattle.hls_check_laws.specs.Tables.{Table, IsTable, IsPlaceOf}
+use Rattle.hls_check_laws.specs.Tables.{Table, IsTable, IsPlaceOf, charge_of}
 use Rattle.hls_check_laws.specs.Certificates.{Printed, Shown, CutShown, NoneShown, IsForm, IsCertificate}
-use Rattle.hls_check_text.specs.Text.{target_line, preferred_line, cut_line, none_line, end_line, plan_line, price_line, closed_line, place_line, table_lines, shown_lines, lines, priced_from, members_from}
+use Rattle.hls_check_text.specs.Text.{header_line, ruled_header_line, charge_line, rule_lines, target_line, preferred_line, renditions_line, places_line, cut_line, none_line, end_line, plan_line, price_line, closed_line, place_line, table_lines, shown_lines, lines, priced_from, members_from}
 use Rattle.hls_check_text.specs.declared.head.Head.{Head}
-use Rattle.hls_check_text.specs.Stages.{Stage, AtHeader, AtTarget, AtPreferred, AtRenditions, AtCount, AtPlace, AtClaim, AtPlan, AtPrice, AtClosed, AtEnd, lines_of, front, IsStage, IsNext, IsNumberLine, IsPlaceLine, IsPlanLine, IsPriceLine, IsClosedLine, ArePlaces, ArePrices, IsClosing, past_priced, past_members}
+use Rattle.hls_check_text.specs.Stages.{Stage, AtHeader, AtRule, AtTarget, AtPreferred, AtRenditions, AtCount, AtPlace, AtClaim, AtPlan, AtPrice, AtClosed, AtEnd, lines_of, front, IsStage, IsNext, IsCharge, IsNumberLine, IsPlaceLine, IsPlanLine, IsPriceLine, IsClosedLine, ArePlaces, ArePrices, IsClosing, past_priced, past_members}
 use Rattle.hls_check_text.proofs.Spellings.{other_first, priced_rises, members_climb}
-use Rattle.hls_check_text.proofs.Nexts.{Next, place_next, counts_same, table_passed, price_next, closed_next}
+use Rattle.hls_check_text.proofs.Nexts.{Next, other_version, behind_rule, rules_same, rule_first, place_next, counts_same, table_passed, price_next, closed_next}
 
 -- a line must follow
 abbrev pub IsOpen : Stage → Type 0
 IsOpen AtHeader = Unit {0}
-IsOpen AtTarget = Unit {0}
-IsOpen (AtPreferred target) = Unit {0}
-IsOpen (AtRenditions target preferred) = Unit {0}
-IsOpen (AtCount target preferred renditions) = Unit {0}
+IsOpen AtRule = Unit {0}
+IsOpen (AtTarget rule) = Unit {0}
+IsOpen (AtPreferred rule target) = Unit {0}
+IsOpen (AtRenditions goal) = Unit {0}
+IsOpen (AtCount goal renditions) = Unit {0}
 IsOpen (AtPlace head places) = Unit {0}
 IsOpen (AtClaim table) = Unit {0}
 IsOpen (AtPlan table total) = Unit {0}
@@ -23,16 +26,40 @@ IsOpen (AtPrice table total plan prices) = Unit {0}
 IsOpen (AtClosed table closed) = Unit {0}
 IsOpen (AtEnd certificate) = ⊥
 
+-- the first line
+at_header : (rule : CostRule) (more xs : List (List ℕ)) → rule_lines rule ++ more ≡ xs →
+    Next (λ line. (line ≡ header_line) ⊎ (line ≡ ruled_header_line)) xs
+at_header Deviation more xs e = subst (Next (λ line. (line ≡ header_line) ⊎ (line ≡ ruled_header_line))) e (inl refl)
+at_header (Charged charge) more xs e = subst (Next (λ line. (line ≡ header_line) ⊎ (line ≡ ruled_header_line))) e (inr refl)
+
+-- behind that of version 2
+at_rule : (rule : CostRule) (more xs : List (List ℕ)) → charge_of rule ≤ 3600000000 → rule_lines rule ++ more ≡ ruled_header_line ∷ xs →
+    Next (IsNumberLine charge_line IsCharge) xs
+at_rule Deviation more xs small e = absurd (other_version (ap (λ (ls : List (List ℕ)). get_or ls 0 []) e))
+at_rule (Charged charge) more xs small e =
+    subst (Next (IsNumberLine charge_line IsCharge)) (ap (drop 1) e) (record { number = charge; good = (omega arith, small); is = refl })
+
+-- behind a rule and some lines more
+past_rule : (c : Printed) → IsCertificate c → (rule : CostRule) → charge_of rule ≤ 3600000000 → (front xs : List (List ℕ)) →
+    lines c ≡ (rule_lines rule ++ front) ++ xs → behind_rule c.table (shown_lines c.shown) ≡ front ++ xs
+unfolding lines
+past_rule c valid rule small front xs e =
+    (rules_same c.table.goal.rule rule (behind_rule c.table (shown_lines c.shown)) (front ++ xs) valid.table.goal.charge small
+    (sym (rule_first c.table (shown_lines c.shown)) ∙ e ∙ append_assoc (rule_lines rule) front xs)).1
+
 at_place : (h : Head) (places : List (List Spot)) → ArePlaces h places → (c : Printed) → IsCertificate c →
     (xs : List (List ℕ)) → lines c ≡ (lines_of h ++ map place_line places) ++ xs → Next (IsPlaceLine h.renditions) xs
-unfolding lines table_lines
 at_place h places good c valid xs e =
+    let four : List (List ℕ) = target_line h.goal.target ∷ preferred_line h.goal.preferred ∷ renditions_line h.renditions ∷ places_line h.count ∷ [] in
+    let behind : behind_rule c.table (shown_lines c.shown) ≡ four ++ (map place_line places ++ xs) =
+    past_rule c valid h.goal.rule good.head.goal.charge four (map place_line places ++ xs)
+    (e ∙ append_assoc (lines_of h) (map place_line places) xs) in
     let told : (c.table.renditions ≡ h.renditions) × (length c.table.places ≡ h.count)
     × (map place_line c.table.places ++ shown_lines c.shown ≡ map place_line places ++ xs) =
     counts_same c.table.renditions (length c.table.places) h.renditions h.count
     valid.table.renditions.1 valid.table.count.1 good.head.renditions.1 good.head.count.1
-    (target_line c.table.target) (preferred_line c.table.preferred) (target_line h.target) (preferred_line h.preferred)
-    (map place_line c.table.places ++ shown_lines c.shown) (map place_line places ++ xs) e in
+    (target_line c.table.goal.target) (preferred_line c.table.goal.preferred) (target_line h.goal.target) (preferred_line h.goal.preferred)
+    (map place_line c.table.places ++ shown_lines c.shown) (map place_line places ++ xs) behind in
     let room : length places < h.count = good.room in
     let P : ℕ → Type 0 = λ r. All (IsPlaceOf r) c.table.places in
     place_next h.renditions c.table.places places (shown_lines c.shown) xs (omega arith) (subst P told.0 valid.table.places) told.2
@@ -95,18 +122,27 @@ behind_table t good c valid front xs e =
 
 pub stage_next : (s : Stage) → IsOpen s → IsStage s → (c : Printed) → IsCertificate c → (xs : List (List ℕ)) →
     lines c ≡ front s ++ xs → Next (IsNext s) xs
-unfolding lines table_lines
-stage_next AtHeader open_ good c valid xs e = subst (Next (IsNext AtHeader)) e refl
-stage_next AtTarget open_ good c valid xs e =
-    subst (Next (IsNext AtTarget)) (ap (drop 1) e) (record { number = c.table.target; good = valid.table.target; is = refl })
-stage_next (AtPreferred target) open_ good c valid xs e =
-    subst (Next (IsNext (AtPreferred target))) (ap (drop 2) e)
-    (record { number = c.table.preferred; good = valid.table.preferred; is = refl })
-stage_next (AtRenditions target preferred) open_ good c valid xs e =
-    subst (Next (IsNext (AtRenditions target preferred))) (ap (drop 3) e)
+unfolding lines
+stage_next AtHeader open_ good c valid xs e =
+    at_header c.table.goal.rule (behind_rule c.table (shown_lines c.shown)) xs (sym (rule_first c.table (shown_lines c.shown)) ∙ e)
+stage_next AtRule open_ good c valid xs e =
+    at_rule c.table.goal.rule (behind_rule c.table (shown_lines c.shown)) xs valid.table.goal.charge
+    (sym (rule_first c.table (shown_lines c.shown)) ∙ e)
+stage_next (AtTarget rule) open_ good c valid xs e =
+    subst (Next (IsNext (AtTarget rule)))
+    (past_rule c valid rule good [] xs (e ∙ ap (λ (ls : List (List ℕ)). ls ++ xs) (sym (append-nil (rule_lines rule)))))
+    (record { number = c.table.goal.target; good = valid.table.goal.target; is = refl })
+stage_next (AtPreferred rule target) open_ good c valid xs e =
+    subst (Next (IsNext (AtPreferred rule target))) (ap (drop 1) (past_rule c valid rule good.0 (target_line target ∷ []) xs e))
+    (record { number = c.table.goal.preferred; good = valid.table.goal.preferred; is = refl })
+stage_next (AtRenditions g) open_ good c valid xs e =
+    subst (Next (IsNext (AtRenditions g)))
+    (ap (drop 2) (past_rule c valid g.rule good.charge (target_line g.target ∷ preferred_line g.preferred ∷ []) xs e))
     (record { number = c.table.renditions; good = valid.table.renditions; is = refl })
-stage_next (AtCount target preferred renditions) open_ good c valid xs e =
-    subst (Next (IsNext (AtCount target preferred renditions))) (ap (drop 4) e)
+stage_next (AtCount g renditions) open_ good c valid xs e =
+    subst (Next (IsNext (AtCount g renditions)))
+    (ap (drop 3) (past_rule c valid g.rule good.0.charge
+    (target_line g.target ∷ preferred_line g.preferred ∷ renditions_line renditions ∷ []) xs e))
     (record { number = length c.table.places; good = valid.table.count; is = refl })
 stage_next (AtPlace head places) open_ good c valid xs e = at_place head places good c valid xs e
 stage_next (AtClaim table) open_ good c valid xs e =

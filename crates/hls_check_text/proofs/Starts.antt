@@ -3,13 +3,17 @@
 use Rattle.std.proofs.Common.{◌≡◌, refl, sym, ◌∙◌, ap, ap₂, ℕ, zero, suc, ◌+◌, ◌-◌, ◌^◌, ◌<◌, ◌≤◌, Bool, true, false, List, [], ◌∷◌, ◌++◌, length, map, All, arith, append_assoc, drop, replicate, Option, Some, None}
 use Rattle.std.proofs.lemmas.List.Elements.{All-cons, All-nil, All-append, All-replicate}
 use Rattle.std.proofs.lemmas.List.{length-append, length-replicate, map-append}
+use Rattle.hls_check_laws.specs.declared.cost_rule.CostRule.{CostRule}
+use Rattle.hls_check_laws.specs.declared.cost_rule.CostRule.TheVariants.{Deviation, Charged}
+use Rattle.hls_check_laws.specs.declared.goal.Goal.{Goal}
 use Rattle.hls_check_laws.specs.declared.spot.Spot.{Spot}
-use Rattle.hls_check_laws.specs.Tables.{Table, IsTable, IsSpotInRange, IsPlaceOf, no_spot}
+use Rattle.hls_check_laws.specs.Tables.{Table, IsTable, IsSpotInRange, IsPlaceOf, IsGoal, goal_of, no_spot}
 use Rattle.hls_check_laws.specs.Certificates.{Printed, CutShown, NoneShown, IsCertificate, IsPriceInRange}
-use Rattle.hls_check_text.specs.Text.{cut_line, none_line, plan_line, price_line, closed_line, place_line, end_line, head_lines, table_lines, shown_lines, lines, Priced, priced_from, members_from}
+use Rattle.hls_check_text.specs.Text.{rule_lines, target_line, preferred_line, renditions_line, cut_line, none_line, plan_line, price_line, closed_line, place_line, end_line, head_lines, table_lines, shown_lines, lines, Priced, priced_from, members_from}
 use Rattle.hls_check_text.specs.Wrong.{Begins}
 use Rattle.hls_check_text.specs.declared.head.Head.{Head}
-use Rattle.hls_check_text.specs.Stages.{Stage, AtHeader, AtTarget, AtPreferred, AtRenditions, AtCount, AtPlace, AtClaim, AtPlan, AtPrice, AtClosed, AtEnd, lines_of, front, IsStage, IsHead, ArePlaces, IsPlanned, ArePrices, IsClosing, IsTarget, IsPreferred, IsRenditions}
+use Rattle.hls_check_text.specs.Stages.{Stage, AtHeader, AtRule, AtTarget, AtPreferred, AtRenditions, AtCount, AtPlace, AtClaim, AtPlan, AtPrice, AtClosed, AtEnd, lines_of, front, IsStage, IsHead, ArePlaces, IsPlanned, ArePrices, IsClosing, IsRule, IsTarget, IsRenditions}
+use Rattle.hls_check_text.proofs.Nexts.{behind_rule, rule_first}
 use Rattle.hls_check_text.proofs.Stagings.{IsOpen}
 
 abbrev blank : ℕ → List Spot
@@ -30,8 +34,7 @@ blank_good renditions = record {
 
 abbrev completed : Head → List (List Spot) → Table
 completed h places = record {
-  target = h.target;
-  preferred = h.preferred;
+  goal = h.goal;
   renditions = h.renditions;
   places = places ++ replicate (h.count - length places) (blank h.renditions);
 }
@@ -46,8 +49,7 @@ completed_good : (h : Head) (places : List (List Spot)) → IsHead h → length 
 completed_good h places good room each =
     let count : length (completed h places).places ≡ h.count = completed_count h places room in
     record {
-      target = good.target;
-      preferred = good.preferred;
+      goal = good.goal;
       renditions = good.renditions;
       count = (omega (arith, good.count), omega (arith, good.count));
       places = All-append (IsPlaceOf h.renditions) places (replicate (h.count - length places) (blank h.renditions)) each
@@ -61,19 +63,71 @@ uncut t = record { table = t; shown = NoneShown (replicate (length t.places) fal
 uncut_good : (t : Table) → IsTable t → IsCertificate (uncut t)
 uncut_good t good = record { table = good; form = length-replicate (length t.places) false }
 
-abbrev head_of : ℕ → ℕ → ℕ → Head
-head_of target preferred renditions = record { target = target; preferred = preferred; renditions = renditions; count = 2 }
+abbrev head_of : Goal → ℕ → Head
+head_of goal renditions = record { goal = goal; renditions = renditions; count = 2 }
 
-abbrev first_of : ℕ → ℕ → ℕ → Printed
-first_of target preferred renditions = uncut (completed (head_of target preferred renditions) [])
+-- a certificate of two blank places
+abbrev first_table : Goal → ℕ → Table
+first_table goal renditions = completed (head_of goal renditions) []
 
-first_good : (target preferred renditions : ℕ) → IsTarget target → IsPreferred preferred → IsRenditions renditions →
-    IsCertificate (first_of target preferred renditions)
-first_good target preferred renditions t p r =
-    uncut_good (completed (head_of target preferred renditions) [])
-    (completed_good (head_of target preferred renditions) []
-    (record { target = t; preferred = p; renditions = r; count = (omega arith, omega arith) })
+abbrev first_of : Goal → ℕ → Printed
+first_of goal renditions = uncut (first_table goal renditions)
+
+first_good : (goal : Goal) (renditions : ℕ) → IsGoal goal → IsRenditions renditions → IsCertificate (first_of goal renditions)
+first_good goal renditions g r =
+    uncut_good (first_table goal renditions)
+    (completed_good (head_of goal renditions) [] (record { goal = g; renditions = r; count = (omega arith, omega arith) })
     (omega arith) (All-nil (IsPlaceOf renditions)))
+
+-- its lines behind the rule's
+abbrev first_rest : Goal → ℕ → List (List ℕ)
+first_rest goal renditions = behind_rule (first_table goal renditions) (shown_lines (first_of goal renditions).shown)
+
+first_lines : (goal : Goal) (renditions : ℕ) → lines (first_of goal renditions) ≡ rule_lines goal.rule ++ first_rest goal renditions
+unfolding lines
+first_lines goal renditions = rule_first (first_table goal renditions) (shown_lines (first_of goal renditions).shown)
+
+-- what is read of the rule, of the target and of the goal, completed
+rule_goal : (rule : CostRule) → IsRule rule → IsGoal (goal_of 1 1 rule)
+rule_goal rule good = record { target = (omega arith, omega arith); preferred = (omega arith, omega arith); charge = good }
+
+rule_begins : (rule : CostRule) → IsRule rule → Begins (rule_lines rule)
+rule_begins rule good = record {
+  certificate = first_of (goal_of 1 1 rule) 1;
+  is_certificate = first_good (goal_of 1 1 rule) 1 (rule_goal rule good) (omega arith, omega arith);
+  more = first_rest (goal_of 1 1 rule) 1;
+  is = first_lines (goal_of 1 1 rule) 1;
+}
+
+target_begins : (rule : CostRule) (target : ℕ) → IsRule rule → IsTarget target → Begins (rule_lines rule ++ (target_line target ∷ []))
+target_begins rule target good t =
+    let goal : Goal = goal_of target 1 rule in
+    record {
+      certificate = first_of goal 1;
+      is_certificate = first_good goal 1 (record { target = t; preferred = (omega arith, omega arith); charge = good }) (omega arith, omega arith);
+      more = drop 1 (first_rest goal 1);
+      is = first_lines goal 1 ∙ sym (append_assoc (rule_lines rule) (target_line target ∷ []) (drop 1 (first_rest goal 1)));
+    }
+
+goal_begins : (goal : Goal) → IsGoal goal → Begins (rule_lines goal.rule ++ (target_line goal.target ∷ preferred_line goal.preferred ∷ []))
+goal_begins goal good = record {
+  certificate = first_of goal 1;
+  is_certificate = first_good goal 1 good (omega arith, omega arith);
+  more = drop 2 (first_rest goal 1);
+  is = first_lines goal 1
+      ∙ sym (append_assoc (rule_lines goal.rule) (target_line goal.target ∷ preferred_line goal.preferred ∷ []) (drop 2 (first_rest goal 1)));
+}
+
+renditions_begin : (goal : Goal) (renditions : ℕ) → IsGoal goal → IsRenditions renditions →
+    Begins (rule_lines goal.rule ++ (target_line goal.target ∷ preferred_line goal.preferred ∷ renditions_line renditions ∷ []))
+renditions_begin goal renditions good r = record {
+  certificate = first_of goal renditions;
+  is_certificate = first_good goal renditions good r;
+  more = drop 3 (first_rest goal renditions);
+  is = first_lines goal renditions
+      ∙ sym (append_assoc (rule_lines goal.rule) (target_line goal.target ∷ preferred_line goal.preferred ∷ renditions_line renditions ∷ [])
+      (drop 3 (first_rest goal renditions)));
+}
 
 places_begin : (h : Head) (places : List (List Spot)) → ArePlaces h places → Begins (lines_of h ++ map place_line places)
 unfolding lines table_lines
@@ -81,14 +135,17 @@ places_begin h places good =
     let room : length places < h.count = good.room in
     let count : length (completed h places).places ≡ h.count = completed_count h places (omega arith) in
     let blanks : List (List ℕ) = map place_line (replicate (h.count - length places) (blank h.renditions)) in
+    let shown : List (List ℕ) = shown_lines (uncut (completed h places)).shown in
     record {
       certificate = uncut (completed h places);
       is_certificate = uncut_good (completed h places) (completed_good h places good.head (omega arith) good.each);
-      more = blanks ++ shown_lines (uncut (completed h places)).shown;
-      is = ap₂ (λ (n : ℕ) (xs : List (List ℕ)). head_lines h.target h.preferred h.renditions n ++ xs) count
-          (ap (λ (xs : List (List ℕ)). xs ++ shown_lines (uncut (completed h places)).shown)
+      more = blanks ++ shown;
+      is = append_assoc (head_lines h.goal h.renditions (length (completed h places).places)) (map place_line (completed h places).places) shown
+          ∙ ap₂ (λ (n : ℕ) (xs : List (List ℕ)). head_lines h.goal h.renditions n ++ xs) count
+          (ap (λ (xs : List (List ℕ)). xs ++ shown)
           (map-append place_line places (replicate (h.count - length places) (blank h.renditions)))
-          ∙ append_assoc (map place_line places) blanks (shown_lines (uncut (completed h places)).shown));
+          ∙ append_assoc (map place_line places) blanks shown)
+          ∙ sym (append_assoc (lines_of h) (map place_line places) (blanks ++ shown));
     }
 
 pub unpriced : (k : ℕ) (prices : List (Option ℕ)) (n : ℕ) → priced_from k (prices ++ replicate n None) ≡ priced_from k prices
@@ -173,35 +230,21 @@ closed_begins t closed table good =
 pub stage_begins : (s : Stage) → IsOpen s → IsStage s → Begins (front s)
 unfolding lines table_lines
 stage_begins AtHeader open_ good = record {
-  certificate = first_of 1 1 1;
-  is_certificate = first_good 1 1 1 (omega arith, omega arith) (omega arith, omega arith) (omega arith, omega arith);
-  more = lines (first_of 1 1 1);
+  certificate = first_of (goal_of 1 1 Deviation) 1;
+  is_certificate = first_good (goal_of 1 1 Deviation) 1 (rule_goal Deviation (omega arith)) (omega arith, omega arith);
+  more = lines (first_of (goal_of 1 1 Deviation) 1);
   is = refl;
 }
-stage_begins AtTarget open_ good = record {
-  certificate = first_of 1 1 1;
-  is_certificate = first_good 1 1 1 (omega arith, omega arith) (omega arith, omega arith) (omega arith, omega arith);
-  more = drop 1 (lines (first_of 1 1 1));
+stage_begins AtRule open_ good = record {
+  certificate = first_of (goal_of 1 1 (Charged 0)) 1;
+  is_certificate = first_good (goal_of 1 1 (Charged 0)) 1 (rule_goal (Charged 0) (omega arith)) (omega arith, omega arith);
+  more = drop 1 (lines (first_of (goal_of 1 1 (Charged 0)) 1));
   is = refl;
 }
-stage_begins (AtPreferred target) open_ good = record {
-  certificate = first_of target 1 1;
-  is_certificate = first_good target 1 1 good (omega arith, omega arith) (omega arith, omega arith);
-  more = drop 2 (lines (first_of target 1 1));
-  is = refl;
-}
-stage_begins (AtRenditions target preferred) open_ good = record {
-  certificate = first_of target preferred 1;
-  is_certificate = first_good target preferred 1 good.0 good.1 (omega arith, omega arith);
-  more = drop 3 (lines (first_of target preferred 1));
-  is = refl;
-}
-stage_begins (AtCount target preferred renditions) open_ good = record {
-  certificate = first_of target preferred renditions;
-  is_certificate = first_good target preferred renditions good.0 good.1 good.2;
-  more = drop 4 (lines (first_of target preferred renditions));
-  is = refl;
-}
+stage_begins (AtTarget rule) open_ good = rule_begins rule good
+stage_begins (AtPreferred rule target) open_ good = target_begins rule target good.0 good.1
+stage_begins (AtRenditions goal) open_ good = goal_begins goal good
+stage_begins (AtCount goal renditions) open_ good = renditions_begin goal renditions good.0 good.1
 stage_begins (AtPlace head places) open_ good = places_begin head places good
 stage_begins (AtClaim table) open_ good = record {
   certificate = uncut table;

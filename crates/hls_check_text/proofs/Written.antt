@@ -9,7 +9,7 @@ use Rattle.hls_check_laws.specs.Certificates.{Printed, Shown, CutShown, NoneShow
 use Rattle.hls_text.specs.Lines.{joined}
 use Rattle.hls_text.specs.Numbers.{words, spaced, number_line}
 use Rattle.hls_text.proofs.Joins.{joined-append}
-use Rattle.hls_check_text.specs.Text.{header_line, target_line, preferred_line, renditions_line, places_line, cut_line, none_line, end_line, head_lines, table_lines, shown_lines, lines, text, place_numbers, place_line, plan_line, closed_line, price_line, priced, priced_from, members_from}
+use Rattle.hls_check_text.specs.Text.{ruled_header_line, charge_line, rule_lines, target_line, preferred_line, renditions_line, places_line, cut_line, none_line, end_line, head_lines, table_lines, shown_lines, lines, text, place_numbers, place_line, plan_line, closed_line, price_line, priced, priced_from, members_from}
 
 pub one_line : (line : List ℕ) → joined (line ∷ []) ≡ line ++ (10 ∷ [])
 unfolding joined
@@ -248,17 +248,22 @@ none_written old closed a b c a_is b_is c_is =
     lines_more old b c (none_line ∷ map closed_line (members_from 0 closed)) (end_line ∷ [])
     (lines_more old a b (none_line ∷ []) (map closed_line (members_from 0 closed)) a_is b_is) c_is
 
-pub table_written : (old : List ℕ) (t : Table) (a b c d e f : List ℕ) → a ≡ old ++ joined (header_line ∷ []) →
-    b ≡ a ++ joined (target_line t.target ∷ []) → c ≡ b ++ joined (preferred_line t.preferred ∷ []) →
+pub rule_written : (old : List ℕ) (charge : ℕ) (a b : List ℕ) → a ≡ old ++ joined (ruled_header_line ∷ []) →
+    b ≡ a ++ joined (charge_line charge ∷ []) → b ≡ old ++ joined (ruled_header_line ∷ charge_line charge ∷ [])
+rule_written old charge a b a_is b_is = lines_more old a b (ruled_header_line ∷ []) (charge_line charge ∷ []) a_is b_is
+
+pub table_written : (old : List ℕ) (t : Table) (a b c d e f : List ℕ) → a ≡ old ++ joined (rule_lines t.goal.rule) →
+    b ≡ a ++ joined (target_line t.goal.target ∷ []) → c ≡ b ++ joined (preferred_line t.goal.preferred ∷ []) →
     d ≡ c ++ joined (renditions_line t.renditions ∷ []) → e ≡ d ++ joined (places_line (length t.places) ∷ []) →
     f ≡ e ++ joined (map place_line t.places) → f ≡ old ++ joined (table_lines t)
 unfolding table_lines
 table_written old t a b c d e f a_is b_is c_is d_is e_is f_is =
-    lines_more old e f (head_lines t.target t.preferred t.renditions (length t.places)) (map place_line t.places)
-    (lines_more old d e (header_line ∷ target_line t.target ∷ preferred_line t.preferred ∷ renditions_line t.renditions ∷ []) (places_line (length t.places) ∷ [])
-    (lines_more old c d (header_line ∷ target_line t.target ∷ preferred_line t.preferred ∷ []) (renditions_line t.renditions ∷ [])
-    (lines_more old b c (header_line ∷ target_line t.target ∷ []) (preferred_line t.preferred ∷ [])
-    (lines_more old a b (header_line ∷ []) (target_line t.target ∷ []) a_is b_is) c_is) d_is) e_is) f_is
+    lines_more old e f (head_lines t.goal t.renditions (length t.places)) (map place_line t.places)
+    (lines_more old a e (rule_lines t.goal.rule)
+    (target_line t.goal.target ∷ preferred_line t.goal.preferred ∷ renditions_line t.renditions ∷ places_line (length t.places) ∷ []) a_is
+    (lines_more a d e (target_line t.goal.target ∷ preferred_line t.goal.preferred ∷ renditions_line t.renditions ∷ []) (places_line (length t.places) ∷ [])
+    (lines_more a c d (target_line t.goal.target ∷ preferred_line t.goal.preferred ∷ []) (renditions_line t.renditions ∷ [])
+    (lines_more a b c (target_line t.goal.target ∷ []) (preferred_line t.goal.preferred ∷ []) b_is c_is) d_is) e_is)) f_is
 
 pub text_written : (c : Printed) (s : Shown) (a b : List ℕ) → c.shown ≡ s → a ≡ joined (table_lines c.table) → b ≡ a ++ joined (shown_lines s) → b ≡ text c
 unfolding text lines

@@ -1,21 +1,24 @@
 -- A reader that stops has met the first wrong line; a certificate's text has none.
-use Rattle.std.proofs.Common.{◌≡◌, refl, sym, ◌∙◌, ap, ap₂, subst, ℕ, ◌+◌, ◌^◌, ◌<◌, ◌≤◌, List, [], ◌∷◌, ◌++◌, length, map, drop, All, arith, append_assoc, append-nil, codes, Result, Ok, Err, inl, inr}
+use Rattle.std.proofs.Common.{◌≡◌, refl, sym, ◌∙◌, ap, ap₂, subst, ℕ, ◌+◌, ◌^◌, ◌<◌, ◌≤◌, List, [], ◌∷◌, ◌++◌, length, map, drop, All, arith, append_assoc, append-nil, codes, Result, Ok, Err, inl, inr, ◌⊎◌}
 use Rattle.std.proofs.lemmas.Bool.{cases_order}
 use Rattle.std.proofs.lemmas.List.Elements.{All-head, All-tail, All-cons, All-nil, All-append}
 use Rattle.std.proofs.lemmas.List.{length-append, length-map, map-append}
+use Rattle.hls_check_laws.specs.declared.cost_rule.CostRule.{CostRule}
+use Rattle.hls_check_laws.specs.declared.cost_rule.CostRule.TheVariants.{Deviation, Charged}
+use Rattle.hls_check_laws.specs.declared.goal.Goal.{Goal}
 use Rattle.hls_check_laws.specs.declared.spot.Spot.{Spot}
 use Rattle.hls_check_laws.specs.declared.cert_fault.CertFault.{CertFault}
 use Rattle.hls_check_laws.specs.declared.cert_fault.CertFault.TheVariants.{Form, TableNotSorted, PlanEnds, PlanStep, PlanCost, PriceStart, PriceStep, EndReached, Memory}
-use Rattle.hls_check_laws.specs.Tables.{IsPlaceOf, table_of}
+use Rattle.hls_check_laws.specs.Tables.{IsPlaceOf, charge_of, goal_of, table_of}
 use Rattle.hls_check_laws.specs.Certificates.{Printed, Shown, CutShown, NoneShown, IsForm, IsCertificate}
 use Rattle.hls_text.specs.Lines.{cut_text, joined, IsFirstLine}
 use Rattle.hls_text.specs.Numbers.{words}
 use Rattle.hls_text.proofs.Words.{IsSmall}
 use Rattle.hls_text.proofs.Joins.{IsClean, clean-append, clean_words, lines_of_joined, tail_of_joined, joined_lines, first_cut}
-use Rattle.hls_check_text.specs.Text.{header_line, target_line, preferred_line, renditions_line, places_line, cut_line, none_line, end_line, plan_line, price_line, closed_line, place_line, place_numbers, head_lines, table_lines, shown_lines, lines, text, Priced, priced_from, members_from}
+use Rattle.hls_check_text.specs.Text.{header_line, ruled_header_line, charge_line, rule_lines, target_line, preferred_line, renditions_line, places_line, cut_line, none_line, end_line, plan_line, price_line, closed_line, place_line, place_numbers, head_lines, table_lines, shown_lines, lines, text, Priced, priced_from, members_from}
 use Rattle.hls_check_text.specs.Wrong.{IsFirstWrong, IsGoodText, IsReading, Gives}
 use Rattle.hls_check_text.specs.declared.head.Head.{Head}
-use Rattle.hls_check_text.specs.Stages.{Stage, AtHeader, AtTarget, AtPreferred, AtRenditions, AtCount, AtPlace, AtClaim, AtEnd, front, IsStage, IsNext, IsAt, Refuses, RefusesOrLacks, Builds, IsHead, lines_of}
+use Rattle.hls_check_text.specs.Stages.{Stage, AtHeader, AtRule, AtTarget, AtPreferred, AtRenditions, AtCount, AtPlace, AtClaim, AtEnd, front, IsStage, IsNext, IsAt, Refuses, RefusesOrLacks, Builds, IsHead, lines_of}
 use Rattle.hls_check_text.proofs.Spellings.{one_small, numbers_printable, RisesFrom, ClimbsFrom, priced_rises, members_climb}
 use Rattle.hls_check_text.proofs.Nexts.{Next}
 use Rattle.hls_check_text.proofs.Stagings.{IsOpen, stage_next}
@@ -74,23 +77,33 @@ clean_shown count (NoneShown closed) few form =
     (clean_closed 0 count (members_from 0 closed) few (members_climb 0 count closed (omega arith)))
     clean_end)
 
-clean_heads : (t p r n : ℕ) → t ≤ 3600 → p ≤ 3600000000 → r ≤ 16 → n ≤ 16384 → All IsClean (head_lines t p r n)
-clean_heads t p r n t_small p_small r_small n_small =
-    All-cons IsClean header_line (drop 1 (head_lines t p r n)) refl
-    (All-cons IsClean (codes "target " ++ words (t ∷ [])) (drop 2 (head_lines t p r n)) (clean_number (codes "target ") t refl (omega arith))
-    (All-cons IsClean (codes "preferred " ++ words (p ∷ [])) (drop 3 (head_lines t p r n)) (clean_number (codes "preferred ") p refl (omega arith))
-    (All-cons IsClean (codes "renditions " ++ words (r ∷ [])) (drop 4 (head_lines t p r n)) (clean_number (codes "renditions ") r refl (omega arith))
-    (All-cons IsClean (codes "places " ++ words (n ∷ [])) [] (clean_number (codes "places ") n refl (omega arith)) (All-nil IsClean)))))
+clean_rules : (rule : CostRule) → charge_of rule ≤ 3600000000 → All IsClean (rule_lines rule)
+clean_rules Deviation small = All-cons IsClean header_line [] refl (All-nil IsClean)
+clean_rules (Charged charge) small =
+    All-cons IsClean ruled_header_line (charge_line charge ∷ []) refl
+    (All-cons IsClean (charge_line charge) [] (clean_number (codes "rule 2 ") charge refl (omega arith)) (All-nil IsClean))
+
+clean_four : (t p r n : ℕ) → t ≤ 3600 → p ≤ 3600000000 → r ≤ 16 → n ≤ 16384 →
+    All IsClean (target_line t ∷ preferred_line p ∷ renditions_line r ∷ places_line n ∷ [])
+clean_four t p r n t_small p_small r_small n_small =
+    All-cons IsClean (target_line t) (preferred_line p ∷ renditions_line r ∷ places_line n ∷ []) (clean_number (codes "target ") t refl (omega arith))
+    (All-cons IsClean (preferred_line p) (renditions_line r ∷ places_line n ∷ []) (clean_number (codes "preferred ") p refl (omega arith))
+    (All-cons IsClean (renditions_line r) (places_line n ∷ []) (clean_number (codes "renditions ") r refl (omega arith))
+    (All-cons IsClean (places_line n) [] (clean_number (codes "places ") n refl (omega arith)) (All-nil IsClean))))
 
 pub clean_lines : (c : Printed) → IsCertificate c → All IsClean (lines c)
 unfolding lines table_lines
 clean_lines c good =
     All-append IsClean
-    (head_lines c.table.target c.table.preferred c.table.renditions (length c.table.places) ++ map place_line c.table.places)
+    (head_lines c.table.goal c.table.renditions (length c.table.places) ++ map place_line c.table.places)
     (shown_lines c.shown)
-    (All-append IsClean (head_lines c.table.target c.table.preferred c.table.renditions (length c.table.places)) (map place_line c.table.places)
-    (clean_heads c.table.target c.table.preferred c.table.renditions (length c.table.places) good.table.target.1 good.table.preferred.1
-    good.table.renditions.1 good.table.count.1)
+    (All-append IsClean (head_lines c.table.goal c.table.renditions (length c.table.places)) (map place_line c.table.places)
+    (All-append IsClean (rule_lines c.table.goal.rule)
+    (target_line c.table.goal.target ∷ preferred_line c.table.goal.preferred ∷ renditions_line c.table.renditions
+    ∷ places_line (length c.table.places) ∷ [])
+    (clean_rules c.table.goal.rule good.table.goal.charge)
+    (clean_four c.table.goal.target c.table.goal.preferred c.table.renditions (length c.table.places)
+    good.table.goal.target.1 good.table.goal.preferred.1 good.table.renditions.1 good.table.count.1))
     (clean_places c.table.renditions c.table.places good.table.places))
     (clean_shown (length c.table.places) c.shown good.table.count.1 good.form)
 
@@ -311,68 +324,118 @@ place_more h text places rest p place after read good first shorter =
       tail = read.tail ∙ (first_cut rest (place_line place) after first).1;
     }
 
+-- the lines above the places, and with these
+head_passed : (h : Head) (bytes whole : List ℕ) (first : ℕ) → IsAt (AtPlace h []) bytes whole first →
+    (cut_text bytes).lines ≡ lines_of h ++ (cut_text whole).lines
+head_passed h bytes whole first at =
+    at.lines ∙ ap (λ (ls : List (List ℕ)). ls ++ (cut_text whole).lines) (append-nil (lines_of h))
+
+places_counted : (h : Head) (bytes whole : List ℕ) (first : ℕ) (places : List (List Spot)) (rest : List ℕ) (p : ℕ) →
+    IsAt (AtPlace h []) bytes whole first → PlacesRead h whole places rest p → first + p ≡ length (lines_of h ++ map place_line places)
+places_counted h bytes whole first places rest p at read =
+    let head : first ≡ length (lines_of h) = at.count ∙ ap length (append-nil (lines_of h)) in
+    let count : length (map place_line places) ≡ length places = length-map places place_line in
+    let all : length (lines_of h ++ map place_line places) ≡ length (lines_of h) + length (map place_line places) =
+    length-append (lines_of h) (map place_line places) in
+    omega (arith, head, count, all, read.count)
+
 -- while places are to come
-pub at_place : (h : Head) (bytes whole : List ℕ) (places : List (List Spot)) (rest : List ℕ) (p : ℕ) →
-    IsAt (AtPlace h []) bytes whole 5 → PlacesRead h whole places rest p → p < h.count → IsAt (AtPlace h places) bytes rest (5 + p)
-at_place h bytes whole places rest p at read more = record {
+pub at_place : (h : Head) (bytes whole : List ℕ) (first : ℕ) (places : List (List Spot)) (rest : List ℕ) (p : ℕ) →
+    IsAt (AtPlace h []) bytes whole first → PlacesRead h whole places rest p → p < h.count → IsAt (AtPlace h places) bytes rest (first + p)
+at_place h bytes whole first places rest p at read more = record {
   is_stage = record { head = at.is_stage.head; room = subst (λ (n : ℕ). n < h.count) (sym read.count) more; each = read.good };
-  lines = at.lines ∙ ap (λ (ls : List (List ℕ)). lines_of h ++ ls) read.lines
+  lines = head_passed h bytes whole first at ∙ ap (λ (ls : List (List ℕ)). lines_of h ++ ls) read.lines
       ∙ sym (append_assoc (lines_of h) (map place_line places) (cut_text rest).lines);
   tail = at.tail ∙ read.tail;
-  count = ap (λ (n : ℕ). 5 + n) (sym read.count ∙ sym (length-map places place_line)) ∙ sym (length-append (lines_of h) (map place_line places));
+  count = places_counted h bytes whole first places rest p at read;
 }
 
 -- and when all have come
-pub at_claim : (h : Head) (bytes whole : List ℕ) (places : List (List Spot)) (rest : List ℕ) →
-    IsAt (AtPlace h []) bytes whole 5 → PlacesRead h whole places rest h.count → IsAt (AtClaim (table_of h.target h.preferred h.renditions places)) bytes rest (5 + h.count)
+pub at_claim : (h : Head) (bytes whole : List ℕ) (first : ℕ) (places : List (List Spot)) (rest : List ℕ) →
+    IsAt (AtPlace h []) bytes whole first → PlacesRead h whole places rest h.count →
+    IsAt (AtClaim (table_of h.goal h.renditions places)) bytes rest (first + h.count)
 unfolding table_lines
-at_claim h bytes whole places rest at read =
+at_claim h bytes whole first places rest at read =
     let good : IsHead h = at.is_stage.head in
-    let counted : lines_of h ≡ head_lines h.target h.preferred h.renditions (length places) =
-    ap (λ (n : ℕ). head_lines h.target h.preferred h.renditions n) (sym read.count) in
+    let counted : lines_of h ≡ head_lines h.goal h.renditions (length places) =
+    ap (λ (n : ℕ). head_lines h.goal h.renditions n) (sym read.count) in
     record {
       is_stage = record {
-        target = good.target;
-        preferred = good.preferred;
+        goal = good.goal;
         renditions = good.renditions;
         count = (subst (λ (n : ℕ). 2 ≤ n) (sym read.count) good.count.0, subst (λ (n : ℕ). n ≤ 16384) (sym read.count) good.count.1);
         places = read.good;
       };
-      lines = at.lines ∙ ap (λ (ls : List (List ℕ)). lines_of h ++ ls) read.lines
+      lines = head_passed h bytes whole first at ∙ ap (λ (ls : List (List ℕ)). lines_of h ++ ls) read.lines
           ∙ sym (append_assoc (lines_of h) (map place_line places) (cut_text rest).lines)
           ∙ ap (λ (ls : List (List ℕ)). (ls ++ map place_line places) ++ (cut_text rest).lines) counted;
       tail = at.tail ∙ read.tail;
-      count = ap (λ (n : ℕ). 5 + n) (sym read.count ∙ sym (length-map places place_line))
-          ∙ sym (length-append (lines_of h) (map place_line places))
+      count = places_counted h bytes whole first places rest h.count at read
           ∙ ap (λ (ls : List (List ℕ)). length (ls ++ map place_line places)) counted;
     }
 
 -- the lines above the places, one by one
-pub at_target : (bytes after : List ℕ) → IsFirstLine bytes header_line after → IsAt AtTarget bytes after 1
-at_target bytes after first = at_next AtHeader AtTarget bytes bytes header_line after 0 (at_start bytes) first tt refl
+pub at_target : (bytes after : List ℕ) → IsFirstLine bytes header_line after → IsAt (AtTarget Deviation) bytes after 1
+at_target bytes after first = at_next AtHeader (AtTarget Deviation) bytes bytes header_line after 0 (at_start bytes) first (omega arith) refl
 
-pub at_preferred : (bytes rest after : List ℕ) (t : ℕ) → IsAt AtTarget bytes rest 1 →
-    (1 ≤ t) × (t ≤ 3600) × IsFirstLine rest (target_line t) after → IsAt (AtPreferred t) bytes after 2
-at_preferred bytes rest after t at read =
-    at_next AtTarget (AtPreferred t) bytes rest (target_line t) after 1 at read.2 (read.0, read.1) refl
+pub at_rule : (bytes after : List ℕ) → IsFirstLine bytes ruled_header_line after → IsAt AtRule bytes after 1
+at_rule bytes after first = at_next AtHeader AtRule bytes bytes ruled_header_line after 0 (at_start bytes) first tt refl
 
-pub at_renditions : (bytes rest after : List ℕ) (t p : ℕ) → IsAt (AtPreferred t) bytes rest 2 →
-    (1 ≤ p) × (p ≤ 3600000000) × IsFirstLine rest (preferred_line p) after → IsAt (AtRenditions t p) bytes after 3
-at_renditions bytes rest after t p at read =
-    at_next (AtPreferred t) (AtRenditions t p) bytes rest (preferred_line p) after 2 at read.2 (at.is_stage, (read.0, read.1)) refl
+pub at_charged : (bytes rest after : List ℕ) (charge : ℕ) → IsAt AtRule bytes rest 1 →
+    (0 ≤ charge) × (charge ≤ 3600000000) × IsFirstLine rest (charge_line charge) after → IsAt (AtTarget (Charged charge)) bytes after 2
+at_charged bytes rest after charge at read =
+    at_next AtRule (AtTarget (Charged charge)) bytes rest (charge_line charge) after 1 at read.2 read.1 refl
 
-pub at_count : (bytes rest after : List ℕ) (t p r : ℕ) → IsAt (AtRenditions t p) bytes rest 3 →
-    (1 ≤ r) × (r ≤ 16) × IsFirstLine rest (renditions_line r) after → IsAt (AtCount t p r) bytes after 4
-at_count bytes rest after t p r at read =
-    at_next (AtRenditions t p) (AtCount t p r) bytes rest (renditions_line r) after 3 at read.2
-    (at.is_stage.0, at.is_stage.1, (read.0, read.1)) refl
+pub at_preferred : (bytes rest after : List ℕ) (rule : CostRule) (t passed : ℕ) → IsAt (AtTarget rule) bytes rest passed →
+    (1 ≤ t) × (t ≤ 3600) × IsFirstLine rest (target_line t) after → IsAt (AtPreferred rule t) bytes after (passed + 1)
+at_preferred bytes rest after rule t passed at read =
+    at_next (AtTarget rule) (AtPreferred rule t) bytes rest (target_line t) after passed at read.2 (at.is_stage, (read.0, read.1)) refl
 
-pub at_places : (bytes rest after : List ℕ) (h : Head) → IsAt (AtCount h.target h.preferred h.renditions) bytes rest 4 →
-    (2 ≤ h.count) × (h.count ≤ 16384) × IsFirstLine rest (places_line h.count) after → IsAt (AtPlace h []) bytes after 5
-at_places bytes rest after h at read =
-    at_next (AtCount h.target h.preferred h.renditions) (AtPlace h []) bytes rest (places_line h.count) after 4 at read.2
+-- a number of lines that were passed, told in another way
+counted_as : (s : Stage) (bytes rest : List ℕ) (m n : ℕ) → m ≡ n → IsAt s bytes rest m → IsAt s bytes rest n
+counted_as s bytes rest m n same at = subst (IsAt s bytes rest) same at
+
+pub at_renditions : (bytes rest after : List ℕ) (rule : CostRule) (t p passed : ℕ) → IsAt (AtPreferred rule t) bytes rest (passed + 1) →
+    (1 ≤ p) × (p ≤ 3600000000) × IsFirstLine rest (preferred_line p) after → IsAt (AtRenditions (goal_of t p rule)) bytes after (passed + 2)
+at_renditions bytes rest after rule t p passed at read =
+    counted_as (AtRenditions (goal_of t p rule)) bytes after (passed + 1 + 1) (passed + 2) (omega arith)
+    (at_next (AtPreferred rule t) (AtRenditions (goal_of t p rule)) bytes rest (preferred_line p) after (passed + 1) at read.2
+    (record { target = at.is_stage.1; preferred = (read.0, read.1); charge = at.is_stage.0 })
+    (sym (append_assoc (rule_lines rule) (target_line t ∷ []) (preferred_line p ∷ []))))
+
+pub at_count : (bytes rest after : List ℕ) (g : Goal) (r passed : ℕ) → IsAt (AtRenditions g) bytes rest passed →
+    (1 ≤ r) × (r ≤ 16) × IsFirstLine rest (renditions_line r) after → IsAt (AtCount g r) bytes after (passed + 1)
+at_count bytes rest after g r passed at read =
+    at_next (AtRenditions g) (AtCount g r) bytes rest (renditions_line r) after passed at read.2 (at.is_stage, (read.0, read.1))
+    (sym (append_assoc (rule_lines g.rule) (target_line g.target ∷ preferred_line g.preferred ∷ []) (renditions_line r ∷ [])))
+
+pub at_places : (bytes rest after : List ℕ) (h : Head) (passed : ℕ) → IsAt (AtCount h.goal h.renditions) bytes rest (passed + 1) →
+    (2 ≤ h.count) × (h.count ≤ 16384) × IsFirstLine rest (places_line h.count) after → IsAt (AtPlace h []) bytes after (passed + 2)
+at_places bytes rest after h passed at read =
+    counted_as (AtPlace h []) bytes after (passed + 1 + 1) (passed + 2) (omega arith)
+    (at_next (AtCount h.goal h.renditions) (AtPlace h []) bytes rest (places_line h.count) after (passed + 1) at read.2
     (record {
-      head = record { target = at.is_stage.0; preferred = at.is_stage.1; renditions = at.is_stage.2; count = (read.0, read.1) };
+      head = record { goal = at.is_stage.0; renditions = at.is_stage.1; count = (read.0, read.1) };
       room = omega (arith, read.0);
       each = All-nil (IsPlaceOf h.renditions);
-    }) refl
+    })
+    (append-nil (lines_of h)
+    ∙ sym (append_assoc (rule_lines h.goal.rule) (target_line h.goal.target ∷ preferred_line h.goal.preferred ∷ renditions_line h.renditions ∷ [])
+    (places_line h.count ∷ []))))
+
+-- a first line that is of neither version
+pub header_missing : (bytes : List ℕ) → (cut_text bytes).lines ≡ [] → IsFirstWrong bytes 1
+header_missing bytes none =
+    first_wrong AtHeader tt bytes bytes 0 (at_start bytes) (λ line after here good. let e : [] ≡ line ∷ after = sym none ∙ here in absurd cc)
+
+pub header_bad : (bytes line after : List ℕ) → IsFirstLine bytes line after → (line ≡ header_line → ⊥) → (line ≡ ruled_header_line → ⊥) →
+    IsFirstWrong bytes 1
+header_bad bytes line after first not_one not_two =
+    first_wrong AtHeader tt bytes bytes 0 (at_start bytes)
+    (λ other others here good.
+    let heads : line ∷ (cut_text after).lines ≡ other ∷ others = sym (first_cut bytes line after first).0 ∙ here in
+    let same : line ≡ other = cc in
+    elim (subst (λ (l : List ℕ). (l ≡ header_line) ⊎ (l ≡ ruled_header_line)) (sym same) good) [
+      | inl one ↦ not_one one
+      | inr two ↦ not_two two
+    ])

@@ -9,9 +9,6 @@ use Rattle.hls_check_text.specs.declared.wrong_line.WrongLine.{WrongLine}
 use Rattle.hls_check_text.specs.Text.{plan_line, place_line}
 use Rattle.hls_check_text.specs.Stages.{IsNumberLine, Refuses}
 
-abbrev pub IsWord : List ℕ → List ℕ → Type 0
-IsWord word line = line ≡ word
-
 -- a line of a word and a number of this range
 abbrev pub IsInRange : List ℕ → ℕ → ℕ → List ℕ → Type 0
 IsInRange word low high line = IsNumberLine (number_line word) (λ n. (low ≤ n) × (n ≤ high)) line

@@ -1,30 +1,34 @@
 -- For the proofs of this crate; no public clause cites it.
 -- How far a reader has come: the lines that it has passed, and which lines may come next.
 use Rattle.std.specs.Prelude.{◌≡◌, ℕ, ◌+◌, ◌^◌, ◌<◌, ◌≤◌, List, [], ◌∷◌, ◌++◌, length, map, All, Option, Bool, ◌⊎◌, Result, Ok, Err}
+use Rattle.hls_check_laws.specs.declared.cost_rule.CostRule.{CostRule}
+use Rattle.hls_check_laws.specs.declared.cost_rule.CostRule.TheVariants.{Deviation, Charged}
+use Rattle.hls_check_laws.specs.declared.goal.Goal.{Goal}
 use Rattle.hls_check_laws.specs.declared.spot.Spot.{Spot}
 use Rattle.hls_check_laws.specs.declared.cert_fault.CertFault.{CertFault}
 use Rattle.hls_check_laws.specs.declared.cert_fault.CertFault.TheVariants.{Form, TableNotSorted, PlanEnds, PlanStep, PlanCost, PriceStart, PriceStep, EndReached, Memory}
-use Rattle.hls_check_laws.specs.Tables.{Table, IsTable, IsPlaceOf, table_of, target_limit, preferred_limit, rendition_limit, place_limit}
+use Rattle.hls_check_laws.specs.Tables.{Table, IsTable, IsPlaceOf, IsGoal, charge_of, table_of, target_limit, preferred_limit, charge_limit, rendition_limit, place_limit}
 use Rattle.hls_check_laws.specs.Certificates.{Printed, Shown, CutShown, NoneShown, IsCertificate, IsPriceInRange}
 use Rattle.hls_text.specs.Lines.{cut_text}
 use Rattle.hls_check_text.specs.declared.head.Head.{Head}
 use Rattle.hls_check_text.specs.declared.wrong_line.WrongLine.{WrongLine}
 use Rattle.hls_check_text.specs.Wrong.{IsFirstWrong, IsGoodText, IsReading}
-use Rattle.hls_check_text.specs.Text.{header_line, target_line, preferred_line, renditions_line, places_line, cut_line, none_line, end_line, plan_line, price_line, closed_line, place_line, head_lines, table_lines, lines, Priced, priced_from, members_from}
+use Rattle.hls_check_text.specs.Text.{header_line, ruled_header_line, charge_line, rule_lines, target_line, preferred_line, renditions_line, places_line, cut_line, none_line, end_line, plan_line, price_line, closed_line, place_line, head_lines, table_lines, lines, Priced, priced_from, members_from}
 
 -- the lines above the places
 abbrev pub lines_of : Head → List (List ℕ)
-lines_of h = head_lines h.target h.preferred h.renditions h.count
+lines_of h = head_lines h.goal h.renditions h.count
 
 abbrev pub printed : Table → Shown → Printed
 printed t shown = record { table = t; shown = shown }
 
 pub data Stage : Type 0 where
   AtHeader : Stage
-  AtTarget : Stage
-  AtPreferred : (target : ℕ) → Stage
-  AtRenditions : (target preferred : ℕ) → Stage
-  AtCount : (target preferred renditions : ℕ) → Stage
+  AtRule : Stage
+  AtTarget : (rule : CostRule) → Stage
+  AtPreferred : (rule : CostRule) (target : ℕ) → Stage
+  AtRenditions : (goal : Goal) → Stage
+  AtCount : (goal : Goal) (renditions : ℕ) → Stage
   AtPlace : (head : Head) (places : List (List Spot)) → Stage
   AtClaim : (table : Table) → Stage
   AtPlan : (table : Table) (total : ℕ) → Stage
@@ -35,11 +39,12 @@ pub data Stage : Type 0 where
 -- the lines that were passed
 abbrev pub front : Stage → List (List ℕ)
 front AtHeader = []
-front AtTarget = header_line ∷ []
-front (AtPreferred target) = header_line ∷ target_line target ∷ []
-front (AtRenditions target preferred) = header_line ∷ target_line target ∷ preferred_line preferred ∷ []
-front (AtCount target preferred renditions) =
-    header_line ∷ target_line target ∷ preferred_line preferred ∷ renditions_line renditions ∷ []
+front AtRule = ruled_header_line ∷ []
+front (AtTarget rule) = rule_lines rule
+front (AtPreferred rule target) = rule_lines rule ++ (target_line target ∷ [])
+front (AtRenditions goal) = rule_lines goal.rule ++ (target_line goal.target ∷ preferred_line goal.preferred ∷ [])
+front (AtCount goal renditions) =
+    rule_lines goal.rule ++ (target_line goal.target ∷ preferred_line goal.preferred ∷ renditions_line renditions ∷ [])
 front (AtPlace head places) = lines_of head ++ map place_line places
 front (AtClaim table) = table_lines table
 front (AtPlan table total) = table_lines table ++ (cut_line total ∷ [])
@@ -47,6 +52,12 @@ front (AtPrice table total plan prices) =
     table_lines table ++ (cut_line total ∷ plan_line plan ∷ map price_line (priced_from 0 prices))
 front (AtClosed table closed) = table_lines table ++ (none_line ∷ map closed_line (members_from 0 closed))
 front (AtEnd certificate) = lines certificate
+
+abbrev pub IsCharge : ℕ → Type 0
+IsCharge n = (0 ≤ n) × (n ≤ charge_limit)
+
+abbrev pub IsRule : CostRule → Type 0
+IsRule rule = charge_of rule ≤ charge_limit
 
 abbrev pub IsTarget : ℕ → Type 0
 IsTarget n = (1 ≤ n) × (n ≤ target_limit)
@@ -61,8 +72,7 @@ abbrev pub IsCount : ℕ → Type 0
 IsCount n = (2 ≤ n) × (n ≤ place_limit)
 
 pub record IsHead (h : Head) : Type 0 where
-  pub target : IsTarget h.target
-  pub preferred : IsPreferred h.preferred
+  pub goal : IsGoal h.goal
   pub renditions : IsRenditions h.renditions
   pub count : IsCount h.count
 
@@ -98,10 +108,11 @@ pub record IsClosing (count : ℕ) (closed : List Bool) : Type 0 where
 
 abbrev pub IsStage : Stage → Type 0
 IsStage AtHeader = Unit {0}
-IsStage AtTarget = Unit {0}
-IsStage (AtPreferred target) = IsTarget target
-IsStage (AtRenditions target preferred) = IsTarget target × IsPreferred preferred
-IsStage (AtCount target preferred renditions) = IsTarget target × IsPreferred preferred × IsRenditions renditions
+IsStage AtRule = Unit {0}
+IsStage (AtTarget rule) = IsRule rule
+IsStage (AtPreferred rule target) = IsRule rule × IsTarget target
+IsStage (AtRenditions goal) = IsGoal goal
+IsStage (AtCount goal renditions) = IsGoal goal × IsRenditions renditions
 IsStage (AtPlace head places) = ArePlaces head places
 IsStage (AtClaim table) = IsTable table
 IsStage (AtPlan table total) = IsTable table × (total < 2 ^ 53)
@@ -142,11 +153,12 @@ pub record IsClosedLine (low count : ℕ) (line : List ℕ) : Type 0 where
 
 -- which line may come next
 abbrev pub IsNext : Stage → List ℕ → Type 0
-IsNext AtHeader line = line ≡ header_line
-IsNext AtTarget line = IsNumberLine target_line IsTarget line
-IsNext (AtPreferred target) line = IsNumberLine preferred_line IsPreferred line
-IsNext (AtRenditions target preferred) line = IsNumberLine renditions_line IsRenditions line
-IsNext (AtCount target preferred renditions) line = IsNumberLine places_line IsCount line
+IsNext AtHeader line = (line ≡ header_line) ⊎ (line ≡ ruled_header_line)
+IsNext AtRule line = IsNumberLine charge_line IsCharge line
+IsNext (AtTarget rule) line = IsNumberLine target_line IsTarget line
+IsNext (AtPreferred rule target) line = IsNumberLine preferred_line IsPreferred line
+IsNext (AtRenditions goal) line = IsNumberLine renditions_line IsRenditions line
+IsNext (AtCount goal renditions) line = IsNumberLine places_line IsCount line
 IsNext (AtPlace head places) line = IsPlaceLine head.renditions line
 IsNext (AtClaim table) line = (line ≡ none_line) ⊎ IsNumberLine cut_line (λ n. n < 2 ^ 53) line
 IsNext (AtPlan table total) line = IsPlanLine (length table.places) line
@@ -191,14 +203,14 @@ Scans bytes (Ok done) = IsGoodText bytes
 Scans bytes (Err wrong) = IsFirstWrong bytes wrong.line
 
 -- a table's places were passed over, and its claim comes next
-pub record PassesPlaces (head : Head) (bytes rest : List ℕ) : Type 0 where
+pub record PassesPlaces (head : Head) (bytes rest : List ℕ) (passed : ℕ) : Type 0 where
   pub places : List (List Spot)
   pub count : length places ≡ head.count
-  pub at : IsAt (AtClaim (table_of head.target head.preferred head.renditions places)) bytes rest (5 + head.count)
+  pub at : IsAt (AtClaim (table_of head.goal head.renditions places)) bytes rest passed
 
 -- a table's places were read, and its claim comes next
-abbrev pub HasPlaces : Head → List ℕ → List (List Spot) → List ℕ → Type 0
-HasPlaces head bytes places rest = IsAt (AtClaim (table_of head.target head.preferred head.renditions places)) bytes rest (5 + head.count)
+abbrev pub HasPlaces : Head → List ℕ → List (List Spot) → List ℕ → ℕ → Type 0
+HasPlaces head bytes places rest passed = IsAt (AtClaim (table_of head.goal head.renditions places)) bytes rest passed
 
 -- the whole of a cut, or of a closed set, was read
 abbrev pub EndsCut : List ℕ → Table → ℕ → List ℕ → List (Option ℕ) → List ℕ → ℕ → Type 0
@@ -215,8 +227,8 @@ abbrev pub StopsScanning : List ℕ → WrongLine → Type 0
 StopsScanning bytes wrong = IsFirstWrong bytes wrong.line
 
 -- what holds of every text of which this is left behind its head
-abbrev pub OfPlaces : Head → List ℕ → (List ℕ → Type 0) → Type 0
-OfPlaces head rest Then = (bytes : List ℕ) → IsAt (AtPlace head []) bytes rest 5 → Then bytes
+abbrev pub OfPlaces : Head → List ℕ → ℕ → (List ℕ → Type 0) → Type 0
+OfPlaces head rest passed Then = (bytes : List ℕ) → IsAt (AtPlace head []) bytes rest passed → Then bytes
 
 -- of which this is left at the claim, at the plan, behind the plan, or behind the line that says none, over a table of so
 -- many places

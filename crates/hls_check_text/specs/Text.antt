@@ -1,5 +1,9 @@
--- The one text of a certificate: its lines, each of one spelling.
+-- The one text of a certificate: its lines, each of one spelling. Version 1 is that of rule 1; version 2 tells its rule in
+-- the second line.
 use Rattle.std.specs.Prelude.{ℕ, ◌+◌, ◌<◌, List, [], ◌∷◌, ◌++◌, length, map, codes, Option, Some, None, Bool, true, false}
+use Rattle.hls_check_laws.specs.declared.cost_rule.CostRule.{CostRule}
+use Rattle.hls_check_laws.specs.declared.cost_rule.CostRule.TheVariants.{Deviation, Charged}
+use Rattle.hls_check_laws.specs.declared.goal.Goal.{Goal}
 use Rattle.hls_check_laws.specs.declared.spot.Spot.{Spot}
 use Rattle.hls_check_laws.specs.declared.certificate.Claim.{Claim}
 use Rattle.hls_check_laws.specs.declared.certificate.Claim.TheVariants.{Cut, NoCut}
@@ -11,11 +15,17 @@ use Rattle.hls_text.specs.Numbers.{words, number_line}
 abbrev pub header_line : List ℕ
 header_line = codes "HLS-CUT-CERTIFICATE 1"
 
+abbrev pub ruled_header_line : List ℕ
+ruled_header_line = codes "HLS-CUT-CERTIFICATE 2"
+
 abbrev pub none_line : List ℕ
 none_line = codes "none"
 
 abbrev pub end_line : List ℕ
 end_line = codes "end"
+
+abbrev pub charge_line : ℕ → List ℕ
+charge_line n = number_line (codes "rule 2 ") n
 
 abbrev pub target_line : ℕ → List ℕ
 target_line n = number_line (codes "target ") n
@@ -70,12 +80,18 @@ members_from p [] = []
 members_from p (false ∷ closed) = members_from (p + 1) closed
 members_from p (true ∷ closed) = p ∷ members_from (p + 1) closed
 
-abbrev pub head_lines : ℕ → ℕ → ℕ → ℕ → List (List ℕ)
-head_lines target preferred renditions count =
-    header_line ∷ target_line target ∷ preferred_line preferred ∷ renditions_line renditions ∷ places_line count ∷ []
+-- the lines that tell the version, and with it the rule
+abbrev pub rule_lines : CostRule → List (List ℕ)
+rule_lines Deviation = header_line ∷ []
+rule_lines (Charged charge) = ruled_header_line ∷ charge_line charge ∷ []
+
+abbrev pub head_lines : Goal → ℕ → ℕ → List (List ℕ)
+head_lines goal renditions count =
+    rule_lines goal.rule
+    ++ (target_line goal.target ∷ preferred_line goal.preferred ∷ renditions_line renditions ∷ places_line count ∷ [])
 
 unfoldable pub table_lines : Table → List (List ℕ)
-table_lines t = head_lines t.target t.preferred t.renditions (length t.places) ++ map place_line t.places
+table_lines t = head_lines t.goal t.renditions (length t.places) ++ map place_line t.places
 
 unfoldable pub shown_lines : Shown → List (List ℕ)
 shown_lines (CutShown total plan prices) =

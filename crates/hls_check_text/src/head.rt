@@ -1,49 +1,100 @@
 //! The lines above the places.
-ghost use Rattle.std.specs.Prelude.{◌≡◌, ◌+◌, ◌≤◌, [], length, MatchResult, IfOk};
+ghost use Rattle.std.specs.Prelude.{◌≡◌, ◌+◌, ◌^◌, ◌<◌, ◌≤◌, ℕ, List, [], length, MatchResult, IfOk};
+ghost use Rattle.hls_check_laws.specs.Tables.{goal_of};
 ghost use Rattle.hls_check_text.specs.Wrong.{IsFirstWrong};
-ghost use Rattle.hls_check_text.specs.Stages.{IsAt, AtPlace};
+ghost use Rattle.hls_check_text.specs.Stages.{IsAt, AtTarget, AtRenditions, AtPlace, StopsScanning};
 
-use crate::next::{next_number, next_word};
+use crate::line::is_word;
+use crate::next::next_number;
 use crate::wrong_line::WrongLine;
-use hls_check_laws::{PLACE_LIMIT, PREFERRED_LIMIT, RENDITION_LIMIT, TARGET_LIMIT};
+use hls_check_laws::{
+    CHARGE_LIMIT, CostRule, Goal, PLACE_LIMIT, PREFERRED_LIMIT, RENDITION_LIMIT, TARGET_LIMIT,
+};
+use hls_text::take_line;
 
-/// The numbers of the lines above the places: the target in seconds, the preferred length in microseconds, and how
-/// many renditions and places the table has.
+/// What the lines above the places say: the goal, and how many renditions and places the table has.
 #[derive(Clone, Copy)]
 pub struct Head {
-    pub target: u64,
-    pub preferred: u64,
+    pub goal: Goal,
     pub renditions: usize,
     pub count: usize,
 }
 
-/// The five lines above the places.
-pub fn read_head(bytes: &[u8]) -> Result<(Head, &[u8]), WrongLine>
-    ensures head { MatchResult result (λ f. IsAt (AtPlace f.0 []) bytes.entry.now f.1.now 5) (λ wrong. IsFirstWrong bytes.entry.now wrong.line) }
-    ensures shorter { IfOk result (λ f. 5 + length f.1.now ≤ length bytes.entry.now) }
+// The rule that the version's lines tell, and how many they are: one in version 1, two in version 2.
+fn read_rule(bytes: &[u8]) -> Result<(CostRule, &[u8], usize), WrongLine>
+    ensures rule { MatchResult result (λ f. IsAt (AtTarget f.0) bytes.entry.now f.1.now f.2) (λ wrong. IsFirstWrong bytes.entry.now wrong.line) }
+    ensures shorter { IfOk result (λ f. f.2 + length f.1.now ≤ length bytes.entry.now) }
 {
-    let after_header = next_word(bytes, 0, b"HLS-CUT-CERTIFICATE 1")?;
-    let (target, after_target) = next_number(after_header, 1, b"target ", 1, TARGET_LIMIT)?;
-    let (preferred, after_preferred) = next_number(
+    let Some((line, after)) = take_line(bytes) else {
+        return Err(WrongLine { line: 1 });
+    };
+    if is_word(line, b"HLS-CUT-CERTIFICATE 1") {
+        return Ok((CostRule::Deviation, after, 1));
+    }
+    if !is_word(line, b"HLS-CUT-CERTIFICATE 2") {
+        return Err(WrongLine { line: 1 });
+    }
+    let (charge, rest) = next_number(after, 1, b"rule 2 ", 0, CHARGE_LIMIT)?;
+    Ok((CostRule::Charged(charge), rest, 2))
+}
+
+// The target and the preferred length behind a rule.
+fn read_goal(rule: CostRule, text: &[u8], passed: usize) -> Result<(Goal, &[u8]), WrongLine>
+    requires { passed + length text.now + 1 < 2 ^ 64 }
+    ensures goal { (bytes : List ℕ) → IsAt (AtTarget rule) bytes text.entry.now passed → MatchResult result (λ f. IsAt (AtRenditions f.0) bytes f.1.now (passed + 2)) (StopsScanning bytes) }
+    ensures shorter { IfOk result (λ f. 2 + length f.1.now ≤ length text.entry.now) }
+{
+    let (target, after_target) = next_number(text, passed, b"target ", 1, TARGET_LIMIT)?;
+    let (preferred, rest) = next_number(
         after_target,
-        2,
+        passed + 1,
         b"preferred ",
         1,
         PREFERRED_LIMIT,
     )?;
+    let goal = Goal {
+        target,
+        preferred,
+        rule,
+    };
+    Ok((goal, rest))
+}
+
+// The counts of renditions and of places behind a goal.
+fn read_counts(goal: Goal, text: &[u8], passed: usize) -> Result<(Head, &[u8]), WrongLine>
+    requires { passed + length text.now + 1 < 2 ^ 64 }
+    ensures head { (bytes : List ℕ) → IsAt (AtRenditions goal) bytes text.entry.now passed → MatchResult result (λ f. IsAt (AtPlace f.0 []) bytes f.1.now (passed + 2)) (StopsScanning bytes) }
+    ensures shorter { IfOk result (λ f. 2 + length f.1.now ≤ length text.entry.now) }
+{
     let (renditions, after_renditions) = next_number(
-        after_preferred,
-        3,
+        text,
+        passed,
         b"renditions ",
         1,
         RENDITION_LIMIT as u64,
     )?;
-    let (count, rest) = next_number(after_renditions, 4, b"places ", 2, PLACE_LIMIT as u64)?;
+    let (count, rest) = next_number(
+        after_renditions,
+        passed + 1,
+        b"places ",
+        2,
+        PLACE_LIMIT as u64,
+    )?;
     let head = Head {
-        target,
-        preferred,
+        goal,
         renditions: renditions as usize,
         count: count as usize,
     };
     Ok((head, rest))
+}
+
+/// The lines above the places, and how many they are.
+pub fn read_head(bytes: &[u8]) -> Result<(Head, &[u8], usize), WrongLine>
+    ensures head { MatchResult result (λ f. IsAt (AtPlace f.0 []) bytes.entry.now f.1.now f.2) (λ wrong. IsFirstWrong bytes.entry.now wrong.line) }
+    ensures shorter { IfOk result (λ f. f.2 + length f.1.now ≤ length bytes.entry.now) }
+{
+    let (rule, after_rule, passed) = read_rule(bytes)?;
+    let (goal, after_goal) = read_goal(rule, after_rule, passed)?;
+    let (head, rest) = read_counts(goal, after_goal, passed + 2)?;
+    Ok((head, rest, passed + 4))
 }

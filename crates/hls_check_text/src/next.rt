@@ -3,7 +3,7 @@ ghost use Rattle.std.specs.Prelude.{◌+◌, ◌^◌, ◌<◌, ◌≤◌, length
 ghost use Rattle.hls_text.specs.Lines.{IsFirstLine};
 ghost use Rattle.hls_check_laws.specs.Tables.{place_limit};
 ghost use Rattle.hls_check_text.specs.Stages.{RefusesOrLacks, IsRenditions, IsPlaceLine, IsPlanLine};
-ghost use Rattle.hls_check_text.specs.Nexts.{IsWord, IsWrongNext, IsWrongNumber, NumberNext, PlaceNext, PlanNext};
+ghost use Rattle.hls_check_text.specs.Nexts.{IsWrongNumber, NumberNext, PlaceNext, PlanNext};
 
 use crate::line::{number_in, plan_in};
 use crate::place::take_place;
@@ -11,22 +11,6 @@ use crate::wrong_line::WrongLine;
 use hls_check_laws::{CertFault, Spots};
 use hls_text::take_line;
 use std::alloc::Global;
-
-/// A line that is just this word.
-pub fn next_word<'a>(rest: &'a [u8], passed: usize, word: &[u8]) -> Result<&'a [u8], WrongLine>
-    requires { passed + length rest.now + 1 < 2 ^ 64 }
-    ensures line { MatchResult result (λ after. IsFirstLine rest.entry.now word.now after.now) (IsWrongNext (IsWord word.now) rest.entry.now passed) }
-    ensures shorter { IfOk result (λ after. length after.now < length rest.entry.now) }
-{
-    let Some((line, after)) = take_line(rest) else {
-        return Err(WrongLine { line: passed + 1 });
-    };
-    if line == word {
-        Ok(after)
-    } else {
-        Err(WrongLine { line: passed + 1 })
-    }
-}
 
 /// A line of a word and a number of this range.
 pub fn next_number<'a>(

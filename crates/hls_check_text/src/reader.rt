@@ -20,16 +20,17 @@ fn read_places<'a>(
     alloc: Global,
     head: Head,
     text: &'a [u8],
+    first: usize,
 ) -> Result<(Vec<Spots>, &'a [u8]), CertFault>
-    requires room { 5 + length text.now + 1 < 2 ^ 64 }
+    requires room { first + length text.now + 1 < 2 ^ 64 }
     requires head { IsHead head }
-    ensures at { OfPlaces head text.entry.now (λ bytes. MatchResult result (λ f. HasPlaces head bytes f.0.items f.1.now) (StopsBuilding bytes)) }
+    ensures at { OfPlaces head text.entry.now first (λ bytes. MatchResult result (λ f. HasPlaces head bytes f.0.items f.1.now (first + head.count)) (StopsBuilding bytes)) }
     ensures shorter { IfOk result (λ f. head.count + length f.1.now ≤ length text.entry.now) }
 {
     let mut places = Vec::new(alloc);
     let mut rest = text;
     for p in 0..head.count {
-        let (place, after) = next_place(alloc, rest, 5 + p, head.renditions)?;
+        let (place, after) = next_place(alloc, rest, first + p, head.renditions)?;
         places.push(place)?;
         rest = after;
     }
@@ -167,10 +168,10 @@ fn read_claim(
 fn build(alloc: Global, bytes: &[u8]) -> Result<Certificate, CertFault>
     ensures { Builds bytes.now result }
 {
-    let (head, after_head) = read_head(bytes)?;
-    let (places, rest) = read_places(alloc, head, after_head)?;
-    let table = PrintedTable::new(head.target, head.preferred, head.renditions, places);
-    read_claim(alloc, table, rest, 5 + head.count)
+    let (head, after_head, passed) = read_head(bytes)?;
+    let (places, rest) = read_places(alloc, head, after_head, passed)?;
+    let table = PrintedTable::new(head.goal, head.renditions, places);
+    read_claim(alloc, table, rest, passed + head.count)
 }
 
 /// The certificate whose text this is.

@@ -13,16 +13,18 @@ use crate::wrong_line::WrongLine;
 use hls_text::take_line;
 
 // What stands behind the places' lines.
-fn scan_places(head: Head, text: &[u8]) -> Result<&[u8], WrongLine>
-    requires room { 5 + length text.now + 1 < 2 ^ 64 }
+fn scan_places(head: Head, text: &[u8], first: usize) -> Result<&[u8], WrongLine>
+    requires room { first + length text.now + 1 < 2 ^ 64 }
     requires head { IsHead head }
-    ensures at { OfPlaces head text.now (λ bytes. MatchResult result (λ rest. PassesPlaces head bytes rest.now) (StopsScanning bytes)) }
+    ensures at { OfPlaces head text.now first (λ bytes. MatchResult result (λ rest. PassesPlaces head bytes rest.now (first + head.count)) (StopsScanning bytes)) }
     ensures shorter { IfOk result (λ rest. head.count + length rest.now ≤ length text.now) }
 {
     let mut rest = text;
     for p in 0..head.count {
         let Some(after) = skip_place(rest, head.renditions) else {
-            return Err(WrongLine { line: 5 + p + 1 });
+            return Err(WrongLine {
+                line: first + p + 1,
+            });
         };
         rest = after;
     }
@@ -129,9 +131,9 @@ fn scan_claim(count: usize, text: &[u8], passed: usize) -> Result<(), WrongLine>
 fn scan(bytes: &[u8]) -> Result<(), WrongLine>
     ensures { Scans bytes.now result }
 {
-    let (head, after_head) = read_head(bytes)?;
-    let rest = scan_places(head, after_head)?;
-    scan_claim(head.count, rest, 5 + head.count)
+    let (head, after_head, passed) = read_head(bytes)?;
+    let rest = scan_places(head, after_head, passed)?;
+    scan_claim(head.count, rest, passed + head.count)
 }
 
 /// The first line, from 1, that isn't as the format says: a missing line counts as that line, and a last line without

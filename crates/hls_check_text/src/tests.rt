@@ -1,7 +1,7 @@
 //! Texts from outside: read, written, and refused by their first wrong line.
 
 use crate::{read, write};
-use hls_check_laws::CertFault;
+use hls_check_laws::{CertFault, CostRule};
 use std::alloc::{AllocError, Global};
 use std::test::Fail;
 
@@ -13,6 +13,10 @@ const NO_CUT: &str =
 
 const TWO_RENDITIONS: &str =
     "HLS-CUT-CERTIFICATE 1\ntarget 6\npreferred 4000000\nrenditions 2\nplaces 2\n0 0 0 0 0 0 5000 5000 0 0\n1 3000000 3000000 0 0 2 2990000 3010000 0 1\ncut 1000000\nplan 0 1\nprice 0 0\nprice 1 1000000\nend\n";
+
+// The five units again, each segment charged three seconds.
+const CHARGED: &str =
+    "HLS-CUT-CERTIFICATE 2\nrule 2 3000000\ntarget 6\npreferred 4000000\nrenditions 1\nplaces 5\n0 0 0 0 0\n1 3000000 3000000 0 0\n2 6000000 6000000 0 0\n3 7000000 7000000 0 0\n4 11000000 11000000 0 0\ncut 9000000\nplan 0 2 4\nprice 0 0\nprice 1 4000000\nprice 2 5000000\nprice 3 7000000\nprice 4 9000000\nend\n";
 
 // The first wrong line, 0 where there is none, or 99 for another fault.
 fn wrong_line(alloc: Global, text: &[u8]) -> usize {
@@ -43,7 +47,7 @@ fn wrong_with(alloc: Global, text: &str, number: usize, line: &str) -> Result<us
 
 #[test]
 fn a_text_is_written_as_it_was_read(rt: HostRuntime) -> Result<(), Fail> {
-    for text in [FIVE_UNITS, NO_CUT, TWO_RENDITIONS] {
+    for text in [FIVE_UNITS, NO_CUT, TWO_RENDITIONS, CHARGED] {
         let certificate = read(rt.alloc(), text.as_bytes())?;
         let written = write(rt.alloc(), &certificate)?;
         assert!(rt; written.as_slice() == text.as_bytes());
@@ -65,6 +69,60 @@ fn a_wrong_line_is_named(rt: HostRuntime) -> Result<(), Fail> {
     assert!(rt; wrong_with(alloc, FIVE_UNITS, 12, "plan 0 1 3 5")? == 12);
     assert!(rt; wrong_with(alloc, FIVE_UNITS, 15, "price 1 2000000")? == 15);
     assert!(rt; wrong_with(alloc, NO_CUT, 9, "closed 2")? == 9);
+    Ok(())
+}
+
+#[test]
+fn a_rule_is_told_by_the_version(rt: HostRuntime) -> Result<(), Fail> {
+    let alloc = rt.alloc();
+    let plain = read(alloc, FIVE_UNITS.as_bytes())?;
+    assert_eq!(rt; plain.table().rule(), CostRule::Deviation);
+    let charged = read(alloc, CHARGED.as_bytes())?;
+    assert_eq!(rt; charged.table().rule(), CostRule::Charged(3_000_000));
+    assert_eq!(rt; charged.table().preferred(), 4_000_000);
+    let free = with_line(alloc, CHARGED, 2, "rule 2 0")?;
+    let free = read(alloc, free.as_bytes())?;
+    assert_eq!(rt; free.table().rule(), CostRule::Charged(0));
+    Ok(())
+}
+
+// Any other line of the rule is refused.
+fn wrong_rules_are_named(alloc: Global) -> Result<bool, AllocError> {
+    for line in [
+        "",
+        "rule 1",
+        "rule 1 0",
+        "rule 2",
+        "rule 2 ",
+        "rule 2 03000000",
+        "rule 2  3000000",
+        "rule 2 3000000 ",
+        "rule 2 3000000 1",
+        "rule 2 3600000001",
+        "rule 3 3000000",
+        "Rule 2 3000000",
+        "target 6",
+    ] {
+        if wrong_with(alloc, CHARGED, 2, line)? != 2 {
+            return Ok(false);
+        }
+    }
+    Ok(true)
+}
+
+#[test]
+fn a_wrong_rule_is_named(rt: HostRuntime) -> Result<(), Fail> {
+    let alloc = rt.alloc();
+    assert!(rt; wrong_rules_are_named(alloc)?);
+    assert!(rt; wrong_with(alloc, CHARGED, 2, "rule 2 3600000000")? == 0);
+    assert!(rt; wrong_with(alloc, CHARGED, 1, "HLS-CUT-CERTIFICATE 1")? == 2);
+    assert!(rt; wrong_with(alloc, CHARGED, 1, "HLS-CUT-CERTIFICATE 3")? == 1);
+    assert!(rt; wrong_with(alloc, FIVE_UNITS, 1, "HLS-CUT-CERTIFICATE 2")? == 2);
+    assert!(rt; wrong_with(alloc, CHARGED, 3, "target 3601")? == 3);
+    assert!(rt; wrong_with(alloc, CHARGED, 6, "places 16385")? == 6);
+    assert!(rt; wrong_with(alloc, CHARGED, 8, "1  3000000 3000000 0 0")? == 8);
+    assert!(rt; wrong_with(alloc, CHARGED, 12, "cut 09000000")? == 12);
+    assert!(rt; wrong_with(alloc, CHARGED, 18, "price 3 9000000")? == 18);
     Ok(())
 }
 
@@ -130,5 +188,6 @@ fn each_shorter_beginning_is_refused(rt: HostRuntime) -> Result<(), Fail> {
     assert!(rt; beginnings_are_refused(rt.alloc(), FIVE_UNITS));
     assert!(rt; beginnings_are_refused(rt.alloc(), NO_CUT));
     assert!(rt; beginnings_are_refused(rt.alloc(), TWO_RENDITIONS));
+    assert!(rt; beginnings_are_refused(rt.alloc(), CHARGED));
     Ok(())
 }

@@ -4,9 +4,9 @@ ghost use Rattle.std.specs.Fmt.{decimal};
 ghost use Rattle.hls_text.specs.Lines.{joined};
 ghost use Rattle.hls_text.specs.Numbers.{words, spaced, number_line};
 ghost use Rattle.hls_check_laws.specs.Certificates.{CutShown, NoneShown, shown_by};
-ghost use Rattle.hls_check_text.specs.Text.{place_numbers, place_line, plan_line, price_line, closed_line, priced, priced_from, members_from, table_lines, shown_lines, text, IsShowable};
+ghost use Rattle.hls_check_text.specs.Text.{place_numbers, place_line, plan_line, price_line, closed_line, priced, priced_from, members_from, rule_lines, table_lines, shown_lines, text, IsShowable};
 
-use hls_check_laws::{Certificate, Claim, PrintedTable, Spot, Spots};
+use hls_check_laws::{Certificate, Claim, CostRule, PrintedTable, Spot, Spots};
 use std::alloc::{AllocError, Global};
 
 // A number in decimal.
@@ -185,11 +185,25 @@ fn push_closed(out: &mut Vec<u8>, closed: &[bool]) -> Result<(), AllocError>
     Ok(())
 }
 
+// The lines that tell the version, and with it the rule.
+fn push_rule(out: &mut Vec<u8>, rule: CostRule) -> Result<(), AllocError>
+    ensures { IfOk result (λ _. out.new.items ≡ out.old.items ++ joined (rule_lines rule)) }
+{
+    match rule {
+        CostRule::Deviation => push_word(out, b"HLS-CUT-CERTIFICATE 1"),
+        CostRule::Charged(charge) => {
+            push_word(out, b"HLS-CUT-CERTIFICATE 2")?;
+            push_number_line(out, b"rule 2 ", charge)?;
+            Ok(())
+        }
+    }
+}
+
 // The lines of a table.
 fn push_table(out: &mut Vec<u8>, table: &PrintedTable) -> Result<(), AllocError>
     ensures { IfOk result (λ _. out.new.items ≡ out.old.items ++ joined (table_lines table.now)) }
 {
-    push_word(out, b"HLS-CUT-CERTIFICATE 1")?;
+    push_rule(out, table.rule())?;
     push_number_line(out, b"target ", table.target())?;
     push_number_line(out, b"preferred ", table.preferred())?;
     push_number_line(out, b"renditions ", table.renditions() as u64)?;

@@ -1,34 +1,32 @@
 //! The table that a programme is cut from.
 
 ghost use Rattle.std.specs.Prelude.{◌≡◌, ◌+◌, ◌-◌, ◌<◌, ◌≤◌, length, map, IfOk};
-ghost use Rattle.hls_check_laws.specs.Tables.{target_limit, preferred_limit, place_limit};
+ghost use Rattle.hls_check_laws.specs.Tables.{IsGoal, place_limit};
 ghost use Rattle.hls_places_laws.specs.Order.{time_of, spots_of, ArePlaces};
 ghost use Rattle.hls_places_laws.specs.Firsts.{first_after, first_from};
 ghost use Rattle.hls_places_laws.specs.Programmes.{cut_out, IsProgramme};
 
-use hls_check_laws::{PLACE_LIMIT, PlaceTable, PrintedTable, Spots};
+use hls_check_laws::{Goal, PLACE_LIMIT, PlaceTable, PrintedTable, Spots};
 use hls_places_laws::{Place, ProgrammeFault};
 use std::alloc::{AllocError, Global};
 
 /// The table that a programme from `start_us` to `stop_us` is cut from: all places from the last one at or
 /// before its start to the first one at or after its stop. `places` are the kept ones in order of time,
-/// `finished` says whether all renditions are. The target is in seconds, the other times are microseconds.
+/// `finished` says whether all renditions are. The times are microseconds.
 ///
 /// The faults come in the order in which `ProgrammeFault` lists them.
 pub fn programme(
     alloc: Global,
     places: &[&Place],
-    target: u64,
-    preferred: u64,
+    goal: Goal,
     finished: bool,
     start_us: u64,
     stop_us: u64,
 ) -> Result<PlaceTable, ProgrammeFault>
     requires order { start_us < stop_us }
-    requires target { (1 ≤ target) × (target ≤ target_limit) }
-    requires preferred { (1 ≤ preferred) × (preferred ≤ preferred_limit) }
+    requires goal { IsGoal goal }
     requires places { ArePlaces (map (λ p. p.now) places.now) }
-    ensures { IsProgramme target preferred (map (λ p. p.now) places.now) finished start_us stop_us result }
+    ensures { IsProgramme goal (map (λ p. p.now) places.now) finished start_us stop_us result }
 {
     let after = first_after(places, start_us);
     if after == 0 {
@@ -46,29 +44,27 @@ pub fn programme(
     if PLACE_LIMIT < to + 1 - from {
         return Err(ProgrammeFault::ProgrammeTooLong);
     }
-    Ok(table(alloc, places, target, preferred, from, to)?)
+    Ok(table(alloc, places, goal, from, to)?)
 }
 
 /// The table of the places from number `from` to number `to`, that one included.
 fn table(
     alloc: Global,
     places: &[&Place],
-    target: u64,
-    preferred: u64,
+    goal: Goal,
     from: usize,
     to: usize,
 ) -> Result<PlaceTable, AllocError>
-    requires target { (1 ≤ target) × (target ≤ target_limit) }
-    requires preferred { (1 ≤ preferred) × (preferred ≤ preferred_limit) }
+    requires goal { IsGoal goal }
     requires places { ArePlaces (map (λ p. p.now) places.now) }
     requires order { from < to }
     requires within { to < length places.now }
     requires few { to + 1 - from ≤ place_limit }
-    ensures { IfOk result (λ table. table ≡ cut_out target preferred (map (λ p. p.now) places.now) from to) }
+    ensures { IfOk result (λ table. table ≡ cut_out goal (map (λ p. p.now) places.now) from to) }
 {
     let renditions = places[0].spots.len();
     let spots = spots_of(alloc, &places[from..to + 1])?;
-    Ok(PlaceTable::new(PrintedTable::new(target, preferred, renditions, spots)))
+    Ok(PlaceTable::new(PrintedTable::new(goal, renditions, spots)))
 }
 
 /// When a place starts in rendition 0.

@@ -13,7 +13,8 @@ pub fn allowed(table: &PlaceTable, p: usize, q: usize) -> bool
     table.allowed(p, q)
 }
 
-/// What that segment costs: how far its length in rendition 0 is from the preferred one, in microseconds.
+/// What that segment costs: how far its length in rendition 0 is from the preferred one, and what the table's rule charges
+/// for it, in microseconds.
 pub fn cost(table: &PlaceTable, p: usize, q: usize) -> u64
     requires { Allowed table.now p q }
     ensures cost { result ≡ cost table.now p q }

@@ -2,8 +2,10 @@
 use Rattle.std.proofs.Common.{◌≡◌, ℕ, zero, suc, ◌-◌, ◌<◌, List, [], ◌∷◌, Bool, true, false, arith, refl}
 use Rattle.std.specs.Prelude.{Ok, Err}
 use Rattle.hls_media_laws.specs.declared.facts.Facts.{Facts}
+use Rattle.hls_check_laws.specs.declared.cost_rule.CostRule.TheVariants.{Deviation}
+use Rattle.hls_check_laws.specs.declared.goal.Goal.{Goal}
 use Rattle.hls_check_laws.specs.declared.spot.Spot.{Spot}
-use Rattle.hls_check_laws.specs.Tables.{table_of}
+use Rattle.hls_check_laws.specs.Tables.{goal_of, table_of}
 use Rattle.hls_places_laws.specs.declared.place.Place.{Place}
 use Rattle.hls_places_laws.specs.declared.programme_fault.ProgrammeFault.TheVariants.{BeforeRecording, NotYet, AfterRecording}
 use Rattle.hls_places_laws.specs.Sources.{Source}
@@ -66,11 +68,14 @@ three P one two last (suc zero) h = two
 three P one two last (suc (suc zero)) h = last
 three P one two last (suc (suc (suc n))) h = absurd (omega arith)
 
-before_recording : IsProgramme 6 4000000 late true 0 8000000 (Err BeforeRecording)
+abbrev plain_goal : Goal
+plain_goal = goal_of 6 4000000 Deviation
+
+before_recording : IsProgramme plain_goal late true 0 8000000 (Err BeforeRecording)
 before_recording = three (λ n. 0 < time_at late n) (omega arith) (omega arith) (omega arith)
 
-from_its_start : IsProgramme 6 4000000 late true 4000000 8000000
-    (Ok (table_of 6 4000000 1 ((spot 0 4000000 4000000 0 0 ∷ []) ∷ (spot 1 8000000 8000000 0 0 ∷ []) ∷ [])))
+from_its_start : IsProgramme plain_goal late true 4000000 8000000
+    (Ok (table_of plain_goal 1 ((spot 0 4000000 4000000 0 0 ∷ []) ∷ (spot 1 8000000 8000000 0 0 ∷ []) ∷ [])))
 from_its_start = (
   record {
     s = 0;
@@ -90,7 +95,7 @@ from_its_start = (
   omega arith,
 )
 
-after_recording : IsProgramme 6 4000000 late true 4000000 12000001 (Err AfterRecording)
+after_recording : IsProgramme plain_goal late true 4000000 12000001 (Err AfterRecording)
 after_recording = (
   record {
     begins = λ none. (let past : 4000000 < time_at late 0 = none 0 (omega arith) in omega arith);
@@ -108,7 +113,7 @@ two P one last zero h = one
 two P one last (suc zero) h = last
 two P one last (suc (suc n)) h = absurd (omega arith)
 
-not_yet : IsProgramme 6 4000000 going false 4000000 8000001 (Err NotYet)
+not_yet : IsProgramme plain_goal going false 4000000 8000001 (Err NotYet)
 not_yet = (
   record {
     begins = λ none. (let past : 4000000 < time_at going 0 = none 0 (omega arith) in omega arith);

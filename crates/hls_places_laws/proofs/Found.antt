@@ -5,6 +5,7 @@ use Rattle.std.specs.List.{slice_range}
 use Rattle.std.proofs.lemmas.Bool.{cases_lt, ltb-true, ltb-false, leb-true, leb-false}
 use Rattle.std.proofs.lemmas.List.{length-map}
 use Rattle.std.proofs.lemmas.List.Sums.{fails_before_first, passes_at_first, prefix_len-le-length}
+use Rattle.hls_check_laws.specs.declared.goal.Goal.{Goal}
 use Rattle.hls_check_laws.specs.Tables.{Table, place_limit}
 use Rattle.hls_places_laws.specs.declared.place.Place.{Place}
 use Rattle.hls_places_laws.specs.Order.{no_place, time_of, spots_of, ArePlaces}
@@ -85,10 +86,10 @@ stops-late places are start stop some past = record {
 }
 
 -- the table from the last place at or before the start to the first at or after the stop, and how many places it has
-pub programme-found : (target preferred : ℕ) (places : List Place) → ArePlaces places → (start stop : ℕ) → 1 ≤ first_after start places →
+pub programme-found : (goal : Goal) (places : List Place) → ArePlaces places → (start stop : ℕ) → 1 ≤ first_after start places →
     first_from stop places < length places →
-    IsProgrammeTable target preferred places start stop (cut_out target preferred places (first_after start places - 1) (first_from stop places))
-programme-found target preferred places are start stop some within = record {
+    IsProgrammeTable goal places start stop (cut_out goal places (first_after start places - 1) (first_from stop places))
+programme-found goal places are start stop some within = record {
   s = first_after start places - 1;
   e = first_from stop places;
   begins = last-by places are start some;
@@ -96,9 +97,9 @@ programme-found target preferred places are start stop some within = record {
   is = refl;
 }
 
-pub cut_out-long : (target preferred : ℕ) (places : List Place) (from to : ℕ) → IsRange places from to →
-    length (cut_out target preferred places from to).places ≡ to + 1 - from
-cut_out-long target preferred places from to range =
+pub cut_out-long : (goal : Goal) (places : List Place) (from to : ℕ) → IsRange places from to →
+    length (cut_out goal places from to).places ≡ to + 1 - from
+cut_out-long goal places from to range =
     length-map (slice_range places from (to + 1)) (λ (p : Place). p.spots) ∙ length-range places from to range
 
 range-found : (places : List Place) (start stop : ℕ) → start < stop → 1 ≤ first_after start places → first_from stop places < length places →
@@ -108,32 +109,32 @@ range-found places start stop order some within =
     record { order = omega arith; within = within }
 
 -- how many places it has
-pub count-found : (target preferred : ℕ) (places : List Place) (start stop : ℕ) → start < stop → 1 ≤ first_after start places →
+pub count-found : (goal : Goal) (places : List Place) (start stop : ℕ) → start < stop → 1 ≤ first_after start places →
     first_from stop places < length places →
-    length (cut_out target preferred places (first_after start places - 1) (first_from stop places)).places
+    length (cut_out goal places (first_after start places - 1) (first_from stop places)).places
     ≡ first_from stop places + 1 - (first_after start places - 1)
-count-found target preferred places start stop order some within =
-    cut_out-long target preferred places (first_after start places - 1) (first_from stop places) (range-found places start stop order some within)
+count-found goal places start stop order some within =
+    cut_out-long goal places (first_after start places - 1) (first_from stop places) (range-found places start stop order some within)
 
-abbrev FitsIn : ℕ → ℕ → List Place → ℕ → ℕ → Table → Type 0
-FitsIn target preferred places start stop t = IsProgrammeTable target preferred places start stop t × (length t.places ≤ place_limit)
+abbrev FitsIn : Goal → List Place → ℕ → ℕ → Table → Type 0
+FitsIn goal places start stop t = IsProgrammeTable goal places start stop t × (length t.places ≤ place_limit)
 
 -- what a programme comes to that has its first place and its last
-pub programme-fits : (target preferred : ℕ) (places : List Place) → ArePlaces places → (start stop : ℕ) → start < stop → 1 ≤ first_after start places →
+pub programme-fits : (goal : Goal) (places : List Place) → ArePlaces places → (start stop : ℕ) → start < stop → 1 ≤ first_after start places →
     first_from stop places < length places → first_from stop places + 1 - (first_after start places - 1) ≤ place_limit →
-    (t : Table) → t ≡ cut_out target preferred places (first_after start places - 1) (first_from stop places) →
-    FitsIn target preferred places start stop t
-programme-fits target preferred places are start stop order some within few t is =
-    let count = count-found target preferred places start stop order some within in
-    subst (FitsIn target preferred places start stop) (sym is)
-    (programme-found target preferred places are start stop some within, omega (arith, count, few))
+    (t : Table) → t ≡ cut_out goal places (first_after start places - 1) (first_from stop places) →
+    FitsIn goal places start stop t
+programme-fits goal places are start stop order some within few t is =
+    let count = count-found goal places start stop order some within in
+    subst (FitsIn goal places start stop) (sym is)
+    (programme-found goal places are start stop some within, omega (arith, count, few))
 
-pub programme-too_long : (target preferred : ℕ) (places : List Place) → ArePlaces places → (start stop : ℕ) → start < stop → 1 ≤ first_after start places →
+pub programme-too_long : (goal : Goal) (places : List Place) → ArePlaces places → (start stop : ℕ) → start < stop → 1 ≤ first_after start places →
     first_from stop places < length places → place_limit < first_from stop places + 1 - (first_after start places - 1) →
-    (t : Table) × IsProgrammeTable target preferred places start stop t × (place_limit < length t.places)
-programme-too_long target preferred places are start stop order some within many =
-    let count = count-found target preferred places start stop order some within in (
-      cut_out target preferred places (first_after start places - 1) (first_from stop places),
-      programme-found target preferred places are start stop some within,
+    (t : Table) × IsProgrammeTable goal places start stop t × (place_limit < length t.places)
+programme-too_long goal places are start stop order some within many =
+    let count = count-found goal places start stop order some within in (
+      cut_out goal places (first_after start places - 1) (first_from stop places),
+      programme-found goal places are start stop some within,
       omega (arith, count, many),
     )

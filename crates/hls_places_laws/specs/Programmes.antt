@@ -2,6 +2,7 @@
 -- after its stop.
 use Rattle.std.specs.Prelude.{◌≡◌, ℕ, ◌+◌, ◌<◌, ◌≤◌, Bool, true, false, nat_le, List, [], ◌∷◌, ◌&&◌, length, slice_index_or, All, Result, Ok, Err}
 use Rattle.std.specs.List.{filter, slice_range}
+use Rattle.hls_check_laws.specs.declared.goal.Goal.{Goal}
 use Rattle.hls_check_laws.specs.declared.spot.Spot.{Spot}
 use Rattle.hls_check_laws.specs.Tables.{Table, place_limit, table_of}
 use Rattle.hls_places_laws.specs.declared.place.Place.{Place}
@@ -46,16 +47,16 @@ abbrev pub NoPlaceFrom : List Place → ℕ → Type 0
 NoPlaceFrom places time = (n : ℕ) → n < length places → time_at places n < time
 
 -- the table of all places from number s to number e, that one included
-abbrev pub cut_out : ℕ → ℕ → List Place → ℕ → ℕ → Table
-cut_out target preferred places s e = table_of target preferred (renditions_in places) (spots_of (slice_range places s (e + 1)))
+abbrev pub cut_out : Goal → List Place → ℕ → ℕ → Table
+cut_out goal places s e = table_of goal (renditions_in places) (spots_of (slice_range places s (e + 1)))
 
 -- the table of a programme from `start` to `stop`, however many places it has
-pub record IsProgrammeTable (target preferred : ℕ) (places : List Place) (start stop : ℕ) (t : Table) : Type 0 where
+pub record IsProgrammeTable (goal : Goal) (places : List Place) (start stop : ℕ) (t : Table) : Type 0 where
   pub s : ℕ
   pub e : ℕ
   pub begins : IsLastPlaceBy places start s
   pub ends : IsFirstPlaceFrom places stop e
-  pub is : t ≡ cut_out target preferred places s e
+  pub is : t ≡ cut_out goal places s e
 
 -- the stop is after the last place of a programme that has its first
 pub record StopsLate (places : List Place) (start stop : ℕ) : Type 0 where
@@ -64,13 +65,13 @@ pub record StopsLate (places : List Place) (start stop : ℕ) : Type 0 where
 
 -- The programme of kept places in order of time: its table, or the first refusal, in the order of the lines. Want of memory
 -- may come in place of the table alone. `finished` says that all renditions are.
-abbrev pub IsProgramme : ℕ → ℕ → List Place → Bool → ℕ → ℕ → Result Table ProgrammeFault → Type 0
-IsProgramme target preferred places finished start stop (Err BeforeRecording) = NoPlaceBy places start
-IsProgramme target preferred places finished start stop (Err NotYet) = StopsLate places start stop × (finished ≡ false)
-IsProgramme target preferred places finished start stop (Err AfterRecording) = StopsLate places start stop × (finished ≡ true)
-IsProgramme target preferred places finished start stop (Err ProgrammeTooLong) =
-    (t : Table) × IsProgrammeTable target preferred places start stop t × (place_limit < length t.places)
-IsProgramme target preferred places finished start stop (Ok t) =
-    IsProgrammeTable target preferred places start stop t × (length t.places ≤ place_limit)
-IsProgramme target preferred places finished start stop (Err Memory) =
-    (t : Table) × IsProgrammeTable target preferred places start stop t × (length t.places ≤ place_limit)
+abbrev pub IsProgramme : Goal → List Place → Bool → ℕ → ℕ → Result Table ProgrammeFault → Type 0
+IsProgramme goal places finished start stop (Err BeforeRecording) = NoPlaceBy places start
+IsProgramme goal places finished start stop (Err NotYet) = StopsLate places start stop × (finished ≡ false)
+IsProgramme goal places finished start stop (Err AfterRecording) = StopsLate places start stop × (finished ≡ true)
+IsProgramme goal places finished start stop (Err ProgrammeTooLong) =
+    (t : Table) × IsProgrammeTable goal places start stop t × (place_limit < length t.places)
+IsProgramme goal places finished start stop (Ok t) =
+    IsProgrammeTable goal places start stop t × (length t.places ≤ place_limit)
+IsProgramme goal places finished start stop (Err Memory) =
+    (t : Table) × IsProgrammeTable goal places start stop t × (length t.places ≤ place_limit)

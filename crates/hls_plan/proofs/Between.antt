@@ -56,7 +56,7 @@ allowed_between t orderly p a b near far j up down =
           let same_low : (spot_in (place_at t.places p) r).run_out ≡ (spot_in (place_at t.places a) r).run_in = low.unbroken in
           let same_high : (spot_in (place_at t.places p) r).run_out ≡ (spot_in (place_at t.places b) r).run_in = high.unbroken in
           let forward : (spot_in (place_at t.places p) r).start < (spot_in (place_at t.places a) r).prev_end = low.forward in
-          let fits : (spot_in (place_at t.places b) r).prev_end - (spot_in (place_at t.places p) r).start ≤ t.target * 1000000 + 499999 = high.fits in
+          let fits : (spot_in (place_at t.places b) r).prev_end - (spot_in (place_at t.places p) r).start ≤ t.goal.target * 1000000 + 499999 = high.fits in
           record {
             later = omega (arith, later, fragments);
             unbroken = omega (arith, same_low, same_high, runs_up, runs_down);

@@ -1,5 +1,5 @@
 use crate::{Planned, certificate, plan, plan_counted};
-use hls_check_laws::{Claim, PlaceTable, PrintedTable, Spot, Spots};
+use hls_check_laws::{Claim, CostRule, Goal, PlaceTable, PrintedTable, Spot, Spots};
 use hls_time::Ticks;
 use std::alloc::Global;
 use std::process::Abort;
@@ -18,13 +18,31 @@ const fn spot(fragment: u64, time: u64) -> Spot {
     }
 }
 
-/// A table of places with the spots of each, target 6 s, preferred 4 s.
+/// Target 6 s, preferred 4 s.
+const fn goal_by(rule: CostRule) -> Goal {
+    Goal {
+        target: 6,
+        preferred: 4 * SECOND,
+        rule,
+    }
+}
+
+/// A table by rule 1 of places with the spots of each.
 fn table_of(alloc: Global, renditions: usize, places: &[&[Spot]]) -> Result<PlaceTable, Fail> {
+    table_by(alloc, CostRule::Deviation, renditions, places)
+}
+
+fn table_by(
+    alloc: Global,
+    rule: CostRule,
+    renditions: usize,
+    places: &[&[Spot]],
+) -> Result<PlaceTable, Fail> {
     let mut copies = Vec::new(alloc);
     for spots in places {
         copies.push(Spots::new(Vec::from_slice(alloc, spots)?))?;
     }
-    let printed = PrintedTable::try_new(6, 4 * SECOND, renditions, copies);
+    let printed = PrintedTable::try_new(goal_by(rule), renditions, copies);
     Ok(PlaceTable::try_new(printed.ok_or("out of range")?).ok_or("not in order")?)
 }
 
@@ -48,10 +66,11 @@ fn assert_none(rt: &impl Abort, planned: &Planned, closed: &[bool]) {
     }
 }
 
-#[test]
-fn cuts_five_units(rt: HostRuntime) -> Result<(), Fail> {
-    let table = table_of(
-        rt.alloc(),
+/// Places at 0, 3, 6, 7 and 11 s.
+fn five_units(alloc: Global, rule: CostRule) -> Result<PlaceTable, Fail> {
+    table_by(
+        alloc,
+        rule,
         1,
         &[
             &[spot(0, 0)],
@@ -60,7 +79,58 @@ fn cuts_five_units(rt: HostRuntime) -> Result<(), Fail> {
             &[spot(3, 7 * SECOND)],
             &[spot(4, 11 * SECOND)],
         ],
-    )?;
+    )
+}
+
+/// The plan of `five_units` where each segment is charged so much, and what it costs.
+fn assert_charged(
+    rt: &impl Abort,
+    alloc: Global,
+    charge: u64,
+    plan: &[usize],
+    cost: u64,
+) -> Result<(), Fail> {
+    let table = five_units(alloc, CostRule::Charged(charge))?;
+    let planned = crate::plan(alloc, &table)?;
+    match &planned {
+        Planned::Cut {
+            plan: found,
+            prices,
+        } => {
+            assert_eq!(rt; found.as_slice(), plan);
+            assert_eq!(rt; prices.as_slice().last(), Some(&Some(cost)));
+        }
+        Planned::NoCut { .. } => assert!(rt; false, "no cut"),
+    }
+    assert_eq!(rt;
+        certificate(table, planned).table().rule(),
+        CostRule::Charged(charge)
+    );
+    Ok(())
+}
+
+#[test]
+fn charges_each_segment(rt: HostRuntime) -> Result<(), Fail> {
+    let table = five_units(rt.alloc(), CostRule::Charged(3 * SECOND))?;
+    let prices = [
+        Some(0),
+        Some(4 * SECOND),
+        Some(5 * SECOND),
+        Some(7 * SECOND),
+        Some(9 * SECOND),
+    ];
+    assert_cut(&rt, &plan(rt.alloc(), &table)?, &[0, 2, 4], &prices);
+    assert_charged(&rt, rt.alloc(), 0, &[0, 1, 3, 4], 1_000_000)?;
+    assert_charged(&rt, rt.alloc(), 1, &[0, 1, 3, 4], 1_000_003)?;
+    assert_charged(&rt, rt.alloc(), 1_999_999, &[0, 1, 3, 4], 6_999_997)?;
+    assert_charged(&rt, rt.alloc(), 2_000_001, &[0, 2, 4], 7_000_002)?;
+    assert_charged(&rt, rt.alloc(), 3_600_000_000, &[0, 2, 4], 7_203_000_000)?;
+    Ok(())
+}
+
+#[test]
+fn cuts_five_units(rt: HostRuntime) -> Result<(), Fail> {
+    let table = five_units(rt.alloc(), CostRule::Deviation)?;
     let planned = plan(rt.alloc(), &table)?;
     let prices = [
         Some(0),
@@ -166,14 +236,14 @@ fn cuts_uneven_ends(rt: HostRuntime) -> Result<(), Fail> {
     Ok(())
 }
 
-/// Places one second apart, without gaps, target 6 s, preferred 4 s.
-fn seconds_table(alloc: Global, count: u64) -> Result<PlaceTable, Fail> {
+/// Places one second apart, without gaps.
+fn seconds_table(alloc: Global, rule: CostRule, count: u64) -> Result<PlaceTable, Fail> {
     let mut places = Vec::new(alloc);
     for k in 0..count {
         let time = k.saturating_mul(SECOND);
         places.push(Spots::new(vec![in alloc; spot(k, time)]?))?;
     }
-    let printed = PrintedTable::try_new(6, 4 * SECOND, 1, places);
+    let printed = PrintedTable::try_new(goal_by(rule), 1, places);
     Ok(PlaceTable::try_new(printed.ok_or("out of range")?).ok_or("not in order")?)
 }
 
@@ -197,10 +267,27 @@ fn assert_seconds_cut(rt: &impl Abort, planned: &Planned) {
 
 #[test]
 fn looks_at_seven_pairs_a_place(rt: HostRuntime) -> Result<(), Fail> {
-    let table = seconds_table(rt.alloc(), 5000)?;
+    let table = seconds_table(rt.alloc(), CostRule::Deviation, 5000)?;
     let mut ticks = Ticks::new();
     let planned = plan_counted(rt.alloc(), &table, &mut ticks)?;
     assert_seconds_cut(&rt, &planned);
+    assert!(rt; ticks.count() <= 35000);
+    Ok(())
+}
+
+#[test]
+fn looks_at_as_many_pairs_by_either_rule(rt: HostRuntime) -> Result<(), Fail> {
+    let table = seconds_table(rt.alloc(), CostRule::Charged(5 * SECOND), 5000)?;
+    let mut ticks = Ticks::new();
+    let planned = plan_counted(rt.alloc(), &table, &mut ticks)?;
+    match &planned {
+        // A segment fewer makes four seconds more of deviation, and so is worth its charge: 834 hold 4999 s.
+        Planned::Cut { plan, prices } => {
+            assert_eq!(rt; plan.len(), 835);
+            assert_eq!(rt; prices.as_slice().last(), Some(&Some(5833 * SECOND)));
+        }
+        Planned::NoCut { .. } => assert!(rt; false, "no cut"),
+    }
     assert!(rt; ticks.count() <= 35000);
     Ok(())
 }

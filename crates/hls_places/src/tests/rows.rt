@@ -1,9 +1,12 @@
 //! Places and programmes that were worked out by hand.
 
+ghost use Rattle.std.specs.Prelude.{◌≤◌};
+ghost use Rattle.hls_check_laws.specs.Tables.{IsGoal, charge_of, charge_limit};
 ghost use Rattle.hls_places_laws.specs.Order.{ArePlaces};
 
 use super::samples::{Unit, recorded, sync_unit};
 use crate::*;
+use hls_check_laws::{CostRule, Goal};
 use hls_record::Recording;
 use std::alloc::Global;
 use std::test::Fail;
@@ -160,6 +163,18 @@ fn cut(
     cut_of(alloc, &places, finished, start, stop)
 }
 
+/// Target 6 s, preferred 4 s.
+fn goal_by(rule: CostRule) -> Goal
+    requires { charge_of rule ≤ charge_limit }
+    ensures { IsGoal result }
+{
+    Goal {
+        target: 6,
+        preferred: 4000000,
+        rule,
+    }
+}
+
 fn cut_of(
     alloc: Global,
     places: &[Place],
@@ -173,7 +188,14 @@ fn cut_of(
     if stop <= start {
         return Err(Fail::new("no time"));
     }
-    match programme(alloc, &kept, 6, 4000000, finished, start, stop) {
+    match programme(
+        alloc,
+        &kept,
+        goal_by(CostRule::Deviation),
+        finished,
+        start,
+        stop,
+    ) {
         Ok(table) => Ok(Ok(times(alloc, &table)?)),
         Err(fault) => Ok(Err(fault.name())),
     }
@@ -264,10 +286,12 @@ fn programme_ends_with_the_recording(rt: HostRuntime) -> Result<(), Fail> {
 }
 
 /// Which steps the table of one rendition's places allows, and what the first costs.
-fn first_cost(alloc: Global, recording: &Recording) -> Result<Option<u64>, Fail> {
+fn first_cost(alloc: Global, recording: &Recording, rule: CostRule) -> Result<Option<u64>, Fail>
+    requires { charge_of rule ≤ charge_limit }
+{
     let places = common(alloc, &[recording], &[0], &[true])?;
     let kept: Vec<&Place> = places.iter().collect(alloc)?;
-    let table = match programme(alloc, &kept, 6, 4000000, true, 0, 8000000) {
+    let table = match programme(alloc, &kept, goal_by(rule), true, 0, 8000000) {
         Ok(table) => table,
         Err(fault) => return Err(fault.into()),
     };
@@ -278,8 +302,11 @@ fn first_cost(alloc: Global, recording: &Recording) -> Result<Option<u64>, Fail>
 }
 
 #[test]
-fn step_costs_its_deviation(rt: HostRuntime) -> Result<(), Fail> {
+fn step_costs_its_deviation_and_its_charge(rt: HostRuntime) -> Result<(), Fail> {
     let recording = recorded(rt.alloc(), 90000, &[video(0, 3), video(3, 8)])?;
-    assert_eq!(rt; first_cost(rt.alloc(), &recording)?, Some(1000000));
+    let plain = first_cost(rt.alloc(), &recording, CostRule::Deviation)?;
+    assert_eq!(rt; plain, Some(1000000));
+    let charged = first_cost(rt.alloc(), &recording, CostRule::Charged(3000000))?;
+    assert_eq!(rt; charged, Some(4000000));
     Ok(())
 }

@@ -6,4 +6,4 @@ use Rattle.hls_check.proofs.steps.first_refusing.Given as goal
 abbrev pub invariant-loop-r : goal.invariant-loop-r
 invariant-loop-r l =
     (k : ℕ) → k < l.r →
-    IsSpotStep l.table.target (spot_in (place_at l.table.places l.p) k) (spot_in (place_at l.table.places l.q) k)
+    IsSpotStep l.table.goal.target (spot_in (place_at l.table.places l.p) k) (spot_in (place_at l.table.places l.q) k)

@@ -9,8 +9,8 @@ loop-p-init c = rw c.new-places.ensures.items (no_place_read c.args.head c.args.
 pub returns-in_err-place-clause-at : goal.returns-in_err-place-clause-at
 returns-in_err-place-clause-at c = λ bytes at.
     let stops : Builds bytes (Err c.in_err-place.field-0.0) =
-    stops_building (AtPlace c.args.head c.loop-p.places.items) tt bytes c.loop-p.rest.now (5 + c.loop-p.p)
-    (at_place c.args.head bytes c.args.text.now c.loop-p.places.items c.loop-p.rest.now c.loop-p.p at c.loop-p.invariant c.loop-p-test.true)
+    stops_building (AtPlace c.args.head c.loop-p.places.items) tt bytes c.loop-p.rest.now (c.args.first + c.loop-p.p)
+    (at_place c.args.head bytes c.args.text.now c.args.first c.loop-p.places.items c.loop-p.rest.now c.loop-p.p at c.loop-p.invariant c.loop-p-test.true)
     c.in_err-place.field-0.0 c.in_err-place.ensures.line in
     search rules
 
@@ -23,5 +23,5 @@ loop-p-preserved c =
 pub returns-clause-at : goal.returns-clause-at
 returns-clause-at c = λ bytes at.
     let all : c.loop-p.p ≡ c.args.head.count = omega arith in
-    at_claim c.args.head bytes c.args.text.now c.loop-p.places.items c.loop-p.rest.now at
+    at_claim c.args.head bytes c.args.text.now c.args.first c.loop-p.places.items c.loop-p.rest.now at
     (subst (λ (p : ℕ). PlacesRead c.args.head c.args.text.now c.loop-p.places.items c.loop-p.rest.now p) all c.loop-p.invariant)

@@ -1,10 +1,11 @@
+use Rattle.std.proofs.Common.{◌+◌}
 use Rattle.hls_check_laws.specs.Tables.{table_of}
 use Rattle.hls_check_text.specs.Stages.{PassesPlaces}
 use Rattle.hls_check_text.proofs.scan.scan.Goals as goal
 
 pub returns : goal.returns
 returns c =
-    let passed : PassesPlaces c.in_ok-head.head c.args.bytes.now c.in_ok-rest.rest.now =
+    let passed : PassesPlaces c.in_ok-head.head c.args.bytes.now c.in_ok-rest.rest.now (c.in_ok-head.passed + c.in_ok-head.head.count) =
     c.in_ok-rest.ensures.at c.args.bytes.now c.in_ok-head.ensures.head in
     c.scan_claim.ensures c.args.bytes.now
-    (table_of c.in_ok-head.head.target c.in_ok-head.head.preferred c.in_ok-head.head.renditions passed.places) passed.count passed.at
+    (table_of c.in_ok-head.head.goal c.in_ok-head.head.renditions passed.places) passed.count passed.at

@@ -37,7 +37,7 @@ returns-then-places-to c =
     let late : StopsLate places c.args.start_us c.args.stop_us =
     stops-late places c.requires.places c.args.start_us c.args.stop_us (omega (arith, c.first_after-after.ensures, c.if-after-eq0.false))
     (omega (arith, count, c.first_from-to.ensures, c.if-places-to.true)) in
-    let P : ProgrammeFault → Type 0 = λ fault. IsProgramme c.args.target c.args.preferred places c.args.finished c.args.start_us c.args.stop_us (Err fault) in
+    let P : ProgrammeFault → Type 0 = λ fault. IsProgramme c.args.goal places c.args.finished c.args.start_us c.args.stop_us (Err fault) in
     elim c.if-finished.branch [
       | then-finished w ↦ subst P (sym w.result-is) (late, w.if-finished.true)
       | else-finished w ↦ subst P (sym w.result-is) (late, w.if-finished.false)
@@ -46,7 +46,7 @@ returns-then-places-to c =
 pub returns-then-to-from-gt-PLACE_LIMIT : goal.returns-then-to-from-gt-PLACE_LIMIT
 returns-then-to-from-gt-PLACE_LIMIT c =
     let count = length-map c.args.places.now (λ p. p.now) in
-    programme-too_long c.args.target c.args.preferred (map (λ p. p.now) c.args.places.now) c.requires.places c.args.start_us c.args.stop_us c.requires.order
+    programme-too_long c.args.goal (map (λ p. p.now) c.args.places.now) c.requires.places c.args.start_us c.args.stop_us c.requires.order
     (omega (arith, c.first_after-after.ensures, c.if-after-eq0.false)) (omega (arith, count, c.first_from-to.ensures, c.if-places-to.false))
     (omega (arith, c.first_after-after.ensures, c.first_from-to.ensures, c.if-to-from-gt-PLACE_LIMIT.true))
 
@@ -58,20 +58,20 @@ pub returns-in_err-table : goal.returns-in_err-table
 returns-in_err-table c =
     let places : List Place = map (λ (p : Bor Place). p.now) c.args.places.now in
     let count = length-map c.args.places.now (λ (p : Bor Place). p.now) in
-    let t : Table = cut_out c.args.target c.args.preferred places (first_after c.args.start_us places - 1) (first_from c.args.stop_us places) in
-    let fits = programme-fits c.args.target c.args.preferred places c.requires.places c.args.start_us c.args.stop_us c.requires.order
+    let t : Table = cut_out c.args.goal places (first_after c.args.start_us places - 1) (first_from c.args.stop_us places) in
+    let fits = programme-fits c.args.goal places c.requires.places c.args.start_us c.args.stop_us c.requires.order
     (omega (arith, c.first_after-after.ensures, c.if-after-eq0.false)) (omega (arith, count, c.first_from-to.ensures, c.if-places-to.false))
     (omega (arith, c.first_after-after.ensures, c.first_from-to.ensures, c.if-to-from-gt-PLACE_LIMIT.false)) t refl in
     let e : c.from_residual.result ≡ Err Memory = only_memory c.from_residual.result c.from_residual.ensures.1 in
-    subst (λ (r : Result Table ProgrammeFault). IsProgramme c.args.target c.args.preferred places c.args.finished c.args.start_us c.args.stop_us r) (sym e)
+    subst (λ (r : Result Table ProgrammeFault). IsProgramme c.args.goal places c.args.finished c.args.start_us c.args.stop_us r) (sym e)
     (t, fits.0, fits.1)
 
 pub returns : goal.returns
 returns c =
     let places : List Place = map (λ (p : Bor Place). p.now) c.args.places.now in
     let count = length-map c.args.places.now (λ (p : Bor Place). p.now) in
-    let is : c.in_ok-table.field-0 ≡ cut_out c.args.target c.args.preferred places (first_after c.args.start_us places - 1) (first_from c.args.stop_us places) =
+    let is : c.in_ok-table.field-0 ≡ cut_out c.args.goal places (first_after c.args.start_us places - 1) (first_from c.args.stop_us places) =
     rw (← c.first_after-after.ensures, ← c.first_from-to.ensures) c.in_ok-table.ensures in
-    programme-fits c.args.target c.args.preferred places c.requires.places c.args.start_us c.args.stop_us c.requires.order
+    programme-fits c.args.goal places c.requires.places c.args.start_us c.args.stop_us c.requires.order
     (omega (arith, c.first_after-after.ensures, c.if-after-eq0.false)) (omega (arith, count, c.first_from-to.ensures, c.if-places-to.false))
     (omega (arith, c.first_after-after.ensures, c.first_from-to.ensures, c.if-to-from-gt-PLACE_LIMIT.false)) c.in_ok-table.field-0 is
