@@ -19,7 +19,7 @@ use Rattle.hls_places_laws.specs.Programmes.{is_kept_above, is_kept, kept, cut_o
 use Rattle.hls_catchup.specs.declared.request.Request.{Request}
 use Rattle.hls_catchup.specs.declared.cutout.Cutout.{Cutout}
 use Rattle.hls_catchup.specs.Answers.{AreCovered, IsRightCutout}
-use Rattle.hls_catchup.specs.Requests.{IsTableFor, AreRecordings, IsRightAnswer}
+use Rattle.hls_catchup.specs.Requests.{goal_for, IsTableFor, AreRecordings, IsRightAnswer}
 use Rattle.hls_catchup.proofs.Bounded.{Bounded, places-bounded}
 use Rattle.hls_catchup.proofs.States.{same_facts, same_floors}
 
@@ -100,7 +100,7 @@ pub table-covered : (s : State) (request : Request) (t : Table) (recordings : Li
 table-covered s request t recordings are valid is =
     let places : List Place = kept_places s in
     let found = is.programme.0 in
-    let cut : cut_out s.config.target request.preferred places found.s found.e ≡ t = sym found.is in
+    let cut : cut_out (goal_for s request) places found.s found.e ≡ t = sym found.is in
     let range : List Place = slice_range places found.s (found.e + 1) in
     let P : Place → Type 0 = λ p. Within recordings p.spots in
     let all : All P range = All-take P (found.e + 1 - found.s) (drop found.s places) (All-drop P found.s places (state-within s recordings are)) in

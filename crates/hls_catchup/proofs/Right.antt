@@ -45,11 +45,11 @@ right_list recorded r t plan valid table is_plan within covered =
     let head = inits_are_bounded recorded.head recorded.init valid.head in
     let some : 0 < length recorded.head = head.some_bytes in
     let few : length recorded.head ≤ 1048576 = head.len_limit in
-    let target : t.target ≤ 3600 = table.target.1 in
+    let target : t.goal.target ≤ 3600 = table.goal.target.1 in
     let renditions : t.renditions ≤ 16 = table.renditions.1 in
     record {
       is = refl;
-      has_text = vod_has_text t.target uri (length recorded.head) (segments_of cut t.places plan)
+      has_text = vod_has_text t.goal.target uri (length recorded.head) (segments_of cut t.places plan)
           (omega arith) (job_uri_good r (omega arith)) some (omega arith) good.1;
       fits = good.0;
       media = media_are_the_units t plan cut recorded.head recorded.floor recorded.units is_plan within refl refl covered.kept (have_lengths recorded valid);

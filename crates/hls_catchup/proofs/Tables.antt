@@ -22,7 +22,7 @@ use Rattle.hls_catchup.specs.declared.programme.Programme.{Programme}
 use Rattle.hls_catchup.specs.declared.request.Request.{Request}
 use Rattle.hls_catchup.specs.declared.request.CatchFault.TheVariants.{BeforeRecording, NotYet, AfterRecording, ProgrammeTooLong}
 use Rattle.hls_catchup.specs.Kept.{Kept, kept_in, all_kept, kept_from, IsLastBy}
-use Rattle.hls_catchup.specs.Requests.{all_finished, IsInRange, IsTableFor}
+use Rattle.hls_catchup.specs.Requests.{all_finished, goal_for, IsInRange, IsTableFor}
 use Rattle.hls_catchup.specs.Programmes.{table_at, ArePlacesFor}
 use Rattle.hls_catchup.proofs.Walks.{after-later, from-later}
 
@@ -138,7 +138,7 @@ too_long s request k n count are is_kept_in range found long =
     let same = count_is s request n count apart counted.count_is in
     record {
       in_range = range;
-      programme = programme-too_long s.config.target request.preferred (kept_places s) (kept-are_places s are) request.start_us request.stop_us
+      programme = programme-too_long (goal_for s request) (kept_places s) (kept-are_places s are) request.start_us request.stop_us
           range.order apart.some within (omega (arith, same, long));
     }
 
@@ -163,12 +163,12 @@ programme_there s request p valid are range same_places found few =
     let apart = are_apart s request p.from range counted.last in
     let within : to < length ks = omega (arith, apart.to, apart.long, counted.count_is, counted.there) in
     let same : to + 1 - (a - 1) ≡ p.count = count_is s request p.from p.count apart counted.count_is in
-    let table : Table = cut_out s.config.target request.preferred ks (a - 1) to in
+    let table : Table = cut_out (goal_for s request) ks (a - 1) to in
     let part : kept_from p.places p.from ≡ drop (a - 1) ks = ap (λ (k : Kept). kept_from k p.from) same_places ∙ apart.rest in
     let made : table ≡ table_at s request p =
-    ap (λ (r : ℕ). table_of s.config.target request.preferred r (spots_of (take (to + 1 - (a - 1)) (drop (a - 1) ks)))) (renditions_are s are (omega arith))
-    ∙ ap (λ (n : ℕ). table_of s.config.target request.preferred (length s.config.renditions) (spots_of (take n (drop (a - 1) ks)))) same
-    ∙ ap (λ (qs : List Place). table_of s.config.target request.preferred (length s.config.renditions) (spots_of (take p.count qs))) (sym part) in
+    ap (λ (r : ℕ). table_of (goal_for s request) r (spots_of (take (to + 1 - (a - 1)) (drop (a - 1) ks)))) (renditions_are s are (omega arith))
+    ∙ ap (λ (n : ℕ). table_of (goal_for s request) (length s.config.renditions) (spots_of (take n (drop (a - 1) ks)))) same
+    ∙ ap (λ (qs : List Place). table_of (goal_for s request) (length s.config.renditions) (spots_of (take p.count qs))) (sym part) in
     let config : IsConfig s.config = valid.configured in
     let places_are : ArePlaces ks = kept-are_places s are in
     let span : IsRange ks (a - 1) to = record { order = start_before s request range apart.some within; within = within } in
@@ -176,10 +176,14 @@ programme_there s request p valid are range same_places found few =
       within = found.last.within;
       defined = record {
         in_range = range;
-        programme = programme-fits s.config.target request.preferred ks places_are request.start_us request.stop_us range.order apart.some within
+        programme = programme-fits (goal_for s request) ks places_are request.start_us request.stop_us range.order apart.some within
             (omega (arith, same, few)) (table_at s request p) (sym made);
       };
-      valid = subst IsTable made (cut_out-is_table s.config.target request.preferred ks (a - 1) to places_are span
-          config.target (range.preferred.0, omega (arith, range.preferred.1, config.target.1)) (omega (arith, config.target.1)));
-      orderly = subst IsOrderly made (cut_out-is_orderly s.config.target request.preferred ks (a - 1) to places_are span);
+      valid = subst IsTable made (cut_out-is_table (goal_for s request) ks (a - 1) to places_are span
+          (record {
+            target = config.target;
+            preferred = (range.preferred.0, omega (arith, range.preferred.1, config.target.1));
+            charge = range.charge;
+          }) (omega (arith, same, few)));
+      orderly = subst IsOrderly made (cut_out-is_orderly (goal_for s request) ks (a - 1) to places_are span);
     }

@@ -39,7 +39,7 @@ pub record IsRightList (recorded : Recorded) (r : ℕ) (t : Table) (plan : List 
   pub is : list ≡ job_list recorded r t plan
   pub has_text : HasText list
   -- each length fits the target
-  pub fits : All (SegmentFits t.target) list.segments
+  pub fits : All (SegmentFits t.goal.target) list.segments
   -- the joined media are just the units of the programme
   pub media : joined_media list.segments (job_resource recorded r t) ≡ concat (programme_units recorded r t)
 

@@ -1,11 +1,12 @@
 -- What a refused request's fault is called.
 use Rattle.std.specs.Prelude.{ℕ, List, codes}
 use Rattle.hls_catchup.specs.declared.request.CatchFault.{CatchFault}
-use Rattle.hls_catchup.specs.declared.request.CatchFault.TheVariants.{BadRange, BadPreferred, BeforeRecording, NotYet, AfterRecording, ProgrammeTooLong, Memory}
+use Rattle.hls_catchup.specs.declared.request.CatchFault.TheVariants.{BadRange, BadPreferred, BadCharge, BeforeRecording, NotYet, AfterRecording, ProgrammeTooLong, Memory}
 
 abbrev pub catch_fault_name : CatchFault → List ℕ
 catch_fault_name BadRange = codes "BadRange"
 catch_fault_name BadPreferred = codes "BadPreferred"
+catch_fault_name BadCharge = codes "BadCharge"
 catch_fault_name BeforeRecording = codes "BeforeRecording"
 catch_fault_name NotYet = codes "NotYet"
 catch_fault_name AfterRecording = codes "AfterRecording"

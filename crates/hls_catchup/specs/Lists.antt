@@ -26,7 +26,7 @@ job_uri rendition = decimal rendition ++ codes ".mp4"
 -- the rendition's list of VOD: the channel's target, the init section at the front, and the plan's steps as segments
 abbrev pub job_list : Recorded → ℕ → Table → List ℕ → Playlist
 job_list recorded rendition t plan =
-    vod_list t.target (job_uri rendition) (length recorded.head)
+    vod_list t.goal.target (job_uri rendition) (length recorded.head)
     (segments_of (cutting recorded rendition (job_uri rendition) (first_fragment t rendition)) t.places plan)
 
 -- the lists of the renditions from number r on

@@ -8,12 +8,12 @@ use Rattle.hls_catchup.specs.declared.programme.Programme.{Programme}
 use Rattle.hls_catchup.specs.declared.request.Request.{Request}
 use Rattle.hls_catchup.specs.declared.request.CatchFault.{CatchFault}
 use Rattle.hls_catchup.specs.Kept.{kept_from}
-use Rattle.hls_catchup.specs.Requests.{IsTableFor}
+use Rattle.hls_catchup.specs.Requests.{goal_for, IsTableFor}
 
 -- the table of a programme's places
 abbrev pub table_at : State → Request → Programme → Table
 table_at s request p =
-    table_of s.config.target request.preferred (length s.config.renditions) (spots_of (take p.count (kept_from p.places p.from)))
+    table_of (goal_for s request) (length s.config.renditions) (spots_of (take p.count (kept_from p.places p.from)))
 
 -- the places of the table that a request asks for
 pub record ArePlacesFor (s : State) (request : Request) (p : Programme) : Type 0 where

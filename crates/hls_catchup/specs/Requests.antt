@@ -1,7 +1,8 @@
 -- What a state says to a request.
 use Rattle.std.specs.Prelude.{◌≡◌, ℕ, ◌*◌, ◌<◌, ◌≤◌, Bool, List, length, slice_get, Some, Result, Ok, Err}
 use Rattle.std.specs.List.{list_all}
-use Rattle.hls_check_laws.specs.Tables.{Table}
+use Rattle.hls_check_laws.specs.declared.goal.Goal.{Goal}
+use Rattle.hls_check_laws.specs.Tables.{Table, charge_of, charge_limit, goal_of}
 use Rattle.hls_record.specs.Recorded.{Recorded}
 use Rattle.hls_core_laws.specs.State.{State, channel}
 use Rattle.hls_core_laws.specs.Places.{is_finished, kept_places}
@@ -11,7 +12,7 @@ use Rattle.hls_places_laws.specs.declared.programme_fault.ProgrammeFault.TheVari
 use Rattle.hls_places_laws.specs.Programmes.{IsProgramme}
 use Rattle.hls_catchup.specs.declared.request.Request.{Request}
 use Rattle.hls_catchup.specs.declared.request.CatchFault.{CatchFault}
-use Rattle.hls_catchup.specs.declared.request.CatchFault.TheVariants.{BadRange, BadPreferred, BeforeRecording, NotYet, AfterRecording, ProgrammeTooLong, Memory}
+use Rattle.hls_catchup.specs.declared.request.CatchFault.TheVariants.{BadRange, BadPreferred, BadCharge, BeforeRecording, NotYet, AfterRecording, ProgrammeTooLong, Memory}
 use Rattle.hls_catchup.specs.declared.cutout.Cutout.{Cutout}
 use Rattle.hls_catchup.specs.Answers.{AreCovered, IsRightCutout}
 
@@ -23,21 +24,31 @@ all_finished s = list_all is_finished (channel s).lanes
 abbrev pub CanPrefer : State → Request → Type 0
 CanPrefer s request = (1 ≤ request.preferred) × (request.preferred ≤ s.config.target * 1000000)
 
+-- the charge for a segment is at most an hour
+abbrev pub CanCharge : Request → Type 0
+CanCharge request = charge_of request.rule ≤ charge_limit
+
+-- what the segments are to be like
+abbrev pub goal_for : State → Request → Goal
+goal_for s request = goal_of s.config.target request.preferred request.rule
+
 -- what can be said of a request without the places is in order
 pub record IsInRange (s : State) (request : Request) : Type 0 where
   pub order : request.start_us < request.stop_us
   pub preferred : CanPrefer s request
+  pub charge : CanCharge request
 
 -- what the kept places of the state give a request that is in range
 pub record Gives (s : State) (request : Request) (found : Result Table ProgrammeFault) : Type 0 where
   pub in_range : IsInRange s request
-  pub programme : IsProgramme s.config.target request.preferred (kept_places s) (all_finished s) request.start_us request.stop_us found
+  pub programme : IsProgramme (goal_for s request) (kept_places s) (all_finished s) request.start_us request.stop_us found
 
 -- The table of the programme that is asked for, or the first refusal, in the order of the lines. Want of memory may come in
 -- place of the table alone.
 abbrev pub IsTableFor : State → Request → Result Table CatchFault → Type 0
 IsTableFor s request (Err BadRange) = request.stop_us ≤ request.start_us
 IsTableFor s request (Err BadPreferred) = (request.start_us < request.stop_us) × ¬ CanPrefer s request
+IsTableFor s request (Err BadCharge) = (request.start_us < request.stop_us) × CanPrefer s request × ¬ CanCharge request
 IsTableFor s request (Err BeforeRecording) = Gives s request (Err programme.BeforeRecording)
 IsTableFor s request (Err NotYet) = Gives s request (Err programme.NotYet)
 IsTableFor s request (Err AfterRecording) = Gives s request (Err programme.AfterRecording)

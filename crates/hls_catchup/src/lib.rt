@@ -1,10 +1,11 @@
 //! Catch-up answers: a programme of one channel, cut from what one snapshot recorded, as a playlist and a resource for each
-//! rendition, with a certificate that no other plan comes nearer to the preferred length.
+//! rendition, with a certificate that no other plan costs less.
 #![tactic(auto)]
 
 pub use actions::{Action, play};
 pub use cutout::{Cutout, cut};
 pub use floors::floors_of;
+pub use hls_check_laws::CostRule;
 pub use laws::good_is_accepted;
 pub use lists::job_lists;
 pub use live::live_playlist;

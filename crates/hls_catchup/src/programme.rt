@@ -8,7 +8,7 @@ ghost use Rattle.hls_catchup.specs.Programmes.{IsFound};
 use crate::kept::KeptPlaces;
 use crate::recordings::all_finished;
 use crate::request::{CatchFault, Request};
-use hls_check_laws::PLACE_LIMIT;
+use hls_check_laws::{CHARGE_LIMIT, PLACE_LIMIT};
 use hls_core::snapshot::Snapshot;
 
 /// The places of a programme: the first `count` kept ones from number `from` on.
@@ -31,6 +31,9 @@ pub fn programme_of(snapshot: &Snapshot, request: Request) -> Result<Programme<'
     }
     if snapshot.config().target() * 1_000_000 < request.preferred {
         return Err(CatchFault::BadPreferred);
+    }
+    if CHARGE_LIMIT < request.rule.charge() {
+        return Err(CatchFault::BadCharge);
     }
     programme_within(snapshot, request)
 }

@@ -4,16 +4,18 @@ ghost use Rattle.std.specs.Prelude.{◌≡◌};
 ghost use Rattle.hls_catchup.specs.declared.request.CatchFault.TheVariants.{Memory};
 ghost use Rattle.hls_catchup.specs.FaultName.{catch_fault_name};
 
+use hls_check_laws::CostRule;
 use std::alloc::{AllocError, AllocFailed};
 use thiserror::Error;
 
 /// What a client asks to see again: the programme from `start_us` to `stop_us`, cut into segments near to the `preferred`
-/// length; all in microseconds.
+/// length, which cost by a rule; all in microseconds.
 #[derive(Clone, Copy, Debug, PartialEq, Eq)]
 pub struct Request {
     pub start_us: u64,
     pub stop_us: u64,
     pub preferred: u64,
+    pub rule: CostRule,
 }
 
 /// Why a request has no answer, in the order in which the causes are looked at.
@@ -25,6 +27,9 @@ pub enum CatchFault {
     /// The preferred length isn't 1 microsecond to the channel's target.
     #[error("BadPreferred")]
     BadPreferred,
+    /// The charge for a segment is above 3600000000 microseconds.
+    #[error("BadCharge")]
+    BadCharge,
     /// No kept place lies at or before the start.
     #[error("BeforeRecording")]
     BeforeRecording,
@@ -50,6 +55,7 @@ impl CatchFault {
         match self {
             CatchFault::BadRange => "BadRange",
             CatchFault::BadPreferred => "BadPreferred",
+            CatchFault::BadCharge => "BadCharge",
             CatchFault::BeforeRecording => "BeforeRecording",
             CatchFault::NotYet => "NotYet",
             CatchFault::AfterRecording => "AfterRecording",

@@ -1,12 +1,12 @@
 //! The table of a request's programme.
 
 ghost use Rattle.std.specs.Prelude.{◌≡◌, IfOk};
-ghost use Rattle.hls_catchup.specs.Requests.{IsTableFor};
+ghost use Rattle.hls_catchup.specs.Requests.{goal_for, IsTableFor};
 ghost use Rattle.hls_catchup.specs.Programmes.{table_at, ArePlacesFor};
 
 use crate::programme::{Programme, programme_of};
 use crate::request::{CatchFault, Request};
-use hls_check_laws::{PlaceTable, PrintedTable};
+use hls_check_laws::{Goal, PlaceTable, PrintedTable};
 use hls_core::snapshot::Snapshot;
 use std::alloc::{AllocError, Global};
 
@@ -25,6 +25,17 @@ pub fn table_of(
     }
 }
 
+/// What the segments that a request asks for are to be like: the target is the channel's.
+fn goal_for(snapshot: &Snapshot, request: Request) -> Goal
+    ensures { result ≡ goal_for snapshot.now request }
+{
+    Goal {
+        target: snapshot.config().target(),
+        preferred: request.preferred,
+        rule: request.rule,
+    }
+}
+
 /// The table of a programme's places.
 fn table(
     alloc: Global,
@@ -35,13 +46,9 @@ fn table(
     requires { ArePlacesFor snapshot.now request programme.now }
     ensures { IfOk result (λ table. table ≡ table_at snapshot.now request programme.now) }
 {
-    let config = snapshot.config();
+    let goal = goal_for(snapshot, request);
     let places = &programme.places;
     let spots = places.spots(alloc, programme.from, programme.count)?;
-    Ok(PlaceTable::new(PrintedTable::new(
-        config.target(),
-        request.preferred,
-        config.renditions().len(),
-        spots,
-    )))
+    let renditions = snapshot.config().renditions().len();
+    Ok(PlaceTable::new(PrintedTable::new(goal, renditions, spots)))
 }

@@ -12,7 +12,7 @@ mod runs;
 use crate::{CatchFault, Cutout, Reply, Request, answer, reply_piece, reply_total, table_of};
 use bytes::Bytes;
 use hls_check::{Verdict, check};
-use hls_check_laws::Claim;
+use hls_check_laws::{Claim, CostRule};
 use hls_core::config::Config;
 use hls_core::snapshot::Snapshot;
 use hls_core::step::step;
@@ -147,6 +147,7 @@ fn request(start_us: u64, stop_us: u64) -> Request {
         start_us,
         stop_us,
         preferred: 4 * SECOND,
+        rule: CostRule::Deviation,
     }
 }
 
@@ -225,6 +226,30 @@ fn cuts_five_units(rt: HostRuntime) -> Result<(), Fail> {
     assert_lists(&rt, &reply, 0, &wanted);
     assert_eq!(rt; reply_total(&reply, 0), Some(4600));
     assert_eq!(rt; reply_total(&reply, 1), None);
+    Ok(())
+}
+
+#[test]
+fn charges_each_segment(rt: HostRuntime) -> Result<(), Fail> {
+    let state = channel(rt.alloc(), &[(0, 3), (3, 6), (6, 7), (7, 11)])?;
+    let charged = Request {
+        rule: CostRule::Charged(3 * SECOND),
+        ..request(0, 11 * SECOND)
+    };
+    let reply = answer(rt.alloc(), &state, charged)?;
+    assert_plan(&rt, &reply, 9 * SECOND, &[0, 2, 4]);
+    let wanted = [
+        (false, 6 * SECOND, 2000, 600),
+        (false, 5 * SECOND, 2000, 2600),
+    ];
+    assert_lists(&rt, &reply, 0, &wanted);
+    let free = Request {
+        rule: CostRule::Charged(0),
+        ..request(0, 11 * SECOND)
+    };
+    let reply = answer(rt.alloc(), &state, free)?;
+    assert_plan(&rt, &reply, SECOND, &[0, 1, 3, 4]);
+    assert_eq!(rt; reply.request().rule, CostRule::Charged(0));
     Ok(())
 }
 
@@ -311,12 +336,24 @@ fn refuses_in_order(rt: HostRuntime) -> Result<(), Fail> {
         start_us: 0,
         stop_us: 4 * SECOND,
         preferred: 6 * SECOND + 1,
+        rule: CostRule::Charged(3_600_000_001),
+    };
+    let dear = Request {
+        preferred: 6 * SECOND,
+        ..long
+    };
+    let before = Request {
+        stop_us: 0,
+        ..dear
     };
     assert_eq!(rt;
         fault(alloc, &state, request(SECOND, SECOND)),
         Some(CatchFault::BadRange)
     );
     assert_eq!(rt; fault(alloc, &state, long), Some(CatchFault::BadPreferred));
+    assert_eq!(rt; fault(alloc, &state, dear), Some(CatchFault::BadCharge));
+    assert_eq!(rt; fault(alloc, &state, before), Some(CatchFault::BadRange));
+    assert_eq!(rt; CatchFault::BadCharge.name(), "BadCharge");
     assert_eq!(rt;
         fault(alloc, &state, request(0, 36_000_001)),
         Some(CatchFault::NotYet)
@@ -382,6 +419,11 @@ fn refuses_the_first_cause(rt: HostRuntime) -> Result<(), Fail> {
         fault(alloc, &state, around),
         Some(CatchFault::BeforeRecording)
     );
+    let dear = Request {
+        rule: CostRule::Charged(9_999_999_999_999_999),
+        ..around
+    };
+    assert_eq!(rt; fault(alloc, &state, dear), Some(CatchFault::BadCharge));
     let over = finished(alloc, &state, 0)?;
     assert_eq!(rt;
         fault(alloc, &over, around),

@@ -35,10 +35,10 @@ few_bytes facts a b =
     omega arith
 
 pub fits_from : (t : Table) (cut : Cutting) (p : ℕ) (mark : Bool) (rest : List ℕ) → Leads t p rest → cut.rendition < t.renditions →
-    All (SegmentFits t.target) (segments_from cut t.places p mark rest)
-fits_from t cut p mark [] leads within = All-nil (SegmentFits t.target)
+    All (SegmentFits t.goal.target) (segments_from cut t.places p mark rest)
+fits_from t cut p mark [] leads within = All-nil (SegmentFits t.goal.target)
 fits_from t cut p mark (q ∷ rest) leads within =
-    All-cons (SegmentFits t.target) (segment_between cut mark (place_at t.places p) (place_at t.places q)) (segments_from cut t.places q (is_break (place_at t.places q)) rest)
+    All-cons (SegmentFits t.goal.target) (segment_between cut mark (place_at t.places p) (place_at t.places q)) (segments_from cut t.places q (is_break (place_at t.places q)) rest)
     ((leads.0.step cut.rendition within).fits)
     (fits_from t cut q (is_break (place_at t.places q)) rest leads.1 within)
 
@@ -51,8 +51,8 @@ good_from t cut p mark (q ∷ rest) valid leads within units over =
     let step = leads.0.step cut.rendition within in
     let later : a < b = step.later in
     let rises : b ≤ fragment_at t cut.rendition (end_of q rest) = fragments_rise t cut.rendition q rest within leads.1 in
-    let fits : (spot_in (place_at t.places q) cut.rendition).prev_end - (spot_in (place_at t.places p) cut.rendition).start ≤ t.target * 1000000 + 499999 = step.fits in
-    let target : t.target ≤ 3600 = valid.target.1 in
+    let fits : (spot_in (place_at t.places q) cut.rendition).prev_end - (spot_in (place_at t.places p) cut.rendition).start ≤ t.goal.target * 1000000 + 499999 = step.fits in
+    let target : t.goal.target ≤ 3600 = valid.goal.target.1 in
     let some : 0 < bytes_between cut.facts a b = some_bytes cut.facts a b units.some later (omega arith) in
     let few : bytes_between cut.facts a b ≤ sum_by len_of cut.facts = few_bytes cut.facts a b in
     let before : bytes_between cut.facts cut.first a ≤ sum_by len_of cut.facts = few_bytes cut.facts cut.first a in

@@ -39,4 +39,4 @@ pub record AreUnits (cut : Cutting) : Type 0 where
 abbrev pub SegmentsAreGood : Type 0
 SegmentsAreGood = (t : Table) (plan : List ℕ) (cut : Cutting) →
     IsTable t → IsPlan t plan → cut.rendition < t.renditions → AreUnits cut → end_fragment t cut.rendition ≤ length cut.facts →
-    All (SegmentFits t.target) (segments_of cut t.places plan) × All (IsSegment cut.uri) (segments_of cut t.places plan)
+    All (SegmentFits t.goal.target) (segments_of cut t.places plan) × All (IsSegment cut.uri) (segments_of cut t.places plan)

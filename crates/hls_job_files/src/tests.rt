@@ -4,7 +4,7 @@ ghost use Rattle.hls_core_laws.specs.Moves.{IsFitting};
 
 use crate::{Withheld, certificate_text, job_line, master_text, playlist_text, reply_in};
 use bytes::Bytes;
-use hls_catchup::Request;
+use hls_catchup::{CostRule, Request};
 use hls_core::config::Config;
 use hls_core::snapshot::Snapshot;
 use hls_core::step::step;
@@ -87,6 +87,7 @@ fn run(alloc: Global, stop_us: u64) -> Result<Job, Fail> {
         start_us: 0,
         stop_us,
         preferred: 4 * SECOND,
+        rule: CostRule::Deviation,
     };
     let mut jobs = JobTable::new(alloc)?;
     let id = jobs.add(snapshot, asked)?;

@@ -4,6 +4,7 @@ ghost use Rattle.hls_core_laws.specs.Moves.{IsFitting};
 use super::SECOND;
 use crate::{CatchFault, Cutout, Reply, Request, answer, reply_total};
 use bytes::Bytes;
+use hls_check_laws::CostRule;
 use hls_core::config::Config;
 use hls_core::snapshot::Snapshot;
 use hls_core::step::step;
@@ -98,6 +99,7 @@ fn answers_at_last(alloc: Global, snapshot: &Arc<Snapshot>) -> bool {
         start_us: 0,
         stop_us: 8 * SECOND,
         preferred: 4 * SECOND,
+        rule: CostRule::Deviation,
     };
     match answer(alloc, snapshot, request) {
         Ok(reply) => is_whole(&reply),
