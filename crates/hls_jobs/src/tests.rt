@@ -8,7 +8,7 @@ mod replies;
 mod strays;
 
 use bytes::Bytes;
-use hls_catchup::Request;
+use hls_catchup::{CostRule, Request};
 use hls_core::config::Config;
 use hls_core::snapshot::Snapshot;
 use hls_core::step::step;
@@ -85,5 +85,6 @@ fn request(start_us: u64, stop_us: u64) -> Request {
         start_us,
         stop_us,
         preferred: 4 * SECOND,
+        rule: CostRule::Deviation,
     }
 }

@@ -148,8 +148,8 @@ outside = refl
 whole_resource : resource_answer (Some (10 ∷ 20 ∷ [])) ranges.All ≡ record { status = statuses.Done; kind = Media; field = []; body = 10 ∷ 20 ∷ [] }
 whole_resource = refl
 
--- what a query asks: keys are decoded, the first of a key counts, and `preferred` needn't be there
-asks : wanted_in (codes "x&%66rom=0&to=%31&to=x") ≡ Some (record { start_us = 0; stop_us = 1; preferred = None })
+-- what a query asks: keys are decoded, the first of a key counts, and `preferred` and `charge` needn't be there
+asks : wanted_in (codes "x&%66rom=0&to=%31&to=x") ≡ Some (record { start_us = 0; stop_us = 1; preferred = None; charge = None })
 unfolding number_of first_of raw_pairs split percent_decode
 asks = refl
 

@@ -1,7 +1,7 @@
 //! What is asked of catch-up.
 
 /// What the query of a request for catch-up asks: the programme from `start_us` to `stop_us`, and how long its segments
-/// should be; all in microseconds. Whether a channel has such a programme is no matter here.
+/// should be and what each costs; all in microseconds. Whether a channel has such a programme is no matter here.
 #[derive(Clone, Copy, Debug, PartialEq, Eq, Drop)]
 pub struct Wanted {
     /// `from`.
@@ -10,4 +10,6 @@ pub struct Wanted {
     pub stop_us: u64,
     /// `preferred`; None where the channel's own length is meant.
     pub preferred: Option<u64>,
+    /// `charge`; None where rule 1 is meant.
+    pub charge: Option<u64>,
 }

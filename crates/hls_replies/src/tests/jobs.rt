@@ -185,6 +185,30 @@ fn requests_that_have_no_answer(rt: HostRuntime) -> Result<(), Fail> {
             b"\nrefused BadPreferred version 11\n"
         )?
     );
+    assert!(rt;
+        line_ends(
+            alloc,
+            &state,
+            b"from=0&to=8000000&preferred=6000001&charge=3600000001",
+            b"\nrefused BadPreferred version 11\n"
+        )?
+    );
+    assert!(rt;
+        line_ends(
+            alloc,
+            &state,
+            b"from=0&to=8000000&charge=3600000001",
+            b"\nrefused BadCharge version 11\n"
+        )?
+    );
+    assert!(rt;
+        line_ends(
+            alloc,
+            &state,
+            b"from=0&to=8000000&charge=3600000000",
+            b"\ncut 7200000000 version 11\n"
+        )?
+    );
     let over = finished_in(alloc, &state, 0)?;
     assert!(rt; line_ends(alloc, &over, b"from=0&to=40000000", b"\ncut 0 version 12\n")?);
     assert!(rt;

@@ -319,6 +319,7 @@ fn refused_memory_tells_nothing_of_a_query(rt: HostRuntime) {
         start_us: 0,
         stop_us: 8_000_000,
         preferred: None,
+        charge: None,
     };
     assert_eq!(rt; wanted, Some(asked));
 }
