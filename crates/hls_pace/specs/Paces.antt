@@ -49,3 +49,8 @@ silence_in Speaking late free spared = idle late free
 
 abbrev pub silence : ℕ → Pace → ℕ → Bool → Bool → Silence
 silence patience pace waited free few = silence_in pace.turn (nat_le (patience * 1000) waited) free (few && nat_lt waited 1000)
+
+-- behind the last reply of a connection what the peer still sends is dropped, for two seconds at most; where no byte comes,
+-- for a quarter of a second while a worker is free for another connection, and else not at all
+abbrev pub lingers : ℕ → ℕ → Bool → Bool
+lingers passed silent free = nat_lt passed 2000 && (nat_le silent 0 || (free && nat_lt silent 250))

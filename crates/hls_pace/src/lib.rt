@@ -6,6 +6,7 @@ mod clock;
 mod crowd;
 mod pace;
 mod reader;
+mod rest;
 #[cfg(test)]
 mod tests;
 mod writer;
@@ -14,4 +15,5 @@ pub use clock::milliseconds;
 pub use crowd::Crowd;
 pub use pace::{Pace, Silence, Turn};
 pub use reader::PatientReader;
+pub use rest::drop_rest;
 pub use writer::PatientWriter;

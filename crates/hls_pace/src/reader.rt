@@ -10,13 +10,14 @@ use std::time::Clock;
 
 /// A reader over a stream whose own calls wait a short while (`WouldBlock` where nothing came). Silence counts from the
 /// last byte and is told by `Pace::silence`: its end is `Ok(0)`, a failure `TimedOut`. A request that comes too slowly
-/// (`Pace::is_slow`) is `TimedOut` too.
+/// (`Pace::is_slow`) is `TimedOut` too. Whether the peer's bytes have ended, or are taken to have, is kept in `ended`.
 #[derive(Drop)]
 pub struct PatientReader<'a, C, S> {
     clock: &'a C,
     stream: S,
     pace: &'a Cell<Pace>,
     crowd: &'a Crowd,
+    ended: &'a Cell<bool>,
     patience: u64,
     ghost in_range: { patience ≤ 3600 },
 }
@@ -28,6 +29,7 @@ impl<'a, C: Clock, S: Read + Drop> PatientReader<'a, C, S> {
         stream: S,
         pace: &'a Cell<Pace>,
         crowd: &'a Crowd,
+        ended: &'a Cell<bool>,
         patience: u64,
     ) -> PatientReader<'a, C, S> {
         PatientReader {
@@ -35,6 +37,7 @@ impl<'a, C: Clock, S: Read + Drop> PatientReader<'a, C, S> {
             stream,
             pace,
             crowd,
+            ended,
             patience: patience.min(3600),
         }
     }
@@ -58,6 +61,14 @@ impl<'a, C: Clock, S: Read> PatientReader<'a, C, S> {
         Ok(bytes)
     }
 
+    /// The end of what the peer sends.
+    fn end(&self) -> io::Result<usize>
+        ensures { IfOk result (λ n. n ≡ 0) }
+    {
+        self.ended.set(true);
+        Ok(0)
+    }
+
     /// What follows of silence since a moment.
     fn silence(&self, since: u64) -> Silence {
         let waited = milliseconds(self.clock).saturating_sub(since);
@@ -72,7 +83,7 @@ impl<'a, C: Clock, S: Read> Read for PatientReader<'a, C, S> {
         let begun = milliseconds(self.clock);
         for _ in 0..u64::MAX {
             match self.stream.read(buf) {
-                Ok(0) => return Ok(0),
+                Ok(0) => return self.end(),
                 Ok(bytes) => return self.hear(bytes),
                 Err(error) => {
                     if error.kind() != ErrorKind::WouldBlock {
@@ -82,7 +93,7 @@ impl<'a, C: Clock, S: Read> Read for PatientReader<'a, C, S> {
             }
             match self.silence(begun) {
                 Silence::Wait => {}
-                Silence::End => return Ok(0),
+                Silence::End => return self.end(),
                 Silence::GiveUp => return Err(ErrorKind::TimedOut.into()),
             }
         }

@@ -1,6 +1,6 @@
 //! Silent, idle and slow peers, on a clock that goes on by a quarter of a second at each look.
 
-use crate::{Crowd, Pace, PatientReader, PatientWriter};
+use crate::{Crowd, Pace, PatientReader, PatientWriter, drop_rest};
 use std::cell::Cell;
 use std::io::{self, ErrorKind, Read, Write};
 use std::test::Fail;
@@ -85,7 +85,8 @@ fn read_beside(others: usize, free: usize, lens: &[usize], calls: usize, step: u
     for _ in 0..others {
         crowd.begin();
     }
-    let mut reader = PatientReader::new(&clock, Stream { lens }, &pace, &crowd, 2);
+    let ended = Cell::new(false);
+    let mut reader = PatientReader::new(&clock, Stream { lens }, &pace, &crowd, &ended, 2);
     let mut buf = [0; 100];
     let mut last = 0;
     for _ in 0..calls {
@@ -164,5 +165,50 @@ fn a_reply_that_isnt_taken_fails(rt: HostRuntime) -> Result<(), Fail> {
     assert!(rt; write_by(b"HTTP/1.1 200 OK", &[], 1, 250) == 1000);
     assert!(rt; write_by(b"HTTP/1.1 200 OK", &[0, 0, 5], 1, 250) == 5);
     assert!(rt; write_by(b"HTTP/1.1 200 OK", &[1, 1, 1, 1, 1, 1], 6, 250) == 1000);
+    Ok(())
+}
+
+/// Whether a reader of a stream keeps after one call that its bytes have ended.
+fn has_ended<S: Read + Drop>(stream: S) -> bool {
+    let clock = clock_by(250);
+    let pace = Cell::new(Pace::new());
+    let crowd = Crowd::new(4);
+    let ended = Cell::new(false);
+    let mut reader = PatientReader::new(&clock, stream, &pace, &crowd, &ended, 2);
+    let mut buf = [0; 100];
+    let _ = reader.read(&mut buf);
+    ended.get()
+}
+
+#[test]
+fn an_end_is_kept(rt: HostRuntime) -> Result<(), Fail> {
+    assert!(rt; has_ended(b"".as_slice()));
+    assert!(rt; has_ended(Stream { lens: &[] }));
+    assert!(rt; !has_ended(Stream { lens: &[5] }));
+    Ok(())
+}
+
+/// How many calls' bytes are left of what a peer sends behind the last reply, where `free` workers wait.
+fn left_by(lens: &[usize], free: usize, step: u64) -> usize {
+    let clock = clock_by(step);
+    let crowd = Crowd::new(4);
+    for _ in 0..free {
+        crowd.wait();
+    }
+    let mut stream = Stream { lens };
+    drop_rest(&clock, &mut stream, &crowd);
+    stream.lens.len()
+}
+
+#[test]
+fn what_comes_behind_a_last_reply_is_dropped(rt: HostRuntime) -> Result<(), Fail> {
+    assert!(rt; left_by(&[16384; 1000], 0, 1) == 0);
+    assert!(rt; left_by(&[1; 12], 1, 250) == 4);
+    assert!(rt; left_by(&[1; 12], 0, 250) == 4);
+    assert!(rt; left_by(&[5, 0, 5, 0, 0, 0, 5], 1, 100) == 1);
+    assert!(rt; left_by(&[5, 0, 5], 0, 100) == 1);
+    let mut text = b"behind".as_slice();
+    drop_rest(&clock_by(1), &mut text, &Crowd::new(4));
+    assert!(rt; text.is_empty());
     Ok(())
 }

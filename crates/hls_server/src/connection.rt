@@ -5,14 +5,14 @@ ghost use Rattle.std.specs.Prelude.{◌≡◌};
 use crate::station::Station;
 use hls_http::{Counted, Session, SessionEnd, write_whole};
 use hls_http_laws::reply::no_memory_text;
-use hls_pace::{Crowd, Pace, PatientReader, PatientWriter};
+use hls_pace::{Crowd, Pace, PatientReader, PatientWriter, drop_rest};
 use hls_serve::channel::Channel;
 use hls_serve::session::session_on;
 use hls_settings::Settings;
 use hls_turn::Pass;
 use std::alloc::Global;
 use std::cell::Cell;
-use std::io::{self, Eprint, Read};
+use std::io::{self, Eprint};
 use std::net::{Shutdown, SocketAddr, TcpStream};
 use std::sync::Wait;
 use std::time::{Clock, Duration};
@@ -22,12 +22,6 @@ use std::time::{Clock, Duration};
 /// 8 workers in less than a second.
 const TICK: u64 = 50;
 
-/// How often a refused client's bytes are waited for, so that its reply isn't lost.
-const LINGERS: usize = 8;
-
-/// How long they are waited for each time, in milliseconds.
-const LINGER: u64 = 250;
-
 /// Calls on the socket return after a short while, and what is written goes out at once.
 fn set_up(stream: &TcpStream) -> io::Result<()> {
     stream.set_nodelay(true)?;
@@ -35,22 +29,19 @@ fn set_up(stream: &TcpStream) -> io::Result<()> {
     stream.set_write_timeout(Some(Duration::from_millis(TICK)))
 }
 
-/// Drops what a refused client still sends, for a while: a socket that is closed with unread bytes takes back the reply
-/// (RFC 9112 9.6).
-fn linger(stream: &TcpStream) {
+/// Ends a connection behind its last reply. What the client still sends is dropped for a while: a socket that is closed with
+/// unread bytes takes back the reply (RFC 9112 9.6).
+fn close<C: Clock>(clock: &C, stream: &TcpStream, crowd: &Crowd) {
     if stream.shutdown(Shutdown::Write).is_err() {
         return;
     }
-    let _ = stream.set_read_timeout(Some(Duration::from_millis(LINGER)));
     let mut input = stream;
-    let mut buffer = [0; 16384];
-    for _ in 0..LINGERS {
-        match input.read(&mut buffer) {
-            Ok(0) => return,
-            Ok(_) => {}
-            Err(_) => return,
-        }
-    }
+    drop_rest(clock, &mut input, crowd);
+}
+
+/// Whether a session ended by a reply with `Connection: close` while the input went on.
+fn ends_by_reply(end: SessionEnd, ended: bool) -> bool {
+    !ended && (end == SessionEnd::Closed || end == SessionEnd::Refused)
 }
 
 /// Serves a connection until its session ends, or the reader or writer gives up on it. Its pace says what it did last.
@@ -72,10 +63,13 @@ pub fn serve_stream<R: Wait + Clock + Eprint>(
         return;
     }
     let patience = settings.plain.workers.patience;
-    let reader = PatientReader::new(rt, stream, pace, crowd, patience);
+    let ended = Cell::new(false);
+    let reader = PatientReader::new(rt, stream, pace, crowd, &ended, patience);
     let writer = PatientWriter::new(rt, stream, pace, patience);
     let Ok(mut session) = Session::new(alloc, reader, writer) else {
-        let _ = write_whole(&mut Counted::new(stream), no_memory_text());
+        if write_whole(&mut Counted::new(stream), no_memory_text()) {
+            close(rt, stream, crowd);
+        }
         return;
     };
     let station = Station {
@@ -85,7 +79,9 @@ pub fn serve_stream<R: Wait + Clock + Eprint>(
         peer,
         logs_requests: settings.plain.logs_requests,
     };
-    if session_on(rt, alloc, &mut session, &station, pass) == SessionEnd::Refused {
-        linger(stream);
+    let end = session_on(rt, alloc, &mut session, &station, pass);
+    drop(session);
+    if ends_by_reply(end, ended.get()) {
+        close(rt, stream, crowd);
     }
 }

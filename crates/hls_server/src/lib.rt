@@ -6,6 +6,7 @@
 #![tactic(auto)]
 
 mod connection;
+mod due;
 mod house;
 mod lines;
 mod log;

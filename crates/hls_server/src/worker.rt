@@ -1,8 +1,9 @@
 //! A worker: takes one connection after the other.
 
-ghost use Rattle.std.specs.Prelude.{◌≡◌, ◌-◌, ◌||◌, nat_eq, nat_le};
+ghost use Rattle.std.specs.Prelude.{◌≡◌};
 
 use crate::connection::serve_stream;
+use crate::due::is_due;
 use crate::log::tell_failed_accept;
 use hls_pace::{Crowd, Pace, milliseconds};
 use hls_serve::channel::Channel;
@@ -20,9 +21,6 @@ use std::time::{Clock, Duration};
 /// How long a worker waits after a failed accept, in milliseconds.
 const PAUSE: u64 = 10;
 
-/// For how long a failed accept isn't told again, in milliseconds.
-const QUIET: u64 = 60000;
-
 /// Where workers find connections, and what they know of one another.
 #[derive(Drop)]
 pub struct Door<'a> {
@@ -31,13 +29,6 @@ pub struct Door<'a> {
     pub crowd: &'a Crowd,
     /// When a failed accept was told last, in milliseconds of the clock; 0 where none was.
     pub told: &'a AtomicU64,
-}
-
-/// Whether what was told at a moment, or never (0), is told again.
-fn is_due(told: u64, now: u64) -> bool
-    ensures { result ≡ (nat_eq told 0 || nat_le 60000 (now - told)) }
-{
-    told == 0 || now.saturating_sub(told) >= QUIET
 }
 
 /// Whether this failed accept is told: the first one, and then one a minute. Of workers that ask at once, one tells.

@@ -295,3 +295,32 @@ fn a_jobs_media_while_others_are_asked_for(rt: HostRuntime) -> Result<(), Fail> 
     assert_eq!(rt; ended, (true, 63));
     Ok(())
 }
+
+/// A request past what is recorded.
+const ASK_TOO_MUCH: &[u8] = b"POST /catchup?from=0&to=400000000 HTTP/1.1\r\nHost: a\r\n\r\n";
+
+/// Two jobs that come to different ends, one after the other.
+#[test]
+fn each_job_is_told_by_its_own_number(rt: HostRuntime) -> Result<(), Fail> {
+    let alloc = rt.alloc();
+    let (turn, mut passes) = Turn::new(&rt, alloc, opening(alloc)?, 1)?;
+    let jobs = Jobs::new(alloc)?;
+    let channel = Channel {
+        turn: &turn,
+        jobs: &jobs,
+    };
+    let Some(mut pass) = passes.pop() else {
+        return Err(Fail::from("no pass"));
+    };
+    let mut text = encoders(alloc)?;
+    text.extend_from_slice(ASK_TOO_MUCH)?;
+    text.extend_from_slice(ASK)?;
+    let added = b"\r\nLocation: /job/2\r\n\r\njob 2 version 12\n";
+    assert!(rt; ends_with(&rt, alloc, &channel, &mut pass, &text, added));
+    jobs.close(&rt);
+    work_loop(&rt, alloc, &jobs, &Open);
+    let refused = b"\r\n\r\nrefused NotYet version 12\n";
+    assert!(rt; ends_with(&rt, alloc, &channel, &mut pass, FIRST, refused));
+    assert!(rt; ends_with(&rt, alloc, &channel, &mut pass, SECOND, CUT));
+    Ok(())
+}
