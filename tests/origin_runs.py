@@ -1,6 +1,6 @@
 """What the runs of origins, edges and players share: generated streams, servers, an edge from `edge/nginx.conf`, checks.
 
-No script of its own: tests/edge, tests/two_origins, tests/players and bench/day import it.
+No script of its own: tests/catchup, tests/edge, tests/two_origins, tests/players, tests/service and bench/day import it.
 """
 import os
 import re
@@ -77,14 +77,14 @@ def wait_for(port, seconds=20):
 class Origin:
     """A server of its own process, and its log."""
 
-    def __init__(self, program, folder, options, renditions, port=None, name="origin"):
-        self.port = port or free_port()
+    def __init__(self, program, folder, options, renditions, port=None, name="origin", environment={}):
+        self.port, self.environment = port or free_port(), {**environment, **os.environ}
         self.words = [program, "serve", *options, f"127.0.0.1:{self.port}", *renditions]
         self.log = os.path.join(folder, f"{name}.log")
         self.start()
 
     def start(self):
-        self.process = subprocess.Popen(self.words, stderr=open(self.log, "a"), stdin=subprocess.DEVNULL)
+        self.process = subprocess.Popen(self.words, stderr=open(self.log, "a"), stdin=subprocess.DEVNULL, env=self.environment)
         wait_for(self.port)
 
     def kill(self):
