@@ -342,10 +342,7 @@ fn refuses_in_order(rt: HostRuntime) -> Result<(), Fail> {
         preferred: 6 * SECOND,
         ..long
     };
-    let before = Request {
-        stop_us: 0,
-        ..dear
-    };
+    let before = Request { stop_us: 0, ..dear };
     assert_eq!(rt;
         fault(alloc, &state, request(SECOND, SECOND)),
         Some(CatchFault::BadRange)

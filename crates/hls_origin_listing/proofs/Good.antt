@@ -45,10 +45,10 @@ has_text r target uri segments valid few good are =
 
 -- by a plan
 pub plan_has_text : (r : Recorded) (uri : List ℕ) (t : Table) (plan : List ℕ) → IsRecorded r → IsUri uri → IsTable t → IsPlan t plan →
-    end_fragment t 0 ≤ length r.facts → HasText (vod_list t.target uri (length r.head) (segments_of (cutting r 0 uri 0) t.places plan))
+    end_fragment t 0 ≤ length r.facts → HasText (vod_list t.goal.target uri (length r.head) (segments_of (cutting r 0 uri 0) t.places plan))
 plan_has_text r uri t plan valid good table is_plan ever =
     let renditions : 1 ≤ t.renditions = table.renditions.0 in
-    has_text r t.target uri (segments_of (cutting r 0 uri 0) t.places plan) valid table.target.1 good
+    has_text r t.goal.target uri (segments_of (cutting r 0 uri 0) t.places plan) valid table.goal.target.1 good
     (segments_are_good t plan (cutting r 0 uri 0) table is_plan (omega arith) (units_good r uri valid) ever).1
 
 -- a plan's places are those of its table

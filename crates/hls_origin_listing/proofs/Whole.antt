@@ -3,8 +3,10 @@ use Rattle.std.proofs.Common.{◌≡◌, ℕ, ◌≤◌, ◌-◌, List, length, 
 use Rattle.std.proofs.lemmas.List.{length-map}
 use Rattle.std.proofs.lemmas.List.Elements.{All-get_or}
 use Rattle.hls_record.specs.Recorded.{Recorded}
+use Rattle.hls_check_laws.specs.declared.cost_rule.CostRule.TheVariants.{Deviation}
+use Rattle.hls_check_laws.specs.declared.goal.Goal.{Goal}
 use Rattle.hls_check_laws.specs.declared.spot.Spot.{Spot}
-use Rattle.hls_check_laws.specs.Tables.{IsTable, IsPlaceOf, spot_in, table_of, target_limit, preferred_limit, place_limit}
+use Rattle.hls_check_laws.specs.Tables.{IsGoal, IsTable, IsPlaceOf, spot_in, goal_of, table_of, place_limit}
 use Rattle.hls_check_laws.specs.Orders.{IsOrderly}
 use Rattle.hls_places_laws.specs.declared.place.Place.{Place}
 use Rattle.hls_places_laws.specs.Order.{no_place, spots_of, renditions_in, ArePlaces}
@@ -20,24 +22,23 @@ length_spots places = length-map places (λ (p : Place). p.spots)
 pub one_each : (places : List Place) → ArePlaces places → renditions_in places ≡ 1 → All (IsPlaceOf 1) (spots_of places)
 one_each places are single = subst (λ (n : ℕ). All (IsPlaceOf n) (spots_of places)) single are.each
 
-pub whole_is_table : (target preferred : ℕ) (places : List Place) → ArePlaces places → renditions_in places ≡ 1 →
-    (1 ≤ target) × (target ≤ target_limit) → (1 ≤ preferred) × (preferred ≤ preferred_limit) → 2 ≤ length places → length places ≤ place_limit →
-    IsTable (table_of target preferred 1 (spots_of places))
-whole_is_table target preferred places are single target_fits preferred_fits some few =
+pub whole_is_table : (goal : Goal) (places : List Place) → ArePlaces places → renditions_in places ≡ 1 →
+    IsGoal goal → 2 ≤ length places → length places ≤ place_limit →
+    IsTable (table_of goal 1 (spots_of places))
+whole_is_table goal places are single good some few =
     let count : length (spots_of places) ≡ length places = length_spots places in
     record {
-      target = target_fits;
-      preferred = preferred_fits;
+      goal = good;
       renditions = (omega arith, omega arith);
       count = (omega arith, omega arith);
       places = one_each places are single;
     }
 
-pub whole_is_orderly : (target preferred : ℕ) (places : List Place) → ArePlaces places → renditions_in places ≡ 1 →
-    IsOrderly (table_of target preferred 1 (spots_of places))
-whole_is_orderly target preferred places are single =
-    let orderly : IsOrderly (table_of 0 0 1 (spots_of places)) =
-    subst (λ (n : ℕ). IsOrderly (table_of 0 0 n (spots_of places))) single are.orderly in
+pub whole_is_orderly : (goal : Goal) (places : List Place) → ArePlaces places → renditions_in places ≡ 1 →
+    IsOrderly (table_of goal 1 (spots_of places))
+whole_is_orderly goal places are single =
+    let orderly : IsOrderly (table_of (goal_of 0 0 Deviation) 1 (spots_of places)) =
+    subst (λ (n : ℕ). IsOrderly (table_of (goal_of 0 0 Deviation) n (spots_of places))) single are.orderly in
     record {
       sorted = λ p h. let there = orderly.sorted p h in record { spots = there.spots; after = there.after };
       rising = orderly.rising;
@@ -51,8 +52,8 @@ none_past recorded places are i within =
     All-get_or (λ (p : Place). (spot_in p.spots 0).fragment ≤ length recorded.facts) places i no_place (omega arith) are.ever in
     subst (λ (p : List Spot). (spot_in p 0).fragment ≤ length recorded.facts) (sym (table-place places i)) there
 
-pub end_within : (target preferred : ℕ) (recorded : Recorded) (places : List Place) → ArePlacesOf recorded places → 2 ≤ length places →
-    end_fragment (table_of target preferred 1 (spots_of places)) 0 ≤ length recorded.facts
-end_within target preferred recorded places are some =
+pub end_within : (goal : Goal) (recorded : Recorded) (places : List Place) → ArePlacesOf recorded places → 2 ≤ length places →
+    end_fragment (table_of goal 1 (spots_of places)) 0 ≤ length recorded.facts
+end_within goal recorded places are some =
     let count : length (spots_of places) ≡ length places = length_spots places in
     none_past recorded places are (length (spots_of places) - 1) (omega arith)

@@ -1,8 +1,8 @@
 -- What is listed of a channel of one rendition.
-use Rattle.std.specs.Prelude.{◌≡◌, ℕ, List, length, IsSome, Some, Result}
+use Rattle.std.specs.Prelude.{◌≡◌, ◌≤◌, ℕ, List, length, IsSome, Some, Result}
 use Rattle.hls_record.specs.Recorded.{Recorded}
 use Rattle.hls_check_laws.specs.declared.spot.Spot.{Spot}
-use Rattle.hls_check_laws.specs.Tables.{table_of}
+use Rattle.hls_check_laws.specs.Tables.{charge_of, charge_limit, goal_of, table_of}
 use Rattle.hls_places_laws.specs.Order.{spots_of}
 use Rattle.hls_core_laws.specs.State.{State}
 use Rattle.hls_core_laws.specs.Places.{places}
@@ -23,11 +23,16 @@ pub record IsSingle (s : State) : Type 0 where
 abbrev pub all_places : State → List (List Spot)
 all_places s = spots_of (places s)
 
+-- the charge for a segment is at most an hour
+abbrev pub CanList : Listing → Type 0
+CanList Each = Unit {0}
+CanList (Planned rule certificate) = charge_of rule ≤ charge_limit
+
 -- what is listed of a recording with the state's target, preferred length and places
 abbrev pub ListsOf : State → Recorded → List ℕ → Listing → Result Listed ListFault → Type 0
 ListsOf s recorded uri Each result = ListsEach s.config.target recorded (all_places s) uri result
-ListsOf s recorded uri (Planned certificate) result =
-    ListsPlanned certificate (table_of s.config.target s.config.preferred 1 (all_places s)) recorded uri result
+ListsOf s recorded uri (Planned rule certificate) result =
+    ListsPlanned certificate (table_of (goal_of s.config.target s.config.preferred rule) 1 (all_places s)) recorded uri result
 
 -- what is listed of the state's one recording
 abbrev pub Lists : State → List ℕ → Listing → Result Listed ListFault → Type 0

@@ -22,7 +22,7 @@ pub record IsGoodText (t : Table) (shown : Shown) (bytes : List ℕ) : Type 0 wh
 pub record IsLeastPlaylist (t : Table) (recorded : Recorded) (uri : List ℕ) (bytes : List ℕ) : Type 0 where
   pub plan : List ℕ
   pub least : IsLeast t plan
-  pub written : IsWritten (list_by t.target recorded uri t.places plan) bytes
+  pub written : IsWritten (list_by t.goal.target recorded uri t.places plan) bytes
 
 -- the certificate of a least plan, with its cost and prices
 pub record IsLeastCertificate (t : Table) (bytes : List ℕ) : Type 0 where

@@ -1,10 +1,12 @@
+use hls_check_laws::CostRule;
+
 /// How a recorded stream is listed.
 #[derive(Clone, Copy, Debug, PartialEq, Eq)]
 pub enum Listing {
     /// A playlist with one segment from each place to the next.
     Each,
-    /// A least plan of all places: its playlist, or its certificate.
-    Planned { certificate: bool },
+    /// A least plan of all places by a rule: its playlist, or its certificate.
+    Planned { rule: CostRule, certificate: bool },
 }
 
 /// What is listed, byte by byte.

@@ -1,10 +1,11 @@
 ghost use Rattle.hls_m3u8.specs.Uri.{IsUri};
-ghost use Rattle.hls_origin_listing.specs.Lists.{IsSingle, Lists};
+ghost use Rattle.hls_origin_listing.specs.Lists.{CanList, IsSingle, Lists};
 
 use crate::each::list_each;
 use crate::fault::ListFault;
 use crate::forms::{Listed, Listing};
 use crate::plans::list_planned;
+use hls_check_laws::Goal;
 use hls_core::snapshot::Snapshot;
 use std::alloc::Global;
 
@@ -23,6 +24,7 @@ pub fn list(
 ) -> Result<Listed, ListFault>
     requires single { IsSingle snapshot.now }
     requires uri { IsUri uri.now }
+    requires rule { CanList listing }
     ensures { Lists snapshot.now uri.now listing result }
 {
     let Some(recording) = snapshot.recording(0) else {
@@ -36,14 +38,13 @@ pub fn list(
     let config = snapshot.config();
     match listing {
         Listing::Each => list_each(alloc, config.target(), recording, places, uri),
-        Listing::Planned { certificate } => list_planned(
-            alloc,
-            config.target(),
-            config.preferred(),
-            recording,
-            places,
-            uri,
-            certificate,
-        ),
+        Listing::Planned { rule, certificate } => {
+            let goal = Goal {
+                target: config.target(),
+                preferred: config.preferred(),
+                rule,
+            };
+            list_planned(alloc, goal, recording, places, uri, certificate)
+        }
     }
 }

@@ -1,7 +1,7 @@
 ghost use Rattle.std.specs.Prelude.{◌≡◌, ◌≤◌, length, IfOk};
 ghost use Rattle.hls_m3u8.specs.Uri.{IsUri};
 ghost use Rattle.hls_record.specs.Valid.{IsRecorded};
-ghost use Rattle.hls_check_laws.specs.Tables.{IsTable, table_of, target_limit, preferred_limit};
+ghost use Rattle.hls_check_laws.specs.Tables.{IsGoal, IsTable, table_of};
 ghost use Rattle.hls_check_laws.specs.Plans.{IsPlan};
 ghost use Rattle.hls_check_laws.specs.Certificates.{IsGood};
 ghost use Rattle.hls_places_laws.specs.Order.{spots_of};
@@ -19,7 +19,7 @@ use crate::text::vod_text;
 use bytes::ByteStr;
 use hls_blocks::Shared;
 use hls_catchup::segments_of;
-use hls_check_laws::{Claim, PLACE_LIMIT, PlaceTable};
+use hls_check_laws::{Claim, Goal, PLACE_LIMIT, PlaceTable};
 use hls_check_text::write;
 use hls_places::Place;
 use hls_plan::{Planned, certificate, plan};
@@ -39,7 +39,7 @@ fn plan_text(
     requires uri { IsUri uri.now }
     requires plan { IsPlan table.now plan.now }
     requires ever { end_fragment table.now 0 ≤ length recording.now.facts }
-    ensures { IfOk result (λ text. IsWritten (list_by table.now.target recording.now uri.now table.now.places plan.now) text.items) }
+    ensures { IfOk result (λ text. IsWritten (list_by table.now.goal.target recording.now uri.now table.now.places plan.now) text.items) }
 {
     let uri = ByteStr::copy_from_str(alloc, uri)?;
     let segments = segments_of(alloc, recording, 0, &uri, 0, table, plan)?;
@@ -85,29 +85,26 @@ fn certified(alloc: Global, table: PlaceTable, planned: Planned) -> Result<Liste
     }
 }
 
-/// What a least plan of all places gives, of which there are at least two: its playlist, or its certificate. The target is
-/// in seconds, the preferred length in microseconds.
+/// What a least plan of all places gives, of which there are at least two: its playlist, or its certificate.
 pub fn list_planned(
     alloc: Global,
-    target: u64,
-    preferred: u64,
+    goal: Goal,
     recording: &Recording,
     places: &Shared<Place>,
     uri: &str,
     certificate: bool,
 ) -> Result<Listed, ListFault>
     requires first { places.now.first ≡ 0 }
-    requires target { (1 ≤ target) × (target ≤ target_limit) }
-    requires preferred { (1 ≤ preferred) × (preferred ≤ preferred_limit) }
+    requires goal { IsGoal goal }
     requires places { ArePlacesOf recording.now places.now.items }
     requires count { 2 ≤ length places.now.items }
     requires uri { IsUri uri.now }
-    ensures { ListsPlanned certificate (table_of target preferred 1 (spots_of places.now.items)) recording.now uri.now result }
+    ensures { ListsPlanned certificate (table_of goal 1 (spots_of places.now.items)) recording.now uri.now result }
 {
     if places.next() > PLACE_LIMIT as u64 {
         return Err(ListFault::ProgrammeTooLong);
     }
-    let table = whole_table(alloc, target, preferred, places)?;
+    let table = whole_table(alloc, goal, places)?;
     let planned = plan(alloc, &table)?;
     if certificate {
         Ok(certified(alloc, table, planned)?)

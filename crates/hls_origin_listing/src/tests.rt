@@ -1,9 +1,11 @@
 //! Small channels whose playlists and certificates were worked out by hand. Target 6 s, preferred length 4 s; the init
 //! section has 600 bytes and each unit 1000.
 ghost use Rattle.hls_core_laws.specs.Moves.{IsFitting};
+ghost use Rattle.hls_origin_listing.specs.Lists.{CanList};
 
 use crate::{ListFault, Listed, Listing, list};
 use bytes::Bytes;
+use hls_check_laws::CostRule;
 use hls_core::config::Config;
 use hls_core::snapshot::Snapshot;
 use hls_core::step::step;
@@ -59,6 +61,36 @@ media.mp4
 #EXT-X-BYTERANGE:1000@3600
 media.mp4
 #EXT-X-ENDLIST
+";
+
+const TWO_LONG: &str = "#EXTINF:6.000000,
+#EXT-X-BYTERANGE:2000@600
+media.mp4
+#EXTINF:5.000000,
+#EXT-X-BYTERANGE:2000@2600
+media.mp4
+#EXT-X-ENDLIST
+";
+
+const CHARGED_PLACES: &str = "HLS-CUT-CERTIFICATE 2
+rule 2 3000000
+target 6
+preferred 4000000
+renditions 1
+places 5
+0 0 0 0 0
+1 3000000 3000000 0 0
+2 6000000 6000000 0 0
+3 7000000 7000000 0 0
+4 11000000 11000000 0 0
+cut 9000000
+plan 0 2 4
+price 0 0
+price 1 4000000
+price 2 5000000
+price 3 7000000
+price 4 9000000
+end
 ";
 
 const FIVE_PLACES: &str = "HLS-CUT-CERTIFICATE 1
@@ -169,7 +201,9 @@ fn channel(alloc: Global, units: &[Span]) -> Result<Arc<Snapshot>, Fail> {
     stepped(alloc, &state, Event::Finish { rendition: 0 })
 }
 
-fn listed(alloc: Global, snapshot: &Snapshot, listing: Listing) -> Result<Listed, ListFault> {
+fn listed(alloc: Global, snapshot: &Snapshot, listing: Listing) -> Result<Listed, ListFault>
+    requires { CanList listing }
+{
     if snapshot.config().renditions().len() != 1 {
         return Err(ListFault::NoPlace);
     }
@@ -183,7 +217,9 @@ fn listed(alloc: Global, snapshot: &Snapshot, listing: Listing) -> Result<Listed
 }
 
 /// Whether just this text is listed.
-fn is_listed(alloc: Global, snapshot: &Snapshot, listing: Listing, wanted: &str) -> bool {
+fn is_listed(alloc: Global, snapshot: &Snapshot, listing: Listing, wanted: &str) -> bool
+    requires { CanList listing }
+{
     match listed(alloc, snapshot, listing) {
         Ok(Listed::Text(text)) => text.as_slice() == wanted.as_bytes(),
         Ok(Listed::NoCut(_)) => false,
@@ -192,7 +228,9 @@ fn is_listed(alloc: Global, snapshot: &Snapshot, listing: Listing, wanted: &str)
 }
 
 /// Whether a text is listed that ends so.
-fn ends_with(alloc: Global, snapshot: &Snapshot, listing: Listing, wanted: &str) -> bool {
+fn ends_with(alloc: Global, snapshot: &Snapshot, listing: Listing, wanted: &str) -> bool
+    requires { CanList listing }
+{
     match listed(alloc, snapshot, listing) {
         Ok(Listed::Text(text)) => text.as_slice().ends_with(wanted.as_bytes()),
         Ok(Listed::NoCut(_)) => false,
@@ -201,7 +239,9 @@ fn ends_with(alloc: Global, snapshot: &Snapshot, listing: Listing, wanted: &str)
 }
 
 /// Whether there is no cut, with these bytes.
-fn has_none(alloc: Global, snapshot: &Snapshot, listing: Listing, wanted: &str) -> bool {
+fn has_none(alloc: Global, snapshot: &Snapshot, listing: Listing, wanted: &str) -> bool
+    requires { CanList listing }
+{
     match listed(alloc, snapshot, listing) {
         Ok(Listed::NoCut(text)) => text.as_slice() == wanted.as_bytes(),
         Ok(Listed::Text(_)) => false,
@@ -209,7 +249,9 @@ fn has_none(alloc: Global, snapshot: &Snapshot, listing: Listing, wanted: &str) 
     }
 }
 
-fn refuses(alloc: Global, snapshot: &Snapshot, listing: Listing, wanted: ListFault) -> bool {
+fn refuses(alloc: Global, snapshot: &Snapshot, listing: Listing, wanted: ListFault) -> bool
+    requires { CanList listing }
+{
     match listed(alloc, snapshot, listing) {
         Ok(_) => false,
         Err(fault) => fault == wanted,
@@ -231,7 +273,9 @@ fn is_two_places(alloc: Global) -> Result<bool, Fail> {
     Ok(ends_with(alloc, &state, Listing::Each, TWO_PLACES))
 }
 
-fn is_after_a_gap(alloc: Global, listing: Listing) -> Result<bool, Fail> {
+fn is_after_a_gap(alloc: Global, listing: Listing) -> Result<bool, Fail>
+    requires { CanList listing }
+{
     let state = channel(alloc, &[sync(0, 4), sync(6, 10)])?;
     Ok(ends_with(alloc, &state, listing, AFTER_A_GAP))
 }
@@ -263,15 +307,33 @@ fn refuses_to_list(rt: HostRuntime) -> Result<(), Fail> {
     Ok(())
 }
 
-const PLAYLIST: Listing = Listing::Planned { certificate: false };
+const PLAYLIST: Listing = Listing::Planned {
+    rule: CostRule::Deviation,
+    certificate: false,
+};
 
-const CERTIFICATE: Listing = Listing::Planned { certificate: true };
+const CERTIFICATE: Listing = Listing::Planned {
+    rule: CostRule::Deviation,
+    certificate: true,
+};
+
+const CHARGED: Listing = Listing::Planned {
+    rule: CostRule::Charged(3_000_000),
+    certificate: false,
+};
+
+const CHARGED_CERTIFICATE: Listing = Listing::Planned {
+    rule: CostRule::Charged(3_000_000),
+    certificate: true,
+};
 
 fn is_five_units(alloc: Global) -> Result<bool, Fail> {
     let state = channel(alloc, &[sync(0, 3), sync(3, 6), sync(6, 7), sync(7, 11)])?;
     Ok(
         ends_with(alloc, &state, PLAYLIST, FIVE_UNITS)
-            && is_listed(alloc, &state, CERTIFICATE, FIVE_PLACES),
+            && is_listed(alloc, &state, CERTIFICATE, FIVE_PLACES)
+            && ends_with(alloc, &state, CHARGED, TWO_LONG)
+            && is_listed(alloc, &state, CHARGED_CERTIFICATE, CHARGED_PLACES),
     )
 }
 
