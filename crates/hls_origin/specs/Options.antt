@@ -7,19 +7,24 @@ use Rattle.clap.specs.Kinds.{Kinds}
 use Rattle.clap.specs.declared.builder.action.ArgAction.TheVariants.{SetTrue}
 use Rattle.hls_m3u8.specs.Uri.{IsUri, is_uri_text}
 use Rattle.hls_settings.specs.Numbers.{number_of}
-use Rattle.hls_check_laws.specs.Tables.{target_limit}
+use Rattle.hls_check_laws.specs.Tables.{charge_limit, target_limit}
 
 -- the options: the target duration in seconds, the URI's bytes, the preferred length in µs where a least plan is wanted,
--- and whether its certificate is wanted in place of the playlist
+-- what it pays for each segment where it is least by rule 2, and whether its certificate is wanted in place of the playlist
 pub record Choice : Type 0 where
   pub target : ℕ
   pub uri : List ℕ
   pub preferred : Option ℕ
+  pub charge : Option ℕ
   pub certificate : Bool
 
 abbrev pub IsPreferred : ℕ → Option ℕ → Type 0
 IsPreferred target None = Unit {0}
 IsPreferred target (Some length) = (1 ≤ length) × (length ≤ target * 1000000)
+
+abbrev pub IsCharge : Option ℕ → Type 0
+IsCharge None = Unit {0}
+IsCharge (Some charge) = charge ≤ charge_limit
 
 -- all are in their ranges
 pub record IsGood (choice : Choice) : Type 0 where
@@ -27,6 +32,7 @@ pub record IsGood (choice : Choice) : Type 0 where
   pub most : choice.target ≤ target_limit
   pub is_uri : IsUri choice.uri
   pub preferred : IsPreferred choice.target choice.preferred
+  pub charge : IsCharge choice.charge
 
 -- an option that takes a value, by its long name
 abbrev pub value_rule : Text → Rule
@@ -43,11 +49,11 @@ without_name app = record app { top = record app.top { no_binary_name = true } }
 abbrev pub named_app : App
 named_app = without_name (new_app (codes "cut"))
 
--- the command: `--each`, `--preferred N`, `--certificate`, `--target N`, `--uri TEXT`
+-- the command: `--each`, `--preferred N`, `--certificate`, `--target N`, `--uri TEXT`, `--charge N`
 unfoldable pub cut_app : App
 cut_app =
-    with_rule (with_rule (with_rule (with_rule (with_rule named_app (flag_rule (codes "each"))) (value_rule (codes "preferred"))) (flag_rule (codes "certificate")))
-    (value_rule (codes "target"))) (value_rule (codes "uri"))
+    with_rule (with_rule (with_rule (with_rule (with_rule (with_rule named_app (flag_rule (codes "each"))) (value_rule (codes "preferred"))) (flag_rule (codes "certificate")))
+    (value_rule (codes "target"))) (value_rule (codes "uri"))) (value_rule (codes "charge"))
 
 -- a target duration in its range of 1 to 3600 seconds
 abbrev pub in_range : ℕ → Option ℕ
@@ -67,6 +73,14 @@ abbrev pub preferred_in : ℕ → Option Text → Option (Option ℕ)
 preferred_in target None = Some None
 preferred_in target (Some text) = option_and_then (preferred_at target) (number_of text)
 
+-- a charge in its range of 0 to 3600000000 µs, where one is given
+abbrev pub charge_at : ℕ → Option (Option ℕ)
+charge_at charge = cond (nat_le charge charge_limit) (Some (Some charge)) None
+
+abbrev pub charge_in : Option Text → Option (Option ℕ)
+charge_in None = Some None
+charge_in (Some text) = option_and_then charge_at (number_of text)
+
 -- one that a playlist can name
 abbrev pub checked_uri : List ℕ → Option (List ℕ)
 checked_uri text = cond (is_uri_text text) (Some text) None
@@ -81,18 +95,20 @@ abbrev pub is_set : Option Text → Bool
 is_set None = false
 is_set (Some text) = bytes_eq text (codes "true")
 
--- `--each` stands alone, and `--certificate` beside `--preferred`
-abbrev pub agrees : Bool → Bool → Bool → Bool
-agrees each preferred certificate = not (each && (preferred || certificate)) && not (certificate && not preferred)
+-- `--each` stands alone, and `--certificate` and `--charge` beside `--preferred`
+abbrev pub agrees : Bool → Bool → Bool → Bool → Bool
+agrees each preferred certificate charge = not (each && (preferred || certificate)) && not ((certificate || charge) && not preferred)
 
 -- what the values come to, where all are good
-abbrev pub chosen : ℕ → List ℕ → Option ℕ → Bool → Bool → Option Choice
-chosen target uri preferred each certificate =
-    cond (agrees each (is_some preferred) certificate) (Some (record { target = target; uri = uri; preferred = preferred; certificate = certificate })) None
+abbrev pub chosen : ℕ → List ℕ → Option ℕ → Option ℕ → Bool → Bool → Option Choice
+chosen target uri preferred charge each certificate =
+    cond (agrees each (is_some preferred) certificate (is_some charge))
+    (Some (record { target = target; uri = uri; preferred = preferred; charge = charge; certificate = certificate })) None
 
-abbrev pub choice_in : Option Text → Option Text → Option Text → Option Text → Option Text → Option Choice
-choice_in each preferred certificate target uri =
-    option_and_then (λ t. option_and_then (λ u. option_and_then (λ p. chosen t u p (is_set each) (is_set certificate)) (preferred_in t preferred)) (uri_in uri)) (target_in target)
+abbrev pub choice_in : Option Text → Option Text → Option Text → Option Text → Option Text → Option Text → Option Choice
+choice_in each preferred certificate target uri charge =
+    option_and_then (λ t. option_and_then (λ u. option_and_then (λ p. option_and_then (λ c. chosen t u p c (is_set each) (is_set certificate))
+    (charge_in charge)) (preferred_in t preferred)) (uri_in uri)) (target_in target)
 
 abbrev pub unless_refused : Kinds → Option Choice → Option Choice
 unless_refused [] choice = choice
@@ -101,6 +117,7 @@ unless_refused (k ∷ ks) choice = None
 abbrev pub choice_of : List Row → Option Choice
 choice_of rows =
     choice_in (first_of (codes "each") rows) (first_of (codes "preferred") rows) (first_of (codes "certificate") rows) (first_of (codes "target") rows) (first_of (codes "uri") rows)
+    (first_of (codes "charge") rows)
 
 -- the options that the words give; none is a usage fault
 unfoldable pub options_of : List Text → Option Choice

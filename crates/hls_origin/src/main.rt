@@ -1,6 +1,6 @@
 //! `hls_origin`: a live HLS origin over fragmented MP4.
 //!
-//! `hls_origin cut [--each] [--preferred N] [--certificate] [--target N] [--uri TEXT]` reads a recorded
+//! `hls_origin cut [--each] [--preferred N] [--charge N] [--certificate] [--target N] [--uri TEXT]` reads a recorded
 //! stream of one rendition from standard input and writes its playlist (RFC 8216), or its least
 //! plan's certificate, to standard output. Without a word it does `cut --each`. Status 0 is a
 //! playlist or a plan's certificate, 1 a refusal, 2 a usage fault, 3 that no plan exists.
@@ -62,7 +62,7 @@ proved with rattle-kit-13b logic dac8208d650f15bf
 ";
 
 const USAGE: &str = "usage: hls_origin [cut [--each] [--target N] [--uri TEXT]] < STREAM > PLAYLIST
-       hls_origin cut --preferred N [--certificate] [--target N] [--uri TEXT] < STREAM > OUTPUT
+       hls_origin cut --preferred N [--charge N] [--certificate] [--target N] [--uri TEXT] < STREAM > OUTPUT
        hls_origin check < CERTIFICATE
        hls_origin lint < PLAYLIST
        hls_origin explain [NAME]
@@ -75,6 +75,8 @@ cut: the playlist of a recorded stream of one rendition, fragmented MP4
   --each         one segment for each place where the stream may be cut (the default)
   --preferred N  a least plan: segments whose lengths come nearest to N microseconds in sum; N is 1 to
                  the target, at most 16 digits
+  --charge N     what each segment costs beside that, so that a greater N gives fewer and longer ones; N is
+                 0 to 3600000000 microseconds, at most 16 digits; it needs --preferred
   --certificate  the plan's certificate in place of the playlist; it needs --preferred
   --target N     the target duration in whole seconds, 1 to 3600, at most 16 digits; 6 if not given
   --uri TEXT     the media file as the playlist names it: not empty, not beginning with #, without

@@ -41,6 +41,28 @@ price 4 1000000
 end
 ";
 
+/// That certificate where each segment is charged three seconds.
+pub const CHARGED: &str = "HLS-CUT-CERTIFICATE 2
+rule 2 3000000
+target 6
+preferred 4000000
+renditions 1
+places 5
+0 0 0 0 0
+1 3000000 3000000 0 0
+2 6000000 6000000 0 0
+3 7000000 7000000 0 0
+4 11000000 11000000 0 0
+cut 9000000
+plan 0 2 4
+price 0 0
+price 1 4000000
+price 2 5000000
+price 3 7000000
+price 4 9000000
+end
+";
+
 /// The certificate of one unit of seven seconds.
 pub const NO_CUT: &str = "HLS-CUT-CERTIFICATE 1
 target 6

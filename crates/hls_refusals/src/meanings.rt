@@ -5,14 +5,15 @@ pub const MEANINGS: &str = "\
 AfterRecording: the stop is behind the last place, and all renditions are finished. Ask for a stop up to the recording's end.
 BadBox: a box of an init or a unit isn't as ISO/IEC 14496-12 has it: its children don't fill it, a field lies past its end, \
 a box is missing or stands twice, its version isn't known. Send the stream just as the encoder wrote it; if it was, change the encoder.
+BadCharge: the charge for a segment is above 3600000000. Give 0 to that, in microseconds, or none.
 BadFraming: the length of a request's body isn't certain (Content-Length and Transfer-Encoding at once, two lengths, another \
 coding than chunked), or its chunks break the grammar. Send one length or chunks; look at what a proxy in between changes.
 BadHead: what came isn't the head of an HTTP request, or one of HTTP/1.1 without exactly one Host. Look at the client: it may \
 speak TLS to this port.
 BadMethod: the path is known, but not with this method. The reply's Allow says which it has.
 BadPreferred: the preferred length is 0 or longer than the target. Give 1 to the target, in microseconds.
-BadQuery: a catch-up request needs from and to, and may have preferred, each 1 to 16 digits, in microseconds. Ask as in \
-/catchup?from=0&to=8000000.
+BadQuery: a catch-up request needs from and to, and may have preferred and charge, each 1 to 16 digits, in \
+microseconds. Ask as in /catchup?from=0&to=8000000.
 BadRange: the start isn't before the stop. Ask for a stop behind the start.
 BadRendition: no rendition, more than 16, or one whose name, bandwidth or tolerance is outside its limits or whose name stands \
 twice. Give each as name:kind:bandwidth:tolerance, as in v720:video:3000000:0.

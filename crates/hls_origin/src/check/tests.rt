@@ -2,7 +2,7 @@
 
 use crate::check::run::{CheckEnd, run_check};
 use crate::fakes::{Drips, Sink};
-use crate::vectors::{FIVE_UNITS, NO_CUT};
+use crate::vectors::{CHARGED, FIVE_UNITS, NO_CUT};
 use hls_check_laws::Verdict;
 use hls_io::Counted;
 use std::alloc::Global;
@@ -65,9 +65,10 @@ fn refuses_changed(
 #[test]
 fn good_certificates(rt: HostRuntime) -> Result<(), Fail> {
     let alloc = rt.alloc();
-    for step in [1, 7, 65536] {
+    for step in [1, 2, 3, 7, 65536] {
         assert!(rt; ends(&rt, alloc, FIVE_UNITS, step, CheckEnd::Yes, "cut 1000000\n"));
         assert!(rt; ends(&rt, alloc, NO_CUT, step, CheckEnd::Yes, "none\n"));
+        assert!(rt; ends(&rt, alloc, CHARGED, step, CheckEnd::Yes, "cut 9000000\n"));
     }
     Ok(())
 }
@@ -112,6 +113,27 @@ fn a_dearer_cut(rt: HostRuntime) -> Result<(), Fail> {
             "refused PlanCost\n",
         )?
     );
+    Ok(())
+}
+
+#[test]
+fn near_misses_of_a_charged_cut(rt: HostRuntime) -> Result<(), Fail> {
+    for (old, new, line) in [
+        (
+            "price 2 5000000",
+            "price 2 5000001",
+            "refused PriceStep 0 2\n",
+        ),
+        ("rule 2 3000000", "rule 2 2999999", "refused PlanCost\n"),
+        ("rule 2 3000000", "rule 1 3000000", "refused Form 2\n"),
+        ("rule 2 3000000\n", "", "refused Form 2\n"),
+        ("rule 2 3000000", "rule 2 3600000001", "refused Form 2\n"),
+        ("CERTIFICATE 2", "CERTIFICATE 1", "refused Form 2\n"),
+        ("CERTIFICATE 2", "CERTIFICATE 3", "refused Form 1\n"),
+        ("end\n", "end", "refused Form 19\n"),
+    ] {
+        assert!(rt; refuses_changed(&rt, rt.alloc(), CHARGED, old, new, line)?);
+    }
     Ok(())
 }
 

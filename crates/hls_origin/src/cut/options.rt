@@ -3,13 +3,14 @@ ghost use Rattle.std.specs.Prelude.{◌≡◌, ◌≤◌, ◌*◌, map, option_m
 ghost use Rattle.clap.specs.Words.{app_of, first_value, found_of, rule_of};
 ghost use Rattle.hls_core_laws.specs.Config.{ConfigData};
 ghost use Rattle.hls_m3u8.specs.Uri.{IsUri};
-ghost use Rattle.hls_origin.specs.Channel.{config_of, listing_of};
-ghost use Rattle.hls_origin.specs.Options.{IsPreferred, agrees, checked_uri, choice_in, cut_app, flag_rule, is_set, options_of, preferred_in, target_in, uri_in, value_rule};
-ghost use Rattle.hls_check_laws.specs.Tables.{target_limit};
+ghost use Rattle.hls_origin.specs.Channel.{config_of, listing_of, rule_by};
+ghost use Rattle.hls_origin.specs.Options.{IsCharge, IsPreferred, agrees, charge_in, checked_uri, choice_in, cut_app, flag_rule, is_set, options_of, preferred_in, target_in, uri_in, value_rule};
+ghost use Rattle.hls_check_laws.specs.Tables.{charge_limit, charge_of, target_limit};
+ghost use Rattle.hls_origin_listing.specs.Lists.{CanList};
 
 use clap::error::ErrorKind;
 use clap::{Arg, ArgAction, ArgMatches, Command};
-use hls_check_laws::TARGET_LIMIT;
+use hls_check_laws::{CHARGE_LIMIT, CostRule, TARGET_LIMIT};
 use hls_m3u8::is_uri;
 use hls_origin_listing::Listing;
 use hls_settings::read_number;
@@ -30,6 +31,9 @@ pub struct Options<'a> {
     /// The preferred length of a segment in microseconds, 1 to the target, where a least plan is
     /// wanted; without it each place begins a segment.
     pub preferred: Option<u64>,
+    /// What a least plan pays for each segment beside its deviation, 0 to 3600000000 microseconds;
+    /// without it the plan is least by deviation alone.
+    pub charge: Option<u64>,
     /// Whether the plan's certificate is wanted in place of the playlist.
     pub certificate: bool,
 }
@@ -39,22 +43,36 @@ impl<'a> Model for Options<'a> {
 
     ghost Value = { Choice };
 
-    ghost view = { λ options. record { target = options.target; uri = options.uri.now; preferred = options.preferred; certificate = options.certificate } };
+    ghost view = { λ options. record { target = options.target; uri = options.uri.now; preferred = options.preferred; charge = options.charge; certificate = options.certificate } };
 
-    ghost invariant = { λ options. IsGood (record { target = options.target; uri = options.uri.now; preferred = options.preferred; certificate = options.certificate }) };
+    ghost invariant = { λ options. IsGood (record { target = options.target; uri = options.uri.now; preferred = options.preferred; charge = options.charge; certificate = options.certificate }) };
 }
 
 impl<'a> Options<'a> {
     /// How the recorded stream is to be listed.
     pub fn listing(&self) -> Listing
-        ensures { result ≡ listing_of self.now }
+        ensures value { result ≡ listing_of self.now }
+        ensures in_range { CanList result }
     {
         if self.preferred.is_none() {
             return Listing::Each;
         }
         Listing::Planned {
+            rule: rule_of(self.charge),
             certificate: self.certificate,
         }
+    }
+}
+
+/// The rule by which a plan is least: a charge of 0 is a rule of its own.
+fn rule_of(charge: Option<u64>) -> CostRule
+    requires { IsCharge charge }
+    ensures value { result ≡ rule_by charge }
+    ensures in_range { charge_of result ≤ charge_limit }
+{
+    match charge {
+        None => CostRule::Deviation,
+        Some(charge) => CostRule::Charged(charge),
     }
 }
 
@@ -84,7 +102,8 @@ fn command<'a>(alloc: Global) -> Result<Command<'a>, AllocError>
         .arg(valued(alloc, "preferred"))?
         .arg(flag(alloc, "certificate"))?
         .arg(valued(alloc, "target"))?
-        .arg(valued(alloc, "uri"))
+        .arg(valued(alloc, "uri"))?
+        .arg(valued(alloc, "charge"))
 }
 
 /// The target duration that was given, or the default; `None` where it isn't 1 to 3600 seconds.
@@ -121,6 +140,22 @@ fn preferred_of(target: u64, text: Option<&str>) -> Option<Option<u64>>
     }
 }
 
+/// The charge that was given, if one was; `None` where it is above 3600000000 µs.
+fn charge_of(text: Option<&str>) -> Option<Option<u64>>
+    ensures value { result ≡ charge_in (option_map (λ t. t.now) text.entry) }
+    ensures in_range { IfSome result IsCharge }
+{
+    let Some(text) = text else {
+        return Some(None);
+    };
+    let charge = read_number(text.as_bytes())?;
+    if charge <= CHARGE_LIMIT {
+        Some(Some(charge))
+    } else {
+        None
+    }
+}
+
 /// The URI, where it can stand in a playlist.
 fn checked_uri<'a>(uri: &'a str) -> Option<&'a str>
     ensures value { option_map (λ u. u.now) result ≡ checked_uri uri.entry.now }
@@ -147,31 +182,34 @@ fn is_set(text: Option<&str>) -> bool
     }
 }
 
-/// Whether `--each` stands alone, and `--certificate` beside `--preferred`.
-fn agrees(each: bool, preferred: bool, certificate: bool) -> bool
-    ensures { result ≡ agrees each preferred certificate }
+/// Whether `--each` stands alone, and `--certificate` and `--charge` beside `--preferred`.
+fn agrees(each: bool, preferred: bool, certificate: bool, charge: bool) -> bool
+    ensures { result ≡ agrees each preferred certificate charge }
 {
-    !(each && (preferred || certificate)) && !(certificate && !preferred)
+    !(each && (preferred || certificate)) && !((certificate || charge) && !preferred)
 }
 
 /// The options among what `clap` found; `None` where a value is outside its range, or two options
 /// exclude each other.
 fn options_in<'a>(matches: &ArgMatches<'a>) -> Option<Options<'a>>
     ensures { result ≡ choice_in (first_value (found_of matches.now) (codes "each")) (first_value (found_of matches.now) (codes "preferred"))
-        (first_value (found_of matches.now) (codes "certificate")) (first_value (found_of matches.now) (codes "target")) (first_value (found_of matches.now) (codes "uri")) }
+        (first_value (found_of matches.now) (codes "certificate")) (first_value (found_of matches.now) (codes "target")) (first_value (found_of matches.now) (codes "uri"))
+        (first_value (found_of matches.now) (codes "charge")) }
 {
     let target = target_of(matches.get_str("target"))?;
     let uri = uri_of(matches.get_str("uri"))?;
     let preferred = preferred_of(target, matches.get_str("preferred"))?;
+    let charge = charge_of(matches.get_str("charge"))?;
     let each = is_set(matches.get_str("each"));
     let certificate = is_set(matches.get_str("certificate"));
-    if !agrees(each, preferred.is_some(), certificate) {
+    if !agrees(each, preferred.is_some(), certificate, charge.is_some()) {
         return None;
     }
     Some(Options {
         target,
         uri,
         preferred,
+        charge,
         certificate,
     })
 }

@@ -3,7 +3,7 @@
 use crate::cut::fault::CutFault;
 use crate::cut::run::{CutEnd, run_cut};
 use crate::fakes::{Drips, Sink};
-use crate::vectors::{FIVE_UNITS, NO_CUT, ONE_UNIT, Second, stream, sync};
+use crate::vectors::{CHARGED, FIVE_UNITS, NO_CUT, ONE_UNIT, Second, stream, sync};
 use hls_boxes_laws::fault::BoxFault;
 use hls_core_laws::refusal::Refusal;
 use hls_io::Counted;
@@ -71,10 +71,10 @@ fn boxed_three(
     boxed(alloc, kind, &[one, two, three])
 }
 
-/// What `cut` answers and writes when the stream comes in pieces of `step` bytes.
+/// What `cut` answers and writes when the stream comes in pieces of `step` bytes, and as many are taken in each write.
 fn cut(alloc: Global, words: &[&str], stream: &[u8], step: usize) -> (CutEnd, Vec<u8>) {
     let mut input = Counted::new(Drips::new(stream, step, 0));
-    let mut output = Counted::new(Sink::new(alloc, usize::MAX, 0));
+    let mut output = Counted::new(Sink::new(alloc, step, 0));
     let end = run_cut(alloc, words, &mut input, &mut output);
     (end, output.into_inner().into_taken())
 }
@@ -93,7 +93,7 @@ fn refuses(rt: &impl Abort, alloc: Global, stream: &[u8], fault: CutFault) {
 fn one_unit(rt: HostRuntime) -> Result<(), Fail> {
     let alloc = rt.alloc();
     let stream = stream(alloc, &[sync(0, 4)])?;
-    for step in [1, 7, 599, 600, 65536] {
+    for step in [1, 2, 3, 7, 599, 600, 65536] {
         let (end, text) = cut(alloc, &["--each"], &stream, step);
         assert_eq!(rt; end, CutEnd::Done);
         assert!(rt; text.as_slice() == ONE_UNIT.as_bytes());
@@ -229,6 +229,34 @@ fn least_plans(rt: HostRuntime) -> Result<(), Fail> {
 }
 
 #[test]
+fn charged_plans(rt: HostRuntime) -> Result<(), Fail> {
+    let alloc = rt.alloc();
+    let stream = stream(alloc, &[sync(0, 3), sync(3, 3), sync(6, 1), sync(7, 4)])?;
+    let words = [
+        "--preferred",
+        "4000000",
+        "--charge",
+        "3000000",
+        "--certificate",
+    ];
+    let (end, text) = cut(alloc, &words, &stream, 65536);
+    assert_eq!(rt; end, CutEnd::Done);
+    assert!(rt; text.as_slice() == CHARGED.as_bytes());
+    let words = ["--charge", "0", "--preferred", "4000000", "--certificate"];
+    let (end, text) = cut(alloc, &words, &stream, 65536);
+    assert_eq!(rt; end, CutEnd::Done);
+    assert!(rt;
+        text.as_slice()
+            .starts_with(b"HLS-CUT-CERTIFICATE 2\nrule 2 0\ntarget 6\n")
+    );
+    let words = ["--preferred", "4000000", "--charge", "0"];
+    let (end, text) = cut(alloc, &words, &stream, 65536);
+    assert_eq!(rt; end, CutEnd::Done);
+    assert!(rt; text.as_slice().ends_with(LEAST.as_bytes()));
+    Ok(())
+}
+
+#[test]
 fn no_plan(rt: HostRuntime) -> Result<(), Fail> {
     let alloc = rt.alloc();
     let stream = stream(alloc, &[sync(0, 7)])?;
@@ -246,7 +274,7 @@ fn no_plan(rt: HostRuntime) -> Result<(), Fail> {
 fn usage_faults(rt: HostRuntime) -> Result<(), Fail> {
     let alloc = rt.alloc();
     let stream = stream(alloc, &[sync(0, 4)])?;
-    let faults: [&[&str]; 17] = [
+    let faults: [&[&str]; 20] = [
         &["--bogus"],
         &["x"],
         &["--target", "0"],
@@ -264,6 +292,9 @@ fn usage_faults(rt: HostRuntime) -> Result<(), Fail> {
         &["--each", "--preferred", "4000000"],
         &["--each", "--certificate"],
         &["--charge", "1"],
+        &["--each", "--charge", "1"],
+        &["--preferred", "4000000", "--charge", "3600000001"],
+        &["--preferred", "4000000", "--charge", "-1"],
     ];
     for words in faults {
         let (end, text) = cut(alloc, words, &stream, 65536);
@@ -289,29 +320,32 @@ fn failing_calls(rt: HostRuntime) -> Result<(), Fail> {
     let alloc = rt.alloc();
     let stream = stream(alloc, &[sync(0, 4)])?;
     let words: [&str; 0] = [];
-    // 16 reads of 100 bytes, and one at the end
-    for call in 1..=18 {
-        let mut input = Counted::new(Drips::new(&stream, 100, call));
-        let mut output = Counted::new(Sink::new(alloc, usize::MAX, 0));
-        let end = run_cut(alloc, words.as_slice(), &mut input, &mut output);
-        let wanted = if call <= 17 {
-            CutEnd::Refused(CutFault::ReadFailed)
-        } else {
-            CutEnd::Done
-        };
-        assert_eq!(rt; end, wanted);
-        assert!(rt; output.into_inner().into_taken().is_empty() == (call <= 17));
+    // 1600 bytes, one a read or 100, and a read at the end
+    for (step, reads) in [(1, 1601usize), (100, 17)] {
+        for call in 1..=reads.saturating_add(1) {
+            let mut input = Counted::new(Drips::new(&stream, step, call));
+            let mut output = Counted::new(Sink::new(alloc, usize::MAX, 0));
+            let end = run_cut(alloc, words.as_slice(), &mut input, &mut output);
+            let wanted = if call <= reads {
+                CutEnd::Refused(CutFault::ReadFailed)
+            } else {
+                CutEnd::Done
+            };
+            assert_eq!(rt; end, wanted);
+            assert!(rt; output.into_inner().into_taken().is_empty() == (call <= reads));
+        }
     }
     let text = ONE_UNIT.as_bytes();
-    let calls = text.chunks(20).count();
-    for call in 1..=calls {
-        let mut input = Counted::new(Drips::new(&stream, 65536, 0));
-        let mut output = Counted::new(Sink::new(alloc, 20, call));
-        let end = run_cut(alloc, words.as_slice(), &mut input, &mut output);
-        assert_eq!(rt; end, CutEnd::Refused(CutFault::WriteFailed));
-        let taken = output.into_inner().into_taken();
-        assert_eq!(rt; taken.len(), (call - 1).saturating_mul(20));
-        assert!(rt; text.starts_with(&taken));
+    for (step, calls) in [(1, text.len()), (20, text.chunks(20).count())] {
+        for call in 1..=calls {
+            let mut input = Counted::new(Drips::new(&stream, 65536, 0));
+            let mut output = Counted::new(Sink::new(alloc, step, call));
+            let end = run_cut(alloc, words.as_slice(), &mut input, &mut output);
+            assert_eq!(rt; end, CutEnd::Refused(CutFault::WriteFailed));
+            let taken = output.into_inner().into_taken();
+            assert_eq!(rt; taken.len(), (call - 1).saturating_mul(step));
+            assert!(rt; text.starts_with(&taken));
+        }
     }
     Ok(())
 }

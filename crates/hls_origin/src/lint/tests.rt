@@ -7,6 +7,9 @@ use hls_io::Counted;
 use std::alloc::Global;
 use std::test::Fail;
 
+/// How many bytes each write takes.
+const TAKEN: usize = 7;
+
 /// Lints a text that comes by `step` bytes a read, with the read and the write of these numbers failing.
 fn linted(
     alloc: Global,
@@ -16,7 +19,7 @@ fn linted(
     write_fails: usize,
 ) -> (LintEnd, Vec<u8>) {
     let mut input = Counted::new(Drips::new(text.as_bytes(), step, read_fails));
-    let mut output = Counted::new(Sink::new(alloc, 7, write_fails));
+    let mut output = Counted::new(Sink::new(alloc, TAKEN, write_fails));
     let end = run_lint(alloc, &mut input, &mut output);
     (end, output.into_inner().into_taken())
 }
@@ -29,8 +32,9 @@ fn ends(alloc: Global, text: &str, step: usize, end: LintEnd, line: &str) -> boo
 
 #[test]
 fn one_line_of_a_list(rt: HostRuntime) -> Result<(), Fail> {
-    assert!(rt; ends(rt.alloc(), ONE_UNIT, 1, LintEnd::Readable, ONE_LINE));
-    assert!(rt; ends(rt.alloc(), ONE_UNIT, 65536, LintEnd::Readable, ONE_LINE));
+    for step in [1, 2, 3, 65536] {
+        assert!(rt; ends(rt.alloc(), ONE_UNIT, step, LintEnd::Readable, ONE_LINE));
+    }
     let live =
         "#EXTM3U\n#EXT-X-TARGETDURATION:5\n#EXT-X-MEDIA-SEQUENCE:12\n#EXTINF:4.967,\na\n#EXTINF:5,\nb\n";
     let line =
@@ -54,9 +58,18 @@ fn one_line_of_a_refusal(rt: HostRuntime) -> Result<(), Fail> {
 
 #[test]
 fn failing_calls(rt: HostRuntime) -> Result<(), Fail> {
-    let (end, written) = linted(rt.alloc(), ONE_UNIT, 40, 3, 0);
-    assert!(rt; end == LintEnd::ReadFailed && written.is_empty());
-    let (end, written) = linted(rt.alloc(), ONE_UNIT, 65536, 0, 2);
-    assert!(rt; end == LintEnd::WriteFailed && written.as_slice() == b"media p".as_slice());
+    let reads = ONE_UNIT.as_bytes().chunks(40).count();
+    // and one at the end
+    for call in 1..=reads.saturating_add(1) {
+        let (end, written) = linted(rt.alloc(), ONE_UNIT, 40, call, 0);
+        assert!(rt; end == LintEnd::ReadFailed && written.is_empty());
+    }
+    let line = ONE_LINE.as_bytes();
+    for call in 1..=line.chunks(TAKEN).count() {
+        let (end, written) = linted(rt.alloc(), ONE_UNIT, 65536, 0, call);
+        assert_eq!(rt; end, LintEnd::WriteFailed);
+        assert_eq!(rt; written.len(), call.saturating_sub(1).saturating_mul(TAKEN));
+        assert!(rt; line.starts_with(&written));
+    }
     Ok(())
 }

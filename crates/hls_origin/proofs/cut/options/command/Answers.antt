@@ -16,4 +16,6 @@ returns c =
     c.in_ok-arg-3.ensures.shape c.flag-2.ensures.local ∙ ap₂ with_rule two c.flag-2.ensures.rule in
     let four : app_of c.in_ok-arg-4.field-0 ≡ with_rule (with_rule (with_rule (with_rule named_app (flag_rule (codes "each"))) (value_rule (codes "preferred"))) (flag_rule (codes "certificate"))) (value_rule (codes "target")) =
     c.in_ok-arg-4.ensures.shape c.valued-2.ensures.local ∙ ap₂ with_rule three c.valued-2.ensures.rule in
-    IfOk-weaker c.arg-5.result _ _ (λ m h. h.shape c.valued-3.ensures.local ∙ ap₂ with_rule four c.valued-3.ensures.rule) c.arg-5.ensures
+    let five : app_of c.in_ok-arg-5.field-0 ≡ with_rule (with_rule (with_rule (with_rule (with_rule named_app (flag_rule (codes "each"))) (value_rule (codes "preferred"))) (flag_rule (codes "certificate"))) (value_rule (codes "target"))) (value_rule (codes "uri")) =
+    c.in_ok-arg-5.ensures.shape c.valued-3.ensures.local ∙ ap₂ with_rule four c.valued-3.ensures.rule in
+    IfOk-weaker c.arg-6.result _ _ (λ m h. h.shape c.valued-4.ensures.local ∙ ap₂ with_rule five c.valued-4.ensures.rule) c.arg-6.ensures
