@@ -1,6 +1,6 @@
 //! The server: its threads, from their start to their end.
 
-ghost use Rattle.std.specs.Prelude.{◌≡◌, ◌≤◌, All};
+ghost use Rattle.std.specs.Prelude.{◌≡◌, ◌+◌, ◌≤◌, All, max, min};
 
 use crate::house::keep_house;
 use crate::log::{Crew, tell_fewer_threads};
@@ -25,7 +25,8 @@ const MOST_WORKERS: u64 = 63;
 
 /// How many passes there are: one for each worker that is asked for, 1 to 63, and the housekeeper's.
 fn passes_for(workers: u64) -> u16
-    ensures { (1 ≤ result) × (result ≤ 64) }
+    ensures count { result ≡ max 1 (min workers 63) + 1 }
+    ensures few { (1 ≤ result) × (result ≤ 64) }
 {
     let workers = workers.clamp(1, MOST_WORKERS);
     (workers + 1) as u16

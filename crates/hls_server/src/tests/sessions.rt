@@ -164,7 +164,7 @@ fn a_session_holds_nothing_while_it_reads(rt: HostRuntime) -> Result<(), Fail> {
 }
 
 /// Sends an encoder's stream through a session over memory, and counts it where the reply is right.
-fn send<R: Wait>(
+pub fn send<R: Wait>(
     rt: &R,
     alloc: Global,
     turn: &Turn,

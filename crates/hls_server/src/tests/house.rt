@@ -1,0 +1,43 @@
+//! The housekeeper, over a channel that was told before the server closed.
+
+use crate::house::keep_house;
+use crate::tests::sessions::{opening, send};
+use hls_settings::Timing;
+use hls_turn::Turn;
+use std::sync::atomic::{AtomicBool, AtomicU64, Ordering};
+use std::test::Fail;
+
+/// Half a minute is kept live, and no more behind it.
+const TIMING: Timing = Timing {
+    target: 6,
+    preferred: 4_000_000,
+    window: 30_000_000,
+    keep: 30_000_000,
+};
+
+/// Of 24 segments of 4 s the window keeps 8, and the units of the others are trimmed.
+#[test]
+fn a_told_channel_is_kept_up(rt: HostRuntime) -> Result<(), Fail> {
+    let alloc = rt.alloc();
+    let (turn, mut passes) = Turn::new(&rt, alloc, opening(alloc)?, 1)?;
+    let Some(mut pass) = passes.pop() else {
+        return Err(Fail::from("no pass"));
+    };
+    let right = AtomicU64::new(0);
+    send(&rt, alloc, &turn, &mut pass, 0, &right);
+    send(&rt, alloc, &turn, &mut pass, 1, &right);
+    send(&rt, alloc, &turn, &mut pass, 2, &right);
+    send(&rt, alloc, &turn, &mut pass, 3, &right);
+    assert_eq!(rt; right.load(Ordering::SeqCst), 4);
+    let closed = AtomicBool::new(true);
+    keep_house(&rt, alloc, &turn, TIMING, &closed, &mut pass);
+    let state = turn.look(&rt, alloc, &mut pass)?;
+    assert_eq!(rt; state.line().removed(), 16);
+    for rendition in 0..4 {
+        let Some(recording) = state.recording(rendition) else {
+            return Err(Fail::from("no recording"));
+        };
+        assert_eq!(rt; recording.floor(), 16);
+    }
+    Ok(())
+}
