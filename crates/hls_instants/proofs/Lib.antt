@@ -1,0 +1,6 @@
+pub mod Dates
+pub mod Days
+pub mod Fractions
+pub mod Parsed
+pub mod Moments
+pub mod Shapes
