@@ -7,13 +7,25 @@ mod asking;
 #[cfg(test)]
 mod channels;
 #[cfg(test)]
+mod cut_short;
+#[cfg(test)]
+mod failing;
+#[cfg(test)]
 mod fakes;
+#[cfg(test)]
+mod faults;
 #[cfg(test)]
 mod jobs;
 #[cfg(test)]
 mod ranges;
 #[cfg(test)]
 mod refusals;
+#[cfg(test)]
+mod refused;
+#[cfg(test)]
+mod refused_turn;
+#[cfg(test)]
+mod script;
 #[cfg(test)]
 mod sessions;
 #[cfg(test)]
@@ -22,3 +34,5 @@ mod smuggling;
 mod streams;
 #[cfg(test)]
 mod trimmed;
+#[cfg(test)]
+mod went;

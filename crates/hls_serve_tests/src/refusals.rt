@@ -76,10 +76,16 @@ fn with_tracks(alloc: Global, count: u8) -> Result<Vec<u8>, Fail> {
         return Err(Fail::from("no track"));
     };
     let mut tracks = Vec::new(alloc);
-    for number in 1..count + 1 {
-        tracks.extend_from_slice(&patched(alloc, track, 31, &[number])?)?;
+    for number in 0..count {
+        tracks.extend_from_slice(&patched(alloc, track, 31, &[number.wrapping_add(1)])?)?;
     }
-    Ok(boxed(alloc, b"moov", &[&tracks])?)
+    let Ok(size) = u32::try_from(tracks.len().wrapping_add(8)) else {
+        return Err(Fail::from("too many tracks"));
+    };
+    let mut bytes = Vec::from_slice(alloc, &size.to_be_bytes())?;
+    bytes.extend_from_slice(b"moov")?;
+    bytes.extend_from_slice(&tracks)?;
+    Ok(bytes)
 }
 
 /// The first unit, with its `traf` once more.

@@ -1,0 +1,137 @@
+//! The script on one thread with any one request for memory refused. Each reply is that of ample memory, or the fixed one to
+//! want of memory, with which the session ends, or those of a job that failed for it; what was accepted before stays, another
+//! session goes on, and the script sent again ends as it does with ample memory. `tests/refuse_each_allocation` refuses each
+//! request in turn.
+
+use crate::faults::Page;
+use crate::script::{
+    EVENTS, FILE_NAMES, Files, GONE, delete, encoder, encoder_replies, get_file, get_files,
+};
+use crate::went::{Went, judged, opening, status_of};
+use hls_http::Session;
+use hls_jobs::{Job, JobTable, run_job};
+use hls_serve::alone::{Alone, Own};
+use hls_serve::session::session_on;
+use std::alloc::Global;
+use std::sync::{Arc, Wait};
+use std::test::Fail;
+
+/// How a session goes that is to give these replies.
+fn hold<T: Wait>(rt: &T, alloc: Global, own: &mut Own, text: &[u8], replies: &[&[u8]]) -> Went {
+    let Ok(mut session) = Session::new(alloc, text, Page::new()) else {
+        return Went::Wanted;
+    };
+    let end = session_on(rt, alloc, &mut session, &Alone, own);
+    let page = session.writer.into_inner();
+    judged(page.written(), end, replies)
+}
+
+/// Runs all jobs that wait.
+fn run_all(alloc: Global, own: &mut Own) {
+    for _ in 0..64u32 {
+        let Some(work) = own.jobs.take_work() else {
+            return;
+        };
+        let _ = own.jobs.finish(run_job(alloc, work));
+    }
+}
+
+/// A job that failed for memory is answered so at its line and each of its files, and goes as any other.
+fn look_at_failed<T: Wait>(rt: &T, alloc: Global, own: &mut Own, id: u32) -> Option<Went> {
+    for file in FILE_NAMES {
+        let text = get_file(alloc, id, file).ok()?;
+        if hold(rt, alloc, own, text.as_bytes(), &[GONE]) != Went::Wanted {
+            return Some(Went::Astray);
+        }
+    }
+    let text = delete(alloc, id).ok()?;
+    let gone = hold(rt, alloc, own, text.as_bytes(), &[GONE]);
+    Some(Went::Wanted.and(gone))
+}
+
+/// How the job of an id is found once it was run, and goes.
+fn look_at_job<T: Wait>(
+    rt: &T,
+    alloc: Global,
+    own: &mut Own,
+    id: u32,
+    files: &Files,
+) -> Option<Went> {
+    match own.jobs.get(u64::from(id)) {
+        Ok(Job::Finished(_)) => {}
+        Ok(Job::Failed) => return look_at_failed(rt, alloc, own, id),
+        _ => return Some(Went::Astray),
+    }
+    let text = get_files(alloc, id).ok()?;
+    let went = hold(rt, alloc, own, &text, &files.replies());
+    if went != Went::Ample {
+        return Some(went);
+    }
+    let text = delete(alloc, id).ok()?;
+    Some(hold(rt, alloc, own, text.as_bytes(), &[GONE]))
+}
+
+/// Whether the channel holds just what its version says: an init section and units, and not a byte beside them.
+fn holds_what_it_counts(own: &Own) -> bool {
+    let version = own.snapshot.version();
+    match own.snapshot.recording(0) {
+        Some(recording) => {
+            let units = version.min(4).wrapping_sub(1);
+            recording.total() == units.wrapping_mul(1000).wrapping_add(600)
+        }
+        None => version == 0,
+    }
+}
+
+/// Sends the script to the channel, whose next job has this id, up to the first want of memory, and asks for the channel's
+/// status in another session: how that went, and whether a job was added; none where the texts for it were refused memory.
+fn send<T: Wait>(
+    rt: &T,
+    alloc: Global,
+    own: &mut Own,
+    id: u32,
+    files: &Files,
+) -> Option<(Went, bool)> {
+    let text = encoder(alloc).ok()?;
+    let replies = encoder_replies(own.snapshot.version(), id as usize);
+    let before = own.jobs.len();
+    let mut went = hold(rt, alloc, own, &text, &replies);
+    let is_added = own.jobs.len() > before;
+    if went == Went::Ample {
+        run_all(alloc, own);
+        went = look_at_job(rt, alloc, own, id, files)?;
+    }
+    let status = status_of(alloc, own.snapshot.version(), own.jobs.len()).ok()?;
+    let request = b"GET /status HTTP/1.1\r\nHost: a\r\n\r\n";
+    let told = hold(rt, alloc, own, request, &[status.as_bytes()]);
+    Some((went.and(told), is_added))
+}
+
+/// Sends the script twice to a new channel: how that went, and whether the channel has what it is to have after each time;
+/// none where the channel or a text was refused memory.
+fn send_twice<T: Wait>(rt: &T, alloc: Global) -> Option<(Went, bool)> {
+    let files = Files::new(alloc).ok()?;
+    let mut own = Own {
+        snapshot: Arc::new(alloc, opening(alloc)?).ok()?,
+        number: 0,
+        jobs: JobTable::new(alloc).ok()?,
+    };
+    let (first, is_added) = send(rt, alloc, &mut own, 1, &files)?;
+    let stays = holds_what_it_counts(&own);
+    let id = if is_added { 2 } else { 1 };
+    let (second, _) = send(rt, alloc, &mut own, id, &files)?;
+    let is_whole = holds_what_it_counts(&own) && own.snapshot.version() == EVENTS;
+    Some((first.and(second), stays && is_whole))
+}
+
+#[test]
+fn refused_memory_is_wanted_once(rt: HostRuntime) -> Result<(), Fail> {
+    let alloc = rt.alloc();
+    let (went, is_whole) = match send_twice(&rt, alloc) {
+        Some(both) => both,
+        None => send_twice(&rt, alloc).ok_or("no channel")?,
+    };
+    assert!(rt; went != Went::Astray);
+    assert!(rt; is_whole);
+    Ok(())
+}

@@ -1,0 +1,85 @@
+//! How a session went of whose requests for memory one may be refused, and the channel that it was held with.
+
+use bytes::Bytes;
+use hls_core::config::Config;
+use hls_core::snapshot::Snapshot;
+use hls_core_laws::rendition::Rendition;
+use hls_http::SessionEnd;
+use std::alloc::{AllocError, Global};
+
+/// A channel of one rendition, before anything came; none where memory was refused.
+pub fn opening(alloc: Global) -> Option<Snapshot> {
+    let rendition = Rendition {
+        name: Bytes::copy_from_slice(alloc, b"v1").ok()?,
+        video: true,
+        bandwidth: 3_000_000,
+        tolerance: 0,
+    };
+    let mut renditions = Vec::new(alloc);
+    renditions.push(rendition).ok()?;
+    let config = Config::new(alloc, 6, 4_000_000, renditions).ok()?;
+    Snapshot::first(alloc, config).ok()
+}
+
+/// The fixed reply to want of memory.
+const NO_MEMORY: &[u8] =
+    b"HTTP/1.1 503 Service Unavailable\r\nContent-Type: text/plain\r\nContent-Length: 15\r\nConnection: close\r\n\r\nrefused Memory\n";
+
+/// How sessions went.
+#[derive(Clone, Copy, Debug, PartialEq, Eq, Drop)]
+pub enum Went {
+    /// As with ample memory.
+    Ample,
+    /// Memory was wanted: the fixed reply was the last one, or there was no memory for the session, or for the job.
+    Wanted,
+    /// In no such way.
+    Astray,
+}
+
+impl Went {
+    /// How this and what came after it went: since one request for memory is refused, memory is wanted at most once.
+    pub fn and(self, then: Went) -> Went {
+        match (self, then) {
+            (Went::Ample, _) => then,
+            (Went::Wanted, Went::Ample) => Went::Wanted,
+            _ => Went::Astray,
+        }
+    }
+}
+
+/// How a session went that was to give these replies. Where memory is wanted, whole replies are followed by the fixed one, and
+/// the session ends.
+pub fn judged(out: &[u8], end: SessionEnd, replies: &[&[u8]]) -> Went {
+    let mut rest = out;
+    for reply in replies {
+        match rest.strip_prefix(reply) {
+            Some(behind) => rest = behind,
+            None => {
+                return if rest == NO_MEMORY && end == SessionEnd::Refused {
+                    Went::Wanted
+                } else {
+                    Went::Astray
+                };
+            }
+        }
+    }
+    if rest.is_empty() && end == SessionEnd::Closed {
+        Went::Ample
+    } else {
+        Went::Astray
+    }
+}
+
+/// What `/status` is answered of a channel of so many of the script's events: its places and live segments.
+pub fn status_of(alloc: Global, version: u64, jobs: usize) -> Result<String, AllocError> {
+    let (places, segments) = match version {
+        0 | 1 => (0, 0),
+        2 => (1, 0),
+        3 => (2, 1),
+        4 => (3, 2),
+        _ => (4, 3),
+    };
+    Ok(format!(in alloc;
+        "HTTP/1.1 200 OK\r\nContent-Type: text/plain\r\nContent-Length: 47\r\n\r\nversion {version}\nplaces {places}\nsegments {segments}\nremoved 0\njobs {jobs}\n"
+    )?)
+}
