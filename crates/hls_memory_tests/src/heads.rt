@@ -1,0 +1,111 @@
+//! Heads of replies and small replies, written: of one that wanted memory nothing is, or the fixed reply where a session says it.
+
+use crate::page::Page;
+use crate::told::Told;
+use hls_http::{
+    ReplyEnd, Session, SessionEnd, Source, head_bytes, refusal_body, write_head, write_reply,
+};
+use hls_http_laws::reply::{Extra, Kind, ReplyHead, Status, no_memory_head_text};
+use hls_io::Counted;
+use std::alloc::Global;
+
+const HEAD: &[u8] =
+    b"HTTP/1.1 202 Accepted\r\nContent-Type: text/plain\r\nContent-Length: 3\r\nLocation: /job/7\r\n\r\n";
+
+const REPLY: &[u8] =
+    b"HTTP/1.1 202 Accepted\r\nContent-Type: text/plain\r\nContent-Length: 3\r\nLocation: /job/7\r\n\r\nabc";
+
+fn head<'a>() -> ReplyHead<'a> {
+    ReplyHead {
+        status: Status::Accepted,
+        kind: Kind::Text,
+        extra: Extra::Job(7),
+        closing: false,
+    }
+}
+
+#[derive(Clone, Copy, Debug)]
+enum Act {
+    Bytes,
+    Refusal,
+    Source,
+    Head,
+    Reply,
+    Session,
+}
+
+const ACTS: [Act; 6] = [
+    Act::Bytes,
+    Act::Refusal,
+    Act::Source,
+    Act::Head,
+    Act::Reply,
+    Act::Session,
+];
+
+/// How a reply came out that is to be these bytes.
+fn told_written(page: &Page, end: Result<(), ReplyEnd>, wanted: &[u8]) -> Told {
+    match end {
+        Ok(()) => Told::answer(page.says(wanted)),
+        Err(ReplyEnd::Memory) => Told::wanted(page.says(b"")),
+        Err(ReplyEnd::WriteFailed) => Told::Astray,
+    }
+}
+
+/// How a session replies to HEAD.
+fn told_session(alloc: Global) -> Told {
+    let Ok(mut session) = Session::new(alloc, b"".as_slice(), Page::new()) else {
+        return Told::Wanted;
+    };
+    let end = session.reply_head(alloc, &head(), 3);
+    let page = session.writer.into_inner();
+    match end {
+        Ok(()) => Told::answer(page.says(HEAD)),
+        Err(SessionEnd::Refused) => Told::wanted(page.says(no_memory_head_text())),
+        Err(_) => Told::Astray,
+    }
+}
+
+fn told(alloc: Global, act: Act) -> Told {
+    let mut output = Counted::new(Page::new());
+    match act {
+        Act::Bytes => match head_bytes(alloc, &head(), 3) {
+            Ok(bytes) => Told::answer(bytes.as_slice() == HEAD),
+            Err(_) => Told::Wanted,
+        },
+        Act::Refusal => match refusal_body(alloc, "NotYet") {
+            Ok(bytes) => Told::answer(bytes.as_slice() == b"refused NotYet\n".as_slice()),
+            Err(_) => Told::Wanted,
+        },
+        Act::Source => match Source::new(alloc, b"abc".as_slice()) {
+            Ok(source) => Told::answer(source.held().is_empty()),
+            Err(_) => Told::Wanted,
+        },
+        Act::Head => {
+            let end = write_head(alloc, &mut output, &head(), 3);
+            told_written(&output.into_inner(), end, HEAD)
+        }
+        Act::Reply => {
+            let end = write_reply(alloc, &mut output, &head(), b"abc", false);
+            told_written(&output.into_inner(), end, REPLY)
+        }
+        Act::Session => told_session(alloc),
+    }
+}
+
+#[test]
+fn ample_memory_writes_heads(rt: HostRuntime) {
+    let alloc = rt.alloc();
+    for act in ACTS {
+        assert_eq!(rt; told(alloc, act), Told::Ample, "{act:?}");
+    }
+}
+
+#[test]
+fn refused_memory_writes_heads_once_more(rt: HostRuntime) {
+    let alloc = rt.alloc();
+    for act in ACTS {
+        let first = told(alloc, act);
+        assert!(rt; first.is_held(told(alloc, act)));
+    }
+}

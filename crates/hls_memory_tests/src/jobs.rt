@@ -1,0 +1,117 @@
+//! Jobs under a lock, and answers that are kept.
+
+use crate::channel::{SECOND, finished_at_last};
+use crate::told::Told;
+use hls_catchup::Request;
+use hls_check_laws::CostRule;
+use hls_core::snapshot::Snapshot;
+use hls_jobs::{Answered, Gate, Job, JobTable, Jobs, work_loop};
+use std::alloc::Global;
+use std::sync::{Arc, Wait};
+
+const REQUEST: Request = Request {
+    start_us: 0,
+    stop_us: 12 * SECOND,
+    preferred: 4 * SECOND,
+    rule: CostRule::Deviation,
+};
+
+/// Lets every job in.
+#[derive(Drop)]
+struct Open;
+
+impl Gate for Open {
+    fn enter(&self, _id: u64) -> bool {
+        true
+    }
+}
+
+fn is_answered(answered: &Answered) -> bool {
+    answered.snapshot().version() == 5 && answered.request() == REQUEST && answered.result().is_ok()
+}
+
+/// What is answered of the channel, and kept once more.
+fn told_answered(alloc: Global, state: &Arc<Snapshot>) -> Told {
+    let Ok(share) = Arc::try_clone(state) else {
+        return Told::Wanted;
+    };
+    let Ok(answered) = Answered::of(alloc, share, REQUEST) else {
+        return Told::wanted(state.version() == 5);
+    };
+    match answered.again() {
+        Ok(again) => Told::answer(is_answered(&answered) && is_answered(&again)),
+        Err(_) => Told::wanted(is_answered(&answered)),
+    }
+}
+
+fn told_table(alloc: Global) -> Told {
+    match JobTable::new(alloc) {
+        Ok(jobs) => Told::answer(jobs.len() == 0),
+        Err(_) => Told::Wanted,
+    }
+}
+
+#[test]
+fn ample_memory_answers(rt: HostRuntime) {
+    let alloc = rt.alloc();
+    let state = finished_at_last(alloc).expect(&rt, "a channel");
+    assert_eq!(rt; told_answered(alloc, &state), Told::Ample);
+    assert_eq!(rt; told_table(alloc), Told::Ample);
+}
+
+#[test]
+fn refused_memory_is_no_answer(rt: HostRuntime) {
+    let alloc = rt.alloc();
+    let state = finished_at_last(alloc).expect(&rt, "a channel");
+    let first = told_answered(alloc, &state);
+    assert!(rt; first.is_held(told_answered(alloc, &state)));
+    assert!(rt; told_table(alloc).is_held(told_table(alloc)));
+}
+
+/// What the job of the next id comes to in a loop, and that it's gone once it was taken away.
+fn told_loop<T: Wait>(rt: &T, alloc: Global, jobs: &Jobs, state: &Arc<Snapshot>, id: u64) -> Told {
+    let Ok(share) = Arc::try_clone(state) else {
+        return Told::Wanted;
+    };
+    if jobs.add(rt, share, REQUEST) != Ok(id) {
+        return Told::Astray;
+    }
+    work_loop(rt, alloc, jobs, &Open);
+    let told = match jobs.get(rt, id) {
+        Ok(Job::Finished(answered)) => Told::answer(is_answered(&answered)),
+        Ok(Job::Failed) => Told::wanted(state.version() == 5),
+        _ => Told::Astray,
+    };
+    if jobs.len(rt) == 1 && jobs.remove(rt, id) == Ok(()) && jobs.len(rt) == 0 {
+        told
+    } else {
+        Told::Astray
+    }
+}
+
+fn jobs_at_last(alloc: Global) -> Option<Jobs> {
+    match Jobs::new(alloc) {
+        Ok(jobs) => Some(jobs),
+        Err(_) => Jobs::new(alloc).ok(),
+    }
+}
+
+#[test]
+fn ample_memory_works_jobs_off(rt: HostRuntime) {
+    let alloc = rt.alloc();
+    let state = finished_at_last(alloc).expect(&rt, "a channel");
+    let jobs = jobs_at_last(alloc).expect(&rt, "jobs");
+    // so that the loop ends where none waits
+    jobs.close(&rt);
+    assert_eq!(rt; told_loop(&rt, alloc, &jobs, &state, 1), Told::Ample);
+}
+
+#[test]
+fn refused_memory_fails_a_job_and_works_the_next_off(rt: HostRuntime) {
+    let alloc = rt.alloc();
+    let state = finished_at_last(alloc).expect(&rt, "a channel");
+    let jobs = jobs_at_last(alloc).expect(&rt, "jobs");
+    jobs.close(&rt);
+    let first = told_loop(&rt, alloc, &jobs, &state, 1);
+    assert!(rt; first.is_held(told_loop(&rt, alloc, &jobs, &state, 2)));
+}

@@ -1,0 +1,148 @@
+//! Common places and programmes, of three units of 4 s.
+
+ghost use Rattle.std.specs.Prelude.{IfSome};
+ghost use Rattle.hls_places_laws.specs.Order.{ArePlaces};
+
+use crate::channel::{SECOND, finished_at_last};
+use crate::told::Told;
+use hls_check_laws::{CostRule, Goal, PlaceTable};
+use hls_places::{Cursor, Place, common, programme};
+use hls_places_laws::ProgrammeFault;
+use hls_record::Recording;
+use std::alloc::Global;
+
+/// Whether it's the place of a number, 4 s behind the one before it; the fourth is the closing one.
+fn is_place(place: &Place, number: u64) -> bool {
+    let start = number.wrapping_mul(4 * SECOND);
+    match place.spots.as_slice() {
+        [only] => {
+            only.fragment == number
+                && only.start == start
+                && only.prev_end == start
+                && only.run_in == 0
+                && only.run_out == 0
+                && place.closing == (number == 3)
+        }
+        _ => false,
+    }
+}
+
+fn are_places(places: &[Place]) -> bool {
+    places.len() == 4
+        && (0..)
+            .zip(places)
+            .all(|(number, place)| is_place(place, number))
+}
+
+/// The places of the recording.
+fn found(alloc: Global, recording: &Recording) -> Option<Vec<Place>>
+    ensures { IfSome result (λ places. ArePlaces places.items) }
+{
+    common(alloc, &[recording], &[0], &[true]).ok()
+}
+
+fn told_common(alloc: Global, recording: &Recording) -> Told {
+    match common(alloc, &[recording], &[0], &[true]) {
+        Ok(places) => Told::answer(are_places(&places) && recording.count() == 3),
+        Err(_) => Told::wanted(recording.count() == 3),
+    }
+}
+
+fn told_cursor(alloc: Global) -> Told {
+    match Cursor::first(alloc, 1) {
+        Ok(_) => Told::Ample,
+        Err(_) => Told::Wanted,
+    }
+}
+
+fn told_copied(alloc: Global, places: &[Place]) -> Told {
+    let Some(last) = places.last() else {
+        return Told::Astray;
+    };
+    match last.copied(alloc) {
+        Ok(copy) => Told::answer(is_place(&copy, 3) && are_places(places)),
+        Err(_) => Told::wanted(are_places(places)),
+    }
+}
+
+/// Whether it's the table of the places from 4 s to 12 s.
+fn is_programme(table: &PlaceTable) -> bool {
+    let starts = [4 * SECOND, 8 * SECOND, 12 * SECOND];
+    let places = table.places();
+    places.len() == 3
+        && places.iter().zip(&starts).all(|(spots, start)| spots
+            .as_slice()
+            .first()
+            .is_some_and(|spot| spot.start == *start))
+}
+
+/// The programme from 5 s to 9 s.
+fn told_programme(alloc: Global, places: &[Place]) -> Told
+    requires { ArePlaces places.now }
+{
+    let [first, second, third, last] = places else {
+        return Told::Astray;
+    };
+    let goal = Goal {
+        target: 6,
+        preferred: 4_000_000,
+        rule: CostRule::Deviation,
+    };
+    let all = [first, second, third, last];
+    match programme(alloc, &all, goal, true, 5 * SECOND, 9 * SECOND) {
+        Ok(table) => Told::answer(is_programme(&table) && are_places(places)),
+        Err(ProgrammeFault::Memory) => Told::wanted(are_places(places)),
+        Err(_) => Told::Astray,
+    }
+}
+
+#[test]
+fn ample_memory_finds_places(rt: HostRuntime) {
+    let alloc = rt.alloc();
+    let state = finished_at_last(alloc).expect(&rt, "a channel");
+    let recording = state.recording(0).expect(&rt, "a recording");
+    assert_eq!(rt; told_common(alloc, recording), Told::Ample);
+    assert_eq!(rt; told_cursor(alloc), Told::Ample);
+    let places = found(alloc, recording).expect(&rt, "places");
+    assert_eq!(rt; told_copied(alloc, &places), Told::Ample);
+    assert_eq!(rt; told_programme(alloc, &places), Told::Ample);
+}
+
+#[test]
+fn refused_memory_finds_places_once_more(rt: HostRuntime) {
+    let alloc = rt.alloc();
+    let state = finished_at_last(alloc).expect(&rt, "a channel");
+    let recording = state.recording(0).expect(&rt, "a recording");
+    let first = told_common(alloc, recording);
+    assert!(rt; first.is_held(told_common(alloc, recording)));
+    assert!(rt; told_cursor(alloc).is_held(told_cursor(alloc)));
+}
+
+fn found_at_last(alloc: Global, recording: &Recording) -> Option<Vec<Place>>
+    ensures { IfSome result (λ places. ArePlaces places.items) }
+{
+    match found(alloc, recording) {
+        Some(places) => Some(places),
+        None => found(alloc, recording),
+    }
+}
+
+#[test]
+fn refused_memory_copies_places_once_more(rt: HostRuntime) {
+    let alloc = rt.alloc();
+    let state = finished_at_last(alloc).expect(&rt, "a channel");
+    let recording = state.recording(0).expect(&rt, "a recording");
+    let places = found_at_last(alloc, recording).expect(&rt, "places");
+    let first = told_copied(alloc, &places);
+    assert!(rt; first.is_held(told_copied(alloc, &places)));
+}
+
+#[test]
+fn refused_memory_cuts_programmes_once_more(rt: HostRuntime) {
+    let alloc = rt.alloc();
+    let state = finished_at_last(alloc).expect(&rt, "a channel");
+    let recording = state.recording(0).expect(&rt, "a recording");
+    let places = found_at_last(alloc, recording).expect(&rt, "places");
+    let first = told_programme(alloc, &places);
+    assert!(rt; first.is_held(told_programme(alloc, &places)));
+}

@@ -1,0 +1,156 @@
+//! Words that are read: those after `serve`, the name of a refusal, the numbers of a line.
+
+use crate::page::Page;
+use crate::told::Told;
+use hls_io::Counted;
+use hls_refusals::{ExplainEnd, run_explain};
+use hls_settings::{Settings, SettingsFault, read_settings};
+use hls_text::numbers_of;
+use std::alloc::Global;
+use std::process::Abort;
+
+const VIDEO: &str = "v720:video:3000000:0";
+
+const AUDIO: &str = "a-en:audio:128000:30000";
+
+fn is_set(settings: &Settings) -> bool {
+    let plain = settings.plain;
+    plain.timing.target == 8
+        && plain.address.port == 8080
+        && settings.config.renditions().len() == 2
+}
+
+fn told_settings(alloc: Global) -> Told {
+    let words = ["--target", "8", "127.0.0.1:8080", VIDEO, AUDIO];
+    match read_settings(alloc, &words) {
+        Ok(settings) => Told::answer(is_set(&settings)),
+        Err(SettingsFault::Memory) => Told::Wanted,
+        Err(_) => Told::Astray,
+    }
+}
+
+/// What wrong words are told: which is wrong, or that memory was wanted.
+fn told_wrong(alloc: Global, words: &[&str], fault: SettingsFault) -> Told {
+    match read_settings(alloc, words) {
+        Ok(_) => Told::Astray,
+        Err(SettingsFault::Memory) => Told::Wanted,
+        Err(told) => Told::answer(told == fault),
+    }
+}
+
+#[derive(Clone, Copy, Debug)]
+enum Act {
+    Settings,
+    WrongOption,
+    WrongAddress,
+    WrongRendition,
+    Meaning,
+    Names,
+    NoMeaning,
+    Numbers,
+    NoNumbers,
+}
+
+const OF_SETTINGS: [Act; 4] = [
+    Act::Settings,
+    Act::WrongOption,
+    Act::WrongAddress,
+    Act::WrongRendition,
+];
+
+const OF_MEANINGS: [Act; 3] = [Act::Meaning, Act::Names, Act::NoMeaning];
+
+const OF_NUMBERS: [Act; 2] = [Act::Numbers, Act::NoNumbers];
+
+const MEANINGS: &[u8] = b"Gone: it was trimmed.\nNotYet: it isn't there.";
+
+/// What is said of a name, or the names of all; nothing of it where memory was wanted.
+fn told_meaning(alloc: Global, name: Option<&[u8]>, wanted: &[u8]) -> Told {
+    let mut output = Counted::new(Page::new());
+    let end = run_explain(alloc, MEANINGS, name, &mut output);
+    let page = output.into_inner();
+    match end {
+        ExplainEnd::Explained => Told::answer(page.says(wanted)),
+        ExplainEnd::Memory => Told::wanted(page.says(b"")),
+        _ => Told::Astray,
+    }
+}
+
+/// What is told of a name that no line has, for which no memory is taken.
+fn told_unknown(alloc: Global) -> Told {
+    let mut output = Counted::new(Page::new());
+    let end = run_explain(alloc, MEANINGS, Some(b"Full"), &mut output);
+    Told::answer(end == ExplainEnd::Unknown && output.into_inner().says(b""))
+}
+
+fn told_numbers(alloc: Global) -> Told {
+    match numbers_of(alloc, b"1 20 300") {
+        Ok(Some(numbers)) => Told::answer(numbers.as_slice() == [1, 20, 300].as_slice()),
+        Ok(None) => Told::Astray,
+        Err(_) => Told::Wanted,
+    }
+}
+
+/// What is told of a line with a blank too many.
+fn told_no_numbers(alloc: Global) -> Told {
+    match numbers_of(alloc, b"1  20") {
+        Ok(found) => Told::answer(found.is_none()),
+        Err(_) => Told::Wanted,
+    }
+}
+
+fn told(alloc: Global, act: Act) -> Told {
+    let at = "127.0.0.1:80";
+    match act {
+        Act::Settings => told_settings(alloc),
+        Act::WrongOption => {
+            let words = ["--target", "0", at, VIDEO];
+            told_wrong(alloc, &words, SettingsFault::Target)
+        }
+        Act::WrongAddress => { told_wrong(alloc, &["localhost:80", VIDEO], SettingsFault::Address) }
+        Act::WrongRendition => {
+            told_wrong(alloc, &[at, VIDEO, VIDEO], SettingsFault::Rendition(1))
+        }
+        Act::Meaning => told_meaning(alloc, Some(b"Gone"), b"Gone: it was trimmed.\n"),
+        Act::Names => told_meaning(alloc, None, b"Gone\nNotYet\n"),
+        Act::NoMeaning => told_unknown(alloc),
+        Act::Numbers => told_numbers(alloc),
+        Act::NoNumbers => told_no_numbers(alloc),
+    }
+}
+
+fn assert_ample(rt: &impl Abort, alloc: Global, acts: &[Act]) {
+    for act in acts {
+        assert_eq!(rt; told(alloc, *act), Told::Ample, "{act:?}");
+    }
+}
+
+fn assert_held(rt: &impl Abort, alloc: Global, acts: &[Act]) {
+    for act in acts {
+        let first = told(alloc, *act);
+        assert!(rt; first.is_held(told(alloc, *act)));
+    }
+}
+
+#[test]
+fn ample_memory_reads_words(rt: HostRuntime) {
+    let alloc = rt.alloc();
+    assert_ample(&rt, alloc, &OF_SETTINGS);
+    assert_ample(&rt, alloc, &OF_MEANINGS);
+    assert_ample(&rt, alloc, &OF_NUMBERS);
+}
+
+#[test]
+fn refused_memory_reads_settings_once_more(rt: HostRuntime) {
+    assert_held(&rt, rt.alloc(), &OF_SETTINGS);
+}
+
+#[test]
+fn refused_memory_explains_once_more(rt: HostRuntime) {
+    assert_held(&rt, rt.alloc(), &OF_MEANINGS);
+}
+
+#[test]
+fn refused_memory_reads_numbers_once_more(rt: HostRuntime) {
+    assert_held(&rt, rt.alloc(), &OF_NUMBERS);
+}
