@@ -1,3 +1,4 @@
+pub mod Civil
 pub mod Dates
 pub mod Days
 pub mod Fractions

@@ -11,6 +11,9 @@ mod shape;
 mod tests;
 mod write;
 
-pub use laws::written_instant_reads_back;
-pub use read::read_instant;
-pub use write::write_instant;
+pub use laws::{
+    instant_is_grammars, moment_reads_back, moment_text_is_grammars, moments_are_visible,
+    written_instant_reads_back,
+};
+pub use read::{instant_of, read_instant};
+pub use write::{moment_text, write_instant};
