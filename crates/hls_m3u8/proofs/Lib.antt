@@ -1,6 +1,7 @@
 pub mod Building
 pub mod Commas
 pub mod Cuts
+pub mod Dates
 pub mod Digits
 pub mod FirstRefusals
 pub mod Joined

@@ -1,14 +1,15 @@
 -- A written text is readable as its own list.
 
-use Rattle.std.proofs.Common.{◌≡◌, refl, sym, ◌∙◌, ap, subst, ℕ, zero, suc, ◌+◌, ◌<◌, ◌≤◌, ◌^◌, ◌/◌, ◌%◌, ◌==◌, ◌&&◌, not, nat_lt, Bool, true, false, List, [], ◌∷◌, ◌++◌, length, get_or, lit<, Option, Some, None, arith, inl, inr, append_assoc}
+use Rattle.std.proofs.Common.{◌≡◌, ◌≢◌, refl, sym, ◌∙◌, ap, subst, ℕ, ℤ, zero, suc, ◌+◌, ◌<◌, ◌≤◌, ◌^◌, ◌/◌, ◌%◌, ◌==◌, ◌&&◌, not, nat_lt, Bool, true, false, List, [], ◌∷◌, ◌++◌, length, get_or, lit<, Option, Some, None, arith, inl, inr, append_assoc}
 use Rattle.std.specs.Prelude.{codes, decimal, All, IsTrue, Ok, ⊤}
 use Rattle.std.specs.List.{list_all}
 use Rattle.std.specs.Str.{IsUtf8}
-use Rattle.std.proofs.lemmas.Bool.{cases_Bool, lt-ltb, ltb-true, and_parts}
+use Rattle.std.proofs.lemmas.Bool.{cases_Bool, lt-ltb, ltb-true, ne_eqb, and_parts}
 use Rattle.std.proofs.lemmas.List.{append-nil}
 use Rattle.std.proofs.lemmas.Str.{IsUtf8-append, IsUtf8-nil, IsUtf8-from_ascii}
 use Rattle.hls_time.specs.Digits.{AreDigits}
 use Rattle.hls_time.specs.Seconds.{six_digits, seconds_text, IsSeconds}
+use Rattle.hls_instants.specs.Instants.{whole_milliseconds, moment_text, MomentReadsBack, MomentsAreVisible}
 use Rattle.hls_m3u8.specs.declared.playlist.Kind.{Kind}
 use Rattle.hls_m3u8.specs.declared.playlist.Kind.TheVariants.{Vod, Event}
 use Rattle.hls_m3u8.specs.declared.playlist.ByteRange.{ByteRange}
@@ -20,14 +21,14 @@ use Rattle.hls_m3u8.specs.declared.reading.Reading.{Reading}
 use Rattle.hls_m3u8.specs.Limits.{text_limit, segment_limit}
 use Rattle.hls_m3u8.specs.Playlist.{Playlist}
 use Rattle.hls_m3u8.specs.Uri.{is_uri_byte, is_uri_text, IsUri}
-use Rattle.hls_m3u8.specs.HasText.{IsShort, IsRange, IsForm, IsSegmentRange, IsSegment, resource, HasText}
-use Rattle.hls_m3u8.specs.Lines.{joined, range_text, quoted, map_range, map_lines, kind_lines, mark_lines, extinf_line, range_lines, segment_lines, all_segment_lines, end_lines, number_lines, head_lines, media_lines, media_text}
+use Rattle.hls_m3u8.specs.HasText.{IsShort, IsRange, IsForm, IsSegmentRange, IsDate, IsSegment, resource, HasText}
+use Rattle.hls_m3u8.specs.Lines.{joined, range_text, quoted, map_range, map_lines, kind_lines, mark_lines, date_lines, extinf_line, range_lines, segment_lines, all_segment_lines, end_lines, number_lines, head_lines, media_lines, media_text}
 use Rattle.hls_m3u8.specs.Written.{IsWritten}
 use Rattle.hls_m3u8.specs.TextLines.{Split, split_at, without_return, text_lines}
 use Rattle.hls_m3u8.specs.NextLine.{IsNextLine}
 use Rattle.hls_m3u8.specs.Readable.{IsReadable}
 use Rattle.hls_m3u8.specs.Tags.{tag_of}
-use Rattle.hls_m3u8.specs.Reading.{after_tag, tag_step, uri_step, step, with_front, read_from, nothing_read, finished, has_order_mark, read_lines, reading_of}
+use Rattle.hls_m3u8.specs.Reading.{in_milliseconds, date_value, after_tag, tag_step, uri_step, step, with_front, read_from, nothing_read, finished, has_order_mark, read_lines, reading_of}
 use Rattle.hls_m3u8.proofs.Cuts.{IsClean, split_seam, first_of_more, no_lines}
 use Rattle.hls_m3u8.proofs.Texts.{written_has_text, written_is_text}
 use Rattle.hls_m3u8.proofs.Times.{digits_clean}
@@ -49,25 +50,37 @@ goes n r next line lines given =
 -- Segments
 
 -- a reading behind some segments, with the next segment's tags
-abbrev tagged : Reading → Option Resource → ℕ → Bool → Option ℕ → Option RangeTag → Reading
-tagged h last count mark us range = record h { us = us; range = range; mark = mark; last = last; count = count }
+abbrev tagged : Reading → Option Resource → ℕ → Bool → Option ℤ → Option ℕ → Option RangeTag → Reading
+tagged h last count mark date us range = record h { us = us; range = range; mark = mark; date = date; last = last; count = count }
 
 abbrev between : Reading → Option Resource → ℕ → Reading
-between h last count = tagged h last count false None None
+between h last count = tagged h last count false None None None
 
-abbrev pub AllSecondsRead : Type 0
-AllSecondsRead = (us : ℕ) → us < 2 ^ 53 → IsSeconds (seconds_text us) us
+-- what is written of a time, and of a moment
+pub record TimesRead : Type 0 where
+  pub seconds : (us : ℕ) → us < 2 ^ 53 → IsSeconds (seconds_text us) us
+  pub moments : MomentReadsBack
+  pub visible : MomentsAreVisible
 
-extinf_step : (n : ℕ) (h : Reading) (last : Option Resource) (count : ℕ) (mark : Bool) (us : ℕ) → us < 2 ^ 53 → IsSeconds (seconds_text us) us
-    → step n (tagged h last count mark None None) (extinf_line us) ≡ Ok (record { reading = tagged h last count mark (Some us) None; found = None })
-extinf_step n h last count mark us small is =
-    tag_line n (tagged h last count mark None None) (codes "EXTINF") (seconds_text us ++ 44 ∷ []) refl ∙ rw (length_read us small is) refl
+date_read : (us : ℤ) → MomentReadsBack → IsDate (Some us) → date_value (Some (moment_text us)) ≡ Some us
+date_read us moments is = ap in_milliseconds (moments us is.0) ∙ ap (λ t. Some (whole_milliseconds t)) (sym is.1) ∙ ap Some (sym is.1)
 
-range_step : (n : ℕ) (h : Reading) (last : Option Resource) (count : ℕ) (mark : Bool) (us : ℕ) (range : ByteRange) → IsRange range
-    → step n (tagged h last count mark (Some us) None) (codes "#EXT-X-BYTERANGE:" ++ range_text range)
-    ≡ Ok (record { reading = tagged h last count mark (Some us) (Some (record { length = range.length; offset = Some range.offset })); found = None })
-range_step n h last count mark us range is =
-    tag_line n (tagged h last count mark (Some us) None) (codes "EXT-X-BYTERANGE") (range_text range) refl ∙ rw (range_read range is) refl
+date_step : (n : ℕ) (h : Reading) (last : Option Resource) (count : ℕ) (mark : Bool) (us : ℤ) → MomentReadsBack → IsDate (Some us)
+    → step n (tagged h last count mark None None None) (codes "#EXT-X-PROGRAM-DATE-TIME:" ++ moment_text us)
+    ≡ Ok (record { reading = tagged h last count mark (Some us) None None; found = None })
+date_step n h last count mark us moments is =
+    tag_line n (tagged h last count mark None None None) (codes "EXT-X-PROGRAM-DATE-TIME") (moment_text us) refl ∙ rw (date_read us moments is) refl
+
+extinf_step : (n : ℕ) (h : Reading) (last : Option Resource) (count : ℕ) (mark : Bool) (date : Option ℤ) (us : ℕ) → us < 2 ^ 53 → IsSeconds (seconds_text us) us
+    → step n (tagged h last count mark date None None) (extinf_line us) ≡ Ok (record { reading = tagged h last count mark date (Some us) None; found = None })
+extinf_step n h last count mark date us small is =
+    tag_line n (tagged h last count mark date None None) (codes "EXTINF") (seconds_text us ++ 44 ∷ []) refl ∙ rw (length_read us small is) refl
+
+range_step : (n : ℕ) (h : Reading) (last : Option Resource) (count : ℕ) (mark : Bool) (date : Option ℤ) (us : ℕ) (range : ByteRange) → IsRange range
+    → step n (tagged h last count mark date (Some us) None) (codes "#EXT-X-BYTERANGE:" ++ range_text range)
+    ≡ Ok (record { reading = tagged h last count mark date (Some us) (Some (record { length = range.length; offset = Some range.offset })); found = None })
+range_step n h last count mark date us range is =
+    tag_line n (tagged h last count mark date (Some us) None) (codes "EXT-X-BYTERANGE") (range_text range) refl ∙ rw (range_read range is) refl
 
 -- a URI's line
 uri_line : (n : ℕ) (r : Reading) (uri : List ℕ) → IsTrue (is_uri_text uri) → step n r uri ≡ uri_step n r uri r.us
@@ -80,31 +93,31 @@ uri_line n r (b ∷ uri) is =
       | inr e ↦ rw e refl
     ]
 
-segment_step : (n : ℕ) (h : Reading) (last : Option Resource) (count : ℕ) (mark : Bool) (us : ℕ) (range : ByteRange) (uri : List ℕ)
+segment_step : (n : ℕ) (h : Reading) (last : Option Resource) (count : ℕ) (mark : Bool) (date : Option ℤ) (us : ℕ) (range : ByteRange) (uri : List ℕ)
     → count < segment_limit → IsTrue (is_uri_text uri)
-    → step n (tagged h last count mark (Some us) (Some (record { length = range.length; offset = Some range.offset }))) uri
+    → step n (tagged h last count mark date (Some us) (Some (record { length = range.length; offset = Some range.offset }))) uri
     ≡ Ok (record {
       reading = between h (Some (record { uri = uri; range = Some range })) (count + 1);
-      found = Some (record { mark = mark; us = us; range = Some range });
+      found = Some (record { mark = mark; date = date; us = us; range = Some range });
     })
-segment_step n h last count mark us range uri small is =
-    uri_line n (tagged h last count mark (Some us) (Some (record { length = range.length; offset = Some range.offset }))) uri is ∙ rw (lt-ltb count segment_limit small) refl
+segment_step n h last count mark date us range uri small is =
+    uri_line n (tagged h last count mark date (Some us) (Some (record { length = range.length; offset = Some range.offset }))) uri is ∙ rw (lt-ltb count segment_limit small) refl
 
 -- the three lines of a segment
-three_lines : (n : ℕ) (h : Reading) (last : Option Resource) (count : ℕ) (mark : Bool) (us : ℕ) (range : ByteRange) (uri : List ℕ) (lines : List (List ℕ))
+three_lines : (n : ℕ) (h : Reading) (last : Option Resource) (count : ℕ) (mark : Bool) (date : Option ℤ) (us : ℕ) (range : ByteRange) (uri : List ℕ) (lines : List (List ℕ))
     → us < 2 ^ 53 → IsSeconds (seconds_text us) us → IsRange range → count < segment_limit → IsTrue (is_uri_text uri)
-    → read_from n (tagged h last count mark None None) (extinf_line us ∷ (codes "#EXT-X-BYTERANGE:" ++ range_text range) ∷ uri ∷ lines)
-    ≡ with_front (record { mark = mark; us = us; range = Some range; uri = uri } ∷ []) (read_from (n + 1 + 1 + 1) (between h (Some (record { uri = uri; range = Some range })) (count + 1)) lines)
-three_lines n h last count mark us range uri lines small is is_range few is_uri =
-    goes n (tagged h last count mark None None) (tagged h last count mark (Some us) None) (extinf_line us) ((codes "#EXT-X-BYTERANGE:" ++ range_text range) ∷ uri ∷ lines)
-    (extinf_step n h last count mark us small is)
-    ∙ goes (n + 1) (tagged h last count mark (Some us) None) (tagged h last count mark (Some us) (Some (record { length = range.length; offset = Some range.offset })))
-    (codes "#EXT-X-BYTERANGE:" ++ range_text range) (uri ∷ lines) (range_step (n + 1) h last count mark us range is_range)
-    ∙ read_more (n + 1 + 1) (tagged h last count mark (Some us) (Some (record { length = range.length; offset = Some range.offset }))) uri lines
+    → read_from n (tagged h last count mark date None None) (extinf_line us ∷ (codes "#EXT-X-BYTERANGE:" ++ range_text range) ∷ uri ∷ lines)
+    ≡ with_front (record { mark = mark; date = date; us = us; range = Some range; uri = uri } ∷ []) (read_from (n + 1 + 1 + 1) (between h (Some (record { uri = uri; range = Some range })) (count + 1)) lines)
+three_lines n h last count mark date us range uri lines small is is_range few is_uri =
+    goes n (tagged h last count mark date None None) (tagged h last count mark date (Some us) None) (extinf_line us) ((codes "#EXT-X-BYTERANGE:" ++ range_text range) ∷ uri ∷ lines)
+    (extinf_step n h last count mark date us small is)
+    ∙ goes (n + 1) (tagged h last count mark date (Some us) None) (tagged h last count mark date (Some us) (Some (record { length = range.length; offset = Some range.offset })))
+    (codes "#EXT-X-BYTERANGE:" ++ range_text range) (uri ∷ lines) (range_step (n + 1) h last count mark date us range is_range)
+    ∙ read_more (n + 1 + 1) (tagged h last count mark date (Some us) (Some (record { length = range.length; offset = Some range.offset }))) uri lines
     (record {
       reading = between h (Some (record { uri = uri; range = Some range })) (count + 1);
-      found = Some (record { mark = mark; us = us; range = Some range });
-    }) (segment_step (n + 1 + 1) h last count mark us range uri few is_uri)
+      found = Some (record { mark = mark; date = date; us = us; range = Some range });
+    }) (segment_step (n + 1 + 1) h last count mark date us range uri few is_uri)
 
 -- what the lines of a list's segments are read as
 record SegmentsRead (n : ℕ) (h : Reading) (last : Option Resource) (count : ℕ) (before lines : List (List ℕ)) (segments : List Segment) : Type 0 where
@@ -115,40 +128,65 @@ record SegmentsRead (n : ℕ) (h : Reading) (last : Option Resource) (count : �
   is : read_from n (between h last count) (before ++ lines) ≡ with_front segments (read_from number (between h end many) lines)
 
 mark_step : (n : ℕ) (h : Reading) (last : Option Resource) (count : ℕ)
-    → step n (between h last count) (codes "#EXT-X-DISCONTINUITY") ≡ Ok (record { reading = tagged h last count true None None; found = None })
+    → step n (between h last count) (codes "#EXT-X-DISCONTINUITY") ≡ Ok (record { reading = tagged h last count true None None None; found = None })
 unfolding split_at
 mark_step n h last count = refl
 
-one_segment : (n : ℕ) (h : Reading) (last : Option Resource) (count : ℕ) (mark : Bool) (us : ℕ) (range : ByteRange) (uri : List ℕ) (lines : List (List ℕ))
-    → us < 2 ^ 53 → IsSeconds (seconds_text us) us → IsRange range → count < segment_limit → IsTrue (is_uri_text uri)
-    → SegmentsRead n h last count (segment_lines (record { mark = mark; us = us; range = Some range; uri = uri })) lines (record { mark = mark; us = us; range = Some range; uri = uri } ∷ [])
-one_segment n h last count false us range uri lines small is is_range few is_uri = record {
+-- the line of a date, where there is one, and those three
+record DatedRead (n : ℕ) (h : Reading) (last : Option Resource) (count : ℕ) (mark : Bool) (date : Option ℤ) (us : ℕ) (range : ByteRange) (uri : List ℕ) (lines : List (List ℕ)) : Type 0 where
+  number : ℕ
+  is : read_from n (tagged h last count mark None None None) ((date_lines date ++ (extinf_line us ∷ (codes "#EXT-X-BYTERANGE:" ++ range_text range) ∷ uri ∷ [])) ++ lines)
+      ≡ with_front (record { mark = mark; date = date; us = us; range = Some range; uri = uri } ∷ []) (read_from number (between h (Some (record { uri = uri; range = Some range })) (count + 1)) lines)
+
+dated_lines : (n : ℕ) (h : Reading) (last : Option Resource) (count : ℕ) (mark : Bool) (date : Option ℤ) (us : ℕ) (range : ByteRange) (uri : List ℕ) (lines : List (List ℕ))
+    → TimesRead → IsDate date → us < 2 ^ 53 → IsRange range → count < segment_limit → IsTrue (is_uri_text uri)
+    → DatedRead n h last count mark date us range uri lines
+dated_lines n h last count mark None us range uri lines times is_date small is_range few is_uri = record {
   number = n + 1 + 1 + 1;
-  end = Some (record { uri = uri; range = Some range });
-  many = count + 1;
-  more = refl;
-  is = three_lines n h last count false us range uri lines small is is_range few is_uri;
+  is = three_lines n h last count mark None us range uri lines small (times.seconds us small) is_range few is_uri;
 }
-one_segment n h last count true us range uri lines small is is_range few is_uri = record {
+dated_lines n h last count mark (Some date) us range uri lines times is_date small is_range few is_uri = record {
   number = n + 1 + 1 + 1 + 1;
-  end = Some (record { uri = uri; range = Some range });
-  many = count + 1;
-  more = refl;
   is =
-      goes n (between h last count) (tagged h last count true None None) (codes "#EXT-X-DISCONTINUITY")
-      (extinf_line us ∷ (codes "#EXT-X-BYTERANGE:" ++ range_text range) ∷ uri ∷ lines) (mark_step n h last count)
-      ∙ three_lines (n + 1) h last count true us range uri lines small is is_range few is_uri;
+      goes n (tagged h last count mark None None None) (tagged h last count mark (Some date) None None) (codes "#EXT-X-PROGRAM-DATE-TIME:" ++ moment_text date)
+      (extinf_line us ∷ (codes "#EXT-X-BYTERANGE:" ++ range_text range) ∷ uri ∷ lines) (date_step n h last count mark date times.moments is_date)
+      ∙ three_lines (n + 1) h last count mark (Some date) us range uri lines small (times.seconds us small) is_range few is_uri;
 }
 
-segment_read : (n : ℕ) (h : Reading) (last : Option Resource) (count : ℕ) (uri : List ℕ) (mark : Bool) (us : ℕ) (range : Option ByteRange) (own : List ℕ) (lines : List (List ℕ))
-    → us < 2 ^ 53 → IsSeconds (seconds_text us) us → IsSegmentRange range → own ≡ uri → count < segment_limit → IsTrue (is_uri_text uri)
-    → SegmentsRead n h last count (segment_lines (record { mark = mark; us = us; range = range; uri = own })) lines (record { mark = mark; us = us; range = range; uri = own } ∷ [])
-segment_read n h last count uri mark us None own lines small is is_range same few is_uri = absurd is_range
-segment_read n h last count uri mark us (Some range) own lines small is is_range same few is_uri =
-    one_segment n h last count mark us range own lines small is is_range few (subst (λ u. IsTrue (is_uri_text u)) (sym same) is_uri)
+one_segment : (n : ℕ) (h : Reading) (last : Option Resource) (count : ℕ) (mark : Bool) (date : Option ℤ) (us : ℕ) (range : ByteRange) (uri : List ℕ) (lines : List (List ℕ))
+    → TimesRead → IsDate date → us < 2 ^ 53 → IsRange range → count < segment_limit → IsTrue (is_uri_text uri)
+    → SegmentsRead n h last count (segment_lines (record { mark = mark; date = date; us = us; range = Some range; uri = uri })) lines (record { mark = mark; date = date; us = us; range = Some range; uri = uri } ∷ [])
+one_segment n h last count false date us range uri lines times is_date small is_range few is_uri =
+    let own = dated_lines n h last count false date us range uri lines times is_date small is_range few is_uri in
+    record {
+      number = own.number;
+      end = Some (record { uri = uri; range = Some range });
+      many = count + 1;
+      more = refl;
+      is = own.is;
+    }
+one_segment n h last count true date us range uri lines times is_date small is_range few is_uri =
+    let own = dated_lines (n + 1) h last count true date us range uri lines times is_date small is_range few is_uri in
+    record {
+      number = own.number;
+      end = Some (record { uri = uri; range = Some range });
+      many = count + 1;
+      more = refl;
+      is =
+          goes n (between h last count) (tagged h last count true None None None) (codes "#EXT-X-DISCONTINUITY")
+          ((date_lines date ++ (extinf_line us ∷ (codes "#EXT-X-BYTERANGE:" ++ range_text range) ∷ uri ∷ [])) ++ lines) (mark_step n h last count)
+          ∙ own.is;
+    }
+
+segment_read : (n : ℕ) (h : Reading) (last : Option Resource) (count : ℕ) (uri : List ℕ) (mark : Bool) (date : Option ℤ) (us : ℕ) (range : Option ByteRange) (own : List ℕ) (lines : List (List ℕ))
+    → TimesRead → IsDate date → us < 2 ^ 53 → IsSegmentRange range → own ≡ uri → count < segment_limit → IsTrue (is_uri_text uri)
+    → SegmentsRead n h last count (segment_lines (record { mark = mark; date = date; us = us; range = range; uri = own })) lines (record { mark = mark; date = date; us = us; range = range; uri = own } ∷ [])
+segment_read n h last count uri mark date us None own lines times is_date small is_range same few is_uri = absurd is_range
+segment_read n h last count uri mark date us (Some range) own lines times is_date small is_range same few is_uri =
+    one_segment n h last count mark date us range own lines times is_date small is_range few (subst (λ u. IsTrue (is_uri_text u)) (sym same) is_uri)
 
 segments_read : (uri : List ℕ) (segments : List Segment) (n : ℕ) (h : Reading) (last : Option Resource) (count : ℕ) (lines : List (List ℕ))
-    → AllSecondsRead → All (IsSegment uri) segments → IsTrue (is_uri_text uri) → count + length segments ≤ segment_limit
+    → TimesRead → All (IsSegment uri) segments → IsTrue (is_uri_text uri) → count + length segments ≤ segment_limit
     → SegmentsRead n h last count (all_segment_lines segments) lines segments
 segments_read uri [] n h last count lines times are is_uri few = record {
   number = n;
@@ -161,7 +199,7 @@ segments_read uri (s ∷ ss) n h last count lines times are is_uri few =
     let first : IsSegment uri s = are zero s (omega arith) in
     let rest : All (IsSegment uri) ss = λ k d small. are (suc k) d (omega (arith, small)) in
     let one : SegmentsRead n h last count (segment_lines s) (all_segment_lines ss ++ lines) (s ∷ []) =
-    segment_read n h last count uri s.mark s.us s.range s.uri (all_segment_lines ss ++ lines) first.length (times s.us first.length) first.range first.uri_is (omega (arith, few)) is_uri in
+    segment_read n h last count uri s.mark s.date s.us s.range s.uri (all_segment_lines ss ++ lines) times first.date first.length first.range first.uri_is (omega (arith, few)) is_uri in
     let one_more : one.many ≡ count + 1 = one.more in
     let others : SegmentsRead one.number h one.end one.many (all_segment_lines ss) lines ss =
     segments_read uri ss one.number h one.end one.many lines times rest is_uri (omega (arith, few)) in
@@ -275,7 +313,7 @@ no_cr b h = false_not (b == 13) (and_parts (not (b == 10)) (not (b == 13)) (and_
 no_quote : (b : ℕ) → is_uri_byte b ≡ true → (b == 34) ≡ false
 no_quote b h = false_not (b == 34) (and_parts (not (b == 10) && not (b == 13)) (not (b == 34)) h).1
 
-pub lines_read : (list : Playlist) (uri : List ℕ) (range : ByteRange) → AllSecondsRead → HasText list → list.map ≡ Some (record { uri = uri; range = Some range })
+pub lines_read : (list : Playlist) (uri : List ℕ) (range : ByteRange) → TimesRead → HasText list → list.map ≡ Some (record { uri = uri; range = Some range })
     → IsTrue (is_uri_text uri) → IsRange range → All (IsSegment uri) list.segments → length list.segments ≤ segment_limit
     → read_lines (media_lines list) ≡ Ok list
 lines_read list uri range times has map_is is_uri is_range are few =
@@ -429,27 +467,61 @@ unfolding ArePlain
 plain_mark true = ((ascii_utf8 (codes "#EXT-X-DISCONTINUITY") refl, refl, refl), tt)
 plain_mark false = tt
 
-plain_segment : (uri : List ℕ) (mark : Bool) (us : ℕ) (range : Option ByteRange) (own : List ℕ) → IsUri uri → us < 2 ^ 53 → IsSegmentRange range → own ≡ uri
-    → ArePlain (segment_lines (record { mark = mark; us = us; range = range; uri = own }))
+-- neither a blank nor a control character
+abbrev is_visible : ℕ → Bool
+is_visible b = nat_lt 32 b && nat_lt b 127
+
+visible_clean : (byte : ℕ) (text : List ℕ) → byte < 32 → list_all is_visible text ≡ true → IsClean byte text
+visible_clean byte [] low h = refl
+visible_clean byte (b ∷ text) low h =
+    let parts = and_parts (is_visible b) (list_all is_visible text) h in
+    let above : 32 < b = ltb-true 32 b (and_parts (nat_lt 32 b) (nat_lt b 127) parts.0).0 in
+    let differ : b ≢ byte = λ e. omega (arith, e, above, low) in
+    rw (ne_eqb b byte differ) (visible_clean byte text low parts.1)
+
+visible_ascii : (text : List ℕ) → list_all is_visible text ≡ true → (i : ℕ) → get_or text i 0 < 128
+visible_ascii [] h i = lit< tt
+visible_ascii (b ∷ text) h zero =
+    let below : b < 127 = ltb-true b 127 (and_parts (nat_lt 32 b) (nat_lt b 127) (and_parts (is_visible b) (list_all is_visible text) h).0).1 in
+    omega (arith, below)
+visible_ascii (b ∷ text) h (suc i) = visible_ascii text (and_parts (is_visible b) (list_all is_visible text) h).1 i
+
+plain_date : (date : Option ℤ) → MomentsAreVisible → IsDate date → ArePlain (date_lines date)
 unfolding ArePlain
-plain_segment uri mark us None own is small is_range same = absurd is_range
-plain_segment uri mark us (Some range) own is small is_range same =
-    all_plain (mark_lines mark) ((extinf_line us ∷ range_lines (Some range)) ++ own ∷ []) (plain_mark mark) (
+plain_date None visible is = tt
+plain_date (Some us) visible is =
+    let seen = visible us is.0 in (
+      plain-append (codes "#EXT-X-PROGRAM-DATE-TIME:") (moment_text us) (ascii_utf8 (codes "#EXT-X-PROGRAM-DATE-TIME:") refl, refl, refl) (
+        IsUtf8-from_ascii (moment_text us) (visible_ascii (moment_text us) seen),
+        visible_clean 10 (moment_text us) (omega arith) seen,
+        visible_clean 13 (moment_text us) (omega arith) seen,
+      ),
+      tt,
+    )
+
+plain_segment : (uri : List ℕ) (mark : Bool) (date : Option ℤ) (us : ℕ) (range : Option ByteRange) (own : List ℕ)
+    → MomentsAreVisible → IsUri uri → IsDate date → us < 2 ^ 53 → IsSegmentRange range → own ≡ uri
+    → ArePlain (segment_lines (record { mark = mark; date = date; us = us; range = range; uri = own }))
+unfolding ArePlain
+plain_segment uri mark date us None own visible is is_date small is_range same = absurd is_range
+plain_segment uri mark date us (Some range) own visible is is_date small is_range same =
+    all_plain (mark_lines mark) (date_lines date ++ ((extinf_line us ∷ range_lines (Some range)) ++ own ∷ [])) (plain_mark mark)
+    (all_plain (date_lines date) ((extinf_line us ∷ range_lines (Some range)) ++ own ∷ []) (plain_date date visible is_date) (
       plain-append (codes "#EXTINF:") (seconds_text us ++ 44 ∷ []) (ascii_utf8 (codes "#EXTINF:") refl, refl, refl)
           (plain-append (seconds_text us) (44 ∷ []) (plain_seconds us small) (ascii_utf8 (44 ∷ []) refl, refl, refl)),
       (
         plain-append (codes "#EXT-X-BYTERANGE:") (range_text range) (ascii_utf8 (codes "#EXT-X-BYTERANGE:") refl, refl, refl) (plain_range range is_range),
         (plain_uri own (subst IsUri (sym same) is), tt),
       ),
-    )
+    ))
 
-plain_segments : (uri : List ℕ) (segments : List Segment) → IsUri uri → All (IsSegment uri) segments → ArePlain (all_segment_lines segments)
+plain_segments : (uri : List ℕ) (segments : List Segment) → MomentsAreVisible → IsUri uri → All (IsSegment uri) segments → ArePlain (all_segment_lines segments)
 unfolding ArePlain
-plain_segments uri [] is are = tt
-plain_segments uri (s ∷ ss) is are =
+plain_segments uri [] visible is are = tt
+plain_segments uri (s ∷ ss) visible is are =
     let first : IsSegment uri s = are zero s (omega arith) in
     let rest : All (IsSegment uri) ss = λ k d small. are (suc k) d (omega (arith, small)) in
-    all_plain (segment_lines s) (all_segment_lines ss) (plain_segment uri s.mark s.us s.range s.uri is first.length first.range first.uri_is) (plain_segments uri ss is rest)
+    all_plain (segment_lines s) (all_segment_lines ss) (plain_segment uri s.mark s.date s.us s.range s.uri visible is first.date first.length first.range first.uri_is) (plain_segments uri ss visible is rest)
 
 plain_end : (ended : Bool) → ArePlain (end_lines ended)
 unfolding ArePlain
@@ -501,7 +573,7 @@ text_read list plain read small =
     let lines : (text_lines (joined (media_lines list)) ≡ media_lines list) × IsUtf8 (joined (media_lines list)) = lines_of_text (media_lines list) plain in
     reads_lines (joined (media_lines list)) small lines.1 (no_order_mark list) ∙ ap read_lines lines.0 ∙ read
 
-pub reads_back : ((us : ℕ) → us < 2 ^ 53 → IsSeconds (seconds_text us) us) → (list : Playlist) (text : List ℕ) → IsWritten list text → length text ≤ text_limit → length list.segments ≤ segment_limit
+pub reads_back : TimesRead → (list : Playlist) (text : List ℕ) → IsWritten list text → length text ≤ text_limit → length list.segments ≤ segment_limit
     → IsReadable text list
 reads_back times list text w small few =
     let has : HasText list = written_has_text list text w in
@@ -515,6 +587,6 @@ reads_back times list text w small few =
     (all_plain (kind_lines list.kind) (map_lines list.map) (plain_kind list.kind) (subst (λ m. ArePlain (map_lines m)) (sym w.map_is) (plain_map w.uri range w.is_uri is_range))) in
     let plain : ArePlain (media_lines list) =
     all_plain (head_lines list) (all_segment_lines list.segments ++ end_lines list.ended) head
-    (all_plain (all_segment_lines list.segments) (end_lines list.ended) (plain_segments w.uri list.segments w.is_uri are) (plain_end list.ended)) in
+    (all_plain (all_segment_lines list.segments) (end_lines list.ended) (plain_segments w.uri list.segments times.visible w.is_uri are) (plain_end list.ended)) in
     let read : read_lines (media_lines list) ≡ Ok list = lines_read list w.uri range times has w.map_is w.is_uri.0 is_range are few in
     subst (λ t. reading_of t ≡ Ok list) (sym text_is) (text_read list plain read (subst (λ t. length t ≤ text_limit) text_is small))

@@ -1,6 +1,6 @@
 -- What the lines of a media playlist say, one after the other (RFC 8216 section 4.3).
 
-use Rattle.std.specs.Prelude.{ℕ, ◌+◌, ◌==◌, ◌&&◌, Bool, true, false, not, if◌then◌else◌, nat_lt, List, [], ◌∷◌, ◌++◌, length, Option, Some, None, Result, Ok, Err, codes}
+use Rattle.std.specs.Prelude.{ℕ, ◌+◌, ℤ, ◌==◌, ◌&&◌, Bool, true, false, not, if◌then◌else◌, nat_lt, List, [], ◌∷◌, ◌++◌, length, Option, Some, None, Result, Ok, Err, codes}
 use Rattle.std.specs.Str.{bytes_eq, is_utf8}
 use Rattle.hls_m3u8.specs.declared.playlist.Kind.{Kind}
 use Rattle.hls_m3u8.specs.declared.playlist.ByteRange.{ByteRange}
@@ -20,6 +20,7 @@ use Rattle.hls_m3u8.specs.TextLines.{split_at, text_lines}
 use Rattle.hls_m3u8.specs.Tags.{tag_of}
 use Rattle.hls_m3u8.specs.Values.{short, seconds, range_tag, kind_of}
 use Rattle.hls_m3u8.specs.Attributes.{map_tag}
+use Rattle.hls_instants.specs.Instants.{instant_of, whole_milliseconds}
 
 -- What a tag does: none where it is refused
 
@@ -103,6 +104,20 @@ abbrev pub with_mark : Reading → Option (List ℕ) → Option Reading
 with_mark r None = if r.mark then None else Some (record r { mark = true })
 with_mark r (Some value) = None
 
+-- a moment is kept in whole milliseconds
+abbrev pub in_milliseconds : Option ℤ → Option ℤ
+in_milliseconds None = None
+in_milliseconds (Some us) = Some (whole_milliseconds us)
+
+abbrev pub date_value : Option (List ℕ) → Option ℤ
+date_value None = None
+date_value (Some value) = in_milliseconds (instant_of value)
+
+-- what is no moment is skipped, as an unknown tag is
+abbrev pub with_date : Reading → Option ℤ → Option Reading
+with_date r None = Some r
+with_date r (Some us) = once r.date (record r { date = Some us })
+
 abbrev pub with_end : Reading → Option (List ℕ) → Option Reading
 with_end r None = if r.ended then None else Some (record r { ended = true })
 with_end r (Some value) = None
@@ -118,6 +133,7 @@ after_tag r tag.Extinf value = with_length r (length_value value)
 after_tag r tag.Byterange value = with_range_tag r (range_value value)
 after_tag r tag.Map value = with_map r (map_value value)
 after_tag r tag.Discontinuity value = with_mark r value
+after_tag r tag.ProgramDateTime value = with_date r (date_value value)
 after_tag r tag.Endlist value = with_end r value
 after_tag r tag.Refused value = None
 after_tag r tag.Unknown value = Some r
@@ -154,8 +170,8 @@ segment_range last uri (Some tag) = as_range (placed last uri tag.length tag.off
 
 abbrev pub after_segment : Reading → List ℕ → ℕ → Option ByteRange → Stepped
 after_segment r uri us range = record {
-  reading = record r { us = None; range = None; mark = false; last = Some (record { uri = uri; range = range }); count = r.count + 1 };
-  found = Some (record { mark = r.mark; us = us; range = range });
+  reading = record r { us = None; range = None; mark = false; date = None; last = Some (record { uri = uri; range = range }); count = r.count + 1 };
+  found = Some (record { mark = r.mark; date = r.date; us = us; range = range });
 }
 
 abbrev pub segment_within : ℕ → Reading → List ℕ → ℕ → Option (Option ByteRange) → Result Stepped ListFault
@@ -188,7 +204,7 @@ pub record AllRead : Type 0 where
 
 abbrev pub segments_of : List ℕ → Option Found → List Segment
 segments_of uri None = []
-segments_of uri (Some found) = record { mark = found.mark; us = found.us; range = found.range; uri = uri } ∷ []
+segments_of uri (Some found) = record { mark = found.mark; date = found.date; us = found.us; range = found.range; uri = uri } ∷ []
 
 abbrev pub with_front : List Segment → Result AllRead ListFault → Result AllRead ListFault
 with_front segments (Err fault) = Err fault
@@ -217,6 +233,7 @@ nothing_read = record {
   us = None;
   range = None;
   mark = false;
+  date = None;
   last = None;
   count = 0;
 }

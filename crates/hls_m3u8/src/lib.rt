@@ -29,8 +29,8 @@ mod write;
 
 pub use fault::ListFault;
 pub use laws::{
-    limits_are_defined, list_has_one_text, readable_as_one_list, refused_at_first,
-    text_exactly_where, written_is_text, written_reads_back,
+    limits_are_defined, lines_make_one_text, list_has_one_text, readable_as_one_list,
+    refused_at_first, text_exactly_where, written_is_text, written_reads_back,
 };
 pub use limits::{NUMBER_DIGITS, NUMBER_LIMIT, SEGMENT_LIMIT, TEXT_LIMIT};
 pub use master::{AudioRendition, MasterPlaylist, VariantStream};

@@ -56,6 +56,9 @@ pub struct ByteRange {
 pub struct Segment {
     /// EXT-X-DISCONTINUITY stands before it (section 4.3.2.3).
     pub mark: bool,
+    /// EXT-X-PROGRAM-DATE-TIME: the moment of its first sample, in microseconds since
+    /// 1970-01-01T00:00:00Z (section 4.3.2.6); without one, its moment isn't said.
+    pub date: Option<i64>,
     /// EXTINF: its length in microseconds (section 4.3.2.1).
     pub us: u64,
     /// EXT-X-BYTERANGE: the bytes in the resource; without a range, all.

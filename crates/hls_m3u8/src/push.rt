@@ -1,9 +1,11 @@
 //! The lines of a playlist, each appended to the text so far.
 
 ghost use Rattle.std.specs.Prelude.{◌≡◌, ℕ, ◌^◌, ◌<◌, List, [], ◌∷◌, ◌++◌, Option, Some, codes, decimal, OnOk};
-ghost use Rattle.hls_m3u8.specs.Lines.{joined, quoted, range_text, kind_lines, map_range, map_lines, mark_lines, extinf_line, range_lines, segment_lines, end_lines};
+ghost use Rattle.hls_m3u8.specs.HasText.{IsDate};
+ghost use Rattle.hls_m3u8.specs.Lines.{joined, quoted, range_text, kind_lines, map_range, map_lines, mark_lines, date_lines, extinf_line, range_lines, segment_lines, end_lines};
 
 use crate::{ByteRange, Kind, Map, Segment};
+use hls_instants::moment_text;
 use hls_time::write_seconds;
 use itoa::Buffer;
 use std::alloc::AllocError;
@@ -143,14 +145,32 @@ fn push_mark(out: &mut Vec<u8>, mark: bool) -> Result<(), AllocError>
     Ok(())
 }
 
+fn push_date(out: &mut Vec<u8>, date: Option<i64>) -> Result<(), AllocError>
+    requires { IsDate date }
+    ensures { OnOk result (out.new.items ≡ out.old.items ++ joined (date_lines date)) }
+{
+    match date {
+        None => Ok(()),
+        Some(us) => {
+            out.extend_from_slice(b"#EXT-X-PROGRAM-DATE-TIME:")?;
+            out.extend_from_slice(&moment_text(us))?;
+            out.push(b'\n')?;
+            Ok(())
+        }
+    }
+}
+
 pub(crate) fn push_segment(out: &mut Vec<u8>, segment: &Segment) -> Result<(), AllocError>
-    requires { segment.now.us < 2 ^ 53 }
+    requires length { segment.now.us < 2 ^ 53 }
+    requires date { IsDate segment.now.date }
     ensures { OnOk result (out.new.items ≡ out.old.items ++ joined (segment_lines segment.now)) }
 {
     push_mark(out, segment.mark)?;
+    push_date(out, segment.date)?;
     push_extinf(out, segment.us)?;
     push_optional_range(out, segment.range)?;
-    push_line(out, segment.uri.as_bytes().as_slice())
+    push_line(out, segment.uri.as_bytes().as_slice())?;
+    Ok(())
 }
 
 pub(crate) fn push_end(out: &mut Vec<u8>, ended: bool) -> Result<(), AllocError>

@@ -34,6 +34,14 @@ fn range_text(alloc: Global, range: Option<ByteRange>) -> Result<String, Fail> {
     }
 }
 
+// A date in microseconds and a blank, or nothing.
+fn date_text(alloc: Global, date: Option<i64>) -> Result<String, Fail> {
+    match date {
+        None => Ok(String::new(alloc)),
+        Some(us) => Ok(format!(in alloc; "at {us} ")?),
+    }
+}
+
 // All that a list holds, a line for its tags and one for each segment.
 fn shown(alloc: Global, list: &MediaPlaylist) -> Result<String, Fail> {
     let mut out = format!(in alloc;
@@ -52,8 +60,11 @@ fn shown(alloc: Global, list: &MediaPlaylist) -> Result<String, Fail> {
     }
     for segment in &list.segments {
         let mark = if segment.mark { "mark " } else { "" };
-        let tags = format!(in alloc; "\n{mark}{} ", segment.us)?;
-        out.push_str(tags.as_str())?;
+        out.push_str("\n")?;
+        out.push_str(mark)?;
+        out.push_str(date_text(alloc, segment.date)?.as_str())?;
+        let length = format!(in alloc; "{} ", segment.us)?;
+        out.push_str(length.as_str())?;
         out.push_str(segment.uri.as_str())?;
         out.push_str(range_text(alloc, segment.range)?.as_str())?;
     }
@@ -265,6 +276,93 @@ fn tags_behind_a_segment(rt: HostRuntime) -> Result<(), Fail> {
         reads(&rt, rt.alloc(), text.as_str(), want)?;
     }
     Ok(())
+}
+
+#[test]
+fn dates(rt: HostRuntime) -> Result<(), Fail> {
+    for (lines, want) in [
+        (
+            "#EXT-X-PROGRAM-DATE-TIME:2024-01-01T00:00:00.000Z\n",
+            "at 1704067200000000 ",
+        ),
+        (
+            "#EXT-X-PROGRAM-DATE-TIME:2024-01-01T01:00:00.123456789+01:00\n",
+            "at 1704067200123000 ",
+        ),
+        (
+            "#EXT-X-DISCONTINUITY\n#EXT-X-PROGRAM-DATE-TIME:2024-01-01T00:00:00Z\n",
+            "mark at 1704067200000000 ",
+        ),
+        (
+            "#EXT-X-PROGRAM-DATE-TIME:2024-01-01T00:00:00Z\n#EXT-X-DISCONTINUITY\n",
+            "mark at 1704067200000000 ",
+        ),
+        // below 1970 too a date is rounded down
+        (
+            "#EXT-X-PROGRAM-DATE-TIME:1969-12-31T23:59:59.9999Z\n",
+            "at -1000 ",
+        ),
+        (
+            "#EXT-X-PROGRAM-DATE-TIME:0000-01-01T00:00:00.0009+23:59\n",
+            "at -62167305540000000 ",
+        ),
+        (
+            "#EXT-X-PROGRAM-DATE-TIME:1970-01-01T00:00:00.0009Z\n",
+            "at 0 ",
+        ),
+        // what is no instant is skipped
+        ("#EXT-X-PROGRAM-DATE-TIME:2024-01-01T00:00:00\n", ""),
+        ("#EXT-X-PROGRAM-DATE-TIME:2024-01-01T24:00:00Z\n", ""),
+        ("#EXT-X-PROGRAM-DATE-TIME:\n", ""),
+        ("#EXT-X-PROGRAM-DATE-TIME\n", ""),
+        ("#EXT-X-PROGRAM-DATE-TIME: 2024-01-01T00:00:00Z\n", ""),
+        (
+            "#EXT-X-PROGRAM-DATE-TIME:now\n#EXT-X-PROGRAM-DATE-TIME:1970-01-01T00:00:01Z\n#EXT-X-PROGRAM-DATE-TIME:then\n",
+            "at 1000000 ",
+        ),
+    ] {
+        let text = joined(
+            rt.alloc(),
+            &[
+                "#EXTM3U\n#EXT-X-TARGETDURATION:6\n",
+                lines,
+                "#EXTINF:1\na\n#EXTINF:1\nb\n",
+            ],
+        )?;
+        // the next segment has none
+        let whole = joined(
+            rt.alloc(),
+            &["1 6 0 0 live false\n", want, "1000000 a\n1000000 b"],
+        )?;
+        reads(&rt, rt.alloc(), text.as_str(), whole.as_str())?;
+    }
+    Ok(())
+}
+
+#[test]
+fn date_twice(rt: HostRuntime) -> Result<(), Fail> {
+    let date = "#EXT-X-PROGRAM-DATE-TIME:2024-01-01T00:00:00Z\n";
+    let head = "#EXTM3U\n#EXT-X-TARGETDURATION:6\n";
+    let twice = joined(rt.alloc(), &[head, date, "#EXTINF:1\n", date, "a\n"])?;
+    reads(&rt, rt.alloc(), twice.as_str(), "BadTag 5")?;
+    let each = joined(
+        rt.alloc(),
+        &[head, date, "#EXTINF:1\na\n", date, "#EXTINF:1\nb\n"],
+    )?;
+    reads(
+        &rt,
+        rt.alloc(),
+        each.as_str(),
+        "1 6 0 0 live false\nat 1704067200000000 1000000 a\nat 1704067200000000 1000000 b",
+    )?;
+    // one with no URI behind it is dropped
+    let last = joined(rt.alloc(), &[head, "#EXTINF:1\na\n", date])?;
+    reads(
+        &rt,
+        rt.alloc(),
+        last.as_str(),
+        "1 6 0 0 live false\n1000000 a",
+    )
 }
 
 #[test]

@@ -17,6 +17,7 @@ pub(crate) struct Reading<'a> {
     pub(crate) us: Option<u64>,
     pub(crate) range: Option<RangeTag>,
     pub(crate) mark: bool,
+    pub(crate) date: Option<i64>,
     pub(crate) last: Option<Resource<'a>>,
     pub(crate) count: usize,
 }
@@ -25,6 +26,7 @@ pub(crate) struct Reading<'a> {
 #[derive(Clone, Copy)]
 pub(crate) struct Found {
     pub(crate) mark: bool,
+    pub(crate) date: Option<i64>,
     pub(crate) us: u64,
     pub(crate) range: Option<ByteRange>,
 }

@@ -5,7 +5,7 @@ ghost use Rattle.std.specs.Prelude.{◌≡◌, ◌<◌, ℕ, List, Some, option_
 ghost use Rattle.hls_m3u8.specs.TextLines.{split_at};
 ghost use Rattle.hls_m3u8.specs.Tags.{tag_of};
 ghost use Rattle.std.specs.Borrow.{Bor};
-ghost use Rattle.hls_m3u8.specs.Reading.{once, at_front, number, with_version, with_target, with_media_sequence, with_discontinuity_sequence, kind_value, with_kind, length_value, with_length, range_value, with_range_tag, map_value, same_range, same_resource, with_map, with_mark, with_end, after_tag, behind_range, behind, placed, segment_range, after_segment, segment_within, uri_step, tag_step, step};
+ghost use Rattle.hls_m3u8.specs.Reading.{once, at_front, number, with_version, with_target, with_media_sequence, with_discontinuity_sequence, kind_value, with_kind, length_value, with_length, range_value, with_range_tag, map_value, same_range, same_resource, with_map, with_mark, date_value, with_date, with_end, after_tag, behind_range, behind, placed, segment_range, after_segment, segment_within, uri_step, tag_step, step};
 ghost use Rattle.hls_m3u8.specs.Scans.{taken, stepped};
 ghost use Rattle.hls_m3u8.specs.Limits.{segment_limit};
 
@@ -17,6 +17,7 @@ use crate::split::split;
 use crate::tag::{Tag, tag_of};
 use crate::value::{RangeTag, kind_of, range_tag, seconds, short};
 use crate::{ByteRange, Kind, ListFault};
+use hls_instants::instant_of;
 
 fn number(value: Option<&str>) -> Option<u64>
     ensures { result ≡ number (option_map (λ (v : Bor (List ℕ)). v.now) value.entry) }
@@ -179,6 +180,27 @@ fn with_mark(reading: &mut Reading<'_>, value: Option<&str>) -> Option<()>
     Some(())
 }
 
+// A moment in whole milliseconds, where the text names one.
+fn date_value(value: Option<&str>) -> Option<i64>
+    ensures { result ≡ date_value (option_map (λ (v : Bor (List ℕ)). v.now) value.entry) }
+{
+    let us = instant_of(value?.as_bytes())?;
+    Some(us.div_euclid(1000) * 1000)
+}
+
+fn with_date(reading: &mut Reading<'_>, date: Option<i64>) -> Option<()>
+    ensures { taken result reading.new ≡ with_date reading.old date }
+{
+    let Some(us) = date else {
+        return Some(());
+    };
+    if reading.date.is_some() {
+        return None;
+    }
+    reading.date = Some(us);
+    Some(())
+}
+
 fn with_end(reading: &mut Reading<'_>, value: Option<&str>) -> Option<()>
     ensures { taken result reading.new ≡ with_end reading.old (option_map (λ (v : Bor (List ℕ)). v.now) value.entry) }
 {
@@ -206,6 +228,7 @@ fn after_tag<'a>(reading: &mut Reading<'a>, tag: Tag, value: Option<&'a str>) ->
         Tag::Byterange => with_range_tag(reading, range_value(value)),
         Tag::Map => with_map(reading, map_value(value)),
         Tag::Discontinuity => with_mark(reading, value),
+        Tag::ProgramDateTime => with_date(reading, date_value(value)),
         Tag::Endlist => with_end(reading, value),
         Tag::Refused => None,
         Tag::Unknown => Some(()),
@@ -279,12 +302,14 @@ fn after_segment<'a>(
 {
     let found = Found {
         mark: reading.mark,
+        date: reading.date,
         us,
         range,
     };
     reading.us = None;
     reading.range = None;
     reading.mark = false;
+    reading.date = None;
     reading.last = Some(Resource {
         uri: UriRef::new(uri),
         range,

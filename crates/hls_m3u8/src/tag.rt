@@ -15,6 +15,7 @@ pub(crate) enum Tag {
     Byterange,
     Map,
     Discontinuity,
+    ProgramDateTime,
     Endlist,
     /// A tag that makes a text no media playlist of this product.
     Refused,
@@ -32,6 +33,8 @@ pub(crate) fn tag_of(name: &str) -> Tag
         Tag::Byterange
     } else if name == "#EXT-X-DISCONTINUITY" {
         Tag::Discontinuity
+    } else if name == "#EXT-X-PROGRAM-DATE-TIME" {
+        Tag::ProgramDateTime
     } else if name == "#EXT-X-VERSION" {
         Tag::Version
     } else if name == "#EXT-X-TARGETDURATION" {

@@ -1,7 +1,7 @@
 //! Texts from outside, byte for byte.
 
 ghost use Rattle.std.specs.Prelude.{All, IfOk};
-ghost use Rattle.hls_m3u8.specs.HasText.{IsSegment};
+ghost use Rattle.hls_m3u8.specs.HasText.{IsDate, IsSegment};
 
 use crate::{
     AudioRendition, ByteRange, MasterPlaylist, MediaPlaylist, NUMBER_LIMIT, Segment, VariantStream,
@@ -12,11 +12,28 @@ use std::alloc::{AllocError, Global};
 use std::process::Abort;
 use std::test::Fail;
 
+// A date that can be written: of whole milliseconds, up to the year 9000 and 2^53 microseconds.
+#[tactic(auto, using(crate::proofs::Building::good_date))]
+fn date_of(rt: &impl Abort, date: Option<i64>) -> Option<i64>
+    ensures { IsDate result }
+{
+    match date {
+        None => None,
+        Some(us) => {
+            assert!(rt; 0 <= us);
+            assert!(rt; us <= 230852591254740992);
+            assert!(rt; us % 1000 == 0);
+            Some(us)
+        }
+    }
+}
+
 // A segment of `uri`, of these bytes.
 fn segment(
     rt: &impl Abort,
     uri: &ByteStr,
     mark: bool,
+    date: Option<i64>,
     us: u64,
     range: ByteRange,
 ) -> Result<Segment, AllocError>
@@ -29,28 +46,29 @@ fn segment(
     let shared = uri.clone()?;
     Ok(Segment {
         mark,
+        date: date_of(rt, date),
         us,
         range: Some(range),
         uri: shared,
     })
 }
 
-// The segments of `uri`, each as its mark, its length, and its bytes' number and offset.
+// The segments of `uri`, each as its mark, its date, its length, and its bytes' number and offset.
 fn segments_of(
     rt: &impl Abort,
     alloc: Global,
     uri: &ByteStr,
-    items: &[(bool, u64, u64, u64)],
+    items: &[(bool, Option<i64>, u64, u64, u64)],
 ) -> Result<Vec<Segment>, AllocError>
     ensures { IfOk result (λ v. All (IsSegment uri.now) v.items) }
 {
     let mut segments = Vec::new(alloc);
     for item in items {
         let range = ByteRange {
-            length: item.2,
-            offset: item.3,
+            length: item.3,
+            offset: item.4,
         };
-        segments.push(segment(rt, uri, item.0, item.1, range)?)?;
+        segments.push(segment(rt, uri, item.0, item.1, item.2, range)?)?;
     }
     Ok(segments)
 }
@@ -61,7 +79,7 @@ fn vod_text(
     rt: &impl Abort,
     alloc: Global,
     uri: &'static str,
-    items: &[(bool, u64, u64, u64)],
+    items: &[(bool, Option<i64>, u64, u64, u64)],
 ) -> Result<Vec<u8>, AllocError> {
     assert!(rt; is_uri(uri));
     let name = ByteStr::from_static(uri);
@@ -76,7 +94,7 @@ fn live_text(
     rt: &impl Abort,
     alloc: Global,
     uri: &'static str,
-    items: &[(bool, u64, u64, u64)],
+    items: &[(bool, Option<i64>, u64, u64, u64)],
 ) -> Result<Vec<u8>, AllocError> {
     assert!(rt; is_uri(uri));
     let name = ByteStr::from_static(uri);
@@ -87,7 +105,12 @@ fn live_text(
 
 #[test]
 fn one_unit(rt: HostRuntime) -> Result<(), Fail> {
-    let text = vod_text(&rt, rt.alloc(), "media.mp4", &[(false, 4000000, 1000, 600)])?;
+    let text = vod_text(
+        &rt,
+        rt.alloc(),
+        "media.mp4",
+        &[(false, None, 4000000, 1000, 600)],
+    )?;
     assert_eq!(rt;
         text.as_slice(),
         b"#EXTM3U
@@ -111,9 +134,9 @@ media.mp4
 #[test]
 fn marks_and_lengths(rt: HostRuntime) -> Result<(), Fail> {
     let items = [
-        (false, 1, 1, 600),
-        (true, 6499999, 999999999999999, 601),
-        (false, 9007199254740991, 10, 999999999999999),
+        (false, None, 1, 1, 600),
+        (true, None, 6499999, 999999999999999, 601),
+        (false, None, 9007199254740991, 10, 999999999999999),
     ];
     let text = vod_text(&rt, rt.alloc(), "a b,\u{e9}\u{20ac}.mp4", &items)?;
     assert_eq!(rt;
@@ -146,10 +169,10 @@ a b,\u{e9}\u{20ac}.mp4
 #[test]
 fn live_after_slide(rt: HostRuntime) -> Result<(), Fail> {
     let items = [
-        (false, 4000000, 1000, 1600),
-        (false, 5000000, 1000, 2600),
-        (false, 5000000, 1000, 3600),
-        (false, 4000000, 1000, 4600),
+        (false, None, 4000000, 1000, 1600),
+        (false, None, 5000000, 1000, 2600),
+        (false, None, 5000000, 1000, 3600),
+        (false, None, 4000000, 1000, 4600),
     ];
     let text = live_text(&rt, rt.alloc(), "/media/0.mp4", &items)?;
     assert_eq!(rt;
@@ -175,6 +198,49 @@ fn live_after_slide(rt: HostRuntime) -> Result<(), Fail> {
 "
             .as_slice()
     );
+    Ok(())
+}
+
+#[test]
+fn dates(rt: HostRuntime) -> Result<(), Fail> {
+    let items = [
+        (false, Some(1704067200000000), 4000000, 1000, 600),
+        (false, None, 5000000, 1000, 1600),
+        (true, Some(230852591254740000), 4000000, 1000, 2600),
+        (true, Some(0), 4000000, 1000, 3600),
+    ];
+    let text = vod_text(&rt, rt.alloc(), "media.mp4", &items)?;
+    assert_eq!(rt;
+        text.as_slice(),
+        b"#EXTM3U
+#EXT-X-VERSION:6
+#EXT-X-TARGETDURATION:6
+#EXT-X-MEDIA-SEQUENCE:0
+#EXT-X-DISCONTINUITY-SEQUENCE:0
+#EXT-X-PLAYLIST-TYPE:VOD
+#EXT-X-MAP:URI=\"media.mp4\",BYTERANGE=\"600@0\"
+#EXT-X-PROGRAM-DATE-TIME:2024-01-01T00:00:00.000Z
+#EXTINF:4.000000,
+#EXT-X-BYTERANGE:1000@600
+media.mp4
+#EXTINF:5.000000,
+#EXT-X-BYTERANGE:1000@1600
+media.mp4
+#EXT-X-DISCONTINUITY
+#EXT-X-PROGRAM-DATE-TIME:9285-06-04T23:47:34.740Z
+#EXTINF:4.000000,
+#EXT-X-BYTERANGE:1000@2600
+media.mp4
+#EXT-X-DISCONTINUITY
+#EXT-X-PROGRAM-DATE-TIME:1970-01-01T00:00:00.000Z
+#EXTINF:4.000000,
+#EXT-X-BYTERANGE:1000@3600
+media.mp4
+#EXT-X-ENDLIST
+"
+            .as_slice()
+    );
+    assert_eq!(rt; text.capacity(), text.len(), "the buffer is sized once");
     Ok(())
 }
 

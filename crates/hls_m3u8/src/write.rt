@@ -2,7 +2,7 @@
 
 ghost use Rattle.std.specs.Prelude.{◌≡◌, ◌^◌, ◌<◌, [], ◌∷◌, ◌++◌, All, OnOk, IfOk};
 ghost use Rattle.hls_m3u8.specs.Playlist.{playlist_of};
-ghost use Rattle.hls_m3u8.specs.HasText.{HasText};
+ghost use Rattle.hls_m3u8.specs.HasText.{IsDate, HasText};
 ghost use Rattle.hls_m3u8.specs.Lines.{joined, header_line, version_line, target_line, media_sequence_line, discontinuity_sequence_line, number_lines, head_lines, all_segment_lines, media_text};
 ghost use Rattle.hls_m3u8.specs.Written.{IsWritten};
 
@@ -38,7 +38,8 @@ fn push_head(out: &mut Vec<u8>, list: &MediaPlaylist) -> Result<(), AllocError>
 }
 
 fn push_segments(out: &mut Vec<u8>, segments: &[Segment]) -> Result<(), AllocError>
-    requires { All (λ s. s.us < 2 ^ 53) segments.now }
+    requires lengths { All (λ s. s.us < 2 ^ 53) segments.now }
+    requires dates { All (λ s. IsDate s.date) segments.now }
     ensures { OnOk result (out.new.items ≡ out.old.items ++ joined (all_segment_lines segments.now)) }
 {
     for segment in segments {
@@ -49,8 +50,8 @@ fn push_segments(out: &mut Vec<u8>, segments: &[Segment]) -> Result<(), AllocErr
 
 /// Writes a playlist that has a text: version 6, each number of at most 15 digits, a list of VOD
 /// that is whole or a live list, over one resource with its init section at the front and a range
-/// on each segment, lengths below 2^53 microseconds, and a URI that `is_uri` accepts. The buffer
-/// is sized once.
+/// on each segment, lengths below 2^53 microseconds, dates of whole milliseconds that
+/// `hls_instants::moment_text` can write, and a URI that `is_uri` accepts. The buffer is sized once.
 pub fn write_media(alloc: Global, list: &MediaPlaylist) -> Result<Vec<u8>, AllocError>
     requires { HasText (playlist_of list.now) }
     ensures written { IfOk result (λ text. IsWritten (playlist_of list.now) text.items) }
