@@ -7,4 +7,5 @@ abbrev pub name_of : ConfigFault → List ℕ
 name_of faults.BadTarget = codes "BadTarget"
 name_of faults.BadPreferred = codes "BadPreferred"
 name_of (faults.BadRendition n) = codes "BadRendition"
+name_of faults.BadEpoch = codes "BadEpoch"
 name_of faults.Memory = codes "Memory"

@@ -1,6 +1,6 @@
-ghost use Rattle.std.specs.Prelude.{◌≡◌, ℕ, ◌*◌, ◌<◌, ◌≤◌, ◌↔◌, length, IsTrue, IfOk, slice_get, Some, Any, MatchOption};
+ghost use Rattle.std.specs.Prelude.{◌≡◌, ℕ, ◌*◌, ◌<◌, ◌≤◌, ◌↔◌, length, IsTrue, IfOk, slice_get, None, Some, Any, MatchOption};
 ghost use Rattle.std.specs.Str.{bytes_eq};
-ghost use Rattle.hls_core_laws.specs.Config.{is_name_byte, IsName, IsRendition, IsRenditionAt, AreRenditions};
+ghost use Rattle.hls_core_laws.specs.Config.{is_name_byte, IsName, IsRendition, IsRenditionAt, AreRenditions, IsEpoch};
 ghost use Rattle.hls_core.specs.FirstBad.{IsFirstBad, bears_name};
 
 use bytes::Bytes;
@@ -10,6 +10,9 @@ use std::alloc::{AllocError, Global};
 use std::marker::Model;
 use std::sync::Arc;
 use thiserror::Error;
+
+/// 9000-01-01T00:00:00Z in microseconds since 1970-01-01T00:00:00Z: the last moment at which time 0 may be.
+pub const LAST_EPOCH: i64 = 221845392000000000;
 
 /// Why a channel can't be configured so.
 #[derive(Clone, Copy, Debug, PartialEq, Eq, Error)]
@@ -24,18 +27,23 @@ pub enum ConfigFault {
     /// rendition, and 16 where only the seventeenth is too many.
     #[error("BadRendition")]
     BadRendition(usize),
+    /// The epoch is before 1970, or after 9000-01-01T00:00:00Z.
+    #[error("BadEpoch")]
+    BadEpoch,
     /// Memory ran out.
     #[error("Memory")]
     Memory,
 }
 
-/// What a channel is configured with: 1 to 16 renditions, a target of 1 to 3600 seconds, and a preferred segment length of
-/// 1 microsecond to the target. It never changes, and is shared by all states of the channel.
+/// What a channel is configured with: 1 to 16 renditions, a target of 1 to 3600 seconds, a preferred segment length of
+/// 1 microsecond to the target, and the moment of time 0, if it is known, from 1970 to 9000-01-01T00:00:00Z. It never
+/// changes, and is shared by all states of the channel.
 #[derive(Drop)]
 pub struct Config {
     target: u64,
     preferred: u64,
     renditions: Arc<Vec<Rendition>>,
+    epoch: Option<i64>,
 }
 
 impl Model for Config {
@@ -43,9 +51,9 @@ impl Model for Config {
 
     ghost Value = { ConfigData };
 
-    ghost view = { λ c. record { target = c.target; preferred = c.preferred; renditions = c.renditions.value.items } };
+    ghost view = { λ c. record { target = c.target; preferred = c.preferred; renditions = c.renditions.value.items; epoch = c.epoch } };
 
-    ghost invariant = { λ c. IsConfig (record { target = c.target; preferred = c.preferred; renditions = c.renditions.value.items }) };
+    ghost invariant = { λ c. IsConfig (record { target = c.target; preferred = c.preferred; renditions = c.renditions.value.items; epoch = c.epoch }) };
 }
 
 impl ConfigFault {
@@ -59,23 +67,38 @@ impl ConfigFault {
             ConfigFault::BadTarget => "BadTarget",
             ConfigFault::BadPreferred => "BadPreferred",
             ConfigFault::BadRendition(_) => "BadRendition",
+            ConfigFault::BadEpoch => "BadEpoch",
             ConfigFault::Memory => "Memory",
         }
     }
 }
 
 impl Config {
-    ghost use Rattle.hls_core_laws.specs.Config.{IsConfig};
+    ghost use Rattle.hls_core_laws.specs.Config.{IsEpoch, IsConfig};
     ghost use Rattle.hls_core.specs.Configures.{Configures};
 
-    /// A configuration of this target in seconds, this preferred length in microseconds, and these renditions in order.
+    /// A configuration of this target in seconds, this preferred length in microseconds, and these renditions in order;
+    /// the moment of time 0 isn't known.
     pub fn new(
         alloc: Global,
         target: u64,
         preferred: u64,
         renditions: Vec<Rendition>,
     ) -> Result<Config, ConfigFault>
-        ensures { Configures target preferred renditions.items result }
+        ensures { Configures target preferred renditions.items None result }
+    {
+        Config::with_epoch(alloc, target, preferred, renditions, None)
+    }
+
+    /// The same where the moment of time 0 may be known: in microseconds since 1970-01-01T00:00:00Z.
+    pub fn with_epoch(
+        alloc: Global,
+        target: u64,
+        preferred: u64,
+        renditions: Vec<Rendition>,
+        epoch: Option<i64>,
+    ) -> Result<Config, ConfigFault>
+        ensures { Configures target preferred renditions.items epoch result }
     {
         if target == 0 || target > TARGET_LIMIT {
             return Err(ConfigFault::BadTarget);
@@ -86,11 +109,15 @@ impl Config {
         if let Some(n) = first_bad(&renditions) {
             return Err(ConfigFault::BadRendition(n));
         }
+        if !is_epoch(epoch) {
+            return Err(ConfigFault::BadEpoch);
+        }
         match Arc::new(alloc, renditions) {
             Ok(renditions) => Ok(Config {
                 target,
                 preferred,
                 renditions,
+                epoch,
             }),
             Err(_) => Err(ConfigFault::Memory),
         }
@@ -104,6 +131,7 @@ impl Config {
             target: self.target,
             preferred: self.preferred,
             renditions: Arc::try_clone(&self.renditions)?,
+            epoch: self.epoch,
         })
     }
 
@@ -129,6 +157,25 @@ impl Config {
         ensures valid { IsConfig self.now }
     {
         &self.renditions
+    }
+
+    /// The moment of time 0, in microseconds since 1970-01-01T00:00:00Z, if it is known.
+    pub fn epoch(&self) -> Option<i64>
+        ensures value { result ≡ self.now.epoch }
+        ensures range { IsEpoch result }
+        ensures valid { IsConfig self.now }
+    {
+        self.epoch
+    }
+}
+
+/// Whether time 0 may be at this moment: from 1970 to 9000-01-01T00:00:00Z.
+fn is_epoch(epoch: Option<i64>) -> bool
+    ensures { IsTrue result ↔ IsEpoch epoch }
+{
+    match epoch {
+        None => true,
+        Some(us) => 0 <= us && us <= LAST_EPOCH,
     }
 }
 

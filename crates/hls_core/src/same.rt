@@ -16,6 +16,7 @@ pub(crate) fn same_config(a: &Config, b: &Config) -> bool
     a.target() == b.target()
         && a.preferred() == b.preferred()
         && same_renditions(a.renditions(), b.renditions())
+        && a.epoch() == b.epoch()
 }
 
 fn same_renditions(a: &[Rendition], b: &[Rendition]) -> bool

@@ -5,7 +5,7 @@ ghost use Rattle.hls_core_laws.specs.Moves.{IsFitting};
 mod live;
 mod refused;
 
-use crate::config::{Config, ConfigFault};
+use crate::config::{Config, ConfigFault, LAST_EPOCH};
 use crate::follows::follows;
 use crate::replay::replay;
 use crate::snapshot::Snapshot;
@@ -336,5 +336,46 @@ fn configures(rt: HostRuntime) -> Result<(), Fail> {
         fault_of(rt.alloc(), 6, 1, &[], 0)?,
         Some(ConfigFault::BadRendition(0))
     );
+    Ok(())
+}
+
+fn with_epoch(
+    alloc: Global,
+    name: &[u8],
+    epoch: Option<i64>,
+) -> Result<Result<Config, ConfigFault>, Fail> {
+    let mut renditions = Vec::new(alloc);
+    renditions.push(rendition(alloc, name, 0)?)?;
+    Ok(Config::with_epoch(alloc, 6, 1, renditions, epoch))
+}
+
+#[test]
+fn epochs(rt: HostRuntime) -> Result<(), Fail> {
+    let alloc = rt.alloc();
+    for epoch in [None, Some(0), Some(1704067200000000), Some(LAST_EPOCH)] {
+        let config = with_epoch(alloc, b"v1", epoch)??;
+        assert_eq!(rt; config.epoch(), epoch);
+        assert_eq!(rt; config.share()?.epoch(), epoch);
+    }
+    for epoch in [i64::MIN, -1, LAST_EPOCH + 1, i64::MAX] {
+        let fault = with_epoch(alloc, b"v1", Some(epoch))?.err();
+        assert_eq!(rt; fault, Some(ConfigFault::BadEpoch));
+        let fault = with_epoch(alloc, b"", Some(epoch))?.err();
+        assert_eq!(rt; fault, Some(ConfigFault::BadRendition(0)));
+    }
+    assert_eq!(rt; ConfigFault::BadEpoch.name(), "BadEpoch");
+    Ok(())
+}
+
+#[test]
+fn another_epoch_is_another_channel(rt: HostRuntime) -> Result<(), Fail> {
+    let alloc = rt.alloc();
+    let none = Snapshot::first(alloc, with_epoch(alloc, b"v1", None)??)?;
+    let early = Snapshot::first(alloc, with_epoch(alloc, b"v1", Some(0))??)?;
+    let late = Snapshot::first(alloc, with_epoch(alloc, b"v1", Some(1))??)?;
+    assert_eq!(rt; follows(&early, &early), true);
+    assert_eq!(rt; follows(&early, &late), false);
+    assert_eq!(rt; follows(&none, &early), false);
+    assert_eq!(rt; follows(&early, &none), false);
     Ok(())
 }

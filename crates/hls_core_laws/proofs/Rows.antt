@@ -24,7 +24,7 @@ rendition : ℕ → Rendition
 rendition name = record { name = name ∷ []; video = true; bandwidth = 1; tolerance = 0 }
 
 config : ConfigData
-config = record { target = 6; preferred = 4000000; renditions = rendition 97 ∷ rendition 98 ∷ [] }
+config = record { target = 6; preferred = 4000000; renditions = rendition 97 ∷ rendition 98 ∷ []; epoch = None }
 
 init : InitData
 init = record { tracks = []; timing = 0 }

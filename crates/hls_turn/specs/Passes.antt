@@ -18,7 +18,7 @@ pub record PassData : Type 0 where
 
 -- a state of no channel, where a pass has seen none: between calls each has seen one
 abbrev pub no_state : State
-no_state = record { config = record { target = 0; preferred = 0; renditions = [] }; log = []; bytes = [] }
+no_state = record { config = record { target = 0; preferred = 0; renditions = []; epoch = None }; log = []; bytes = [] }
 
 abbrev pub seen_by : View → State
 seen_by v = unwrap_or v.seen no_state
