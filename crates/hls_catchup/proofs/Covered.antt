@@ -1,5 +1,5 @@
 -- A programme's table speaks of units that are kept.
-use Rattle.std.proofs.Common.{◌≡◌, ℕ, zero, suc, ◌+◌, ◌-◌, ◌≤◌, List, [], ◌∷◌, length, map, drop, Some, Bool, true, arith, refl, sym, ap, subst, ◌∙◌, All, Ok}
+use Rattle.std.proofs.Common.{◌≡◌, ℕ, zero, suc, ◌+◌, ◌-◌, ◌≤◌, ℤ, Option, List, [], ◌∷◌, length, map, drop, Some, Bool, true, arith, refl, sym, ap, subst, ◌∙◌, All, Ok}
 use Rattle.std.specs.Prelude.{slice_get, ⊤, nat_le}
 use Rattle.std.specs.List.{filter, slice_range}
 use Rattle.std.proofs.lemmas.Bool.{cond_both, and_parts, leb-true}
@@ -118,14 +118,15 @@ table-covered s request t recordings are valid is =
     }
 
 -- an answer over the recordings of the state is right
-pub right_answer : (s t : State) (request : Request) (table : Table) (recordings : List Recorded) (cutout : Cutout) → t ≡ s →
-    IsTableFor s request (Ok table) → AreRecordings s recordings → IsTable table → IsRightCutout recordings table cutout → IsRightAnswer t request cutout
-right_answer s t request table recordings cutout same defined are valid right =
+pub right_answer : (s t : State) (epoch : Option ℤ) (request : Request) (table : Table) (recordings : List Recorded) (cutout : Cutout) → t ≡ s →
+    epoch ≡ s.config.epoch → IsTableFor s request (Ok table) → AreRecordings s recordings → IsTable table → IsRightCutout epoch recordings table cutout →
+    IsRightAnswer t request cutout
+right_answer s t epoch request table recordings cutout same known defined are valid right =
     rw same (record {
       table = table;
       defined = defined;
       recordings = recordings;
       are = are;
       covered = table-covered s request table recordings are valid defined;
-      right = right;
+      right = subst (λ (e : Option ℤ). IsRightCutout e recordings table cutout) known right;
     })

@@ -1,13 +1,15 @@
 -- The live list of a state, by the recording of a rendition.
-use Rattle.std.proofs.Common.{◌≡◌, ℕ, ◌+◌, ◌<◌, List, length, map, Option, Some, None, Bool, false, arith, refl, sym, ap, inl, inr, ◌∙◌}
+use Rattle.std.proofs.Common.{◌≡◌, ℕ, ◌+◌, ◌<◌, ℤ, List, [], ◌∷◌, ◌++◌, append_assoc, length, map, Option, Some, None, Bool, false, arith, refl, sym, ap, inl, inr, ◌∙◌}
 use Rattle.std.specs.Prelude.{slice_get}
 use Rattle.std.proofs.lemmas.Bool.{cases_Bool, lt-ltb, ltb-true, cond-true, cond-false}
 use Rattle.hls_media_laws.specs.InitData.{InitData}
 use Rattle.hls_record.specs.Recorded.{Recorded}
+use Rattle.hls_live_laws.specs.declared.segment.Segment as live_line
 use Rattle.hls_live_laws.specs.Live.{Live, segments_of, has_ended}
 use Rattle.hls_m3u8.specs.declared.playlist.Segment.{Segment}
 use Rattle.hls_m3u8.specs.Playlist.{Playlist}
 use Rattle.hls_m3u8.specs.Forms.{live_list}
+use Rattle.hls_catchup_laws.specs.Segments.{Cutting}
 use Rattle.hls_core_laws.specs.Channel.{Lane}
 use Rattle.hls_core_laws.specs.State.{State, Held, no_held, channel}
 use Rattle.hls_core_laws.specs.IsState.{IsState}
@@ -27,7 +29,7 @@ unclosed s none =
       | inr is ↦ is
     ]
 
-none-in : (s : State) (r : ℕ) (o : Option Lane) → has_closed (line s) ≡ false → list_in r o (line s) ≡ None
+none-in : (s : State) (r : ℕ) (o : Option Lane) → has_closed (line s) ≡ false → list_in s.config.epoch r o (line s) ≡ None
 none-in s r None none = refl
 none-in s r (Some l) none = cond-false (has_closed (line s)) _ _ none
 
@@ -40,7 +42,7 @@ no_init None l h is = refl
 no_init (Some init) l h is = absurd (cc)
 
 unbegun-in : (s : State) → IsState s → (r : ℕ) (o : Option Lane) → slice_get (channel s).lanes r ≡ o → recorded_at o (held s r) ≡ None →
-    list_in r o (line s) ≡ None
+    list_in s.config.epoch r o (line s) ≡ None
 unbegun-in s state r None at unbegun = refl
 unbegun-in s state r (Some l) at unbegun =
     elim (cases_Bool (has_closed (line s))) [
@@ -59,23 +61,23 @@ unbegun s state r is = unbegun-in s state r (slice_get (channel s).lanes r) refl
 abbrev pub list_by : State → ℕ → Recorded → Playlist
 list_by s r recorded =
     live_list s.config.target (line s).removed (line s).breaks (live_uri r) (length recorded.head)
-    (map (listed (cutting recorded r (live_uri r) 0)) (segments_of (line s))) (has_ended (line s))
+    (map (listed (cutting s.config.epoch recorded r (live_uri r) 0)) (segments_of (line s))) (has_ended (line s))
 
 list-is : (s : State) (r : ℕ) (l : Lane) (h : Held) (init : InitData) (recorded : Recorded) → l.size ≡ length h.head →
-    recorded_from (Some init) l h ≡ Some recorded → list_over r l (line s) ≡ list_by s r recorded
+    recorded_from (Some init) l h ≡ Some recorded → list_over s.config.epoch r l (line s) ≡ list_by s r recorded
 list-is s r l h init recorded size is =
     let made : Recorded = record { init = init; head = h.head; facts = l.facts; floor = l.floor; units = h.units } in
     let same : made ≡ recorded = cc in
-    let by_size : list_over r l (line s) ≡ list_by s r made = rw size refl in
+    let by_size : list_over s.config.epoch r l (line s) ≡ list_by s r made = rw size refl in
     by_size ∙ ap (list_by s r) same
 
 by-init : (s : State) (r : ℕ) (l : Lane) (h : Held) (o : Option InitData) (recorded : Recorded) → l.size ≡ length h.head →
-    recorded_from o l h ≡ Some recorded → list_over r l (line s) ≡ list_by s r recorded
+    recorded_from o l h ≡ Some recorded → list_over s.config.epoch r l (line s) ≡ list_by s r recorded
 by-init s r l h None recorded size is = absurd (cc)
 by-init s r l h (Some init) recorded size is = list-is s r l h init recorded size is
 
 by-lane : (s : State) → IsState s → (r : ℕ) (o : Option Lane) (recorded : Recorded) → slice_get (channel s).lanes r ≡ o →
-    recorded_at o (held s r) ≡ Some recorded → 0 < (line s).removed + length (segments_of (line s)) → list_in r o (line s) ≡ Some (list_by s r recorded)
+    recorded_at o (held s r) ≡ Some recorded → 0 < (line s).removed + length (segments_of (line s)) → list_in s.config.epoch r o (line s) ≡ Some (list_by s r recorded)
 by-lane s state r None recorded at is some = absurd (cc)
 by-lane s state r (Some l) recorded at is some =
     let beside = at_beside (channel s).lanes s.bytes r l state.sides at in
@@ -89,15 +91,26 @@ pub listed-by : (s : State) → IsState s → (r : ℕ) (recorded : Recorded) �
 listed-by s state r recorded is some = by-lane s state r (slice_get (channel s).lanes r) recorded refl is some
 
 -- a list made of a line's parts
-pub list-made : (s : State) (r : ℕ) (recorded : Recorded) (live : Live) (target removed breaks : ℕ) (uri : List ℕ) (size : ℕ) (segments : List Segment) (ended : Bool) →
-    live ≡ line s → target ≡ s.config.target → removed ≡ live.removed → breaks ≡ live.breaks → uri ≡ live_uri r → size ≡ length recorded.head →
-    segments ≡ map (listed (cutting recorded r uri 0)) (segments_of live) → ended ≡ has_ended live →
+pub list-made : (s : State) (r : ℕ) (recorded : Recorded) (live : Live) (epoch : Option ℤ) (target removed breaks : ℕ) (uri : List ℕ) (size : ℕ) (segments : List Segment) (ended : Bool) →
+    live ≡ line s → epoch ≡ s.config.epoch → target ≡ s.config.target → removed ≡ live.removed → breaks ≡ live.breaks → uri ≡ live_uri r → size ≡ length recorded.head →
+    segments ≡ map (listed (cutting epoch recorded r uri 0)) (segments_of live) → ended ≡ has_ended live →
     live_list target removed breaks uri size segments ended ≡ list_by s r recorded
-list-made s r recorded live target removed breaks uri size segments ended live_is target_is removed_is breaks_is uri_is size_is segments_are ended_is =
+list-made s r recorded live epoch target removed breaks uri size segments ended live_is epoch_is target_is removed_is breaks_is uri_is size_is segments_are ended_is =
     let now : removed ≡ (line s).removed = removed_is ∙ ap (λ (l : Live). l.removed) live_is in
     let marks : breaks ≡ (line s).breaks = breaks_is ∙ ap (λ (l : Live). l.breaks) live_is in
     let over : ended ≡ has_ended (line s) = ended_is ∙ ap has_ended live_is in
-    let all : segments ≡ map (listed (cutting recorded r (live_uri r) 0)) (segments_of (line s)) =
-    segments_are ∙ (ap (λ (u : List ℕ). map (listed (cutting recorded r u 0)) (segments_of live)) uri_is
-    ∙ ap (λ (l : Live). map (listed (cutting recorded r (live_uri r) 0)) (segments_of l)) live_is) in
+    let all : segments ≡ map (listed (cutting s.config.epoch recorded r (live_uri r) 0)) (segments_of (line s)) =
+    segments_are ∙ (ap (λ (e : Option ℤ). map (listed (cutting e recorded r uri 0)) (segments_of live)) epoch_is
+    ∙ ap (λ (u : List ℕ). map (listed (cutting s.config.epoch recorded r u 0)) (segments_of live)) uri_is
+    ∙ ap (λ (l : Live). map (listed (cutting s.config.epoch recorded r (live_uri r) 0)) (segments_of l)) live_is) in
     λ k. live_list (target_is k) (now k) (marks k) (uri_is k) (size_is k) (all k) (over k)
+
+-- one segment more
+pub one_listed_more : (cut : Cutting) (before more : List Segment) (walk rest : List live_line.Segment) (x : live_line.Segment) (segment : Segment)
+    (whole : List Segment) → walk ≡ x ∷ rest → more ≡ before ++ segment ∷ [] → segment ≡ listed cut x → before ++ map (listed cut) walk ≡ whole →
+    more ++ map (listed cut) rest ≡ whole
+one_listed_more cut before more walk rest x segment whole is pushed here done =
+    ap (λ (ss : List Segment). ss ++ map (listed cut) rest) pushed
+    ∙ append_assoc before (segment ∷ []) (map (listed cut) rest)
+    ∙ ap (λ (s : Segment). before ++ s ∷ map (listed cut) rest) here
+    ∙ ap (λ (xs : List live_line.Segment). before ++ map (listed cut) xs) (sym is) ∙ done

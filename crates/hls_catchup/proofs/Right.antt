@@ -1,5 +1,5 @@
 -- The lists that are made by a plan are right.
-use Rattle.std.proofs.Common.{◌≡◌, ℕ, zero, suc, ◌+◌, ◌<◌, ◌≤◌, List, [], ◌∷◌, length, map, Some, refl, sym, ◌∙◌, ap, arith, subst, zero-add, All, Option, Bool, Vec, Global, Bor}
+use Rattle.std.proofs.Common.{◌≡◌, ℕ, zero, suc, ◌+◌, ◌<◌, ◌≤◌, ℤ, List, [], ◌∷◌, length, map, Some, refl, sym, ◌∙◌, ap, arith, subst, zero-add, All, Option, Bool, Vec, Global, Bor}
 use Rattle.std.specs.Prelude.{slice_get}
 use Rattle.std.proofs.lemmas.List.Elements.{All-nil, All-cons, All-head, All-tail}
 use Rattle.hls_media_laws.proofs.Bounds.{units_are_bounded, inits_are_bounded}
@@ -12,6 +12,7 @@ use Rattle.hls_plan.specs.declared.planned.Planned.{Planned}
 use Rattle.hls_plan.specs.declared.planned.Planned.TheVariants.{Cut, NoCut}
 use Rattle.hls_plan.specs.Planned.{certificate_of, IsBest}
 use Rattle.hls_m3u8.specs.Playlist.{Playlist}
+use Rattle.hls_core_laws.specs.Config.{IsEpoch}
 use Rattle.hls_m3u8.proofs.Building.{vod_has_text}
 use Rattle.hls_catchup_laws.specs.Segments.{Cutting, segments_of}
 use Rattle.hls_catchup_laws.specs.Laws.{AreUnits, first_fragment}
@@ -28,20 +29,20 @@ all_from_each : {A : Type 0} (P : A → Type 0) (xs : List A) → ((k : ℕ) (x 
 all_from_each P [] each = All-nil P
 all_from_each P (x ∷ xs) each = All-cons P x xs (each 0 x refl) (all_from_each P xs (λ k y at. each (suc k) y at))
 
-units_good : (r : Recorded) (rendition : ℕ) (uri : List ℕ) (first : ℕ) → IsRecorded r → AreUnits (cutting r rendition uri first)
-units_good r rendition uri first valid = record {
+units_good : (epoch : Option ℤ) (r : Recorded) (rendition : ℕ) (uri : List ℕ) (first : ℕ) → IsRecorded r → AreUnits (cutting epoch r rendition uri first)
+units_good epoch r rendition uri first valid = record {
   some = all_from_each (λ f. 0 < f.len) r.facts
       (λ k f at. let was = valid.ever k f at in (units_are_bounded r.init was.bytes f was.is).some_bytes);
   total = valid.small;
 }
 
-pub right_list : (recorded : Recorded) (r : ℕ) (t : Table) (plan : List ℕ) →
-    IsRecorded recorded → IsTable t → IsPlan t plan → r < t.renditions → IsCovered t r recorded →
-    IsRightList recorded r t plan (job_list recorded r t plan)
-right_list recorded r t plan valid table is_plan within covered =
+pub right_list : (epoch : Option ℤ) (recorded : Recorded) (r : ℕ) (t : Table) (plan : List ℕ) →
+    IsEpoch epoch → IsRecorded recorded → IsTable t → IsPlan t plan → r < t.renditions → IsCovered t r recorded →
+    IsRightList epoch recorded r t plan (job_list epoch recorded r t plan)
+right_list epoch recorded r t plan known valid table is_plan within covered =
     let uri : List ℕ = job_uri r in
-    let cut : Cutting = cutting recorded r uri (first_fragment t r) in
-    let good = segments_are_good t plan cut table is_plan within (units_good recorded r uri (first_fragment t r) valid) covered.ever in
+    let cut : Cutting = cutting epoch recorded r uri (first_fragment t r) in
+    let good = segments_are_good t plan cut table is_plan within (units_good epoch recorded r uri (first_fragment t r) valid) known covered.ever in
     let head = inits_are_bounded recorded.head recorded.init valid.head in
     let some : 0 < length recorded.head = head.some_bytes in
     let few : length recorded.head ≤ 1048576 = head.len_limit in
@@ -56,35 +57,35 @@ right_list recorded r t plan valid table is_plan within covered =
     }
 
 -- the list at each place
-list_at : (first : ℕ) (recordings : List Recorded) (t : Table) (plan : List ℕ) (k : ℕ) (recorded : Recorded) (list : Playlist) →
-    slice_get recordings k ≡ Some recorded → slice_get (job_lists first recordings t plan) k ≡ Some list → list ≡ job_list recorded (first + k) t plan
-list_at first [] t plan k recorded list at there = cc
-list_at first (r ∷ recordings) t plan zero recorded list at there =
+list_at : (epoch : Option ℤ) (first : ℕ) (recordings : List Recorded) (t : Table) (plan : List ℕ) (k : ℕ) (recorded : Recorded) (list : Playlist) →
+    slice_get recordings k ≡ Some recorded → slice_get (job_lists epoch first recordings t plan) k ≡ Some list → list ≡ job_list epoch recorded (first + k) t plan
+list_at epoch first [] t plan k recorded list at there = cc
+list_at epoch first (r ∷ recordings) t plan zero recorded list at there =
     let same : r ≡ recorded = cc in
-    let is : job_list r first t plan ≡ list = cc in
-    sym is ∙ ap (λ x. job_list x first t plan) same ∙ ap (λ n. job_list recorded n t plan) (omega arith)
-list_at first (r ∷ recordings) t plan (suc k) recorded list at there =
-    list_at (suc first) recordings t plan k recorded list at there ∙ ap (λ n. job_list recorded n t plan) (omega arith)
+    let is : job_list epoch r first t plan ≡ list = cc in
+    sym is ∙ ap (λ x. job_list epoch x first t plan) same ∙ ap (λ n. job_list epoch recorded n t plan) (omega arith)
+list_at epoch first (r ∷ recordings) t plan (suc k) recorded list at there =
+    list_at epoch (suc first) recordings t plan k recorded list at there ∙ ap (λ n. job_list epoch recorded n t plan) (omega arith)
 
-length_lists : (first : ℕ) (recordings : List Recorded) (t : Table) (plan : List ℕ) → length (job_lists first recordings t plan) ≡ length recordings
-length_lists first [] t plan = refl
-length_lists first (r ∷ recordings) t plan = ap suc (length_lists (suc first) recordings t plan)
+length_lists : (epoch : Option ℤ) (first : ℕ) (recordings : List Recorded) (t : Table) (plan : List ℕ) → length (job_lists epoch first recordings t plan) ≡ length recordings
+length_lists epoch first [] t plan = refl
+length_lists epoch first (r ∷ recordings) t plan = ap suc (length_lists epoch (suc first) recordings t plan)
 
 within : {A : Type 0} (xs : List A) (k : ℕ) (x : A) → slice_get xs k ≡ Some x → k < length xs
 within [] k x at = cc
 within (y ∷ xs) zero x at = omega arith
 within (y ∷ xs) (suc k) x at = let rest : k < length xs = within xs k x at in omega arith
 
-pub right_lists : (recordings : List Recorded) (t : Table) (plan : List ℕ) →
+pub right_lists : (epoch : Option ℤ) (recordings : List Recorded) (t : Table) (plan : List ℕ) → IsEpoch epoch →
     ((r : ℕ) (recorded : Recorded) → slice_get recordings r ≡ Some recorded → IsRecorded recorded) → IsTable t → IsPlan t plan → AreCovered t recordings →
-    AreRightLists recordings t plan (job_lists 0 recordings t plan)
-right_lists recordings t plan valid table is_plan covered = record {
-  count = length_lists 0 recordings t plan ∙ covered.renditions;
+    AreRightLists epoch recordings t plan (job_lists epoch 0 recordings t plan)
+right_lists epoch recordings t plan known valid table is_plan covered = record {
+  count = length_lists epoch 0 recordings t plan ∙ covered.renditions;
   each = λ r recorded list at there.
       let below : r < length recordings = within recordings r recorded at in
-      let is : list ≡ job_list recorded r t plan = list_at 0 recordings t plan r recorded list at there ∙ ap (λ n. job_list recorded n t plan) (zero-add r) in
-      subst (IsRightList recorded r t plan) (sym is)
-      (right_list recorded r t plan (valid r recorded at) table is_plan (omega (arith, covered.renditions)) (covered.each r recorded at));
+      let is : list ≡ job_list epoch recorded r t plan = list_at epoch 0 recordings t plan r recorded list at there ∙ ap (λ n. job_list epoch recorded n t plan) (zero-add r) in
+      subst (IsRightList epoch recorded r t plan) (sym is)
+      (right_list epoch recorded r t plan known (valid r recorded at) table is_plan (omega (arith, covered.renditions)) (covered.each r recorded at));
 }
 
 -- what holds of each borrowed value holds of the values
@@ -98,22 +99,22 @@ each_borrowed (first ∷ recordings) all (suc r) recorded at =
     each_borrowed recordings (All-tail (λ r. IsRecorded r.now) first recordings all) r recorded at
 
 -- a least plan's lists and the certificate of it
-pub right_cut : (recordings : List (Bor Recorded)) (t : Table) (planned : Planned) (plan : Vec ℕ Global) (prices : Vec (Option ℕ) Global)
+pub right_cut : (epoch : Option ℤ) (recordings : List (Bor Recorded)) (t : Table) (planned : Planned) (plan : Vec ℕ Global) (prices : Vec (Option ℕ) Global)
     (lists : List Playlist) (certificate : Printed) →
     certificate ≡ certificate_of t planned → planned ≡ Cut plan prices → IsGood (certificate_of t planned) → IsAccepted (certificate_of t planned) → IsBest t planned →
-    lists ≡ job_lists 0 (map (λ r. r.now) recordings) t plan.items → All (λ r. IsRecorded r.now) recordings → IsTable t →
-    AreCovered t (map (λ r. r.now) recordings) →
-    IsGoodFor t certificate × ShowsCut (map (λ r. r.now) recordings) t lists certificate.shown
-right_cut recordings t planned plan prices lists certificate is same good accepted best made valid table covered =
+    lists ≡ job_lists epoch 0 (map (λ r. r.now) recordings) t plan.items → All (λ r. IsRecorded r.now) recordings → IsTable t →
+    AreCovered t (map (λ r. r.now) recordings) → IsEpoch epoch →
+    IsGoodFor t certificate × ShowsCut epoch (map (λ r. r.now) recordings) t lists certificate.shown
+right_cut epoch recordings t planned plan prices lists certificate is same good accepted best made valid table covered known =
     let recorded : List Recorded = map (λ r. r.now) recordings in
     let shown : certificate ≡ certificate_of t (Cut plan prices) = is ∙ ap (certificate_of t) same in
     let least : IsLeast t plan.items = subst (IsBest t) same best in
     let well : IsGood (certificate_of t (Cut plan prices)) = subst (λ p. IsGood (certificate_of t p)) same good in
     let fine : IsAccepted (certificate_of t (Cut plan prices)) = subst (λ p. IsAccepted (certificate_of t p)) same accepted in
-    let right : AreRightLists recorded t plan.items lists =
-    subst (AreRightLists recorded t plan.items) (sym made)
-    (right_lists recorded t plan.items (each_borrowed recordings valid) table least.is_plan covered) in
-    let P : Printed → Type 0 = λ c. IsGoodFor t c × ShowsCut recorded t lists c.shown in
+    let right : AreRightLists epoch recorded t plan.items lists =
+    subst (AreRightLists epoch recorded t plan.items) (sym made)
+    (right_lists epoch recorded t plan.items known (each_borrowed recordings valid) table least.is_plan covered) in
+    let P : Printed → Type 0 = λ c. IsGoodFor t c × ShowsCut epoch recorded t lists c.shown in
     subst P (sym shown) ((refl, well, fine), (least, right))
 
 -- the certificate that there is no plan

@@ -36,7 +36,8 @@ pub span_is : (reply : ReplyData) (r : ℕ) (lists : Vec MediaPlaylist Global) (
 span_is reply r lists certificate span cut right is first end =
     let s : State = reply.state in
     let recorded : Recorded = span.recording.now in
-    let shown : IsRightCutout right.recordings right.table (Cut lists certificate) = subst (IsRightCutout right.recordings right.table) cut right.right in
+    let shown : IsRightCutout s.config.epoch right.recordings right.table (Cut lists certificate) =
+    subst (IsRightCutout s.config.epoch right.recordings right.table) cut right.right in
     let table : certificate.table ≡ right.table = shown.0.0 in
     let within = lane_there s r recorded is in
     let found = some_at right.recordings r (omega (arith, right.are.count)) in

@@ -1,5 +1,5 @@
 -- What is right for a table of places and the recordings that it was taken from.
-use Rattle.std.specs.Prelude.{◌≡◌, ℕ, ◌≤◌, List, length, map, Some, slice_get, All}
+use Rattle.std.specs.Prelude.{◌≡◌, ℕ, ◌≤◌, ℤ, Option, List, length, map, Some, slice_get, All}
 use Rattle.std.specs.List.{concat}
 use Rattle.hls_record.specs.Recorded.{Recorded}
 use Rattle.hls_check_laws.specs.Tables.{Table}
@@ -34,9 +34,9 @@ pub record AreCovered (t : Table) (recordings : List Recorded) : Type 0 where
   pub each : (r : ℕ) (recorded : Recorded) → slice_get recordings r ≡ Some recorded → IsCovered t r recorded
 
 -- the playlist of a plan in one rendition
-pub record IsRightList (recorded : Recorded) (r : ℕ) (t : Table) (plan : List ℕ) (list : Playlist) : Type 0 where
+pub record IsRightList (epoch : Option ℤ) (recorded : Recorded) (r : ℕ) (t : Table) (plan : List ℕ) (list : Playlist) : Type 0 where
   -- it is the list of VOD with the plan's steps as segments, and has a text
-  pub is : list ≡ job_list recorded r t plan
+  pub is : list ≡ job_list epoch recorded r t plan
   pub has_text : HasText list
   -- each length fits the target
   pub fits : All (SegmentFits t.goal.target) list.segments
@@ -44,15 +44,15 @@ pub record IsRightList (recorded : Recorded) (r : ℕ) (t : Table) (plan : List 
   pub media : joined_media list.segments (job_resource recorded r t) ≡ concat (programme_units recorded r t)
 
 -- one for each rendition
-pub record AreRightLists (recordings : List Recorded) (t : Table) (plan : List ℕ) (lists : List Playlist) : Type 0 where
+pub record AreRightLists (epoch : Option ℤ) (recordings : List Recorded) (t : Table) (plan : List ℕ) (lists : List Playlist) : Type 0 where
   pub count : length lists ≡ t.renditions
   pub each : (r : ℕ) (recorded : Recorded) (list : Playlist) → slice_get recordings r ≡ Some recorded → slice_get lists r ≡ Some list →
-      IsRightList recorded r t plan list
+      IsRightList epoch recorded r t plan list
 
 -- a certificate shows a least plan, by which the lists are made
-abbrev pub ShowsCut : List Recorded → Table → List Playlist → Shown → Type 0
-ShowsCut recordings t lists (CutShown total plan prices) = IsLeast t plan × AreRightLists recordings t plan lists
-ShowsCut recordings t lists (NoneShown closed) = ⊥
+abbrev pub ShowsCut : Option ℤ → List Recorded → Table → List Playlist → Shown → Type 0
+ShowsCut epoch recordings t lists (CutShown total plan prices) = IsLeast t plan × AreRightLists epoch recordings t plan lists
+ShowsCut epoch recordings t lists (NoneShown closed) = ⊥
 
 -- a certificate shows that there is no plan
 abbrev pub ShowsNoCut : Table → Shown → Type 0
@@ -64,7 +64,7 @@ abbrev pub IsGoodFor : Table → Printed → Type 0
 IsGoodFor t certificate = (certificate.table ≡ t) × IsGood certificate × IsAccepted certificate
 
 -- a least plan's lists with a certificate over the table, or the certificate that there is none
-abbrev pub IsRightCutout : List Recorded → Table → Cutout → Type 0
-IsRightCutout recordings t (Cut lists certificate) =
-    IsGoodFor t certificate × ShowsCut recordings t (map playlist_of lists.items) certificate.shown
-IsRightCutout recordings t (NoCut certificate) = IsGoodFor t certificate × ShowsNoCut t certificate.shown
+abbrev pub IsRightCutout : Option ℤ → List Recorded → Table → Cutout → Type 0
+IsRightCutout epoch recordings t (Cut lists certificate) =
+    IsGoodFor t certificate × ShowsCut epoch recordings t (map playlist_of lists.items) certificate.shown
+IsRightCutout epoch recordings t (NoCut certificate) = IsGoodFor t certificate × ShowsNoCut t certificate.shown

@@ -1,5 +1,5 @@
 -- The playlists of an answer.
-use Rattle.std.specs.Prelude.{ℕ, suc, List, [], ◌∷◌, ◌++◌, length, codes}
+use Rattle.std.specs.Prelude.{ℕ, suc, ℤ, Option, List, [], ◌∷◌, ◌++◌, length, codes}
 use Rattle.std.specs.Fmt.{decimal}
 use Rattle.hls_record.specs.Recorded.{Recorded}
 use Rattle.hls_check_laws.specs.Tables.{Table}
@@ -10,13 +10,14 @@ use Rattle.hls_catchup_laws.specs.Laws.{first_fragment}
 
 -- where the segments of a rendition come from: a resource that has the recording's init section and then the units from
 -- number `first` on
-abbrev pub cutting : Recorded → ℕ → List ℕ → ℕ → Cutting
-cutting recorded rendition uri first = record {
+abbrev pub cutting : Option ℤ → Recorded → ℕ → List ℕ → ℕ → Cutting
+cutting epoch recorded rendition uri first = record {
   rendition = rendition;
   uri = uri;
   init_length = length recorded.head;
   first = first;
   facts = recorded.facts;
+  epoch = epoch;
 }
 
 -- the URI of a rendition's resource
@@ -24,12 +25,12 @@ abbrev pub job_uri : ℕ → List ℕ
 job_uri rendition = decimal rendition ++ codes ".mp4"
 
 -- the rendition's list of VOD: the channel's target, the init section at the front, and the plan's steps as segments
-abbrev pub job_list : Recorded → ℕ → Table → List ℕ → Playlist
-job_list recorded rendition t plan =
+abbrev pub job_list : Option ℤ → Recorded → ℕ → Table → List ℕ → Playlist
+job_list epoch recorded rendition t plan =
     vod_list t.goal.target (job_uri rendition) (length recorded.head)
-    (segments_of (cutting recorded rendition (job_uri rendition) (first_fragment t rendition)) t.places plan)
+    (segments_of (cutting epoch recorded rendition (job_uri rendition) (first_fragment t rendition)) t.places plan)
 
 -- the lists of the renditions from number r on
-abbrev pub job_lists : ℕ → List Recorded → Table → List ℕ → List Playlist
-job_lists r [] t plan = []
-job_lists r (recorded ∷ others) t plan = job_list recorded r t plan ∷ job_lists (suc r) others t plan
+abbrev pub job_lists : Option ℤ → ℕ → List Recorded → Table → List ℕ → List Playlist
+job_lists epoch r [] t plan = []
+job_lists epoch r (recorded ∷ others) t plan = job_list epoch recorded r t plan ∷ job_lists epoch (suc r) others t plan

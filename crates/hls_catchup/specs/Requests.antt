@@ -61,11 +61,11 @@ pub record AreRecordings (s : State) (recordings : List Recorded) : Type 0 where
   pub count : length recordings ≡ length (channel s).lanes
   pub each : (r : ℕ) (recorded : Recorded) → slice_get recordings r ≡ Some recorded → recording_of s r ≡ Some recorded
 
--- a right answer: it is that of the programme's table, over the recordings of this very state
+-- a right answer: it is that of the programme's table, over the recordings of this very state, and dated by its epoch
 pub record IsRightAnswer (s : State) (request : Request) (cutout : Cutout) : Type 0 where
   pub table : Table
   pub defined : IsTableFor s request (Ok table)
   pub recordings : List Recorded
   pub are : AreRecordings s recordings
   pub covered : AreCovered table recordings
-  pub right : IsRightCutout recordings table cutout
+  pub right : IsRightCutout s.config.epoch recordings table cutout

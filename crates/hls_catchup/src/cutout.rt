@@ -1,6 +1,7 @@
 //! A table cut by a least plan.
 
 ghost use Rattle.std.specs.Prelude.{◌≡◌, length, map, IfOk};
+ghost use Rattle.hls_core_laws.specs.Config.{IsEpoch};
 ghost use Rattle.hls_catchup.specs.Answers.{AreCovered, IsRightCutout};
 
 use crate::laws::good_is_accepted;
@@ -25,21 +26,24 @@ pub enum Cutout {
     },
 }
 
-/// Cuts the programme of a table: a least plan with its playlists, or the proof that there is no plan.
+/// Cuts the programme of a table: a least plan with its playlists, which are dated where the epoch is known, or the proof that
+/// there is no plan.
 pub fn cut(
     alloc: Global,
     recordings: &[&Recording],
+    epoch: Option<i64>,
     table: PlaceTable,
 ) -> Result<Cutout, AllocError>
-    requires { AreCovered table (map (λ r. r.now) recordings.now) }
-    ensures { IfOk result (IsRightCutout (map (λ r. r.now) recordings.now) table) }
+    requires covered { AreCovered table (map (λ r. r.now) recordings.now) }
+    requires epoch { IsEpoch epoch }
+    ensures { IfOk result (IsRightCutout epoch (map (λ r. r.now) recordings.now) table) }
 {
     good_is_accepted();
     let _ = table.len();
     let planned = plan(alloc, &table)?;
     match &planned {
         Planned::Cut { plan, .. } => {
-            let playlists = job_lists(alloc, recordings, &table, plan.as_slice())?;
+            let playlists = job_lists(alloc, recordings, epoch, &table, plan.as_slice())?;
             Ok(Cutout::Cut {
                 playlists,
                 certificate: certificate(table, planned),

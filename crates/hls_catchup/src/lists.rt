@@ -2,6 +2,7 @@
 
 ghost use Rattle.std.specs.Prelude.{◌≡◌, ◌<◌, length, map, All, IfOk};
 ghost use Rattle.hls_record.specs.Valid.{IsRecorded};
+ghost use Rattle.hls_core_laws.specs.Config.{IsEpoch};
 ghost use Rattle.hls_m3u8.specs.Playlist.{playlist_of};
 ghost use Rattle.hls_catchup.specs.Lists.{job_uri, job_list, job_lists};
 
@@ -24,20 +25,22 @@ fn job_uri(alloc: Global, rendition: usize) -> Result<ByteStr, AllocError>
 fn job_list(
     alloc: Global,
     recording: &Recording,
+    epoch: Option<i64>,
     rendition: usize,
     table: &PlaceTable,
     plan: &[usize],
 ) -> Result<MediaPlaylist, AllocError>
+    requires epoch { IsEpoch epoch }
     requires rendition { rendition < table.now.renditions }
     requires plan { All (λ p. p < length table.now.places) plan.now }
-    ensures list { IfOk result (λ list. playlist_of list ≡ job_list recording.now rendition table.now plan.now) }
+    ensures list { IfOk result (λ list. playlist_of list ≡ job_list epoch recording.now rendition table.now plan.now) }
     ensures valid { IsRecorded recording.now }
 {
     let _ = recording.count();
     let _ = table.len();
     let uri = job_uri(alloc, rendition)?;
     let first = table.place(0).get(rendition).fragment;
-    let segments = segments_of(alloc, recording, rendition, &uri, first, table, plan)?;
+    let segments = segments_of(alloc, recording, epoch, rendition, &uri, first, table, plan)?;
     let init_length = recording.head().len() as u64;
     Ok(MediaPlaylist::vod(table.target(), uri, init_length, segments))
 }
@@ -46,17 +49,19 @@ fn job_list(
 pub fn job_lists(
     alloc: Global,
     recordings: &[&Recording],
+    epoch: Option<i64>,
     table: &PlaceTable,
     plan: &[usize],
 ) -> Result<Vec<MediaPlaylist>, AllocError>
+    requires epoch { IsEpoch epoch }
     requires renditions { length recordings.now ≡ table.now.renditions }
     requires plan { All (λ p. p < length table.now.places) plan.now }
-    ensures lists { IfOk result (λ lists. map playlist_of lists.items ≡ job_lists 0 (map (λ r. r.now) recordings.now) table.now plan.now) }
+    ensures lists { IfOk result (λ lists. map playlist_of lists.items ≡ job_lists epoch 0 (map (λ r. r.now) recordings.now) table.now plan.now) }
     ensures valid { IfOk result (λ lists. All (λ r. IsRecorded r.now) recordings.now) }
 {
     let mut lists = Vec::new(alloc);
     for (rendition, recording) in recordings.iter().enumerate() {
-        lists.push(job_list(alloc, recording, rendition, table, plan)?)?;
+        lists.push(job_list(alloc, recording, epoch, rendition, table, plan)?)?;
     }
     Ok(lists)
 }

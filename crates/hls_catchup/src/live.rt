@@ -1,21 +1,20 @@
 //! The live list of a rendition.
 
-ghost use Rattle.std.specs.Prelude.{◌≡◌, map, IfOk};
+ghost use Rattle.std.specs.Prelude.{◌≡◌, ◌<◌, ◌^◌, map, All, IfOk};
 ghost use Rattle.std.specs.Option.{option_map};
 ghost use Rattle.hls_check_laws.specs.Tables.{spot_in};
 ghost use Rattle.hls_live_laws.specs.Live.{segments_of};
 ghost use Rattle.hls_m3u8.specs.Playlist.{playlist_of};
+ghost use Rattle.hls_core_laws.specs.Config.{IsEpoch};
 ghost use Rattle.hls_core_laws.specs.IsState.{IsState};
 ghost use Rattle.hls_live_lists_laws.specs.Lists.{live_uri, listed, live_list_of};
 ghost use Rattle.hls_catchup.specs.Lists.{cutting};
 
-use crate::segments::bytes_between;
+use crate::segments::segment_between;
 use bytes::ByteStr;
-use hls_check_laws::Spot;
 use hls_core::snapshot::Snapshot;
 use hls_live::LiveLine;
-use hls_m3u8::{ByteRange, MediaPlaylist, Segment};
-use hls_places_laws::Place;
+use hls_m3u8::{MediaPlaylist, Segment};
 use hls_record::Recording;
 use std::alloc::{AllocError, Global};
 
@@ -38,9 +37,10 @@ pub fn live_playlist(
         return Ok(None);
     }
     let uri = live_uri(alloc, rendition)?;
-    let segments = live_segments(alloc, recording, rendition, &uri, line)?;
+    let config = snapshot.config();
+    let segments = live_segments(alloc, recording, config.epoch(), rendition, &uri, line)?;
     Ok(Some(MediaPlaylist::live(
-        snapshot.config().target(),
+        config.target(),
         line.removed(),
         line.removed_breaks(),
         uri,
@@ -61,56 +61,28 @@ fn live_uri(alloc: Global, rendition: usize) -> Result<ByteStr, AllocError>
 fn live_segments(
     alloc: Global,
     recording: &Recording,
+    epoch: Option<i64>,
     rendition: usize,
     uri: &ByteStr,
     line: &LiveLine,
 ) -> Result<Vec<Segment>, AllocError>
-    ensures { IfOk result (λ v. v.items ≡ map (listed (cutting recording.now rendition uri.now 0)) (segments_of line.now)) }
+    requires epoch { IsEpoch epoch }
+    requires starts { All (λ s. (spot_in s.from.spots rendition).start < 2 ^ 53) (segments_of line.now) }
+    ensures { IfOk result (λ v. v.items ≡ map (listed (cutting epoch recording.now rendition uri.now 0)) (segments_of line.now)) }
 {
     let mut list = Vec::new(alloc);
     let segments = line.segments();
     for segment in segments.iter_from(segments.first()) {
-        list.push(listed(recording, rendition, uri.clone()?, segment))?;
+        list.push(segment_between(
+            recording,
+            epoch,
+            rendition,
+            uri.clone()?,
+            0,
+            segment.mark,
+            &segment.from.spots,
+            &segment.to.spots,
+        ))?;
     }
     Ok(list)
-}
-
-/// A segment of the live line in one rendition, with its range in the recording.
-fn listed(
-    recording: &Recording,
-    rendition: usize,
-    uri: ByteStr,
-    segment: &hls_live::Segment,
-) -> Segment
-    ensures { result ≡ listed (cutting recording.now rendition uri 0) segment.now }
-{
-    let from = spot_of(&segment.from, rendition);
-    let to = spot_of(&segment.to, rendition);
-    let range = ByteRange {
-        length: bytes_between(recording, from.fragment, to.fragment),
-        offset: recording.offset(0) + bytes_between(recording, 0, from.fragment),
-    };
-    Segment {
-        mark: segment.mark,
-        us: to.prev_end.saturating_sub(from.start),
-        range: Some(range),
-        uri,
-    }
-}
-
-/// A place's spot in a rendition, one of zeros where it has none.
-fn spot_of(place: &Place, rendition: usize) -> Spot
-    ensures { result ≡ spot_in place.now.spots rendition }
-{
-    let spots = place.spots.as_slice();
-    if rendition < spots.len() {
-        return spots[rendition];
-    }
-    Spot {
-        fragment: 0,
-        prev_end: 0,
-        start: 0,
-        run_in: 0,
-        run_out: 0,
-    }
 }

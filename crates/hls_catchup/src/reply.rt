@@ -71,7 +71,8 @@ pub fn answer(
             let Some(recordings) = recordings_of(alloc, snapshot)? else {
                 unreachable!()
             };
-            let cutout = cut(alloc, recordings.as_slice(), table)?;
+            let epoch = snapshot.config().epoch();
+            let cutout = cut(alloc, recordings.as_slice(), epoch, table)?;
             Ok(Reply {
                 snapshot: Arc::try_clone(snapshot)?,
                 request,

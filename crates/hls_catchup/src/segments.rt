@@ -1,13 +1,14 @@
 //! The segments of a plan in one rendition.
 
 ghost use Rattle.std.specs.Prelude.{◌≡◌, ◌+◌, ◌<◌, ◌≤◌, ◌^◌, length, All, IfOk};
-ghost use Rattle.hls_check_laws.specs.Tables.{place_at};
+ghost use Rattle.hls_check_laws.specs.Tables.{spot_in, place_at};
+ghost use Rattle.hls_core_laws.specs.Config.{IsEpoch};
 ghost use Rattle.hls_catchup_laws.specs.Jobs.{bytes_between};
-ghost use Rattle.hls_catchup_laws.specs.Segments.{is_break, segment_between, segments_of};
+ghost use Rattle.hls_catchup_laws.specs.Segments.{is_break, date_at, segment_between, segments_of};
 ghost use Rattle.hls_catchup.specs.Lists.{cutting};
 
 use bytes::ByteStr;
-use hls_check_laws::{PlaceTable, Spots};
+use hls_check_laws::{PlaceTable, Spot, Spots};
 use hls_m3u8::{ByteRange, Segment};
 use hls_record::Recording;
 use std::alloc::{AllocError, Global};
@@ -22,7 +23,7 @@ pub fn bytes_between(recording: &Recording, from: u64, to: u64) -> u64
 }
 
 /// Whether in some rendition a gap lies just before the place.
-fn is_break(place: &Spots) -> bool
+pub fn is_break(place: &Spots) -> bool
     ensures { result ≡ is_break place.now }
 {
     place
@@ -31,10 +32,39 @@ fn is_break(place: &Spots) -> bool
         .any(|spot| spot.run_in != spot.run_out)
 }
 
-/// The segment from one place to another in a rendition, at its range of a resource that has the recording's init section
-/// and then the units from number `first` on.
-fn segment_between(
+/// A place's spot in a rendition, one of zeros where it has none.
+fn spot_of(place: &Spots, rendition: usize) -> Spot
+    ensures { result ≡ spot_in place.now rendition }
+{
+    let spots = place.as_slice();
+    if rendition < spots.len() {
+        return spots[rendition];
+    }
+    Spot {
+        fragment: 0,
+        prev_end: 0,
+        start: 0,
+        run_in: 0,
+        run_out: 0,
+    }
+}
+
+/// The moment of a time, rounded down to whole milliseconds; None where that of time 0, the epoch, isn't known. Both are in
+/// microseconds, a moment since 1970-01-01T00:00:00Z.
+fn date_at(epoch: Option<i64>, us: u64) -> Option<i64>
+    requires epoch { IsEpoch epoch }
+    requires time { us < 2 ^ 53 }
+    ensures { result ≡ date_at epoch us }
+{
+    let moment = epoch? + us as i64;
+    Some(moment.div_euclid(1000) * 1000)
+}
+
+/// The segment from one place to another in a rendition, with the date of its start (RFC 8216 section 4.3.2.6) where the
+/// epoch is known, at its range of a resource that has the recording's init section and then the units from number `first` on.
+pub fn segment_between(
     recording: &Recording,
+    epoch: Option<i64>,
     rendition: usize,
     uri: ByteStr,
     first: u64,
@@ -42,18 +72,19 @@ fn segment_between(
     from: &Spots,
     to: &Spots,
 ) -> Segment
-    requires from_in { rendition < length from.now }
-    requires to_in { rendition < length to.now }
-    ensures { result ≡ segment_between (cutting recording.now rendition uri first) mark from.now to.now }
+    requires epoch { IsEpoch epoch }
+    requires start { (spot_in from.now rendition).start < 2 ^ 53 }
+    ensures { result ≡ segment_between (cutting epoch recording.now rendition uri first) mark from.now to.now }
 {
-    let from = from.get(rendition);
-    let to = to.get(rendition);
+    let from = spot_of(from, rendition);
+    let to = spot_of(to, rendition);
     let range = ByteRange {
         length: bytes_between(recording, from.fragment, to.fragment),
         offset: recording.offset(0) + bytes_between(recording, first, from.fragment),
     };
     Segment {
         mark,
+        date: date_at(epoch, from.start),
         us: to.prev_end.saturating_sub(from.start),
         range: Some(range),
         uri,
@@ -61,20 +92,21 @@ fn segment_between(
 }
 
 /// The segments of a plan in a rendition, one a step: their ranges count in a resource that has the recording's init section
-/// and then the units from number `first` on.
-#[tactic(auto, using(crate::proofs::Places::place_long))]
+/// and then the units from number `first` on, and their dates from the epoch, if it is known.
+#[tactic(auto, using(crate::proofs::Places::start_small))]
 pub fn segments_of(
     alloc: Global,
     recording: &Recording,
+    epoch: Option<i64>,
     rendition: usize,
     uri: &ByteStr,
     first: u64,
     table: &PlaceTable,
     plan: &[usize],
 ) -> Result<Vec<Segment>, AllocError>
-    requires rendition { rendition < table.now.renditions }
+    requires epoch { IsEpoch epoch }
     requires plan { All (λ p. p < length table.now.places) plan.now }
-    ensures { IfOk result (λ v. v.items ≡ segments_of (cutting recording.now rendition uri.now first) table.now.places plan.now) }
+    ensures { IfOk result (λ v. v.items ≡ segments_of (cutting epoch recording.now rendition uri.now first) table.now.places plan.now) }
 {
     let _ = table.len();
     let mut segments = Vec::new(alloc);
@@ -88,6 +120,7 @@ pub fn segments_of(
         let end = table.place(*to);
         segments.push(segment_between(
             recording,
+            epoch,
             rendition,
             uri.clone()?,
             first,

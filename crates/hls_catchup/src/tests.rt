@@ -3,6 +3,7 @@
 ghost use Rattle.std.specs.Prelude.{IfOk};
 ghost use Rattle.hls_core_laws.specs.Moves.{IsFitting};
 
+mod dates;
 mod live;
 mod masters;
 mod plays;
@@ -46,13 +47,18 @@ fn single(alloc: Global) -> Result<Arc<Snapshot>, Fail> {
     Ok(Arc::new(alloc, Snapshot::first(alloc, config)?)?)
 }
 
-/// A channel of two renditions.
-fn double(alloc: Global, tolerance: u64) -> Result<Arc<Snapshot>, Fail> {
+/// A channel of two renditions, with this moment of time 0.
+fn double_from(alloc: Global, tolerance: u64, epoch: Option<i64>) -> Result<Arc<Snapshot>, Fail> {
     let mut renditions = Vec::new(alloc);
     renditions.push(rendition(alloc, b"v1", 0)?)?;
     renditions.push(rendition(alloc, b"en", tolerance)?)?;
-    let config = Config::new(alloc, 6, 4 * SECOND, renditions)?;
+    let config = Config::with_epoch(alloc, 6, 4 * SECOND, renditions, epoch)?;
     Ok(Arc::new(alloc, Snapshot::first(alloc, config)?)?)
+}
+
+/// A channel of two renditions.
+fn double(alloc: Global, tolerance: u64) -> Result<Arc<Snapshot>, Fail> {
+    double_from(alloc, tolerance, None)
 }
 
 fn stepped(alloc: Global, snapshot: &Snapshot, event: Event) -> Result<Arc<Snapshot>, Fail>
@@ -286,8 +292,8 @@ fn finds_no_cut_across_a_gap_of_one_rendition(rt: HostRuntime) -> Result<(), Fai
 }
 
 /// Audio of 48000 ticks a second whose units end a little after the video's.
-fn uneven(alloc: Global) -> Result<Arc<Snapshot>, Fail> {
-    let none = double(alloc, 30000)?;
+fn uneven(alloc: Global, epoch: Option<i64>) -> Result<Arc<Snapshot>, Fail> {
+    let none = double_from(alloc, 30000, epoch)?;
     let state = with_units(alloc, &none, 0, &[(0, 4), (4, 8)])?;
     let state = begun(alloc, &state, 1, 48000)?;
     let state = with_unit(alloc, &state, 1, 0, 192512)?;
@@ -298,7 +304,7 @@ fn uneven(alloc: Global) -> Result<Arc<Snapshot>, Fail> {
 
 #[test]
 fn cuts_uneven_ends(rt: HostRuntime) -> Result<(), Fail> {
-    let state = uneven(rt.alloc())?;
+    let state = uneven(rt.alloc(), None)?;
     let reply = answer(rt.alloc(), &state, request(0, 8 * SECOND))?;
     assert_plan(&rt, &reply, 0, &[0, 1, 2]);
     let video = [

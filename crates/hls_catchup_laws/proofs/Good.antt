@@ -6,11 +6,13 @@ use Rattle.std.proofs.lemmas.List.Sums.{sum_by-cons, sum_by-take-drop, sum_by-ta
 use Rattle.hls_media_laws.specs.declared.facts.Facts.{Facts}
 use Rattle.hls_check_laws.specs.Tables.{Table, IsTable, spot_in, place_at}
 use Rattle.hls_check_laws.specs.Plans.{Leads, end_of}
+use Rattle.hls_core_laws.specs.Config.{IsEpoch}
 use Rattle.hls_m3u8.specs.HasText.{IsSegment}
 use Rattle.hls_media_laws.specs.FactLists.{len_of}
 use Rattle.hls_catchup_laws.specs.Jobs.{bytes_between}
 use Rattle.hls_catchup_laws.specs.Segments.{Cutting, is_break, segment_between, segments_from}
 use Rattle.hls_catchup_laws.specs.Laws.{end_fragment, SegmentFits, AreUnits, SegmentsAreGood}
+use Rattle.hls_catchup_laws.proofs.Dates.{date_good, start_small}
 use Rattle.hls_catchup_laws.proofs.Joined.{fragment_at, fragments_rise}
 
 some_taken : (n : ℕ) (facts : List Facts) → 0 < n → 0 < length facts → All (λ f. 0 < f.len) facts → 0 < sum_by len_of (take n facts)
@@ -42,10 +44,10 @@ fits_from t cut p mark (q ∷ rest) leads within =
     ((leads.0.step cut.rendition within).fits)
     (fits_from t cut q (is_break (place_at t.places q)) rest leads.1 within)
 
-pub good_from : (t : Table) (cut : Cutting) (p : ℕ) (mark : Bool) (rest : List ℕ) → IsTable t → Leads t p rest → cut.rendition < t.renditions → AreUnits cut →
+pub good_from : (t : Table) (cut : Cutting) (p : ℕ) (mark : Bool) (rest : List ℕ) → IsTable t → Leads t p rest → cut.rendition < t.renditions → AreUnits cut → IsEpoch cut.epoch →
     fragment_at t cut.rendition (end_of p rest) ≤ length cut.facts → All (IsSegment cut.uri) (segments_from cut t.places p mark rest)
-good_from t cut p mark [] valid leads within units over = All-nil (IsSegment cut.uri)
-good_from t cut p mark (q ∷ rest) valid leads within units over =
+good_from t cut p mark [] valid leads within units known over = All-nil (IsSegment cut.uri)
+good_from t cut p mark (q ∷ rest) valid leads within units known over =
     let a : ℕ = fragment_at t cut.rendition p in
     let b : ℕ = fragment_at t cut.rendition q in
     let step = leads.0.step cut.rendition within in
@@ -58,15 +60,15 @@ good_from t cut p mark (q ∷ rest) valid leads within units over =
     let before : bytes_between cut.facts cut.first a ≤ sum_by len_of cut.facts = few_bytes cut.facts cut.first a in
     let total : cut.init_length + sum_by len_of cut.facts ≤ 2 ^ 40 = units.total in
     let one : IsSegment cut.uri (segment_between cut mark (place_at t.places p) (place_at t.places q)) =
-    record { length = omega arith; range = (some, omega arith, omega arith); uri_is = refl } in
+    record { date = date_good cut.epoch (spot_in (place_at t.places p) cut.rendition).start known (start_small t p cut.rendition valid); length = omega arith; range = (some, omega arith, omega arith); uri_is = refl } in
     All-cons (IsSegment cut.uri) (segment_between cut mark (place_at t.places p) (place_at t.places q)) (segments_from cut t.places q (is_break (place_at t.places q)) rest)
     one
-    (good_from t cut q (is_break (place_at t.places q)) rest valid leads.1 within units over)
+    (good_from t cut q (is_break (place_at t.places q)) rest valid leads.1 within units known over)
 
 pub segments_are_good : SegmentsAreGood
-segments_are_good t [] cut valid plan within units over = absurd plan
-segments_are_good t (p ∷ rest) cut valid plan within units over =
+segments_are_good t [] cut valid plan within units known over = absurd plan
+segments_are_good t (p ∷ rest) cut valid plan within units known over =
     let at_end : fragment_at t cut.rendition (end_of p rest) ≡ end_fragment t cut.rendition = ap (fragment_at t cut.rendition) plan.1 in (
       fits_from t cut p false rest plan.2 within,
-      good_from t cut p false rest valid plan.2 within units (omega (arith, at_end)),
+      good_from t cut p false rest valid plan.2 within units known (omega (arith, at_end)),
     )

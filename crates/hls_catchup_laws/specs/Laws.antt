@@ -1,10 +1,13 @@
 -- What holds of the segments of every plan.
-use Rattle.std.specs.Prelude.{◌≡◌, ℕ, ◌+◌, ◌-◌, ◌<◌, ◌≤◌, List, length, All}
+use Rattle.std.specs.Prelude.{◌≡◌, ℕ, ◌+◌, ◌-◌, ◌<◌, ◌≤◌, ℤ, pos, ◌+ℤ◌, List, length, All, Some, None, slice_get}
 use Rattle.std.specs.List.{concat}
 use Rattle.hls_time.specs.Times.{Fits}
+use Rattle.hls_instants.specs.Instants.{whole_milliseconds}
 use Rattle.hls_media_laws.specs.FactLists.{bytes_in, recording_limit}
+use Rattle.hls_check_laws.specs.declared.spot.Spot.{Spot}
 use Rattle.hls_check_laws.specs.Tables.{Table, IsTable, spot_in, place_at}
 use Rattle.hls_check_laws.specs.Plans.{IsPlan}
+use Rattle.hls_core_laws.specs.Config.{IsEpoch}
 use Rattle.hls_m3u8.specs.declared.playlist.Segment.{Segment}
 use Rattle.hls_m3u8.specs.HasText.{IsSegment}
 use Rattle.hls_catchup_laws.specs.Media.{joined_media}
@@ -38,5 +41,17 @@ pub record AreUnits (cut : Cutting) : Type 0 where
 -- each segment fits the target and can be written
 abbrev pub SegmentsAreGood : Type 0
 SegmentsAreGood = (t : Table) (plan : List ℕ) (cut : Cutting) →
-    IsTable t → IsPlan t plan → cut.rendition < t.renditions → AreUnits cut → end_fragment t cut.rendition ≤ length cut.facts →
+    IsTable t → IsPlan t plan → cut.rendition < t.renditions → AreUnits cut → IsEpoch cut.epoch → end_fragment t cut.rendition ≤ length cut.facts →
     All (SegmentFits t.goal.target) (segments_of cut t.places plan) × All (IsSegment cut.uri) (segments_of cut t.places plan)
+
+-- where the moment of time 0 is known, each segment's date is the moment of its start in its rendition, rounded down to
+-- whole milliseconds
+abbrev pub SegmentsAreDated : Type 0
+SegmentsAreDated = (places : List (List Spot)) (plan : List ℕ) (cut : Cutting) (epoch : ℤ) (k p : ℕ) (segment : Segment) →
+    cut.epoch ≡ Some epoch → slice_get plan k ≡ Some p → slice_get (segments_of cut places plan) k ≡ Some segment →
+    segment.date ≡ Some (whole_milliseconds (epoch +ℤ pos (spot_in (place_at places p) cut.rendition).start))
+
+-- where it isn't, none has one
+abbrev pub SegmentsAreUndated : Type 0
+SegmentsAreUndated = (places : List (List Spot)) (plan : List ℕ) (cut : Cutting) →
+    cut.epoch ≡ None → All (λ segment. segment.date ≡ None) (segments_of cut places plan)

@@ -1,6 +1,7 @@
 -- The segments of a plan in one rendition.
-use Rattle.std.specs.Prelude.{ℕ, ◌+◌, ◌-◌, ◌==◌, Bool, false, not, List, [], ◌∷◌, Some}
+use Rattle.std.specs.Prelude.{ℕ, ◌+◌, ◌-◌, ◌==◌, ℤ, pos, ◌+ℤ◌, Bool, false, not, List, [], ◌∷◌, Option, Some, None}
 use Rattle.std.specs.List.{list_any}
+use Rattle.hls_instants.specs.Instants.{whole_milliseconds}
 use Rattle.hls_media_laws.specs.declared.facts.Facts.{Facts}
 use Rattle.hls_check_laws.specs.declared.spot.Spot.{Spot}
 use Rattle.hls_check_laws.specs.Tables.{spot_in, place_at}
@@ -9,13 +10,15 @@ use Rattle.hls_m3u8.specs.declared.playlist.Segment.{Segment}
 use Rattle.hls_catchup_laws.specs.Jobs.{bytes_between}
 
 -- where the segments of one rendition come from: the URI of the resource, the length of the init section at its front,
--- the number of the first unit that follows there, and the facts of all units ever accepted
+-- the number of the first unit that follows there, the facts of all units ever accepted, and the moment of time 0 in
+-- microseconds since 1970-01-01T00:00:00Z, if it is known
 pub record Cutting : Type 0 where
   pub rendition : ℕ
   pub uri : List ℕ
   pub init_length : ℕ
   pub first : ℕ
   pub facts : List Facts
+  pub epoch : Option ℤ
 
 -- the gap count before the spot's fragment isn't the one after its start
 abbrev pub is_gap_at : Spot → Bool
@@ -32,10 +35,16 @@ range_between cut from to = record {
   offset = cut.init_length + bytes_between cut.facts cut.first from.fragment;
 }
 
+-- the moment of a time, rounded down to whole milliseconds; none where that of time 0 isn't known
+abbrev pub date_at : Option ℤ → ℕ → Option ℤ
+date_at None us = None
+date_at (Some epoch) us = Some (whole_milliseconds (epoch +ℤ pos us))
+
 -- the segment of a step from one place to another
 abbrev pub segment_between : Cutting → Bool → List Spot → List Spot → Segment
 segment_between cut mark from to = record {
   mark = mark;
+  date = date_at cut.epoch (spot_in from cut.rendition).start;
   us = (spot_in to cut.rendition).prev_end - (spot_in from cut.rendition).start;
   range = Some (range_between cut (spot_in from cut.rendition) (spot_in to cut.rendition));
   uri = cut.uri;

@@ -21,7 +21,7 @@ use std::test::Fail;
 const SECOND: u64 = 1_000_000;
 
 /// A channel of one rendition, before anything came; none where memory was refused.
-fn opened(alloc: Global) -> Option<Arc<Snapshot>> {
+fn opened(alloc: Global, epoch: Option<i64>) -> Option<Arc<Snapshot>> {
     let rendition = Rendition {
         name: Bytes::copy_from_slice(alloc, b"v1").ok()?,
         video: true,
@@ -30,7 +30,7 @@ fn opened(alloc: Global) -> Option<Arc<Snapshot>> {
     };
     let mut renditions = Vec::new(alloc);
     renditions.push(rendition).ok()?;
-    let config = Config::new(alloc, 6, 4 * SECOND, renditions).ok()?;
+    let config = Config::with_epoch(alloc, 6, 4 * SECOND, renditions, epoch).ok()?;
     Arc::new(alloc, Snapshot::first(alloc, config).ok()?).ok()
 }
 
@@ -70,8 +70,8 @@ fn with_unit(alloc: Global, snapshot: &Snapshot, start: u64) -> Option<Arc<Snaps
 }
 
 /// Units of 4 s one after the other; more may come.
-fn with_units(alloc: Global, count: u32) -> Option<Arc<Snapshot>> {
-    let mut state = begun(alloc, &*opened(alloc)?)?;
+fn with_units(alloc: Global, epoch: Option<i64>, count: u32) -> Option<Arc<Snapshot>> {
+    let mut state = begun(alloc, &*opened(alloc, epoch)?)?;
     for number in 0..count {
         state = with_unit(alloc, &state, u64::from(number) * 360000)?;
     }
@@ -80,7 +80,12 @@ fn with_units(alloc: Global, count: u32) -> Option<Arc<Snapshot>> {
 
 /// What a job for the first seconds of the channel comes to.
 fn run(alloc: Global, stop_us: u64) -> Result<Job, Fail> {
-    let Some(snapshot) = with_units(alloc, 2) else {
+    run_from(alloc, None, stop_us)
+}
+
+/// The same with this moment of time 0.
+fn run_from(alloc: Global, epoch: Option<i64>, stop_us: u64) -> Result<Job, Fail> {
+    let Some(snapshot) = with_units(alloc, epoch, 2) else {
         return Err(Fail::from("no channel"));
     };
     let asked = Request {
@@ -109,6 +114,20 @@ fn line(alloc: Global, job: &Job) -> Result<String, Fail> {
 const PLAYLIST: &str =
     "#EXTM3U\n#EXT-X-VERSION:6\n#EXT-X-TARGETDURATION:6\n#EXT-X-MEDIA-SEQUENCE:0\n#EXT-X-DISCONTINUITY-SEQUENCE:0\n#EXT-X-PLAYLIST-TYPE:VOD\n#EXT-X-MAP:URI=\"0.mp4\",BYTERANGE=\"600@0\"\n#EXTINF:4.000000,\n#EXT-X-BYTERANGE:1000@600\n0.mp4\n#EXT-X-ENDLIST\n";
 
+const DATED: &str = "#EXTM3U
+#EXT-X-VERSION:6
+#EXT-X-TARGETDURATION:6
+#EXT-X-MEDIA-SEQUENCE:0
+#EXT-X-DISCONTINUITY-SEQUENCE:0
+#EXT-X-PLAYLIST-TYPE:VOD
+#EXT-X-MAP:URI=\"0.mp4\",BYTERANGE=\"600@0\"
+#EXT-X-PROGRAM-DATE-TIME:2024-01-01T00:00:00.000Z
+#EXTINF:4.000000,
+#EXT-X-BYTERANGE:1000@600
+0.mp4
+#EXT-X-ENDLIST
+";
+
 const MASTER: &[u8] = b"#EXTM3U\n#EXT-X-VERSION:6\n#EXT-X-STREAM-INF:BANDWIDTH=3000000\n0.m3u8\n";
 
 #[test]
@@ -129,6 +148,20 @@ fn a_cut_has_its_files(rt: HostRuntime) -> Result<(), Fail> {
     };
     assert_eq!(rt; master.as_slice(), MASTER);
     assert!(rt; certificate_text(alloc, reply)?.starts_with(b"HLS-CUT-CERTIFICATE 1\ntarget 6\n"));
+    Ok(())
+}
+
+#[test]
+fn a_cut_from_an_epoch_has_dates(rt: HostRuntime) -> Result<(), Fail> {
+    let alloc = rt.alloc();
+    let job = run_from(alloc, Some(1_704_067_200_000_000), 4 * SECOND)?;
+    let Ok(reply) = reply_in(&job) else {
+        return Err(Fail::from("no files"));
+    };
+    let Some(playlist) = playlist_text(alloc, reply, 0)? else {
+        return Err(Fail::from("no playlist"));
+    };
+    assert_eq!(rt; playlist.as_slice(), DATED.as_bytes());
     Ok(())
 }
 

@@ -1,5 +1,5 @@
 -- A live list of a state and one of a state that follows.
-use Rattle.std.proofs.Common.{◌≡◌, ℕ, ◌+◌, ◌-◌, ◌<◌, ◌≤◌, true, List, [], ◌∷◌, ◌++◌, length, map, take, drop, Option, Some, arith, refl, sym, ap, subst, inl, inr, ◌∙◌, All, length-append, length-drop}
+use Rattle.std.proofs.Common.{◌≡◌, ℕ, ◌+◌, ◌-◌, ◌<◌, ◌≤◌, ℤ, true, List, [], ◌∷◌, ◌++◌, length, map, take, drop, Option, Some, arith, refl, sym, ap, subst, inl, inr, ◌∙◌, All, length-append, length-drop}
 use Rattle.std.specs.Prelude.{slice_get}
 use Rattle.std.specs.List.{count_by}
 use Rattle.std.proofs.lemmas.Bool.{cases_lt, lt-ltb, cond-true}
@@ -56,9 +56,10 @@ removed-rises a b follows =
     omega (arith, rises-from (channel a) c.rest, ap (λ (ch : Channel). ch.removed) (rest_channel a b c))
 
 -- a rendition that has begun, with more units
-pub cut-on : (r : ℕ) (l m : Lane) (more : List Facts) → m.size ≡ l.size → m.facts ≡ l.facts ++ more → IsCutOn (live_cutting r l) (live_cutting r m)
-cut-on r l m more size facts =
-    record { rendition = refl; uri = refl; init_length = size; begun = refl; first = refl; more = more; facts = facts }
+pub cut-on : (early late : Option ℤ) (r : ℕ) (l m : Lane) (more : List Facts) → late ≡ early → m.size ≡ l.size → m.facts ≡ l.facts ++ more →
+    IsCutOn (live_cutting early r l) (live_cutting late r m)
+cut-on early late r l m more epoch size facts =
+    record { rendition = refl; uri = refl; init_length = size; begun = refl; first = refl; more = more; facts = facts; epoch = epoch }
 
 pub stands-among : (s : State) → IsState s → (r : ℕ) (l : Lane) → slice_get (channel s).lanes r ≡ Some l → All (StandsAmong r l.facts) (closed s)
 stands-among s state r l at k d h =
@@ -112,16 +113,16 @@ whole-stays a b state follows over =
 
 -- the list of the same rendition in the state that follows
 later-over : (a b : State) (r : ℕ) (l m : Lane) → IsState a → Follows a b → slice_get (channel a).lanes r ≡ Some l → slice_get (channel b).lanes r ≡ Some m →
-    m.size ≡ l.size → (more : List Facts) → m.facts ≡ l.facts ++ more → IsLater (list_over r l (line a)) (list_over r m (line b))
+    m.size ≡ l.size → (more : List Facts) → m.facts ≡ l.facts ++ more → IsLater (list_over a.config.epoch r l (line a)) (list_over b.config.epoch r m (line b))
 later-over a b r l m state follows at there size more facts =
     let state_b : IsState b = state_of a b follows state in
     let config : b.config ≡ a.config = (continues_of a b follows).config in
     let on = closed-follow a b follows in
-    let now : Cutting = live_cutting r m in
-    let was : Cutting = live_cutting r l in
+    let now : Cutting = live_cutting b.config.epoch r m in
+    let was : Cutting = live_cutting a.config.epoch r l in
     let came : List Segment = map (listed now) on.came in
     let kept_stays : map (listed now) (segments_of (line a)) ≡ map (listed was) (segments_of (line a)) =
-    all-stay was now (segments_of (line a)) (cut-on r l m more size facts)
+    all-stay was now (segments_of (line a)) (cut-on a.config.epoch b.config.epoch r l m more (ap (λ (c : ConfigData). c.epoch) config) size facts)
     (All-drop (StandsAmong r l.facts) (channel a).removed (closed a) (stands-among a state r l at)) in
     let count : length (map (listed now) (gone a b)) ≡ (channel b).removed - (channel a).removed =
     length-map (gone a b) (listed now) ∙ gone-count a b state_b follows in
@@ -178,9 +179,9 @@ live-lists-follow a b r earlier state follows is =
     let begun = has-begun a state r on.lane on.at on.some in
     let grown = lane_grown a b state_b (continues_of a b follows) r on.lane on.at in
     let m : Lane = grown.lane in
-    let later : IsLater (list_over r on.lane (line a)) (list_over r m (line b)) =
+    let later : IsLater (list_over a.config.epoch r on.lane (line a)) (list_over b.config.epoch r m (line b)) =
     later-over a b r on.lane m state follows on.at grown.at (grown.grows.init begun.init begun.is).1 grown.grows.more grown.grows.facts in
-    let there : live_list_of b r ≡ Some (list_over r m (line b)) =
-    ap (λ (o : Option Lane). list_in r o (line b)) grown.at
+    let there : live_list_of b r ≡ Some (list_over b.config.epoch r m (line b)) =
+    ap (λ (o : Option Lane). list_in b.config.epoch r o (line b)) grown.at
     ∙ cond-true (has_closed (line b)) _ _ (closed-later a b state_b follows on.some) in
-    (list_over r m (line b), there, subst (λ (x : Playlist). IsLater x (list_over r m (line b))) on.is later)
+    (list_over b.config.epoch r m (line b), there, subst (λ (x : Playlist). IsLater x (list_over b.config.epoch r m (line b))) on.is later)

@@ -38,6 +38,7 @@ pub record IsCutOn (early late : Cutting) : Type 0 where
   pub first : late.first ≡ 0
   pub more : List Facts
   pub facts : late.facts ≡ early.facts ++ more
+  pub epoch : late.epoch ≡ early.epoch
 
 pub listed-stays : (early late : Cutting) (x : live_line.Segment) → IsCutOn early late → StandsAmong early.rendition early.facts x →
     listed late x ≡ listed early x
@@ -48,10 +49,10 @@ listed-stays early late x on stands =
     bytes-stay early.facts on.more from to stands.from stands.to in
     let offsets : bytes_between (early.facts ++ on.more) 0 from ≡ bytes_between early.facts 0 from =
     bytes-stay early.facts on.more 0 from (omega arith) stands.from in
-    let now : Cutting = record { rendition = early.rendition; uri = early.uri; init_length = early.init_length; first = 0; facts = early.facts ++ on.more } in
-    let was : Cutting = record { rendition = early.rendition; uri = early.uri; init_length = early.init_length; first = 0; facts = early.facts } in
-    let late_is : late ≡ now = λ k. record { rendition = on.rendition k; uri = on.uri k; init_length = on.init_length k; first = on.first k; facts = on.facts k } in
-    let early_is : was ≡ early = λ k. record { rendition = early.rendition; uri = early.uri; init_length = early.init_length; first = sym on.begun k; facts = early.facts } in
+    let now : Cutting = record { rendition = early.rendition; uri = early.uri; init_length = early.init_length; first = 0; facts = early.facts ++ on.more; epoch = early.epoch } in
+    let was : Cutting = record { rendition = early.rendition; uri = early.uri; init_length = early.init_length; first = 0; facts = early.facts; epoch = early.epoch } in
+    let late_is : late ≡ now = λ k. record { rendition = on.rendition k; uri = on.uri k; init_length = on.init_length k; first = on.first k; facts = on.facts k; epoch = on.epoch k } in
+    let early_is : was ≡ early = λ k. record { rendition = early.rendition; uri = early.uri; init_length = early.init_length; first = sym on.begun k; facts = early.facts; epoch = early.epoch } in
     let same : listed now x ≡ listed was x = rw (lengths, offsets) refl in
     ap (λ (c : Cutting). listed c x) late_is ∙ (same ∙ ap (λ (c : Cutting). listed c x) early_is)
 

@@ -23,6 +23,7 @@ use Rattle.hls_core_laws.specs.Line.{aim_of, line}
 use Rattle.hls_core_laws.proofs.Lists.{at_below, at_drop, at_some, mapped_at}
 use Rattle.hls_core_laws.proofs.Lanes.{IsOf, lanes_count, sources_count, source_of}
 use Rattle.hls_core_laws.proofs.Sources.{states_are_timed}
+use Rattle.hls_catchup_laws.specs.Segments.{Cutting}
 use Rattle.hls_live_lists_laws.specs.Lists.{live_uri, live_cutting, listed, list_over, live_list_of}
 use Rattle.hls_live_lists_laws.specs.Origins.{LaneBegins, AreFedAlike, Agree}
 use Rattle.hls_live_lists_laws.proofs.Told.{closed, removed-few}
@@ -90,29 +91,35 @@ stands-at s state r l n x at there =
     subst (StandsAmong r l.facts) (get_or_from_slice_get (closed s) n x x there)
     (stands-among s state r l at n x (at_below (closed s) n x there))
 
-listed-alike : (a b : State) → IsState a → IsState b → (r : ℕ) (l m : Lane) (i j : ℕ) (x : live_line.Segment) →
+listed-alike : (a b : State) → IsState a → IsState b → b.config.epoch ≡ a.config.epoch → (r : ℕ) (l m : Lane) (i j : ℕ) (x : live_line.Segment) →
     slice_get (channel a).lanes r ≡ Some l → slice_get (channel b).lanes r ≡ Some m → LaneBegins l m ⊎ LaneBegins m l →
-    slice_get (closed a) i ≡ Some x → slice_get (closed b) j ≡ Some x → listed (live_cutting r l) x ≡ listed (live_cutting r m) x
-listed-alike a b state_a state_b r l m i j x at also either here there = elim either [
-  | inl left ↦
-      sym (listed-stays (live_cutting r l) (live_cutting r m) x (cut-on r l m left.more left.size left.facts) (stands-at a state_a r l i x at here))
-  | inr right ↦
-      listed-stays (live_cutting r m) (live_cutting r l) x (cut-on r m l right.more right.size right.facts) (stands-at b state_b r m j x also there)
-]
+    slice_get (closed a) i ≡ Some x → slice_get (closed b) j ≡ Some x →
+    listed (live_cutting a.config.epoch r l) x ≡ listed (live_cutting b.config.epoch r m) x
+listed-alike a b state_a state_b epoch r l m i j x at also either here there =
+    let in_a : Lane → Cutting = live_cutting a.config.epoch r in
+    let in_b : Lane → Cutting = live_cutting b.config.epoch r in
+    elim either [
+      | inl left ↦
+          sym (listed-stays (in_a l) (in_b m) x (cut-on a.config.epoch b.config.epoch r l m left.more epoch left.size left.facts)
+          (stands-at a state_a r l i x at here))
+      | inr right ↦
+          listed-stays (in_b m) (in_a l) x (cut-on b.config.epoch a.config.epoch r m l right.more (sym epoch) right.size right.facts)
+          (stands-at b state_b r m j x also there)
+    ]
 
 sizes-same : (l m : Lane) → LaneBegins l m ⊎ LaneBegins m l → m.size ≡ l.size
 sizes-same l m (inl left) = left.size
 sizes-same l m (inr right) = sym right.size
 
 -- the segment of a list's number k
-listed-at : (s : State) (r : ℕ) (l : Lane) (k : ℕ) (x : Segment) → slice_get (list_over r l (line s)).segments k ≡ Some x →
-    (y : live_line.Segment) × (slice_get (closed s) ((channel s).removed + k) ≡ Some y) × (listed (live_cutting r l) y ≡ x)
+listed-at : (s : State) (r : ℕ) (l : Lane) (k : ℕ) (x : Segment) → slice_get (list_over s.config.epoch r l (line s)).segments k ≡ Some x →
+    (y : live_line.Segment) × (slice_get (closed s) ((channel s).removed + k) ≡ Some y) × (listed (live_cutting s.config.epoch r l) y ≡ x)
 listed-at s r l k x at =
-    let made = mapped_at (listed (live_cutting r l)) (drop (channel s).removed (closed s)) k x at in
+    let made = mapped_at (listed (live_cutting s.config.epoch r l)) (drop (channel s).removed (closed s)) k x at in
     (made.0, sym (at_drop (closed s) (channel s).removed k) ∙ made.1, made.2)
 
 agree-over : (a b : State) (r : ℕ) (l m : Lane) → IsState a → IsState b → AreFedAlike a b → slice_get (channel a).lanes r ≡ Some l →
-    slice_get (channel b).lanes r ≡ Some m → Agree (list_over r l (line a)) (list_over r m (line b))
+    slice_get (channel b).lanes r ≡ Some m → Agree (list_over a.config.epoch r l (line a)) (list_over b.config.epoch r m (line b))
 agree-over a b r l m state_a state_b fed at also =
     let either = fed.each r l m at also in
     let alike = are-alike a b fed in
@@ -130,8 +137,8 @@ agree-over a b r l m state_a state_b fed at also =
           (closed-at a a.config ((channel a).removed + j) u.0 refl u.1)
           (closed-at b a.config ((channel a).removed + j) v.0 fed.config there) in
           let here : slice_get (closed a) ((channel a).removed + j) ≡ Some v.0 = u.1 ∙ ap (λ (z : live_line.Segment). Some z) same in
-          sym u.2 ∙ (ap (listed (live_cutting r l)) same
-          ∙ (listed-alike a b state_a state_b r l m ((channel a).removed + j) ((channel a).removed + j) v.0 at also either here there ∙ v.2));
+          sym u.2 ∙ (ap (listed (live_cutting a.config.epoch r l)) same
+          ∙ (listed-alike a b state_a state_b (ap (λ (c : ConfigData). c.epoch) fed.config) r l m ((channel a).removed + j) ((channel a).removed + j) v.0 at also either here there ∙ v.2));
       marks = λ number.
           let few_a : (channel a).removed ≤ length (line_of (aim_of a.config) (places a)).segments =
           omega (arith, removed-few a state_a, ap length (closed-is a)) in
@@ -150,4 +157,4 @@ live-lists-agree a b r p q state_a state_b fed p-is q-is =
     let x = is-listed a state_a r p p-is in
     let y = is-listed b state_b r q q-is in
     subst (λ (z : Playlist). Agree z q) x.is
-    (subst (λ (z : Playlist). Agree (list_over r x.lane (line a)) z) y.is (agree-over a b r x.lane y.lane state_a state_b fed x.at y.at))
+    (subst (λ (z : Playlist). Agree (list_over a.config.epoch r x.lane (line a)) z) y.is (agree-over a b r x.lane y.lane state_a state_b fed x.at y.at))

@@ -23,7 +23,10 @@ use Rattle.hls_m3u8.specs.Uri.{is_uri_text, IsUri}
 use Rattle.hls_m3u8.specs.HasText.{HasText, IsSegment}
 use Rattle.hls_m3u8.proofs.Building.{ascii_uri, live_has_text}
 use Rattle.hls_catchup_laws.specs.Jobs.{bytes_between}
+use Rattle.hls_catchup_laws.specs.Segments.{Cutting}
+use Rattle.hls_catchup_laws.proofs.Dates.{spots_small, date_good}
 use Rattle.hls_catchup_laws.proofs.Good.{some_bytes, few_bytes}
+use Rattle.hls_core_laws.specs.Config.{IsConfig}
 use Rattle.hls_core_laws.specs.Channel.{Lane, lane_len}
 use Rattle.hls_core_laws.specs.State.{State, channel}
 use Rattle.hls_core_laws.specs.IsState.{IsState}
@@ -73,21 +76,21 @@ pub record IsListed (s : State) (r : ℕ) (list : Playlist) : Type 0 where
   pub lane : Lane
   pub at : slice_get (channel s).lanes r ≡ Some lane
   pub some : 0 < length (closed s)
-  pub is : list_over r lane (line s) ≡ list
+  pub is : list_over s.config.epoch r lane (line s) ≡ list
 
 pub closed-some : (s : State) → IsState s → has_closed (line s) ≡ true → 0 < length (closed s)
 closed-some s state is =
     let any = ltb-true 0 ((channel s).removed + length (segments_of (line s))) is in
     omega (arith, any, removed-few s state, length-drop (channel s).removed (closed s))
 
-found-in : (s : State) → IsState s → (r : ℕ) (o : Option Lane) (list : Playlist) → slice_get (channel s).lanes r ≡ o → list_in r o (line s) ≡ Some list →
-    IsListed s r list
+found-in : (s : State) → IsState s → (r : ℕ) (o : Option Lane) (list : Playlist) → slice_get (channel s).lanes r ≡ o →
+    list_in s.config.epoch r o (line s) ≡ Some list → IsListed s r list
 found-in s state r None list at is = absurd (cc)
 found-in s state r (Some l) list at is =
     elim (cases_Bool (has_closed (line s))) [
       | inl any ↦
-          let some : Some (list_over r l (line s)) ≡ Some list = sym (cond-true (has_closed (line s)) _ _ any) ∙ is in
-          record { lane = l; at = at; some = closed-some s state any; is = let same : list_over r l (line s) ≡ list = cc in same }
+          let some : Some (list_over s.config.epoch r l (line s)) ≡ Some list = sym (cond-true (has_closed (line s)) _ _ any) ∙ is in
+          record { lane = l; at = at; some = closed-some s state any; is = let same : list_over s.config.epoch r l (line s) ≡ list = cc in same }
       | inr none ↦
           let never : None ≡ Some list = sym (cond-false (has_closed (line s)) _ _ none) ∙ is in
           absurd (cc)
@@ -96,11 +99,12 @@ found-in s state r (Some l) list at is =
 pub is-listed : (s : State) → IsState s → (r : ℕ) (list : Playlist) → live_list_of s r ≡ Some list → IsListed s r list
 is-listed s state r list is = found-in s state r (slice_get (channel s).lanes r) list refl is
 
--- each closed segment holds a unit of each rendition, and its ends stand among the units
+-- each closed segment holds a unit of each rendition, its ends stand among the units, and its start's time is small
 pub record IsAmong (aim : ℕ) (r : ℕ) (l : Lane) (x : live_line.Segment) : Type 0 where
   pub rises : (spot_in x.from.spots r).fragment < (spot_in x.to.spots r).fragment
   pub within : (spot_in x.to.spots r).fragment ≤ length l.facts
   pub fits : (spot_in x.to.spots r).prev_end - (spot_in x.from.spots r).start ≤ aim * 1000000 + 499999
+  pub small : (spot_in x.from.spots r).start < 2 ^ 53
 
 pub closed-among : (s : State) → IsState s → (r : ℕ) (l : Lane) → slice_get (channel s).lanes r ≡ Some l → All (IsAmong s.config.target r l) (closed s)
 closed-among s state r l at k d h =
@@ -113,6 +117,7 @@ closed-among s state r l at k d h =
       rises = here.later;
       within = omega (arith, reached.to.within r below, ap length (source_of s r l at).facts);
       fits = here.fits;
+      small = spots_small x.from.spots r reached.from.small;
     }
 
 -- so it has begun
@@ -149,15 +154,29 @@ has-begun s state r l at any =
     begun-at s state r l l.init at refl (omega (arith, one.rises, one.within))
 
 -- a listed segment can be written
-good-segment : (s : State) (r : ℕ) (l : Lane) (x : live_line.Segment) → s.config.target ≤ 3600 → HasBegun s r l → lane_len l ≤ 2 ^ 40 →
-    IsAmong s.config.target r l x → IsSegment (live_uri r) (listed (live_cutting r l) x)
-good-segment s r l x target begun total among =
+good-segment : (s : State) (r : ℕ) (l : Lane) (x : live_line.Segment) → IsConfig s.config → HasBegun s r l → lane_len l ≤ 2 ^ 40 →
+    IsAmong s.config.target r l x → IsSegment (live_uri r) (listed (live_cutting s.config.epoch r l) x)
+good-segment s r l x config begun total among =
     let from : ℕ = (spot_in x.from.spots r).fragment in
     let to : ℕ = (spot_in x.to.spots r).fragment in
     let some : 0 < bytes_between l.facts from to = some_bytes l.facts from to begun.each among.rises among.within in
     let few : bytes_between l.facts from to ≤ bytes_in l.facts = few_bytes l.facts from to in
     let before : bytes_between l.facts 0 from ≤ bytes_in l.facts = few_bytes l.facts 0 from in
-    record { length = omega (arith, among.fits, target); range = (some, omega (arith, few, total), omega (arith, before, total)); uri_is = refl }
+    record {
+      date = date_good s.config.epoch (spot_in x.from.spots r).start config.epoch among.small;
+      length = omega (arith, among.fits, config.target.1);
+      range = (some, omega (arith, few, total), omega (arith, before, total));
+      uri_is = refl;
+    }
+
+-- the starts of the kept segments are small in every rendition
+pub starts-small : (s : State) → IsState s → (r : ℕ) → All (λ x. (spot_in x.from.spots r).start < 2 ^ 53) (segments_of (line s))
+starts-small s state r =
+    let SmallAt : live_line.Segment → Type 0 = λ x. (spot_in x.from.spots r).start < 2 ^ 53 in
+    All-drop SmallAt (channel s).removed (closed s)
+    (λ k d h.
+    let x : live_line.Segment = get_or (closed s) k d in
+    spots_small x.from.spots r ((closed-reached s state).segments k d h).from.small)
 
 pub live-lists-have-texts : (s : State) (r : ℕ) (list : Playlist) → IsState s → live_list_of s r ≡ Some list → HasText list
 live-lists-have-texts s r list state is =
@@ -175,12 +194,13 @@ live-lists-have-texts s r list state is =
       length-take-le (channel s).removed (closed s) (removed-few s state),
     ) in
     let few : r < 16 = omega (arith, at_below (channel s).lanes r l on.at, lanes_count s.config s.log, state.configured.renditions.few) in
-    let good : All (λ x. IsSegment (live_uri r) (listed (live_cutting r l) x)) (closed s) =
-    λ k d h. good-segment s r l (get_or (closed s) k d) target begun total (among k d h) in
-    let segments : All (IsSegment (live_uri r)) (map (listed (live_cutting r l)) (segments_of (line s))) =
-    All-map (IsSegment (live_uri r)) (listed (live_cutting r l)) (segments_of (line s))
-    (All-drop (λ x. IsSegment (live_uri r) (listed (live_cutting r l) x)) (channel s).removed (closed s) good) in
+    let cut : Cutting = live_cutting s.config.epoch r l in
+    let good : All (λ x. IsSegment (live_uri r) (listed cut x)) (closed s) =
+    λ k d h. good-segment s r l (get_or (closed s) k d) state.configured begun total (among k d h) in
+    let segments : All (IsSegment (live_uri r)) (map (listed cut) (segments_of (line s))) =
+    All-map (IsSegment (live_uri r)) (listed cut) (segments_of (line s))
+    (All-drop (λ x. IsSegment (live_uri r) (listed cut x)) (channel s).removed (closed s) good) in
     subst HasText on.is
     (live_has_text s.config.target (channel s).removed (marks_in (channel s).removed (closed s)) (live_uri r) l.size
-    (map (listed (live_cutting r l)) (segments_of (line s))) (ends (line s))
+    (map (listed cut) (segments_of (line s))) (ends (line s))
     (omega (arith, target)) (omega (arith, removed)) (omega (arith, removed, marks)) (uri-good r few) begun.some (omega (arith, begun.few)) segments)

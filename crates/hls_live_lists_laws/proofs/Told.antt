@@ -4,7 +4,7 @@ use Rattle.std.specs.List.{filter_map, list_all, cons_option}
 use Rattle.std.specs.Prelude.{option_map}
 use Rattle.std.proofs.lemmas.Bool.{cases_Bool, cond-true, cond-false}
 use Rattle.hls_media_laws.specs.declared.facts.Facts.{Facts}
-use Rattle.hls_check_laws.specs.Tables.{spot_in}
+use Rattle.hls_check_laws.specs.Tables.{IsSpotInRange, spot_in}
 use Rattle.hls_places_laws.specs.declared.place.Place.{Place}
 use Rattle.hls_places_laws.specs.Sources.{Source, source_at, first_facts, no_facts}
 use Rattle.hls_places_laws.specs.Places.{spots, place_of, common_at, has_ended as is_over, closing_of, places_of}
@@ -34,10 +34,11 @@ use Rattle.hls_core_laws.proofs.Lanes.{lanes_count, source_of}
 use Rattle.hls_core_laws.proofs.Theorems.{units_are_logged}
 use Rattle.hls_live_lists_laws.proofs.Reached.{AreReached, line-reached}
 
--- a common place stands among the units of each rendition; the closing one comes once all are over
+-- a common place stands among the units of each rendition, at small times; the closing one comes once all are over
 pub record IsTold (s : State) (p : Place) : Type 0 where
   pub within : (r : ℕ) → r < length (sources s) → (spot_in p.spots r).fragment ≤ length (source_at (sources s) r).facts
   pub count : length p.spots ≡ length (sources s)
+  pub small : All IsSpotInRange p.spots
   pub over : p.closing ≡ true → list_all is_over (sources s) ≡ true
 
 mapped-open : (o : Option (List _)) (p : Place) → option_map place_of o ≡ Some p → p.closing ≡ false
@@ -87,6 +88,7 @@ places-told s state k d h =
     record {
       within = (places-within (sources s) k d h).each;
       count = (ordered.each k d h).place.count;
+      small = (ordered.each k d h).place.spots;
       over = ends-over (sources s) k d h;
     }
 

@@ -2,5 +2,4 @@ pub mod Walked
 pub mod Good
 pub mod Whole
 pub mod Singles
-pub mod Made
 pub mod ListTexts

@@ -1,5 +1,5 @@
 -- The playlist with one segment from each place to the next.
-use Rattle.std.specs.Prelude.{ℕ, ◌+◌, ◌<◌, ◌≤◌, List, length, Result, Ok, Err}
+use Rattle.std.specs.Prelude.{ℕ, ◌+◌, ◌<◌, ◌≤◌, ℤ, Option, List, length, Result, Ok, Err}
 use Rattle.std.specs.List.{range_with_len}
 use Rattle.hls_record.specs.Recorded.{Recorded}
 use Rattle.hls_check_laws.specs.declared.spot.Spot.{Spot}
@@ -16,9 +16,9 @@ use Rattle.hls_origin_listing.specs.declared.fault.ListFault.{ListFault}
 use Rattle.hls_origin_listing.specs.declared.fault.ListFault.TheVariants.{NoPlace, ProgrammeTooLong, NotAllowed, Memory}
 
 -- the list of VOD with a plan's steps as segments, in a resource that is the recording's init section and then all units
-abbrev pub list_by : ℕ → Recorded → List ℕ → List (List Spot) → List ℕ → Playlist
-list_by target recorded uri places plan =
-    vod_list target uri (length recorded.head) (segments_of (cutting recorded 0 uri 0) places plan)
+abbrev pub list_by : ℕ → Option ℤ → Recorded → List ℕ → List (List Spot) → List ℕ → Playlist
+list_by target epoch recorded uri places plan =
+    vod_list target uri (length recorded.head) (segments_of (cutting epoch recorded 0 uri 0) places plan)
 
 -- the plan that leaves no place out
 abbrev pub each_place : List (List Spot) → List ℕ
@@ -39,11 +39,11 @@ pub record IsFirstRefused (target : ℕ) (places : List (List Spot)) (i : ℕ) :
   pub before : (k : ℕ) → k < i → ReachesNext target places k
 
 -- the list's text, where each place reaches the next; want of memory may come in its place alone
-abbrev pub ListsEach : ℕ → Recorded → List (List Spot) → List ℕ → Result Listed ListFault → Type 0
-ListsEach target recorded places uri (Ok (Text text)) =
-    (2 ≤ length places) × AllReach target places × IsWritten (list_by target recorded uri places (each_place places)) text.items
-ListsEach target recorded places uri (Ok (NoCut text)) = ⊥
-ListsEach target recorded places uri (Err NoPlace) = length places < 2
-ListsEach target recorded places uri (Err ProgrammeTooLong) = ⊥
-ListsEach target recorded places uri (Err (NotAllowed place)) = IsFirstRefused target places place
-ListsEach target recorded places uri (Err Memory) = (2 ≤ length places) × AllReach target places
+abbrev pub ListsEach : ℕ → Option ℤ → Recorded → List (List Spot) → List ℕ → Result Listed ListFault → Type 0
+ListsEach target epoch recorded places uri (Ok (Text text)) =
+    (2 ≤ length places) × AllReach target places × IsWritten (list_by target epoch recorded uri places (each_place places)) text.items
+ListsEach target epoch recorded places uri (Ok (NoCut text)) = ⊥
+ListsEach target epoch recorded places uri (Err NoPlace) = length places < 2
+ListsEach target epoch recorded places uri (Err ProgrammeTooLong) = ⊥
+ListsEach target epoch recorded places uri (Err (NotAllowed place)) = IsFirstRefused target places place
+ListsEach target epoch recorded places uri (Err Memory) = (2 ≤ length places) × AllReach target places

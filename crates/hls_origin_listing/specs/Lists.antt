@@ -28,11 +28,11 @@ abbrev pub CanList : Listing → Type 0
 CanList Each = Unit {0}
 CanList (Planned rule certificate) = charge_of rule ≤ charge_limit
 
--- what is listed of a recording with the state's target, preferred length and places
+-- what is listed of a recording with the state's target, preferred length, epoch and places
 abbrev pub ListsOf : State → Recorded → List ℕ → Listing → Result Listed ListFault → Type 0
-ListsOf s recorded uri Each result = ListsEach s.config.target recorded (all_places s) uri result
+ListsOf s recorded uri Each result = ListsEach s.config.target s.config.epoch recorded (all_places s) uri result
 ListsOf s recorded uri (Planned rule certificate) result =
-    ListsPlanned certificate (table_of (goal_of s.config.target s.config.preferred rule) 1 (all_places s)) recorded uri result
+    ListsPlanned certificate (table_of (goal_of s.config.target s.config.preferred rule) 1 (all_places s)) s.config.epoch recorded uri result
 
 -- what is listed of the state's one recording
 abbrev pub Lists : State → List ℕ → Listing → Result Listed ListFault → Type 0

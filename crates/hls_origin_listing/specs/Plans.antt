@@ -1,5 +1,5 @@
 -- What is listed by a least plan of all places.
-use Rattle.std.specs.Prelude.{◌≡◌, ℕ, ◌<◌, ◌≤◌, Bool, true, false, List, [], length, Option, Result, Ok, Err}
+use Rattle.std.specs.Prelude.{◌≡◌, ℕ, ◌<◌, ◌≤◌, ℤ, Bool, true, false, List, [], length, Option, Result, Ok, Err}
 use Rattle.hls_record.specs.Recorded.{Recorded}
 use Rattle.hls_check_laws.specs.Tables.{Table, place_limit}
 use Rattle.hls_check_laws.specs.Plans.{IsLeast, HasNoPlan}
@@ -19,10 +19,10 @@ pub record IsGoodText (t : Table) (shown : Shown) (bytes : List ℕ) : Type 0 wh
   pub is : bytes ≡ text (record { table = t; shown = shown })
 
 -- the playlist by a least plan
-pub record IsLeastPlaylist (t : Table) (recorded : Recorded) (uri : List ℕ) (bytes : List ℕ) : Type 0 where
+pub record IsLeastPlaylist (t : Table) (epoch : Option ℤ) (recorded : Recorded) (uri : List ℕ) (bytes : List ℕ) : Type 0 where
   pub plan : List ℕ
   pub least : IsLeast t plan
-  pub written : IsWritten (list_by t.goal.target recorded uri t.places plan) bytes
+  pub written : IsWritten (list_by t.goal.target epoch recorded uri t.places plan) bytes
 
 -- the certificate of a least plan, with its cost and prices
 pub record IsLeastCertificate (t : Table) (bytes : List ℕ) : Type 0 where
@@ -38,9 +38,9 @@ pub record IsNoCertificate (t : Table) (bytes : List ℕ) : Type 0 where
   pub text : IsGoodText t (NoneShown closed) bytes
 
 -- what is listed by a least plan: its certificate where that was asked for, else its playlist
-abbrev pub IsLeastText : Bool → Table → Recorded → List ℕ → List ℕ → Type 0
-IsLeastText true t recorded uri bytes = IsLeastCertificate t bytes
-IsLeastText false t recorded uri bytes = IsLeastPlaylist t recorded uri bytes
+abbrev pub IsLeastText : Bool → Table → Option ℤ → Recorded → List ℕ → List ℕ → Type 0
+IsLeastText true t epoch recorded uri bytes = IsLeastCertificate t bytes
+IsLeastText false t epoch recorded uri bytes = IsLeastPlaylist t epoch recorded uri bytes
 
 -- what is listed where there is no plan: the certificate of that, else no byte
 abbrev pub IsNoneText : Bool → Table → List ℕ → Type 0
@@ -48,9 +48,9 @@ IsNoneText true t bytes = IsNoCertificate t bytes
 IsNoneText false t bytes = bytes ≡ []
 
 -- a least plan's playlist, or no byte
-abbrev pub IsPlayed : Table → Recorded → List ℕ → Listed → Type 0
-IsPlayed t recorded uri (Text bytes) = IsLeastPlaylist t recorded uri bytes.items
-IsPlayed t recorded uri (NoCut bytes) = HasNoPlan t × (bytes.items ≡ [])
+abbrev pub IsPlayed : Table → Option ℤ → Recorded → List ℕ → Listed → Type 0
+IsPlayed t epoch recorded uri (Text bytes) = IsLeastPlaylist t epoch recorded uri bytes.items
+IsPlayed t epoch recorded uri (NoCut bytes) = HasNoPlan t × (bytes.items ≡ [])
 
 -- a certificate
 abbrev pub IsCertified : Table → Listed → Type 0
@@ -62,10 +62,10 @@ abbrev pub HasTable : Table → Type 0
 HasTable t = (2 ≤ length t.places) × (length t.places ≤ place_limit)
 
 -- what is listed of a table of all places; want of memory may come in place of a text alone
-abbrev pub ListsPlanned : Bool → Table → Recorded → List ℕ → Result Listed ListFault → Type 0
-ListsPlanned certificate t recorded uri (Ok (Text bytes)) = HasTable t × IsLeastText certificate t recorded uri bytes.items
-ListsPlanned certificate t recorded uri (Ok (NoCut bytes)) = HasTable t × HasNoPlan t × IsNoneText certificate t bytes.items
-ListsPlanned certificate t recorded uri (Err NoPlace) = length t.places < 2
-ListsPlanned certificate t recorded uri (Err ProgrammeTooLong) = place_limit < length t.places
-ListsPlanned certificate t recorded uri (Err (NotAllowed place)) = ⊥
-ListsPlanned certificate t recorded uri (Err Memory) = HasTable t
+abbrev pub ListsPlanned : Bool → Table → Option ℤ → Recorded → List ℕ → Result Listed ListFault → Type 0
+ListsPlanned certificate t epoch recorded uri (Ok (Text bytes)) = HasTable t × IsLeastText certificate t epoch recorded uri bytes.items
+ListsPlanned certificate t epoch recorded uri (Ok (NoCut bytes)) = HasTable t × HasNoPlan t × IsNoneText certificate t bytes.items
+ListsPlanned certificate t epoch recorded uri (Err NoPlace) = length t.places < 2
+ListsPlanned certificate t epoch recorded uri (Err ProgrammeTooLong) = place_limit < length t.places
+ListsPlanned certificate t epoch recorded uri (Err (NotAllowed place)) = ⊥
+ListsPlanned certificate t epoch recorded uri (Err Memory) = HasTable t

@@ -10,7 +10,7 @@ use hls_core::snapshot::Snapshot;
 use std::alloc::Global;
 
 /// What is printed of a channel of one rendition that has begun, over its resource `uri`: its init section, then all units.
-/// The target and the preferred length are the channel's.
+/// The target and the preferred length are the channel's, and so is the epoch, if it is known: the segments are dated by it.
 ///
 /// `Each` gives the playlist with one segment from each place to the next (RFC 8216 section 4.3.3.5), or `NotAllowed` with
 /// the number of the first place from which no segment may reach the next. `Planned` gives a least plan's playlist or its
@@ -36,15 +36,16 @@ pub fn list(
     }
     let _ = recording.count();
     let config = snapshot.config();
+    let epoch = config.epoch();
     match listing {
-        Listing::Each => list_each(alloc, config.target(), recording, places, uri),
+        Listing::Each => list_each(alloc, config.target(), recording, epoch, places, uri),
         Listing::Planned { rule, certificate } => {
             let goal = Goal {
                 target: config.target(),
                 preferred: config.preferred(),
                 rule,
             };
-            list_planned(alloc, goal, recording, places, uri, certificate)
+            list_planned(alloc, goal, recording, epoch, places, uri, certificate)
         }
     }
 }

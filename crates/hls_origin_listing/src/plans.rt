@@ -5,6 +5,7 @@ ghost use Rattle.hls_check_laws.specs.Tables.{IsGoal, IsTable, table_of};
 ghost use Rattle.hls_check_laws.specs.Plans.{IsPlan};
 ghost use Rattle.hls_check_laws.specs.Certificates.{IsGood};
 ghost use Rattle.hls_places_laws.specs.Order.{spots_of};
+ghost use Rattle.hls_core_laws.specs.Config.{IsEpoch};
 ghost use Rattle.hls_plan.specs.Planned.{IsBest, CanBeShown, certificate_of};
 ghost use Rattle.hls_catchup_laws.specs.Laws.{end_fragment};
 ghost use Rattle.hls_m3u8.specs.Written.{IsWritten};
@@ -30,19 +31,21 @@ use std::alloc::{AllocError, Global};
 fn plan_text(
     alloc: Global,
     recording: &Recording,
+    epoch: Option<i64>,
     uri: &str,
     table: &PlaceTable,
     plan: &[usize],
 ) -> Result<Vec<u8>, AllocError>
+    requires epoch { IsEpoch epoch }
     requires recorded { IsRecorded recording.now }
     requires table { IsTable table.now }
     requires uri { IsUri uri.now }
     requires plan { IsPlan table.now plan.now }
     requires ever { end_fragment table.now 0 ≤ length recording.now.facts }
-    ensures { IfOk result (λ text. IsWritten (list_by table.now.goal.target recording.now uri.now table.now.places plan.now) text.items) }
+    ensures { IfOk result (λ text. IsWritten (list_by table.now.goal.target epoch recording.now uri.now table.now.places plan.now) text.items) }
 {
     let uri = ByteStr::copy_from_str(alloc, uri)?;
-    let segments = segments_of(alloc, recording, 0, &uri, 0, table, plan)?;
+    let segments = segments_of(alloc, recording, epoch, 0, &uri, 0, table, plan)?;
     vod_text(alloc, table.target(), recording, uri, segments)
 }
 
@@ -50,20 +53,22 @@ fn plan_text(
 fn played(
     alloc: Global,
     recording: &Recording,
+    epoch: Option<i64>,
     uri: &str,
     table: &PlaceTable,
     planned: &Planned,
 ) -> Result<Listed, AllocError>
+    requires epoch { IsEpoch epoch }
     requires recorded { IsRecorded recording.now }
     requires table { IsTable table.now }
     requires uri { IsUri uri.now }
     requires best { IsBest table.now planned.now }
     requires ever { end_fragment table.now 0 ≤ length recording.now.facts }
-    ensures { IfOk result (IsPlayed table.now recording.now uri.now) }
+    ensures { IfOk result (IsPlayed table.now epoch recording.now uri.now) }
 {
     match planned {
         Planned::Cut { plan, .. } => {
-            let text = plan_text(alloc, recording, uri, table, plan.as_slice())?;
+            let text = plan_text(alloc, recording, epoch, uri, table, plan.as_slice())?;
             Ok(Listed::Text(text))
         }
         Planned::NoCut { .. } => Ok(Listed::NoCut(Vec::new(alloc))),
@@ -90,16 +95,18 @@ pub fn list_planned(
     alloc: Global,
     goal: Goal,
     recording: &Recording,
+    epoch: Option<i64>,
     places: &Shared<Place>,
     uri: &str,
     certificate: bool,
 ) -> Result<Listed, ListFault>
+    requires epoch { IsEpoch epoch }
     requires first { places.now.first ≡ 0 }
     requires goal { IsGoal goal }
     requires places { ArePlacesOf recording.now places.now.items }
     requires count { 2 ≤ length places.now.items }
     requires uri { IsUri uri.now }
-    ensures { ListsPlanned certificate (table_of goal 1 (spots_of places.now.items)) recording.now uri.now result }
+    ensures { ListsPlanned certificate (table_of goal 1 (spots_of places.now.items)) epoch recording.now uri.now result }
 {
     if places.next() > PLACE_LIMIT as u64 {
         return Err(ListFault::ProgrammeTooLong);
@@ -109,6 +116,6 @@ pub fn list_planned(
     if certificate {
         Ok(certified(alloc, table, planned)?)
     } else {
-        Ok(played(alloc, recording, uri, &table, &planned)?)
+        Ok(played(alloc, recording, epoch, uri, &table, &planned)?)
     }
 }

@@ -32,6 +32,32 @@ media.mp4
 #EXT-X-ENDLIST
 ";
 
+const ONE_DATED_UNIT: &str = "#EXTM3U
+#EXT-X-VERSION:6
+#EXT-X-TARGETDURATION:6
+#EXT-X-MEDIA-SEQUENCE:0
+#EXT-X-DISCONTINUITY-SEQUENCE:0
+#EXT-X-PLAYLIST-TYPE:VOD
+#EXT-X-MAP:URI=\"media.mp4\",BYTERANGE=\"600@0\"
+#EXT-X-PROGRAM-DATE-TIME:2024-01-01T00:00:00.000Z
+#EXTINF:4.000000,
+#EXT-X-BYTERANGE:1000@600
+media.mp4
+#EXT-X-ENDLIST
+";
+
+const DATED_AFTER_A_GAP: &str = "#EXT-X-PROGRAM-DATE-TIME:2024-01-01T00:00:00.000Z
+#EXTINF:4.000000,
+#EXT-X-BYTERANGE:1000@600
+media.mp4
+#EXT-X-DISCONTINUITY
+#EXT-X-PROGRAM-DATE-TIME:2024-01-01T00:00:06.000Z
+#EXTINF:4.000000,
+#EXT-X-BYTERANGE:1000@1600
+media.mp4
+#EXT-X-ENDLIST
+";
+
 const TWO_PLACES: &str = "#EXTINF:6.000000,
 #EXT-X-BYTERANGE:2000@600
 media.mp4
@@ -141,8 +167,8 @@ fn sync(from: u32, to: u32) -> Span {
     }
 }
 
-/// A channel of one rendition.
-fn single(alloc: Global) -> Result<Arc<Snapshot>, Fail> {
+/// A channel of one rendition, with this moment of time 0.
+fn single(alloc: Global, epoch: Option<i64>) -> Result<Arc<Snapshot>, Fail> {
     let mut renditions = Vec::new(alloc);
     renditions.push(Rendition {
         name: Bytes::copy_from_slice(alloc, b"v1")?,
@@ -150,7 +176,7 @@ fn single(alloc: Global) -> Result<Arc<Snapshot>, Fail> {
         bandwidth: 3_000_000,
         tolerance: 0,
     })?;
-    let config = Config::new(alloc, 6, 4_000_000, renditions)?;
+    let config = Config::with_epoch(alloc, 6, 4_000_000, renditions, epoch)?;
     Ok(Arc::new(alloc, Snapshot::first(alloc, config)?)?)
 }
 
@@ -193,7 +219,12 @@ fn with_unit(alloc: Global, snapshot: &Snapshot, span: Span) -> Result<Arc<Snaps
 
 /// A finished channel of these units.
 fn channel(alloc: Global, units: &[Span]) -> Result<Arc<Snapshot>, Fail> {
-    let none = single(alloc)?;
+    channel_from(alloc, None, units)
+}
+
+/// The same with this moment of time 0.
+fn channel_from(alloc: Global, epoch: Option<i64>, units: &[Span]) -> Result<Arc<Snapshot>, Fail> {
+    let none = single(alloc, epoch)?;
     let mut state = begun(alloc, &none)?;
     for span in units {
         state = with_unit(alloc, &state, *span)?;
@@ -285,6 +316,29 @@ fn lists_each(rt: HostRuntime) -> Result<(), Fail> {
     assert!(rt; is_one_unit(rt.alloc())?, "one unit");
     assert!(rt; is_two_places(rt.alloc())?, "two places");
     assert!(rt; is_after_a_gap(rt.alloc(), Listing::Each)?, "a gap");
+    Ok(())
+}
+
+/// 2024-01-01T00:00:00Z.
+const EPOCH: i64 = 1_704_067_200_000_000;
+
+fn is_dated(alloc: Global) -> Result<bool, Fail> {
+    let state = channel_from(alloc, Some(EPOCH), &[sync(0, 4)])?;
+    Ok(is_listed(alloc, &state, Listing::Each, ONE_DATED_UNIT))
+}
+
+fn is_dated_after_a_gap(alloc: Global, listing: Listing) -> Result<bool, Fail>
+    requires { CanList listing }
+{
+    let state = channel_from(alloc, Some(EPOCH), &[sync(0, 4), sync(6, 10)])?;
+    Ok(ends_with(alloc, &state, listing, DATED_AFTER_A_GAP))
+}
+
+#[test]
+fn dates_the_segments(rt: HostRuntime) -> Result<(), Fail> {
+    assert!(rt; is_dated(rt.alloc())?, "one unit");
+    assert!(rt; is_dated_after_a_gap(rt.alloc(), Listing::Each)?, "each");
+    assert!(rt; is_dated_after_a_gap(rt.alloc(), PLAYLIST)?, "by a plan");
     Ok(())
 }
 

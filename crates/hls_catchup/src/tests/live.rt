@@ -23,7 +23,11 @@ fn live(alloc: Global, snapshot: &Snapshot) -> Result<MediaPlaylist, Fail> {
 }
 
 /// The text of a rendition's live list.
-fn text_of(alloc: Global, snapshot: &Snapshot, rendition: usize) -> Result<Vec<u8>, Fail> {
+pub(super) fn text_of(
+    alloc: Global,
+    snapshot: &Snapshot,
+    rendition: usize,
+) -> Result<Vec<u8>, Fail> {
     match live_playlist(alloc, snapshot, rendition)? {
         Some(list) => Ok(write_media(alloc, &list)?),
         None => Err(Fail::from("no list")),

@@ -7,15 +7,15 @@ use Rattle.hls_catchup.proofs.cutout.cut.Goals as goal
 
 pub returns-in_ok-playlists-in-Cut : goal.returns-in_ok-playlists-in-Cut
 returns-in_ok-playlists-in-Cut c =
-    let made : map playlist_of c.in_ok-playlists-in-Cut.playlists.items ≡ job_lists 0 (map (λ r. r.now) c.args.recordings.now) c.args.table c.in-Cut.plan.items =
-    c.in_ok-playlists-in-Cut.ensures.lists ∙ ap (job_lists 0 (map (λ r. r.now) c.args.recordings.now) c.args.table) c.as_slice.ensures.value in
-    right_cut c.args.recordings.now c.args.table c.in_ok-planned.planned c.in-Cut.plan c.in-Cut.prices
+    let made : map playlist_of c.in_ok-playlists-in-Cut.playlists.items ≡ job_lists c.args.epoch 0 (map (λ r. r.now) c.args.recordings.now) c.args.table c.in-Cut.plan.items =
+    c.in_ok-playlists-in-Cut.ensures.lists ∙ ap (job_lists c.args.epoch 0 (map (λ r. r.now) c.args.recordings.now) c.args.table) c.as_slice.ensures.value in
+    right_cut c.args.epoch c.args.recordings.now c.args.table c.in_ok-planned.planned c.in-Cut.plan c.in-Cut.prices
     (map playlist_of c.in_ok-playlists-in-Cut.playlists.items) c.certificate.result
     c.certificate.ensures c.in-Cut.is c.in_ok-planned.ensures.good
     (c.good_is_accepted.ensures (certificate_of c.args.table c.in_ok-planned.planned)
     (record { table = c.len.ensures.valid; form = c.in_ok-planned.ensures.shown }) c.in_ok-planned.ensures.good)
     c.in_ok-planned.ensures.best made
-    c.in_ok-playlists-in-Cut.ensures.valid c.len.ensures.valid c.requires
+    c.in_ok-playlists-in-Cut.ensures.valid c.len.ensures.valid c.requires.covered c.requires.epoch
 
 pub returns-in-NoCut : goal.returns-in-NoCut
 returns-in-NoCut c =

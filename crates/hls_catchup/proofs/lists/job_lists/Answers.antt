@@ -11,7 +11,7 @@ Good r = IsRecorded r.now
 
 pub loop-rendition-preserved : goal.loop-rendition-preserved
 loop-rendition-preserved c = record {
-  done = rw c.in_ok-push.ensures.items (one_list_more c.args.recordings.now c.args.table.now c.args.plan.now c.loop-rendition.lists.items c.in_ok-job_list.field-0
+  done = rw c.in_ok-push.ensures.items (one_list_more c.args.epoch c.args.recordings.now c.args.table.now c.args.plan.now c.loop-rendition.lists.items c.in_ok-job_list.field-0
       c.loop-rendition.rendition c.index-recordings-rendition.result _ (omega arith) c.index-recordings-rendition.is
       c.in_ok-job_list.ensures.list c.loop-rendition.invariant.done);
   valid = All-more Good c.args.recordings.now c.loop-rendition.rendition c.index-recordings-rendition.result (omega arith) c.loop-rendition.invariant.valid

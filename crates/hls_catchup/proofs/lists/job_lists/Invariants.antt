@@ -6,7 +6,7 @@ use Rattle.hls_catchup.proofs.lists.job_lists.Given as goal
 
 abbrev pub invariant-loop-rendition : goal.invariant-loop-rendition
 invariant-loop-rendition l = record {
-  done : map playlist_of l.lists.items ++ job_lists l.rendition (map (λ r. r.now) (drop l.rendition l.recordings)) l.table l.plan
-      ≡ job_lists 0 (map (λ r. r.now) l.recordings) l.table l.plan;
+  done : map playlist_of l.lists.items ++ job_lists l.epoch l.rendition (map (λ r. r.now) (drop l.rendition l.recordings)) l.table l.plan
+      ≡ job_lists l.epoch 0 (map (λ r. r.now) l.recordings) l.table l.plan;
   valid : All (λ r. IsRecorded r.now) (take l.rendition l.recordings);
 }

@@ -1,12 +1,21 @@
-use Rattle.std.proofs.Common.{◌≡◌, ◌+◌, ◌<◌, length, Some, None, arith, sym, ap, ◌∙◌}
+use Rattle.std.proofs.Common.{◌≡◌, ◌+◌, ◌<◌, ◌^◌, All, subst, length, Some, None, arith, sym, ap, ◌∙◌}
 use Rattle.hls_blocks.specs.Numbered.{next_of}
 use Rattle.hls_core.specs.Reads.{recording_of}
 use Rattle.hls_core_laws.specs.Config.{ConfigData}
 use Rattle.hls_core_laws.specs.Line.{line}
+use Rattle.hls_check_laws.specs.Tables.{spot_in}
+use Rattle.hls_live_laws.specs.declared.segment.Segment as live_line
 use Rattle.hls_live_laws.specs.Live.{Live, segments_of}
 use Rattle.hls_m3u8.specs.Playlist.{Playlist}
+use Rattle.hls_live_lists_laws.proofs.Texts.{starts-small}
 use Rattle.hls_catchup.proofs.LiveLists.{unbegun, listed-by, list-made}
 use Rattle.hls_catchup.proofs.live.live_playlist.Goals as goal
+
+pub live_segments-requires-clause-starts : goal.live_segments-requires-clause-starts
+live_segments-requires-clause-starts c =
+    let IsSmall : live_line.Segment → Type 0 = λ x. (spot_in x.from.spots c.args.rendition).start < 2 ^ 53 in
+    subst (λ (l : Live). All IsSmall (segments_of l)) (sym c.line-line.ensures.value)
+    (starts-small c.args.snapshot.now c.recording.ensures.valid c.args.rendition)
 
 pub returns-in_default-clause-list : goal.returns-in_default-clause-list
 returns-in_default-clause-list c =
@@ -28,9 +37,10 @@ returns-clause-list c =
       ap (λ (l : Live). length (segments_of l)) c.line-line.ensures.value,
     ) in
     let made = list-made c.args.snapshot.now c.args.rendition c.in-Some.recording.now c.line-line.result.now
-    c.target.result c.removed.result c.removed_breaks.result _ c.len.result _ c.ended.result
+    c.epoch.result c.target.result c.removed.result c.removed_breaks.result _ c.len.result _ c.ended.result
     c.line-line.ensures.value
-    (c.target.ensures.value ∙ ap (λ (x : ConfigData). x.target) c.config.ensures.value)
+    (c.epoch.ensures.value ∙ ap (λ (x : ConfigData). x.epoch) c.config-config.ensures.value)
+    (c.target.ensures.value ∙ ap (λ (x : ConfigData). x.target) c.config-config.ensures.value)
     c.removed.ensures c.removed_breaks.ensures c.in_ok-uri.ensures
     (c.len.ensures.value ∙ ap length c.head.ensures)
     c.in_ok-segments.ensures c.ended.ensures in

@@ -1,7 +1,8 @@
-use Rattle.std.proofs.Common.{◌≡◌, Ok, Some, List, [], Option, Vec, Global, Bor, map, refl, sym, subst}
+use Rattle.std.proofs.Common.{◌≡◌, Ok, Some, List, [], Option, Vec, Global, Bor, map, refl, sym, ap, ◌∙◌, subst}
 use Rattle.std.specs.Prelude.{MatchOption}
 use Rattle.hls_check_laws.specs.Tables.{Table}
 use Rattle.hls_record.specs.Recorded.{Recorded}
+use Rattle.hls_core_laws.specs.Config.{ConfigData}
 use Rattle.hls_core_laws.specs.State.{State}
 use Rattle.hls_core_laws.specs.Places.{places}
 use Rattle.hls_catchup.specs.declared.request.Request.{Request}
@@ -31,8 +32,8 @@ unreachable-requires c =
     placeless s c.args.request c.in-Ok.table (subst (λ (x : State). places x ≡ []) c.deref-in-Ok.ensures none)
     (table_here s c.deref.result.now c.args.request c.in-Ok.table c.deref.ensures c.in-Ok.ensures)
 
-pub cut-requires : goal.cut-requires
-cut-requires c =
+pub cut-requires-clause-covered : goal.cut-requires-clause-covered
+cut-requires-clause-covered c =
     let s : State = c.args.snapshot.now.value in
     let table = table_here s c.deref.result.now c.args.request c.in-Ok.table c.deref.ensures c.in-Ok.ensures in
     let are = recordings_here s c.deref-in-Ok.result.now c.in_ok-recordings-in-Ok.field-0 c.in-Some.recordings c.as_slice.result.now
@@ -45,8 +46,10 @@ invariant_of-result c =
     let table = table_here s c.deref.result.now c.args.request c.in-Ok.table c.deref.ensures c.in-Ok.ensures in
     let are = recordings_here s c.deref-in-Ok.result.now c.in_ok-recordings-in-Ok.field-0 c.in-Some.recordings c.as_slice.result.now
     c.deref-in-Ok.ensures c.in-Some.is c.as_slice.ensures.value c.in_ok-recordings-in-Ok.ensures in
-    right_answer s c.in_ok-try_clone-in-Ok.field-0.value c.args.request c.in-Ok.table (map (λ (r : Bor Recorded). r.now) c.as_slice.result.now)
-    c.in_ok-cutout-in-Ok.cutout c.in_ok-try_clone-in-Ok.ensures table are c.len.ensures.valid c.in_ok-cutout-in-Ok.ensures
+    let known : c.epoch-epoch.result ≡ s.config.epoch =
+    c.epoch-epoch.ensures.value ∙ ap (λ (x : ConfigData). x.epoch) c.config.ensures.value ∙ ap (λ (x : State). x.config.epoch) c.deref-in-Ok-2.ensures in
+    right_answer s c.in_ok-try_clone-in-Ok.field-0.value c.epoch-epoch.result c.args.request c.in-Ok.table (map (λ (r : Bor Recorded). r.now) c.as_slice.result.now)
+    c.in_ok-cutout-in-Ok.cutout c.in_ok-try_clone-in-Ok.ensures known table are c.len.ensures.valid c.in_ok-cutout-in-Ok.ensures
 
 pub returns-in_ok-try_clone-in-Ok : goal.returns-in_ok-try_clone-in-Ok
 returns-in_ok-try_clone-in-Ok c =
@@ -54,9 +57,11 @@ returns-in_ok-try_clone-in-Ok c =
     let table = table_here s c.deref.result.now c.args.request c.in-Ok.table c.deref.ensures c.in-Ok.ensures in
     let are = recordings_here s c.deref-in-Ok.result.now c.in_ok-recordings-in-Ok.field-0 c.in-Some.recordings c.as_slice.result.now
     c.deref-in-Ok.ensures c.in-Some.is c.as_slice.ensures.value c.in_ok-recordings-in-Ok.ensures in
+    let known : c.epoch-epoch.result ≡ s.config.epoch =
+    c.epoch-epoch.ensures.value ∙ ap (λ (x : ConfigData). x.epoch) c.config.ensures.value ∙ ap (λ (x : State). x.config.epoch) c.deref-in-Ok-2.ensures in
     record {
       state = c.in_ok-try_clone-in-Ok.ensures;
       request_is = refl;
-      right = right_answer s s c.args.request c.in-Ok.table (map (λ (r : Bor Recorded). r.now) c.as_slice.result.now)
-          c.in_ok-cutout-in-Ok.cutout refl table are c.len.ensures.valid c.in_ok-cutout-in-Ok.ensures;
+      right = right_answer s s c.epoch-epoch.result c.args.request c.in-Ok.table (map (λ (r : Bor Recorded). r.now) c.as_slice.result.now)
+          c.in_ok-cutout-in-Ok.cutout refl known table are c.len.ensures.valid c.in_ok-cutout-in-Ok.ensures;
     }

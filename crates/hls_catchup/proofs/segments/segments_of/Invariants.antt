@@ -9,6 +9,6 @@ invariant-loop-to l = record {
   valid : IsTable l.table;
   from_in : l.from < length l.table.places;
   rest_in : All (λ p. p < length l.table.places) l.rest;
-  done : l.segments.items ++ segments_from (cutting l.recording l.rendition l.uri l.first) l.table.places l.from l.mark (drop l.to-index l.rest)
-      ≡ segments_from (cutting l.recording l.rendition l.uri l.first) l.table.places l.initial.from false l.rest;
+  done : l.segments.items ++ segments_from (cutting l.epoch l.recording l.rendition l.uri l.first) l.table.places l.from l.mark (drop l.to-index l.rest)
+      ≡ segments_from (cutting l.epoch l.recording l.rendition l.uri l.first) l.table.places l.initial.from false l.rest;
 }

@@ -15,18 +15,18 @@ pub vod_text-requires : goal.vod_text-requires
 vod_text-requires c =
     let r = c.args.recording.now in
     let spots = spots_of c.args.places.now.items in
-    let good : HasText (vod_list c.args.target c.args.uri.now (length r.head) (segments_of (cutting r 0 c.args.uri.now 0) spots (each_place spots))) =
-    each_has_text r c.args.target c.args.uri.now spots c.requires.places.valid c.requires.target c.requires.uri
+    let good : HasText (vod_list c.args.target c.args.uri.now (length r.head) (segments_of (cutting c.args.epoch r 0 c.args.uri.now 0) spots (each_place spots))) =
+    each_has_text c.args.epoch r c.args.target c.args.uri.now spots c.requires.epoch c.requires.places.valid c.requires.target c.requires.uri
     (one_each c.args.places.now.items c.requires.places.ordered c.requires.places.single)
     (none_past r c.args.places.now.items c.requires.places) c.in_default.ensures in
     subst (λ (ss : List Segment). HasText (vod_list c.args.target c.in_ok-uri.uri (length r.head) ss)) (sym c.in_ok-segments.ensures)
-    (subst (λ (u : List ℕ). HasText (vod_list c.args.target u (length r.head) (segments_of (cutting r 0 u 0) spots (each_place spots)))) (sym c.in_ok-uri.ensures) good)
+    (subst (λ (u : List ℕ). HasText (vod_list c.args.target u (length r.head) (segments_of (cutting c.args.epoch r 0 u 0) spots (each_place spots)))) (sym c.in_ok-uri.ensures) good)
 
 pub returns : goal.returns
 returns c =
     let places = spots_of c.args.places.now.items in (
       omega (arith, c.requires.count.0, length_spots c.args.places.now.items),
       c.in_default.ensures,
-      written_by c.args.recording.now c.args.target c.args.target c.args.uri.now c.in_ok-uri.uri c.in_ok-segments.segments.items places
+      written_by c.args.epoch c.args.recording.now c.args.target c.args.target c.args.uri.now c.in_ok-uri.uri c.in_ok-segments.segments.items places
           (each_place places) c.in_ok-text.text.items refl c.in_ok-uri.ensures c.in_ok-segments.ensures c.in_ok-text.ensures,
     )

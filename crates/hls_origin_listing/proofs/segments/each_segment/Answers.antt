@@ -20,11 +20,11 @@ pub loop-to-preserved : goal.loop-to-preserved
 loop-to-preserved c =
     let ones = ones_of c.loop-to.to-iterator c.in-Some-to.to.now c.next-in-loop-to.new.self c.next-in-loop-to.new.self
     c.in-Some-to.ensures.steps refl c.loop-to.invariant.ones in
-    let made = c.segment_between.ensures ∙ ap (λ u. segment_between (cutting c.args.recording.now 0 u 0) c.loop-to.mark c.loop-to.from.now.spots c.in-Some-to.to.now.spots) c.in_ok-clone.ensures.cases in
+    let made = c.segment_between.ensures ∙ ap (λ u. segment_between (cutting c.args.epoch c.args.recording.now 0 u 0) c.loop-to.mark c.loop-to.from.now.spots c.in-Some-to.to.now.spots) c.in_ok-clone.ensures.cases in
     record {
       one = ones.0;
       ones = ones.1;
-      done = one_more (cutting c.args.recording.now 0 c.args.uri.now 0) c.loop-to.segments.items c.push.new.self.items c.loop-to.mark c.is_break-mark.result
+      done = one_more (cutting c.args.epoch c.args.recording.now 0 c.args.uri.now 0) c.loop-to.segments.items c.push.new.self.items c.loop-to.mark c.is_break-mark.result
           c.loop-to.from.now.spots c.loop-to.to-iterator c.in-Some-to.to.now c.next-in-loop-to.new.self c.segment_between.result _
           c.in-Some-to.ensures.steps c.in_ok-push.ensures.items made c.is_break-mark.ensures c.loop-to.invariant.done;
     }
@@ -33,6 +33,6 @@ pub returns : goal.returns
 returns c =
     let items : c.iter_from-walk.result ≡ c.args.places.now.items =
     from_first c.args.places.now.items c.iter_from-walk.result c.args.places.now.first c.iter_from-walk.ensures.rest c.requires.first in
-    all_made (cutting c.args.recording.now 0 c.args.uri.now 0) c.args.places.now.items c.in-Some.first.now c.next.new.self c.into_iter-to-iterator.result
+    all_made (cutting c.args.epoch c.args.recording.now 0 c.args.uri.now 0) c.args.places.now.items c.in-Some.first.now c.next.new.self c.into_iter-to-iterator.result
     c.loop-to.to-iterator c.loop-to.segments.items c.loop-to.mark c.loop-to.from.now.spots
     (sym items ∙ c.in-Some.ensures.steps) c.into_iter-to-iterator.ensures.into_iter_gives c.in-None.ensures.steps.0 c.loop-to.invariant.done

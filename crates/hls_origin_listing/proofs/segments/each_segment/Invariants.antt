@@ -9,6 +9,6 @@ abbrev pub invariant-loop-to : goal.invariant-loop-to
 invariant-loop-to l = record {
   one : IsPlaceOf 1 l.from.spots;
   ones : All (IsPlaceOf 1) (spots_of l.to-iterator);
-  done : l.segments.items ++ along (cutting l.recording 0 l.uri 0) l.mark l.from.spots (spots_of l.to-iterator)
-      ≡ along (cutting l.recording 0 l.uri 0) false l.initial.from.spots (spots_of l.initial.to-iterator);
+  done : l.segments.items ++ along (cutting l.epoch l.recording 0 l.uri 0) l.mark l.from.spots (spots_of l.to-iterator)
+      ≡ along (cutting l.epoch l.recording 0 l.uri 0) false l.initial.from.spots (spots_of l.initial.to-iterator);
 }
