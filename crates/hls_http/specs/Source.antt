@@ -27,6 +27,12 @@ reads_left source = calls_left source.reader
 abbrev pub work_left : {R : Type 0} → Source R → ℕ
 work_left source = reads_left source * 131072 + length (held_of source)
 
+-- the input that was still to come of a source, where it is known, and what is held and left of it now, are such
+abbrev pub FromSource : {R E : Type 0} → (R → Option (List ℕ)) → Source R → Source R → (List ℕ → List ℕ → Option (List ℕ) → E → Type 0) → E
+    → Type 0
+FromSource remaining old new Is result =
+    (rest : List ℕ) → remaining (reader_of old) ≡ Some rest → Is (held_of old ++ rest) (held_of new) (remaining (reader_of new)) result
+
 -- a source of this reader with nothing read
 pub record IsFresh {R : Type 0} (reader : R) (source : Source R) : Type 0 where
   pub held : held_of source ≡ []

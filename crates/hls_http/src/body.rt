@@ -1,9 +1,9 @@
 //! Bodies of requests, by length and in chunks.
 
-ghost use Rattle.std.specs.Prelude.{◌≡◌, ◌≢◌, ◌++◌, ◌<◌, ◌≤◌, IfOk, List, ℕ, Some, length, min};
+ghost use Rattle.std.specs.Prelude.{◌≡◌, ◌≢◌, ◌<◌, ◌≤◌, IfOk, length, min};
 ghost use Rattle.hls_http_laws.specs.Bodies.{after_line};
 ghost use Rattle.hls_http.specs.Bodies.{CountsBody, CountsWait, Moves, Passes, Waits, move_len};
-ghost use Rattle.hls_http.specs.Source.{held_of, read_failures, reader_of, taken_of, work_left};
+ghost use Rattle.hls_http.specs.Source.{FromSource, held_of, read_failures, taken_of, work_left};
 
 use crate::source::{Filled, Source};
 use hls_http_laws::body::Body;
@@ -162,8 +162,7 @@ fn find_move(held: &[u8], body: Body) -> Result<Move, Lack>
 /// Reads until a move stands at the front of what is held; nothing is taken.
 pub fn wait_move<R: Read>(source: &mut Source<R>, body: Body) -> Result<Move, BodyEnd>
     requires { body ≢ Body.Length 0 }
-    ensures waits { (rest : List ℕ) → R.remaining (reader_of source.old) ≡ Some rest
-        → Waits body (held_of source.old ++ rest) (held_of source.new) (R.remaining (reader_of source.new)) result }
+    ensures waits { FromSource R.remaining source.old source.new (Waits body) result }
     ensures counts { CountsWait result (read_failures source.old) (read_failures source.new) }
     ensures work { IfOk result (λ found. work_left source.new ≤ work_left source.old) }
     ensures fits { IfOk result (λ found. (0 < move_len found) × (move_len found ≤ length (held_of source.new))) }
@@ -184,8 +183,7 @@ pub fn wait_move<R: Read>(source: &mut Source<R>, body: Body) -> Result<Move, Bo
 /// Takes the next piece of a body, reading as much as it needs; the body says where it goes on. Where it is over,
 /// what follows it is held. No memory is taken.
 pub fn read_body<R: Read>(source: &mut Source<R>, body: &mut Body) -> Result<Given, BodyEnd>
-    ensures passes { (rest : List ℕ) → R.remaining (reader_of source.old) ≡ Some rest
-        → Passes body.old (held_of source.old ++ rest) body.new (taken_of source.new) (held_of source.new) (R.remaining (reader_of source.new)) result }
+    ensures passes { FromSource R.remaining source.old source.new (λ input. Passes body.old input body.new (taken_of source.new)) result }
     ensures counts { CountsBody result (read_failures source.old) (read_failures source.new) }
 {
     loop {

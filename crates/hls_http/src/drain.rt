@@ -1,9 +1,9 @@
 //! Bodies that are dropped.
 
-ghost use Rattle.std.specs.Prelude.{◌≡◌, ◌≤◌, ◌++◌, List, ℕ, Some};
+ghost use Rattle.std.specs.Prelude.{◌≡◌, ◌≤◌};
 ghost use Rattle.hls_http.specs.Drained.{CountsDrop, Drops};
 ghost use Rattle.hls_http.specs.Drained as spec;
-ghost use Rattle.hls_http.specs.Source.{held_of, read_failures, reader_of};
+ghost use Rattle.hls_http.specs.Source.{FromSource, read_failures};
 
 use crate::body::{BodyEnd, Move, wait_move};
 use crate::source::Source;
@@ -35,8 +35,7 @@ fn announced(body: Body) -> u64
 /// Takes a body of at most 65536 bytes to its end and drops it. No memory is taken.
 pub fn drop_body<R: Read>(source: &mut Source<R>, body: &mut Body) -> Result<(), DropEnd>
     requires { spec.announced_by body.old ≤ 65536 }
-    ensures drops { (rest : List ℕ) → R.remaining (reader_of source.old) ≡ Some rest
-        → Drops body.old (held_of source.old ++ rest) body.new (held_of source.new) (R.remaining (reader_of source.new)) result }
+    ensures drops { FromSource R.remaining source.old source.new (λ input. Drops body.old input body.new) result }
     ensures counts { CountsDrop result (read_failures source.old) (read_failures source.new) }
 {
     let mut room = MOST_DROPPED - announced(*body);

@@ -1,10 +1,10 @@
 //! Heads of requests.
 
-ghost use Rattle.std.specs.Prelude.{◌≡◌, ◌++◌, List, ℕ, Some, take};
+ghost use Rattle.std.specs.Prelude.{◌≡◌, take};
 ghost use Rattle.httparse.specs.Grammar.{RequestHead};
 ghost use Rattle.httparse.specs.Spans.{IsRequestAt, IsRequestWithin};
 ghost use Rattle.hls_http.specs.Heads.{method_of, CountsHead, Finds, Hears, IsHead};
-ghost use Rattle.hls_http.specs.Source.{held_of, read_failures, reader_of, taken_of};
+ghost use Rattle.hls_http.specs.Source.{FromSource, read_failures, taken_of};
 
 use crate::fields::{asked_range, body, closes_connection, waits_for_continue};
 use crate::source::{Filled, Source};
@@ -139,8 +139,7 @@ fn find_head(text: &[u8]) -> Result<(Head, usize), Look>
 /// Takes the next head, reading as much as it needs. The head's text is then what the source has taken last, with
 /// empty lines that stood before it. Nothing is taken on any error. No memory is taken.
 pub fn next_head<R: Read>(source: &mut Source<R>) -> Result<Head, HeadEnd>
-    ensures hears { (rest : List ℕ) → R.remaining (reader_of source.old) ≡ Some rest
-        → Hears (held_of source.old ++ rest) (taken_of source.new) (held_of source.new) (R.remaining (reader_of source.new)) result }
+    ensures hears { FromSource R.remaining source.old source.new (λ input. Hears input (taken_of source.new)) result }
     ensures counts { CountsHead result (read_failures source.old) (read_failures source.new) }
 {
     loop {

@@ -1,9 +1,9 @@
 //! Media, written from the slices that hold them.
 
 ghost use Rattle.std.specs.Prelude.{◌≡◌, ◌+◌, ◌-◌, ◌<◌, ◌≤◌, ◌^◌, ℕ, List, Option, Some, length, min, option_map, take};
-ghost use Rattle.hls_io.specs.Counted.{failures_of, inside_of};
+ghost use Rattle.hls_io.specs.Counted.{failures_of};
 ghost use Rattle.hls_io.specs.Writing.{CountsWrite, Writes};
-ghost use Rattle.hls_http.specs.Media.{GivesPiece, HasPart, IsFrontOf};
+ghost use Rattle.hls_http.specs.Media.{GivesPiece, HasPart, IsFrontOf, PartToOutput};
 
 use hls_io::{Counted, write_whole};
 use std::io::Write;
@@ -60,9 +60,7 @@ pub fn write_part<W: Write, M: Resource>(
 ) -> bool
     requires room { from + len < 2 ^ 64 }
     requires held { HasPart (M.part media.now) from len }
-    ensures writes { (held bytes : List ℕ) → W.contents (inside_of output.old) ≡ Some held
-        → M.part media.now from len ≡ Some bytes → length bytes ≡ len
-        → Writes held bytes (W.contents (inside_of output.new)) result }
+    ensures writes { PartToOutput W.contents output.old output.new (M.part media.now) from len (λ bytes held. Writes held bytes) result }
     ensures counts { CountsWrite result (failures_of output.old) (failures_of output.new) }
 {
     let mut at = from;

@@ -1,10 +1,11 @@
 //! Replies written: a small one by one write, media from the slices that hold them.
 
-ghost use Rattle.std.specs.Prelude.{◌≡◌, ◌++◌, ◌+◌, ◌<◌, ◌^◌, ℕ, List, Some, IfOk, length};
-ghost use Rattle.hls_io.specs.Counted.{failures_of, inside_of};
+ghost use Rattle.std.specs.Prelude.{◌≡◌, ◌++◌, ◌+◌, ◌<◌, ◌^◌, IfOk};
+ghost use Rattle.hls_io.specs.Counted.{failures_of};
+ghost use Rattle.hls_io.specs.Streams.{ToOutput};
 ghost use Rattle.hls_http_laws.specs.Reply.{head_text_of, reply_text};
-ghost use Rattle.hls_http.specs.Media.{HasPart, IsFrontOf};
-ghost use Rattle.hls_http.specs.Replies.{CountsReply, Replies};
+ghost use Rattle.hls_http.specs.Media.{HasPart, PartToOutput};
+ghost use Rattle.hls_http.specs.Replies.{CountsReply, Replies, RepliesMedia};
 
 use crate::media::{Resource, front_slice, write_part};
 use crate::reply::head_bytes;
@@ -56,8 +57,7 @@ fn write_both<W: Write>(
     first: &[u8],
     second: &[u8],
 ) -> Result<(), ReplyEnd>
-    ensures writes { (held : List ℕ) → W.contents (inside_of output.old) ≡ Some held
-        → Replies held (first.now ++ second.now) (W.contents (inside_of output.new)) result }
+    ensures writes { ToOutput W.contents output.old output.new (λ held. Replies held (first.now ++ second.now)) result }
     ensures counts { CountsReply result (failures_of output.old) (failures_of output.new) }
 {
     if !write_whole(output, first) {
@@ -79,9 +79,7 @@ fn write_before<W: Write, M: Resource>(
 ) -> Result<(), ReplyEnd>
     requires room { from + len < 2 ^ 64 }
     requires held { HasPart (M.part media.now) from len }
-    ensures writes { (held bytes : List ℕ) → W.contents (inside_of output.old) ≡ Some held
-        → M.part media.now from len ≡ Some bytes → length bytes ≡ len
-        → Replies held (first.now ++ bytes) (W.contents (inside_of output.new)) result }
+    ensures writes { PartToOutput W.contents output.old output.new (M.part media.now) from len (λ bytes held. Replies held (first.now ++ bytes)) result }
     ensures counts { CountsReply result (failures_of output.old) (failures_of output.new) }
 {
     if !write_whole(output, first) {
@@ -100,8 +98,7 @@ pub fn write_head<W: Write>(
     head: &ReplyHead<'_>,
     len: u64,
 ) -> Result<(), ReplyEnd>
-    ensures writes { (held : List ℕ) → W.contents (inside_of output.old) ≡ Some held
-        → Replies held (head_text_of head.now len) (W.contents (inside_of output.new)) result }
+    ensures writes { ToOutput W.contents output.old output.new (λ held. Replies held (head_text_of head.now len)) result }
     ensures counts { CountsReply result (failures_of output.old) (failures_of output.new) }
 {
     match joined(alloc, head, len, b"") {
@@ -118,8 +115,7 @@ pub fn write_reply<W: Write>(
     body: &[u8],
     to_head: bool,
 ) -> Result<(), ReplyEnd>
-    ensures writes { (held : List ℕ) → W.contents (inside_of output.old) ≡ Some held
-        → Replies held (reply_text head.now body.now to_head) (W.contents (inside_of output.new)) result }
+    ensures writes { ToOutput W.contents output.old output.new (λ held. Replies held (reply_text head.now body.now to_head)) result }
     ensures counts { CountsReply result (failures_of output.old) (failures_of output.new) }
 {
     let content: &[u8] = if to_head { b"" } else { body };
@@ -142,9 +138,7 @@ pub fn write_media<W: Write, M: Resource>(
 ) -> Result<(), ReplyEnd>
     requires room { from + len < 2 ^ 64 }
     requires held { HasPart (M.part media.now) from len }
-    ensures writes { (held bytes : List ℕ) → W.contents (inside_of output.old) ≡ Some held
-        → M.part media.now from len ≡ Some bytes → length bytes ≡ len
-        → Replies held (head_text_of head.now len ++ bytes) (W.contents (inside_of output.new)) result }
+    ensures writes { PartToOutput W.contents output.old output.new (M.part media.now) from len (RepliesMedia head.now len) result }
     ensures counts { CountsReply result (failures_of output.old) (failures_of output.new) }
 {
     let front = front_slice(media, from, len, MOST_JOINED as u64);

@@ -1,14 +1,15 @@
 //! A session: the requests that come of a reader, and the replies that go to a writer.
 
-ghost use Rattle.std.specs.Prelude.{◌≡◌, ◌++◌, ◌+◌, ◌<◌, ◌≤◌, ◌^◌, ℕ, List, Some, true, false, length};
+ghost use Rattle.std.specs.Prelude.{◌≡◌, ◌+◌, ◌<◌, ◌≤◌, ◌^◌, ℕ, true};
 ghost use Rattle.hls_io.specs.Counted.{failures_of, inside_of};
-ghost use Rattle.hls_http_laws.specs.Reply.{head_text_of, no_memory_to, reply_text};
+ghost use Rattle.hls_io.specs.Streams.{ToOutput};
+ghost use Rattle.hls_http_laws.specs.Reply.{head_text_of, no_memory_to};
 ghost use Rattle.hls_http.specs.Bodies.{CountsBody, Passes};
 ghost use Rattle.hls_http.specs.Drained.{announced_by, CountsDrop, Drops};
 ghost use Rattle.hls_http.specs.Heads.{CountsHead, Hears};
-ghost use Rattle.hls_http.specs.Media.{HasPart};
-ghost use Rattle.hls_http.specs.Replies.{Answers, AnswersMemory, CountsAnswer, CountsEnding, CountsReply, EndsBy, Replies};
-ghost use Rattle.hls_http.specs.Source.{held_of, read_failures, reader_of, taken_of};
+ghost use Rattle.hls_http.specs.Media.{HasPart, PartToOutput};
+ghost use Rattle.hls_http.specs.Replies.{Answers, AnswersMedia, AnswersMemory, AnswersSent, AnswersText, CountsAnswer, CountsEnding, CountsReply, EndsBy};
+ghost use Rattle.hls_http.specs.Source.{FromSource, read_failures, taken_of};
 
 use crate::body::{BodyEnd, Given, read_body};
 use crate::drain::DropEnd;
@@ -53,8 +54,7 @@ impl<R: Drop, W: Drop> Session<R, W> {
 impl<R: Read, W> Session<R, W> {
     /// Takes the next head, as [`next_head`](head::next_head) does.
     pub fn next_head(&mut self) -> Result<Head, HeadEnd>
-        ensures hears { (rest : List ℕ) → R.remaining (reader_of self.old.source) ≡ Some rest
-            → Hears (held_of self.old.source ++ rest) (taken_of self.new.source) (held_of self.new.source) (R.remaining (reader_of self.new.source)) result }
+        ensures hears { FromSource R.remaining self.old.source self.new.source (λ input. Hears input (taken_of self.new.source)) result }
         ensures counts { CountsHead result (read_failures self.old.source) (read_failures self.new.source) }
         ensures writer { self.new.writer ≡ self.old.writer }
     {
@@ -63,8 +63,8 @@ impl<R: Read, W> Session<R, W> {
 
     /// Takes the next piece of a body, as [`read_body`] does.
     pub fn body(&mut self, body: &mut Body) -> Result<Given, BodyEnd>
-        ensures passes { (rest : List ℕ) → R.remaining (reader_of self.old.source) ≡ Some rest
-            → Passes body.old (held_of self.old.source ++ rest) body.new (taken_of self.new.source) (held_of self.new.source) (R.remaining (reader_of self.new.source)) result }
+        ensures passes { FromSource R.remaining self.old.source self.new.source
+            (λ input. Passes body.old input body.new (taken_of self.new.source)) result }
         ensures counts { CountsBody result (read_failures self.old.source) (read_failures self.new.source) }
         ensures writer { self.new.writer ≡ self.old.writer }
     {
@@ -74,8 +74,7 @@ impl<R: Read, W> Session<R, W> {
     /// Takes a body of at most 65536 bytes to its end and drops it, as [`drop_body`](drain::drop_body) does.
     pub fn drop_body(&mut self, body: &mut Body) -> Result<(), DropEnd>
         requires { announced_by body.old ≤ 65536 }
-        ensures drops { (rest : List ℕ) → R.remaining (reader_of self.old.source) ≡ Some rest
-            → Drops body.old (held_of self.old.source ++ rest) body.new (held_of self.new.source) (R.remaining (reader_of self.new.source)) result }
+        ensures drops { FromSource R.remaining self.old.source self.new.source (λ input. Drops body.old input body.new) result }
         ensures counts { CountsDrop result (read_failures self.old.source) (read_failures self.new.source) }
         ensures writer { self.new.writer ≡ self.old.writer }
     {
@@ -95,8 +94,7 @@ fn no_memory_for(to_head: bool) -> &'static [u8]
 
 /// Writes the fixed reply to want of memory, which takes none; to HEAD without its body.
 fn write_no_memory<W: Write>(output: &mut Counted<W>, to_head: bool) -> SessionEnd
-    ensures answers { (held : List ℕ) → W.contents (inside_of output.old) ≡ Some held
-        → AnswersMemory to_head held (W.contents (inside_of output.new)) result }
+    ensures answers { ToOutput W.contents output.old output.new (AnswersMemory to_head) result }
     ensures counts { CountsEnding result (failures_of output.old) (failures_of output.new) }
 {
     if write_whole(output, no_memory_for(to_head)) {
@@ -127,8 +125,7 @@ fn finish<W: Write>(
     head: &ReplyHead<'_>,
     to_head: bool,
 ) -> Result<(), SessionEnd>
-    ensures answers { (held text : List ℕ) → Replies held text (W.contents (inside_of output.old)) sent
-        → Answers head.now to_head held text (W.contents (inside_of output.new)) result }
+    ensures answers { AnswersSent head.now to_head (W.contents (inside_of output.old)) sent (W.contents (inside_of output.new)) result }
     ensures counts { (before : ℕ) → CountsReply sent before (failures_of output.old) → CountsAnswer result before (failures_of output.new) }
 {
     match sent {
@@ -148,8 +145,7 @@ impl<R, W: Write> Session<R, W> {
         body: &[u8],
         to_head: bool,
     ) -> Result<(), SessionEnd>
-        ensures answers { (held : List ℕ) → W.contents (inside_of self.old.writer) ≡ Some held
-            → Answers head.now to_head held (reply_text head.now body.now to_head) (W.contents (inside_of self.new.writer)) result }
+        ensures answers { ToOutput W.contents self.old.writer self.new.writer (AnswersText head.now to_head body.now) result }
         ensures counts { CountsAnswer result (failures_of self.old.writer) (failures_of self.new.writer) }
         ensures reader { self.new.source ≡ self.old.source }
     {
@@ -164,8 +160,7 @@ impl<R, W: Write> Session<R, W> {
         head: &ReplyHead<'_>,
         len: u64,
     ) -> Result<(), SessionEnd>
-        ensures answers { (held : List ℕ) → W.contents (inside_of self.old.writer) ≡ Some held
-            → Answers head.now true held (head_text_of head.now len) (W.contents (inside_of self.new.writer)) result }
+        ensures answers { ToOutput W.contents self.old.writer self.new.writer (λ held. Answers head.now true held (head_text_of head.now len)) result }
         ensures counts { CountsAnswer result (failures_of self.old.writer) (failures_of self.new.writer) }
         ensures reader { self.new.source ≡ self.old.source }
     {
@@ -184,9 +179,7 @@ impl<R, W: Write> Session<R, W> {
     ) -> Result<(), SessionEnd>
         requires room { from + len < 2 ^ 64 }
         requires held { HasPart (M.part media.now) from len }
-        ensures answers { (held bytes : List ℕ) → W.contents (inside_of self.old.writer) ≡ Some held
-            → M.part media.now from len ≡ Some bytes → length bytes ≡ len
-            → Answers head.now false held (head_text_of head.now len ++ bytes) (W.contents (inside_of self.new.writer)) result }
+        ensures answers { PartToOutput W.contents self.old.writer self.new.writer (M.part media.now) from len (AnswersMedia head.now len) result }
         ensures counts { CountsAnswer result (failures_of self.old.writer) (failures_of self.new.writer) }
         ensures reader { self.new.source ≡ self.old.source }
     {
@@ -196,8 +189,7 @@ impl<R, W: Write> Session<R, W> {
 
     /// Replies to want of memory by its fixed bytes, which takes none; to HEAD without its body. The session ends.
     pub fn reply_no_memory(&mut self, to_head: bool) -> SessionEnd
-        ensures answers { (held : List ℕ) → W.contents (inside_of self.old.writer) ≡ Some held
-            → AnswersMemory to_head held (W.contents (inside_of self.new.writer)) result }
+        ensures answers { ToOutput W.contents self.old.writer self.new.writer (AnswersMemory to_head) result }
         ensures counts { CountsEnding result (failures_of self.old.writer) (failures_of self.new.writer) }
         ensures reader { self.new.source ≡ self.old.source }
     {

@@ -1,6 +1,6 @@
 //! A reader with the bytes that were read of it and not yet taken.
 
-ghost use Rattle.std.specs.Prelude.{◌≡◌, ◌≢◌, ◌+◌, ◌<◌, ◌≤◌, ℕ, List, [], length, take, drop, Some, IsSome, IfSome, IfNone, IfOk, MatchOption, vec_len};
+ghost use Rattle.std.specs.Prelude.{◌≡◌, ◌≢◌, ◌<◌, ◌≤◌, length, take, drop, IsSome, IfSome, IfNone, IfOk, vec_len};
 ghost use Rattle.std.specs.Io.KnownBytes.{Consumes, IsAtEnd, Keeps};
 ghost use Rattle.hls_io.specs.Counted.{calls_left, failures_of, inside_of};
 ghost use Rattle.hls_io.specs.Rose.{Rose};
@@ -125,13 +125,13 @@ impl<R> Source<R> {
 }
 
 impl<R: Read> Source<R> {
-    ghost use Rattle.hls_http.specs.Source.{held_of, reader_of, read_failures, reads_left, Fills, CountsFill};
+    ghost use Rattle.hls_io.specs.Streams.{FromInput};
+    ghost use Rattle.hls_http.specs.Source.{held_of, read_failures, reads_left, Fills, CountsFill};
 
     /// Reads once, behind the held bytes.
     pub fn fill(&mut self) -> Filled
         requires { length (held_of self.old) < 65536 }
-        ensures fills { (rest : List ℕ) → R.remaining (reader_of self.old) ≡ Some rest
-            → Fills (held_of self.old) rest (held_of self.new) (R.remaining (reader_of self.new)) result }
+        ensures fills { FromInput R.remaining self.old.reader self.new.reader (λ rest. Fills (held_of self.old) rest (held_of self.new)) result }
         ensures counts { CountsFill result (read_failures self.old) (read_failures self.new) }
         ensures progress { result ≢ Filled.Failed → reads_left self.new < reads_left self.old }
     {

@@ -1,3 +1,4 @@
 pub mod Counted
 pub mod Rose
+pub mod Streams
 pub mod Writing

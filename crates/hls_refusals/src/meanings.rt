@@ -6,14 +6,16 @@ AfterRecording: the stop is behind the last place, and all renditions are finish
 BadBox: a box of an init or a unit isn't as ISO/IEC 14496-12 has it: its children don't fill it, a field lies past its end, \
 a box is missing or stands twice, its version isn't known. Send the stream just as the encoder wrote it; if it was, change the encoder.
 BadCharge: the charge for a segment is above 3600000000. Give 0 to that, in microseconds, or none.
+BadEpoch: the instant of time 0 is before 1970 or after 9000-01-01T00:00:00Z. Give one between, as in 2024-01-01T00:00:00Z.
 BadFraming: the length of a request's body isn't certain (Content-Length and Transfer-Encoding at once, two lengths, another \
 coding than chunked), or its chunks break the grammar. Send one length or chunks; look at what a proxy in between changes.
 BadHead: what came isn't the head of an HTTP request, or one of HTTP/1.1 without exactly one Host. Look at the client: it may \
 speak TLS to this port.
 BadMethod: the path is known, but not with this method. The reply's Allow says which it has.
 BadPreferred: the preferred length is 0 or longer than the target. Give 1 to the target, in microseconds.
-BadQuery: a catch-up request needs from and to, and may have preferred and charge, each 1 to 16 digits, in \
-microseconds. Ask as in /catchup?from=0&to=8000000.
+BadQuery: a catch-up request needs from and to, and may have preferred and charge, each 1 to 16 digits, in microseconds; where \
+serve was given --epoch, from and to may be instants. Ask as in /catchup?from=0&to=8000000, or as in \
+/catchup?from=2024-01-01T20:00:00Z&to=2024-01-01T21:00:00%2B00:00, with %2B for a plus sign.
 BadRange: the start isn't before the stop. Ask for a stop behind the start.
 BadRendition: no rendition, more than 16, or one whose name, bandwidth or tolerance is outside its limits or whose name stands \
 twice. Give each as name:kind:bandwidth:tolerance, as in v720:video:3000000:0.
@@ -23,6 +25,8 @@ playlists). The number behind the name is the line's, from 1.
 BadTarget: the target duration isn't 1 to 3600 whole seconds. Give one that is.
 BaseOffset: a unit says where its samples are by their place in a whole file (base_data_offset of tfhd). Let the encoder count \
 from the moof: -movflags +default_base_moof, which +cmaf has.
+BeforeEpoch: from or to is an instant before the epoch, the instant of time 0 that serve was given. Ask for a later one; look at \
+its offset, and at --epoch.
 BeforeRecording: no kept place is at or before the start: it is before the recording, or was trimmed. Ask for a later start, \
 or keep more (--keep).
 BindFailed: the address of serve can't be listened on: another program has the port, the host hasn't the address, or the port \

@@ -1,7 +1,8 @@
 //! The command `explain`, from a word to the bytes out.
 
-ghost use Rattle.std.specs.Prelude.{◌≡◌, ℕ, List, Some, option_map};
-ghost use Rattle.hls_io.specs.Counted.{failures_of, inside_of};
+ghost use Rattle.std.specs.Prelude.{option_map};
+ghost use Rattle.hls_io.specs.Counted.{failures_of};
+ghost use Rattle.hls_io.specs.Streams.{ToOutput};
 ghost use Rattle.hls_refusals.specs.Lines.{said_of};
 ghost use Rattle.hls_refusals.specs.Explained.{CountsFailures, Explains, Prints};
 
@@ -25,8 +26,7 @@ pub enum ExplainEnd {
 
 /// Writes what is said.
 fn print_said<W: Write>(output: &mut Counted<W>, said: &[u8]) -> ExplainEnd
-    ensures prints { (held : List ℕ) → W.contents (inside_of output.old) ≡ Some held
-        → Prints said.now held (W.contents (inside_of output.new)) result }
+    ensures prints { ToOutput W.contents output.old output.new (Prints said.now) result }
     ensures counts { CountsFailures result (failures_of output.old) (failures_of output.new) }
 {
     if write_whole(output, said) {
@@ -44,8 +44,7 @@ pub fn run_explain<W: Write>(
     name: Option<&[u8]>,
     output: &mut Counted<W>,
 ) -> ExplainEnd
-    ensures explains { (held : List ℕ) → W.contents (inside_of output.old) ≡ Some held
-        → Explains (said_of text.now (option_map (λ n. n.now) name.entry)) held (W.contents (inside_of output.new)) result }
+    ensures explains { ToOutput W.contents output.old output.new (Explains (said_of text.now (option_map (λ n. n.now) name.entry))) result }
     ensures counts { CountsFailures result (failures_of output.old) (failures_of output.new) }
 {
     match explain(alloc, text, name) {
