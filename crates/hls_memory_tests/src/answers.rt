@@ -6,7 +6,8 @@ use crate::told::Told;
 use hls_http::{Session, SessionEnd};
 use hls_http_laws::reply::no_memory_text;
 use hls_jobs::JobFault;
-use hls_replies::{Answer, added_answer, bad_query_answer, removed_answer, send};
+use hls_replies::{Answer, added_answer, query_answer, removed_answer, send};
+use hls_serve_laws::query::QueryFault;
 use std::alloc::{AllocError, Global};
 
 #[derive(Clone, Copy, Debug)]
@@ -41,7 +42,7 @@ const GIVEN: [(Act, &[u8]); 5] = [
 
 fn answer(alloc: Global, act: Act) -> Result<Answer, AllocError> {
     match act {
-        Act::BadQuery => bad_query_answer(alloc),
+        Act::BadQuery => query_answer(alloc, QueryFault::BadQuery),
         Act::Added => added_answer(alloc, 5, Ok(7)),
         Act::Full => added_answer(alloc, 5, Err(JobFault::TableFull)),
         Act::Removed => removed_answer(alloc, Ok(())),

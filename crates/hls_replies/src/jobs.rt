@@ -2,7 +2,7 @@
 
 ghost use Rattle.std.specs.Prelude.{◌≡◌, IfOk, Ok, Some};
 ghost use Rattle.hls_serve_laws.specs.JobReplies as spec;
-ghost use Rattle.hls_serve_laws.specs.JobReplies.{bad_query_answer, withheld_answer};
+ghost use Rattle.hls_serve_laws.specs.JobReplies.{withheld_answer};
 
 use crate::answer::Answer;
 use crate::playlists::playlist_or_none;
@@ -13,14 +13,15 @@ use hls_http_laws::range::Asked;
 use hls_http_laws::reply::{Extra, Kind, Status};
 use hls_job_files::{Withheld, certificate_text, job_line, master_text, playlist_text, reply_in};
 use hls_jobs::{Job, JobFault};
+use hls_serve_laws::query::QueryFault;
 use hls_serve_laws::route::JobFile;
 use std::alloc::{AllocError, Global};
 
-/// A request for catch-up whose query isn't good: 400.
-pub fn bad_query_answer(alloc: Global) -> Result<Answer, AllocError>
-    ensures { IfOk result (λ a. a ≡ bad_query_answer) }
+/// A request for catch-up whose query asks for nothing: 400.
+pub fn query_answer(alloc: Global, fault: QueryFault) -> Result<Answer, AllocError>
+    ensures { IfOk result (λ a. a ≡ spec.query_answer fault) }
 {
-    refusal_answer(alloc, Status::BadRequest, "BadQuery")
+    refusal_answer(alloc, Status::BadRequest, fault.name())
 }
 
 /// A job that was added: its id, and the version (the number of log entries) of the snapshot that it is answered from.

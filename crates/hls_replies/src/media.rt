@@ -1,7 +1,6 @@
 //! Answers that are media: parts of a rendition's resource.
 
 ghost use Rattle.std.specs.Prelude.{◌≡◌, ◌+◌, ◌-◌, ◌<◌, ◌≤◌, ◌^◌, max, min, length, true, false, Some, None, IfOk, IfSome, option_map};
-ghost use Rattle.hls_http_laws.specs.Reply.{extra_line, fault_name, refusal};
 ghost use Rattle.hls_record.specs.Recorded.{offset_at, total_of};
 ghost use Rattle.hls_core.specs.Reads.{recording_of};
 ghost use Rattle.hls_serve_laws.specs.Replies as spec;
@@ -78,12 +77,7 @@ fn slice_answer(
 
 /// A part that holds no byte of a resource: 416 with the total (RFC 9110 15.5.17).
 pub(crate) fn outside_answer(alloc: Global, total: u64) -> Result<Answer, AllocError>
-    ensures { IfOk result (λ a. a ≡ record {
-      status = Status.RangeNotSatisfiable;
-      kind = Kind.Text;
-      field = extra_line (Extra.NoRange total);
-      body = refusal (fault_name HttpFault.RangeOutside);
-    }) }
+    ensures { IfOk result (λ a. a ≡ spec.outside_answer total) }
 {
     let fault = HttpFault::RangeOutside;
     let body = refusal_body(alloc, fault.name())?;

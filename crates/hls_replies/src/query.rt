@@ -1,25 +1,37 @@
 //! The query of a request for catch-up.
 
-ghost use Rattle.std.specs.Prelude.{◌≡◌, IfOk};
+ghost use Rattle.std.specs.Prelude.{◌≡◌, ◌-ℤ◌, IfOk};
 ghost use Rattle.hls_http_laws.specs.Query.{value_in};
 ghost use Rattle.hls_serve_laws.specs.Queries as spec;
-ghost use Rattle.hls_serve_laws.specs.Queries.{number_in, optional_in, rule_of, wanted_in};
+ghost use Rattle.hls_serve_laws.specs.Queries.{from_epoch, moment_in, moment_of, optional_in, query_in, rule_of, time_of};
 
 use hls_catchup::{CostRule, Request};
 use hls_core::snapshot::Snapshot;
 use hls_http::{read_number, value_of};
+use hls_instants::instant_of;
+use hls_serve_laws::query::{Moment, Query, QueryFault};
 use hls_serve_laws::wanted::Wanted;
 use std::alloc::{AllocError, Global};
 
 /// The most digits of a number in a query.
 const MOST_DIGITS: usize = 16;
 
-/// The number of a key.
-fn read_key(alloc: Global, query: &[u8], key: &[u8]) -> Result<Option<u64>, AllocError>
-    ensures { IfOk result (λ number. number ≡ number_in (value_in key.now query.now)) }
+/// The moment that a text names: 1 to 16 digits, or an instant.
+fn moment_of(text: &[u8]) -> Option<Moment>
+    ensures { result ≡ moment_of text.now }
+{
+    match read_number(text, MOST_DIGITS) {
+        Some(us) => Some(Moment::Time(us)),
+        None => instant_of(text).map(Moment::Instant),
+    }
+}
+
+/// The moment of a key.
+fn read_moment(alloc: Global, query: &[u8], key: &[u8]) -> Result<Option<Moment>, AllocError>
+    ensures { IfOk result (λ moment. moment ≡ moment_in (value_in key.now query.now)) }
 {
     match value_of(alloc, query, key)? {
-        Some(text) => Ok(read_number(&text, MOST_DIGITS)),
+        Some(text) => Ok(moment_of(&text)),
         None => Ok(None),
     }
 }
@@ -34,16 +46,16 @@ fn read_optional(alloc: Global, query: &[u8], key: &[u8]) -> Result<Option<Optio
     }
 }
 
-/// What a query asks by `from` and `to`, and perhaps `preferred` and `charge`, each of 1 to 16 digits; None where one of
-/// them isn't good. Of a key that comes several times the first counts, and other keys are passed over. Memory is taken for
-/// each key and value that is decoded.
-pub fn read_query(alloc: Global, query: &[u8]) -> Result<Option<Wanted>, AllocError>
-    ensures { IfOk result (λ wanted. wanted ≡ wanted_in query.now) }
+/// What a query says by `from` and `to`, each of 1 to 16 digits or an instant, and perhaps `preferred` and `charge`, each of
+/// 1 to 16 digits; None where one of them isn't good. Of a key that comes several times the first counts, and other keys are
+/// passed over. Memory is taken for each key and value that is decoded.
+pub fn read_query(alloc: Global, query: &[u8]) -> Result<Option<Query>, AllocError>
+    ensures { IfOk result (λ said. said ≡ query_in query.now) }
 {
-    let Some(start_us) = read_key(alloc, query, b"from")? else {
+    let Some(start) = read_moment(alloc, query, b"from")? else {
         return Ok(None);
     };
-    let Some(stop_us) = read_key(alloc, query, b"to")? else {
+    let Some(stop) = read_moment(alloc, query, b"to")? else {
         return Ok(None);
     };
     let Some(preferred) = read_optional(alloc, query, b"preferred")? else {
@@ -52,12 +64,46 @@ pub fn read_query(alloc: Global, query: &[u8]) -> Result<Option<Wanted>, AllocEr
     let Some(charge) = read_optional(alloc, query, b"charge")? else {
         return Ok(None);
     };
-    Ok(Some(Wanted {
-        start_us,
-        stop_us,
+    Ok(Some(Query {
+        start,
+        stop,
         preferred,
         charge,
     }))
+}
+
+/// How long after the epoch an instant is, in microseconds.
+fn from_epoch(epoch: i64, instant: i64) -> Result<u64, QueryFault>
+    ensures { result ≡ from_epoch (instant -ℤ epoch) }
+{
+    match u64::try_from(i128::from(instant) - i128::from(epoch)) {
+        Ok(us) => Ok(us),
+        Err(_) => Err(QueryFault::BeforeEpoch),
+    }
+}
+
+/// The time of a moment, in microseconds from time 0 on.
+fn time_of(epoch: Option<i64>, moment: Moment) -> Result<u64, QueryFault>
+    ensures { result ≡ time_of epoch moment }
+{
+    match (moment, epoch) {
+        (Moment::Time(us), _) => Ok(us),
+        (Moment::Instant(_), None) => Err(QueryFault::BadQuery),
+        (Moment::Instant(us), Some(epoch)) => from_epoch(epoch, us),
+    }
+}
+
+/// What a query asks of a channel by its epoch, the moment of time 0: an instant is less the epoch. Where a channel has none,
+/// a query with an instant isn't good; `BeforeEpoch` comes only for a query that is good.
+pub fn wanted_of(epoch: Option<i64>, query: Query) -> Result<Wanted, QueryFault>
+    ensures { result ≡ spec.wanted_of epoch query }
+{
+    Ok(Wanted {
+        start_us: time_of(epoch, query.start)?,
+        stop_us: time_of(epoch, query.stop)?,
+        preferred: query.preferred,
+        charge: query.charge,
+    })
 }
 
 /// The rule of a charge: without one it is rule 1, and a charge of 0 is rule 2.

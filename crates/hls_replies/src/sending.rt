@@ -1,10 +1,10 @@
 //! Answers sent.
 
-ghost use Rattle.std.specs.Prelude.{◌≡◌, ◌+◌, ◌<◌, ◌^◌, ℕ, List, Some, length};
-ghost use Rattle.hls_io.specs.Counted.{failures_of, inside_of};
-ghost use Rattle.hls_http_laws.specs.Reply.{reply_text};
-ghost use Rattle.hls_http.specs.Media.{HasPart};
-ghost use Rattle.hls_http.specs.Replies.{Answers, CountsAnswer};
+ghost use Rattle.std.specs.Prelude.{◌≡◌, ◌+◌, ◌<◌, ◌^◌};
+ghost use Rattle.hls_io.specs.Counted.{failures_of};
+ghost use Rattle.hls_io.specs.Streams.{ToOutput};
+ghost use Rattle.hls_http.specs.Media.{HasPart, PartToOutput};
+ghost use Rattle.hls_http.specs.Replies.{AnswersText, CountsAnswer};
 ghost use Rattle.hls_replies.specs.Contents.{HasJobSlice, HasSlice, body_of};
 ghost use Rattle.hls_replies.specs.Sends.{Sends};
 
@@ -31,9 +31,8 @@ fn send_part<R, W: Write, M: Resource>(
 ) -> Result<(), SessionEnd>
     requires room { from + len < 2 ^ 64 }
     requires held { HasPart (M.part media.now) from len }
-    ensures answers { (held bytes : List ℕ) → W.contents (inside_of session.old.writer) ≡ Some held
-        → M.part media.now from len ≡ Some bytes → length bytes ≡ len
-        → Answers head.now to_head held (reply_text head.now bytes to_head) (W.contents (inside_of session.new.writer)) result }
+    ensures answers { PartToOutput W.contents session.old.writer session.new.writer (M.part media.now) from len
+        (AnswersText head.now to_head) result }
     ensures counts { CountsAnswer result (failures_of session.old.writer) (failures_of session.new.writer) }
     ensures source { session.new.source ≡ session.old.source }
 {
@@ -52,8 +51,8 @@ fn send_slice<R, W: Write>(
     to_head: bool,
 ) -> Result<(), SessionEnd>
     requires { HasSlice slice.now }
-    ensures answers { (held : List ℕ) → W.contents (inside_of session.old.writer) ≡ Some held
-        → Answers head.now to_head held (reply_text head.now (body_of (Content.Media slice.now)) to_head) (W.contents (inside_of session.new.writer)) result }
+    ensures answers { ToOutput W.contents session.old.writer session.new.writer
+        (AnswersText head.now to_head (body_of (Content.Media slice.now))) result }
     ensures counts { CountsAnswer result (failures_of session.old.writer) (failures_of session.new.writer) }
     ensures source { session.new.source ≡ session.old.source }
 {
@@ -74,8 +73,8 @@ fn send_job_slice<R, W: Write>(
     to_head: bool,
 ) -> Result<(), SessionEnd>
     requires { HasJobSlice slice.now }
-    ensures answers { (held : List ℕ) → W.contents (inside_of session.old.writer) ≡ Some held
-        → Answers head.now to_head held (reply_text head.now (body_of (Content.JobMedia slice.now)) to_head) (W.contents (inside_of session.new.writer)) result }
+    ensures answers { ToOutput W.contents session.old.writer session.new.writer
+        (AnswersText head.now to_head (body_of (Content.JobMedia slice.now))) result }
     ensures counts { CountsAnswer result (failures_of session.old.writer) (failures_of session.new.writer) }
     ensures source { session.new.source ≡ session.old.source }
 {
@@ -102,8 +101,7 @@ pub fn send<R, W: Write>(
     closing: bool,
     to_head: bool,
 ) -> Result<(), SessionEnd>
-    ensures sends { (held : List ℕ) → W.contents (inside_of session.old.writer) ≡ Some held
-        → Sends answer.now closing to_head held (W.contents (inside_of session.new.writer)) result }
+    ensures sends { ToOutput W.contents session.old.writer session.new.writer (Sends answer.now closing to_head) result }
     ensures counts { CountsAnswer result (failures_of session.old.writer) (failures_of session.new.writer) }
     ensures source { session.new.source ≡ session.old.source }
 {

@@ -1,5 +1,5 @@
 -- What is due of a request, and what was written of it.
-use Rattle.std.proofs.Common.{◌≡◌, ◌≢◌, ◌∙◌, ℕ, Bool, true, false, ◌⊎◌, inl, inr, List, [], ◌++◌, Option, Some, None, IfOk, Result, Ok, Err, length, refl, sym, ap, subst, append_assoc}
+use Rattle.std.proofs.Common.{◌≡◌, ◌≢◌, ◌∙◌, ℕ, Bool, true, false, ◌⊎◌, inl, inr, List, [], ◌++◌, Option, Some, None, IfOk, Result, Ok, Err, refl, sym, ap, subst, append_assoc}
 use Rattle.std.proofs.lemmas.Bool.{cond-true}
 use Rattle.httparse.specs.Grammar.{RequestHead}
 use Rattle.hls_io.specs.Writing.{Writes}
@@ -26,11 +26,8 @@ use Rattle.hls_serve_laws.specs.declared.fault.IngestFault.{IngestFault}
 use Rattle.hls_serve_laws.specs.declared.ingest.Counts.{Counts}
 use Rattle.hls_serve_laws.specs.declared.route.Route.{Route}
 use Rattle.hls_serve_laws.specs.Desks.{Desk}
-use Rattle.hls_serve_laws.specs.Heard.{AddsJob, Asks, Due, Reply, Silence, Finishes, IsDue, IsSkipped, Serves, ServesAllowed, ServesBy, ServesJob, ShowsJob, ShowsStatus, due_for, first_of, job_at, to_head, taken_answer, refused_answer}
+use Rattle.hls_serve_laws.specs.Heard.{Asks, Due, Reply, Silence, Finishes, IsDue, IsSkipped, Serves, ServesAllowed, ServesBy, ServesJob, ShowsJob, ShowsStatus, due_for, first_of, job_at, to_head, taken_answer, refused_answer}
 use Rattle.hls_serve_laws.specs.Ingest.{Progress, counts_text}
-use Rattle.hls_serve_laws.specs.declared.wanted.Wanted.{Wanted}
-use Rattle.hls_serve_laws.specs.JobReplies.{added_answer}
-use Rattle.hls_serve_laws.specs.Queries.{request_for}
 use Rattle.hls_serve_laws.specs.Replies.{Answer, Lists, answer_text, fault_answer, finish_answer, status_answer, text_answer}
 use Rattle.hls_serve_laws.specs.Routes.{allows, removes}
 use Rattle.hls_replies.specs.Sends.{Sends}
@@ -190,17 +187,6 @@ pub status_made : {E : Type 0} (desk : Desk) (a b : Known) (s : State) (jobs : �
     → IfOk made (λ x. x ≡ status_answer s jobs) → Makes (ShowsStatus desk a b) a b made
 status_made desk a b s jobs (Ok x) looks counts is = (jobs, counts, (s, looks, is))
 status_made desk a b s jobs (Err e) looks counts is = inl looks.looked
-
-pub added_made : {E : Type 0} (desk : Desk) (wanted : Wanted) (a b c : Known) (s : State) (version : ℕ) (result : Result ℕ JobFault) (made : Result Answer E) → Looks a s b → c ≡ b
-    → version ≡ length s.log → desk.adds s (request_for s wanted) result → IfOk made (λ x. x ≡ added_answer version result) → Makes (AddsJob desk wanted a c) a c made
-added_made desk wanted a b c s version result (Ok x) looks same is adds told = record {
-  state = s;
-  looks = subst (λ (k : Known). Looks a s k) (sym same) looks;
-  result = result;
-  adds = adds;
-  answer_is = told ∙ ap (λ v. added_answer v result) is;
-}
-added_made desk wanted a b c s version result (Err e) looks same is adds told = inl (subst (λ (k : Known). LookedOn a k) (sym same) looks.looked)
 
 pub shown_job : {E : Type 0} (desk : Desk) (id : ℕ) (shown : Job → Option Answer) (told : Result Job JobFault) (job : Job) (made : Result Answer E) → told ≡ Ok job → desk.tells id told
     → IfOk made (λ a. Some a ≡ shown job) → IfOk made (ShowsJob desk id shown)

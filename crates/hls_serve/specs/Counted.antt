@@ -2,10 +2,13 @@
 use Rattle.std.specs.Prelude.{◌≡◌, ℕ, List, Some, None, Result, Ok, Err}
 use Rattle.hls_boxes_laws.specs.Parts.{cut_of, fault_at_end}
 use Rattle.hls_boxes_laws.specs.declared.fault.BoxFault.{BoxFault}
+use Rattle.hls_io.specs.Counted.{failures_of}
 use Rattle.hls_io.specs.Rose.{Rose}
 use Rattle.hls_http_laws.specs.declared.end.SessionEnd.{SessionEnd}
 use Rattle.hls_http_laws.specs.declared.end.SessionEnd.TheVariants as ends
+use Rattle.hls_http.specs.declared.session.Session.{Session}
 use Rattle.hls_http.specs.Bodies.{CountsEnd}
+use Rattle.hls_http.specs.Source.{read_failures}
 use Rattle.hls_serve_laws.specs.declared.ingest.Intake.{Intake}
 use Rattle.hls_serve_laws.specs.declared.ingest.Intake.TheVariants as came
 use Rattle.hls_serve_laws.specs.declared.fault.IngestFault.TheVariants.{Boxes}
@@ -34,3 +37,18 @@ CountsSession ends.WriteFailed old_reads reads old_writes writes = (reads ≡ ol
 abbrev pub CountsTurn : Result (Unit {0}) SessionEnd → ℕ → ℕ → ℕ → ℕ → Type 0
 CountsTurn (Ok next) old_reads reads old_writes writes = (reads ≡ old_reads) × (writes ≡ old_writes)
 CountsTurn (Err end) old_reads reads old_writes writes = CountsSession end old_reads reads old_writes writes
+
+-- ---- by the counts of a session's own reader and writer
+
+abbrev pub SessionCounts : {R W : Type 0} → Session R W → Session R W → SessionEnd → Type 0
+SessionCounts old new end =
+    CountsSession end (read_failures old.source) (read_failures new.source) (failures_of old.writer) (failures_of new.writer)
+
+abbrev pub TurnCounts : {R W : Type 0} → Session R W → Session R W → Result (Unit {0}) SessionEnd → Type 0
+TurnCounts old new result =
+    CountsTurn result (read_failures old.source) (read_failures new.source) (failures_of old.writer) (failures_of new.writer)
+
+-- .. by its writer's, and whatever its reader's were before and behind a call that counted so
+abbrev pub CountsBehind : {R W : Type 0} → (ℕ → ℕ → Type 0) → Session R W → Session R W → Result (Unit {0}) SessionEnd → Type 0
+CountsBehind Counts old new result =
+    (before now : ℕ) → Counts before now → CountsTurn result before now (failures_of old.writer) (failures_of new.writer)

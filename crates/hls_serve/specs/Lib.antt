@@ -1,4 +1,6 @@
+pub mod Answering
 pub mod Counted
+pub mod Exchanges
 pub mod Ingesting
 pub mod Owned
 pub mod Pieces

@@ -1,5 +1,5 @@
 -- How far a body was taken: parts and pieces.
-use Rattle.std.specs.Prelude.{◌≡◌, ◌⊎◌, ℕ, List, [], ◌++◌, Some, None, Result, Ok, Err, slice_get}
+use Rattle.std.specs.Prelude.{◌≡◌, ◌⊎◌, ℕ, List, [], ◌++◌, Option, Some, None, Result, Ok, Err, slice_get}
 use Rattle.hls_boxes_laws.specs.declared.part.Part.{Part}
 use Rattle.hls_boxes_laws.specs.Parts.{after_parts, cut_of, text_fault}
 use Rattle.hls_media_laws.specs.InitData.{InitData}
@@ -8,12 +8,15 @@ use Rattle.hls_core_laws.specs.State.{State, channel}
 use Rattle.hls_core_laws.specs.IsState.{IsState}
 use Rattle.hls_core_laws.specs.declared.refusal.Refusal.{Refusal}
 use Rattle.hls_core_laws.specs.declared.refusal.Refusal.TheVariants.{NoInit, Memory}
+use Rattle.hls_http_laws.specs.declared.body.Body.{Body}
+use Rattle.hls_http.specs.declared.source.Source.{Source}
+use Rattle.hls_http.specs.Source.{FromSource}
 use Rattle.hls_turn.specs.Passes.{Known}
 use Rattle.hls_turn.specs.Calls.{LookedOn}
 use Rattle.hls_serve_laws.specs.declared.ingest.Intake.{Intake}
 use Rattle.hls_serve_laws.specs.declared.ingest.Intake.TheVariants as came
 use Rattle.hls_serve_laws.specs.declared.fault.IngestFault.TheVariants.{Core}
-use Rattle.hls_serve_laws.specs.Ingest.{Progress, FindsInit, IsTooEarly, TakesAll, IsRefusedNext, IsBrokenNext}
+use Rattle.hls_serve_laws.specs.Ingest.{Progress, FindsInit, Ingests, IsTooEarly, TakesAll, IsRefusedNext, IsBrokenNext}
 use Rattle.hls_serve.specs.declared.ingest.Taken.{Taken}
 
 abbrev pub progress_of : Known → Taken → Progress
@@ -75,3 +78,13 @@ TakesIn r x text held y (Ok done) = TakenFrom r x text held y × IsSettled held
 TakesIn r x text held y (Err (came.Refused fault)) = IsRefusedNext r x text fault y ⊎ IsBrokenNext r x text fault y
 TakesIn r x text held y (Err came.Memory) = WantsIn r x text y
 TakesIn r x text held y (Err (came.Stopped end)) = ⊥
+
+-- .. behind what was fed before and not yet taken out
+abbrev pub TakesOn : ℕ → Progress → List ℕ → List ℕ → List ℕ → Progress → Result (Unit {0}) Intake → Type 0
+TakesOn r x fed piece held y result = TakesIn r x (fed ++ piece) held y result
+
+-- a body from a source, for a rendition
+abbrev pub TakesBody : {R : Type 0} → (R → Option (List ℕ)) → Source R → Source R → ℕ → Known → Body → Body → Progress
+    → Result (Unit {0}) Intake → Type 0
+TakesBody remaining old new r start body last y result =
+    FromSource remaining old new (λ input held left. Ingests r start body input last held left y) result

@@ -15,7 +15,7 @@ use Rattle.hls_serve_laws.specs.declared.route.Route.{Route}
 use Rattle.hls_serve_laws.specs.declared.route.Route.TheVariants as routes
 use Rattle.hls_serve_laws.specs.Desks.{Desk}
 use Rattle.hls_serve_laws.specs.Heard.{Asks, Due, Reply, Follows, IsUnheard, ServesBy, asks_of, first_of, job_at, plan_for, refused_head}
-use Rattle.hls_serve_laws.specs.Queries.{wanted_in}
+use Rattle.hls_serve_laws.specs.Queries.{query_in}
 use Rattle.hls_serve_laws.specs.Replies.{Answer, Lists, answer_text}
 use Rattle.hls_serve_laws.specs.Routes.{path_of, query_of, route_of}
 use Rattle.hls_serve_laws.specs.Sessions.{Comes, Runs}
@@ -60,7 +60,7 @@ pub record IsCall (count : ℕ) (h : RequestHead) (call : Call) : Type 0 where
   pub text : List ℕ
   pub head : IsHead h call.head text
   pub route : call.route ≡ route_of count (path_of h.target)
-  pub wanted : call.route ≡ Some routes.CatchUp → IfOk call.wanted (λ wanted. wanted ≡ wanted_in (query_of h.target))
+  pub query : call.route ≡ Some routes.CatchUp → IfOk call.query (λ query. query ≡ query_in (query_of h.target))
 
 -- ---- answers
 

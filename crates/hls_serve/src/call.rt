@@ -9,15 +9,15 @@ ghost use Rattle.hls_http_laws.specs.Order.{plan_by};
 ghost use Rattle.hls_http.specs.Drained.{announced_by};
 ghost use Rattle.hls_http.specs.Heads.{IsHead};
 ghost use Rattle.hls_serve_laws.specs.Heard.{asks_of, plan_for};
-ghost use Rattle.hls_serve_laws.specs.Queries.{wanted_in};
+ghost use Rattle.hls_serve_laws.specs.Queries.{query_in};
 ghost use Rattle.hls_serve_laws.specs.Routes as spec;
 ghost use Rattle.hls_serve.specs.Turns.{IsCall};
 
 use crate::route::{feeds, route};
 use hls_http::{Head, Plan, plan, split_target};
 use hls_replies::read_query;
+use hls_serve_laws::query::Query;
 use hls_serve_laws::route::Route;
-use hls_serve_laws::wanted::Wanted;
 use std::alloc::{AllocError, Global};
 
 /// What is kept of a request's head, whose text is gone once its body is read.
@@ -27,8 +27,8 @@ pub struct Call {
     pub head: Head,
     /// What its path names.
     pub route: Option<Route>,
-    /// What the query of a request for a catch-up recording asks, and none where it isn't good; or memory was wanted to tell.
-    pub wanted: Result<Option<Wanted>, AllocError>,
+    /// What the query of a request for a catch-up recording says, and none where it isn't good; or memory was wanted to tell.
+    pub query: Result<Option<Query>, AllocError>,
 }
 
 /// The target in a head's text.
@@ -38,16 +38,12 @@ fn target_of<'a>(text: &'a [u8], head: &Head) -> &'a [u8]
     text.get(head.target.start..head.target.end).unwrap_or(b"")
 }
 
-/// What the query of a request for a catch-up recording asks. That of another request isn't looked at.
-fn read_wanted(
-    alloc: Global,
-    route: Option<Route>,
-    query: &[u8],
-) -> Result<Option<Wanted>, AllocError>
-    ensures { route ≡ Some Route.CatchUp → IfOk result (λ wanted. wanted ≡ wanted_in query.now) }
+/// What the query of a request for a catch-up recording says. That of another request isn't looked at.
+fn query_for(alloc: Global, route: Option<Route>, text: &[u8]) -> Result<Option<Query>, AllocError>
+    ensures { route ≡ Some Route.CatchUp → IfOk result (λ query. query ≡ query_in text.now) }
 {
     match route {
-        Some(Route::CatchUp) => read_query(alloc, query),
+        Some(Route::CatchUp) => read_query(alloc, text),
         _ => Ok(None),
     }
 }
@@ -61,7 +57,7 @@ pub fn read_call(alloc: Global, text: &[u8], renditions: usize, head: Head) -> C
     Call {
         head,
         route,
-        wanted: read_wanted(alloc, route, query),
+        query: query_for(alloc, route, query),
     }
 }
 

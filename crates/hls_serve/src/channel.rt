@@ -1,14 +1,13 @@
 //! A channel that many threads share: its turn and its jobs as a keeper, and the sessions of one pass.
 
-ghost use Rattle.std.specs.Prelude.{◌≡◌, ◌++◌, ℕ, List, Some, IfOk, length};
+ghost use Rattle.std.specs.Prelude.{◌≡◌, IfOk, length};
 ghost use Rattle.hls_core_laws.specs.IsState.{IsState};
 ghost use Rattle.hls_core_laws.specs.Moves.{IsFittingAsSeen};
-ghost use Rattle.hls_io.specs.Counted.{failures_of, inside_of};
-ghost use Rattle.hls_http.specs.Source.{held_of, read_failures, reader_of};
 ghost use Rattle.hls_replies.specs.Playlists.{lists};
 ghost use Rattle.hls_serve_laws.specs.Desks.{shared_desk};
 ghost use Rattle.hls_serve_laws.specs.Sessions as spec;
-ghost use Rattle.hls_serve.specs.Counted.{CountsSession};
+ghost use Rattle.hls_serve.specs.Counted.{SessionCounts};
+ghost use Rattle.hls_serve.specs.Exchanges.{Exchanges};
 ghost use Rattle.hls_turn.specs.Calls.{LookedOn, Looks, Submits};
 
 use crate::keeper::Keeper;
@@ -101,9 +100,9 @@ pub fn serve_session<T: Wait, R: Read, W: Write>(
 ) -> SessionEnd
     requires ours { pass.old.turn ≡ turn.now }
     ensures ours { pass.new.turn ≡ turn.now }
-    ensures session { (input out : List ℕ) → R.remaining (reader_of session.old.source) ≡ Some input → W.contents (inside_of session.old.writer) ≡ Some out
-        → spec.Session lists shared_desk pass.old.known (held_of session.old.source ++ input) out (W.contents (inside_of session.new.writer)) pass.new.known result }
-    ensures counts { CountsSession result (read_failures session.old.source) (read_failures session.new.source) (failures_of session.old.writer) (failures_of session.new.writer) }
+    ensures session { Exchanges R.remaining W.contents session.old session.new
+        (spec.Session lists shared_desk) pass.old.known pass.new.known result }
+    ensures counts { SessionCounts session.old session.new result }
 {
     session_on(rt, alloc, session, &Channel { turn, jobs }, pass)
 }

@@ -1,10 +1,9 @@
 //! An encoder's body: its parts as events of the channel, one after the other.
 
-ghost use Rattle.std.specs.Prelude.{◌≡◌, ◌++◌, List, ℕ, None, Some, length};
-ghost use Rattle.hls_boxes_laws.specs.Parts.{cut_of, text_fault};
-ghost use Rattle.hls_http.specs.Source.{held_of, read_failures, reader_of};
-ghost use Rattle.hls_serve_laws.specs.Ingest.{Ingests, PartComes, begun, no_counts, with_init as after_init, with_unit as after_unit};
-ghost use Rattle.hls_serve.specs.Taken.{Finds, IsSettled, IsUsable, TakesIn, TakesOut, progress_of, told_as};
+ghost use Rattle.std.specs.Prelude.{◌≡◌, None};
+ghost use Rattle.hls_http.specs.Source.{read_failures};
+ghost use Rattle.hls_serve_laws.specs.Ingest.{PartComes, begun, no_counts, with_init as after_init, with_unit as after_unit};
+ghost use Rattle.hls_serve.specs.Taken.{Finds, IsSettled, IsUsable, TakesBody, TakesOn, TakesOut, progress_of, told_as};
 ghost use Rattle.hls_serve.specs.Counted.{CountsIngest, EndsBody};
 
 use crate::keeper::Keeper;
@@ -267,7 +266,7 @@ fn take_in<K: Keeper, T: Wait>(
     requires settled { IsSettled reader.old }
     ensures serves { K.serves keeper.now pass.new }
     ensures usable { IsUsable rendition (progress_of (K.known pass.new) taken.new) }
-    ensures takes { TakesIn rendition (progress_of (K.known pass.old) taken.old) (reader.old ++ piece.now) reader.new
+    ensures takes { TakesOn rendition (progress_of (K.known pass.old) taken.old) reader.old piece.now reader.new
         (progress_of (K.known pass.new) taken.new) result }
 {
     let fault = match reader.feed(piece) {
@@ -309,8 +308,7 @@ pub fn ingest<K: Keeper, T: Wait, R: Read>(
     requires none { progress_of (K.known pass.old) taken.old ≡ begun (K.known pass.old) }
     ensures serves { K.serves keeper.now pass.new }
     ensures usable { IsUsable rendition (progress_of (K.known pass.new) taken.new) }
-    ensures ingests { (rest : List ℕ) → R.remaining (reader_of source.old) ≡ Some rest
-        → Ingests rendition (K.known pass.old) body.old (held_of source.old ++ rest) body.new (held_of source.new) (R.remaining (reader_of source.new))
+    ensures ingests { TakesBody R.remaining source.old source.new rendition (K.known pass.old) body.old body.new
         (progress_of (K.known pass.new) taken.new) result }
     ensures counts { CountsIngest result (read_failures source.old) (read_failures source.new) }
 {

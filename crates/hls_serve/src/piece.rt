@@ -1,8 +1,8 @@
 //! The pieces of an encoder's body.
 
-ghost use Rattle.std.specs.Prelude.{◌≡◌, ◌≢◌, ◌++◌, ◌<◌, ◌≤◌, IfOk, List, ℕ, Ok, Some, length};
-ghost use Rattle.hls_http.specs.Bodies.{CountsBody, CountsWait, Passes, StepsTo, Waits, move_len};
-ghost use Rattle.hls_http.specs.Source.{held_of, read_failures, reader_of, taken_of, work_left};
+ghost use Rattle.std.specs.Prelude.{◌≡◌, ◌≢◌, ◌<◌, ◌≤◌, IfOk, Ok, length};
+ghost use Rattle.hls_http.specs.Bodies.{CountsBody, CountsWait, Passes, Waits, move_len};
+ghost use Rattle.hls_http.specs.Source.{FromSource, held_of, read_failures, taken_of, work_left};
 ghost use Rattle.hls_serve.specs.Pieces.{IsLastAlone, split_move};
 
 use hls_http::{Body, BodyEnd, Given, Move, Source, wait_move};
@@ -28,8 +28,7 @@ fn without_last(found: Move) -> Move
 /// move of its own.
 fn wait_piece<R: Read>(source: &mut Source<R>, body: Body) -> Result<Move, BodyEnd>
     requires { body ≢ Body.Length 0 }
-    ensures waits { (rest : List ℕ) → R.remaining (reader_of source.old) ≡ Some rest
-        → Waits body (held_of source.old ++ rest) (held_of source.new) (R.remaining (reader_of source.new)) result }
+    ensures waits { FromSource R.remaining source.old source.new (Waits body) result }
     ensures counts { CountsWait result (read_failures source.old) (read_failures source.new) }
     ensures work { IfOk result (λ found. work_left source.new ≤ work_left source.old) }
     ensures fits { IfOk result (λ found. (0 < move_len found) × (move_len found ≤ length (held_of source.new))) }
@@ -44,8 +43,7 @@ fn wait_piece<R: Read>(source: &mut Source<R>, body: Body) -> Result<Move, BodyE
 /// Takes the next piece of a body, as `read_body` does, but the last byte of a body by length alone: so a refusal that
 /// it shows stands at the body's end, and one that an earlier piece shows doesn't.
 pub fn next_piece<R: Read>(source: &mut Source<R>, body: &mut Body) -> Result<Given, BodyEnd>
-    ensures passes { (rest : List ℕ) → R.remaining (reader_of source.old) ≡ Some rest
-        → Passes body.old (held_of source.old ++ rest) body.new (taken_of source.new) (held_of source.new) (R.remaining (reader_of source.new)) result }
+    ensures passes { FromSource R.remaining source.old source.new (λ input. Passes body.old input body.new (taken_of source.new)) result }
     ensures counts { CountsBody result (read_failures source.old) (read_failures source.new) }
     ensures last { result ≡ Ok Given.Piece → body.new ≡ Body.Length 0 → length (taken_of source.new) ≡ 1 }
 {

@@ -1,18 +1,16 @@
 //! Replies of a request.
 
-ghost use Rattle.std.specs.Prelude.{◌≡◌, ◌++◌, ℕ, List, Some, Err};
-ghost use Rattle.httparse.specs.Grammar.{RequestHead};
-ghost use Rattle.hls_io.specs.Counted.{failures_of, inside_of};
-ghost use Rattle.hls_http_laws.specs.declared.plan.Plan.{Plan};
-ghost use Rattle.hls_http_laws.specs.Order.{says_close};
+ghost use Rattle.std.specs.Prelude.{◌≡◌, ℕ, List, Err};
+ghost use Rattle.hls_io.specs.Counted.{failures_of};
+ghost use Rattle.hls_io.specs.Streams.{ToOutput};
 ghost use Rattle.hls_http.specs.Bodies.{CountsEnd};
 ghost use Rattle.hls_http.specs.Heads.{CountsHead};
 ghost use Rattle.hls_http.specs.Replies.{CountsAnswer};
-ghost use Rattle.hls_http.specs.Source.{read_failures};
-ghost use Rattle.hls_serve_laws.specs.Heard.{IsDue, IsDueAtStop, IsDueWithoutHead, first_of, to_head};
+ghost use Rattle.hls_serve_laws.specs.Heard.{IsDue, IsDueAtStop, IsDueWithoutHead};
 ghost use Rattle.hls_serve_laws.specs.Replies as replies;
-ghost use Rattle.hls_serve.specs.Counted.{CountsTurn};
-ghost use Rattle.hls_serve.specs.Turns.{IsCall, IsMade, IsRefusedHead, Settles};
+ghost use Rattle.hls_serve.specs.Answering.{RepliesMade, RepliesTo, SettlesBehind};
+ghost use Rattle.hls_serve.specs.Counted.{CountsBehind};
+ghost use Rattle.hls_serve.specs.Turns.{IsMade, IsRefusedHead, Settles};
 
 use crate::call::Call;
 use crate::keeper::Keeper;
@@ -40,8 +38,7 @@ fn send_made<R, W: Write>(
     closing: bool,
     to_head: bool,
 ) -> Result<(), SessionEnd>
-    ensures sends { (first out : List ℕ) → W.contents (inside_of session.old.writer) ≡ Some (out ++ first)
-        → Settles (IsMade first made closing to_head) out (W.contents (inside_of session.new.writer)) result }
+    ensures sends { (first : List ℕ) → SettlesBehind W.contents session.old session.new first (IsMade first made closing to_head) result }
     ensures counts { CountsAnswer result (failures_of session.old.writer) (failures_of session.new.writer) }
     ensures source { session.new.source ≡ session.old.source }
 {
@@ -61,9 +58,7 @@ pub fn reply<K: Keeper, R, W: Write>(
     made: Result<Answer, AllocError>,
     early: bool,
 ) -> Result<(), SessionEnd>
-    ensures sends { (count : ℕ) (h : RequestHead) (first out : List ℕ) → IsCall count h call.now
-        → W.contents (inside_of session.old.writer) ≡ Some (out ++ first)
-        → Settles (IsMade first made (says_close h early) (to_head h)) out (W.contents (inside_of session.new.writer)) result }
+    ensures sends { RepliesMade W.contents call.now made early session.old session.new result }
     ensures counts { CountsAnswer result (failures_of session.old.writer) (failures_of session.new.writer) }
     ensures source { session.new.source ≡ session.old.source }
 {
@@ -88,9 +83,7 @@ pub fn refuse<K: Keeper, R, W: Write>(
     fault: HttpFault,
     early: bool,
 ) -> Result<(), SessionEnd>
-    ensures sends { (count : ℕ) (h : RequestHead) (plan : Plan) (out : List ℕ) → IsCall count h call.now
-        → W.contents (inside_of session.old.writer) ≡ Some (out ++ first_of h plan)
-        → Settles (IsDue h plan (replies.fault_answer fault) early) out (W.contents (inside_of session.new.writer)) result }
+    ensures sends { RepliesTo W.contents call.now session.old session.new (λ h plan. IsDue h plan (replies.fault_answer fault) early) result }
     ensures counts { CountsAnswer result (failures_of session.old.writer) (failures_of session.new.writer) }
     ensures source { session.new.source ≡ session.old.source }
 {
@@ -107,11 +100,8 @@ pub fn stopped<K: Keeper, R, W: Write>(
     call: &Call,
     end: BodyEnd,
 ) -> Result<(), SessionEnd>
-    ensures sends { (count : ℕ) (h : RequestHead) (plan : Plan) (out : List ℕ) → IsCall count h call.now
-        → W.contents (inside_of session.old.writer) ≡ Some (out ++ first_of h plan)
-        → Settles (IsDueAtStop h plan end) out (W.contents (inside_of session.new.writer)) result }
-    ensures counts { (before now : ℕ) → CountsEnd end before now
-        → CountsTurn result before now (failures_of session.old.writer) (failures_of session.new.writer) }
+    ensures sends { RepliesTo W.contents call.now session.old session.new (λ h plan. IsDueAtStop h plan end) result }
+    ensures counts { CountsBehind (CountsEnd end) session.old session.new result }
     ensures source { session.new.source ≡ session.old.source }
 {
     match end {
@@ -139,8 +129,7 @@ fn refuse_head<K: Keeper, R, W: Write>(
     pass: &K::Pass,
     fault: HttpFault,
 ) -> Result<(), SessionEnd>
-    ensures sends { (out : List ℕ) → W.contents (inside_of session.old.writer) ≡ Some out
-        → Settles (IsRefusedHead fault) out (W.contents (inside_of session.new.writer)) result }
+    ensures sends { ToOutput W.contents session.old.writer session.new.writer (Settles (IsRefusedHead fault)) result }
     ensures counts { CountsAnswer result (failures_of session.old.writer) (failures_of session.new.writer) }
     ensures source { session.new.source ≡ session.old.source }
 {
@@ -162,10 +151,8 @@ pub fn without_head<K: Keeper, R, W: Write>(
     pass: &K::Pass,
     end: HeadEnd,
 ) -> Result<(), SessionEnd>
-    ensures sends { (out : List ℕ) → W.contents (inside_of session.old.writer) ≡ Some out
-        → Settles (IsDueWithoutHead end) out (W.contents (inside_of session.new.writer)) result }
-    ensures counts { (before now : ℕ) → CountsHead (Err end) before now
-        → CountsTurn result before now (failures_of session.old.writer) (failures_of session.new.writer) }
+    ensures sends { ToOutput W.contents session.old.writer session.new.writer (Settles (IsDueWithoutHead end)) result }
+    ensures counts { CountsBehind (CountsHead (Err end)) session.old session.new result }
     ensures source { session.new.source ≡ session.old.source }
 {
     match end {

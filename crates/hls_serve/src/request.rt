@@ -1,22 +1,21 @@
 //! One request, from its head to its reply.
 
-ghost use Rattle.std.specs.Prelude.{◌≡◌, ◌≤◌, ◌++◌, ℕ, List, Some, false, length};
+ghost use Rattle.std.specs.Prelude.{◌≡◌, ◌≤◌, ℕ, List, Some, false};
 ghost use Rattle.std.specs.Option.{is_some};
-ghost use Rattle.httparse.specs.Grammar.{RequestHead};
-ghost use Rattle.hls_io.specs.Counted.{failures_of, inside_of};
+ghost use Rattle.hls_io.specs.Counted.{failures_of};
+ghost use Rattle.hls_io.specs.Streams.{ToOutput};
+ghost use Rattle.hls_io.specs.Writing.{CountsWrite};
 ghost use Rattle.hls_http_laws.specs.declared.body.Body.{Body as BodyState};
 ghost use Rattle.hls_http_laws.specs.Order.{plan_by};
 ghost use Rattle.hls_http.specs.Drained.{CountsDrop, announced_by};
-ghost use Rattle.hls_http.specs.Heads.{IsHead};
-ghost use Rattle.hls_http.specs.Source.{held_of, read_failures, reader_of, taken_of};
 ghost use Rattle.hls_core_laws.specs.IsState.{IsState};
 ghost use Rattle.hls_replies.specs.Playlists.{lists};
-ghost use Rattle.hls_serve_laws.specs.Heard.{Feeds, Follows, Heard, IsFed, IsSkipped, Skips, asks_of, first_of};
+ghost use Rattle.hls_serve_laws.specs.Heard.{Follows, Heard, IsFed};
 ghost use Rattle.hls_serve_laws.specs.Ingest.{Progress};
 ghost use Rattle.hls_serve_laws.specs.Routes as spec;
-ghost use Rattle.hls_serve.specs.Counted.{CountsIngest, CountsTurn};
-ghost use Rattle.hls_serve.specs.Turns.{HearsBehind, IsCall, Settles, WritesFirst};
-ghost use Rattle.hls_io.specs.Writing.{CountsWrite};
+ghost use Rattle.hls_serve.specs.Answering.{FeedsCall, HearsAndSettles, HearsBehindHead, HearsCall, OfHead, RepliesSkipped, RepliesTo, SkipsCall};
+ghost use Rattle.hls_serve.specs.Counted.{CountsBehind, CountsIngest, TurnCounts};
+ghost use Rattle.hls_serve.specs.Turns.{HearsBehind, WritesFirst};
 
 use crate::call::{Call, plan_of, read_call};
 use crate::ingest::{Taken, ingest};
@@ -37,8 +36,8 @@ use std::sync::Wait;
 
 /// Writes 100 Continue, where it is waited for and the body will be read; whether it is written.
 fn write_first<R, W: Write>(session: &mut Session<R, W>, head: &Head, plan: Plan) -> bool
-    ensures writes { (h : RequestHead) (text out : List ℕ) → IsHead h head.now text → W.contents (inside_of session.old.writer) ≡ Some out
-        → WritesFirst h plan out (W.contents (inside_of session.new.writer)) result }
+    ensures writes { (text : List ℕ)
+        → OfHead head.now text (λ h. ToOutput W.contents session.old.writer session.new.writer (WritesFirst h plan) result) }
     ensures counts { CountsWrite result (failures_of session.old.writer) (failures_of session.new.writer) }
     ensures source { session.new.source ≡ session.old.source }
 {
@@ -59,11 +58,9 @@ fn fed<K: Keeper, R, W: Write>(
     last: Body,
     intake: Result<(), Intake>,
 ) -> Result<(), SessionEnd>
-    ensures fed { (count : ℕ) (h : RequestHead) (plan : Plan) (progress : Progress) (out : List ℕ) → IsCall count h call.now → progress.counts ≡ counts
-        → W.contents (inside_of session.old.writer) ≡ Some (out ++ first_of h plan)
-        → Settles (λ due. IsFed h plan last progress due intake) out (W.contents (inside_of session.new.writer)) result }
-    ensures counts { (before now : ℕ) → CountsIngest intake before now
-        → CountsTurn result before now (failures_of session.old.writer) (failures_of session.new.writer) }
+    ensures fed { (y : Progress) → y.counts ≡ counts
+        → RepliesTo W.contents call.now session.old session.new (λ h plan due. IsFed h plan last y due intake) result }
+    ensures counts { CountsBehind (CountsIngest intake) session.old session.new result }
     ensures source { session.new.source ≡ session.old.source }
 {
     match intake {
@@ -94,12 +91,9 @@ fn feed<K: Keeper, T: Wait, R: Read, W: Write>(
     requires serves { K.serves keeper.now pass.old }
     requires valid { IsState (K.known pass.old).seen }
     ensures serves { K.serves keeper.now pass.new }
-    ensures feeds { (count : ℕ) (h : RequestHead) (input out : List ℕ) → IsCall count h call.now → R.remaining (reader_of session.old.source) ≡ Some input
-        → W.contents (inside_of session.old.writer) ≡ Some (out ++ first_of h (Plan.Feed body))
-        → Settles (λ due. Feeds h (Plan.Feed body) rendition (K.known pass.old) body (held_of session.old.source ++ input) due (K.known pass.new)
-        (held_of session.new.source) (R.remaining (reader_of session.new.source))) out (W.contents (inside_of session.new.writer)) result }
-    ensures counts { CountsTurn result (read_failures session.old.source) (read_failures session.new.source) (failures_of session.old.writer)
-        (failures_of session.new.writer) }
+    ensures feeds { FeedsCall R.remaining W.contents call.now rendition body session.old session.new
+        (K.known pass.old) (K.known pass.new) result }
+    ensures counts { TurnCounts session.old session.new result }
 {
     let mut taken = Taken::none();
     let mut rest = body;
@@ -137,12 +131,9 @@ fn skipped<K: Keeper, T: Wait, R, W: Write>(
     requires serves { K.serves keeper.now pass.old }
     requires dropped { spec.feeds (Some route) call.now.head.method ≡ false }
     ensures serves { K.serves keeper.now pass.new }
-    ensures skipped { (count : ℕ) (h : RequestHead) (plan : Plan) (out : List ℕ) → IsCall count h call.now → call.now.route ≡ Some route
-        → W.contents (inside_of session.old.writer) ≡ Some (out ++ first_of h plan)
-        → Settles (λ due. IsSkipped lists K.desk h (asks_of count h) route plan (K.known pass.old) (K.known pass.new) due dropped) out
-        (W.contents (inside_of session.new.writer)) result }
-    ensures counts { (before now : ℕ) → CountsDrop dropped before now
-        → CountsTurn result before now (failures_of session.old.writer) (failures_of session.new.writer) }
+    ensures skipped { RepliesSkipped W.contents K.desk call.now route dropped session.old session.new
+        (K.known pass.old) (K.known pass.new) result }
+    ensures counts { CountsBehind (CountsDrop dropped) session.old session.new result }
     ensures source { session.new.source ≡ session.old.source }
 {
     match dropped {
@@ -180,13 +171,9 @@ fn skip<K: Keeper, T: Wait, R: Read, W: Write>(
     requires fits { announced_by body ≤ 65536 }
     requires dropped { spec.feeds (Some route) call.now.head.method ≡ false }
     ensures serves { K.serves keeper.now pass.new }
-    ensures skips { (count : ℕ) (h : RequestHead) (input out : List ℕ) → IsCall count h call.now → call.now.route ≡ Some route
-        → R.remaining (reader_of session.old.source) ≡ Some input → W.contents (inside_of session.old.writer) ≡ Some (out ++ first_of h (Plan.Skip body))
-        → Settles (λ due. Skips lists K.desk h (asks_of count h) route (Plan.Skip body) (K.known pass.old) body (held_of session.old.source ++ input) due
-        (K.known pass.new) (held_of session.new.source) (R.remaining (reader_of session.new.source))) out
-        (W.contents (inside_of session.new.writer)) result }
-    ensures counts { CountsTurn result (read_failures session.old.source) (read_failures session.new.source) (failures_of session.old.writer)
-        (failures_of session.new.writer) }
+    ensures skips { SkipsCall R.remaining W.contents K.desk call.now route body session.old session.new
+        (K.known pass.old) (K.known pass.new) result }
+    ensures counts { TurnCounts session.old session.new result }
 {
     let mut rest = body;
     let dropped = session.drop_body(&mut rest);
@@ -208,12 +195,9 @@ fn follow<K: Keeper, T: Wait, R: Read, W: Write>(
     requires by { plan ≡ plan_by call.now.head.body (is_some call.now.route) (spec.feeds call.now.route call.now.head.method) }
     requires fits { (body : BodyState) → plan ≡ Plan.Skip body → announced_by body ≤ 65536 }
     ensures serves { K.serves keeper.now pass.new }
-    ensures follows { (count : ℕ) (h : RequestHead) (input out : List ℕ) → IsCall count h call.now → R.remaining (reader_of session.old.source) ≡ Some input
-        → W.contents (inside_of session.old.writer) ≡ Some (out ++ first_of h plan)
-        → Settles (λ due. Follows lists K.desk h (asks_of count h) plan (K.known pass.old) (held_of session.old.source ++ input) due (K.known pass.new)
-        (held_of session.new.source) (R.remaining (reader_of session.new.source))) out (W.contents (inside_of session.new.writer)) result }
-    ensures counts { CountsTurn result (read_failures session.old.source) (read_failures session.new.source) (failures_of session.old.writer)
-        (failures_of session.new.writer) }
+    ensures follows { HearsCall R.remaining W.contents call.now plan session.old session.new
+        (Follows lists K.desk) (K.known pass.old) (K.known pass.new) result }
+    ensures counts { TurnCounts session.old session.new result }
 {
     match plan {
         Plan::Refuse { fault, closing } => {
@@ -243,12 +227,9 @@ fn answer_head<K: Keeper, T: Wait, R: Read, W: Write>(
 ) -> Result<(), SessionEnd>
     requires serves { K.serves keeper.now pass.old }
     ensures serves { K.serves keeper.now pass.new }
-    ensures hears { (h : RequestHead) (input out : List ℕ) → IsHead h head (taken_of session.old.source)
-        → R.remaining (reader_of session.old.source) ≡ Some input → W.contents (inside_of session.old.writer) ≡ Some out
-        → Settles (λ due. HearsBehind lists K.desk h (K.known pass.old) (held_of session.old.source ++ input) due (K.known pass.new)
-        (held_of session.new.source) (R.remaining (reader_of session.new.source))) out (W.contents (inside_of session.new.writer)) result }
-    ensures counts { CountsTurn result (read_failures session.old.source) (read_failures session.new.source) (failures_of session.old.writer)
-        (failures_of session.new.writer) }
+    ensures hears { HearsBehindHead R.remaining W.contents head session.old session.new
+        (HearsBehind lists K.desk) (K.known pass.old) (K.known pass.new) result }
+    ensures counts { TurnCounts session.old session.new result }
 {
     let renditions = keeper.renditions(pass);
     let call = read_call(alloc, session.source.taken(), renditions, head);
@@ -269,11 +250,9 @@ pub fn one_request<K: Keeper, T: Wait, R: Read, W: Write>(
 ) -> Result<(), SessionEnd>
     requires serves { K.serves keeper.now pass.old }
     ensures serves { K.serves keeper.now pass.new }
-    ensures heard { (input out : List ℕ) → R.remaining (reader_of session.old.source) ≡ Some input → W.contents (inside_of session.old.writer) ≡ Some out
-        → Settles (λ due. Heard lists K.desk (K.known pass.old) (held_of session.old.source ++ input) due (K.known pass.new)
-        (held_of session.new.source) (R.remaining (reader_of session.new.source))) out (W.contents (inside_of session.new.writer)) result }
-    ensures counts { CountsTurn result (read_failures session.old.source) (read_failures session.new.source) (failures_of session.old.writer)
-        (failures_of session.new.writer) }
+    ensures heard { HearsAndSettles R.remaining W.contents session.old session.new
+        (Heard lists K.desk) (K.known pass.old) (K.known pass.new) result }
+    ensures counts { TurnCounts session.old session.new result }
 {
     match session.next_head() {
         Ok(head) => answer_head(rt, alloc, session, keeper, pass, head),

@@ -4,31 +4,34 @@ ghost use Rattle.std.specs.Prelude.{◌≡◌, ℕ, List, Some, None, IfOk, true
 ghost use Rattle.httparse.specs.Grammar.{RequestHead};
 ghost use Rattle.hls_http_laws.specs.declared.fault.HttpFault.TheVariants as http;
 ghost use Rattle.hls_replies.specs.Playlists.{lists};
-ghost use Rattle.hls_serve_laws.specs.Heard.{AddsJob, CatchesUp, Finishes, RemovesJob, Serves, ServesJob, ShowsJob, ShowsState, ShowsStatus, asks_of, shown_if};
-ghost use Rattle.hls_serve_laws.specs.Queries.{wanted_in};
+ghost use Rattle.hls_serve_laws.specs.Heard.{AddsJob, AsksFor, CatchesUp, Finishes, RemovesJob, Serves, ServesJob, ShowsJob, ShowsState, ShowsStatus, asks_of, shown_if};
+ghost use Rattle.hls_serve_laws.specs.Queries.{query_in};
 ghost use Rattle.hls_serve_laws.specs.Replies as replies;
 ghost use Rattle.hls_serve_laws.specs.Replies.{playlist_answer};
 ghost use Rattle.hls_serve_laws.specs.Routes as spec;
 ghost use Rattle.hls_serve_laws.specs.Heard as heard;
-ghost use Rattle.hls_serve.specs.Turns.{IsCall, IsResponse, Makes};
+ghost use Rattle.hls_serve.specs.Answering.{MakesBy, OfCall, OfCallTo};
+ghost use Rattle.hls_serve.specs.Turns.{IsResponse, Makes};
 
 use crate::call::Call;
 use crate::keeper::Keeper;
 use crate::route::{allows, is_to_head, job_at, removes};
+use hls_core::snapshot::Snapshot;
 use hls_core_laws::event::Event;
 use hls_core_laws::refusal::Refusal;
 use hls_http::HttpFault;
 use hls_http_laws::range::Asked;
 use hls_jobs::{Job, JobFault};
 use hls_replies::{
-    Answer, added_answer, bad_query_answer, fault_answer, file_answer, finish_answer, list_answer,
-    master_answer, media_answer, method_answer, removed_answer, request_for, status_answer,
-    told_answer,
+    Answer, added_answer, fault_answer, file_answer, finish_answer, list_answer, master_answer,
+    media_answer, method_answer, query_answer, removed_answer, request_for, status_answer,
+    told_answer, wanted_of,
 };
+use hls_serve_laws::query::{Query, QueryFault};
 use hls_serve_laws::route::Route;
 use hls_serve_laws::wanted::Wanted;
 use std::alloc::{AllocError, Global};
-use std::sync::Wait;
+use std::sync::{Arc, Wait};
 
 fn show_master<K: Keeper, T: Wait>(
     rt: &T,
@@ -38,8 +41,7 @@ fn show_master<K: Keeper, T: Wait>(
 ) -> Result<Answer, AllocError>
     requires { K.serves keeper.now pass.old }
     ensures serves { K.serves keeper.now pass.new }
-    ensures shows { Makes (ShowsState (K.known pass.old) (K.known pass.new) (λ s. playlist_answer (lists.master s))) (K.known pass.old)
-        (K.known pass.new) result }
+    ensures shows { MakesBy (λ a b. ShowsState a b (λ s. playlist_answer (lists.master s))) (K.known pass.old) (K.known pass.new) result }
 {
     let state = keeper.look(rt, alloc, pass)?;
     master_answer(alloc, &state)
@@ -54,8 +56,8 @@ fn show_list<K: Keeper, T: Wait>(
 ) -> Result<Answer, AllocError>
     requires { K.serves keeper.now pass.old }
     ensures serves { K.serves keeper.now pass.new }
-    ensures shows { Makes (ShowsState (K.known pass.old) (K.known pass.new) (λ s. replies.list_answer (lists.live s rendition))) (K.known pass.old)
-        (K.known pass.new) result }
+    ensures shows { MakesBy (λ a b. ShowsState a b (λ s. replies.list_answer (lists.live s rendition)))
+        (K.known pass.old) (K.known pass.new) result }
 {
     let state = keeper.look(rt, alloc, pass)?;
     list_answer(alloc, &state, rendition)
@@ -71,8 +73,8 @@ fn show_media<K: Keeper, T: Wait>(
 ) -> Result<Answer, AllocError>
     requires { K.serves keeper.now pass.old }
     ensures serves { K.serves keeper.now pass.new }
-    ensures shows { Makes (ShowsState (K.known pass.old) (K.known pass.new) (λ s. replies.media_answer s rendition asked)) (K.known pass.old)
-        (K.known pass.new) result }
+    ensures shows { MakesBy (λ a b. ShowsState a b (λ s. replies.media_answer s rendition asked))
+        (K.known pass.old) (K.known pass.new) result }
 {
     let state = keeper.look(rt, alloc, pass)?;
     media_answer(alloc, state, rendition, asked)
@@ -86,7 +88,7 @@ fn show_status<K: Keeper, T: Wait>(
 ) -> Result<Answer, AllocError>
     requires { K.serves keeper.now pass.old }
     ensures serves { K.serves keeper.now pass.new }
-    ensures shows { Makes (ShowsStatus K.desk (K.known pass.old) (K.known pass.new)) (K.known pass.old) (K.known pass.new) result }
+    ensures shows { MakesBy (ShowsStatus K.desk) (K.known pass.old) (K.known pass.new) result }
 {
     let state = keeper.look(rt, alloc, pass)?;
     let jobs = keeper.jobs(rt, pass);
@@ -103,7 +105,7 @@ fn finish<K: Keeper, T: Wait>(
 ) -> Result<Answer, AllocError>
     requires { K.serves keeper.now pass.old }
     ensures serves { K.serves keeper.now pass.new }
-    ensures finishes { Makes (Finishes (K.known pass.old) rendition (K.known pass.new)) (K.known pass.old) (K.known pass.new) result }
+    ensures finishes { MakesBy (λ a b. Finishes a rendition b) (K.known pass.old) (K.known pass.new) result }
 {
     match keeper.submit(rt, alloc, pass, Event::Finish { rendition }) {
         Ok(done) => finish_answer(alloc, Ok(done)),
@@ -114,8 +116,7 @@ fn finish<K: Keeper, T: Wait>(
 
 /// HEAD is answered as GET without a Range (RFC 9110 9.3.2).
 fn range_of(call: &Call) -> Asked
-    ensures { (count : ℕ) (h : RequestHead) → IsCall count h call.now
-        → result ≡ heard.range_for (spec.is_to_head (asks_of count h).method) (asks_of count h).range }
+    ensures { OfCall call.now (λ h q. result ≡ heard.range_for (spec.is_to_head q.method) q.range) }
 {
     if is_to_head(call.head.method) {
         Asked::All
@@ -124,23 +125,43 @@ fn range_of(call: &Call) -> Asked
     }
 }
 
-/// Adds a job that answers from the current state.
+/// Adds a job that answers from a state.
 fn add_job<K: Keeper, T: Wait>(
     rt: &T,
     alloc: Global,
     keeper: &K,
     pass: &mut K::Pass,
+    state: Arc<Snapshot>,
     wanted: Wanted,
 ) -> Result<Answer, AllocError>
     requires { K.serves keeper.now pass.old }
     ensures serves { K.serves keeper.now pass.new }
-    ensures adds { Makes (AddsJob K.desk wanted (K.known pass.old) (K.known pass.new)) (K.known pass.old) (K.known pass.new) result }
+    ensures known { K.known pass.new ≡ K.known pass.old }
+    ensures adds { IfOk result (AddsJob K.desk state.value wanted) }
 {
-    let state = keeper.look(rt, alloc, pass)?;
     let version = state.version();
     let request = request_for(&state, wanted);
     let added = keeper.add_job(rt, pass, state, request);
     added_answer(alloc, version, added)
+}
+
+/// Adds the job that a query asks the current state for; or replies why it asks for nothing.
+fn add_wanted<K: Keeper, T: Wait>(
+    rt: &T,
+    alloc: Global,
+    keeper: &K,
+    pass: &mut K::Pass,
+    query: Query,
+) -> Result<Answer, AllocError>
+    requires { K.serves keeper.now pass.old }
+    ensures serves { K.serves keeper.now pass.new }
+    ensures adds { Makes (AsksFor K.desk query (K.known pass.old) (K.known pass.new)) (K.known pass.old) (K.known pass.new) result }
+{
+    let state = keeper.look(rt, alloc, pass)?;
+    match wanted_of(state.config().epoch(), query) {
+        Ok(wanted) => add_job(rt, alloc, keeper, pass, state, wanted),
+        Err(fault) => query_answer(alloc, fault),
+    }
 }
 
 /// A catch-up recording is asked for, by a query that was read before.
@@ -149,16 +170,16 @@ fn catch_up<K: Keeper, T: Wait>(
     alloc: Global,
     keeper: &K,
     pass: &mut K::Pass,
-    wanted: Result<Option<Wanted>, AllocError>,
+    query: Result<Option<Query>, AllocError>,
 ) -> Result<Answer, AllocError>
     requires { K.serves keeper.now pass.old }
     ensures serves { K.serves keeper.now pass.new }
-    ensures adds { (query : List ℕ) → IfOk wanted (λ w. w ≡ wanted_in query)
-        → Makes (CatchesUp K.desk (wanted_in query) (K.known pass.old) (K.known pass.new)) (K.known pass.old) (K.known pass.new) result }
+    ensures adds { (text : List ℕ) → IfOk query (λ said. said ≡ query_in text)
+        → Makes (CatchesUp K.desk (query_in text) (K.known pass.old) (K.known pass.new)) (K.known pass.old) (K.known pass.new) result }
 {
-    match wanted {
-        Ok(Some(wanted)) => add_job(rt, alloc, keeper, pass, wanted),
-        Ok(None) => bad_query_answer(alloc),
+    match query {
+        Ok(Some(query)) => add_wanted(rt, alloc, keeper, pass, query),
+        Ok(None) => query_answer(alloc, QueryFault::BadQuery),
         Err(error) => Err(error),
     }
 }
@@ -172,8 +193,7 @@ fn show_found(
     job: Job,
 ) -> Result<Answer, AllocError>
     requires { heard.job_at route ≡ Some id }
-    ensures { (count : ℕ) (h : RequestHead) → IsCall count h call.now
-        → IfOk result (λ a. Some a ≡ shown_if (asks_of count h) route (spec.allows route (asks_of count h).method) job) }
+    ensures { OfCall call.now (λ h q. IfOk result (λ a. Some a ≡ shown_if q route (spec.allows route q.method) job)) }
 {
     if !allows(route, call.head.method) {
         return method_answer(alloc, route);
@@ -197,8 +217,7 @@ fn show_job<K: Keeper, T: Wait>(
 ) -> Result<Answer, AllocError>
     requires serves { K.serves keeper.now pass.now }
     requires of_job { heard.job_at route ≡ Some id }
-    ensures { (count : ℕ) (h : RequestHead) → IsCall count h call.now
-        → IfOk result (ShowsJob K.desk id (shown_if (asks_of count h) route (spec.allows route (asks_of count h).method))) }
+    ensures { OfCall call.now (λ h q. IfOk result (ShowsJob K.desk id (shown_if q route (spec.allows route q.method)))) }
 {
     match keeper.job(rt, pass, id) {
         Ok(job) => show_found(alloc, call, route, id, job),
@@ -238,8 +257,7 @@ fn serve_job<K: Keeper, T: Wait>(
     requires of_job { heard.job_at route ≡ Some id }
     ensures serves { K.serves keeper.now pass.new }
     ensures known { K.known pass.new ≡ K.known pass.old }
-    ensures answers { (count : ℕ) (h : RequestHead) → IsCall count h call.now
-        → IfOk result (λ a. ServesJob K.desk (asks_of count h) route id a (spec.removes route (asks_of count h).method)) }
+    ensures answers { OfCall call.now (λ h q. IfOk result (λ a. ServesJob K.desk q route id a (spec.removes route q.method))) }
 {
     if removes(route, call.head.method) {
         return remove_job(rt, alloc, keeper, pass, id);
@@ -261,15 +279,15 @@ fn serve<K: Keeper, T: Wait>(
     requires dropped { spec.feeds (Some route) call.now.head.method ≡ false }
     requires allowed { spec.allows route call.now.head.method ≡ true }
     ensures serves { K.serves keeper.now pass.new }
-    ensures answers { (count : ℕ) (h : RequestHead) → IsCall count h call.now → call.now.route ≡ Some route
-        → Makes (λ answer. Serves lists K.desk (asks_of count h) route (K.known pass.old) answer (K.known pass.new)) (K.known pass.old) (K.known pass.new) result }
+    ensures answers { OfCallTo route call.now
+        (λ h q. MakesBy (λ a b answer. Serves lists K.desk q route a answer b) (K.known pass.old) (K.known pass.new) result) }
 {
     match route {
         Route::Finish(rendition) => finish(rt, alloc, keeper, pass, rendition),
         Route::LiveMaster => show_master(rt, alloc, keeper, pass),
         Route::LiveList(rendition) => show_list(rt, alloc, keeper, pass, rendition),
         Route::Media(rendition) => show_media(rt, alloc, keeper, pass, rendition, range_of(call)),
-        Route::CatchUp => catch_up(rt, alloc, keeper, pass, call.wanted),
+        Route::CatchUp => catch_up(rt, alloc, keeper, pass, call.query),
         Route::Status => show_status(rt, alloc, keeper, pass),
         Route::Ingest(_) => unreachable!(),
         Route::Job(_) => unreachable!(),
@@ -290,8 +308,8 @@ pub fn respond<K: Keeper, T: Wait>(
     requires serves { K.serves keeper.now pass.old }
     requires dropped { spec.feeds (Some route) call.now.head.method ≡ false }
     ensures serves { K.serves keeper.now pass.new }
-    ensures responds { (count : ℕ) (h : RequestHead) → IsCall count h call.now → call.now.route ≡ Some route
-        → Makes (IsResponse lists K.desk (asks_of count h) route (K.known pass.old) (K.known pass.new)) (K.known pass.old) (K.known pass.new) result }
+    ensures responds { OfCallTo route call.now
+        (λ h q. MakesBy (IsResponse lists K.desk q route) (K.known pass.old) (K.known pass.new) result) }
 {
     if let Some(id) = job_at(route) {
         return serve_job(rt, alloc, keeper, pass, call, route, id);

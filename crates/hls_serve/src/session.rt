@@ -1,11 +1,9 @@
 //! Sessions.
 
-ghost use Rattle.std.specs.Prelude.{◌≡◌, ◌++◌, ℕ, List, Some};
-ghost use Rattle.hls_io.specs.Counted.{failures_of, inside_of};
-ghost use Rattle.hls_http.specs.Source.{held_of, read_failures, reader_of};
 ghost use Rattle.hls_replies.specs.Playlists.{lists};
 ghost use Rattle.hls_serve_laws.specs.Sessions as spec;
-ghost use Rattle.hls_serve.specs.Counted.{CountsSession};
+ghost use Rattle.hls_serve.specs.Counted.{SessionCounts};
+ghost use Rattle.hls_serve.specs.Exchanges.{Exchanges};
 
 use crate::keeper::Keeper;
 use crate::request::one_request;
@@ -28,11 +26,9 @@ pub fn session_on<K: Keeper, T: Wait, R: Read, W: Write>(
 ) -> SessionEnd
     requires serves { K.serves keeper.now pass.old }
     ensures serves { K.serves keeper.now pass.new }
-    ensures session { (input out : List ℕ) → R.remaining (reader_of session.old.source) ≡ Some input → W.contents (inside_of session.old.writer) ≡ Some out
-        → spec.Session lists K.desk (K.known pass.old) (held_of session.old.source ++ input) out (W.contents (inside_of session.new.writer))
-        (K.known pass.new) result }
-    ensures counts { CountsSession result (read_failures session.old.source) (read_failures session.new.source) (failures_of session.old.writer)
-        (failures_of session.new.writer) }
+    ensures session { Exchanges R.remaining W.contents session.old session.new
+        (spec.Session lists K.desk) (K.known pass.old) (K.known pass.new) result }
+    ensures counts { SessionCounts session.old session.new result }
 {
     for _ in rt.forever() {
         match one_request(rt, alloc, session, keeper, pass) {

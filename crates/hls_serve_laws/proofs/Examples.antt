@@ -1,8 +1,10 @@
 -- The definitions, computed on known rows.
-use Rattle.std.proofs.Common.{◌≡◌, ℕ, true, false, [], ◌∷◌, ◌++◌, Some, None, Ok, Err, refl, codes}
+use Rattle.std.proofs.Common.{◌≡◌, ℕ, ℤ, pos, true, false, [], ◌∷◌, ◌++◌, Some, None, Ok, Err, refl, codes}
 use Rattle.std.specs.Fmt.{digits}
 use Rattle.form_urlencoded.specs.Form.{raw_pairs, split}
 use Rattle.percent_encoding.specs.Percent.{percent_decode}
+use Rattle.hls_instants.specs.Instants.{instant_of}
+use Rattle.hls_instants.specs.Shape.{after_pattern, is_zone_behind}
 use Rattle.hls_boxes_laws.specs.declared.fault.BoxFault.TheVariants as boxes
 use Rattle.hls_core_laws.specs.declared.refusal.Refusal.TheVariants as core
 use Rattle.hls_http_laws.specs.declared.fault.HttpFault.TheVariants as http
@@ -16,12 +18,15 @@ use Rattle.hls_jobs.specs.declared.fault.JobFault.TheVariants as jobs
 use Rattle.hls_jobs.specs.declared.job.Job.TheVariants as told
 use Rattle.hls_turn.specs.declared.done.Done.TheVariants as moved
 use Rattle.hls_serve_laws.specs.declared.fault.IngestFault.TheVariants.{Boxes, Core}
+use Rattle.hls_serve_laws.specs.declared.query.Moment.TheVariants.{Instant}
+use Rattle.hls_serve_laws.specs.declared.query.Query.{Query}
+use Rattle.hls_serve_laws.specs.declared.query.QueryFault.TheVariants.{BadQuery, BeforeEpoch}
 use Rattle.hls_serve_laws.specs.declared.route.Route.TheVariants as routes
 use Rattle.hls_serve_laws.specs.declared.route.JobFile.TheVariants as files
 use Rattle.hls_serve_laws.specs.Heard.{refused_answer, taken_answer}
 use Rattle.hls_serve_laws.specs.Ingest.{Progress}
-use Rattle.hls_serve_laws.specs.JobReplies.{added_answer, bad_query_answer, file_answer, removed_answer, resource_answer, told_answer}
-use Rattle.hls_serve_laws.specs.Queries.{wanted_in}
+use Rattle.hls_serve_laws.specs.JobReplies.{added_answer, file_answer, query_answer, removed_answer, resource_answer, told_answer}
+use Rattle.hls_serve_laws.specs.Queries.{wanted_in, wanted_of}
 use Rattle.hls_serve_laws.specs.Replies.{answer_text, fault_answer, finish_answer, method_answer, status_row, text_answer, whole}
 use Rattle.hls_serve_laws.specs.Routes.{allows, path_of, route_of}
 use Rattle.hls_turn.specs.Passes.{no_state}
@@ -108,10 +113,15 @@ full : answer_text (added_answer 11 (Err jobs.TableFull)) false false
 unfolding digits
 full = refl
 
-bad_query : answer_text bad_query_answer false false
+bad_query : answer_text (query_answer BadQuery) false false
     ≡ codes "HTTP/1.1 400 Bad Request\r\nContent-Type: text/plain\r\nContent-Length: 17\r\n\r\nrefused BadQuery\n"
 unfolding digits
 bad_query = refl
+
+before_epoch : answer_text (query_answer BeforeEpoch) false false
+    ≡ codes "HTTP/1.1 400 Bad Request\r\nContent-Type: text/plain\r\nContent-Length: 20\r\n\r\nrefused BeforeEpoch\n"
+unfolding digits
+before_epoch = refl
 
 -- one is taken away, and then isn't there
 removed : answer_text (removed_answer (Ok tt)) false false ≡ codes "HTTP/1.1 204 No Content\r\n\r\n"
@@ -149,13 +159,35 @@ whole_resource : resource_answer (Some (10 ∷ 20 ∷ [])) ranges.All ≡ record
 whole_resource = refl
 
 -- what a query asks: keys are decoded, the first of a key counts, and `preferred` and `charge` needn't be there
-asks : wanted_in (codes "x&%66rom=0&to=%31&to=x") ≡ Some (record { start_us = 0; stop_us = 1; preferred = None; charge = None })
+asks : wanted_in None (codes "x&%66rom=0&to=%31&to=x") ≡ Ok (record { start_us = 0; stop_us = 1; preferred = None; charge = None })
 unfolding number_of first_of raw_pairs split percent_decode
 asks = refl
 
-no_end : wanted_in (codes "from=0") ≡ None
+no_end : wanted_in None (codes "from=0") ≡ Err BadQuery
 unfolding number_of first_of raw_pairs split percent_decode
 no_end = refl
+
+-- instants of 2024-01-01T00:00:05Z and :09Z, where time 0 is that day's beginning, and of the second before it
+told_at : ℤ → ℤ → Query
+told_at start stop = record { start = Instant start; stop = Instant stop; preferred = None; charge = None }
+
+by_the_clock : wanted_of (Some (pos 1704067200000000)) (told_at (pos 1704067205000000) (pos 1704067209000000))
+    ≡ Ok (record { start_us = 5000000; stop_us = 9000000; preferred = None; charge = None })
+unfolding told_at
+by_the_clock = refl
+
+before : wanted_of (Some (pos 1704067200000000)) (told_at (pos 1704067199000000) (pos 1704067209000000)) ≡ Err BeforeEpoch
+unfolding told_at
+before = refl
+
+no_epoch : wanted_of None (told_at (pos 1704067205000000) (pos 1704067209000000)) ≡ Err BadQuery
+unfolding told_at
+no_epoch = refl
+
+-- there is no second 60
+second_60 : wanted_in (Some (pos 1704067200000000)) (codes "from=0&to=2024-01-01T00:00:60Z") ≡ Err BadQuery
+unfolding number_of first_of raw_pairs split percent_decode instant_of after_pattern is_zone_behind
+second_60 = refl
 
 -- a row of the status
 version : status_row (codes "version") 0 ≡ codes "version 0\n"

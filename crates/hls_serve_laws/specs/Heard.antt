@@ -41,14 +41,17 @@ use Rattle.hls_jobs.specs.declared.job.Job.{Job}
 use Rattle.hls_serve_laws.specs.declared.fault.IngestFault.{IngestFault}
 use Rattle.hls_serve_laws.specs.declared.ingest.Intake.{Intake}
 use Rattle.hls_serve_laws.specs.declared.ingest.Intake.TheVariants as came
+use Rattle.hls_serve_laws.specs.declared.query.Query.{Query}
+use Rattle.hls_serve_laws.specs.declared.query.QueryFault.{QueryFault}
+use Rattle.hls_serve_laws.specs.declared.query.QueryFault.TheVariants.{BadQuery}
 use Rattle.hls_serve_laws.specs.declared.route.Route.{Route}
 use Rattle.hls_serve_laws.specs.declared.route.Route.TheVariants as routes
 use Rattle.hls_serve_laws.specs.declared.wanted.Wanted.{Wanted}
 use Rattle.hls_serve_laws.specs.Desks.{Desk}
 use Rattle.hls_serve_laws.specs.Faults.{name_of, status_of}
 use Rattle.hls_serve_laws.specs.Ingest.{Ingests, Progress, counts_text}
-use Rattle.hls_serve_laws.specs.JobReplies.{added_answer, bad_query_answer, file_answer, removed_answer, told_answer}
-use Rattle.hls_serve_laws.specs.Queries.{request_for, wanted_in}
+use Rattle.hls_serve_laws.specs.JobReplies.{added_answer, query_answer, file_answer, removed_answer, told_answer}
+use Rattle.hls_serve_laws.specs.Queries.{query_in, request_for, wanted_of}
 use Rattle.hls_serve_laws.specs.Replies.{Answer, Lists, answer_text, fault_answer, finish_answer, list_answer, media_answer, method_answer, playlist_answer, status_answer, text_answer}
 use Rattle.hls_serve_laws.specs.Routes.{allows, feeds, is_to_head, path_of, query_of, removes, route_of}
 
@@ -87,18 +90,27 @@ Finishes a r b answer = (done : Result Done Refusal) × Submits a (Finish r) don
 
 -- ---- acts on the table of jobs: one for each request
 
--- a job is added with the state that is seen, and what came of that is replied
-pub record AddsJob (desk : Desk) (wanted : Wanted) (a b : Known) (answer : Answer) : Type 0 where
+-- a job is added with a state, and what came of that is replied
+pub record AddsJob (desk : Desk) (s : State) (wanted : Wanted) (answer : Answer) : Type 0 where
+  pub result : Result ℕ JobFault
+  pub adds : desk.adds s (request_for s wanted) result
+  pub answer_is : answer ≡ added_answer (length s.log) result
+
+-- a query that asks for nothing comes before a full table
+abbrev pub AddsWanted : Desk → State → Result Wanted QueryFault → Answer → Type 0
+AddsWanted desk s (Err fault) answer = answer ≡ query_answer fault
+AddsWanted desk s (Ok wanted) answer = AddsJob desk s wanted answer
+
+-- by the epoch of the state that is seen, which is every state's of the channel
+pub record AsksFor (desk : Desk) (query : Query) (a b : Known) (answer : Answer) : Type 0 where
   pub state : State
   pub looks : Looks a state b
-  pub result : Result ℕ JobFault
-  pub adds : desk.adds state (request_for state wanted) result
-  pub answer_is : answer ≡ added_answer (length state.log) result
+  pub adds : AddsWanted desk state (wanted_of state.config.epoch query) answer
 
--- a bad query comes before a full table
-abbrev pub CatchesUp : Desk → Option Wanted → Known → Known → Answer → Type 0
-CatchesUp desk None a b answer = (b ≡ a) × (answer ≡ bad_query_answer)
-CatchesUp desk (Some wanted) a b answer = AddsJob desk wanted a b answer
+-- what isn't a query in any channel needs no look
+abbrev pub CatchesUp : Desk → Option Query → Known → Known → Answer → Type 0
+CatchesUp desk None a b answer = (b ≡ a) × (answer ≡ query_answer BadQuery)
+CatchesUp desk (Some query) a b answer = AsksFor desk query a b answer
 
 -- what is told of a job is replied; where there is none it isn't found, and want of memory has one reply
 abbrev pub IsOfJob : Result Job JobFault → (Job → Option Answer) → Answer → Type 0
@@ -136,7 +148,7 @@ Serves lists desk q (routes.Finish r) a answer b = Finishes a r b answer
 Serves lists desk q routes.LiveMaster a answer b = ShowsState a b (λ s. playlist_answer (lists.master s)) answer
 Serves lists desk q (routes.LiveList r) a answer b = ShowsState a b (λ s. list_answer (lists.live s r)) answer
 Serves lists desk q (routes.Media r) a answer b = ShowsState a b (λ s. media_answer s r (range_for (is_to_head q.method) q.range)) answer
-Serves lists desk q routes.CatchUp a answer b = CatchesUp desk (wanted_in q.query) a b answer
+Serves lists desk q routes.CatchUp a answer b = CatchesUp desk (query_in q.query) a b answer
 Serves lists desk q (routes.Job id) a answer b = ⊥
 Serves lists desk q (routes.JobFile id file) a answer b = ⊥
 Serves lists desk q routes.Status a answer b = ShowsStatus desk a b answer

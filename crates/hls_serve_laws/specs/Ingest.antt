@@ -226,7 +226,8 @@ BodyComes r start content last held left y (Err came.Memory) = IsWanting r start
 BodyComes r start content last held left y (Err (came.Stopped end)) = IsCaughtUp r start content y × Stops last held left end
 
 -- a body whose parts are taken as they come, from where its head ended
-pub record Ingests (r : ℕ) (start : Known) (body : Body) (input : List ℕ) (last : Body) (held : List ℕ) (left : Option (List ℕ)) (y : Progress) (result : Result (Unit {0}) Intake) : Type 0 where
+pub record Ingests (r : ℕ) (start : Known) (body : Body) (input : List ℕ) (last : Body) (held : List ℕ) (left : Option (List ℕ))
+    (y : Progress) (result : Result (Unit {0}) Intake) : Type 0 where
   pub content : List ℕ
   pub goes : Goes body input content last held left
   pub comes : BodyComes r start content last held left y result

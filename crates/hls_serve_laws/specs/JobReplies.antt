@@ -19,14 +19,16 @@ use Rattle.hls_job_files.specs.declared.standing.Withheld.TheVariants as withhel
 use Rattle.hls_job_files.specs.Files.{certificate_file, master_file, playlist_file}
 use Rattle.hls_job_files.specs.Line.{job_line, version_end}
 use Rattle.hls_job_files.specs.Standing.{files_of}
+use Rattle.hls_serve_laws.specs.declared.query.QueryFault.{QueryFault}
 use Rattle.hls_serve_laws.specs.declared.route.JobFile.{JobFile}
 use Rattle.hls_serve_laws.specs.declared.route.JobFile.TheVariants as files
+use Rattle.hls_serve_laws.specs.Queries.{query_fault_name}
 use Rattle.hls_serve_laws.specs.Replies.{Answer, fault_answer, list_answer, part_answer, text_answer}
 
 -- ---- added, removed
 
-abbrev pub bad_query_answer : Answer
-bad_query_answer = text_answer BadRequest (refusal (codes "BadQuery"))
+abbrev pub query_answer : QueryFault → Answer
+query_answer fault = text_answer BadRequest (refusal (query_fault_name fault))
 
 -- the job's id, and the version (the number of log entries) of the state that it is answered from; or a full table
 abbrev pub added_answer : ℕ → Result ℕ JobFault → Answer

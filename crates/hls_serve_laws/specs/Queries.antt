@@ -1,34 +1,86 @@
 -- What the query of a request for catch-up asks.
-use Rattle.std.specs.Prelude.{ℕ, List, Option, Some, None, option_map, unwrap_or, codes}
+use Rattle.std.specs.Prelude.{ℕ, ℤ, pos, negsuc, ◌-ℤ◌, List, Option, Some, None, option_map, unwrap_or, Result, Ok, Err, codes}
+use Rattle.hls_instants.specs.Instants.{instant_of}
 use Rattle.hls_http_laws.specs.Fields.{number_of}
 use Rattle.hls_http_laws.specs.Query.{value_in}
 use Rattle.hls_check_laws.specs.declared.cost_rule.CostRule.{CostRule}
 use Rattle.hls_check_laws.specs.declared.cost_rule.CostRule.TheVariants.{Deviation, Charged}
 use Rattle.hls_core_laws.specs.State.{State}
 use Rattle.hls_catchup.specs.declared.request.Request.{Request}
+use Rattle.hls_serve_laws.specs.declared.query.Moment.{Moment}
+use Rattle.hls_serve_laws.specs.declared.query.Moment.TheVariants.{Time, Instant}
+use Rattle.hls_serve_laws.specs.declared.query.Query.{Query}
+use Rattle.hls_serve_laws.specs.declared.query.QueryFault.{QueryFault}
+use Rattle.hls_serve_laws.specs.declared.query.QueryFault.TheVariants.{BadQuery, BeforeEpoch}
 use Rattle.hls_serve_laws.specs.declared.wanted.Wanted.{Wanted}
 
--- microseconds, 1 to 16 digits
-abbrev pub number_in : Option (List ℕ) → Option ℕ
-number_in None = None
-number_in (Some text) = number_of 16 text
+-- ---- what a query says
+
+-- 1 to 16 digits are microseconds from time 0 on, whatever else they could be
+abbrev pub moment_by : Option ℕ → Option ℤ → Option Moment
+moment_by (Some us) instant = Some (Time us)
+moment_by None instant = option_map Instant instant
+
+abbrev pub moment_of : List ℕ → Option Moment
+moment_of text = moment_by (number_of 16 text) (instant_of text)
+
+abbrev pub moment_in : Option (List ℕ) → Option Moment
+moment_in None = None
+moment_in (Some text) = moment_of text
 
 -- the number of a key that needn't be there
 abbrev pub optional_in : Option (List ℕ) → Option (Option ℕ)
 optional_in None = Some None
 optional_in (Some text) = option_map Some (number_of 16 text)
 
--- what these numbers ask for, where they are there
-abbrev pub wanted_of : Option ℕ → Option ℕ → Option (Option ℕ) → Option (Option ℕ) → Option Wanted
-wanted_of (Some start) (Some stop) (Some preferred) (Some charge) =
-    Some (record { start_us = start; stop_us = stop; preferred = preferred; charge = charge })
-wanted_of start stop preferred charge = None
+-- the query of these, where they are there
+abbrev pub query_with : Option Moment → Option Moment → Option (Option ℕ) → Option (Option ℕ) → Option Query
+query_with (Some start) (Some stop) (Some preferred) (Some charge) =
+    Some (record { start = start; stop = stop; preferred = preferred; charge = charge })
+query_with start stop preferred charge = None
 
 -- `from` and `to`, and perhaps `preferred` and `charge`; none where one of them isn't good
-abbrev pub wanted_in : List ℕ → Option Wanted
-wanted_in query =
-    wanted_of (number_in (value_in (codes "from") query)) (number_in (value_in (codes "to") query)) (optional_in (value_in (codes "preferred") query))
-    (optional_in (value_in (codes "charge") query))
+abbrev pub query_in : List ℕ → Option Query
+query_in text =
+    query_with (moment_in (value_in (codes "from") text)) (moment_in (value_in (codes "to") text)) (optional_in (value_in (codes "preferred") text))
+    (optional_in (value_in (codes "charge") text))
+
+-- ---- what it asks of a channel
+
+-- what lies before time 0 has no time
+abbrev pub from_epoch : ℤ → Result ℕ QueryFault
+from_epoch (pos us) = Ok us
+from_epoch (negsuc n) = Err BeforeEpoch
+
+-- an instant less the epoch, the moment of time 0; where that isn't known, an instant says nothing
+abbrev pub time_of : Option ℤ → Moment → Result ℕ QueryFault
+time_of epoch (Time us) = Ok us
+time_of None (Instant us) = Err BadQuery
+time_of (Some epoch) (Instant us) = from_epoch (us -ℤ epoch)
+
+abbrev pub wanted_with : Result ℕ QueryFault → Result ℕ QueryFault → Option ℕ → Option ℕ → Result Wanted QueryFault
+wanted_with (Err fault) stop preferred charge = Err fault
+wanted_with (Ok start) (Err fault) preferred charge = Err fault
+wanted_with (Ok start) (Ok stop) preferred charge = Ok (record { start_us = start; stop_us = stop; preferred = preferred; charge = charge })
+
+-- by a channel's epoch, if it has one
+abbrev pub wanted_of : Option ℤ → Query → Result Wanted QueryFault
+wanted_of epoch query = wanted_with (time_of epoch query.start) (time_of epoch query.stop) query.preferred query.charge
+
+-- a query that isn't good comes before an instant before the epoch, whichever key it is
+abbrev pub wanted_by : Option ℤ → Option Query → Result Wanted QueryFault
+wanted_by epoch None = Err BadQuery
+wanted_by epoch (Some query) = wanted_of epoch query
+
+-- what the text of a query asks of a channel with this epoch
+abbrev pub wanted_in : Option ℤ → List ℕ → Result Wanted QueryFault
+wanted_in epoch text = wanted_by epoch (query_in text)
+
+abbrev pub query_fault_name : QueryFault → List ℕ
+query_fault_name BadQuery = codes "BadQuery"
+query_fault_name BeforeEpoch = codes "BeforeEpoch"
+
+-- ---- what a state is asked
 
 -- the rule: without a charge rule 1; a charge of 0 is rule 2
 abbrev pub rule_of : Option ℕ → CostRule

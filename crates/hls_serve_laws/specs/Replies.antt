@@ -98,14 +98,18 @@ abbrev pub media_given : Status → Extra → Option (List ℕ) → Answer
 media_given status extra None = fault_answer http.Gone
 media_given status extra (Some bytes) = record { status = status; kind = Media; field = extra_line extra; body = bytes }
 
--- by the part that is asked for of a resource, which is told as so many bytes from an offset on, where they are there
-abbrev pub part_answer : (ℕ → ℕ → Option (List ℕ)) → ℕ → Part → Answer
-part_answer bytes total parts.Outside = record {
+-- where none of a resource's bytes is asked for, of so many
+abbrev pub outside_answer : ℕ → Answer
+outside_answer total = record {
   status = RangeNotSatisfiable;
   kind = Text;
   field = extra_line (NoRange total);
   body = refusal (fault_name http.RangeOutside);
 }
+
+-- by the part that is asked for of a resource, which is told as so many bytes from an offset on, where they are there
+abbrev pub part_answer : (ℕ → ℕ → Option (List ℕ)) → ℕ → Part → Answer
+part_answer bytes total parts.Outside = outside_answer total
 part_answer bytes total parts.Whole = media_given Done Nothing (bytes 0 total)
 part_answer bytes total (parts.Slice from len) = media_given PartialContent (Range from (from + len - 1) total) (bytes from len)
 

@@ -1,5 +1,6 @@
 -- What a target names, and which methods that has.
-use Rattle.std.specs.Prelude.{ℕ, nat_lt, min, position, Bool, true, false, not, ◌&&◌, ◌==◌, ◌-◌, ◌+◌, cond, bytes_eq, List, [], ◌∷◌, length, take, drop, Option, Some, None, option_map, unwrap_or, codes}
+use Rattle.std.specs.Prelude.{ℕ, nat_lt, min, Bool, true, false, not, ◌&&◌, ◌==◌, ◌-◌, ◌+◌, cond, Option, Some, None, option_map, unwrap_or}
+use Rattle.std.specs.Prelude.{List, [], ◌∷◌, length, take, drop, position, bytes_eq, codes}
 use Rattle.std.specs.List.{position_or_len}
 use Rattle.std.specs.Str.{all_ascii_digits}
 use Rattle.hls_http_laws.specs.Fields.{number_of}

@@ -9,5 +9,6 @@
 pub mod fault;
 pub mod ingest;
 pub mod laws;
+pub mod query;
 pub mod route;
 pub mod wanted;

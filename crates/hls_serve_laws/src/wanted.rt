@@ -1,7 +1,7 @@
 //! What is asked of catch-up.
 
-/// What the query of a request for catch-up asks: the programme from `start_us` to `stop_us`, and how long its segments
-/// should be and what each costs; all in microseconds. Whether a channel has such a programme is no matter here.
+/// What the query of a request for catch-up asks of a channel: the programme from `start_us` to `stop_us`, and how long its
+/// segments should be and what each costs; all in microseconds. Whether the channel has such a programme is no matter here.
 #[derive(Clone, Copy, Debug, PartialEq, Eq, Drop)]
 pub struct Wanted {
     /// `from`.

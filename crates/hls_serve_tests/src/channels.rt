@@ -15,9 +15,8 @@ use std::alloc::Global;
 use std::sync::{Arc, Wait};
 use std::test::Fail;
 
-/// A channel of these renditions, before anything came.
-pub fn channel_of(alloc: Global, renditions: Vec<Rendition>) -> Result<Own, Fail> {
-    let config = Config::new(alloc, 6, 4_000_000, renditions)?;
+/// A channel of this configuration, before anything came.
+fn channel_with(alloc: Global, config: Config) -> Result<Own, Fail> {
     Ok(Own {
         snapshot: Arc::new(alloc, Snapshot::first(alloc, config)?)?,
         number: 0,
@@ -25,8 +24,18 @@ pub fn channel_of(alloc: Global, renditions: Vec<Rendition>) -> Result<Own, Fail
     })
 }
 
+/// A channel of these renditions, before anything came.
+pub fn channel_of(alloc: Global, renditions: Vec<Rendition>) -> Result<Own, Fail> {
+    channel_with(alloc, Config::new(alloc, 6, 4_000_000, renditions)?)
+}
+
 /// A channel of one rendition, before anything came.
 pub fn opened(alloc: Global) -> Result<Own, Fail> {
+    opened_at(alloc, None)
+}
+
+/// A channel of one rendition with an epoch or without one, before anything came.
+pub fn opened_at(alloc: Global, epoch: Option<i64>) -> Result<Own, Fail> {
     let rendition = Rendition {
         name: Bytes::copy_from_slice(alloc, b"v1")?,
         video: true,
@@ -35,7 +44,10 @@ pub fn opened(alloc: Global) -> Result<Own, Fail> {
     };
     let mut renditions = Vec::new(alloc);
     renditions.push(rendition)?;
-    channel_of(alloc, renditions)
+    channel_with(
+        alloc,
+        Config::with_epoch(alloc, 6, 4_000_000, renditions, epoch)?,
+    )
 }
 
 /// A channel of a video and an audio rendition, before anything came.
@@ -58,7 +70,17 @@ pub fn video_and_audio(alloc: Global, tolerance: u64) -> Result<Own, Fail> {
 
 /// A channel of one rendition with the first units.
 pub fn with_units<T: Wait>(rt: &T, alloc: Global, units: u32) -> Result<Own, Fail> {
-    let mut own = opened(alloc)?;
+    with_units_at(rt, alloc, units, None)
+}
+
+/// A channel of one rendition with the first units, and with an epoch or without one.
+pub fn with_units_at<T: Wait>(
+    rt: &T,
+    alloc: Global,
+    units: u32,
+    epoch: Option<i64>,
+) -> Result<Own, Fail> {
+    let mut own = opened_at(alloc, epoch)?;
     let _ = answered(
         rt,
         alloc,

@@ -1,7 +1,7 @@
 //! Catch-up over sessions on one thread. Whoever asks runs the jobs, between two sessions.
 
 use crate::asking::{answered, asked, replied, says};
-use crate::channels::{is_new, video_and_audio, with_units};
+use crate::channels::{is_new, video_and_audio, with_units, with_units_at};
 use crate::ranges::PARTS;
 use crate::streams::{init, put, put_to, stream, unit};
 use hls_core_laws::event::Event;
@@ -103,6 +103,74 @@ fn each_job_is_of_the_state_that_its_request_saw(rt: HostRuntime) -> Result<(), 
         let target = format!(in alloc; "/job/2/{file}")?;
         assert!(rt; says(&rt, alloc, own, ("GET", target.as_str()), NOT_FOUND)?);
     }
+    Ok(())
+}
+
+/// 2024-01-01T00:00:00Z.
+const EPOCH: Option<i64> = Some(1_704_067_200_000_000);
+
+const BY_THE_CLOCK: &str = "from=2024-01-01T01:00:05%2B01:00&to=2024-01-01T00:00:09Z";
+
+const BEFORE_EPOCH: (&str, &str, &str) = ("400 Bad Request", "", "refused BeforeEpoch\n");
+
+#[test]
+fn a_programme_by_the_clock(rt: HostRuntime) -> Result<(), Fail> {
+    let alloc = rt.alloc();
+    let mut own = with_units_at(&rt, alloc, 10, EPOCH)?;
+    let own = &mut own;
+    assert!(rt; adds(&rt, alloc, own, BY_THE_CLOCK, 1, 11)?);
+    assert!(rt; adds(&rt, alloc, own, "from=5000000&to=9000000", 2, 11)?);
+    run_all(alloc, own)?;
+    for file in ["0.m3u8", "certificate.txt"] {
+        let by_clock = asked(
+            &rt,
+            alloc,
+            own,
+            "GET",
+            &*format!(in alloc; "/job/1/{file}")?,
+        )?;
+        let by_time = asked(
+            &rt,
+            alloc,
+            own,
+            "GET",
+            &*format!(in alloc; "/job/2/{file}")?,
+        )?;
+        assert!(rt; by_clock == by_time);
+    }
+    assert!(rt; asked(&rt, alloc, own, "GET", "/job/1/0.m3u8")?.ends_with(DATED));
+    assert!(rt; asked(&rt, alloc, own, "GET", "/job/1/certificate.txt")?.ends_with(THREE_PLACES));
+    Ok(())
+}
+
+const DATED: &[u8] =
+    b"\n#EXT-X-MAP:URI=\"0.mp4\",BYTERANGE=\"600@0\"\n#EXT-X-PROGRAM-DATE-TIME:2024-01-01T00:00:04.000Z\n#EXTINF:4.000000,\n#EXT-X-BYTERANGE:1000@600\n0.mp4\n#EXT-X-PROGRAM-DATE-TIME:2024-01-01T00:00:08.000Z\n#EXTINF:4.000000,\n#EXT-X-BYTERANGE:1000@1600\n0.mp4\n#EXT-X-ENDLIST\n";
+
+const THREE_PLACES: &[u8] =
+    b"\nplaces 3\n1 4000000 4000000 0 0\n2 8000000 8000000 0 0\n3 12000000 12000000 0 0\ncut 0\nplan 0 1 2\nprice 0 0\nprice 1 0\nprice 2 0\nend\n";
+
+#[test]
+fn queries_that_are_refused(rt: HostRuntime) -> Result<(), Fail> {
+    let alloc = rt.alloc();
+    let mut own = with_units_at(&rt, alloc, 10, EPOCH)?;
+    let own = &mut own;
+    let before = "/catchup?from=2023-12-31T23:59:59Z&to=2024-01-01T00:00:09Z";
+    assert!(rt; says(&rt, alloc, own, ("POST", before), BEFORE_EPOCH)?);
+    let minute_too_long = "/catchup?from=2024-01-01T00:00:60Z&to=2024-01-01T00:00:09Z";
+    assert!(rt; says(&rt, alloc, own, ("POST", minute_too_long), BAD_QUERY)?);
+    let both = "/catchup?from=2023-12-31T23:59:59Z&to=2024-01-01T00:00:60Z";
+    assert!(rt; says(&rt, alloc, own, ("POST", both), BAD_QUERY)?);
+    for id in 1..65u32 {
+        assert!(rt; adds(&rt, alloc, own, BY_THE_CLOCK, id, 11)?);
+    }
+    let by_clock = format!(in alloc; "/catchup?{BY_THE_CLOCK}")?;
+    let full = ("503 Service Unavailable", "", "refused TableFull\n");
+    assert!(rt; says(&rt, alloc, own, ("POST", by_clock.as_str()), full)?);
+    assert!(rt; says(&rt, alloc, own, ("POST", before), BEFORE_EPOCH)?);
+    assert!(rt; says(&rt, alloc, own, ("POST", both), BAD_QUERY)?);
+    let mut own = with_units(&rt, alloc, 10)?;
+    assert!(rt; says(&rt, alloc, &mut own, ("POST", by_clock.as_str()), BAD_QUERY)?);
+    assert!(rt; says(&rt, alloc, &mut own, ("POST", before), BAD_QUERY)?);
     Ok(())
 }
 

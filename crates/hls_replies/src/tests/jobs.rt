@@ -5,13 +5,14 @@ use super::{
     unit_in, with_unit,
 };
 use crate::{
-    added_answer, bad_query_answer, file_answer, read_query, removed_answer, request_for,
-    status_answer, told_answer,
+    added_answer, file_answer, query_answer, read_query, removed_answer, request_for,
+    status_answer, told_answer, wanted_of,
 };
 use hls_core::snapshot::Snapshot;
 use hls_http_laws::range::Asked;
 use hls_jobs::{Job, JobFault, JobTable, run_job};
 use hls_samples::unit_bytes;
+use hls_serve_laws::query::QueryFault;
 use hls_serve_laws::route::JobFile;
 use std::alloc::Global;
 use std::sync::Arc;
@@ -24,10 +25,14 @@ fn posted(
     snapshot: &Arc<Snapshot>,
     query: &[u8],
 ) -> Result<Vec<u8>, Fail> {
-    let Some(wanted) = read_query(alloc, query)? else {
-        return Ok(sent(alloc, bad_query_answer(alloc)?, false, false)?);
+    let Some(query) = read_query(alloc, query)? else {
+        let answer = query_answer(alloc, QueryFault::BadQuery)?;
+        return Ok(sent(alloc, answer, false, false)?);
     };
-    let request = request_for(snapshot, wanted);
+    let request = match wanted_of(snapshot.config().epoch(), query) {
+        Ok(wanted) => request_for(snapshot, wanted),
+        Err(fault) => return Ok(sent(alloc, query_answer(alloc, fault)?, false, false)?),
+    };
     let added = jobs.add(Arc::try_clone(snapshot)?, request);
     let answer = added_answer(alloc, snapshot.version(), added)?;
     Ok(sent(alloc, answer, false, false)?)

@@ -23,8 +23,8 @@ use hls_media::{read_facts, read_init};
 use hls_samples::{init_bytes, unit_bytes};
 use hls_serve_laws::fault::IngestFault;
 use hls_serve_laws::ingest::Counts;
+use hls_serve_laws::query::{Moment, Query};
 use hls_serve_laws::route::Route;
-use hls_serve_laws::wanted::Wanted;
 use hls_turn::Done;
 use std::alloc::{AllocError, Global};
 use std::io::{self, Write};
@@ -310,16 +310,16 @@ fn refused_memory_to_head_has_no_body(rt: HostRuntime) {
 #[test]
 fn refused_memory_tells_nothing_of_a_query(rt: HostRuntime) {
     let alloc = rt.alloc();
-    let query = b"fro%6d=%30&to=8000000";
-    let wanted = match read_query(alloc, query) {
-        Ok(wanted) => wanted,
+    let query = b"fro%6d=%30&to=2024-01-01T00:00:00%2B00:00";
+    let said = match read_query(alloc, query) {
+        Ok(said) => said,
         Err(_) => read_query(alloc, query).ok().flatten(),
     };
-    let asked = Wanted {
-        start_us: 0,
-        stop_us: 8_000_000,
+    let asked = Query {
+        start: Moment::Time(0),
+        stop: Moment::Instant(1_704_067_200_000_000),
         preferred: None,
         charge: None,
     };
-    assert_eq!(rt; wanted, Some(asked));
+    assert_eq!(rt; said, Some(asked));
 }

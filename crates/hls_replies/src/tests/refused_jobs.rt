@@ -1,7 +1,9 @@
 //! Where memory is refused a job's replies are as ever, or those of want of memory. A channel of two units of 4 s.
 
 use super::refused::recorded;
-use crate::{Answer, added_answer, file_answer, read_query, request_for, send, told_answer};
+use crate::{
+    Answer, added_answer, file_answer, read_query, request_for, send, told_answer, wanted_of,
+};
 use hls_http::Session;
 use hls_http_laws::range::Asked;
 use hls_jobs::{Job, JobTable, run_job};
@@ -12,7 +14,8 @@ use std::sync::Arc;
 /// How far a job for the first unit is once it was run; none where memory was refused.
 fn run(alloc: Global) -> Option<Job> {
     let state = recorded(alloc)?;
-    let wanted = read_query(alloc, b"from=0&to=4000000").ok()??;
+    let query = read_query(alloc, b"from=0&to=4000000").ok()??;
+    let wanted = wanted_of(state.config().epoch(), query).ok()?;
     let request = request_for(&state, wanted);
     let mut jobs = JobTable::new(alloc).ok()?;
     let id = jobs.add(Arc::try_clone(&state).ok()?, request).ok()?;

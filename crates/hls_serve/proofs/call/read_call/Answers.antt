@@ -1,5 +1,5 @@
 use Rattle.std.proofs.Common.{◌≡◌, ◌∙◌, List, ℕ, IfOk, ap, subst}
-use Rattle.hls_serve_laws.specs.Queries.{wanted_in}
+use Rattle.hls_serve_laws.specs.Queries.{query_in}
 use Rattle.hls_serve_laws.specs.Routes.{path_of, query_of, route_of}
 use Rattle.hls_serve.proofs.call.read_call.Goals as goal
 
@@ -9,6 +9,6 @@ returns c = λ h is.
       text = c.args.text.now;
       head = is;
       route = c.route-route.ensures ∙ ap (route_of c.args.renditions) (c.split_target.ensures.path ∙ ap path_of target);
-      wanted = λ catch. subst (λ (query : List ℕ). IfOk c.read_wanted.result (λ wanted. wanted ≡ wanted_in query)) (c.split_target.ensures.query ∙ ap query_of target)
-          (c.read_wanted.ensures catch);
+      query = λ catch. subst (λ (text : List ℕ). IfOk c.query_for.result (λ query. query ≡ query_in text)) (c.split_target.ensures.query ∙ ap query_of target)
+          (c.query_for.ensures catch);
     }

@@ -9,15 +9,15 @@ use Rattle.hls_serve.proofs.TurnLaws.{settles_at}
 use Rattle.hls_serve.proofs.request.answer_head.Goals as goal
 
 pub returns-then-not-write_first-clause-hears : goal.returns-then-not-write_first-clause-hears
-returns-then-not-write_first-clause-hears g c = λ h input out is known there.
+returns-then-not-write_first-clause-hears g c = λ h is input out known there.
     let here = c.read_call-call.ensures h (subst (λ (text : List ℕ). IsHead h c.args.head text) (sym c.taken.ensures) is) in
     let call = subst (λ (n : ℕ). IsCall n h c.read_call-call.result) c.renditions-renditions.ensures.count here in
     let written = g.W.Write.contents _ in
-    let w = subst (λ (done : Bool). WritesFirst h c.plan_of-plan.result out written done) c.if-not-write_first.true (c.write_first.ensures.writes h call.text out call.head there) in
+    let w = subst (λ (done : Bool). WritesFirst h c.plan_of-plan.result out written done) c.if-not-write_first.true (c.write_first.ensures.writes call.text h call.head out there) in
     behind_unheard lists g.K.Keeper.desk h c.plan_of-plan.result (g.K.Keeper.known c.args.pass.now) (held_of c.args.session.now.source ++ input) out _ _ _ (c.plan_of-plan.ensures.plan _ h call) w
 
 pub returns-clause-hears : goal.returns-clause-hears
-returns-clause-hears g c = λ h input out is known there.
+returns-clause-hears g c = λ h is input out known there.
     let here = c.read_call-call.ensures h (subst (λ (text : List ℕ). IsHead h c.args.head text) (sym c.taken.ensures) is) in
     let call = subst (λ (n : ℕ). IsCall n h c.read_call-call.result) c.renditions-renditions.ensures.count here in
     let plan = c.plan_of-plan.result in
@@ -25,7 +25,7 @@ returns-clause-hears g c = λ h input out is known there.
     let b = g.K.Keeper.known c.follow.new.pass in
     let now = c.follow.new.session.source in
     let written = g.W.Write.contents _ in
-    let w = subst (λ (done : Bool). WritesFirst h plan out written done) c.if-not-write_first.false (c.write_first.ensures.writes h call.text out call.head there) in
+    let w = subst (λ (done : Bool). WritesFirst h plan out written done) c.if-not-write_first.false (c.write_first.ensures.writes call.text h call.head out there) in
     let same = c.write_first.ensures.source in
     let s = c.follow.ensures.follows _ h input out call (ap (λ source. g.R.Read.remaining (reader_of source)) same ∙ known) w in
     let all = settles_at c.write_first.new.session.source c.args.session.now.source

@@ -9,7 +9,7 @@ use Rattle.hls_serve.proofs.request.feed.Goals as goal
 pub returns-clause-feeds : goal.returns-clause-feeds
 returns-clause-feeds g c = λ count h input out call known there.
     let progress = progress_of (g.K.Keeper.known c.ingest-intake.new.pass) c.ingest-intake.new.taken in
-    let s = c.fed.ensures.fed count h (Feed c.args.body) progress out call refl there in
+    let s = c.fed.ensures.fed progress refl count h (Feed c.args.body) out call there in
     settles_at c.ingest-intake.new.source c.fed.new.session.source (λ source due. Feeds h (Feed c.args.body) c.args.rendition (g.K.Keeper.known c.args.pass.now) c.args.body
     (held_of c.args.session.now.source ++ input) due (g.K.Keeper.known c.ingest-intake.new.pass) (held_of source) (g.R.Read.remaining (reader_of source))) out _ _
     (sym c.fed.ensures.source)

@@ -48,7 +48,7 @@ returns-in-Some-clause-follows g c = λ count h input out call known there.
     let held = held_of c.skip.new.session.source in
     let left = g.R.Read.remaining (reader_of c.skip.new.session.source) in
     let body = c.in-Skip.body in
-    let s = c.skip.ensures.skips count h input out call c.in-Some.is known (there ∙ ap (λ (p : Plan). Some (out ++ first_of h p)) c.in-Skip.is) in
+    let s = c.skip.ensures.skips c.in-Some.is count h input out call known (there ∙ ap (λ (p : Plan). Some (out ++ first_of h p)) c.in-Skip.is) in
     let by = settles_at (Some c.in-Some.route) (route_of count (path_of h.target)) (λ o due. SkipsBy o lists g.K.Keeper.desk h (asks_of count h) (Skip body) a body all due b held left) out _ _
     (sym c.in-Some.is ∙ call.route) s in
     settles_at (Skip body) c.args.plan (λ p due. Follows lists g.K.Keeper.desk h (asks_of count h) p a all due b held left) out _ _ (sym c.in-Skip.is) by

@@ -10,4 +10,4 @@ returns-in-Ok-clause-heard g c = λ input out known there.
     head_heard lists g.K.Keeper.desk (g.K.Keeper.known c.args.pass.now) (g.K.Keeper.known c.answer_head.new.pass) (held_of c.args.session.now.source ++ input) c.in-Ok.head
     (taken_of c.next_head.new.self.source) (held_of c.next_head.new.self.source) _ (held_of c.answer_head.new.session.source) _ out _ c.answer_head.result
     (c.in-Ok.ensures.hears input known)
-    (λ h rest is left. c.answer_head.ensures.hears h rest out is left (ap (λ w. g.W.Write.contents (inside_of w)) c.next_head.ensures.writer ∙ there))
+    (λ h rest is left. c.answer_head.ensures.hears h is rest out left (ap (λ w. g.W.Write.contents (inside_of w)) c.next_head.ensures.writer ∙ there))

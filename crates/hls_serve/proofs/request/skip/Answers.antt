@@ -8,7 +8,7 @@ use Rattle.hls_serve.proofs.TurnLaws.{settles_at}
 use Rattle.hls_serve.proofs.request.skip.Goals as goal
 
 pub returns-clause-skips : goal.returns-clause-skips
-returns-clause-skips g c = λ count h input out call there known held.
+returns-clause-skips g c = λ there count h input out call known held.
     let same = ap (λ w. g.W.Write.contents (inside_of w)) c.drop_body-dropped.ensures.writer in
     let s = c.skipped.ensures.skipped count h (Skip c.args.body) out call there (same ∙ held) in
     settles_at c.drop_body-dropped.new.self.source c.skipped.new.session.source (λ source due. Skips lists g.K.Keeper.desk h (asks_of count h) c.args.route (Skip c.args.body)

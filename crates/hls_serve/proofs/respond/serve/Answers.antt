@@ -20,4 +20,4 @@ returns-in-CatchUp-clause-answers g c = λ count h call there.
     let a = g.K.Keeper.known c.args.pass.now in
     let b = g.K.Keeper.known c.catch_up.new.pass in
     subst (λ (r : Route). Makes (λ answer. Serves lists g.K.Keeper.desk (asks_of count h) r a answer b) a b c.catch_up.result) (sym c.in-CatchUp.is)
-    (c.catch_up.ensures.adds (query_of h.target) (call.wanted (there ∙ ap Some c.in-CatchUp.is)))
+    (c.catch_up.ensures.adds (query_of h.target) (call.query (there ∙ ap Some c.in-CatchUp.is)))

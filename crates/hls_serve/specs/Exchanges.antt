@@ -1,0 +1,15 @@
+-- What comes to a session and what it writes.
+use Rattle.std.specs.Prelude.{◌≡◌, ℕ, List, ◌++◌, Option, Some}
+use Rattle.hls_io.specs.Counted.{inside_of}
+use Rattle.hls_http_laws.specs.declared.end.SessionEnd.{SessionEnd}
+use Rattle.hls_http.specs.declared.session.Session.{Session}
+use Rattle.hls_http.specs.Source.{held_of, reader_of}
+use Rattle.hls_turn.specs.Passes.{Known}
+
+-- the input that was still to come and the text that the writer held, where they are known, and what it holds now, are such; as was
+-- known, and is
+abbrev pub Exchanges : {R W : Type 0} → (R → Option (List ℕ)) → (W → Option (List ℕ)) → Session R W → Session R W
+    → (Known → List ℕ → List ℕ → Option (List ℕ) → Known → SessionEnd → Type 0) → Known → Known → SessionEnd → Type 0
+Exchanges remaining contents old new Is a b end =
+    (input out : List ℕ) → remaining (reader_of old.source) ≡ Some input → contents (inside_of old.writer) ≡ Some out
+    → Is a (held_of old.source ++ input) out (contents (inside_of new.writer)) b end
