@@ -1,15 +1,17 @@
 -- Worked examples: the definitions, computed.
 use Rattle.std.proofs.Common.{◌≡◌, [], ◌∷◌, Some, None, codes, true, false, refl}
 use Rattle.clap.proofs.OnLiterals.{clap_on_literals}
+use Rattle.hls_instants.specs.Instants.{instant_of}
+use Rattle.hls_instants.specs.Shape.{after_pattern}
 use Rattle.hls_settings.specs.Numbers.{number_of}
 use Rattle.hls_origin.specs.Options.{cut_app, options_of}
 
 -- no words
-defaults : options_of [] ≡ Some (record { target = 6; uri = codes "media.mp4"; preferred = None; charge = None; certificate = false })
+defaults : options_of [] ≡ Some (record { target = 6; uri = codes "media.mp4"; preferred = None; charge = None; epoch = None; certificate = false })
 unfolding options_of cut_app clap_on_literals number_of
 defaults = refl
 
-both : options_of (codes "--target" ∷ codes "0010" ∷ codes "--each" ∷ codes "--uri=a.mp4" ∷ []) ≡ Some (record { target = 10; uri = codes "a.mp4"; preferred = None; charge = None; certificate = false })
+both : options_of (codes "--target" ∷ codes "0010" ∷ codes "--each" ∷ codes "--uri=a.mp4" ∷ []) ≡ Some (record { target = 10; uri = codes "a.mp4"; preferred = None; charge = None; epoch = None; certificate = false })
 unfolding options_of cut_app clap_on_literals number_of
 both = refl
 
@@ -17,7 +19,7 @@ target_too_large : options_of (codes "--target" ∷ codes "3601" ∷ []) ≡ Non
 unfolding options_of cut_app clap_on_literals number_of
 target_too_large = refl
 
-planned : options_of (codes "--preferred" ∷ codes "4000000" ∷ codes "--certificate" ∷ []) ≡ Some (record { target = 6; uri = codes "media.mp4"; preferred = Some 4000000; charge = None; certificate = true })
+planned : options_of (codes "--preferred" ∷ codes "4000000" ∷ codes "--certificate" ∷ []) ≡ Some (record { target = 6; uri = codes "media.mp4"; preferred = Some 4000000; charge = None; epoch = None; certificate = true })
 unfolding options_of cut_app clap_on_literals number_of
 planned = refl
 
@@ -34,7 +36,7 @@ unfolding options_of cut_app clap_on_literals number_of
 each_and_preferred = refl
 
 -- a charge of 0 is a charge
-charged : options_of (codes "--preferred" ∷ codes "4000000" ∷ codes "--charge" ∷ codes "0" ∷ []) ≡ Some (record { target = 6; uri = codes "media.mp4"; preferred = Some 4000000; charge = Some 0; certificate = false })
+charged : options_of (codes "--preferred" ∷ codes "4000000" ∷ codes "--charge" ∷ codes "0" ∷ []) ≡ Some (record { target = 6; uri = codes "media.mp4"; preferred = Some 4000000; charge = Some 0; epoch = None; certificate = false })
 unfolding options_of cut_app clap_on_literals number_of
 charged = refl
 
@@ -45,6 +47,10 @@ charge_too_large = refl
 charge_of_no_plan : options_of (codes "--charge" ∷ codes "1" ∷ []) ≡ None
 unfolding options_of cut_app clap_on_literals number_of
 charge_of_no_plan = refl
+
+epoch_of_no_shape : options_of (codes "--epoch" ∷ codes "0" ∷ []) ≡ None
+unfolding options_of cut_app clap_on_literals number_of instant_of after_pattern
+epoch_of_no_shape = refl
 
 unknown_word : options_of (codes "--rule" ∷ codes "1" ∷ []) ≡ None
 unfolding options_of cut_app clap_on_literals number_of

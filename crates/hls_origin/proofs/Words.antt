@@ -26,20 +26,21 @@ first_in_rows app words m name is has =
 -- words that were taken
 pub taken_words : (app : App) (words : List Text) (m : ArgMatches) → app ≡ cut_app → HasMatchesOf app words m → fault_of app words ≡ []
     → choice_in (first_value (found_of m) (codes "each")) (first_value (found_of m) (codes "preferred")) (first_value (found_of m) (codes "certificate"))
-    (first_value (found_of m) (codes "target")) (first_value (found_of m) (codes "uri")) (first_value (found_of m) (codes "charge")) ≡ options_of words
+    (first_value (found_of m) (codes "target")) (first_value (found_of m) (codes "uri")) (first_value (found_of m) (codes "charge"))
+    (first_value (found_of m) (codes "epoch")) ≡ options_of words
 unfolding options_of
 taken_words app words m is has none =
     let no_fault : fault_of cut_app words ≡ [] = sym (ap (λ (a : App). fault_of a words) is) ∙ none in
-    same_six _ _ _ _ _ _ _ _ _ _ _ _ (first_in_rows app words m (codes "each") is has) (first_in_rows app words m (codes "preferred") is has)
+    same_seven _ _ _ _ _ _ _ _ _ _ _ _ _ _ (first_in_rows app words m (codes "each") is has) (first_in_rows app words m (codes "preferred") is has)
     (first_in_rows app words m (codes "certificate") is has) (first_in_rows app words m (codes "target") is has) (first_in_rows app words m (codes "uri") is has)
-    (first_in_rows app words m (codes "charge") is has)
+    (first_in_rows app words m (codes "charge") is has) (first_in_rows app words m (codes "epoch") is has)
     ∙ sym (ap (λ (ks : Kinds). unless_refused ks (choice_of (matches_of cut_app words))) no_fault)
   where
-    same_six : (a a' b b' c c' d d' e e' f f' : Option Text) → a ≡ a' → b ≡ b' → c ≡ c' → d ≡ d' → e ≡ e' → f ≡ f'
-        → choice_in a b c d e f ≡ choice_in a' b' c' d' e' f'
-    same_six a a' b b' c c' d d' e e' f f' p q r s t u =
-        ap (λ x. choice_in x b c d e f) p ∙ ap (λ x. choice_in a' x c d e f) q ∙ ap (λ x. choice_in a' b' x d e f) r
-        ∙ ap (λ x. choice_in a' b' c' x e f) s ∙ ap₂ (choice_in a' b' c' d') t u
+    same_seven : (a a' b b' c c' d d' e e' f f' g g' : Option Text) → a ≡ a' → b ≡ b' → c ≡ c' → d ≡ d' → e ≡ e' → f ≡ f' → g ≡ g'
+        → choice_in a b c d e f g ≡ choice_in a' b' c' d' e' f' g'
+    same_seven a a' b b' c c' d d' e e' f f' g g' p q r s t u v =
+        ap (λ x. choice_in x b c d e f g) p ∙ ap (λ x. choice_in a' x c d e f g) q ∙ ap (λ x. choice_in a' b' x d e f g) r
+        ∙ ap (λ x. choice_in a' b' c' x e f g) s ∙ ap (λ x. choice_in a' b' c' d' x f g) t ∙ ap₂ (choice_in a' b' c' d' e') u v
 
 some_fault : (ks : Kinds) (k : ErrorKind) (choice : Option Choice) → IsAmong k ks → None ≡ unless_refused ks choice
 some_fault [] k choice among = absurd among

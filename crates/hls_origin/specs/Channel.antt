@@ -20,7 +20,8 @@ preferred_or target None = target * 1000000
 preferred_or target (Some length) = length
 
 abbrev pub config_of : Choice → ConfigData
-config_of choice = record { target = choice.target; preferred = preferred_or choice.target choice.preferred; renditions = the_rendition ∷ [] }
+config_of choice =
+    record { target = choice.target; preferred = preferred_or choice.target choice.preferred; renditions = the_rendition ∷ []; epoch = choice.epoch }
 
 -- the channel with nothing recorded
 abbrev pub opening_of : Choice → State

@@ -2,7 +2,8 @@
 use Rattle.std.specs.Prelude.{◌≡◌, ℕ, List, [], ◌∷◌, ◌++◌, codes, Result, Ok, Err, ◌⊎◌}
 use Rattle.hls_text.specs.Numbers.{spaced}
 use Rattle.hls_check_laws.specs.declared.cert_fault.CertFault.{CertFault}
-use Rattle.hls_check_laws.specs.declared.cert_fault.CertFault.TheVariants.{Form, TableNotSorted, PlanEnds, PlanStep, PlanCost, PriceStart, PriceStep, EndReached, Memory}
+use Rattle.hls_check_laws.specs.declared.cert_fault.CertFault.TheVariants.{Form, TableNotSorted, PlanEnds, PlanStep, PlanCost}
+use Rattle.hls_check_laws.specs.declared.cert_fault.CertFault.TheVariants.{PriceStart, PriceStep, EndReached, Memory}
 use Rattle.hls_check_laws.specs.declared.verdict.Verdict.{Verdict}
 use Rattle.hls_check_laws.specs.declared.verdict.Verdict.TheVariants.{Cut, NoCut}
 use Rattle.hls_check_laws.specs.Certificates.{Printed, IsCertificate}

@@ -14,6 +14,10 @@ pub record Reached (opening : State) (taken held : List ℕ) (s : State) : Type 
   pub accepted : with_parts opening done ≡ Ok s
   pub follows : (more : List ℕ) → cut_of (taken ++ more) ≡ after_parts done (cut_of (held ++ more))
 
+-- from whatever opening state, whatever was taken of the stream to lead here
+abbrev pub FromReached : List ℕ → State → (State → List ℕ → Type 0) → Type 0
+FromReached held s Is = (opening : State) (taken : List ℕ) → Reached opening taken held s → Is opening taken
+
 -- no part is left in what is held, and no fault
 pub record IsSettled (held : List ℕ) : Type 0 where
   pub no_part : (cut_of held).parts ≡ []

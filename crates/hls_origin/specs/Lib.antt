@@ -14,5 +14,6 @@ pub mod Reads
 pub mod Recorded
 pub mod Run
 pub mod RunParts
+pub mod ServeRun
 pub mod Status
 pub mod Then

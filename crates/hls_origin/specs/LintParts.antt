@@ -1,10 +1,11 @@
 -- For the proofs of this crate; no public clause cites it.
 -- What the parts of a run of `lint` pass on to each other.
-use Rattle.std.specs.Prelude.{◌≡◌, ℕ, List, [], ◌++◌, Option, Some, None, Result, Ok, Err, Vec, ◌⊎◌}
+use Rattle.std.specs.Prelude.{◌≡◌, ℕ, ◌+◌, List, [], ◌++◌, Option, Some, None, Result, Ok, Err, Vec, ◌⊎◌}
 use Rattle.std.specs.Global.{Global}
 use Rattle.hls_io.specs.Rose.{Rose}
 use Rattle.hls_m3u8.specs.declared.fault.ListFault.{ListFault}
 use Rattle.hls_m3u8.specs.declared.fault.ListFault.TheVariants.{Memory}
+use Rattle.hls_m3u8.specs.Limits.{text_limit}
 use Rattle.hls_m3u8.specs.Playlist.{Playlist}
 use Rattle.hls_m3u8.specs.Reading.{reading_of}
 use Rattle.hls_origin.specs.declared.lint.run.LintEnd.{LintEnd}
@@ -14,7 +15,7 @@ use Rattle.hls_origin.specs.LintAnswer.{printed}
 
 -- how many bytes of a text are held: one past the most that a reader of playlists takes
 abbrev pub held_bytes : ℕ
-held_bytes = 16777217
+held_bytes = text_limit + 1
 
 -- the line of a text that is a list, or why it is none
 abbrev pub IsLine : List ℕ → Result (Vec ℕ Global) ListFault → Type 0

@@ -1,21 +1,25 @@
 -- What the words after `cut` ask for.
-use Rattle.std.specs.Prelude.{ℕ, ◌*◌, List, [], ◌∷◌, Option, Some, None, Bool, true, false, not, ◌≤◌, ◌&&◌, ◌||◌, cond, codes, is_some}
+use Rattle.std.specs.Prelude.{ℕ, ℤ, ◌*◌, List, [], ◌∷◌, Option, Some, None, Bool, true, false, not, ◌≤◌, ◌&&◌, ◌||◌, cond, codes, is_some}
 use Rattle.std.specs.Prelude.{nat_lt, nat_le, option_and_then}
 use Rattle.std.specs.Str.{bytes_eq}
 use Rattle.clap.specs.Words.{App, Row, Rule, Text, fault_of, first_of, matches_of, new_app, new_rule, with_rule}
 use Rattle.clap.specs.Kinds.{Kinds}
 use Rattle.clap.specs.declared.builder.action.ArgAction.TheVariants.{SetTrue}
 use Rattle.hls_m3u8.specs.Uri.{IsUri, is_uri_text}
+use Rattle.hls_core_laws.specs.Config.{IsEpoch}
 use Rattle.hls_settings.specs.Numbers.{number_of}
+use Rattle.hls_settings.specs.Settings.{epoch_in}
 use Rattle.hls_check_laws.specs.Tables.{charge_limit, target_limit}
 
 -- the options: the target duration in seconds, the URI's bytes, the preferred length in µs where a least plan is wanted,
--- what it pays for each segment where it is least by rule 2, and whether its certificate is wanted in place of the playlist
+-- what it pays for each segment where it is least by rule 2, the moment of time 0 where it is known, and whether the
+-- plan's certificate is wanted in place of the playlist
 pub record Choice : Type 0 where
   pub target : ℕ
   pub uri : List ℕ
   pub preferred : Option ℕ
   pub charge : Option ℕ
+  pub epoch : Option ℤ
   pub certificate : Bool
 
 abbrev pub IsPreferred : ℕ → Option ℕ → Type 0
@@ -33,6 +37,7 @@ pub record IsGood (choice : Choice) : Type 0 where
   pub is_uri : IsUri choice.uri
   pub preferred : IsPreferred choice.target choice.preferred
   pub charge : IsCharge choice.charge
+  pub epoch : IsEpoch choice.epoch
 
 -- an option that takes a value, by its long name
 abbrev pub value_rule : Text → Rule
@@ -49,11 +54,11 @@ without_name app = record app { top = record app.top { no_binary_name = true } }
 abbrev pub named_app : App
 named_app = without_name (new_app (codes "cut"))
 
--- the command: `--each`, `--preferred N`, `--certificate`, `--target N`, `--uri TEXT`, `--charge N`
+-- the command: `--each`, `--preferred N`, `--certificate`, `--target N`, `--uri TEXT`, `--charge N`, `--epoch TEXT`
 unfoldable pub cut_app : App
 cut_app =
-    with_rule (with_rule (with_rule (with_rule (with_rule (with_rule named_app (flag_rule (codes "each"))) (value_rule (codes "preferred"))) (flag_rule (codes "certificate")))
-    (value_rule (codes "target"))) (value_rule (codes "uri"))) (value_rule (codes "charge"))
+    with_rule (with_rule (with_rule (with_rule (with_rule (with_rule (with_rule named_app (flag_rule (codes "each"))) (value_rule (codes "preferred"))) (flag_rule (codes "certificate")))
+    (value_rule (codes "target"))) (value_rule (codes "uri"))) (value_rule (codes "charge"))) (value_rule (codes "epoch"))
 
 -- a target duration in its range of 1 to 3600 seconds
 abbrev pub in_range : ℕ → Option ℕ
@@ -100,24 +105,29 @@ abbrev pub agrees : Bool → Bool → Bool → Bool → Bool
 agrees each preferred certificate charge = not (each && (preferred || certificate)) && not ((certificate || charge) && not preferred)
 
 -- what the values come to, where all are good
-abbrev pub chosen : ℕ → List ℕ → Option ℕ → Option ℕ → Bool → Bool → Option Choice
-chosen target uri preferred charge each certificate =
+abbrev pub chosen : ℕ → List ℕ → Option ℕ → Option ℕ → Option ℤ → Bool → Bool → Option Choice
+chosen target uri preferred charge epoch each certificate =
     cond (agrees each (is_some preferred) certificate (is_some charge))
-    (Some (record { target = target; uri = uri; preferred = preferred; charge = charge; certificate = certificate })) None
+    (Some (record { target = target; uri = uri; preferred = preferred; charge = charge; epoch = epoch; certificate = certificate })) None
 
-abbrev pub choice_in : Option Text → Option Text → Option Text → Option Text → Option Text → Option Text → Option Choice
-choice_in each preferred certificate target uri charge =
-    option_and_then (λ t. option_and_then (λ u. option_and_then (λ p. option_and_then (λ c. chosen t u p c (is_set each) (is_set certificate))
-    (charge_in charge)) (preferred_in t preferred)) (uri_in uri)) (target_in target)
+abbrev pub choice_in : Option Text → Option Text → Option Text → Option Text → Option Text → Option Text → Option Text → Option Choice
+choice_in each preferred certificate target uri charge epoch =
+    option_and_then (λ t. option_and_then (λ u. option_and_then (λ p. option_and_then (λ c.
+    option_and_then (λ e. chosen t u p c e (is_set each) (is_set certificate))
+    (epoch_in epoch)) (charge_in charge)) (preferred_in t preferred)) (uri_in uri)) (target_in target)
 
 abbrev pub unless_refused : Kinds → Option Choice → Option Choice
 unless_refused [] choice = choice
 unless_refused (k ∷ ks) choice = None
 
+-- by the value of each option, where it is given
+abbrev pub choice_by : (List ℕ → Option Text) → Option Choice
+choice_by value =
+    choice_in (value (codes "each")) (value (codes "preferred")) (value (codes "certificate")) (value (codes "target"))
+    (value (codes "uri")) (value (codes "charge")) (value (codes "epoch"))
+
 abbrev pub choice_of : List Row → Option Choice
-choice_of rows =
-    choice_in (first_of (codes "each") rows) (first_of (codes "preferred") rows) (first_of (codes "certificate") rows) (first_of (codes "target") rows) (first_of (codes "uri") rows)
-    (first_of (codes "charge") rows)
+choice_of rows = choice_by (λ name. first_of name rows)
 
 -- the options that the words give; none is a usage fault
 unfoldable pub options_of : List Text → Option Choice

@@ -1,7 +1,7 @@
 //! `hls_origin`: a live HLS origin over fragmented MP4.
 //!
-//! `hls_origin cut [--each] [--preferred N] [--charge N] [--certificate] [--target N] [--uri TEXT]` reads a recorded
-//! stream of one rendition from standard input and writes its playlist (RFC 8216), or its least
+//! `hls_origin cut [--each] [--preferred N] [--charge N] [--certificate] [--target N] [--uri TEXT] [--epoch TEXT]` reads a
+//! recorded stream of one rendition from standard input and writes its playlist (RFC 8216), or its least
 //! plan's certificate, to standard output. Without a word it does `cut --each`. Status 0 is a
 //! playlist or a plan's certificate, 1 a refusal, 2 a usage fault, 3 that no plan exists.
 //!
@@ -44,10 +44,11 @@ use crate::cut::fault::CutFault;
 use crate::cut::run::{CutEnd, run_cut};
 use crate::lint::run::{LintEnd, run_lint};
 use crate::serve::run::{ServeEnd, run_serve};
-use crate::serve::wrong::Wrong;
+use crate::serve::wrong::{EPOCH, Wrong};
 use hls_io::Counted;
 use hls_origin_listing::ListFault;
 use hls_refusals::{ExplainEnd, MEANINGS, run_explain};
+use hls_settings::read_epoch;
 use std::io::Eprint;
 use std::net::{Net, TcpListener, TcpStream};
 use std::process::ExitCode;
@@ -61,8 +62,9 @@ const VERSION: &str = "hls_origin 0.1.0
 proved with rattle-kit-13b logic dac8208d650f15bf
 ";
 
-const USAGE: &str = "usage: hls_origin [cut [--each] [--target N] [--uri TEXT]] < STREAM > PLAYLIST
-       hls_origin cut --preferred N [--charge N] [--certificate] [--target N] [--uri TEXT] < STREAM > OUTPUT
+const USAGE: &str =
+    "usage: hls_origin [cut [--each] [--target N] [--uri TEXT] [--epoch TEXT]] < STREAM > PLAYLIST
+       hls_origin cut --preferred N [--charge N] [--certificate] [--target N] [--uri TEXT] [--epoch TEXT] < STREAM > OUTPUT
        hls_origin check < CERTIFICATE
        hls_origin lint < PLAYLIST
        hls_origin explain [NAME]
@@ -81,6 +83,8 @@ cut: the playlist of a recorded stream of one rendition, fragmented MP4
   --target N     the target duration in whole seconds, 1 to 3600, at most 16 digits; 6 if not given
   --uri TEXT     the media file as the playlist names it: not empty, not beginning with #, without
                  line ends and quotation marks; media.mp4 if not given
+  --epoch TEXT   the instant of time 0, 1970 to 9000, as in 2024-01-01T00:00:00Z or
+                 2024-01-01T01:00:00.5+01:00: each segment has its date then
 check: whether a certificate proves that its plan is least
 lint: what a media playlist is, or which line of it is wrong
 explain: what a refusal's name means, and what to change; without NAME, all names
@@ -91,6 +95,8 @@ serve: a live channel over HTTP; encoders PUT to /ingest/0, /ingest/1, .. and pl
   --preferred N  the length in microseconds at which a segment ends, 1 to the target; 4000000
   --window N     what live lists hold in microseconds, three targets or more; 30000000
   --keep N       what is kept for catch-up in microseconds, the window or more; 3600000000
+  --epoch TEXT   the instant of time 0 of the encoders' clock, 1970 to 9000, as in
+                 2024-01-01T00:00:00Z: each segment has its date then, and catch-up takes instants
   --workers N    connections that are served at once, 1 to 63: one for each encoder and each player or
                  edge that reads; 8
   --planners N   threads for catch-up recordings, 1 to 16; 2
@@ -168,11 +174,46 @@ fn end_cut(rt: &HostRuntime, end: CutEnd) -> ExitCode
     }
 }
 
+/// Whether a text that follows `--epoch` is no epoch.
+fn is_wrong_epoch(text: Option<&str>) -> bool {
+    text.is_some() && read_epoch(text).is_none()
+}
+
+/// Whether a word, with the one behind it, gives a wrong epoch.
+fn gives_wrong_epoch(word: &str, next: Option<&str>) -> bool {
+    if word == "--epoch" {
+        return is_wrong_epoch(next);
+    }
+    is_wrong_epoch(word.strip_prefix("--epoch="))
+}
+
+/// Whether the words give a wrong epoch.
+fn have_wrong_epoch(words: &[String]) -> bool {
+    for (n, word) in words.iter().enumerate() {
+        let next = words.get(n.saturating_add(1)).map(|next| next.as_str());
+        if gives_wrong_epoch(word.as_str(), next) {
+            return true;
+        }
+    }
+    false
+}
+
+/// Tells how the program is used, after the line that says what an epoch is.
+fn epoch_fault(rt: &HostRuntime) -> ExitCode
+    ensures { exit_status result ≡ usage_status }
+{
+    let _ = eprint!(rt; "cut: {EPOCH}; hls_origin --help says more\n{USAGE}");
+    ExitCode::from(2)
+}
+
 /// Does `cut` with the words after it.
 fn run_cut_words(rt: &HostRuntime, words: &[String]) -> ExitCode {
     let mut input = Counted::new(rt.stdin());
     let mut output = Counted::new(io::writer(rt));
-    end_cut(rt, run_cut(rt.alloc(), words, &mut input, &mut output))
+    match run_cut(rt.alloc(), words, &mut input, &mut output) {
+        CutEnd::Usage if have_wrong_epoch(words) => epoch_fault(rt),
+        end => end_cut(rt, end),
+    }
 }
 
 /// Ends the program as `check` ended.

@@ -1,6 +1,7 @@
 //! Reading a stream to its end.
-ghost use Rattle.std.specs.Prelude.{◌≡◌, ◌<◌, ◌≤◌, ℕ, List, Some, None, length};
-ghost use Rattle.hls_io.specs.Counted.{failures_of, inside_of};
+ghost use Rattle.std.specs.Prelude.{◌≡◌, ◌<◌, ◌≤◌, length};
+ghost use Rattle.hls_io.specs.Counted.{failures_of};
+ghost use Rattle.hls_io.specs.Streams.{FromInput};
 ghost use Rattle.hls_origin.specs.Reads.{CountsReading, Reads, held_len};
 
 use crate::pieces::new_piece;
@@ -36,8 +37,7 @@ fn read_pieces<R: Read>(
     most: Option<usize>,
 ) -> Result<Vec<u8>, Unread>
     requires { 0 < length piece.old }
-    ensures reads { (stream : List ℕ) → R.remaining (inside_of input.old) ≡ Some stream
-        → Reads most stream (R.remaining (inside_of input.new)) result }
+    ensures reads { FromInput R.remaining input.old input.new (Reads most) result }
     ensures counts { CountsReading result (failures_of input.old) (failures_of input.new) }
 {
     let mut bytes = Vec::new(alloc);
@@ -65,8 +65,7 @@ pub fn read_whole<R: Read>(
     input: &mut Counted<R>,
     most: Option<usize>,
 ) -> Result<Vec<u8>, Unread>
-    ensures reads { (stream : List ℕ) → R.remaining (inside_of input.old) ≡ Some stream
-        → Reads most stream (R.remaining (inside_of input.new)) result }
+    ensures reads { FromInput R.remaining input.old input.new (Reads most) result }
     ensures counts { CountsReading result (failures_of input.old) (failures_of input.new) }
 {
     match new_piece(alloc) {

@@ -7,7 +7,7 @@ use crate::cut::fault::CutFault;
 use crate::cut::run::{CutEnd, run_cut};
 use crate::fakes::{Drips, Page};
 use crate::lint::run::{LintEnd, run_lint};
-use crate::vectors::{FIVE_UNITS, ONE_LINE, ONE_UNIT, stream, sync};
+use crate::vectors::{DATED_UNIT, FIVE_UNITS, ONE_LINE, ONE_UNIT, stream, sync};
 use hls_io::Counted;
 use std::alloc::Global;
 use std::process::Abort;
@@ -81,6 +81,8 @@ fn of_cut(rt: HostRuntime) -> Result<(), Fail> {
     let alloc = rt.alloc();
     if let Ok(stream) = stream(alloc, &[sync(0, 4)]) {
         cuts_right(&rt, alloc, &["--each"], &stream, ONE_UNIT);
+        let words = ["--epoch", "2024-01-01T00:00:00Z"];
+        cuts_right(&rt, alloc, &words, &stream, DATED_UNIT);
     }
     Ok(())
 }

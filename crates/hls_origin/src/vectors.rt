@@ -16,7 +16,22 @@ media.mp4
 #EXT-X-ENDLIST
 ";
 
-/// What `lint` says of it.
+/// The same where time 0 is the beginning of 2024.
+pub const DATED_UNIT: &str = "#EXTM3U
+#EXT-X-VERSION:6
+#EXT-X-TARGETDURATION:6
+#EXT-X-MEDIA-SEQUENCE:0
+#EXT-X-DISCONTINUITY-SEQUENCE:0
+#EXT-X-PLAYLIST-TYPE:VOD
+#EXT-X-MAP:URI=\"media.mp4\",BYTERANGE=\"600@0\"
+#EXT-X-PROGRAM-DATE-TIME:2024-01-01T00:00:00.000Z
+#EXTINF:4.000000,
+#EXT-X-BYTERANGE:1000@600
+media.mp4
+#EXT-X-ENDLIST
+";
+
+/// What `lint` says of either.
 pub const ONE_LINE: &str =
     "media playlist: 1 segments, 4.000000 seconds, target 6, version 6, media sequence 0, discontinuity sequence 0, VOD, ended\n";
 

@@ -3,13 +3,14 @@
 use hls_core_laws::rendition::Rendition;
 use hls_http::{BodyEnd, Method};
 use hls_http_laws::reply::Status;
+use hls_instants::moment_text;
 use hls_serve_laws::ingest::{Counts, Intake};
 use hls_serve_laws::route::{JobFile, Route};
 use hls_settings::Settings;
 use std::fmt::{self, Display, Formatter, Write};
 use std::net::SocketAddr;
 
-/// A rendition's name, which is ASCII.
+/// A rendition's name or another text, which is ASCII.
 #[derive(Clone, Copy, Drop)]
 pub struct Name<'a>(pub &'a [u8]);
 
@@ -36,7 +37,7 @@ impl<'a> Display for Names<'a> {
     }
 }
 
-/// What is in force, by the options' words and in their units.
+/// What is in force, by the options' words and in their units; an epoch is rounded down to milliseconds.
 #[derive(Clone, Copy, Drop)]
 pub struct Limits<'a>(pub &'a Settings);
 
@@ -53,7 +54,11 @@ impl<'a> Display for Limits<'a> {
             f,
             " workers {} planners {} patience {}",
             workers.workers, workers.planners, workers.patience
-        )
+        )?;
+        match self.0.config.epoch() {
+            None => Ok(()),
+            Some(epoch) => write!(f, " epoch {}", Name(&moment_text(epoch))),
+        }
     }
 }
 

@@ -11,42 +11,44 @@ use Rattle.clap.proofs.WalkLemmas.{first_value-rows, raw_values-rows}
 use Rattle.hls_settings.specs.declared.fault.SettingsFault.{SettingsFault}
 use Rattle.hls_settings.specs.declared.fault.SettingsFault.TheVariants as faults
 use Rattle.hls_settings.specs.declared.settings.Settings.{Settings}
-use Rattle.hls_settings.specs.Command.{options_app, serve_app, texts_in, texts_of, timing_app}
+use Rattle.hls_settings.specs.Command.{channel_app, options_app, serve_app, texts_in, texts_of, timing_app}
 use Rattle.hls_settings.specs.Reading.{Reads, SetsBy, SetsIn, refused_by, words_of}
 use Rattle.hls_settings.specs.Settings.{Texts, plain_of}
 
 pub serve_is_simple : is_simple serve_app ≡ true
-unfolding serve_app options_app timing_app
+unfolding serve_app options_app channel_app timing_app
 serve_is_simple = refl
 
 pub serve_is_simple_and_free : is_simple_and_free serve_app ≡ true
-unfolding serve_app options_app timing_app
+unfolding serve_app options_app channel_app timing_app
 serve_is_simple_and_free = refl
 
 -- what the getters read, by the rows
-abbrev texts_from : Option Text → Option Text → Option Text → Option Text → Option Text → Option Text → Option Text → Option Text → Option Text → Option (List Text) → Texts
-texts_from a b c d e f g h i j = record { target = a; preferred = b; window = c; keep = d; workers = e; planners = f; patience = g; log = h; address = i; renditions = j }
+abbrev texts_from : Option Text → Option Text → Option Text → Option Text → Option Text → Option Text → Option Text → Option Text → Option Text → Option Text → Option (List Text) → Texts
+texts_from a b c d e f g h i j k = record { target = a; preferred = b; window = c; keep = d; epoch = e; workers = f; planners = g; patience = h; log = i; address = j; renditions = k }
 
-same_texts : (a a' b b' c c' d d' e e' f f' g g' h h' i i' : Option Text) (j j' : Option (List Text)) → a ≡ a' → b ≡ b' → c ≡ c' → d ≡ d' → e ≡ e' → f ≡ f' → g ≡ g' → h ≡ h' → i ≡ i' → j ≡ j'
-    → texts_from a b c d e f g h i j ≡ texts_from a' b' c' d' e' f' g' h' i' j'
-same_texts a a' b b' c c' d d' e e' f f' g g' h h' i i' j j' pa pb pc pd pe pf pg ph pi pj =
-    ap (λ (x : Option Text). texts_from x b c d e f g h i j) pa ∙
-    ap (λ (x : Option Text). texts_from a' x c d e f g h i j) pb ∙
-    ap (λ (x : Option Text). texts_from a' b' x d e f g h i j) pc ∙
-    ap (λ (x : Option Text). texts_from a' b' c' x e f g h i j) pd ∙
-    ap (λ (x : Option Text). texts_from a' b' c' d' x f g h i j) pe ∙
-    ap (λ (x : Option Text). texts_from a' b' c' d' e' x g h i j) pf ∙
-    ap (λ (x : Option Text). texts_from a' b' c' d' e' f' x h i j) pg ∙
-    ap (λ (x : Option Text). texts_from a' b' c' d' e' f' g' x i j) ph ∙
-    ap (λ (x : Option Text). texts_from a' b' c' d' e' f' g' h' x j) pi ∙
-    ap (λ (x : Option (List Text)). texts_from a' b' c' d' e' f' g' h' i' x) pj
+same_texts : (a a' b b' c c' d d' e e' f f' g g' h h' i i' j j' : Option Text) (k k' : Option (List Text)) → a ≡ a' → b ≡ b' → c ≡ c' → d ≡ d' → e ≡ e' → f ≡ f' → g ≡ g' → h ≡ h' → i ≡ i' → j ≡ j' → k ≡ k'
+    → texts_from a b c d e f g h i j k ≡ texts_from a' b' c' d' e' f' g' h' i' j' k'
+same_texts a a' b b' c c' d d' e e' f f' g g' h h' i i' j j' k k' pa pb pc pd pe pf pg ph pi pj pk =
+    ap (λ (x : Option Text). texts_from x b c d e f g h i j k) pa ∙
+    ap (λ (x : Option Text). texts_from a' x c d e f g h i j k) pb ∙
+    ap (λ (x : Option Text). texts_from a' b' x d e f g h i j k) pc ∙
+    ap (λ (x : Option Text). texts_from a' b' c' x e f g h i j k) pd ∙
+    ap (λ (x : Option Text). texts_from a' b' c' d' x f g h i j k) pe ∙
+    ap (λ (x : Option Text). texts_from a' b' c' d' e' x g h i j k) pf ∙
+    ap (λ (x : Option Text). texts_from a' b' c' d' e' f' x h i j k) pg ∙
+    ap (λ (x : Option Text). texts_from a' b' c' d' e' f' g' x i j k) ph ∙
+    ap (λ (x : Option Text). texts_from a' b' c' d' e' f' g' h' x j k) pi ∙
+    ap (λ (x : Option Text). texts_from a' b' c' d' e' f' g' h' i' x k) pj ∙
+    ap (λ (x : Option (List Text)). texts_from a' b' c' d' e' f' g' h' i' j' x) pk
 
 texts-rows : (found : Found) → texts_in found ≡ texts_of (rows_of found)
-texts-rows found = same_texts _ _ _ _ _ _ _ _ _ _ _ _ _ _ _ _ _ _ _ _
+texts-rows found = same_texts _ _ _ _ _ _ _ _ _ _ _ _ _ _ _ _ _ _ _ _ _ _
     (first_value-rows found (codes "target"))
     (first_value-rows found (codes "preferred"))
     (first_value-rows found (codes "window"))
     (first_value-rows found (codes "keep"))
+    (first_value-rows found (codes "epoch"))
     (first_value-rows found (codes "workers"))
     (first_value-rows found (codes "planners"))
     (first_value-rows found (codes "patience"))

@@ -23,8 +23,11 @@ named_app = without_name (new_app (codes "serve"))
 unfoldable pub timing_app : App
 timing_app = with_rule (with_rule (with_rule (with_rule named_app (value_rule (codes "target"))) (value_rule (codes "preferred"))) (value_rule (codes "window"))) (value_rule (codes "keep"))
 
+unfoldable pub channel_app : App
+channel_app = with_rule timing_app (value_rule (codes "epoch"))
+
 unfoldable pub options_app : App
-options_app = with_rule (with_rule (with_rule (with_rule timing_app (value_rule (codes "workers"))) (value_rule (codes "planners"))) (value_rule (codes "patience"))) (value_rule (codes "log"))
+options_app = with_rule (with_rule (with_rule (with_rule channel_app (value_rule (codes "workers"))) (value_rule (codes "planners"))) (value_rule (codes "patience"))) (value_rule (codes "log"))
 
 unfoldable pub serve_app : App
 serve_app = with_rule (with_rule options_app (new_rule (codes "address"))) (words_rule (codes "renditions"))
@@ -36,6 +39,7 @@ texts_in found = record {
   preferred = first_value found (codes "preferred");
   window = first_value found (codes "window");
   keep = first_value found (codes "keep");
+  epoch = first_value found (codes "epoch");
   workers = first_value found (codes "workers");
   planners = first_value found (codes "planners");
   patience = first_value found (codes "patience");
@@ -51,6 +55,7 @@ texts_of rows = record {
   preferred = first_of (codes "preferred") rows;
   window = first_of (codes "window") rows;
   keep = first_of (codes "keep") rows;
+  epoch = first_of (codes "epoch") rows;
   workers = first_of (codes "workers") rows;
   planners = first_of (codes "planners") rows;
   patience = first_of (codes "patience") rows;

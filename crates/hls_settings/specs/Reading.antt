@@ -1,5 +1,5 @@
 -- What reading the words after `serve` gives.
-use Rattle.std.specs.Prelude.{◌≡◌, ◌⊎◌, ℕ, List, [], ◌∷◌, map, take, slice_get, Option, Some, None, Result, Ok, Err, Vec}
+use Rattle.std.specs.Prelude.{◌≡◌, ◌⊎◌, ℕ, ℤ, List, [], ◌∷◌, map, take, slice_get, Option, Some, None, Result, Ok, Err, Vec}
 use Rattle.std.specs.declared.alloc.Global.{Global}
 use Rattle.clap.specs.Words.{Text, fault_of, matches_of}
 use Rattle.clap.specs.Kinds.{Kinds}
@@ -8,7 +8,7 @@ use Rattle.clap.specs.declared.error.kind.ErrorKind.TheVariants as kinds
 use Rattle.hls_core_laws.specs.declared.rendition.Rendition.{Rendition}
 use Rattle.hls_core_laws.specs.Config.{IsConfig}
 use Rattle.hls_core.specs.declared.config.Config.{Config}
-use Rattle.hls_core.specs.Configures.{configured}
+use Rattle.hls_core.specs.Configures.{configured_from}
 use Rattle.hls_core.specs.FirstBad.{IsFirstBad}
 use Rattle.hls_settings.specs.declared.fault.SettingsFault.{SettingsFault}
 use Rattle.hls_settings.specs.declared.fault.SettingsFault.TheVariants as faults
@@ -53,14 +53,14 @@ pub record AreSet (plain : Plain) (words : List Text) (settings : Settings) : Ty
   pub plain_is : settings.plain ≡ plain
   pub renditions : List Rendition
   pub say : Say words renditions
-  pub config : settings.config ≡ configured plain.timing.target plain.timing.preferred renditions
+  pub config : settings.config ≡ configured_from plain.timing.target plain.timing.preferred renditions plain.epoch
   pub valid : IsConfig settings.config
 
-abbrev pub Configures : Timing → List Rendition → Result Config SettingsFault → Type 0
-Configures timing renditions (Ok config) = (config ≡ configured timing.target timing.preferred renditions) × IsConfig config
-Configures timing renditions (Err (faults.Rendition n)) = IsFirstBad renditions n
-Configures timing renditions (Err faults.Memory) = Unit {0}
-Configures timing renditions (Err _) = ⊥
+abbrev pub Configures : Timing → Option ℤ → List Rendition → Result Config SettingsFault → Type 0
+Configures timing epoch renditions (Ok config) = (config ≡ configured_from timing.target timing.preferred renditions epoch) × IsConfig config
+Configures timing epoch renditions (Err (faults.Rendition n)) = IsFirstBad renditions n
+Configures timing epoch renditions (Err faults.Memory) = Unit {0}
+Configures timing epoch renditions (Err _) = ⊥
 
 abbrev pub Sets : Plain → List Text → Result Settings SettingsFault → Type 0
 Sets plain words (Ok settings) = AreSet plain words settings

@@ -1,7 +1,10 @@
 -- What the words after `serve` ask for, or which of them is wrong first.
-use Rattle.std.specs.Prelude.{ℕ, ◌*◌, List, Option, Some, None, Bool, true, false, cond, codes, Result, Ok, Err}
+use Rattle.std.specs.Prelude.{ℕ, ◌*◌, List, Option, Some, None, Bool, true, false, ◌&&◌, option_and_then, cond, codes, Result, Ok, Err}
+use Rattle.std.specs.Prelude.{ℤ, pos, int_le}
 use Rattle.std.specs.Str.{bytes_eq}
 use Rattle.clap.specs.Words.{Text}
+use Rattle.hls_instants.specs.Instants.{instant_of}
+use Rattle.hls_core_laws.specs.Config.{last_epoch}
 use Rattle.hls_settings.specs.declared.address.Address.{Address}
 use Rattle.hls_settings.specs.declared.fault.SettingsFault.{SettingsFault}
 use Rattle.hls_settings.specs.declared.fault.SettingsFault.TheVariants as faults
@@ -41,6 +44,17 @@ timing_in (Some target) preferred window keep = timing_by target (number_in 1 (t
 abbrev pub timing_of : Option Text → Option Text → Option Text → Option Text → Result Timing SettingsFault
 timing_of target preferred window keep = timing_in (number_in 1 3600 6 target) preferred window keep
 
+-- ---- the moment of time 0
+
+-- from 1970 on to the last one
+abbrev pub epoch_within : ℤ → Option (Option ℤ)
+epoch_within us = cond (int_le (pos 0) us && int_le us last_epoch) (Some (Some us)) None
+
+-- by the text of `--epoch`; without one it isn't known
+abbrev pub epoch_in : Option Text → Option (Option ℤ)
+epoch_in None = Some None
+epoch_in (Some text) = option_and_then epoch_within (instant_of text)
+
 -- ---- workers
 
 abbrev pub workers_with : ℕ → ℕ → Option ℕ → Result Workers SettingsFault
@@ -67,6 +81,7 @@ pub record Texts : Type 0 where
   pub preferred : Option Text
   pub window : Option Text
   pub keep : Option Text
+  pub epoch : Option Text
   pub workers : Option Text
   pub planners : Option Text
   pub patience : Option Text
@@ -83,21 +98,26 @@ abbrev pub address_in : Option Text → Option Address
 address_in None = None
 address_in (Some text) = address_of text
 
-abbrev pub plain_with : Timing → Workers → Bool → Option Address → Result Plain SettingsFault
-plain_with timing workers logs None = Err faults.Address
-plain_with timing workers logs (Some address) = Ok (record { timing = timing; workers = workers; logs_requests = logs; address = address })
+abbrev pub plain_with : Timing → Option ℤ → Workers → Bool → Option Address → Result Plain SettingsFault
+plain_with timing epoch workers logs None = Err faults.Address
+plain_with timing epoch workers logs (Some address) =
+    Ok (record { timing = timing; epoch = epoch; workers = workers; logs_requests = logs; address = address })
 
-abbrev pub plain_after : Timing → Workers → Option Bool → Option Text → Result Plain SettingsFault
-plain_after timing workers None address = Err faults.Log
-plain_after timing workers (Some logs) address = plain_with timing workers logs (address_in address)
+abbrev pub plain_after : Timing → Option ℤ → Workers → Option Bool → Option Text → Result Plain SettingsFault
+plain_after timing epoch workers None address = Err faults.Log
+plain_after timing epoch workers (Some logs) address = plain_with timing epoch workers logs (address_in address)
 
-abbrev pub plain_by : Timing → Result Workers SettingsFault → Option Text → Option Text → Result Plain SettingsFault
-plain_by timing (Err fault) log address = Err fault
-plain_by timing (Ok workers) log address = plain_after timing workers (log_of log) address
+abbrev pub plain_by : Timing → Option ℤ → Result Workers SettingsFault → Option Text → Option Text → Result Plain SettingsFault
+plain_by timing epoch (Err fault) log address = Err fault
+plain_by timing epoch (Ok workers) log address = plain_after timing epoch workers (log_of log) address
+
+abbrev pub plain_from : Timing → Option (Option ℤ) → Texts → Result Plain SettingsFault
+plain_from timing None t = Err faults.Epoch
+plain_from timing (Some epoch) t = plain_by timing epoch (workers_of t.workers t.planners t.patience) t.log t.address
 
 abbrev pub plain_in : Result Timing SettingsFault → Texts → Result Plain SettingsFault
 plain_in (Err fault) t = Err fault
-plain_in (Ok timing) t = plain_by timing (workers_of t.workers t.planners t.patience) t.log t.address
+plain_in (Ok timing) t = plain_from timing (epoch_in t.epoch) t
 
 abbrev pub plain_of : Texts → Result Plain SettingsFault
 plain_of t = plain_in (timing_of t.target t.preferred t.window t.keep) t

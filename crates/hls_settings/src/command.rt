@@ -2,7 +2,7 @@
 ghost use Rattle.std.specs.Prelude.{◌≡◌, IfOk, Some, false};
 ghost use Rattle.clap.specs.Words.{app_of, rule_of, with_rule};
 ghost use Rattle.clap.specs.Simple.{new_rule};
-ghost use Rattle.hls_settings.specs.Command.{options_app, serve_app, timing_app, value_rule, words_rule};
+ghost use Rattle.hls_settings.specs.Command.{channel_app, options_app, serve_app, timing_app, value_rule, words_rule};
 
 use clap::{Arg, ArgAction, Command};
 use std::alloc::{AllocError, Global};
@@ -33,10 +33,16 @@ fn timing<'a>(alloc: Global) -> Result<Command<'a>, AllocError>
     with(command, valued(alloc, "keep"))
 }
 
+fn channel<'a>(alloc: Global) -> Result<Command<'a>, AllocError>
+    ensures { IfOk result (λ made. app_of made ≡ channel_app) }
+{
+    with(timing(alloc)?, valued(alloc, "epoch"))
+}
+
 fn options<'a>(alloc: Global) -> Result<Command<'a>, AllocError>
     ensures { IfOk result (λ made. app_of made ≡ options_app) }
 {
-    let command = with(timing(alloc)?, valued(alloc, "workers"))?;
+    let command = with(channel(alloc)?, valued(alloc, "workers"))?;
     let command = with(command, valued(alloc, "planners"))?;
     let command = with(command, valued(alloc, "patience"))?;
     with(command, valued(alloc, "log"))

@@ -13,6 +13,8 @@ pub enum SettingsFault {
     Window,
     /// `--keep` is shorter than the window.
     Keep,
+    /// `--epoch` isn't an instant from 1970 to 9000-01-01T00:00:00Z.
+    Epoch,
     /// `--workers` isn't 1 to 63.
     Workers,
     /// `--planners` isn't 1 to 16.

@@ -3,6 +3,7 @@
 
 mod address;
 mod command;
+mod epoch;
 mod fault;
 mod number;
 mod plain;
@@ -14,6 +15,7 @@ mod timing;
 mod workers;
 
 pub use address::{Address, read_address};
+pub use epoch::read_epoch;
 pub use fault::SettingsFault;
 pub use number::read_number;
 pub use plain::Plain;

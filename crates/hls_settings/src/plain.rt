@@ -1,11 +1,12 @@
 //! All that stands apart from the renditions.
 ghost use Rattle.std.specs.Prelude.{◌≡◌, IfOk, option_map};
-ghost use Rattle.hls_core_laws.specs.Config.{IsTarget, IsPreferred};
+ghost use Rattle.hls_core_laws.specs.Config.{IsEpoch, IsTarget, IsPreferred};
 ghost use Rattle.clap.specs.Words.{first_value, found_of};
 ghost use Rattle.hls_settings.specs.Settings.{address_in, log_of, plain_of};
 ghost use Rattle.hls_settings.specs.Command.{texts_in};
 
 use crate::address::{Address, read_address};
+use crate::epoch::read_epoch;
 use crate::fault::SettingsFault;
 use crate::timing::{Timing, read_timing};
 use crate::workers::{Workers, read_workers};
@@ -15,6 +16,8 @@ use clap::ArgMatches;
 #[derive(Clone, Copy, Debug, Drop)]
 pub struct Plain {
     pub timing: Timing,
+    /// The moment of time 0 in microseconds since 1970-01-01T00:00:00Z, where it is known.
+    pub epoch: Option<i64>,
     pub workers: Workers,
     /// Whether each request is told to the operator.
     pub logs_requests: bool,
@@ -39,7 +42,7 @@ fn address_in(text: Option<&str>) -> Option<Address>
 
 /// What was given but for the renditions, or what of it is wrong first.
 pub fn read_plain(matches: &ArgMatches) -> Result<Plain, SettingsFault>
-    ensures valid { IfOk result (λ p. IsTarget p.timing.target × IsPreferred p.timing.target p.timing.preferred) }
+    ensures valid { IfOk result (λ p. IsTarget p.timing.target × IsPreferred p.timing.target p.timing.preferred × IsEpoch p.epoch) }
     ensures value { result ≡ plain_of (texts_in (found_of matches.now)) }
 {
     let timing = read_timing(
@@ -48,6 +51,9 @@ pub fn read_plain(matches: &ArgMatches) -> Result<Plain, SettingsFault>
         matches.get_str("window"),
         matches.get_str("keep"),
     )?;
+    let Some(epoch) = read_epoch(matches.get_str("epoch")) else {
+        return Err(SettingsFault::Epoch);
+    };
     let workers = read_workers(
         matches.get_str("workers"),
         matches.get_str("planners"),
@@ -61,6 +67,7 @@ pub fn read_plain(matches: &ArgMatches) -> Result<Plain, SettingsFault>
     };
     Ok(Plain {
         timing,
+        epoch,
         workers,
         logs_requests,
         address,

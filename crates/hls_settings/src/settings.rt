@@ -1,7 +1,7 @@
 //! What the words ask for, as a whole.
 ghost use Rattle.std.specs.Prelude.{◌≡◌, map};
 ghost use Rattle.clap.specs.Words.{found_of, matched_of, raw_values};
-ghost use Rattle.hls_core_laws.specs.Config.{IsTarget, IsPreferred};
+ghost use Rattle.hls_core_laws.specs.Config.{IsEpoch, IsTarget, IsPreferred};
 ghost use Rattle.hls_settings.specs.Command.{texts_in};
 ghost use Rattle.clap.specs.Words.{kind_of};
 ghost use Rattle.hls_settings.specs.Reading.{Configures, Reads, ReadsRenditions, Sets, SetsBy, refused_by, words_of};
@@ -50,17 +50,20 @@ fn read_renditions(alloc: Global, words: &[&str]) -> Result<Vec<Rendition>, Sett
 fn configure(
     alloc: Global,
     timing: Timing,
+    epoch: Option<i64>,
     renditions: Vec<Rendition>,
 ) -> Result<Config, SettingsFault>
     requires target { IsTarget timing.target }
     requires preferred { IsPreferred timing.target timing.preferred }
-    ensures { Configures timing renditions.items result }
+    requires epoch { IsEpoch epoch }
+    ensures { Configures timing epoch renditions.items result }
 {
-    match Config::new(alloc, timing.target, timing.preferred, renditions) {
+    match Config::with_epoch(alloc, timing.target, timing.preferred, renditions, epoch) {
         Ok(config) => Ok(config),
         Err(ConfigFault::BadTarget) => Err(SettingsFault::Target),
         Err(ConfigFault::BadPreferred) => Err(SettingsFault::Preferred),
         Err(ConfigFault::BadRendition(n)) => Err(SettingsFault::Rendition(n)),
+        Err(ConfigFault::BadEpoch) => Err(SettingsFault::Epoch),
         Err(ConfigFault::Memory) => Err(SettingsFault::Memory),
     }
 }
@@ -69,10 +72,11 @@ fn configure(
 fn set(alloc: Global, plain: Plain, words: &[&str]) -> Result<Settings, SettingsFault>
     requires target { IsTarget plain.timing.target }
     requires preferred { IsPreferred plain.timing.target plain.timing.preferred }
+    requires epoch { IsEpoch plain.epoch }
     ensures { Sets plain (map (λ w. w.now) words.now) result }
 {
     let renditions = read_renditions(alloc, words)?;
-    let config = configure(alloc, plain.timing, renditions)?;
+    let config = configure(alloc, plain.timing, plain.epoch, renditions)?;
     Ok(Settings { plain, config })
 }
 

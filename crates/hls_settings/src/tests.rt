@@ -45,11 +45,53 @@ fn names_the_wrong_option(rt: HostRuntime) -> Result<(), Fail> {
     assert!(rt; fault_of(alloc, &["--target", "3", at, VIDEO]) == Some(SettingsFault::Preferred));
     assert!(rt; fault_of(alloc, &["--target", "11", at, VIDEO]) == Some(SettingsFault::Window));
     assert!(rt; fault_of(alloc, &["--keep", "1", at, VIDEO]) == Some(SettingsFault::Keep));
+    assert!(rt; fault_of(alloc, &["--epoch", "0", at, VIDEO]) == Some(SettingsFault::Epoch));
     assert!(rt; fault_of(alloc, &["--workers", "64", at, VIDEO]) == Some(SettingsFault::Workers));
     assert!(rt; fault_of(alloc, &["--planners", "0", at, VIDEO]) == Some(SettingsFault::Planners));
     assert!(rt; fault_of(alloc, &["--patience", "x", at, VIDEO]) == Some(SettingsFault::Patience));
     assert!(rt; fault_of(alloc, &["--log", "all", at, VIDEO]) == Some(SettingsFault::Log));
     assert!(rt; fault_of(alloc, &["--other", "1", at, VIDEO]) == Some(SettingsFault::Words));
+    Ok(())
+}
+
+/// The epoch that is read, where its text is good.
+fn epoch_of(alloc: Global, text: &str) -> Option<Option<i64>> {
+    match read_settings(alloc, &["--epoch", text, "0.0.0.0:80", VIDEO]) {
+        Ok(settings) => Some(settings.config.epoch()),
+        Err(_) => None,
+    }
+}
+
+#[test]
+fn reads_the_epoch(rt: HostRuntime) -> Result<(), Fail> {
+    let alloc = rt.alloc();
+    assert_eq!(rt; epoch_of(alloc, "1970-01-01T00:00:00Z"), Some(Some(0)));
+    assert_eq!(rt;
+        epoch_of(alloc, "2024-01-01T01:00:00+01:00"),
+        Some(Some(1_704_067_200_000_000))
+    );
+    assert_eq!(rt;
+        epoch_of(alloc, "2024-01-01T00:00:00.0000019Z"),
+        Some(Some(1_704_067_200_000_001))
+    );
+    assert_eq!(rt;
+        epoch_of(alloc, "9000-01-01T00:00:00Z"),
+        Some(Some(221_845_392_000_000_000))
+    );
+    for text in [
+        "1969-12-31T23:59:59.999999Z",
+        "9000-01-01T00:00:00.000001Z",
+        "2024-01-01T00:00:60Z",
+        "2024-01-01",
+        "1704067200000000",
+        "",
+    ] {
+        assert_eq!(rt; epoch_of(alloc, text), None, "of {text}");
+    }
+    match read_settings(alloc, &["0.0.0.0:80", VIDEO]) {
+        Ok(settings) => assert_eq!(rt; settings.config.epoch(), None),
+        Err(_) => assert!(rt; false),
+    }
     Ok(())
 }
 

@@ -1,6 +1,6 @@
 //! `check`, from the bytes in to the bytes out.
-ghost use Rattle.std.specs.Prelude.{◌≡◌, ℕ, List, Some};
-ghost use Rattle.hls_io.specs.Counted.{failures_of, inside_of};
+ghost use Rattle.hls_io.specs.Counted.{failures_of};
+ghost use Rattle.hls_io.specs.Streams.{FromInput, Through, ToOutput};
 ghost use Rattle.hls_origin.specs.CheckParts.{AnswersText, CountsPrinting, CountsTelling, PrintsAnswer, TellsAnswer};
 ghost use Rattle.hls_origin.specs.CheckRun.{CountsFailures, Runs};
 
@@ -45,7 +45,7 @@ fn answer_stream<R: Read>(
     alloc: Global,
     input: &mut Counted<R>,
 ) -> Option<Result<Verdict, CertFault>>
-    ensures tells { (stream : List ℕ) → R.remaining (inside_of input.old) ≡ Some stream → TellsAnswer stream (R.remaining (inside_of input.new)) result }
+    ensures tells { FromInput R.remaining input.old input.new TellsAnswer result }
     ensures counts { CountsTelling result (failures_of input.old) (failures_of input.new) }
 {
     match read_whole(alloc, input, None) {
@@ -57,7 +57,7 @@ fn answer_stream<R: Read>(
 
 /// Writes the line of an answer, which is whole before the first write.
 fn print_answer<W: Write>(output: &mut Counted<W>, answer: Result<Verdict, CertFault>) -> CheckEnd
-    ensures prints { (held : List ℕ) → W.contents (inside_of output.old) ≡ Some held → PrintsAnswer answer held (W.contents (inside_of output.new)) result }
+    ensures prints { ToOutput W.contents output.old output.new (PrintsAnswer answer) result }
     ensures counts { CountsPrinting result (failures_of output.old) (failures_of output.new) }
 {
     let line = answer_line(answer);
@@ -83,8 +83,7 @@ pub fn run_check<R: Read, W: Write>(
     input: &mut Counted<R>,
     output: &mut Counted<W>,
 ) -> CheckEnd
-    ensures runs { (stream held : List ℕ) → R.remaining (inside_of input.old) ≡ Some stream → W.contents (inside_of output.old) ≡ Some held
-        → Runs stream held (R.remaining (inside_of input.new)) (W.contents (inside_of output.new)) result }
+    ensures runs { Through R.remaining input.old input.new W.contents output.old output.new Runs result }
     ensures counts { CountsFailures result (failures_of input.old) (failures_of input.new) (failures_of output.old) (failures_of output.new) }
 {
     match answer_stream(rt, alloc, input) {

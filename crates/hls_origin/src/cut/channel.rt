@@ -30,7 +30,7 @@ pub fn config(alloc: Global, options: &Options<'_>) -> Result<Config, AllocError
     };
     let mut renditions = Vec::with_capacity(alloc, 1)?;
     renditions.push(rendition(alloc)?)?;
-    match Config::new(alloc, options.target, preferred, renditions) {
+    match Config::with_epoch(alloc, options.target, preferred, renditions, options.epoch) {
         Ok(config) => Ok(config),
         Err(_) => Err(AllocError),
     }

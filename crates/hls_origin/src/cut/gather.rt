@@ -1,10 +1,10 @@
 //! Reading a stream to its end, part by part.
-ghost use Rattle.std.specs.Prelude.{◌≡◌, ◌<◌, ◌≤◌, ℕ, List, Some, None, OnOk, length};
+ghost use Rattle.std.specs.Prelude.{◌≡◌, ◌<◌, None, OnOk, length};
 ghost use Rattle.hls_boxes_laws.specs.Parts.{text_fault};
-ghost use Rattle.hls_origin.specs.Gather.{CountsReads, Drains, Gathers, IsDrained, IsSettled, Reached, TakesIn};
-ghost use Rattle.hls_io.specs.Counted.{failures_of, inside_of};
-ghost use Rattle.hls_core_laws.specs.State.{State};
+ghost use Rattle.hls_io.specs.Counted.{failures_of};
+ghost use Rattle.hls_io.specs.Streams.{FromInput};
 ghost use Rattle.hls_origin.specs.Accepts.{Told};
+ghost use Rattle.hls_origin.specs.Gather.{CountsReads, Drains, FromReached, Gathers, IsDrained, IsSettled, TakesIn};
 
 use crate::cut::fault::CutFault;
 use crate::cut::recorder::Recorder;
@@ -18,7 +18,7 @@ use std::io::Read;
 /// Takes all whole parts out of what was fed, and records them.
 fn drain(alloc: Global, reader: &mut UnitReader, recorder: &mut Recorder) -> Result<(), CutFault>
     ensures told { Told result }
-    ensures drains { (opening : State) (taken : List ℕ) → Reached opening taken reader.old recorder.old → Drains opening taken reader.new recorder.new result }
+    ensures drains { FromReached reader.old recorder.old (λ opening taken. Drains opening taken reader.new recorder.new result) }
     ensures settles { OnOk result (IsDrained reader.old reader.new) }
 {
     while let Some(part) = reader.take()? {
@@ -39,7 +39,7 @@ fn take_in(
 ) -> Result<(), CutFault>
     requires { text_fault reader.old ≡ None }
     ensures told { Told result }
-    ensures takes_in { (opening : State) (taken : List ℕ) → Reached opening taken reader.old recorder.old → TakesIn opening taken piece.now reader.new recorder.new result }
+    ensures takes_in { FromReached reader.old recorder.old (λ opening taken. TakesIn opening taken piece.now reader.new recorder.new result) }
     ensures settles { OnOk result (IsSettled reader.new) }
 {
     let fault = match reader.feed(piece) {
@@ -64,8 +64,7 @@ fn read_parts<R: Read>(
     piece: &mut [u8],
 ) -> Result<(), CutFault>
     requires { 0 < length piece.old }
-    ensures gathers { (stream : List ℕ) → R.remaining (inside_of input.old) ≡ Some stream
-        → Gathers recorder.old stream (R.remaining (inside_of input.new)) recorder.new result }
+    ensures gathers { FromInput R.remaining input.old input.new (λ stream left. Gathers recorder.old stream left recorder.new) result }
     ensures counts { CountsReads result (failures_of input.old) (failures_of input.new) }
 {
     let mut reader = UnitReader::new(alloc);
@@ -95,8 +94,7 @@ pub fn gather<R: Read>(
     input: &mut Counted<R>,
     recorder: &mut Recorder,
 ) -> Result<(), CutFault>
-    ensures gathers { (stream : List ℕ) → R.remaining (inside_of input.old) ≡ Some stream
-        → Gathers recorder.old stream (R.remaining (inside_of input.new)) recorder.new result }
+    ensures gathers { FromInput R.remaining input.old input.new (λ stream left. Gathers recorder.old stream left recorder.new) result }
     ensures counts { CountsReads result (failures_of input.old) (failures_of input.new) }
 {
     match new_piece(alloc) {

@@ -1,10 +1,10 @@
 //! What the words after `cut` ask for.
-ghost use Rattle.std.specs.Prelude.{◌≡◌, ◌≤◌, ◌*◌, map, option_map, is_some, IfOk, IfSome, true, false, codes};
+ghost use Rattle.std.specs.Prelude.{◌≡◌, ◌≤◌, ◌*◌, map, option_map, is_some, IfOk, IfSome, true, false};
 ghost use Rattle.clap.specs.Words.{app_of, first_value, found_of, rule_of};
 ghost use Rattle.hls_core_laws.specs.Config.{ConfigData};
 ghost use Rattle.hls_m3u8.specs.Uri.{IsUri};
 ghost use Rattle.hls_origin.specs.Channel.{config_of, listing_of, rule_by};
-ghost use Rattle.hls_origin.specs.Options.{IsCharge, IsPreferred, agrees, charge_in, checked_uri, choice_in, cut_app, flag_rule, is_set, options_of, preferred_in, target_in, uri_in, value_rule};
+ghost use Rattle.hls_origin.specs.Options.{IsCharge, IsPreferred, agrees, charge_in, checked_uri, choice_by, cut_app, flag_rule, is_set, options_of, preferred_in, target_in, uri_in, value_rule};
 ghost use Rattle.hls_check_laws.specs.Tables.{charge_limit, charge_of, target_limit};
 ghost use Rattle.hls_origin_listing.specs.Lists.{CanList};
 
@@ -13,7 +13,7 @@ use clap::{Arg, ArgAction, ArgMatches, Command};
 use hls_check_laws::{CHARGE_LIMIT, CostRule, TARGET_LIMIT};
 use hls_m3u8::is_uri;
 use hls_origin_listing::Listing;
-use hls_settings::read_number;
+use hls_settings::{read_epoch, read_number};
 use std::alloc::{AllocError, Global};
 use std::convert::AsStr;
 use std::marker::Model;
@@ -34,6 +34,8 @@ pub struct Options<'a> {
     /// What a least plan pays for each segment beside its deviation, 0 to 3600000000 microseconds;
     /// without it the plan is least by deviation alone.
     pub charge: Option<u64>,
+    /// The moment of time 0 in microseconds since 1970-01-01T00:00:00Z, from which segments have dates.
+    pub epoch: Option<i64>,
     /// Whether the plan's certificate is wanted in place of the playlist.
     pub certificate: bool,
 }
@@ -43,9 +45,9 @@ impl<'a> Model for Options<'a> {
 
     ghost Value = { Choice };
 
-    ghost view = { λ options. record { target = options.target; uri = options.uri.now; preferred = options.preferred; charge = options.charge; certificate = options.certificate } };
+    ghost view = { λ options. record { target = options.target; uri = options.uri.now; preferred = options.preferred; charge = options.charge; epoch = options.epoch; certificate = options.certificate } };
 
-    ghost invariant = { λ options. IsGood (record { target = options.target; uri = options.uri.now; preferred = options.preferred; charge = options.charge; certificate = options.certificate }) };
+    ghost invariant = { λ options. IsGood (record { target = options.target; uri = options.uri.now; preferred = options.preferred; charge = options.charge; epoch = options.epoch; certificate = options.certificate }) };
 }
 
 impl<'a> Options<'a> {
@@ -103,7 +105,8 @@ fn command<'a>(alloc: Global) -> Result<Command<'a>, AllocError>
         .arg(flag(alloc, "certificate"))?
         .arg(valued(alloc, "target"))?
         .arg(valued(alloc, "uri"))?
-        .arg(valued(alloc, "charge"))
+        .arg(valued(alloc, "charge"))?
+        .arg(valued(alloc, "epoch"))
 }
 
 /// The target duration that was given, or the default; `None` where it isn't 1 to 3600 seconds.
@@ -192,14 +195,13 @@ fn agrees(each: bool, preferred: bool, certificate: bool, charge: bool) -> bool
 /// The options among what `clap` found; `None` where a value is outside its range, or two options
 /// exclude each other.
 fn options_in<'a>(matches: &ArgMatches<'a>) -> Option<Options<'a>>
-    ensures { result ≡ choice_in (first_value (found_of matches.now) (codes "each")) (first_value (found_of matches.now) (codes "preferred"))
-        (first_value (found_of matches.now) (codes "certificate")) (first_value (found_of matches.now) (codes "target")) (first_value (found_of matches.now) (codes "uri"))
-        (first_value (found_of matches.now) (codes "charge")) }
+    ensures { result ≡ choice_by (first_value (found_of matches.now)) }
 {
     let target = target_of(matches.get_str("target"))?;
     let uri = uri_of(matches.get_str("uri"))?;
     let preferred = preferred_of(target, matches.get_str("preferred"))?;
     let charge = charge_of(matches.get_str("charge"))?;
+    let epoch = read_epoch(matches.get_str("epoch"))?;
     let each = is_set(matches.get_str("each"));
     let certificate = is_set(matches.get_str("certificate"));
     if !agrees(each, preferred.is_some(), certificate, charge.is_some()) {
@@ -210,6 +212,7 @@ fn options_in<'a>(matches: &ArgMatches<'a>) -> Option<Options<'a>>
         uri,
         preferred,
         charge,
+        epoch,
         certificate,
     })
 }

@@ -1,6 +1,7 @@
 //! `cut`, from the words and the bytes in to the bytes out.
-ghost use Rattle.std.specs.Prelude.{◌≡◌, ◌≢◌, Some, ℕ, List, map, IfOk};
-ghost use Rattle.hls_io.specs.Counted.{failures_of, inside_of};
+ghost use Rattle.std.specs.Prelude.{◌≡◌, ◌≢◌, Some, map, IfOk};
+ghost use Rattle.hls_io.specs.Counted.{failures_of};
+ghost use Rattle.hls_io.specs.Streams.{FromInput, Through, ToOutput};
 ghost use Rattle.hls_origin.specs.Channel.{opening_of};
 ghost use Rattle.hls_origin.specs.Gather.{CountsReads};
 ghost use Rattle.hls_origin.specs.Options.{options_of};
@@ -64,8 +65,7 @@ fn take_stream<R: Read>(
     options: &Options<'_>,
     input: &mut Counted<R>,
 ) -> Result<Listed, CutFault>
-    ensures takes { (stream : List ℕ) → R.remaining (inside_of input.old) ≡ Some stream
-        → Takes options.now stream (R.remaining (inside_of input.new)) result }
+    ensures takes { FromInput R.remaining input.old input.new (Takes options.now) result }
     ensures counts { CountsReads result (failures_of input.old) (failures_of input.new) }
 {
     let Ok(mut recorder) = recorder_for(alloc, options) else {
@@ -79,8 +79,7 @@ fn take_stream<R: Read>(
 
 /// Writes what was listed, and answers `end`, or that a write failed.
 fn print<W: Write>(output: &mut Counted<W>, text: &[u8], end: CutEnd) -> CutEnd
-    ensures writes { (held : List ℕ) → W.contents (inside_of output.old) ≡ Some held
-        → Prints held text.now (W.contents (inside_of output.new)) end result }
+    ensures writes { ToOutput W.contents output.old output.new (λ held contents. Prints held text.now contents end) result }
     ensures counts { CountsPrint end result (failures_of output.old) (failures_of output.new) }
 {
     if write_whole(output, text) {
@@ -97,8 +96,7 @@ fn run<R: Read, W: Write>(
     input: &mut Counted<R>,
     output: &mut Counted<W>,
 ) -> CutEnd
-    ensures runs { (stream held : List ℕ) → R.remaining (inside_of input.old) ≡ Some stream → W.contents (inside_of output.old) ≡ Some held
-        → Runs (Some options.now) stream held (R.remaining (inside_of input.new)) (W.contents (inside_of output.new)) result }
+    ensures runs { Through R.remaining input.old input.new W.contents output.old output.new (Runs (Some options.now)) result }
     ensures counts { CountsFailures result (failures_of input.old) (failures_of input.new) (failures_of output.old) (failures_of output.new) }
     ensures used { result ≢ CutEnd.Usage }
 {
@@ -123,8 +121,8 @@ pub fn run_cut<'a, S: AsStr, R: Read, W: Write>(
     input: &mut Counted<R>,
     output: &mut Counted<W>,
 ) -> CutEnd
-    ensures runs { (stream held : List ℕ) → R.remaining (inside_of input.old) ≡ Some stream → W.contents (inside_of output.old) ≡ Some held
-        → Runs (options_of (map S.text words.entry.now)) stream held (R.remaining (inside_of input.new)) (W.contents (inside_of output.new)) result }
+    ensures runs { Through R.remaining input.old input.new W.contents output.old output.new
+        (Runs (options_of (map S.text words.entry.now))) result }
     ensures counts { CountsFailures result (failures_of input.old) (failures_of input.new) (failures_of output.old) (failures_of output.new) }
     ensures words { IsUsageFault result (options_of (map S.text words.entry.now)) }
     ensures untouched { result ≡ CutEnd.Usage → (input.new ≡ input.old) × (output.new ≡ output.old) }

@@ -3,7 +3,7 @@
 use crate::cut::fault::CutFault;
 use crate::cut::run::{CutEnd, run_cut};
 use crate::fakes::{Drips, Sink};
-use crate::vectors::{CHARGED, FIVE_UNITS, NO_CUT, ONE_UNIT, Second, stream, sync};
+use crate::vectors::{CHARGED, DATED_UNIT, FIVE_UNITS, NO_CUT, ONE_UNIT, Second, stream, sync};
 use hls_boxes_laws::fault::BoxFault;
 use hls_core_laws::refusal::Refusal;
 use hls_io::Counted;
@@ -117,6 +117,44 @@ fn several_units(rt: HostRuntime) -> Result<(), Fail> {
     let (end, text) = cut(alloc, &[], &gap, 65536);
     assert_eq!(rt; end, CutEnd::Done);
     assert!(rt; text.as_slice().ends_with(AFTER_A_GAP.as_bytes()));
+    Ok(())
+}
+
+const DATED_AFTER_A_GAP: &str = "#EXT-X-PROGRAM-DATE-TIME:2023-12-31T23:59:59.999Z
+#EXTINF:4.000000,
+#EXT-X-BYTERANGE:1000@600
+media.mp4
+#EXT-X-DISCONTINUITY
+#EXT-X-PROGRAM-DATE-TIME:2024-01-01T00:00:05.999Z
+#EXTINF:4.000000,
+#EXT-X-BYTERANGE:1000@1600
+media.mp4
+#EXT-X-ENDLIST
+";
+
+#[test]
+fn with_an_epoch(rt: HostRuntime) -> Result<(), Fail> {
+    let alloc = rt.alloc();
+    let one = stream(alloc, &[sync(0, 4)])?;
+    let (end, text) = cut(alloc, &["--epoch", "2024-01-01T00:00:00Z"], &one, 65536);
+    assert_eq!(rt; end, CutEnd::Done);
+    assert!(rt; text.as_slice() == DATED_UNIT.as_bytes());
+    let gap = stream(alloc, &[sync(0, 4), sync(6, 4)])?;
+    let words = ["--each", "--epoch=2024-01-01T00:59:59.999999+01:00"];
+    let (end, text) = cut(alloc, &words, &gap, 65536);
+    assert_eq!(rt; end, CutEnd::Done);
+    assert!(rt; text.as_slice().ends_with(DATED_AFTER_A_GAP.as_bytes()));
+    let five = stream(alloc, &[sync(0, 3), sync(3, 3), sync(6, 1), sync(7, 4)])?;
+    let words = [
+        "--preferred",
+        "4000000",
+        "--certificate",
+        "--epoch",
+        "9000-01-01T00:00:00Z",
+    ];
+    let (end, text) = cut(alloc, &words, &five, 65536);
+    assert_eq!(rt; end, CutEnd::Done);
+    assert!(rt; text.as_slice() == FIVE_UNITS.as_bytes());
     Ok(())
 }
 
@@ -274,7 +312,7 @@ fn no_plan(rt: HostRuntime) -> Result<(), Fail> {
 fn usage_faults(rt: HostRuntime) -> Result<(), Fail> {
     let alloc = rt.alloc();
     let stream = stream(alloc, &[sync(0, 4)])?;
-    let faults: [&[&str]; 20] = [
+    let faults: [&[&str]; 25] = [
         &["--bogus"],
         &["x"],
         &["--target", "0"],
@@ -295,6 +333,11 @@ fn usage_faults(rt: HostRuntime) -> Result<(), Fail> {
         &["--each", "--charge", "1"],
         &["--preferred", "4000000", "--charge", "3600000001"],
         &["--preferred", "4000000", "--charge", "-1"],
+        &["--epoch", "0"],
+        &["--epoch", "2024-01-01"],
+        &["--epoch", "1969-12-31T23:59:59.999999Z"],
+        &["--epoch", "9000-01-01T00:00:00.000001Z"],
+        &["--epoch"],
     ];
     for words in faults {
         let (end, text) = cut(alloc, words, &stream, 65536);

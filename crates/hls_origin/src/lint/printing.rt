@@ -4,7 +4,8 @@ ghost use Rattle.arrayvec.specs.ArrayString.{array_string_len};
 ghost use Rattle.hls_m3u8.specs.Playlist.{playlist_of};
 ghost use Rattle.hls_text.specs.Numbers.{spaced};
 ghost use Rattle.hls_time.specs.Seconds.{seconds_text};
-ghost use Rattle.hls_origin.specs.LintAnswer.{count_words, end_words, extent, fault_lines, field, header, kind_words, length_words, longest, printed, sequences, total_us};
+ghost use Rattle.hls_origin.specs.LintAnswer.{count_words, end_words, extent, fault_lines, field, header, kind_words, length_words};
+ghost use Rattle.hls_origin.specs.LintAnswer.{longest, printed, sequences, total_us};
 
 use crate::check::printing::{LINE_LEN, push_number};
 use arrayvec::ArrayString;

@@ -1,19 +1,19 @@
 //! `lint`, from the bytes in to the bytes out.
-ghost use Rattle.std.specs.Prelude.{◌≡◌, ℕ, List, Some};
-ghost use Rattle.hls_io.specs.Counted.{failures_of, inside_of};
+ghost use Rattle.hls_io.specs.Counted.{failures_of};
+ghost use Rattle.hls_io.specs.Streams.{FromInput, Through, ToOutput};
 ghost use Rattle.hls_origin.specs.LintParts.{CountsTelling, CountsText, IsLine, PrintsText, TellsLine, done_of, line_bytes};
 ghost use Rattle.hls_origin.specs.LintRun.{CountsFailures, Runs};
 
 use crate::lint::printing::{fault_line, list_line};
 use crate::reading::{Unread, read_whole};
 use hls_io::{Counted, write_whole};
-use hls_m3u8::{ListFault, read_media};
+use hls_m3u8::{ListFault, TEXT_LIMIT, read_media};
 use std::alloc::Global;
 use std::io::{Read, Write};
 
 /// How many bytes of a text are held: one more than the most that `read_media` takes, so that a longer text is refused for
 /// its length.
-const HELD_BYTES: usize = 16_777_217;
+const HELD_BYTES: usize = TEXT_LIMIT + 1;
 
 /// How `lint` ended.
 #[derive(Clone, Copy, Debug, PartialEq, Eq)]
@@ -40,8 +40,7 @@ fn text_line(alloc: Global, text: &[u8]) -> Result<Vec<u8>, ListFault>
 
 /// The line of the whole of a stream; None where a read failed.
 fn stream_line<R: Read>(alloc: Global, input: &mut Counted<R>) -> Option<Result<Vec<u8>, ListFault>>
-    ensures tells { (stream : List ℕ) → R.remaining (inside_of input.old) ≡ Some stream
-        → TellsLine stream (R.remaining (inside_of input.new)) result }
+    ensures tells { FromInput R.remaining input.old input.new TellsLine result }
     ensures counts { CountsTelling result (failures_of input.old) (failures_of input.new) }
 {
     match read_whole(alloc, input, Some(HELD_BYTES)) {
@@ -53,8 +52,7 @@ fn stream_line<R: Read>(alloc: Global, input: &mut Counted<R>) -> Option<Result<
 
 /// Writes a text, and ends as `done` says unless a write failed.
 fn print_text<W: Write>(output: &mut Counted<W>, text: &[u8], done: LintEnd) -> LintEnd
-    ensures prints { (held : List ℕ) → W.contents (inside_of output.old) ≡ Some held
-        → PrintsText text.now done held (W.contents (inside_of output.new)) result }
+    ensures prints { ToOutput W.contents output.old output.new (PrintsText text.now done) result }
     ensures counts { CountsText done result (failures_of output.old) (failures_of output.new) }
 {
     if write_whole(output, text) {
@@ -66,8 +64,7 @@ fn print_text<W: Write>(output: &mut Counted<W>, text: &[u8], done: LintEnd) -> 
 
 /// Writes a line, which is whole before the first write.
 fn print_line<W: Write>(output: &mut Counted<W>, line: Result<Vec<u8>, ListFault>) -> LintEnd
-    ensures prints { (held : List ℕ) → W.contents (inside_of output.old) ≡ Some held
-        → PrintsText (line_bytes line) (done_of line) held (W.contents (inside_of output.new)) result }
+    ensures prints { ToOutput W.contents output.old output.new (PrintsText (line_bytes line) (done_of line)) result }
     ensures counts { CountsText (done_of line) result (failures_of output.old) (failures_of output.new) }
 {
     match line {
@@ -91,8 +88,7 @@ pub fn run_lint<R: Read, W: Write>(
     input: &mut Counted<R>,
     output: &mut Counted<W>,
 ) -> LintEnd
-    ensures runs { (stream held : List ℕ) → R.remaining (inside_of input.old) ≡ Some stream → W.contents (inside_of output.old) ≡ Some held
-        → Runs stream held (R.remaining (inside_of input.new)) (W.contents (inside_of output.new)) result }
+    ensures runs { Through R.remaining input.old input.new W.contents output.old output.new Runs result }
     ensures counts { CountsFailures result (failures_of input.old) (failures_of input.new) (failures_of output.old) (failures_of output.new) }
 {
     match stream_line(alloc, input) {

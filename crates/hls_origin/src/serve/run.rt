@@ -1,8 +1,11 @@
 //! `serve`, from its words to its end.
+ghost use Rattle.std.specs.Prelude.{map};
+ghost use Rattle.hls_origin.specs.ServeRun.{EndsServe};
 
 use hls_server::{run_server, tell_listening};
 use hls_settings::{Address, SettingsFault, read_settings};
 use std::alloc::Global;
+use std::convert::AsStr;
 use std::io::Eprint;
 use std::net::{Ipv4Addr, Net, SocketAddrV4, TcpListener, TcpStream};
 use std::sync::Wait;
@@ -28,9 +31,10 @@ fn socket_of(address: Address) -> SocketAddrV4 {
 }
 
 /// Reads the words, listens, and serves. It says on standard error where it listens, and what comes of each encoder's body.
-pub fn run_serve<R>(rt: &R, alloc: Global, words: &[String]) -> ServeEnd
+pub fn run_serve<'a, S: AsStr, R>(rt: &R, alloc: Global, words: &'a [S]) -> ServeEnd
 where
     R: Net<Listener = TcpListener, Stream = TcpStream> + Threads + Wait + Clock + Eprint + Sync,
+    ensures { EndsServe (map S.text words.entry.now) result }
 {
     let settings = match read_settings(alloc, words) {
         Ok(settings) => settings,

@@ -3,6 +3,10 @@
 use hls_settings::SettingsFault;
 use std::fmt::{self, Display, Formatter, Write};
 
+/// What an epoch may be.
+pub const EPOCH: &str =
+    "--epoch takes an instant from 1970 to 9000-01-01T00:00:00Z, as in 2024-01-01T00:00:00Z or 2024-01-01T01:00:00.5+01:00";
+
 /// The line that says which word is wrong, and what it may be.
 #[derive(Clone, Copy, Drop)]
 pub struct Wrong(pub SettingsFault);
@@ -39,6 +43,7 @@ impl Display for Wrong {
             SettingsFault::Keep => {
                 "--keep takes the window or more, in microseconds (3600000000 if not given)"
             }
+            SettingsFault::Epoch => EPOCH,
             SettingsFault::Workers => "--workers takes 1 to 63",
             SettingsFault::Planners => "--planners takes 1 to 16",
             SettingsFault::Patience => "--patience takes 1 to 3600 whole seconds",

@@ -76,5 +76,17 @@ fn what_is_in_force(rt: HostRuntime) -> Result<(), Fail> {
         format!(in alloc; "{limits}")?.as_str(),
         "target 6 preferred 4000000 window 30000000 keep 3600000000 workers 12 planners 2 patience 30"
     );
+    let words = [
+        "--epoch",
+        "2024-01-01T01:00:00.0004999+01:00",
+        "0.0.0.0:80",
+        "v720:video:3000000:0",
+    ];
+    let Ok(settings) = read_settings(alloc, &words) else {
+        return Err(Fail::from("good words are refused"));
+    };
+    let limits = Limits(&settings);
+    let line = format!(in alloc; "{limits}")?;
+    assert!(rt; line.ends_with(" patience 30 epoch 2024-01-01T00:00:00.000Z"));
     Ok(())
 }

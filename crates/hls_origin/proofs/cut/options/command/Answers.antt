@@ -18,4 +18,6 @@ returns c =
     c.in_ok-arg-4.ensures.shape c.valued-2.ensures.local ∙ ap₂ with_rule three c.valued-2.ensures.rule in
     let five : app_of c.in_ok-arg-5.field-0 ≡ with_rule (with_rule (with_rule (with_rule (with_rule named_app (flag_rule (codes "each"))) (value_rule (codes "preferred"))) (flag_rule (codes "certificate"))) (value_rule (codes "target"))) (value_rule (codes "uri")) =
     c.in_ok-arg-5.ensures.shape c.valued-3.ensures.local ∙ ap₂ with_rule four c.valued-3.ensures.rule in
-    IfOk-weaker c.arg-6.result _ _ (λ m h. h.shape c.valued-4.ensures.local ∙ ap₂ with_rule five c.valued-4.ensures.rule) c.arg-6.ensures
+    let six : app_of c.in_ok-arg-6.field-0 ≡ with_rule (with_rule (with_rule (with_rule (with_rule (with_rule named_app (flag_rule (codes "each"))) (value_rule (codes "preferred"))) (flag_rule (codes "certificate"))) (value_rule (codes "target"))) (value_rule (codes "uri"))) (value_rule (codes "charge")) =
+    c.in_ok-arg-6.ensures.shape c.valued-4.ensures.local ∙ ap₂ with_rule five c.valued-4.ensures.rule in
+    IfOk-weaker c.arg-7.result _ _ (λ m h. h.shape c.valued-5.ensures.local ∙ ap₂ with_rule six c.valued-5.ensures.rule) c.arg-7.ensures

@@ -1,0 +1,30 @@
+//! The moment of time 0.
+ghost use Rattle.std.specs.Prelude.{◌≡◌, IfSome, option_map};
+ghost use Rattle.hls_core_laws.specs.Config.{IsEpoch};
+ghost use Rattle.hls_settings.specs.Settings.{epoch_in, epoch_within};
+
+use hls_core::config::LAST_EPOCH;
+use hls_instants::instant_of;
+
+fn within(us: i64) -> Option<Option<i64>>
+    ensures value { result ≡ epoch_within us }
+    ensures bounds { IfSome result IsEpoch }
+{
+    if 0 <= us && us <= LAST_EPOCH {
+        Some(Some(us))
+    } else {
+        None
+    }
+}
+
+/// The moment of time 0 that `--epoch` names, in microseconds since 1970-01-01T00:00:00Z, and none where the option isn't
+/// given; `None` where its text is no instant, or one before 1970 or after 9000-01-01T00:00:00Z.
+pub fn read_epoch(text: Option<&str>) -> Option<Option<i64>>
+    ensures value { result ≡ epoch_in (option_map (λ t. t.now) text.entry) }
+    ensures bounds { IfSome result IsEpoch }
+{
+    match text {
+        None => Some(None),
+        Some(text) => within(instant_of(text.as_bytes())?),
+    }
+}
