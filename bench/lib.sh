@@ -2,16 +2,17 @@
 # copies of this repository's crates and a program from its folder under bench/.
 #
 #   source bench/lib.sh
-#   bench_program NAME "CRATE CRATE .." "LIBRARY .."
+#   bench_program NAME "CRATE CRATE .." "LIBRARY .." [FOLDER]
 #
-# makes the program of bench/NAME/program.txt (the gate reads each .rt file as a crate's), which uses these crates of this repository (name those
-# below them too) and these libraries of the kit. It leaves in BENCH_PROGRAM the path of the built
-# program, and removes the folder when the script ends. BENCH_KEEP=1 keeps it.
+# makes the program of bench/NAME/program.txt, or of another folder (the gate reads each .rt file as a crate's), which uses
+# these crates of this repository (name those below them too) and these libraries of the kit. It leaves in BENCH_PROGRAM the
+# path of the built program, and removes the folder of the run when the script ends. BENCH_KEEP=1 keeps it.
 
 bench_root=$(cd "$(dirname "${BASH_SOURCE[0]}")/.." && pwd)
 
 bench_program() {
     local name=$1 crates=$2 libraries=$3 crate
+    local folder=${4:-$bench_root/bench/$name}
     bench_work=$(mktemp -d)
     [ -n "${BENCH_KEEP:-}" ] || trap 'rm -rf "$bench_work"' EXIT
     local part
@@ -28,14 +29,14 @@ bench_program() {
     done
     echo "bench_$name: $crates $libraries" >> "$bench_work/crates.txt"
     cp "$bench_root/HANDLES" "$bench_work/HANDLES"
-    cp "$bench_root/bench/$name/program.txt" "$bench_work/crates/bench_$name/src/main.rt"
+    cp "$folder/program.txt" "$bench_work/crates/bench_$name/src/main.rt"
     touch "$bench_work/crates/bench_$name/specs/Lib.antt"
     # Where the program's proof needs answers, bench/NAME/proofs/PATH.txt holds those of proofs/PATH.antt.
     local answer
-    if [ -d "$bench_root/bench/$name/proofs" ]; then
-        (cd "$bench_root/bench/$name/proofs" && find . -name '*.txt') | while read -r answer; do
+    if [ -d "$folder/proofs" ]; then
+        (cd "$folder/proofs" && find . -name '*.txt') | while read -r answer; do
             mkdir -p "$bench_work/crates/bench_$name/proofs/$(dirname "$answer")"
-            cp "$bench_root/bench/$name/proofs/$answer" "$bench_work/crates/bench_$name/proofs/${answer%.txt}.antt"
+            cp "$folder/proofs/$answer" "$bench_work/crates/bench_$name/proofs/${answer%.txt}.antt"
         done
     fi
     # Without arguments the program prints its usage; the run proves and builds it.
