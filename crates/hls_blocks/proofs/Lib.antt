@@ -1,4 +1,4 @@
-pub mod Runs
-pub mod Chained
-pub mod Held
-pub mod Last
+mod Runs
+mod Chained
+mod Held
+mod Last

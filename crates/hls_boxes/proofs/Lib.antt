@@ -1,3 +1,3 @@
-pub mod FirstLaws
-pub mod ReaderLaws
-pub mod ScanLaws
+mod FirstLaws
+mod ReaderLaws
+mod ScanLaws

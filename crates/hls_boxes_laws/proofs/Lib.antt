@@ -1,11 +1,11 @@
 pub mod CutLaws
 mod Examples
-pub mod GrammarLaws
-pub mod Headers
+mod GrammarLaws
+mod Headers
 pub mod KindTests
-pub mod KindLaws
-pub mod LeftLaws
-pub mod UnendedLaws
+mod KindLaws
+mod LeftLaws
+mod UnendedLaws
 pub mod NextLaws
 pub mod TextLaws
 pub mod Steps

@@ -1,15 +1,15 @@
-pub mod Offsets
-pub mod Places
-pub mod Pieces
-pub mod Uris
-pub mod ListLoop
+mod Offsets
+mod Places
+mod Pieces
+mod Uris
+mod ListLoop
 pub mod Walks
-pub mod Right
+mod Right
 pub mod States
-pub mod Tables
+mod Tables
 pub mod Bounded
-pub mod Covered
-pub mod Spans
-pub mod Plays
-pub mod Names
-pub mod LiveLists
+mod Covered
+mod Spans
+mod Plays
+mod Names
+mod LiveLists

@@ -1,6 +1,6 @@
-pub mod PlanLists
-pub mod GoodAnswers
+mod PlanLists
+mod GoodAnswers
 pub mod OneAnswer
-pub mod ClosedPrices
-pub mod Blocks
-pub mod FirstBlocks
+mod ClosedPrices
+mod Blocks
+mod FirstBlocks

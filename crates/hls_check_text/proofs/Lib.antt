@@ -1,11 +1,11 @@
-pub mod Spellings
-pub mod Nexts
-pub mod Stagings
-pub mod Starts
-pub mod Sames
+mod Spellings
+mod Nexts
+mod Stagings
+mod Starts
+mod Sames
 pub mod Wrongs
-pub mod LineKinds
-pub mod PlaceTexts
-pub mod Claims
-pub mod Written
+mod LineKinds
+mod PlaceTexts
+mod Claims
+mod Written
 mod Scans

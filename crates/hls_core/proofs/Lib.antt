@@ -1,6 +1,6 @@
-pub mod Names
-pub mod Taken
-pub mod Goes
-pub mod Compared
-pub mod Moved
-pub mod Upkeeps
+mod Names
+mod Taken
+mod Goes
+mod Compared
+mod Moved
+mod Upkeeps

@@ -8,10 +8,10 @@ pub mod Moved
 pub mod Added
 pub mod Advance
 pub mod Workers
-pub mod Fitting
+mod Fitting
 pub mod Runs
 pub mod Theorems
-pub mod Rows
+mod Rows
 pub mod Sources
 pub mod Removed
-pub mod TestLists
+mod TestLists

@@ -1,11 +1,11 @@
 pub mod BodySteps
-pub mod Buffers
+mod Buffers
 pub mod Digits
-pub mod DropLaws
+mod DropLaws
 pub mod HeadLaws
-pub mod ListParts
-pub mod MediaLaws
-pub mod QueryLaws
+mod ListParts
+mod MediaLaws
+mod QueryLaws
 pub mod ReplyLaws
-pub mod Values
-pub mod Words
+mod Values
+mod Words

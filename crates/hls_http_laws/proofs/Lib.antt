@@ -1,4 +1,4 @@
 pub mod BodyLaws
 mod Examples
 pub mod Lists
-pub mod RequestLaws
+mod RequestLaws

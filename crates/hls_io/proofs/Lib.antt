@@ -1,1 +1,1 @@
-pub mod WriteLaws
+mod WriteLaws

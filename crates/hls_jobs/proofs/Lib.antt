@@ -1,4 +1,4 @@
-pub mod ByIds
-pub mod Valid
-pub mod Calls
-pub mod Keeps
+mod ByIds
+mod Valid
+mod Calls
+mod Keeps

@@ -1,3 +1,3 @@
-pub mod Beside
-pub mod Moves
-pub mod Keeps
+mod Beside
+mod Moves
+mod Keeps

@@ -4,7 +4,7 @@ pub mod Lives
 pub mod Tests
 pub mod Leaves
 pub mod Ends
-pub mod Within
+mod Within
 pub mod Upkeeps
 mod Examples
 pub mod Origins

@@ -1,8 +1,8 @@
-pub mod Reached
-pub mod Told
-pub mod Listed
-pub mod Slid
-pub mod Totals
+mod Reached
+mod Told
+mod Listed
+mod Slid
+mod Totals
 pub mod Texts
-pub mod Follows
-pub mod Origins
+mod Follows
+mod Origins

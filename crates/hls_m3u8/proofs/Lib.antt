@@ -1,13 +1,13 @@
 pub mod Building
-pub mod Commas
-pub mod Cuts
-pub mod Dates
-pub mod Digits
-pub mod FirstRefusals
-pub mod Joined
-pub mod MasterTexts
-pub mod ReadBack
-pub mod Scanning
-pub mod Texts
-pub mod Times
-pub mod WrittenLines
+mod Commas
+mod Cuts
+mod Dates
+mod Digits
+mod FirstRefusals
+mod Joined
+mod MasterTexts
+mod ReadBack
+mod Scanning
+mod Texts
+mod Times
+mod WrittenLines

@@ -1,18 +1,18 @@
-pub mod Overs
-pub mod TrafLaws
-pub mod RunLaws
-pub mod ColumnLaws
-pub mod NearLaws
-pub mod Slices
-pub mod Counts
-pub mod BridgeLaws
-pub mod ReadLaws
-pub mod FactLaws
-pub mod UnitLaws
-pub mod FirstLaws
-pub mod InitLaws
-pub mod GatherLaws
-pub mod MoovLaws
-pub mod TracksLaws
-pub mod MoovPlace
-pub mod InitReads
+mod Overs
+mod TrafLaws
+mod RunLaws
+mod ColumnLaws
+mod NearLaws
+mod Slices
+mod Counts
+mod BridgeLaws
+mod ReadLaws
+mod FactLaws
+mod UnitLaws
+mod FirstLaws
+mod InitLaws
+mod GatherLaws
+mod MoovLaws
+mod TracksLaws
+mod MoovPlace
+mod InitReads

@@ -1,7 +1,7 @@
 pub mod Causes
-pub mod Scales
+mod Scales
 pub mod Bounds
-pub mod PartLaws
-pub mod DifferLaws
+mod PartLaws
+mod DifferLaws
 pub mod Lists
 pub mod Timelines

@@ -1,13 +1,13 @@
-pub mod AcceptLaws
-pub mod AnswerLaws
-pub mod Begun
+mod AcceptLaws
+mod AnswerLaws
+mod Begun
 mod CheckExamples
 mod Examples
-pub mod GatherLaws
-pub mod LintLaws
-pub mod LintLines
-pub mod PrintLaws
-pub mod ReadLaws
-pub mod RunLaws
-pub mod Told
-pub mod Words
+mod GatherLaws
+mod LintLaws
+mod LintLines
+mod PrintLaws
+mod ReadLaws
+mod RunLaws
+mod Told
+mod Words

@@ -1,5 +1,5 @@
-pub mod Walked
-pub mod Good
-pub mod Whole
-pub mod Singles
-pub mod ListTexts
+mod Walked
+mod Good
+mod Whole
+mod Singles
+mod ListTexts

@@ -1,4 +1,4 @@
-pub mod Lookings
+mod Lookings
 pub mod Walks
-pub mod CutOuts
-pub mod Lines
+mod CutOuts
+mod Lines

@@ -1,9 +1,9 @@
-pub mod Filters
-pub mod Prefixes
+mod Filters
+mod Prefixes
 pub mod Appends
 pub mod Search
 pub mod Sides
-pub mod Timelines
+mod Timelines
 pub mod Sorted
 pub mod Ordered
 pub mod Tables

@@ -1,6 +1,6 @@
-pub mod Between
-pub mod RowLooks
-pub mod PricedRows
-pub mod WaysBack
-pub mod LeastCosts
-pub mod Results
+mod Between
+mod RowLooks
+mod PricedRows
+mod WaysBack
+mod LeastCosts
+mod Results

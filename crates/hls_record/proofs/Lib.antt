@@ -1,9 +1,9 @@
-pub mod Search
-pub mod Kept
-pub mod Twins
-pub mod Offsets
+mod Search
+mod Kept
+mod Twins
+mod Offsets
 pub mod Pieces
-pub mod Places
+mod Places
 pub mod Ranges
 pub mod Stays
-pub mod Samples
+mod Samples

@@ -1,5 +1,5 @@
-pub mod Wholes
-pub mod Parts
-pub mod Lists
-pub mod Sent
-pub mod Shown
+mod Wholes
+mod Parts
+mod Lists
+mod Sent
+mod Shown

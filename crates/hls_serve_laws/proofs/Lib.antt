@@ -1,2 +1,2 @@
 mod Examples
-pub mod Jobs
+mod Jobs

@@ -1,3 +1,3 @@
-pub mod Digits
-pub mod Says
-pub mod Words
+mod Digits
+mod Says
+mod Words

@@ -1,4 +1,4 @@
-pub mod Fronts
+mod Fronts
 pub mod Digits
 pub mod Words
 pub mod Joins
