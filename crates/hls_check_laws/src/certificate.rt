@@ -1,6 +1,6 @@
 //! Certificates, and what they claim.
 
-ghost use Rattle.std.specs.Prelude.{◌≡◌, ◌<◌, ◌↔◌, length, IsTrue, MatchOption, All, ℕ, Option};
+ghost use Rattle.std.specs.Prelude.{◌≡◌, ◌<◌, ◌↔◌, length, IsTrue, MatchOption, All};
 ghost use Rattle.hls_check_laws.specs.Certificates.{Printed, shown_by, IsPriceInRange, IsCutForm, IsForm, IsCertificate};
 
 use crate::printed_table::PrintedTable;

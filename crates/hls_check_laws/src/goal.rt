@@ -1,6 +1,6 @@
 //! What segments are to be like.
 
-ghost use Rattle.std.specs.Prelude.{◌≤◌, ◌↔◌, IsTrue};
+ghost use Rattle.std.specs.Prelude.{◌↔◌, IsTrue};
 ghost use Rattle.hls_check_laws.specs.Tables.{IsGoal};
 
 use crate::cost_rule::CostRule;

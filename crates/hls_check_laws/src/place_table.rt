@@ -2,7 +2,7 @@
 
 ghost use Rattle.std.specs.Prelude.{◌≡◌, ℕ, ◌-◌, ◌<◌, ◌≤◌, ◌↔◌, length, IsTrue, MatchOption, IfOk};
 ghost use Rattle.hls_time.specs.Times.{Fits};
-ghost use Rattle.hls_check_laws.specs.Tables.{IsTable, spot_in, place_at};
+ghost use Rattle.hls_check_laws.specs.Tables.{IsTable, place_at};
 ghost use Rattle.hls_check_laws.specs.Orders.{IsOrderly, IsPastGap, IsRowEnd};
 ghost use Rattle.hls_check_laws.specs.Steps.{Allowed, cost, cost_limit};
 

@@ -208,9 +208,18 @@ pub record PassesPlaces (head : Head) (bytes rest : List ℕ) (passed : ℕ) : T
   pub count : length places ≡ head.count
   pub at : IsAt (AtClaim (table_of head.goal head.renditions places)) bytes rest passed
 
--- a table's places were read, and its claim comes next
-abbrev pub HasPlaces : Head → List ℕ → List (List Spot) → List ℕ → ℕ → Type 0
-HasPlaces head bytes places rest passed = IsAt (AtClaim (table_of head.goal head.renditions places)) bytes rest passed
+-- a goal was read, and the count of renditions comes next
+abbrev pub HasGoal : List ℕ → Goal → List ℕ → ℕ → Type 0
+HasGoal bytes goal rest passed = IsAt (AtRenditions goal) bytes rest passed
+
+-- the lines above the places were read, and the first place comes next
+abbrev pub HasHead : List ℕ → Head → List ℕ → ℕ → Type 0
+HasHead bytes head rest passed = IsAt (AtPlace head []) bytes rest passed
+
+-- a table's places were read, which begin behind `first` lines, and its claim comes next
+abbrev pub HasPlaces : Head → List ℕ → ℕ → List (List Spot) → List ℕ → Type 0
+HasPlaces head bytes first places rest =
+    IsAt (AtClaim (table_of head.goal head.renditions places)) bytes rest (first + head.count)
 
 -- the whole of a cut, or of a closed set, was read
 abbrev pub EndsCut : List ℕ → Table → ℕ → List ℕ → List (Option ℕ) → List ℕ → ℕ → Type 0
@@ -226,7 +235,15 @@ StopsBuilding bytes fault = Builds bytes (Err fault)
 abbrev pub StopsScanning : List ℕ → WrongLine → Type 0
 StopsScanning bytes wrong = IsFirstWrong bytes wrong.line
 
--- what holds of every text of which this is left behind its head
+-- what holds of every text of which this is left behind its rule
+abbrev pub OfGoals : CostRule → List ℕ → ℕ → (List ℕ → Type 0) → Type 0
+OfGoals rule rest passed Then = (bytes : List ℕ) → IsAt (AtTarget rule) bytes rest passed → Then bytes
+
+-- behind its goal
+abbrev pub OfCounts : Goal → List ℕ → ℕ → (List ℕ → Type 0) → Type 0
+OfCounts goal rest passed Then = (bytes : List ℕ) → HasGoal bytes goal rest passed → Then bytes
+
+-- behind its head
 abbrev pub OfPlaces : Head → List ℕ → ℕ → (List ℕ → Type 0) → Type 0
 OfPlaces head rest passed Then = (bytes : List ℕ) → IsAt (AtPlace head []) bytes rest passed → Then bytes
 

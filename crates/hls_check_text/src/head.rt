@@ -1,8 +1,7 @@
 //! The lines above the places.
-ghost use Rattle.std.specs.Prelude.{◌≡◌, ◌+◌, ◌^◌, ◌<◌, ◌≤◌, ℕ, List, [], length, MatchResult, IfOk};
-ghost use Rattle.hls_check_laws.specs.Tables.{goal_of};
+ghost use Rattle.std.specs.Prelude.{◌+◌, ◌^◌, ◌<◌, ◌≤◌, length, MatchResult, IfOk};
 ghost use Rattle.hls_check_text.specs.Wrong.{IsFirstWrong};
-ghost use Rattle.hls_check_text.specs.Stages.{IsAt, AtTarget, AtRenditions, AtPlace, StopsScanning};
+ghost use Rattle.hls_check_text.specs.Stages.{IsAt, AtTarget, HasGoal, HasHead, OfCounts, OfGoals, StopsScanning};
 
 use crate::line::is_word;
 use crate::next::next_number;
@@ -41,7 +40,7 @@ fn read_rule(bytes: &[u8]) -> Result<(CostRule, &[u8], usize), WrongLine>
 // The target and the preferred length behind a rule.
 fn read_goal(rule: CostRule, text: &[u8], passed: usize) -> Result<(Goal, &[u8]), WrongLine>
     requires { passed + length text.now + 1 < 2 ^ 64 }
-    ensures goal { (bytes : List ℕ) → IsAt (AtTarget rule) bytes text.entry.now passed → MatchResult result (λ f. IsAt (AtRenditions f.0) bytes f.1.now (passed + 2)) (StopsScanning bytes) }
+    ensures goal { OfGoals rule text.entry.now passed (λ bytes. MatchResult result (λ f. HasGoal bytes f.0 f.1.now (passed + 2)) (StopsScanning bytes)) }
     ensures shorter { IfOk result (λ f. 2 + length f.1.now ≤ length text.entry.now) }
 {
     let (target, after_target) = next_number(text, passed, b"target ", 1, TARGET_LIMIT)?;
@@ -63,7 +62,7 @@ fn read_goal(rule: CostRule, text: &[u8], passed: usize) -> Result<(Goal, &[u8])
 // The counts of renditions and of places behind a goal.
 fn read_counts(goal: Goal, text: &[u8], passed: usize) -> Result<(Head, &[u8]), WrongLine>
     requires { passed + length text.now + 1 < 2 ^ 64 }
-    ensures head { (bytes : List ℕ) → IsAt (AtRenditions goal) bytes text.entry.now passed → MatchResult result (λ f. IsAt (AtPlace f.0 []) bytes f.1.now (passed + 2)) (StopsScanning bytes) }
+    ensures head { OfCounts goal text.entry.now passed (λ bytes. MatchResult result (λ f. HasHead bytes f.0 f.1.now (passed + 2)) (StopsScanning bytes)) }
     ensures shorter { IfOk result (λ f. 2 + length f.1.now ≤ length text.entry.now) }
 {
     let (renditions, after_renditions) = next_number(
@@ -90,7 +89,7 @@ fn read_counts(goal: Goal, text: &[u8], passed: usize) -> Result<(Head, &[u8]), 
 
 /// The lines above the places, and how many they are.
 pub fn read_head(bytes: &[u8]) -> Result<(Head, &[u8], usize), WrongLine>
-    ensures head { MatchResult result (λ f. IsAt (AtPlace f.0 []) bytes.entry.now f.1.now f.2) (λ wrong. IsFirstWrong bytes.entry.now wrong.line) }
+    ensures head { MatchResult result (λ f. HasHead bytes.entry.now f.0 f.1.now f.2) (λ wrong. IsFirstWrong bytes.entry.now wrong.line) }
     ensures shorter { IfOk result (λ f. f.2 + length f.1.now ≤ length bytes.entry.now) }
 {
     let (rule, after_rule, passed) = read_rule(bytes)?;

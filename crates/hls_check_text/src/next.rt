@@ -1,6 +1,5 @@
 //! The next line of a text of which `passed` lines were read, and what follows it.
 ghost use Rattle.std.specs.Prelude.{◌+◌, ◌^◌, ◌<◌, ◌≤◌, length, MatchResult, IfOk};
-ghost use Rattle.hls_text.specs.Lines.{IsFirstLine};
 ghost use Rattle.hls_check_laws.specs.Tables.{place_limit};
 ghost use Rattle.hls_check_text.specs.Stages.{RefusesOrLacks, IsRenditions, IsPlaceLine, IsPlanLine};
 ghost use Rattle.hls_check_text.specs.Nexts.{IsWrongNumber, NumberNext, PlaceNext, PlanNext};

@@ -1,5 +1,5 @@
 //! A certificate's text, line by line. Each part speaks of the whole text, of which it is passed what is left.
-ghost use Rattle.std.specs.Prelude.{◌≡◌, ◌++◌, ◌+◌, ◌*◌, ◌^◌, ◌<◌, ◌≤◌, ℕ, List, [], ◌∷◌, length, MatchResult, IfOk, All, Err};
+ghost use Rattle.std.specs.Prelude.{◌≡◌, ◌+◌, ◌^◌, ◌<◌, ◌≤◌, ℕ, List, [], length, MatchResult, IfOk, All};
 ghost use Rattle.hls_check_laws.specs.Tables.{place_limit};
 ghost use Rattle.hls_check_laws.specs.Certificates.{Printed, IsCertificate, IsPriceInRange};
 ghost use Rattle.hls_check_text.specs.Text.{text};
@@ -24,7 +24,7 @@ fn read_places<'a>(
 ) -> Result<(Vec<Spots>, &'a [u8]), CertFault>
     requires room { first + length text.now + 1 < 2 ^ 64 }
     requires head { IsHead head }
-    ensures at { OfPlaces head text.entry.now first (λ bytes. MatchResult result (λ f. HasPlaces head bytes f.0.items f.1.now (first + head.count)) (StopsBuilding bytes)) }
+    ensures at { OfPlaces head text.entry.now first (λ bytes. MatchResult result (λ f. HasPlaces head bytes first f.0.items f.1.now) (StopsBuilding bytes)) }
     ensures shorter { IfOk result (λ f. head.count + length f.1.now ≤ length text.entry.now) }
 {
     let mut places = Vec::new(alloc);

@@ -1,5 +1,5 @@
 // A certificate's text, line by line.
-ghost use Rattle.std.specs.Prelude.{◌≡◌, ◌++◌, ◌<◌, ℕ, [], ◌∷◌, length, map, IfOk};
+ghost use Rattle.std.specs.Prelude.{◌≡◌, ◌++◌, ◌<◌, [], ◌∷◌, length, map, IfOk};
 ghost use Rattle.std.specs.Fmt.{decimal};
 ghost use Rattle.hls_text.specs.Lines.{joined};
 ghost use Rattle.hls_text.specs.Numbers.{words, spaced, number_line};

@@ -1,9 +1,9 @@
 //! Media boxes and track boxes (ISO/IEC 14496-12 8.3.1, 8.4.1). The first box of each type counts.
 
 ghost use Rattle.std.specs.Prelude.{◌≡◌, ◌+◌, ◌≤◌, length, IfSome};
-ghost use Rattle.hls_boxes_laws.specs.Boxes.{Child};
 ghost use Rattle.hls_media_laws.specs.Inits.{versioned_field as field_by_version, handler_field as handler_by_place, media_from, media_of as media_by_lists, track_from, track_at as track_by_lists};
 ghost use Rattle.hls_media.specs.Firsts.{first_step, both, weight};
+ghost use Rattle.hls_media.specs.Folds.{box_of};
 
 use crate::headers::box_header;
 use crate::headings::{handler_field, versioned_field};
@@ -18,7 +18,7 @@ type TrackSoFar = (Option<u32>, Option<Media>);
 
 /// One more box of an `mdia`.
 fn with_media_box(so_far: MediaSoFar, kind: u32, content: &[u8]) -> Option<MediaSoFar>
-    ensures value { let child : Child = record { kind = kind; head = 0; content = content.now } in result ≡ first_step field_by_version handler_by_place MDHD HDLR so_far child }
+    ensures value { result ≡ first_step field_by_version handler_by_place MDHD HDLR so_far (box_of kind content.now) }
     ensures least { IfSome result (λ s. weight 24 20 s ≤ weight 24 20 so_far + 8 + length content.now) }
 {
     match kind {
@@ -76,7 +76,7 @@ fn media_of(content: &[u8]) -> Option<Media>
 
 /// One more box of a `trak`.
 fn with_track_box(so_far: TrackSoFar, kind: u32, content: &[u8]) -> Option<TrackSoFar>
-    ensures value { let child : Child = record { kind = kind; head = 0; content = content.now } in result ≡ first_step field_by_version media_by_lists TKHD MDIA so_far child }
+    ensures value { result ≡ first_step field_by_version media_by_lists TKHD MDIA so_far (box_of kind content.now) }
     ensures least { IfSome result (λ s. weight 24 52 s ≤ weight 24 52 so_far + 8 + length content.now) }
 {
     match kind {

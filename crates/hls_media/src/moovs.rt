@@ -1,9 +1,8 @@
 //! Movie boxes (ISO/IEC 14496-12 8.2.1): their tracks, and their `mvex`.
 
 ghost use Rattle.std.specs.Prelude.{◌≡◌, ◌^◌, ◌<◌, ◌≤◌, true, Some, [], length, IfSome, option_map, if◌then◌else◌, None};
-ghost use Rattle.hls_boxes_laws.specs.Boxes.{Child};
 ghost use Rattle.hls_media_laws.specs.Inits.{track_at as track_by_lists, tracks_of};
-ghost use Rattle.hls_media.specs.Folds.{over};
+ghost use Rattle.hls_media.specs.Folds.{box_of, over};
 ghost use Rattle.hls_media.specs.declared.moovs.Rest.{Rest};
 ghost use Rattle.hls_media.specs.Given.{given_step};
 ghost use Rattle.hls_media.specs.Gathered.{gather_step, nothing_yet, seen_with, Added, AreTracks};
@@ -87,7 +86,7 @@ fn gather(moov: &[u8], ids: &mut Ids, tracks: &mut Tracks) -> Option<Rest>
 
 /// Gives the tracks the defaults of one more box of an `mvex`. Whether it was good.
 fn give_box(tracks: &mut Tracks, kind: u32, content: &[u8]) -> bool
-    ensures { let child : Child = record { kind = kind; head = 0; content = content.now } in given_step tracks.old child ≡ (if result then Some tracks.new else None) }
+    ensures { given_step tracks.old (box_of kind content.now) ≡ (if result then Some tracks.new else None) }
 {
     if kind != TREX {
         return true;

@@ -2,12 +2,11 @@
 //! 8.8.8).
 
 ghost use Rattle.std.specs.Prelude.{◌≡◌, ℕ, pos, ◌+◌, ◌*◌, ◌^◌, ◌+ℤ◌, ◌≤◌, ◌<◌, ◌||◌, Some, length, IfSome};
-ghost use Rattle.hls_boxes_laws.specs.Boxes.{Child};
 ghost use Rattle.hls_media_laws.specs.Runs.{is_outside as some_byte_outside};
 ghost use Rattle.hls_media.specs.Counted.{RisesBy};
-ghost use Rattle.hls_media.specs.Folds.{over};
+ghost use Rattle.hls_media.specs.Folds.{box_of, over};
 ghost use Rattle.hls_media.specs.Kept.{IsRun};
-ghost use Rattle.hls_media.specs.Placed.{stretched, placed_more, placed_by, placed_step, IsNear, IsAround};
+ghost use Rattle.hls_media.specs.Placed.{stretched, placed_more, placed_step, IsNear, IsAround};
 
 use crate::columns::sizes_of;
 use crate::headers::counted_header;
@@ -125,7 +124,7 @@ fn place_box(
     requires end { IsNear (2 ^ 27) so_far.end }
     requires len { length content.now ≤ 2 ^ 26 }
     requires count { ticks.old < 2 ^ 62 + 2 ^ 59 }
-    ensures value { let child : Child = record { kind = kind; head = 0; content = content.now } in result ≡ placed_step default frame so_far child }
+    ensures value { result ≡ placed_step default frame so_far (box_of kind content.now) }
     ensures near { (n : ℕ) → IsNear n frame.base → IsNear n so_far.end → IfSome result (λ p. IsNear (n + length content.now) p.end) }
     ensures counted { RisesBy (length content.now * 2) ticks.old ticks.new }
 {

@@ -1,13 +1,12 @@
 //! What the track fragments of a unit come to, one after the other.
 
-ghost use Rattle.std.specs.Prelude.{◌≡◌, ℕ, ◌+◌, ◌*◌, ◌^◌, ◌<◌, ◌≤◌, ◌==◌, pos, Option, option_map, option_and_then, find, length, IfSome, if◌then◌else◌};
+ghost use Rattle.std.specs.Prelude.{◌≡◌, ℕ, ◌+◌, ◌*◌, ◌^◌, ◌<◌, ◌≤◌, ◌==◌, pos, option_map, option_and_then, find, length, IfSome, if◌then◌else◌};
 ghost use Rattle.std.specs.Option.{option_or};
-ghost use Rattle.hls_boxes_laws.specs.Boxes.{Child};
 ghost use Rattle.hls_media_laws.specs.declared.track.Track.{Track};
 ghost use Rattle.hls_media_laws.specs.declared.track.Defaults.{Defaults};
 ghost use Rattle.hls_media_laws.specs.Trafs.{traf_at};
 ghost use Rattle.hls_media.specs.Counted.{RisesBy};
-ghost use Rattle.hls_media.specs.Folds.{over};
+ghost use Rattle.hls_media.specs.Folds.{box_of, over};
 ghost use Rattle.hls_media.specs.Placed.{IsNear};
 ghost use Rattle.hls_media.specs.Timed.{timed_step, no_samples};
 ghost use Rattle.hls_media.specs.Tallies.{given, tally_more, tally_step, timing_by, empty, IsShort};
@@ -227,7 +226,7 @@ fn with_box(
     requires end { IsNear (2 ^ 26) so_far.placed.end }
     requires short { IsShort so_far.timing }
     requires count { ticks.old < 2 ^ 62 + 2 ^ 57 }
-    ensures value { let child : Child = record { kind = kind; head = 0; content = content.now } in result ≡ tally_step (given tracks.now timing bounds) so_far child }
+    ensures value { result ≡ tally_step (given tracks.now timing bounds) so_far (box_of kind content.now) }
     ensures near { (n : ℕ) → IsNear n so_far.placed.end → IfSome result (λ s. IsNear (n + length content.now) s.placed.end) }
     ensures short { IfSome result (λ s. IsShort s.timing) }
     ensures counted { RisesBy (length content.now * 6) ticks.old ticks.new }

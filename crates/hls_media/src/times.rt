@@ -1,9 +1,8 @@
 //! How long a track fragment's samples last, and the flags of its first one (ISO/IEC 14496-12 8.8.8).
 
 ghost use Rattle.std.specs.Prelude.{◌≡◌, ◌+◌, ◌*◌, ◌^◌, ◌<◌, ◌≤◌, Some, length, IfSome};
-ghost use Rattle.hls_boxes_laws.specs.Boxes.{Child};
 ghost use Rattle.hls_media.specs.Counted.{RisesBy};
-ghost use Rattle.hls_media.specs.Folds.{over};
+ghost use Rattle.hls_media.specs.Folds.{box_of, over};
 ghost use Rattle.hls_media.specs.Kept.{IsRun};
 ghost use Rattle.hls_media.specs.Timed.{no_samples, flags_more, timed_more, timed_step};
 
@@ -84,7 +83,7 @@ fn time_box(
     requires room { so_far.duration ≤ 2 ^ 100 }
     requires len { length content.now ≤ 2 ^ 26 }
     requires count { ticks.old < 2 ^ 62 + 2 ^ 59 }
-    ensures value { let child : Child = record { kind = kind; head = 0; content = content.now } in result ≡ timed_step duration flags so_far child }
+    ensures value { result ≡ timed_step duration flags so_far (box_of kind content.now) }
     ensures bound { IfSome result (λ t. t.duration ≤ so_far.duration + length content.now * 2 ^ 61) }
     ensures counted { RisesBy (length content.now * 3) ticks.old ticks.new }
 {

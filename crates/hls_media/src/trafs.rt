@@ -1,9 +1,9 @@
 //! Track fragments (ISO/IEC 14496-12 8.8.6): whether one is good, its header and its decode time.
 
 ghost use Rattle.std.specs.Prelude.{◌≡◌, ◌+◌, ◌^◌, ◌<◌, ◌≤◌, length, option_map};
-ghost use Rattle.hls_boxes_laws.specs.Boxes.{Child};
 ghost use Rattle.hls_media_laws.specs.Trafs.{traf_at};
 ghost use Rattle.hls_media.specs.Counted.{RisesBy};
+ghost use Rattle.hls_media.specs.Folds.{box_of};
 ghost use Rattle.hls_media.specs.Noted.{noted, whole_heading, heading_of};
 
 use crate::headers::counted_header;
@@ -30,7 +30,7 @@ pub struct Noted {
 /// Takes note of one more box.
 fn with_box(so_far: Noted, kind: u32, content: &[u8], ticks: &mut Ticks) -> Option<Noted>
     requires { ticks.old < 2 ^ 62 + 2 ^ 59 }
-    ensures value { let child : Child = record { kind = kind; head = 0; content = content.now } in result ≡ noted so_far child }
+    ensures value { result ≡ noted so_far (box_of kind content.now) }
     ensures counted { RisesBy (length content.now) ticks.old ticks.new }
 {
     match kind {
