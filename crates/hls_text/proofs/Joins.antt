@@ -9,7 +9,7 @@ use Rattle.std.proofs.lemmas.Str.Parse.{tells_digits}
 use Rattle.std.proofs.lemmas.List.Elements.{All-head, All-tail, All-cons, All-nil}
 use Rattle.hls_text.specs.Lines.{cut_text, before_lines, joined, IsFirstLine}
 use Rattle.hls_text.specs.Numbers.{spaced, words, ArePrintable}
-use Rattle.hls_text.proofs.Digits.{all_digits}
+use Rattle.hls_text.proofs.Decimals.{all_digits}
 use Rattle.hls_text.proofs.Words.{IsSmall}
 
 -- no line feed in it

@@ -1,5 +1,6 @@
 mod Fronts
-pub mod Digits
+pub mod Decimals
 pub mod Words
 pub mod Joins
+mod Wholes
 mod Belows
