@@ -1,4 +1,4 @@
-ghost use Rattle.std.specs.Prelude.{◌≡◌, ℕ, ◌+◌, ◌<◌, ◌≤◌, ◌++◌, List, Some, None, length, map, IfOk, MatchOption};
+ghost use Rattle.std.specs.Prelude.{◌≡◌, ℕ, ◌+◌, ◌<◌, ◌≤◌, ◌++◌, List, Some, None, length, map, IfOk, IfSome};
 ghost use Rattle.hls_blocks.specs.Numbered.{Numbered, next_of, list_limit};
 ghost use Rattle.hls_places_laws.specs.Places.{places_after};
 ghost use Rattle.hls_places_laws.specs.Positions.{IsCursor};
@@ -76,9 +76,8 @@ fn recordings_of<'a>(
     alloc: Global,
     sides: &'a [Arc<Side>],
 ) -> Result<Option<Vec<&'a Recording>>, AllocError>
-    ensures { IfOk result
-        (λ all. MatchOption all (Lacks (map (λ a. a.value) sides.entry.now))
-        (λ v. map (λ r. Some r.now) v.items ≡ map (λ a. a.value.recording) sides.entry.now)) }
+    ensures lacks { IfOk result (λ all. all ≡ None → Lacks (map (λ a. a.value) sides.entry.now)) }
+    ensures gathers { IfOk result (λ all. IfSome all (λ v. map (λ r. Some r.now) v.items ≡ map (λ a. a.value.recording) sides.entry.now)) }
 {
     let mut recordings = Vec::with_capacity(alloc, sides.len())?;
     for side in sides {

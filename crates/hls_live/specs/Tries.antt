@@ -5,7 +5,7 @@ use Rattle.hls_live_laws.specs.declared.aim.Aim.{Aim}
 use Rattle.hls_live_laws.specs.declared.segment.Segment.{Segment}
 use Rattle.hls_live_laws.specs.declared.opening.Opening.{Opening}
 use Rattle.hls_live_laws.specs.Cuts.{resumed, begun_anew}
-use Rattle.hls_live_laws.specs.Told.{Told, told_with, tried}
+use Rattle.hls_live_laws.specs.Told.{Told, closed_with, told_with, tried}
 use Rattle.hls_live_laws.specs.Live.{Live}
 
 -- a place out of reach begins the line anew
@@ -18,3 +18,7 @@ told_once live q = told_by live.aim live.removed live.told.line.segments live.to
 
 abbrev pub with_told : Live → Told → Live
 with_told live told = record { aim = live.aim; told = told; removed = live.removed; breaks = live.breaks }
+
+-- once its open segment ends at a place, where the next one begins
+abbrev pub with_closed : Live → Opening → Place → Live
+with_closed live o to = with_told live (told_with (closed_with live.removed live.told.line.segments o to) (resumed to) None)

@@ -4,14 +4,14 @@ ghost use Rattle.std.specs.Option.{option_copied};
 ghost use Rattle.hls_blocks.specs.Numbered.{next_of, list_limit};
 ghost use Rattle.hls_places_laws.specs.declared.place.Place.{Place};
 ghost use Rattle.hls_live_laws.specs.Steps.{is_allowed};
-ghost use Rattle.hls_live_laws.specs.Cuts.{resumed, segment_to};
-ghost use Rattle.hls_live_laws.specs.Told.{told_with, closed_with, has_earlier};
+ghost use Rattle.hls_live_laws.specs.Cuts.{segment_to};
+ghost use Rattle.hls_live_laws.specs.Told.{told_with, has_earlier};
 ghost use Rattle.hls_live_laws.specs.Lengths.{length_in, left_in, is_long, renditions_of};
 ghost use Rattle.hls_live_laws.specs.Live.{fresh, front_of, has_ended, moved, goes_on, slid, slides, may_slide};
 ghost use Rattle.hls_live_laws.specs.Answers.{IsAnswer};
 ghost use Rattle.hls_live_laws.specs.Upkeep.{LineLeaves, IsMostSlide};
 ghost use Rattle.hls_live.specs.Sums.{last_of, lengths_of, marks_of, IsNext};
-ghost use Rattle.hls_live.specs.Tries.{told_once, with_told};
+ghost use Rattle.hls_live.specs.Tries.{told_once, with_closed, with_told};
 ghost use Rattle.hls_check_laws.specs.Tables.{target_limit};
 ghost use Rattle.hls_check_laws.specs.Steps.{cost_limit};
 
@@ -324,8 +324,7 @@ impl LiveLine {
         requires room { self.now.removed + length self.now.told.line.segments < list_limit }
         requires opening { self.now.told.line.open_at ≡ Some opening.now }
         requires reached { is_allowed self.now.aim opening.now.place to.now ≡ true }
-        ensures { IfOk result (λ line. line
-            ≡ with_told self.now (told_with (closed_with self.now.removed self.now.told.line.segments opening.now to.now) (resumed to.now) None)) }
+        ensures { IfOk result (λ line. line ≡ with_closed self.now opening.now to.now) }
     {
         let segment = Segment {
             from: opening.place.copied(alloc)?,

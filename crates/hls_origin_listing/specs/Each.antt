@@ -5,6 +5,7 @@ use Rattle.hls_record.specs.Recorded.{Recorded}
 use Rattle.hls_check_laws.specs.declared.spot.Spot.{Spot}
 use Rattle.hls_check_laws.specs.Tables.{place_at}
 use Rattle.hls_check_laws.specs.Steps.{IsPlaceStep}
+use Rattle.hls_m3u8.specs.declared.playlist.Segment.{Segment}
 use Rattle.hls_m3u8.specs.Forms.{vod_list}
 use Rattle.hls_m3u8.specs.Playlist.{Playlist}
 use Rattle.hls_m3u8.specs.Written.{IsWritten}
@@ -23,6 +24,10 @@ list_by target epoch recorded uri places plan =
 -- the plan that leaves no place out
 abbrev pub each_place : List (List Spot) → List ℕ
 each_place places = range_with_len 0 (length places)
+
+-- the segments of that plan
+abbrev pub each_segment : Option ℤ → Recorded → List ℕ → List (List Spot) → List Segment
+each_segment epoch recorded uri places = segments_of (cutting epoch recorded 0 uri 0) places (each_place places)
 
 -- one segment may reach from place i to the next
 abbrev pub ReachesNext : ℕ → List (List Spot) → ℕ → Type 0

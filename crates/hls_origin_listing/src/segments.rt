@@ -1,10 +1,8 @@
 ghost use Rattle.std.specs.Prelude.{◌≡◌, All, IfOk};
 ghost use Rattle.hls_check_laws.specs.Tables.{IsPlaceOf};
 ghost use Rattle.hls_places_laws.specs.Order.{spots_of};
-ghost use Rattle.hls_catchup.specs.Lists.{cutting};
 ghost use Rattle.hls_core_laws.specs.Config.{IsEpoch};
-ghost use Rattle.hls_catchup_laws.specs.Segments.{segments_of};
-ghost use Rattle.hls_origin_listing.specs.Each.{each_place};
+ghost use Rattle.hls_origin_listing.specs.Each.{each_segment};
 
 use bytes::ByteStr;
 use hls_blocks::Shared;
@@ -26,8 +24,7 @@ pub fn each_segment(
     requires epoch { IsEpoch epoch }
     requires first { places.now.first ≡ 0 }
     requires single { All (IsPlaceOf 1) (spots_of places.now.items) }
-    ensures { IfOk result (λ v. v.items ≡ segments_of (cutting epoch recording.now 0 uri.now 0) (spots_of places.now.items)
-        (each_place (spots_of places.now.items))) }
+    ensures { IfOk result (λ v. v.items ≡ each_segment epoch recording.now uri.now (spots_of places.now.items)) }
 {
     let mut segments = Vec::new(alloc);
     let mut walk = places.iter_from(0);

@@ -175,7 +175,7 @@ fn catch_up<K: Keeper, T: Wait>(
     requires { K.serves keeper.now pass.old }
     ensures serves { K.serves keeper.now pass.new }
     ensures adds { (text : List ℕ) → IfOk query (λ said. said ≡ query_in text)
-        → Makes (CatchesUp K.desk (query_in text) (K.known pass.old) (K.known pass.new)) (K.known pass.old) (K.known pass.new) result }
+        → MakesBy (CatchesUp K.desk (query_in text)) (K.known pass.old) (K.known pass.new) result }
 {
     match query {
         Ok(Some(query)) => add_wanted(rt, alloc, keeper, pass, query),

@@ -1,6 +1,7 @@
 -- What the words after `serve` ask for, or which of them is wrong first.
 use Rattle.std.specs.Prelude.{ℕ, ◌*◌, List, Option, Some, None, Bool, true, false, ◌&&◌, option_and_then, cond, codes, Result, Ok, Err}
-use Rattle.std.specs.Prelude.{ℤ, pos, int_le}
+use Rattle.std.specs.Prelude.{ℤ, option_map, pos, int_le}
+use Rattle.std.specs.Borrow.{Bor}
 use Rattle.std.specs.Str.{bytes_eq}
 use Rattle.clap.specs.Words.{Text}
 use Rattle.hls_instants.specs.Instants.{instant_of}
@@ -13,6 +14,10 @@ use Rattle.hls_settings.specs.declared.timing.Timing.{Timing}
 use Rattle.hls_settings.specs.declared.workers.Workers.{Workers}
 use Rattle.hls_settings.specs.Addresses.{address_of}
 use Rattle.hls_settings.specs.Numbers.{number_in}
+
+-- a word, where it is given
+abbrev pub text_of : Option (Bor Text) → Option Text
+text_of word = option_map (λ (t : Bor Text). t.now) word
 
 -- the greatest number of 16 digits
 abbrev pub most_number : ℕ

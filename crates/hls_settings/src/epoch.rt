@@ -1,7 +1,7 @@
 //! The moment of time 0.
-ghost use Rattle.std.specs.Prelude.{◌≡◌, IfSome, option_map};
+ghost use Rattle.std.specs.Prelude.{◌≡◌, IfSome};
 ghost use Rattle.hls_core_laws.specs.Config.{IsEpoch};
-ghost use Rattle.hls_settings.specs.Settings.{epoch_in, epoch_within};
+ghost use Rattle.hls_settings.specs.Settings.{epoch_in, epoch_within, text_of};
 
 use hls_core::config::LAST_EPOCH;
 use hls_instants::instant_of;
@@ -20,7 +20,7 @@ fn within(us: i64) -> Option<Option<i64>>
 /// The moment of time 0 that `--epoch` names, in microseconds since 1970-01-01T00:00:00Z, and none where the option isn't
 /// given; `None` where its text is no instant, or one before 1970 or after 9000-01-01T00:00:00Z.
 pub fn read_epoch(text: Option<&str>) -> Option<Option<i64>>
-    ensures value { result ≡ epoch_in (option_map (λ t. t.now) text.entry) }
+    ensures value { result ≡ epoch_in (text_of text.entry) }
     ensures bounds { IfSome result IsEpoch }
 {
     match text {

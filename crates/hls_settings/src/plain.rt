@@ -1,8 +1,8 @@
 //! All that stands apart from the renditions.
-ghost use Rattle.std.specs.Prelude.{◌≡◌, IfOk, option_map};
+ghost use Rattle.std.specs.Prelude.{◌≡◌, IfOk};
 ghost use Rattle.hls_core_laws.specs.Config.{IsEpoch, IsTarget, IsPreferred};
 ghost use Rattle.clap.specs.Words.{first_value, found_of};
-ghost use Rattle.hls_settings.specs.Settings.{address_in, log_of, plain_of};
+ghost use Rattle.hls_settings.specs.Settings.{address_in, log_of, plain_of, text_of};
 ghost use Rattle.hls_settings.specs.Command.{texts_in};
 
 use crate::address::{Address, read_address};
@@ -26,7 +26,7 @@ pub struct Plain {
 
 /// Whether requests are logged; `None` where the text asks for something else.
 fn read_log(text: Option<&str>) -> Option<bool>
-    ensures { result ≡ log_of (option_map (λ t. t.now) text.entry) }
+    ensures { result ≡ log_of (text_of text.entry) }
 {
     let Some(text) = text else {
         return Some(false);
@@ -35,7 +35,7 @@ fn read_log(text: Option<&str>) -> Option<bool>
 }
 
 fn address_in(text: Option<&str>) -> Option<Address>
-    ensures { result ≡ address_in (option_map (λ t. t.now) text.entry) }
+    ensures { result ≡ address_in (text_of text.entry) }
 {
     read_address(text?)
 }

@@ -1,7 +1,7 @@
 //! Lengths of time.
-ghost use Rattle.std.specs.Prelude.{◌≡◌, IfOk, option_map};
+ghost use Rattle.std.specs.Prelude.{◌≡◌, IfOk};
 ghost use Rattle.hls_core_laws.specs.Config.{IsTarget, IsPreferred};
-ghost use Rattle.hls_settings.specs.Settings.{timing_of};
+ghost use Rattle.hls_settings.specs.Settings.{text_of, timing_of};
 
 use crate::fault::SettingsFault;
 use crate::number::number_in;
@@ -30,8 +30,7 @@ pub fn read_timing(
     keep: Option<&str>,
 ) -> Result<Timing, SettingsFault>
     ensures valid { IfOk result (λ t. IsTarget t.target × IsPreferred t.target t.preferred) }
-    ensures value { result ≡ timing_of (option_map (λ t. t.now) target.entry) (option_map (λ t. t.now) preferred.entry)
-        (option_map (λ t. t.now) window.entry) (option_map (λ t. t.now) keep.entry) }
+    ensures value { result ≡ timing_of (text_of target.entry) (text_of preferred.entry) (text_of window.entry) (text_of keep.entry) }
 {
     let Some(target) = number_in(1, 3600, 6, target) else {
         return Err(SettingsFault::Target);

@@ -1,6 +1,6 @@
 //! The server's threads.
-ghost use Rattle.std.specs.Prelude.{◌≡◌, option_map};
-ghost use Rattle.hls_settings.specs.Settings.{workers_of};
+ghost use Rattle.std.specs.Prelude.{◌≡◌};
+ghost use Rattle.hls_settings.specs.Settings.{text_of, workers_of};
 
 use crate::fault::SettingsFault;
 use crate::number::number_in;
@@ -22,7 +22,7 @@ pub fn read_workers(
     planners: Option<&str>,
     patience: Option<&str>,
 ) -> Result<Workers, SettingsFault>
-    ensures { result ≡ workers_of (option_map (λ t. t.now) workers.entry) (option_map (λ t. t.now) planners.entry) (option_map (λ t. t.now) patience.entry) }
+    ensures { result ≡ workers_of (text_of workers.entry) (text_of planners.entry) (text_of patience.entry) }
 {
     let Some(workers) = number_in(1, 63, 8, workers) else {
         return Err(SettingsFault::Workers);
