@@ -2,7 +2,6 @@
 
 ghost use Rattle.std.specs.Prelude.{◌≡◌, ◌-◌, ◌<◌, ◌≤◌, length, Some, IfSome, IfNone, slice_get, slice_index};
 ghost use Rattle.std.specs.Option.{option_copied};
-ghost use Rattle.hls_places_laws.specs.Order.{time_of};
 ghost use Rattle.hls_places_laws.specs.Programmes.{is_kept};
 ghost use Rattle.hls_core_laws.specs.Places.{places, floors};
 ghost use Rattle.hls_core_laws.specs.Outcome.{outcome_of, logged_by};
@@ -12,7 +11,7 @@ ghost use Rattle.hls_core.specs.Cuts.{TimesRise, IsCountBy, IsOldUntil, NoneOld,
 use crate::snapshot::{Snapshot, fragment_in};
 use hls_blocks::Shared;
 use hls_core_laws::event::Event;
-use hls_places::Place;
+use hls_places::{Place, time_of};
 
 /// So often a search guesses where a place is. Then it goes by halves, which takes few looks however the places come.
 const MOST_GUESSES: u32 = 8;
@@ -87,16 +86,6 @@ fn last_place(snapshot: &Snapshot) -> Option<&Place>
         return None;
     }
     places.get(places.next() - 1)
-}
-
-/// When a place starts in rendition 0, in microseconds.
-fn time_of(place: &Place) -> u64
-    ensures { result ≡ time_of place.now }
-{
-    match place.spots.as_slice().first() {
-        Some(spot) => spot.start,
-        None => 0,
-    }
 }
 
 /// How many places, in order of time, are at or before a time. Where they come about evenly, some three of them are looked at.

@@ -6,7 +6,7 @@ pub use hls_check_laws::{PlaceTable, Spot, Spots};
 pub use hls_places_laws::{Mark, Place, ProgrammeFault};
 pub use kept::is_kept;
 pub use places::common;
-pub use programmes::programme;
+pub use programmes::{programme, time_of};
 pub use steps::{allowed, cost, pair_allowed};
 
 mod closing;

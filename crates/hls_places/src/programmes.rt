@@ -67,8 +67,8 @@ fn table(
     Ok(PlaceTable::new(PrintedTable::new(goal, renditions, spots)))
 }
 
-/// When a place starts in rendition 0.
-fn time_of(place: &Place) -> u64
+/// When a place starts in rendition 0, in microseconds; 0 for a place without spots.
+pub fn time_of(place: &Place) -> u64
     ensures { result ≡ time_of place.now }
 {
     match place.spots.as_slice().first() {

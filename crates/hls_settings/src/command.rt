@@ -1,14 +1,13 @@
 //! The words as `clap` reads them.
-ghost use Rattle.std.specs.Prelude.{◌≡◌, IfOk, Some, false};
+ghost use Rattle.std.specs.Prelude.{◌≡◌, IfOk, false};
 ghost use Rattle.clap.specs.Words.{app_of, rule_of, with_rule};
-ghost use Rattle.clap.specs.Simple.{new_rule};
-ghost use Rattle.hls_settings.specs.Command.{channel_app, options_app, serve_app, timing_app, value_rule, words_rule};
+ghost use Rattle.hls_settings.specs.Command.{channel_app, options_app, serve_app, timing_app, value_rule};
 
 use clap::{Arg, ArgAction, Command};
 use std::alloc::{AllocError, Global};
 
 /// An option that takes a value, by its long name.
-fn valued<'a>(alloc: Global, name: &'a str) -> Arg<'a>
+pub fn valued<'a>(alloc: Global, name: &'a str) -> Arg<'a>
     ensures rule { rule_of result ≡ value_rule name.entry.now }
     ensures local { result.global ≡ false }
 {

@@ -15,6 +15,7 @@ mod timing;
 mod workers;
 
 pub use address::{Address, read_address};
+pub use command::valued;
 pub use epoch::read_epoch;
 pub use fault::SettingsFault;
 pub use number::read_number;
