@@ -1,6 +1,6 @@
 pub mod BodySteps
 mod Buffers
-pub mod Digits
+mod Digits
 mod DropLaws
 pub mod HeadLaws
 mod ListParts

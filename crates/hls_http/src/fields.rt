@@ -7,12 +7,13 @@ ghost use Rattle.hls_http_laws.specs.Framing.{body_of, framing_of, is_chunked, i
 ghost use Rattle.hls_http_laws.specs.Range.{asked_of};
 ghost use Rattle.hls_http.specs.Values.{AreLengths, IsOnly, NextValue, fields_at, named_value};
 
-use crate::number::{find_byte, read_number};
+use crate::number::find_byte;
 use crate::range::read_range;
 use hls_http_laws::body::Body;
 use hls_http_laws::fault::HttpFault;
 use hls_http_laws::limits::MOST_LENGTH_DIGITS;
 use hls_http_laws::range::Asked;
+use hls_text::read_number;
 use httparse::spans::HeaderSpan;
 
 /// The value of a field, where it has this name.

@@ -29,7 +29,6 @@ pub use hls_http_laws::fault::HttpFault;
 pub use hls_http_laws::plan::Plan;
 pub use hls_io::{Counted, write_whole};
 pub use media::{Resource, write_part};
-pub use number::read_number;
 pub use order::{continues, ends_early, is_over, plan, says_close};
 pub use query::{split_target, value_of};
 pub use range::part;

@@ -3,7 +3,6 @@
 ghost use Rattle.std.specs.Prelude.{◌≡◌, ◌<◌, ◌≤◌, ◌^◌, ◌==◌, ◌+◌, cond, length, min, position, IfSome, Some, None};
 ghost use Rattle.std.specs.Str.{all_ascii_digits};
 ghost use Rattle.std.specs.Str.Parse.{digits_value};
-ghost use Rattle.hls_http_laws.specs.Fields.{number_of};
 
 /// Where a byte stands first.
 pub fn find_byte(text: &[u8], byte: u8) -> Option<usize>
@@ -13,9 +12,6 @@ pub fn find_byte(text: &[u8], byte: u8) -> Option<usize>
 {
     text.iter().position(|b| *b == byte)
 }
-
-/// Above each number of up to 16 digits.
-const PAST_16_DIGITS: u64 = 10_000_000_000_000_000;
 
 /// The number that digits write, or `most` where it is larger; None where another byte is among them.
 pub fn capped_value(text: &[u8], most: u64) -> Option<u64>
@@ -30,16 +26,4 @@ pub fn capped_value(text: &[u8], most: u64) -> Option<u64>
         number = (number * 10 + u64::from(*byte - b'0')).min(most);
     }
     Some(number)
-}
-
-/// The number that 1 to `most` decimal digits write, of which there are at most 16; None for any other text. Leading
-/// zeros are digits.
-pub fn read_number(text: &[u8], most: usize) -> Option<u64>
-    requires { most ≤ 16 }
-    ensures { result ≡ number_of most text.now }
-{
-    if text.is_empty() || text.len() > most {
-        return None;
-    }
-    capped_value(text, PAST_16_DIGITS)
 }

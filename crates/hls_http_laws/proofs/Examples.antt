@@ -9,7 +9,8 @@ use Rattle.hls_http_laws.specs.declared.range.Part.TheVariants as parts
 use Rattle.hls_http_laws.specs.declared.reply.Status.TheVariants.{Done, Accepted, NoContent, PartialContent, RangeNotSatisfiable}
 use Rattle.hls_http_laws.specs.declared.reply.Kind.TheVariants.{Text, Media}
 use Rattle.hls_http_laws.specs.declared.reply.Extra.TheVariants.{Nothing, Range, NoRange, Job}
-use Rattle.hls_http_laws.specs.Fields.{Fields, values, number_of, between_commas, has_word, closes, expects}
+use Rattle.hls_text.specs.Digits.{number_of}
+use Rattle.hls_http_laws.specs.Fields.{Fields, values, between_commas, has_word, closes, expects}
 use Rattle.hls_http_laws.specs.Framing.{body_of}
 use Rattle.hls_http_laws.specs.Range.{asked, part_of}
 use Rattle.hls_http_laws.specs.Query.{first_of, value_in}

@@ -1,9 +1,9 @@
 -- What the fields of a head say, from the list of their names and values.
-use Rattle.std.specs.Prelude.{ℕ, nat_lt, Bool, false, ◌&&◌, ◌||◌, cond, ◌==◌, nat_eq, ◌-◌, List, [], ◌∷◌, length, take, drop, Option, Some, None, codes}
+use Rattle.std.specs.Prelude.{ℕ, Bool, ◌&&◌, ◌||◌, cond, ◌==◌, nat_eq, ◌-◌, List, [], ◌∷◌, length, take, drop, Option, codes}
 use Rattle.std.specs.List.{list_any, prefix_len, suffix_len}
 use Rattle.std.specs.Char.{is_ascii_whitespace}
-use Rattle.std.specs.Str.{all_ascii_digits, str_eq_ignore_ascii_case}
-use Rattle.std.specs.Str.Parse.{digits_value}
+use Rattle.std.specs.Str.{str_eq_ignore_ascii_case}
+use Rattle.hls_text.specs.Digits.{number_of}
 use Rattle.hls_http_laws.specs.declared.limits.TheConstants.{MOST_LENGTH_DIGITS}
 
 -- the names and the values of a head
@@ -18,15 +18,6 @@ named name field = str_eq_ignore_ascii_case field.0 name
 unfoldable pub values : List ℕ → Fields → List (List ℕ)
 values name [] = []
 values name (field ∷ fields) = cond (named name field) (field.1 ∷ values name fields) (values name fields)
-
--- one digit at least, and at most so many
-abbrev pub has_length : ℕ → List ℕ → Bool
-has_length most [] = false
-has_length most (c ∷ cs) = nat_lt (length cs) most
-
--- the number that 1 to so many decimal digits write; leading zeros are digits
-unfoldable pub number_of : ℕ → List ℕ → Option ℕ
-number_of most text = cond (has_length most text && all_ascii_digits text) (Some (digits_value 10 text)) None
 
 -- the number of a Content-Length
 abbrev pub length_of : List ℕ → Option ℕ

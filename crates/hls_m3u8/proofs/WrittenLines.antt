@@ -1,11 +1,12 @@
 -- What the lines of a written text are read as.
 
-use Rattle.std.proofs.Common.{◌≡◌, refl, ◌∙◌, ap, ℕ, ◌<◌, ◌≤◌, ◌^◌, ◌/◌, ◌%◌, ◌==◌, true, false, List, [], ◌∷◌, ◌++◌, length, Some, arith, inl, inr, append_assoc}
+use Rattle.std.proofs.Common.{◌≡◌, refl, sym, ◌∙◌, ap, ℕ, ◌<◌, ◌≤◌, ◌^◌, ◌/◌, ◌%◌, ◌==◌, true, false, List, [], ◌∷◌, ◌++◌, length, Some, arith, inl, inr, append_assoc}
 use Rattle.std.specs.Prelude.{codes, decimal}
 use Rattle.std.specs.List.{onto_first}
 use Rattle.std.proofs.lemmas.Bool.{cases_Bool, lt-ltb}
 use Rattle.std.proofs.lemmas.Fmt.{digits_decimal, digits_value-decimal, decimal_nonempty, length-decimal-le}
-use Rattle.hls_time.specs.Digits.{IsDigit, AreDigits, number_of}
+use Rattle.hls_text.proofs.Wholes as wholes
+use Rattle.hls_time.specs.Digits.{IsDigit, AreDigits}
 use Rattle.hls_time.specs.Seconds.{six_digits, seconds_text, IsSeconds}
 use Rattle.hls_m3u8.specs.declared.playlist.ByteRange.{ByteRange}
 use Rattle.hls_m3u8.specs.Limits.{number_digits}
@@ -16,7 +17,7 @@ use Rattle.hls_m3u8.specs.Values.{short, range_tag}
 use Rattle.hls_m3u8.specs.Attributes.{attribute_texts, map_from, no_parts, map_tag}
 use Rattle.hls_m3u8.specs.Reading.{length_value}
 use Rattle.hls_m3u8.proofs.Cuts.{IsClean, split_seam}
-use Rattle.hls_m3u8.proofs.Digits.{numerals, digits_from}
+use Rattle.hls_m3u8.proofs.Digits.{numerals}
 use Rattle.hls_m3u8.proofs.Times.{digits_clean, seconds_read}
 
 -- Numbers
@@ -28,8 +29,7 @@ pub short_decimal : (n : ℕ) → IsShort n → short (decimal n) ≡ Some n
 short_decimal n few =
     let some : 0 < length (decimal n) = decimal_nonempty n (omega arith) in
     let long : length (decimal n) ≤ number_digits = length-decimal-le number_digits n (omega arith) (omega arith) (omega arith) in
-    let value : number_of (decimal n) ≡ n = digits_value-decimal numerals n (omega arith) in
-    rw (digits_from number_digits (decimal n) (decimal_digits n few) some long) (ap Some value)
+    sym (wholes.good_number number_digits (decimal n) some long (digits_decimal wholes.numerals n (omega arith))) ∙ ap Some (digits_value-decimal wholes.numerals n (omega arith))
 
 pub clean_decimal : (byte n : ℕ) → (IsDigit byte → ⊥) → IsShort n → IsClean byte (decimal n)
 clean_decimal byte n other few = digits_clean byte (decimal n) other (decimal_digits n few)

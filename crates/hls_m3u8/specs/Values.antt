@@ -4,7 +4,7 @@ use Rattle.std.specs.Prelude.{ℕ, ◌^◌, Bool, ◌&&◌, nat_lt, nat_le, if�
 use Rattle.std.specs.Char.{is_ascii_digit}
 use Rattle.std.specs.List.{list_all}
 use Rattle.std.specs.Str.{bytes_eq}
-use Rattle.hls_time.specs.Digits.{number_of}
+use Rattle.hls_text.specs.Digits.{number_of}
 use Rattle.hls_time.specs.Seconds.{decimal_us}
 use Rattle.hls_m3u8.specs.declared.playlist.Kind.{Kind}
 use Rattle.hls_m3u8.specs.declared.playlist.Kind.TheVariants.{Vod, Event}
@@ -19,7 +19,7 @@ has_digits most text = list_all is_ascii_digit text && (nat_lt 0 (length text) &
 
 -- a whole number of 1 to that many digits
 abbrev pub short : List ℕ → Option ℕ
-short text = if has_digits number_digits text then Some (number_of text) else None
+short text = number_of number_digits text
 
 -- below 2^53 microseconds
 abbrev pub time_below : ℕ → Option ℕ

@@ -1,15 +1,12 @@
 //! The values of tags.
 
-ghost use Rattle.std.specs.Prelude.{◌≡◌, ℕ, ◌≤◌, length};
-ghost use Rattle.std.specs.List.{list_all};
-ghost use Rattle.std.specs.Char.{is_ascii_digit};
-ghost use Rattle.hls_time.specs.Digits.{AreDigits, number_of};
-ghost use Rattle.hls_m3u8.specs.Limits.{number_digits};
-ghost use Rattle.hls_m3u8.specs.Values.{has_digits, short, seconds, positive, range_tag, whole_range, kind_of};
+ghost use Rattle.std.specs.Prelude.{◌≡◌};
+ghost use Rattle.hls_m3u8.specs.Values.{short, seconds, positive, range_tag, whole_range, kind_of};
 
 use crate::limits::NUMBER_DIGITS;
 use crate::split::split;
 use crate::{ByteRange, Kind};
+use hls_text::read_number;
 use hls_time::read_seconds;
 
 /// A byte range whose offset may be left out (RFC 8216 section 4.3.2.2).
@@ -19,48 +16,11 @@ pub(crate) struct RangeTag {
     pub(crate) offset: Option<u64>,
 }
 
-fn are_digits(text: &[u8]) -> bool
-    ensures { result ≡ list_all is_ascii_digit text.now }
-{
-    for byte in text {
-        if !byte.is_ascii_digit() {
-            return false;
-        }
-    }
-    true
-}
-
-// Whether a text is 1 to `most` digits.
-fn has_digits(most: usize, text: &[u8]) -> bool
-    ensures { result ≡ has_digits most text.now }
-{
-    are_digits(text) && !text.is_empty() && text.len() <= most
-}
-
-// The number that so few digits write.
-#[tactic(auto, using(crate::proofs::Digits::number_step, crate::proofs::Digits::number_fits, crate::proofs::Digits::digit_low, crate::proofs::Digits::number_at_end))]
-fn number(digits: &[u8]) -> u64
-    requires digits { AreDigits digits.now }
-    requires few { length digits.now ≤ number_digits }
-    ensures { result ≡ number_of digits.now }
-{
-    let mut n = 0;
-    for digit in digits {
-        n = 10 * n + u64::from(digit - b'0');
-    }
-    n
-}
-
 // A whole number of 1 to `NUMBER_DIGITS` digits.
 pub(crate) fn short(text: &str) -> Option<u64>
     ensures { result ≡ short text.now }
 {
-    let digits = text.as_bytes();
-    if has_digits(NUMBER_DIGITS, digits) {
-        Some(number(digits))
-    } else {
-        None
-    }
+    read_number(text.as_bytes(), NUMBER_DIGITS)
 }
 
 // Decimal seconds as microseconds.

@@ -3,7 +3,7 @@ use Rattle.std.proofs.Common.{◌≡◌, [], ◌∷◌, Some, None, codes, true,
 use Rattle.clap.proofs.OnLiterals.{clap_on_literals}
 use Rattle.hls_instants.specs.Instants.{instant_of}
 use Rattle.hls_instants.specs.Shape.{after_pattern}
-use Rattle.hls_settings.specs.Numbers.{number_of}
+use Rattle.hls_text.specs.Digits.{number_of}
 use Rattle.hls_origin.specs.Options.{cut_app, options_of}
 
 -- no words

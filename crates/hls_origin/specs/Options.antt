@@ -7,7 +7,7 @@ use Rattle.clap.specs.Kinds.{Kinds}
 use Rattle.clap.specs.declared.builder.action.ArgAction.TheVariants.{SetTrue}
 use Rattle.hls_m3u8.specs.Uri.{IsUri, is_uri_text}
 use Rattle.hls_core_laws.specs.Config.{IsEpoch}
-use Rattle.hls_settings.specs.Numbers.{number_of}
+use Rattle.hls_text.specs.Digits.{number_of}
 use Rattle.hls_settings.specs.Settings.{epoch_in}
 use Rattle.hls_check_laws.specs.Tables.{charge_limit, target_limit}
 
@@ -67,7 +67,7 @@ in_range target = cond (nat_lt 0 target && nat_le target target_limit) (Some tar
 -- the target duration: the text's, or 6
 abbrev pub target_in : Option Text → Option ℕ
 target_in None = Some 6
-target_in (Some text) = option_and_then in_range (number_of text)
+target_in (Some text) = option_and_then in_range (number_of 16 text)
 
 -- a preferred length in its range of 1 µs to the target
 abbrev pub preferred_at : ℕ → ℕ → Option (Option ℕ)
@@ -76,7 +76,7 @@ preferred_at target length = cond (nat_lt 0 length && not (nat_lt (target * 1000
 -- the preferred length, where one is given
 abbrev pub preferred_in : ℕ → Option Text → Option (Option ℕ)
 preferred_in target None = Some None
-preferred_in target (Some text) = option_and_then (preferred_at target) (number_of text)
+preferred_in target (Some text) = option_and_then (preferred_at target) (number_of 16 text)
 
 -- a charge in its range of 0 to 3600000000 µs, where one is given
 abbrev pub charge_at : ℕ → Option (Option ℕ)
@@ -84,7 +84,7 @@ charge_at charge = cond (nat_le charge charge_limit) (Some (Some charge)) None
 
 abbrev pub charge_in : Option Text → Option (Option ℕ)
 charge_in None = Some None
-charge_in (Some text) = option_and_then charge_at (number_of text)
+charge_in (Some text) = option_and_then charge_at (number_of 16 text)
 
 -- one that a playlist can name
 abbrev pub checked_uri : List ℕ → Option (List ℕ)

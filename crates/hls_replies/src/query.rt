@@ -7,14 +7,12 @@ ghost use Rattle.hls_serve_laws.specs.Queries.{from_epoch, moment_in, moment_of,
 
 use hls_catchup::{CostRule, Request};
 use hls_core::snapshot::Snapshot;
-use hls_http::{read_number, value_of};
+use hls_http::value_of;
 use hls_instants::instant_of;
 use hls_serve_laws::query::{Moment, Query, QueryFault};
 use hls_serve_laws::wanted::Wanted;
+use hls_text::{MOST_DIGITS, read_number};
 use std::alloc::{AllocError, Global};
-
-/// The most digits of a number in a query.
-const MOST_DIGITS: usize = 16;
 
 /// The moment that a text names: 1 to 16 digits, or an instant.
 fn moment_of(text: &[u8]) -> Option<Moment>

@@ -1,13 +1,13 @@
 //! Paths read.
 
 ghost use Rattle.std.specs.Prelude.{◌≡◌, ◌<◌, ◌+◌, ◌^◌, ◌==◌, length, min, option_map, position, unwrap_or, IfSome};
-ghost use Rattle.std.specs.Str.{all_ascii_digits};
 ghost use Rattle.hls_serve_laws.specs.Heard as heard;
 ghost use Rattle.hls_serve_laws.specs.Routes as spec;
 ghost use Rattle.hls_serve_laws.specs.Routes.{route_of};
 
-use hls_http::{Method, read_number};
+use hls_http::Method;
 use hls_serve_laws::route::{JobFile, Route};
+use hls_text::{MOST_DIGITS, are_digits, is_plain, read_number};
 
 /// Above the number of every job: 2^53.
 const NO_JOB: u64 = 1 << 53;
@@ -26,17 +26,6 @@ fn before<'a>(back: &[u8], text: &'a [u8]) -> Option<&'a [u8]>
     text.strip_suffix(back)
 }
 
-/// Whether a number has no leading zero.
-fn is_plain(text: &[u8]) -> bool
-    ensures { result ≡ spec.is_plain text.now }
-{
-    match text {
-        [] => false,
-        [_] => true,
-        [first, _, ..] => *first != b'0',
-    }
-}
-
 /// The number of a rendition, of which there are `count`.
 fn rendition(count: usize, text: &[u8]) -> Option<usize>
     ensures { result ≡ spec.rendition_in count text.now }
@@ -44,23 +33,12 @@ fn rendition(count: usize, text: &[u8]) -> Option<usize>
     if !is_plain(text) {
         return None;
     }
-    let number = read_number(text, 16)?;
+    let number = read_number(text, MOST_DIGITS)?;
     if number < count as u64 {
         Some(number as usize)
     } else {
         None
     }
-}
-
-fn are_digits(text: &[u8]) -> bool
-    ensures { result ≡ all_ascii_digits text.now }
-{
-    for byte in text {
-        if !byte.is_ascii_digit() {
-            return false;
-        }
-    }
-    true
 }
 
 /// A job's number, or that of none where it has too many digits.
@@ -77,13 +55,10 @@ fn job_number(number: Option<u64>) -> u64
 fn job(text: &[u8]) -> Option<u64>
     ensures { result ≡ spec.job_in text.now }
 {
-    if !is_plain(text) {
+    if !is_plain(text) || !are_digits(text) {
         return None;
     }
-    if !are_digits(text) {
-        return None;
-    }
-    Some(job_number(read_number(text, 16)))
+    Some(job_number(read_number(text, MOST_DIGITS)))
 }
 
 fn live(count: usize, text: &[u8]) -> Option<Route>

@@ -11,7 +11,7 @@ use Rattle.hls_http_laws.specs.declared.fault.HttpFault.TheVariants as http
 use Rattle.hls_http_laws.specs.declared.range.Asked.TheVariants as ranges
 use Rattle.hls_http_laws.specs.declared.reply.Kind.TheVariants.{Media}
 use Rattle.hls_http_laws.specs.declared.reply.Status.TheVariants as statuses
-use Rattle.hls_http_laws.specs.Fields.{number_of}
+use Rattle.hls_text.specs.Digits.{number_of}
 use Rattle.hls_http_laws.specs.Query.{first_of}
 use Rattle.hls_http.specs.declared.head.Method.TheVariants as methods
 use Rattle.hls_jobs.specs.declared.fault.JobFault.TheVariants as jobs

@@ -1,7 +1,7 @@
 -- What the query of a request for catch-up asks.
 use Rattle.std.specs.Prelude.{ℕ, ℤ, pos, negsuc, ◌-ℤ◌, List, Option, Some, None, option_map, unwrap_or, Result, Ok, Err, codes}
 use Rattle.hls_instants.specs.Instants.{instant_of}
-use Rattle.hls_http_laws.specs.Fields.{number_of}
+use Rattle.hls_text.specs.Digits.{number_of}
 use Rattle.hls_http_laws.specs.Query.{value_in}
 use Rattle.hls_check_laws.specs.declared.cost_rule.CostRule.{CostRule}
 use Rattle.hls_check_laws.specs.declared.cost_rule.CostRule.TheVariants.{Deviation, Charged}

@@ -1,9 +1,9 @@
 -- What a target names, and which methods that has.
-use Rattle.std.specs.Prelude.{ℕ, nat_lt, min, Bool, true, false, not, ◌&&◌, ◌==◌, ◌-◌, ◌+◌, cond, Option, Some, None, option_map, unwrap_or}
-use Rattle.std.specs.Prelude.{List, [], ◌∷◌, length, take, drop, position, bytes_eq, codes}
+use Rattle.std.specs.Prelude.{ℕ, nat_lt, min, Bool, true, false, ◌&&◌, ◌==◌, ◌-◌, ◌+◌, cond, Option, Some, None, option_map, unwrap_or}
+use Rattle.std.specs.Prelude.{List, length, take, drop, position, bytes_eq, codes}
 use Rattle.std.specs.List.{position_or_len}
 use Rattle.std.specs.Str.{all_ascii_digits}
-use Rattle.hls_http_laws.specs.Fields.{number_of}
+use Rattle.hls_text.specs.Digits.{is_plain, number_of}
 use Rattle.hls_http.specs.declared.head.Method.{Method}
 use Rattle.hls_http.specs.declared.head.Method.TheVariants.{Get, Head, Post, Put, Delete}
 use Rattle.hls_serve_laws.specs.declared.route.Route.{Route}
@@ -29,12 +29,6 @@ behind front text = cond (bytes_eq (take (length front) text) front) (Some (drop
 -- what stands before this back
 abbrev pub before : List ℕ → List ℕ → Option (List ℕ)
 before back text = cond (bytes_eq (drop (length text - length back) text) back) (Some (take (length text - length back) text)) None
-
--- no leading zero, but in `0` itself
-abbrev pub is_plain : List ℕ → Bool
-is_plain [] = false
-is_plain (d ∷ []) = true
-is_plain (d ∷ e ∷ ds) = not (d == 48)
 
 -- the number of a rendition of which there are so many
 abbrev pub below : ℕ → Option ℕ → Option ℕ

@@ -1,17 +1,12 @@
 -- Where the server listens: `a.b.c.d:port` in decimal, without leading zeros.
-use Rattle.std.specs.Prelude.{ℕ, List, [], ◌∷◌, Option, Some, None, cond, Bool, true, false, not, option_and_then, ◌==◌}
+use Rattle.std.specs.Prelude.{ℕ, List, Option, Some, None, cond, option_and_then}
+use Rattle.hls_text.specs.Digits.{is_plain, number_of}
 use Rattle.hls_settings.specs.declared.address.Address.{Address}
-use Rattle.hls_settings.specs.Numbers.{cut_at, number_of, within}
-
--- no leading zero, but in `0` itself
-abbrev pub is_plain : List ℕ → Bool
-is_plain [] = false
-is_plain (d ∷ []) = true
-is_plain (d ∷ e ∷ ds) = not (d == 48)
+use Rattle.hls_settings.specs.Numbers.{cut_at, within}
 
 -- a number of at most so much
 abbrev pub small_of : ℕ → List ℕ → Option ℕ
-small_of most text = cond (is_plain text) (option_and_then (within 0 most) (number_of text)) None
+small_of most text = cond (is_plain text) (option_and_then (within 0 most) (number_of 16 text)) None
 
 abbrev pub numbered_by : Option ℕ → List ℕ → Option (ℕ × List ℕ)
 numbered_by None rest = None

@@ -1,8 +1,9 @@
 //! Where the server listens.
 ghost use Rattle.std.specs.Prelude.{◌≡◌, option_map};
-ghost use Rattle.hls_settings.specs.Addresses.{address_of, is_plain, last_octet_of, octet_of, small_of};
+ghost use Rattle.hls_settings.specs.Addresses.{address_of, last_octet_of, octet_of, small_of};
 
-use crate::number::{cut_at, read_number};
+use crate::number::cut_at;
+use hls_text::{MOST_DIGITS, is_plain, read_number};
 
 /// An IPv4 address and a port.
 #[derive(Clone, Copy, Debug, PartialEq, Eq, Drop)]
@@ -14,33 +15,22 @@ pub struct Address {
     pub port: u16,
 }
 
-/// Whether a number has no leading zero.
-fn is_plain(text: &[u8]) -> bool
-    ensures { result ≡ is_plain text.now }
+fn read_octet(octet: &str) -> Option<u8>
+    ensures { result ≡ small_of 255 octet.now }
 {
-    match text {
-        [] => false,
-        [_] => true,
-        [first, ..] => *first != b'0',
-    }
-}
-
-fn read_octet(text: &str) -> Option<u8>
-    ensures { result ≡ small_of 255 text.now }
-{
-    if !is_plain(text.as_bytes()) {
+    if !is_plain(octet.as_bytes()) {
         return None;
     }
-    u8::try_from(read_number(text.as_bytes())?).ok()
+    u8::try_from(read_number(octet.as_bytes(), MOST_DIGITS)?).ok()
 }
 
-fn read_port(text: &str) -> Option<u16>
-    ensures { result ≡ small_of 65535 text.now }
+fn read_port(port: &str) -> Option<u16>
+    ensures { result ≡ small_of 65535 port.now }
 {
-    if !is_plain(text.as_bytes()) {
+    if !is_plain(port.as_bytes()) {
         return None;
     }
-    u16::try_from(read_number(text.as_bytes())?).ok()
+    u16::try_from(read_number(port.as_bytes(), MOST_DIGITS)?).ok()
 }
 
 /// A number before the next dot, and what follows.

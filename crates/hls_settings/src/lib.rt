@@ -18,7 +18,6 @@ pub use address::{Address, read_address};
 pub use command::valued;
 pub use epoch::read_epoch;
 pub use fault::SettingsFault;
-pub use number::read_number;
 pub use plain::Plain;
 pub use settings::{Settings, read_settings};
 pub use timing::Timing;

@@ -1,26 +1,8 @@
 //! Numbers among the words of the command line, and words cut at a mark.
 ghost use Rattle.std.specs.Prelude.{◌≡◌, ◌<◌, ◌≤◌, IfSome, option_map};
-ghost use Rattle.hls_settings.specs.Numbers.{cut_at, number_in, number_of, within};
+ghost use Rattle.hls_settings.specs.Numbers.{cut_at, number_in, within};
 
-/// The most digits that a number may have.
-const MOST_DIGITS: usize = 16;
-
-/// The number that 1 to 16 decimal digits write, and `None` for any other text. Leading zeros are digits.
-pub fn read_number(text: &[u8]) -> Option<u64>
-    ensures { result ≡ number_of text.now }
-{
-    if text.is_empty() || text.len() > MOST_DIGITS {
-        return None;
-    }
-    let mut number = 0;
-    for byte in text {
-        if !byte.is_ascii_digit() {
-            return None;
-        }
-        number = number * 10 + u64::from(*byte - b'0');
-    }
-    Some(number)
-}
+use hls_text::{MOST_DIGITS, read_number};
 
 fn within(least: u64, most: u64, number: u64) -> Option<u64>
     ensures value { result ≡ within least most number }
@@ -40,7 +22,7 @@ pub fn number_in(least: u64, most: u64, default: u64, text: Option<&str>) -> Opt
 {
     match text {
         None => within(least, most, default),
-        Some(text) => within(least, most, read_number(text.as_bytes())?),
+        Some(text) => within(least, most, read_number(text.as_bytes(), MOST_DIGITS)?),
     }
 }
 

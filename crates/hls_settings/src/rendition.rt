@@ -3,9 +3,10 @@ ghost use Rattle.std.specs.Prelude.{◌≡◌, option_map, IfOk};
 ghost use Rattle.hls_settings.specs.Renditions.{kind_of, rendition_of};
 ghost use Rattle.hls_settings.specs.Said.{said};
 
-use crate::number::{cut_at, read_number};
+use crate::number::cut_at;
 use bytes::Bytes;
 use hls_core_laws::rendition::Rendition;
+use hls_text::{MOST_DIGITS, read_number};
 use std::alloc::{AllocError, Global};
 
 /// What a rendition's word says, whatever its limits.
@@ -40,8 +41,8 @@ pub fn read_word(text: &str) -> Option<Word>
     Some(Word {
         name,
         video: kind_of(kind)?,
-        bandwidth: read_number(bandwidth.as_bytes())?,
-        tolerance: read_number(tolerance.as_bytes())?,
+        bandwidth: read_number(bandwidth.as_bytes(), MOST_DIGITS)?,
+        tolerance: read_number(tolerance.as_bytes(), MOST_DIGITS)?,
     })
 }
 

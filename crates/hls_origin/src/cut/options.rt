@@ -13,7 +13,8 @@ use clap::{Arg, ArgAction, ArgMatches, Command};
 use hls_check_laws::{CHARGE_LIMIT, CostRule, TARGET_LIMIT};
 use hls_m3u8::is_uri;
 use hls_origin_listing::Listing;
-use hls_settings::{read_epoch, read_number};
+use hls_settings::read_epoch;
+use hls_text::{MOST_DIGITS, read_number};
 use std::alloc::{AllocError, Global};
 use std::convert::AsStr;
 use std::marker::Model;
@@ -117,7 +118,7 @@ fn target_of(text: Option<&str>) -> Option<u64>
     let Some(text) = text else {
         return Some(DEFAULT_TARGET);
     };
-    let target = read_number(text.as_bytes())?;
+    let target = read_number(text.as_bytes(), MOST_DIGITS)?;
     if target >= 1 && target <= TARGET_LIMIT {
         Some(target)
     } else {
@@ -135,7 +136,7 @@ fn preferred_of(target: u64, text: Option<&str>) -> Option<Option<u64>>
     let Some(text) = text else {
         return Some(None);
     };
-    let length = read_number(text.as_bytes())?;
+    let length = read_number(text.as_bytes(), MOST_DIGITS)?;
     if length >= 1 && length <= target * 1_000_000 {
         Some(Some(length))
     } else {
@@ -151,7 +152,7 @@ fn charge_of(text: Option<&str>) -> Option<Option<u64>>
     let Some(text) = text else {
         return Some(None);
     };
-    let charge = read_number(text.as_bytes())?;
+    let charge = read_number(text.as_bytes(), MOST_DIGITS)?;
     if charge <= CHARGE_LIMIT {
         Some(Some(charge))
     } else {
