@@ -4,7 +4,7 @@ ghost use Rattle.std.specs.Prelude.{◌≡◌, ◌≤◌, length, take, IfOk, Ma
 ghost use Rattle.hls_core_laws.specs.IsState.{IsState};
 ghost use Rattle.hls_core_laws.specs.Places.{sources};
 ghost use Rattle.hls_places_laws.specs.Sources.{AreSources};
-ghost use Rattle.hls_places_laws.specs.Order.{time_of, spots_of};
+ghost use Rattle.hls_places_laws.specs.Order.{spots_of};
 ghost use Rattle.hls_places_laws.specs.Firsts.{first_after};
 ghost use Rattle.hls_places_laws.specs.Programmes.{is_kept};
 ghost use Rattle.hls_catchup.specs.Kept.{kept_in, all_kept, kept_from, IsLastBy, IsCountTo};
@@ -13,7 +13,7 @@ use crate::floors::floors_of;
 use hls_blocks::Shared;
 use hls_check_laws::RENDITION_LIMIT;
 use hls_core::snapshot::Snapshot;
-use hls_places::{Place, Spots, is_kept};
+use hls_places::{Place, Spots, is_kept, time_of};
 use std::alloc::{AllocError, Global};
 use std::marker::Model;
 
@@ -108,15 +108,5 @@ impl<'a> KeptPlaces<'a> {
             }
         }
         Ok(spots)
-    }
-}
-
-/// When a place starts in rendition 0.
-fn time_of(place: &Place) -> u64
-    ensures { result ≡ time_of place.now }
-{
-    match place.spots.as_slice().first() {
-        Some(spot) => spot.start,
-        None => 0,
     }
 }

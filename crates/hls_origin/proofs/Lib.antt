@@ -6,6 +6,7 @@ mod Examples
 mod GatherLaws
 mod LintLaws
 mod LintLines
+mod Listings
 mod PrintLaws
 mod ReadLaws
 mod RunLaws

@@ -1,7 +1,7 @@
 -- The channel that a stream is taken into, and how it is listed.
 use Rattle.std.specs.Prelude.{ℕ, ◌*◌, [], ◌∷◌, Option, Some, None, Bool, true, codes}
 use Rattle.hls_check_laws.specs.declared.cost_rule.CostRule.{CostRule}
-use Rattle.hls_check_laws.specs.declared.cost_rule.CostRule.TheVariants.{Deviation, Charged}
+use Rattle.hls_check_laws.specs.Tables.{rule_of}
 use Rattle.hls_core_laws.specs.declared.rendition.Rendition.{Rendition}
 use Rattle.hls_core_laws.specs.Config.{ConfigData}
 use Rattle.hls_core_laws.specs.Runs.{first_state}
@@ -27,15 +27,10 @@ config_of choice =
 abbrev pub opening_of : Choice → State
 opening_of choice = first_state (config_of choice)
 
--- the rule by which a plan is least: a charge of 0 is a rule of its own
-abbrev pub rule_by : Option ℕ → CostRule
-rule_by None = Deviation
-rule_by (Some charge) = Charged charge
-
 -- each place begins a segment, or a least plan is made where a preferred length is given
 abbrev pub listing_by : Option ℕ → CostRule → Bool → Listing
 listing_by None rule certificate = Each
 listing_by (Some length) rule certificate = Planned rule certificate
 
 abbrev pub listing_of : Choice → Listing
-listing_of choice = listing_by choice.preferred (rule_by choice.charge) choice.certificate
+listing_of choice = listing_by choice.preferred (rule_of choice.charge) choice.certificate

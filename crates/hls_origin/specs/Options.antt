@@ -8,6 +8,7 @@ use Rattle.clap.specs.declared.builder.action.ArgAction.TheVariants.{SetTrue}
 use Rattle.hls_m3u8.specs.Uri.{IsUri, is_uri_text}
 use Rattle.hls_core_laws.specs.Config.{IsEpoch}
 use Rattle.hls_text.specs.Digits.{number_of}
+use Rattle.hls_settings.specs.Command.{value_rule, without_name}
 use Rattle.hls_settings.specs.Settings.{epoch_in}
 use Rattle.hls_check_laws.specs.Tables.{charge_limit, target_limit}
 
@@ -30,6 +31,11 @@ abbrev pub IsCharge : Option ℕ → Type 0
 IsCharge None = Unit {0}
 IsCharge (Some charge) = charge ≤ charge_limit
 
+-- the choice of these options, in the order of its fields
+abbrev pub choice_with : ℕ → List ℕ → Option ℕ → Option ℕ → Option ℤ → Bool → Choice
+choice_with target uri preferred charge epoch certificate =
+    record { target = target; uri = uri; preferred = preferred; charge = charge; epoch = epoch; certificate = certificate }
+
 -- all are in their ranges
 pub record IsGood (choice : Choice) : Type 0 where
   pub least : 1 ≤ choice.target
@@ -39,17 +45,9 @@ pub record IsGood (choice : Choice) : Type 0 where
   pub charge : IsCharge choice.charge
   pub epoch : IsEpoch choice.epoch
 
--- an option that takes a value, by its long name
-abbrev pub value_rule : Text → Rule
-value_rule name = record (new_rule name) { long = Some name }
-
 -- an option that takes none
 abbrev pub flag_rule : Text → Rule
 flag_rule name = record (new_rule name) { long = Some name; action = Some SetTrue }
-
--- words that don't begin with the program's own name
-abbrev pub without_name : App → App
-without_name app = record app { top = record app.top { no_binary_name = true } }
 
 abbrev pub named_app : App
 named_app = without_name (new_app (codes "cut"))
@@ -108,7 +106,7 @@ agrees each preferred certificate charge = not (each && (preferred || certificat
 abbrev pub chosen : ℕ → List ℕ → Option ℕ → Option ℕ → Option ℤ → Bool → Bool → Option Choice
 chosen target uri preferred charge epoch each certificate =
     cond (agrees each (is_some preferred) certificate (is_some charge))
-    (Some (record { target = target; uri = uri; preferred = preferred; charge = charge; epoch = epoch; certificate = certificate })) None
+    (Some (choice_with target uri preferred charge epoch certificate)) None
 
 abbrev pub choice_in : Option Text → Option Text → Option Text → Option Text → Option Text → Option Text → Option Text → Option Choice
 choice_in each preferred certificate target uri charge epoch =

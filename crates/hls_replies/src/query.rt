@@ -3,7 +3,7 @@
 ghost use Rattle.std.specs.Prelude.{◌≡◌, ◌-ℤ◌, IfOk};
 ghost use Rattle.hls_http_laws.specs.Query.{value_in};
 ghost use Rattle.hls_serve_laws.specs.Queries as spec;
-ghost use Rattle.hls_serve_laws.specs.Queries.{from_epoch, moment_in, moment_of, optional_in, query_in, rule_of, time_of};
+ghost use Rattle.hls_serve_laws.specs.Queries.{from_epoch, moment_in, moment_of, optional_in, query_in, time_of};
 
 use hls_catchup::{CostRule, Request};
 use hls_core::snapshot::Snapshot;
@@ -104,16 +104,6 @@ pub fn wanted_of(epoch: Option<i64>, query: Query) -> Result<Wanted, QueryFault>
     })
 }
 
-/// The rule of a charge: without one it is rule 1, and a charge of 0 is rule 2.
-fn rule_of(charge: Option<u64>) -> CostRule
-    ensures { result ≡ rule_of charge }
-{
-    match charge {
-        None => CostRule::Deviation,
-        Some(charge) => CostRule::Charged(charge),
-    }
-}
-
 /// What is asked of a channel's state: without `preferred`, segments near to the channel's own length.
 pub fn request_for(snapshot: &Snapshot, wanted: Wanted) -> Request
     ensures { result ≡ spec.request_for snapshot.now wanted }
@@ -122,6 +112,6 @@ pub fn request_for(snapshot: &Snapshot, wanted: Wanted) -> Request
         start_us: wanted.start_us,
         stop_us: wanted.stop_us,
         preferred: wanted.preferred.unwrap_or(snapshot.config().preferred()),
-        rule: rule_of(wanted.charge),
+        rule: CostRule::of_charge(wanted.charge),
     }
 }

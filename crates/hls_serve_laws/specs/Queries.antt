@@ -3,8 +3,7 @@ use Rattle.std.specs.Prelude.{ℕ, ℤ, pos, negsuc, ◌-ℤ◌, List, Option, S
 use Rattle.hls_instants.specs.Instants.{instant_of}
 use Rattle.hls_text.specs.Digits.{number_of}
 use Rattle.hls_http_laws.specs.Query.{value_in}
-use Rattle.hls_check_laws.specs.declared.cost_rule.CostRule.{CostRule}
-use Rattle.hls_check_laws.specs.declared.cost_rule.CostRule.TheVariants.{Deviation, Charged}
+use Rattle.hls_check_laws.specs.Tables.{rule_of}
 use Rattle.hls_core_laws.specs.State.{State}
 use Rattle.hls_catchup.specs.declared.request.Request.{Request}
 use Rattle.hls_serve_laws.specs.declared.query.Moment.{Moment}
@@ -81,11 +80,6 @@ query_fault_name BadQuery = codes "BadQuery"
 query_fault_name BeforeEpoch = codes "BeforeEpoch"
 
 -- ---- what a state is asked
-
--- the rule: without a charge rule 1; a charge of 0 is rule 2
-abbrev pub rule_of : Option ℕ → CostRule
-rule_of None = Deviation
-rule_of (Some charge) = Charged charge
 
 -- what is asked of a state: without `preferred`, segments near to the channel's own length
 abbrev pub request_for : State → Wanted → Request

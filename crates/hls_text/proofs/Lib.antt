@@ -2,5 +2,5 @@ mod Fronts
 pub mod Decimals
 pub mod Words
 pub mod Joins
-mod Wholes
+pub mod Wholes
 mod Belows

@@ -1,11 +1,10 @@
 //! What the words after `cut` ask for.
-ghost use Rattle.std.specs.Prelude.{◌≡◌, ◌≤◌, ◌*◌, map, option_map, is_some, IfOk, IfSome, true, false};
+ghost use Rattle.std.specs.Prelude.{◌≡◌, ◌≤◌, map, option_map, IfOk, IfSome, false};
 ghost use Rattle.clap.specs.Words.{app_of, first_value, found_of, rule_of};
-ghost use Rattle.hls_core_laws.specs.Config.{ConfigData};
 ghost use Rattle.hls_m3u8.specs.Uri.{IsUri};
-ghost use Rattle.hls_origin.specs.Channel.{config_of, listing_of, rule_by};
-ghost use Rattle.hls_origin.specs.Options.{IsCharge, IsPreferred, agrees, charge_in, checked_uri, choice_by, cut_app, flag_rule, is_set, options_of, preferred_in, target_in, uri_in, value_rule};
-ghost use Rattle.hls_check_laws.specs.Tables.{charge_limit, charge_of, target_limit};
+ghost use Rattle.hls_origin.specs.Channel.{listing_of};
+ghost use Rattle.hls_origin.specs.Options.{IsCharge, IsPreferred, agrees, charge_in, checked_uri, choice_by, cut_app, flag_rule, is_set, options_of, preferred_in, target_in, uri_in};
+ghost use Rattle.hls_check_laws.specs.Tables.{target_limit};
 ghost use Rattle.hls_origin_listing.specs.Lists.{CanList};
 
 use clap::error::ErrorKind;
@@ -13,7 +12,7 @@ use clap::{Arg, ArgAction, ArgMatches, Command};
 use hls_check_laws::{CHARGE_LIMIT, CostRule, TARGET_LIMIT};
 use hls_m3u8::is_uri;
 use hls_origin_listing::Listing;
-use hls_settings::read_epoch;
+use hls_settings::{read_epoch, valued};
 use hls_text::{MOST_DIGITS, read_number};
 use std::alloc::{AllocError, Global};
 use std::convert::AsStr;
@@ -42,13 +41,13 @@ pub struct Options<'a> {
 }
 
 impl<'a> Model for Options<'a> {
-    ghost use Rattle.hls_origin.specs.Options.{Choice, IsGood};
+    ghost use Rattle.hls_origin.specs.Options.{Choice, IsGood, choice_with};
 
     ghost Value = { Choice };
 
-    ghost view = { λ options. record { target = options.target; uri = options.uri.now; preferred = options.preferred; charge = options.charge; epoch = options.epoch; certificate = options.certificate } };
+    ghost view = { λ options. choice_with options.target options.uri.now options.preferred options.charge options.epoch options.certificate };
 
-    ghost invariant = { λ options. IsGood (record { target = options.target; uri = options.uri.now; preferred = options.preferred; charge = options.charge; epoch = options.epoch; certificate = options.certificate }) };
+    ghost invariant = { λ options. IsGood (choice_with options.target options.uri.now options.preferred options.charge options.epoch options.certificate) };
 }
 
 impl<'a> Options<'a> {
@@ -61,21 +60,9 @@ impl<'a> Options<'a> {
             return Listing::Each;
         }
         Listing::Planned {
-            rule: rule_of(self.charge),
+            rule: CostRule::of_charge(self.charge),
             certificate: self.certificate,
         }
-    }
-}
-
-/// The rule by which a plan is least: a charge of 0 is a rule of its own.
-fn rule_of(charge: Option<u64>) -> CostRule
-    requires { IsCharge charge }
-    ensures value { result ≡ rule_by charge }
-    ensures in_range { charge_of result ≤ charge_limit }
-{
-    match charge {
-        None => CostRule::Deviation,
-        Some(charge) => CostRule::Charged(charge),
     }
 }
 
@@ -85,14 +72,6 @@ fn flag<'a>(alloc: Global, name: &'a str) -> Arg<'a>
     ensures local { result.global ≡ false }
 {
     Arg::new(alloc, name).long(name).action(ArgAction::SetTrue)
-}
-
-/// An option that takes a value, by its long name.
-fn valued<'a>(alloc: Global, name: &'a str) -> Arg<'a>
-    ensures rule { rule_of result ≡ value_rule name.entry.now }
-    ensures local { result.global ≡ false }
-{
-    Arg::new(alloc, name).long(name)
 }
 
 /// The command as `clap` reads it.

@@ -13,12 +13,12 @@ pub returns-in-None : goal.returns-in-None
 returns-in-None c =
     placed_without c.args.config.now (map (λ a. a.value) c.args.sides.now) c.args.places.now c.args.cursor.now.value c.args.line.now.value
     (record { places = c.in_ok-share-in-None.field-0; cursor = c.in_ok-try_clone-in-None.field-0; line = c.in_ok-try_clone-in-None-2.field-0 })
-    (c.requires.count ∙ sym (length-map c.args.sides.now (λ a. a.value))) (rw c.in-None.is at c.in_ok-gathered.ensures)
+    (c.requires.count ∙ sym (length-map c.args.sides.now (λ a. a.value))) (c.in_ok-gathered.ensures.lacks c.in-None.is)
     c.requires.cursor c.in_ok-share-in-None.ensures c.in_ok-try_clone-in-None.ensures c.in_ok-try_clone-in-None-2.ensures
 
 pub advanced-requires-clause-cursor : goal.advanced-requires-clause-cursor
 advanced-requires-clause-cursor c =
-    let all = rw c.in-Some.is at c.in_ok-gathered.ensures in
+    let all = rw c.in-Some.is at c.in_ok-gathered.ensures.gathers in
     let are = sources_are (λ r. r.now) (λ a. a.value) c.in-Some.recordings.items c.args.sides.now c.args.config.now
     c.in_ok-tolerances.tolerances.items c.in_ok-finished.finished.items all
     (c.in_ok-tolerances.ensures ∙ ap (map tolerance_of) c.renditions.ensures.value) c.in_ok-finished.ensures in
@@ -27,7 +27,7 @@ advanced-requires-clause-cursor c =
 
 pub all_pushed-requires : goal.all_pushed-requires
 all_pushed-requires c =
-    let all = rw c.in-Some.is at c.in_ok-gathered.ensures in
+    let all = rw c.in-Some.is at c.in_ok-gathered.ensures.gathers in
     let are = sources_are (λ r. r.now) (λ a. a.value) c.in-Some.recordings.items c.args.sides.now c.args.config.now
     c.in_ok-tolerances.tolerances.items c.in_ok-finished.finished.items all
     (c.in_ok-tolerances.ensures ∙ ap (map tolerance_of) c.renditions.ensures.value) c.in_ok-finished.ensures in
@@ -37,7 +37,7 @@ all_pushed-requires c =
 
 pub all_told-requires : goal.all_told-requires
 all_told-requires c =
-    let all = rw c.in-Some.is at c.in_ok-gathered.ensures in
+    let all = rw c.in-Some.is at c.in_ok-gathered.ensures.gathers in
     let are = sources_are (λ r. r.now) (λ a. a.value) c.in-Some.recordings.items c.args.sides.now c.args.config.now
     c.in_ok-tolerances.tolerances.items c.in_ok-finished.finished.items all
     (c.in_ok-tolerances.ensures ∙ ap (map tolerance_of) c.renditions.ensures.value) c.in_ok-finished.ensures in
@@ -47,7 +47,7 @@ all_told-requires c =
 
 pub returns : goal.returns
 returns c =
-    let all = rw c.in-Some.is at c.in_ok-gathered.ensures in
+    let all = rw c.in-Some.is at c.in_ok-gathered.ensures.gathers in
     let are = sources_are (λ r. r.now) (λ a. a.value) c.in-Some.recordings.items c.args.sides.now c.args.config.now
     c.in_ok-tolerances.tolerances.items c.in_ok-finished.finished.items all
     (c.in_ok-tolerances.ensures ∙ ap (map tolerance_of) c.renditions.ensures.value) c.in_ok-finished.ensures in

@@ -2,7 +2,8 @@ use Rattle.std.proofs.Common.{◌≡◌, ◌∙◌, ap, ap₂, codes}
 use Rattle.std.proofs.lemmas.Result.{IfOk-weaker}
 use Rattle.clap.specs.Words.{app_of, with_rule}
 use Rattle.clap.specs.Simple.{app_of_fields}
-use Rattle.hls_origin.specs.Options.{cut_app, flag_rule, named_app, value_rule, without_name}
+use Rattle.hls_settings.specs.Command.{value_rule, without_name}
+use Rattle.hls_origin.specs.Options.{cut_app, flag_rule, named_app}
 use Rattle.hls_origin.proofs.cut.options.command.Goals as goal
 
 pub returns : goal.returns
