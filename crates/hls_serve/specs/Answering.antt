@@ -1,6 +1,6 @@
 -- How one request is heard and answered, by what is still to come to its session and what its writer holds. For the functions below
 -- `session_on`; no public clause cites it.
-use Rattle.std.specs.Prelude.{◌≡◌, ℕ, Bool, List, ◌++◌, Option, Some, Result}
+use Rattle.std.specs.Prelude.{◌≡◌, ℕ, Bool, List, ◌++◌, IfOk, Option, Some, Result}
 use Rattle.httparse.specs.Grammar.{RequestHead}
 use Rattle.hls_io.specs.Counted.{inside_of}
 use Rattle.hls_http_laws.specs.declared.body.Body.{Body}
@@ -15,7 +15,9 @@ use Rattle.hls_http.specs.Heads.{IsHead}
 use Rattle.hls_http.specs.Source.{held_of, reader_of, taken_of}
 use Rattle.hls_turn.specs.Passes.{Known}
 use Rattle.hls_replies.specs.Playlists.{lists}
+use Rattle.hls_serve_laws.specs.declared.query.Query.{Query}
 use Rattle.hls_serve_laws.specs.declared.route.Route.{Route}
+use Rattle.hls_serve_laws.specs.Queries.{query_in}
 use Rattle.hls_serve_laws.specs.Desks.{Desk}
 use Rattle.hls_serve_laws.specs.Heard.{Asks, Due, Feeds, IsSkipped, Skips, asks_of, first_of, to_head}
 use Rattle.hls_serve_laws.specs.Replies.{Answer}
@@ -35,6 +37,10 @@ OfCall call Is = (count : ℕ) (h : RequestHead) → IsCall count h call → Is 
 -- .. where it is for this route
 abbrev pub OfCallTo : Route → Call → (RequestHead → Asks → Type 0) → Type 0
 OfCallTo route call Is = OfCall call (λ h q. call.route ≡ Some route → Is h q)
+
+-- what a query asks, of whatever text it was read
+abbrev pub OfQuery : {E : Type 0} → Result (Option Query) E → (Option Query → Type 0) → Type 0
+OfQuery query Is = (text : List ℕ) → IfOk query (λ said. said ≡ query_in text) → Is (query_in text)
 
 -- ---- what is made
 

@@ -1,16 +1,15 @@
 //! What a request whose body was dropped comes to.
 
-ghost use Rattle.std.specs.Prelude.{◌≡◌, ℕ, List, Some, None, IfOk, true, false};
+ghost use Rattle.std.specs.Prelude.{◌≡◌, Some, None, IfOk, true, false};
 ghost use Rattle.httparse.specs.Grammar.{RequestHead};
 ghost use Rattle.hls_http_laws.specs.declared.fault.HttpFault.TheVariants as http;
 ghost use Rattle.hls_replies.specs.Playlists.{lists};
 ghost use Rattle.hls_serve_laws.specs.Heard.{AddsJob, AsksFor, CatchesUp, Finishes, RemovesJob, Serves, ServesJob, ShowsJob, ShowsState, ShowsStatus, asks_of, shown_if};
-ghost use Rattle.hls_serve_laws.specs.Queries.{query_in};
 ghost use Rattle.hls_serve_laws.specs.Replies as replies;
 ghost use Rattle.hls_serve_laws.specs.Replies.{playlist_answer};
 ghost use Rattle.hls_serve_laws.specs.Routes as spec;
 ghost use Rattle.hls_serve_laws.specs.Heard as heard;
-ghost use Rattle.hls_serve.specs.Answering.{MakesBy, OfCall, OfCallTo};
+ghost use Rattle.hls_serve.specs.Answering.{MakesBy, OfCall, OfCallTo, OfQuery};
 ghost use Rattle.hls_serve.specs.Turns.{IsResponse, Makes};
 
 use crate::call::Call;
@@ -174,8 +173,7 @@ fn catch_up<K: Keeper, T: Wait>(
 ) -> Result<Answer, AllocError>
     requires { K.serves keeper.now pass.old }
     ensures serves { K.serves keeper.now pass.new }
-    ensures adds { (text : List ℕ) → IfOk query (λ said. said ≡ query_in text)
-        → MakesBy (CatchesUp K.desk (query_in text)) (K.known pass.old) (K.known pass.new) result }
+    ensures adds { OfQuery query (λ asked. MakesBy (CatchesUp K.desk asked) (K.known pass.old) (K.known pass.new) result) }
 {
     match query {
         Ok(Some(query)) => add_wanted(rt, alloc, keeper, pass, query),
