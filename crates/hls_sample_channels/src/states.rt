@@ -1,0 +1,87 @@
+//! Channels after some events, all of worker 0.
+
+ghost use Rattle.std.specs.Prelude.{◌≡◌, ◌+◌, ◌*◌, length, codes, true, IfOk};
+ghost use Rattle.hls_samples.specs.Init.{init_of};
+ghost use Rattle.hls_samples.specs.Unit.{unit_of};
+ghost use Rattle.hls_core_laws.specs.declared.event.Event.TheVariants.{Finish};
+ghost use Rattle.hls_core_laws.specs.Moves.{advanced, IsFitting};
+ghost use Rattle.hls_sample_channels.specs.Samples.{Begins, Adds, IsAfter};
+
+use crate::events::{accept_event, begin_event};
+use crate::fault::SampleFault;
+use hls_core::snapshot::Snapshot;
+use hls_core::step::step;
+use hls_core::stepped::Stepped;
+use hls_core_laws::event::Event;
+use std::alloc::Global;
+use std::sync::Arc;
+
+/// The channel after an event that is new in it.
+pub fn stepped(
+    alloc: Global,
+    snapshot: &Snapshot,
+    event: Event,
+) -> Result<Arc<Snapshot>, SampleFault>
+    requires { IsFitting snapshot.now event }
+    ensures { IfOk result (λ next. next.value ≡ advanced snapshot.now 0 event) }
+{
+    match step(snapshot, alloc, 0, event)? {
+        Stepped::New(next) => Ok(next),
+        Stepped::Repeat => Err(SampleFault::NotNew),
+    }
+}
+
+/// With the init section of a video rendition of this timescale (ticks a second).
+pub fn begun(
+    alloc: Global,
+    snapshot: &Snapshot,
+    rendition: usize,
+    scale: u32,
+) -> Result<Arc<Snapshot>, SampleFault>
+    ensures { IfOk result (λ next. IsAfter snapshot.now (Begins rendition (init_of (codes "vide") scale)) next.value) }
+{
+    let event = begin_event(alloc, rendition, b"vide", scale)?;
+    stepped(alloc, snapshot, event)
+}
+
+/// With a unit of a rendition that has begun; its start and duration are in ticks.
+pub fn with_unit(
+    alloc: Global,
+    snapshot: &Snapshot,
+    rendition: usize,
+    start: u64,
+    ticks: u32,
+) -> Result<Arc<Snapshot>, SampleFault>
+    ensures { IfOk result (λ next. IsAfter snapshot.now (Adds rendition (unit_of start ticks true 1000)) next.value) }
+{
+    let event = accept_event(alloc, snapshot, rendition, start, ticks)?;
+    stepped(alloc, snapshot, event)
+}
+
+/// With the init section of a video rendition, and units from one second to another.
+pub fn with_units(
+    alloc: Global,
+    snapshot: &Snapshot,
+    rendition: usize,
+    seconds: &[(u32, u32)],
+) -> Result<Arc<Snapshot>, SampleFault>
+    ensures { IfOk result (λ next. length next.value.log ≡ length snapshot.now.log + 1 + length seconds.now) }
+{
+    let mut state = begun(alloc, snapshot, rendition, 90_000)?;
+    for &(from, to) in seconds {
+        let ticks = to.saturating_sub(from).saturating_mul(90_000);
+        state = with_unit(alloc, &state, rendition, u64::from(from) * 90_000, ticks)?;
+    }
+    Ok(state)
+}
+
+/// With a rendition that has begun at its end.
+pub fn finished(
+    alloc: Global,
+    snapshot: &Snapshot,
+    rendition: usize,
+) -> Result<Arc<Snapshot>, SampleFault>
+    ensures { IfOk result (λ next. next.value ≡ advanced snapshot.now 0 (Finish rendition)) }
+{
+    stepped(alloc, snapshot, Event::Finish { rendition })
+}
