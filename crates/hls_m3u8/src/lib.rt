@@ -13,16 +13,12 @@ mod master_writer;
 mod playlist;
 mod push;
 mod read;
-#[cfg(test)]
-mod read_tests;
 mod reading;
 mod resource;
 mod size;
 mod split;
 mod step;
 mod tag;
-#[cfg(test)]
-mod tests;
 mod uri;
 mod value;
 mod write;

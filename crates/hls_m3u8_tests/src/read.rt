@@ -1,6 +1,6 @@
 //! Texts of this writer, of other makers and of strangers, read.
 
-use crate::{ByteRange, Kind, ListFault, MediaPlaylist, read_media};
+use hls_m3u8::{ByteRange, Kind, ListFault, MediaPlaylist, read_media};
 use std::alloc::Global;
 use std::process::Abort;
 use std::test::Fail;

@@ -3,17 +3,17 @@
 ghost use Rattle.std.specs.Prelude.{All, IfOk};
 ghost use Rattle.hls_m3u8.specs.HasText.{IsDate, IsSegment};
 
-use crate::{
+use bytes::ByteStr;
+use hls_m3u8::{
     AudioRendition, ByteRange, MasterPlaylist, MediaPlaylist, NUMBER_LIMIT, Segment, VariantStream,
     is_uri, write_master, write_media,
 };
-use bytes::ByteStr;
 use std::alloc::{AllocError, Global};
 use std::process::Abort;
 use std::test::Fail;
 
 // A date that can be written: of whole milliseconds, up to the year 9000 and 2^53 microseconds.
-#[tactic(auto, using(crate::proofs::Building::good_date))]
+#[tactic(auto, using(hls_m3u8::proofs::Building::good_date))]
 fn date_of(rt: &impl Abort, date: Option<i64>) -> Option<i64>
     ensures { IsDate result }
 {
@@ -74,7 +74,7 @@ fn segments_of(
 }
 
 // The text of a list of VOD over `uri`, whose init section has 600 bytes.
-#[tactic(auto, using(crate::proofs::Building::vod_has_text))]
+#[tactic(auto, using(hls_m3u8::proofs::Building::vod_has_text))]
 fn vod_text(
     rt: &impl Abort,
     alloc: Global,
@@ -89,7 +89,7 @@ fn vod_text(
 }
 
 // The same for a live list of which one segment was removed.
-#[tactic(auto, using(crate::proofs::Building::live_has_text))]
+#[tactic(auto, using(hls_m3u8::proofs::Building::live_has_text))]
 fn live_text(
     rt: &impl Abort,
     alloc: Global,
