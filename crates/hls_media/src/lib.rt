@@ -12,8 +12,6 @@ mod medias;
 mod moovs;
 mod places;
 mod tallies;
-#[cfg(test)]
-mod tests;
 mod tfdt;
 mod tfhd;
 mod times;

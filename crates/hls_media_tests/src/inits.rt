@@ -1,7 +1,7 @@
 //! Init sections.
 
 use super::built::built;
-use crate::{read_facts, read_init};
+use hls_media::{read_facts, read_init};
 use hls_media_laws::fault::MediaFault;
 use hls_media_laws::track::{Defaults, Track};
 use hls_samples::{init_bytes, unit_bytes};

@@ -2,7 +2,7 @@
 //! which no fact depends on, is left out.
 
 use super::built::{built, unit};
-use crate::{read_facts, read_init};
+use hls_media::{read_facts, read_init};
 use hls_media_laws::facts::Facts;
 use std::test::Fail;
 

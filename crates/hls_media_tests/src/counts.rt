@@ -1,7 +1,7 @@
 //! How many fields of a unit are read, counted by hand from the tables of its boxes; and units that lie about themselves.
 
 use super::built::{built, unit};
-use crate::{read_facts, read_facts_counted, read_init};
+use hls_media::{read_facts, read_facts_counted, read_init};
 use hls_media_laws::facts::Facts;
 use hls_media_laws::fault::MediaFault;
 use hls_media_laws::init::Init;

@@ -1,7 +1,7 @@
 //! The facts of units, and what is refused of them.
 
 use super::built::{built, unit};
-use crate::{read_facts, read_init};
+use hls_media::{read_facts, read_init};
 use hls_media_laws::facts::Facts;
 use hls_media_laws::fault::MediaFault;
 use hls_media_laws::init::Init;

@@ -1,6 +1,6 @@
 //! Refused memory, and the names of the faults.
 
-use crate::read_init;
+use hls_media::read_init;
 use hls_media_laws::fault::MediaFault;
 use std::test::Fail;
 
