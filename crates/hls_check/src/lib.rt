@@ -14,9 +14,5 @@ mod laws;
 mod plans;
 mod prices;
 mod rows;
-#[cfg(test)]
-mod rows_tests;
 mod side_by_side;
 mod steps;
-#[cfg(test)]
-mod tests;

@@ -8,8 +8,6 @@ mod next;
 mod place;
 mod reader;
 mod scan;
-#[cfg(test)]
-mod tests;
 mod write_text;
 mod wrong_line;
 

@@ -9,7 +9,3 @@ mod planned;
 mod planner;
 mod pricing;
 mod reach;
-#[cfg(test)]
-mod slow_tests;
-#[cfg(test)]
-mod tests;

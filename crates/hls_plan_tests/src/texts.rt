@@ -1,7 +1,7 @@
 //! Texts from outside: read, written, and refused by their first wrong line.
 
-use crate::{read, write};
 use hls_check_laws::{CertFault, CostRule};
+use hls_check_text::{read, write};
 use std::alloc::{AllocError, Global};
 use std::test::Fail;
 

@@ -1,4 +1,4 @@
-use crate::{
+use hls_check::{
     CertFault, Certificate, Claim, CostRule, Goal, PrintedTable, Spot, Spots, Verdict, check,
 };
 use std::alloc::Global;

@@ -1,8 +1,8 @@
 //! The planner against a plain one that tries all plans, on all tables of a family: five places,
 //! 1, 3, 4 or 7 seconds apart, and a gap before any of them in either of two renditions; by rule 1,
 //! and by rule 2 with gaps in one rendition.
-use crate::{Planned, plan};
 use hls_check_laws::{CostRule, Goal, PlaceTable, PrintedTable, Spot, Spots};
+use hls_plan::{Planned, plan};
 use std::alloc::Global;
 use std::process::Abort;
 use std::test::Fail;

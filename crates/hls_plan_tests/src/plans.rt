@@ -1,5 +1,5 @@
-use crate::{Planned, certificate, plan, plan_counted};
 use hls_check_laws::{Claim, CostRule, Goal, PlaceTable, PrintedTable, Spot, Spots};
+use hls_plan::{Planned, certificate, plan, plan_counted};
 use hls_time::Ticks;
 use std::alloc::Global;
 use std::process::Abort;
@@ -91,7 +91,7 @@ fn assert_charged(
     cost: u64,
 ) -> Result<(), Fail> {
     let table = five_units(alloc, CostRule::Charged(charge))?;
-    let planned = crate::plan(alloc, &table)?;
+    let planned = hls_plan::plan(alloc, &table)?;
     match &planned {
         Planned::Cut {
             plan: found,

@@ -1,5 +1,5 @@
 //! Both row searches on long tables and on a family of small ones.
-use crate::{
+use hls_check::{
     CertFault, Certificate, Claim, CostRule, Goal, PrintedTable, Spot, Spots, Verdict, check,
     check_rows,
 };
