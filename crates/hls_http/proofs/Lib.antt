@@ -3,7 +3,7 @@ mod Buffers
 mod Digits
 mod DropLaws
 pub mod HeadLaws
-mod ListParts
+pub mod ListParts
 mod MediaLaws
 mod QueryLaws
 pub mod ReplyLaws

@@ -17,8 +17,6 @@ mod reply;
 mod send;
 mod session;
 mod source;
-#[cfg(test)]
-mod tests;
 
 pub use body::{BodyEnd, Given, Move, read_body, wait_move};
 pub use drain::{DropEnd, drop_body};

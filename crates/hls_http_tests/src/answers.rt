@@ -1,8 +1,8 @@
 //! Whole sessions with a small server: each refusal by HTTP, and a stream cut at every byte.
 
-use crate::tests::echo::serve;
-use crate::tests::fakes::{Drips, Halves, Page};
-use crate::{Session, SessionEnd};
+use crate::echo::serve;
+use crate::fakes::{Drips, Halves, Page};
+use hls_http::{Session, SessionEnd};
 use std::alloc::{AllocError, Global};
 use std::test::Fail;
 

@@ -1,8 +1,8 @@
 //! Whole replies: their texts, and in how many writes they go out.
 
-use crate::tests::digits::write_digits;
-use crate::tests::fakes::Page;
-use crate::{HttpFault, ReplyEnd, head_bytes, refusal_body, write_reply};
+use crate::digits::write_digits;
+use crate::fakes::Page;
+use hls_http::{HttpFault, ReplyEnd, head_bytes, refusal_body, write_reply};
 use hls_http_laws::reply::{Extra, Kind, ReplyHead, Status};
 use hls_io::Counted;
 use std::alloc::{AllocError, Global};

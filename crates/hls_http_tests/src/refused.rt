@@ -1,8 +1,8 @@
 //! Sessions with any one request for memory refused: each ends with the fixed 503, or as with ample memory.
 
-use crate::tests::echo::serve;
-use crate::tests::fakes::{Drips, Page};
-use crate::{Session, SessionEnd, value_of};
+use crate::echo::serve;
+use crate::fakes::{Drips, Page};
+use hls_http::{Session, SessionEnd, value_of};
 use hls_http_laws::reply::{no_memory_head_text, no_memory_text};
 use std::alloc::Global;
 use std::test::Fail;

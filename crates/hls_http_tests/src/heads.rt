@@ -1,14 +1,7 @@
 //! Requests read in any pieces, and whole replies, over memory.
 
-mod answers;
-mod digits;
-mod echo;
-mod fakes;
-mod refused;
-mod replies;
-
-use crate::tests::fakes::Drips;
-use crate::{
+use crate::fakes::Drips;
+use hls_http::{
     BodyEnd, DropEnd, Given, HeadEnd, HttpFault, Method, Source, drop_body, next_head, read_body,
     split_target, value_of,
 };

@@ -3,8 +3,8 @@
 ghost use Rattle.std.specs.Prelude.{◌≡◌, ℕ, List, Option, Some};
 ghost use Rattle.hls_http.specs.Media.{GivesPiece, part_of_list};
 
-use crate::tests::fakes::Page;
-use crate::{ReplyEnd, Resource, write_media};
+use crate::fakes::Page;
+use hls_http::{ReplyEnd, Resource, write_media};
 use hls_http_laws::reply::ReplyHead;
 use hls_io::Counted;
 use std::alloc::Global;
@@ -17,7 +17,7 @@ const DIGITS: &[u8] = b"0123456789";
 pub struct Digits;
 
 impl Resource for Digits {
-    ghost use Rattle.hls_http.specs.declared.tests.digits.TheConstants.{DIGITS};
+    ghost use Rattle.hls_http_tests.specs.declared.digits.TheConstants.{DIGITS};
 
     ghost part = { λ digits at len. part_of_list DIGITS.now at len };
 

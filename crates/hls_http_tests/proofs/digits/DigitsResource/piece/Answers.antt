@@ -1,8 +1,8 @@
 use Rattle.std.proofs.Common.{◌-◌, take, drop, arith, sym}
 use Rattle.std.proofs.lemmas.List.{take-append-drop, length-take, length-drop}
 use Rattle.hls_http.proofs.ListParts.{piece_of_list}
-use Rattle.hls_http.specs.declared.tests.digits.TheConstants.{DIGITS}
-use Rattle.hls_http.proofs.tests.digits.DigitsResource.piece.Goals as goal
+use Rattle.hls_http_tests.specs.declared.digits.TheConstants.{DIGITS}
+use Rattle.hls_http_tests.proofs.digits.DigitsResource.piece.Goals as goal
 
 pub returns-then-at-lt4 : goal.returns-then-at-lt4
 returns-then-at-lt4 c = λ len bytes known some.
