@@ -11,6 +11,4 @@ mod side;
 pub mod snapshot;
 pub mod step;
 pub mod stepped;
-#[cfg(test)]
-mod tests;
 pub mod upkeep;

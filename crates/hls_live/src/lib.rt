@@ -7,5 +7,3 @@ pub use line::LiveLine;
 mod line;
 mod reach;
 mod sums;
-#[cfg(test)]
-mod tests;

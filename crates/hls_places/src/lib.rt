@@ -19,5 +19,3 @@ mod programmes;
 mod renditions;
 mod search;
 mod steps;
-#[cfg(test)]
-mod tests;

@@ -6,4 +6,3 @@ pub mod Pieces
 mod Places
 pub mod Ranges
 pub mod Stays
-mod Samples

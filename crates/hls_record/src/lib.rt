@@ -10,6 +10,3 @@ pub mod recording;
 
 pub use fault::{RangeFault, RecordFault};
 pub use recording::Recording;
-
-#[cfg(test)]
-mod tests;

@@ -7,8 +7,6 @@
 mod done;
 mod pass;
 mod queue;
-#[cfg(test)]
-mod tests;
 mod turn;
 mod view;
 

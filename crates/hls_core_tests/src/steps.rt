@@ -5,18 +5,18 @@ ghost use Rattle.hls_core_laws.specs.Moves.{IsFitting};
 mod live;
 mod refused;
 
-use crate::config::{Config, ConfigFault, LAST_EPOCH};
-use crate::follows::follows;
-use crate::replay::replay;
-use crate::snapshot::Snapshot;
-use crate::step::step;
-use crate::stepped::Stepped;
 use bytes::Bytes;
+use hls_core::config::{Config, ConfigFault, LAST_EPOCH};
+use hls_core::follows::follows;
+use hls_core::replay::replay;
+use hls_core::snapshot::Snapshot;
+use hls_core::step::step;
+use hls_core::stepped::Stepped;
 use hls_core_laws::event::Event;
-use hls_core_laws::rendition::Rendition;
-use hls_media::{read_facts, read_init};
+use hls_media::read_facts;
 use hls_media_laws::facts::Facts;
-use hls_samples::{init_bytes, unit_bytes};
+use hls_sample_channels::rendition;
+use hls_samples::unit_bytes;
 use std::alloc::Global;
 use std::sync::Arc;
 use std::test::Fail;
@@ -55,20 +55,11 @@ fn begin(rendition: usize) -> Act {
     }
 }
 
-fn rendition(alloc: Global, name: &[u8], tolerance: u64) -> Result<Rendition, Fail> {
-    Ok(Rendition {
-        name: Bytes::copy_from_slice(alloc, name)?,
-        video: true,
-        bandwidth: 3000000,
-        tolerance,
-    })
-}
-
 /// Two renditions, target 6, preferred 4 seconds.
 fn config(alloc: Global) -> Result<Config, Fail> {
     let mut renditions = Vec::new(alloc);
-    renditions.push(rendition(alloc, b"v1", 0)?)?;
-    renditions.push(rendition(alloc, b"en", 10666)?)?;
+    renditions.push(rendition(alloc, b"v1", true, 0)?)?;
+    renditions.push(rendition(alloc, b"en", true, 10666)?)?;
     Ok(Config::new(alloc, 6, 4000000, renditions)?)
 }
 
@@ -79,14 +70,7 @@ fn channel(alloc: Global) -> Result<Arc<Snapshot>, Fail> {
 fn begin_event(alloc: Global, rendition: usize, handler: [u8; 4]) -> Result<Event, Fail>
     ensures { IfOk result (λ event. (s : State) → IsFitting s event) }
 {
-    let bytes = init_bytes(alloc, &handler, 90000)?;
-    let init = read_init(alloc, &bytes)?;
-    let bytes = Bytes::copy_from_slice(alloc, &bytes)?;
-    Ok(Event::Begin {
-        rendition,
-        init,
-        bytes,
-    })
+    Ok(hls_sample_channels::begin_event(alloc, rendition, &handler, 90000)?)
 }
 
 fn unit_event(
@@ -301,7 +285,7 @@ fn fault_of(
 ) -> Result<Option<ConfigFault>, Fail> {
     let mut renditions = Vec::new(alloc);
     for name in names {
-        renditions.push(rendition(alloc, name, tolerance)?)?;
+        renditions.push(rendition(alloc, name, true, tolerance)?)?;
     }
     Ok(Config::new(alloc, target, preferred, renditions).err())
 }
@@ -345,7 +329,7 @@ fn with_epoch(
     epoch: Option<i64>,
 ) -> Result<Result<Config, ConfigFault>, Fail> {
     let mut renditions = Vec::new(alloc);
-    renditions.push(rendition(alloc, name, 0)?)?;
+    renditions.push(rendition(alloc, name, true, 0)?)?;
     Ok(Config::with_epoch(alloc, 6, 1, renditions, epoch))
 }
 

@@ -1,6 +1,6 @@
 //! Common places by a slow plain program, for all small cases.
-use super::samples::{Unit, recorded, sync_unit};
-use crate::*;
+use crate::samples::{Unit, recorded, sync_unit};
+use hls_places::{Place, Spot, Spots, common};
 use hls_record::Recording;
 use std::alloc::{AllocError, Global};
 use std::process::Abort;

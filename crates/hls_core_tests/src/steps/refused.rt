@@ -1,18 +1,13 @@
 //! A step that was refused memory leaves the snapshot as it was, and the same step again gives the next one.
 ghost use Rattle.std.specs.Prelude.{IfSome};
-ghost use Rattle.hls_core_laws.specs.State.{State};
 ghost use Rattle.hls_core_laws.specs.Moves.{IsFitting};
 
-use crate::config::Config;
-use crate::snapshot::Snapshot;
-use crate::step::step;
-use crate::stepped::Stepped;
-use bytes::Bytes;
+use hls_core::snapshot::Snapshot;
+use hls_core::step::step;
+use hls_core::stepped::Stepped;
 use hls_core_laws::event::Event;
 use hls_core_laws::refusal::Refusal;
-use hls_core_laws::rendition::Rendition;
-use hls_media::{read_facts, read_init};
-use hls_samples::{init_bytes, unit_bytes};
+use hls_sample_channels::{accept_event, begin_event, opened_with, rendition};
 use std::alloc::Global;
 use std::sync::Arc;
 
@@ -27,58 +22,26 @@ enum Act {
     Trim(u64),
 }
 
-fn rendition(alloc: Global, name: &[u8]) -> Option<Rendition> {
-    Some(Rendition {
-        name: Bytes::copy_from_slice(alloc, name).ok()?,
-        video: true,
-        bandwidth: 3000000,
-        tolerance: 0,
-    })
-}
-
 /// A channel of one or two renditions; none where memory was refused.
-fn opened(alloc: Global, two: bool) -> Option<Snapshot> {
+fn opened(alloc: Global, two: bool) -> Option<Arc<Snapshot>> {
     let mut renditions = Vec::new(alloc);
-    renditions.push(rendition(alloc, b"v1")?).ok()?;
+    renditions
+        .push(rendition(alloc, b"v1", true, 0).ok()?)
+        .ok()?;
     if two {
-        renditions.push(rendition(alloc, b"en")?).ok()?;
+        renditions
+            .push(rendition(alloc, b"en", true, 0).ok()?)
+            .ok()?;
     }
-    let config = Config::new(alloc, 6, 4000000, renditions).ok()?;
-    Snapshot::first(alloc, config).ok()
-}
-
-fn begin(alloc: Global, rendition: usize) -> Option<Event>
-    ensures { IfSome result (λ event. (s : State) → IsFitting s event) }
-{
-    let bytes = init_bytes(alloc, b"vide", 90000).ok()?;
-    let init = read_init(alloc, &bytes).ok()?;
-    let bytes = Bytes::copy_from_slice(alloc, &bytes).ok()?;
-    Some(Event::Begin {
-        rendition,
-        init,
-        bytes,
-    })
-}
-
-fn accept(alloc: Global, snapshot: &Snapshot, start: u64) -> Option<Event>
-    ensures { IfSome result (λ event. IsFitting snapshot.now event) }
-{
-    let bytes = unit_bytes(alloc, start, 360000, true, 1000).ok()?;
-    let facts = read_facts(snapshot.recording(0)?.init(), &bytes).ok()?;
-    let bytes = Bytes::copy_from_slice(alloc, &bytes).ok()?;
-    Some(Event::Accept {
-        rendition: 0,
-        facts,
-        bytes,
-    })
+    opened_with(alloc, renditions, None).ok()
 }
 
 fn event_of(alloc: Global, snapshot: &Snapshot, act: Act) -> Option<Event>
     ensures { IfSome result (λ event. IsFitting snapshot.now event) }
 {
     match act {
-        Act::Begin(rendition) => begin(alloc, rendition),
-        Act::Accept(start) => accept(alloc, snapshot, start),
+        Act::Begin(rendition) => begin_event(alloc, rendition, b"vide", 90000).ok(),
+        Act::Accept(start) => accept_event(alloc, snapshot, 0, start, 360000).ok(),
         Act::Finish(rendition) => Some(Event::Finish { rendition }),
         Act::Slide(count) => Some(Event::Slide { count }),
         Act::Trim(floor) => Some(Event::Trim {

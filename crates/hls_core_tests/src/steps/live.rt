@@ -1,20 +1,17 @@
 //! Slides and trims of channels whose live line was worked out by hand.
 
-use super::{Act, begin, outcome, rendition, unit};
-use crate::config::Config;
-use crate::snapshot::Snapshot;
-use crate::upkeep::upkeep;
+use super::{Act, begin, outcome, unit};
+use hls_core::snapshot::Snapshot;
+use hls_core::upkeep::upkeep;
 use hls_core_laws::event::Event;
+use hls_sample_channels::opened;
 use std::alloc::Global;
 use std::sync::Arc;
 use std::test::Fail;
 
 /// One rendition, target 6, preferred 4 seconds, with units that go from each of these seconds to the next.
 fn recorded(alloc: Global, seconds: &[u32]) -> Result<Arc<Snapshot>, Fail> {
-    let mut renditions = Vec::new(alloc);
-    renditions.push(rendition(alloc, b"v1", 0)?)?;
-    let config = Config::new(alloc, 6, 4000000, renditions)?;
-    let mut state = Arc::new(alloc, Snapshot::first(alloc, config)?)?;
+    let mut state = opened(alloc)?;
     outcome(alloc, &mut state, 0, begin(0))?;
     for n in 1..seconds.len() {
         outcome(alloc, &mut state, 0, unit(0, seconds[n - 1], seconds[n]))?;

@@ -4,9 +4,11 @@ ghost use Rattle.std.specs.Prelude.{◌≤◌};
 ghost use Rattle.hls_check_laws.specs.Tables.{IsGoal, charge_of, charge_limit};
 ghost use Rattle.hls_places_laws.specs.Order.{ArePlaces};
 
-use super::samples::{Unit, recorded, sync_unit};
-use crate::*;
+use crate::samples::{Unit, recorded, sync_unit};
 use hls_check_laws::{CostRule, Goal};
+use hls_places::{
+    Place, PlaceTable, Spot, allowed, common, cost, is_kept, pair_allowed, programme,
+};
 use hls_record::Recording;
 use std::alloc::Global;
 use std::test::Fail;

@@ -2,4 +2,3 @@
 
 mod plain;
 mod rows;
-mod samples;

@@ -1,29 +1,21 @@
 //! Two passes of one turn, each call once with ample memory.
-ghost use Rattle.std.specs.Prelude.{◌≡◌, IfOk};
+ghost use Rattle.std.specs.Prelude.{IfOk};
 ghost use Rattle.hls_core_laws.specs.State.{State};
 ghost use Rattle.hls_core_laws.specs.Moves.{IsFittingAsSeen};
 
-use crate::{Done, Turn};
-use bytes::Bytes;
 use hls_core::config::Config;
 use hls_core::snapshot::Snapshot;
 use hls_core_laws::event::Event;
 use hls_core_laws::refusal::Refusal;
-use hls_core_laws::rendition::Rendition;
-use hls_media::read_init;
-use hls_samples::init_bytes;
+use hls_sample_channels::{begin_event, rendition};
+use hls_turn::{Done, Turn};
 use std::alloc::Global;
 use std::test::Fail;
 
 /// A channel of one video rendition, before anything came.
 fn opening(alloc: Global) -> Result<Snapshot, Fail> {
     let mut renditions = Vec::new(alloc);
-    renditions.push(Rendition {
-        name: Bytes::copy_from_slice(alloc, b"v1")?,
-        video: true,
-        bandwidth: 3000000,
-        tolerance: 0,
-    })?;
+    renditions.push(rendition(alloc, b"v1", true, 0)?)?;
     let config = Config::new(alloc, 6, 4000000, renditions)?;
     Ok(Snapshot::first(alloc, config)?)
 }
@@ -32,14 +24,7 @@ fn opening(alloc: Global) -> Result<Snapshot, Fail> {
 fn begin(alloc: Global, rendition: usize) -> Result<Event, Fail>
     ensures { IfOk result (λ event. (s : State) → IsFittingAsSeen s event) }
 {
-    let bytes = init_bytes(alloc, b"vide", 90000)?;
-    let init = read_init(alloc, &bytes)?;
-    let bytes = Bytes::copy_from_slice(alloc, &bytes)?;
-    Ok(Event::Begin {
-        rendition,
-        init,
-        bytes,
-    })
+    Ok(begin_event(alloc, rendition, b"vide", 90000)?)
 }
 
 #[test]

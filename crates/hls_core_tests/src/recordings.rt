@@ -1,44 +1,20 @@
 //! Recordings of three sample units: offsets, pieces and ranges at every boundary, trimmed and not.
-ghost use Rattle.std.specs.Prelude.{◌≡◌, ◌+◌, ◌^◌, ◌<◌, ◌≤◌, length, IfOk};
-ghost use Rattle.hls_record.specs.Samples.{sample_init, sample_unit, IsSample};
-ghost use Rattle.hls_blocks.specs.Numbered.{list_limit};
 
-use crate::fault::{RangeFault, RecordFault};
-use crate::recording::Recording;
-use bytes::Bytes;
-use hls_media_laws::facts::Facts;
-use hls_media_laws::init::Init;
-use hls_media_laws::track::{Defaults, Track};
+ghost use Rattle.std.specs.Prelude.{◌≤◌};
+
+use crate::samples::{begun, sync_unit, with_unit};
+use hls_record::{RangeFault, RecordFault, Recording};
 use hls_samples::{init_bytes, unit_bytes};
 use std::alloc::{AllocError, Global};
 use std::process::Abort;
 use std::test::Fail;
 
-// A recording over the sample init section of 600 bytes.
-fn begun(alloc: Global) -> Result<Recording, AllocError>
-    ensures { IfOk result (λ r. (r.init ≡ sample_init) × (length r.facts ≡ 0)) }
-{
-    let defaults = Defaults {
-        duration: 0,
-        size: 0,
-        flags: 0,
-    };
-    let track = Track {
-        id: 1,
-        scale: 90000,
-        handler: 1986618469,
-        defaults: Some(defaults),
-    };
-    let init = Init::new(alloc, &[track], 0)?;
-    let head = Bytes::from_vec(init_bytes(alloc, b"vide", 90000)?)?;
-    Ok(Recording::begin(alloc, init, head))
-}
-
-fn unit_of(alloc: Global, start: u64, len: u32) -> Result<Bytes, AllocError>
-    requires { 108 ≤ len }
-    ensures { IfOk result (λ b. b ≡ sample_unit start len) }
-{
-    Ok(Bytes::from_vec(unit_bytes(alloc, start, 360000, true, len)?)?)
+// A recording without a unit.
+fn none(alloc: Global) -> Result<Recording, RecordFault> {
+    match begun(alloc, 90000) {
+        Ok(recording) => Ok(recording),
+        Err(_) => Err(RecordFault::Memory),
+    }
 }
 
 // The recording with a sample unit of 4 s and `len` bytes at `start` ticks.
@@ -48,38 +24,20 @@ fn with_sample(
     start: u64,
     len: u32,
 ) -> Result<Recording, RecordFault>
-    requires init { recording.now.init ≡ sample_init }
-    requires room { length recording.now.facts < list_limit }
-    requires long { 108 ≤ len }
-    requires sample { IsSample start len }
-    requires early { start < 2 ^ 40 }
-    ensures { IfOk result (λ r. (r.init ≡ sample_init) × (length r.facts ≡ length recording.now.facts + 1)) }
+    requires { 108 ≤ len }
 {
-    let unit = match unit_of(alloc, start, len) {
-        Ok(unit) => unit,
-        Err(_) => return Err(RecordFault::Memory),
-    };
-    let facts = Facts {
-        start,
-        duration: 360000,
-        scale: 90000,
-        start_us: start * 1000000 / 90000,
-        end_us: (start + 360000) * 1000000 / 90000,
-        sync: true,
-        len: len as u64,
-    };
-    recording.appended(alloc, facts, unit)
+    with_unit(alloc, recording, sync_unit(start, 360000), len)
 }
 
-// The init section and units of 116, 120 and 130 bytes at 0, 4 and 8 s.
+// The init section and units of 116 and 120 bytes at 0 and 4 s.
+fn two_units(alloc: Global) -> Result<Recording, RecordFault> {
+    let one = with_sample(alloc, &none(alloc)?, 0, 116)?;
+    with_sample(alloc, &one, 360000, 120)
+}
+
+// The same, and a unit of 130 bytes at 8 s.
 fn recorded(alloc: Global) -> Result<Recording, RecordFault> {
-    let none = match begun(alloc) {
-        Ok(none) => none,
-        Err(_) => return Err(RecordFault::Memory),
-    };
-    let one = with_first(alloc, &none)?;
-    let two = with_sample(alloc, &one, 360000, 120)?;
-    with_sample(alloc, &two, 720000, 130)
+    with_sample(alloc, &two_units(alloc)?, 720000, 130)
 }
 
 // The whole resource, from the builders.
@@ -248,21 +206,13 @@ fn ranges_are_copied_or_refused(rt: HostRuntime) -> Result<(), Fail> {
     Ok(())
 }
 
-// The recording with the first sample unit.
-fn with_first(alloc: Global, recording: &Recording) -> Result<Recording, RecordFault>
-    requires init { recording.now.init ≡ sample_init }
-    requires room { length recording.now.facts < list_limit }
-    ensures { IfOk result (λ r. (r.init ≡ sample_init) × (length r.facts ≡ length recording.now.facts + 1)) }
-{
-    with_sample(alloc, recording, 0, 116)
-}
-
 #[test]
 fn a_unit_comes_behind(rt: HostRuntime) -> Result<(), Fail> {
     let alloc = rt.alloc();
-    let none = begun(alloc)?;
-    let one = with_first(alloc, &none)?;
-    assert!(rt; with_first(alloc, &one).err() == Some(RecordFault::Overlap));
+    let none = none(alloc)?;
+    let one = with_sample(alloc, &none, 0, 116)?;
+    let again = with_sample(alloc, &one, 0, 116);
+    assert!(rt; again.err() == Some(RecordFault::Overlap));
     assert_eq!(rt; none.count(), 0);
     assert_eq!(rt; none.last_end(), 0);
     assert_eq!(rt; none.head().len(), 600);
@@ -286,18 +236,6 @@ fn a_shared_recording_is_the_same(rt: HostRuntime) -> Result<(), Fail> {
 fn names_are_the_variants(rt: HostRuntime) {
     assert_eq!(rt; RecordFault::Full.name(), "Full");
     assert_eq!(rt; RangeFault::Gone.name(), "Gone");
-}
-
-// The init section and units of 116 and 120 bytes at 0 and 4 s.
-fn two_units(alloc: Global) -> Result<Recording, RecordFault>
-    ensures { IfOk result (λ r. (r.init ≡ sample_init) × (length r.facts ≡ 2)) }
-{
-    let none = match begun(alloc) {
-        Ok(none) => none,
-        Err(_) => return Err(RecordFault::Memory),
-    };
-    let one = with_first(alloc, &none)?;
-    with_sample(alloc, &one, 360000, 120)
 }
 
 fn has_piece(recording: &Recording, all: &[u8], at: usize, end: usize) -> bool {
@@ -344,10 +282,7 @@ fn is_second(recording: &Recording, all: &[u8]) -> bool {
 }
 
 // The third unit appended, in a second call where the first was refused memory and left the recording as it was.
-fn appends_at_last(alloc: Global, two: &Recording, all: &[u8]) -> bool
-    requires init { two.now.init ≡ sample_init }
-    requires room { length two.now.facts ≡ 2 }
-{
+fn appends_at_last(alloc: Global, two: &Recording, all: &[u8]) -> bool {
     let first = with_sample(alloc, two, 720000, 130);
     if !is_two(two, all) {
         return false;
@@ -362,10 +297,8 @@ fn appends_at_last(alloc: Global, two: &Recording, all: &[u8]) -> bool
 }
 
 // The first unit trimmed, in the same way.
-fn trims_at_last(alloc: Global, two: &Recording, all: &[u8]) -> bool
-    requires { length two.now.facts ≡ 2 }
-{
-    if two.floor() != 0 {
+fn trims_at_last(alloc: Global, two: &Recording, all: &[u8]) -> bool {
+    if two.count() != 2 || two.floor() != 0 {
         return false;
     }
     let first = two.trimmed(alloc, 1);
@@ -399,9 +332,7 @@ fn copies_at_last(alloc: Global, two: &Recording, all: &[u8]) -> bool {
 }
 
 // What a test begins with, tried again where memory was refused.
-fn two_at_last(alloc: Global) -> Result<Recording, RecordFault>
-    ensures { IfOk result (λ r. (r.init ≡ sample_init) × (length r.facts ≡ 2)) }
-{
+fn two_at_last(alloc: Global) -> Result<Recording, RecordFault> {
     match two_units(alloc) {
         Ok(two) => Ok(two),
         Err(_) => two_units(alloc),

@@ -2,8 +2,8 @@
 //! place. A list is told place by place, and each list's beginnings are lists too, so the line is compared at every prefix.
 
 use super::plain::{Cut, cut_plainly};
-use crate::{Aim, LiveLine, Segment};
 use hls_check_laws::{Spot, Spots};
+use hls_live::{Aim, LiveLine, Segment};
 use hls_places_laws::Place;
 use std::alloc::Global;
 use std::process::Abort;

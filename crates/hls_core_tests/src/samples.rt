@@ -1,0 +1,77 @@
+//! Recordings over the sample init section of 600 bytes.
+
+ghost use Rattle.std.specs.Prelude.{◌≤◌};
+
+use bytes::Bytes;
+use hls_media::{read_facts, read_init};
+use hls_media_laws::fault::MediaFault;
+use hls_record::{RecordFault, Recording};
+use hls_samples::{init_bytes, unit_bytes};
+use std::alloc::{AllocError, Global};
+use std::test::Fail;
+
+/// A unit of a sample recording, in ticks.
+#[derive(Clone, Copy)]
+pub struct Unit {
+    pub start: u64,
+    pub ticks: u32,
+    pub sync: bool,
+}
+
+/// A sync unit.
+pub fn sync_unit(start: u64, ticks: u32) -> Unit {
+    Unit {
+        start,
+        ticks,
+        sync: true,
+    }
+}
+
+/// A recording without a unit, at so many ticks a second.
+pub fn begun(alloc: Global, scale: u32) -> Result<Recording, MediaFault> {
+    let Ok(head) = init_bytes(alloc, b"vide", scale) else {
+        return Err(MediaFault::Memory);
+    };
+    let init = read_init(alloc, &head)?;
+    match Bytes::from_vec(head) {
+        Ok(head) => Ok(Recording::begin(alloc, init, head)),
+        Err(_) => Err(MediaFault::Memory),
+    }
+}
+
+fn unit_of(alloc: Global, unit: Unit, len: u32) -> Result<Bytes, AllocError>
+    requires { 108 ≤ len }
+{
+    let bytes = unit_bytes(alloc, unit.start, unit.ticks, unit.sync, len)?;
+    Ok(Bytes::from_vec(bytes)?)
+}
+
+/// The recording with a unit of `len` bytes at its end.
+pub fn with_unit(
+    alloc: Global,
+    recording: &Recording,
+    unit: Unit,
+    len: u32,
+) -> Result<Recording, RecordFault>
+    requires { 108 ≤ len }
+{
+    let Ok(bytes) = unit_of(alloc, unit, len) else {
+        return Err(RecordFault::Memory);
+    };
+    let Ok(facts) = read_facts(recording.init(), &bytes) else {
+        return Err(RecordFault::Overlap);
+    };
+    if recording.count() == 16777216 {
+        return Err(RecordFault::Full);
+    }
+    recording.appended(alloc, facts, bytes)
+}
+
+/// A recording of these units, at so many ticks a second.
+pub fn recorded(alloc: Global, scale: u32, units: &[Unit]) -> Result<Recording, Fail> {
+    let mut recording = begun(alloc, scale)?;
+    for unit in units {
+        recording = with_unit(alloc, &recording, *unit, 108)?;
+    }
+    Ok(recording)
+}
