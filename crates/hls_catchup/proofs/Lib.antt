@@ -10,6 +10,6 @@ mod Tables
 pub mod Bounded
 mod Covered
 mod Spans
-mod Plays
+pub mod Plays
 mod Names
 mod LiveLists

@@ -33,5 +33,3 @@ mod resource;
 mod segments;
 mod span;
 mod table;
-#[cfg(test)]
-mod tests;

@@ -8,5 +8,3 @@ pub use standing::{Withheld, reply_in};
 mod files;
 mod line;
 mod standing;
-#[cfg(test)]
-mod tests;

@@ -21,6 +21,4 @@ mod jobs;
 mod row;
 mod rows;
 mod table;
-#[cfg(test)]
-mod tests;
 mod work;

@@ -14,6 +14,4 @@ mod plans;
 mod segments;
 mod steps;
 mod table;
-#[cfg(test)]
-mod tests;
 mod text;

@@ -1,20 +1,16 @@
 //! Small channels whose playlists and certificates were worked out by hand. Target 6 s, preferred length 4 s; the init
 //! section has 600 bytes and each unit 1000.
-ghost use Rattle.hls_core_laws.specs.Moves.{IsFitting};
 ghost use Rattle.hls_origin_listing.specs.Lists.{CanList};
 
-use crate::{ListFault, Listed, Listing, list};
 use bytes::Bytes;
 use hls_check_laws::CostRule;
-use hls_core::config::Config;
 use hls_core::snapshot::Snapshot;
-use hls_core::step::step;
-use hls_core::stepped::Stepped;
 use hls_core_laws::event::Event;
-use hls_core_laws::rendition::Rendition;
 use hls_m3u8::is_uri;
-use hls_media::{read_facts, read_init};
-use hls_samples::{init_bytes, unit_bytes};
+use hls_media::read_facts;
+use hls_origin_listing::{ListFault, Listed, Listing, list};
+use hls_sample_channels::{begun, finished, opened_with, rendition, stepped};
+use hls_samples::unit_bytes;
 use std::alloc::Global;
 use std::sync::Arc;
 use std::test::Fail;
@@ -167,41 +163,15 @@ fn sync(from: u32, to: u32) -> Span {
     }
 }
 
-/// A channel of one rendition, with this moment of time 0.
+/// A channel of one rendition that has begun, with this moment of time 0.
 fn single(alloc: Global, epoch: Option<i64>) -> Result<Arc<Snapshot>, Fail> {
     let mut renditions = Vec::new(alloc);
-    renditions.push(Rendition {
-        name: Bytes::copy_from_slice(alloc, b"v1")?,
-        video: true,
-        bandwidth: 3_000_000,
-        tolerance: 0,
-    })?;
-    let config = Config::with_epoch(alloc, 6, 4_000_000, renditions, epoch)?;
-    Ok(Arc::new(alloc, Snapshot::first(alloc, config)?)?)
+    renditions.push(rendition(alloc, b"v1", true, 0)?)?;
+    let none = opened_with(alloc, renditions, epoch)?;
+    Ok(begun(alloc, &none, 0, 90000)?)
 }
 
-fn stepped(alloc: Global, snapshot: &Snapshot, event: Event) -> Result<Arc<Snapshot>, Fail>
-    requires { IsFitting snapshot.now event }
-{
-    match step(snapshot, alloc, 0, event)? {
-        Stepped::New(next) => Ok(next),
-        Stepped::Repeat => Err(Fail::from("a repeat")),
-    }
-}
-
-fn begun(alloc: Global, snapshot: &Snapshot) -> Result<Arc<Snapshot>, Fail> {
-    let bytes = init_bytes(alloc, b"vide", 90000)?;
-    let init = read_init(alloc, &bytes)?;
-    let bytes = Bytes::from_vec(bytes)?;
-    let event = Event::Begin {
-        rendition: 0,
-        init,
-        bytes,
-    };
-    stepped(alloc, snapshot, event)
-}
-
-fn with_unit(alloc: Global, snapshot: &Snapshot, span: Span) -> Result<Arc<Snapshot>, Fail> {
+fn with_span(alloc: Global, snapshot: &Snapshot, span: Span) -> Result<Arc<Snapshot>, Fail> {
     let ticks = span.to.saturating_sub(span.from).saturating_mul(90000);
     let bytes = unit_bytes(alloc, u64::from(span.from) * 90000, ticks, span.sync, 1000)?;
     let Some(recording) = snapshot.recording(0) else {
@@ -214,7 +184,7 @@ fn with_unit(alloc: Global, snapshot: &Snapshot, span: Span) -> Result<Arc<Snaps
         facts,
         bytes,
     };
-    stepped(alloc, snapshot, event)
+    Ok(stepped(alloc, snapshot, event)?)
 }
 
 /// A finished channel of these units.
@@ -224,12 +194,11 @@ fn channel(alloc: Global, units: &[Span]) -> Result<Arc<Snapshot>, Fail> {
 
 /// The same with this moment of time 0.
 fn channel_from(alloc: Global, epoch: Option<i64>, units: &[Span]) -> Result<Arc<Snapshot>, Fail> {
-    let none = single(alloc, epoch)?;
-    let mut state = begun(alloc, &none)?;
+    let mut state = single(alloc, epoch)?;
     for span in units {
-        state = with_unit(alloc, &state, *span)?;
+        state = with_span(alloc, &state, *span)?;
     }
-    stepped(alloc, &state, Event::Finish { rendition: 0 })
+    Ok(finished(alloc, &state, 0)?)
 }
 
 fn listed(alloc: Global, snapshot: &Snapshot, listing: Listing) -> Result<Listed, ListFault>

@@ -1,19 +1,13 @@
 //! Results that no running job waits for.
 
-use super::{SECOND, begun, opened, request};
-use crate::{Finished, Job, JobFault, JobTable, Work, run_job};
+use super::request;
 use hls_catchup::Request;
 use hls_core::snapshot::Snapshot;
+use hls_jobs::{Finished, Job, JobFault, JobTable, Work, run_job};
+use hls_sample_channels::{SECOND, begun, opened};
 use std::alloc::Global;
 use std::sync::Arc;
 use std::test::Fail;
-
-fn found(snapshot: Option<Arc<Snapshot>>) -> Result<Arc<Snapshot>, Fail> {
-    match snapshot {
-        Some(snapshot) => Ok(snapshot),
-        None => Err(Fail::from("no channel")),
-    }
-}
 
 fn result(
     alloc: Global,
@@ -35,8 +29,8 @@ fn result(
 fn only_the_result_of_a_running_job_is_taken(rt: HostRuntime) -> Result<(), Fail> {
     let alloc = rt.alloc();
     let asked = request(0, SECOND);
-    let snapshot = found(opened(alloc))?;
-    let later = found(begun(alloc, &snapshot))?;
+    let snapshot = opened(alloc)?;
+    let later = begun(alloc, &snapshot, 0, 90000)?;
     let mut jobs = JobTable::new(alloc)?;
     let id = jobs.add(Arc::try_clone(&snapshot)?, asked)?;
     assert_eq!(rt;

@@ -1,18 +1,11 @@
 //! Places and ids: 64 jobs at most, and no id twice.
 
-use super::{SECOND, opened, request};
-use crate::{JobFault, JobTable};
+use super::request;
 use hls_core::snapshot::Snapshot;
-use std::alloc::Global;
+use hls_jobs::{JobFault, JobTable};
+use hls_sample_channels::{SECOND, opened};
 use std::sync::Arc;
 use std::test::Fail;
-
-fn channel(alloc: Global) -> Result<Arc<Snapshot>, Fail> {
-    match opened(alloc) {
-        Some(snapshot) => Ok(snapshot),
-        None => Err(Fail::from("no channel")),
-    }
-}
 
 fn add(jobs: &mut JobTable, snapshot: &Arc<Snapshot>) -> Result<Result<u64, JobFault>, Fail> {
     Ok(jobs.add(Arc::try_clone(snapshot)?, request(0, SECOND)))
@@ -28,7 +21,7 @@ fn fill(jobs: &mut JobTable, snapshot: &Arc<Snapshot>) -> Result<(), Fail> {
 #[test]
 fn a_full_table_has_room_after_a_removal(rt: HostRuntime) -> Result<(), Fail> {
     let alloc = rt.alloc();
-    let snapshot = channel(alloc)?;
+    let snapshot = opened(alloc)?;
     let mut jobs = JobTable::new(alloc)?;
     fill(&mut jobs, &snapshot)?;
     assert_eq!(rt; add(&mut jobs, &snapshot)?, Err(JobFault::TableFull));
@@ -42,7 +35,7 @@ fn a_full_table_has_room_after_a_removal(rt: HostRuntime) -> Result<(), Fail> {
 #[test]
 fn the_job_added_first_is_taken_first(rt: HostRuntime) -> Result<(), Fail> {
     let alloc = rt.alloc();
-    let snapshot = channel(alloc)?;
+    let snapshot = opened(alloc)?;
     let mut jobs = JobTable::new(alloc)?;
     for _ in 0..3 {
         let _id = add(&mut jobs, &snapshot)??;

@@ -1,14 +1,12 @@
 //! Live lists that were worked out by hand: target 6 s, preferred length 4 s.
 
-use super::{
-    SECOND, assert_list, begun, channel, double, fault, request, single, stepped, ten_units,
-    with_unit, with_units,
-};
-use crate::{CatchFault, live_playlist};
+use super::{assert_list, channel, double, fault, request, ten_units};
+use hls_catchup::{CatchFault, live_playlist};
 use hls_core::snapshot::Snapshot;
 use hls_core::upkeep::upkeep;
 use hls_core_laws::event::Event;
 use hls_m3u8::{MediaPlaylist, write_media};
+use hls_sample_channels::{SECOND, SampleFault, begun, opened, stepped, with_unit, with_units};
 use std::alloc::Global;
 use std::process::Abort;
 use std::sync::Arc;
@@ -35,12 +33,12 @@ pub(super) fn text_of(
 }
 
 /// One rendition, not finished.
-fn recorded(alloc: Global, units: &[(u32, u32)]) -> Result<Arc<Snapshot>, Fail> {
-    let none = single(alloc)?;
+fn recorded(alloc: Global, units: &[(u32, u32)]) -> Result<Arc<Snapshot>, SampleFault> {
+    let none = opened(alloc)?;
     with_units(alloc, &none, 0, units)
 }
 
-fn slid(alloc: Global, snapshot: &Snapshot, count: u64) -> Result<Arc<Snapshot>, Fail> {
+fn slid(alloc: Global, snapshot: &Snapshot, count: u64) -> Result<Arc<Snapshot>, SampleFault> {
     stepped(alloc, snapshot, Event::Slide { count })
 }
 

@@ -3,16 +3,14 @@ ghost use Rattle.std.specs.Prelude.{IfOk};
 ghost use Rattle.hls_core_laws.specs.Moves.{IsFitting};
 ghost use Rattle.hls_catchup.specs.Plays.{IsRunTo};
 
-use super::refused::configured;
-use super::{SECOND, assert_lists, assert_plan, request};
-use crate::{Action, CatchFault, Reply, play, reply_piece, reply_total};
-use bytes::Bytes;
+use super::{assert_lists, assert_plan, request};
+use hls_catchup::{Action, CatchFault, Reply, play, reply_piece, reply_total};
 use hls_core::config::Config;
 use hls_core::replay::next;
 use hls_core::snapshot::Snapshot;
 use hls_core_laws::event::Event;
-use hls_media::{read_facts, read_init};
-use hls_samples::{init_bytes, unit_bytes};
+use hls_sample_channels::{SECOND, accept_event, begin_event, opened};
+use hls_samples::unit_bytes;
 use std::alloc::Global;
 use std::process::Abort;
 use std::sync::Arc;
@@ -26,7 +24,7 @@ struct Run {
 }
 
 /// Nothing was done yet.
-fn opened(alloc: Global, config: &Config) -> Result<Run, Fail>
+fn idle(alloc: Global, config: &Config) -> Result<Run, Fail>
     ensures { IfOk result (λ run. IsRunTo config.now run.actions.items run.state.value) }
 {
     let state = Snapshot::first(alloc, config.share()?)?;
@@ -57,45 +55,15 @@ fn with_request(config: &Config, run: Run, from: u64, to: u64) -> Result<Run, Fa
     Ok(Run { actions, state })
 }
 
-fn begin(alloc: Global, snapshot: &Snapshot) -> Result<Event, Fail>
-    ensures { IfOk result (λ event. IsFitting snapshot.now event) }
-{
-    let bytes = init_bytes(alloc, b"vide", 90000)?;
-    let init = read_init(alloc, &bytes)?;
-    let bytes = Bytes::from_vec(bytes)?;
-    Ok(Event::Begin {
-        rendition: 0,
-        init,
-        bytes,
-    })
-}
-
-/// Unit `n` of 4 s.
-fn unit(alloc: Global, snapshot: &Snapshot, n: u64) -> Result<Event, Fail>
-    ensures { IfOk result (λ event. IsFitting snapshot.now event) }
-{
-    let bytes = unit_bytes(alloc, n.saturating_mul(360_000), 360_000, true, 1000)?;
-    let Some(recording) = snapshot.recording(0) else {
-        return Err(Fail::from("not begun"));
-    };
-    let facts = read_facts(recording.init(), &bytes)?;
-    let bytes = Bytes::from_vec(bytes)?;
-    Ok(Event::Accept {
-        rendition: 0,
-        facts,
-        bytes,
-    })
-}
-
 /// Ten units, not finished.
 fn ten_units(alloc: Global, config: &Config) -> Result<Run, Fail>
     ensures { IfOk result (λ run. IsRunTo config.now run.actions.items run.state.value) }
 {
-    let run = opened(alloc, config)?;
-    let event = begin(alloc, &run.state)?;
+    let run = idle(alloc, config)?;
+    let event = begin_event(alloc, 0, b"vide", 90000)?;
     let mut run = with_event(alloc, config, run, event)?;
     for n in 0..10 {
-        let event = unit(alloc, &run.state, n)?;
+        let event = accept_event(alloc, &run.state, 0, n * 360_000, 360_000)?;
         run = with_event(alloc, config, run, event)?;
     }
     Ok(run)
@@ -174,7 +142,7 @@ fn faults(
 #[test]
 fn answers_from_the_state_that_a_request_meets(rt: HostRuntime) -> Result<(), Fail> {
     let alloc = rt.alloc();
-    let config = configured(alloc).expect(&rt, "a configuration");
+    let config = opened(alloc)?.config().share()?;
     let run = asked_late(alloc, &config)?;
     let (state, answers) = play(alloc, config, &run.actions)?;
     let wanted = [

@@ -1,7 +1,8 @@
 //! Work loops that run side by side, and how they end.
 
-use super::{SECOND, opened, request};
-use crate::{Gate, Job, Jobs, work_loop};
+use super::request;
+use hls_jobs::{Gate, Job, Jobs, work_loop};
+use hls_sample_channels::{SECOND, opened};
 use std::alloc::Global;
 use std::sync::atomic::{AtomicU64, Ordering};
 use std::sync::{Arc, Wait};
@@ -76,9 +77,7 @@ fn run_two_loops<R: Threads + Wait + Sync>(rt: &R, alloc: Global, jobs: &Jobs) -
 
 fn with_jobs<R: Wait>(rt: &R, alloc: Global, count: u32) -> Result<Jobs, Fail> {
     let jobs = Jobs::new(alloc)?;
-    let Some(snapshot) = opened(alloc) else {
-        return Err(Fail::from("no channel"));
-    };
+    let snapshot = opened(alloc)?;
     for _ in 0..count {
         let _id = jobs.add(rt, Arc::try_clone(&snapshot)?, request(0, SECOND))?;
     }

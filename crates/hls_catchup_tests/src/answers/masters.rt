@@ -1,12 +1,12 @@
 //! Master playlists of channels of video and audio, byte for byte.
 
-use super::SECOND;
-use crate::{answer, job_master, live_master};
 use bytes::Bytes;
+use hls_catchup::{answer, job_master, live_master};
 use hls_core::config::Config;
 use hls_core::snapshot::Snapshot;
 use hls_core_laws::rendition::Rendition;
 use hls_m3u8::write_master;
+use hls_sample_channels::SECOND;
 use std::alloc::Global;
 use std::test::Fail;
 

@@ -1,12 +1,13 @@
 //! The dates of segments, where the moment of time 0 is known.
 
 use super::live::text_of;
-use super::{SECOND, begun, double_from, request, stepped, uneven, with_unit};
-use crate::{Cutout, Reply, answer, live_playlist};
+use super::{double_from, request, uneven};
+use hls_catchup::{Cutout, Reply, answer, live_playlist};
 use hls_core::config::LAST_EPOCH;
 use hls_core::snapshot::Snapshot;
 use hls_core_laws::event::Event;
 use hls_m3u8::MediaPlaylist;
+use hls_sample_channels::{SECOND, begun, stepped, with_unit};
 use std::alloc::Global;
 use std::process::Abort;
 use std::sync::Arc;

@@ -1,81 +1,21 @@
 //! The files of a job on a channel of two units of 4 s. Target 6 s, preferred length 4 s; the init section has 600 bytes and
 //! each unit 1000.
-ghost use Rattle.hls_core_laws.specs.Moves.{IsFitting};
 
-use crate::{Withheld, certificate_text, job_line, master_text, playlist_text, reply_in};
-use bytes::Bytes;
 use hls_catchup::{CostRule, Request};
-use hls_core::config::Config;
 use hls_core::snapshot::Snapshot;
-use hls_core::step::step;
-use hls_core::stepped::Stepped;
-use hls_core_laws::event::Event;
-use hls_core_laws::rendition::Rendition;
+use hls_job_files::{Withheld, certificate_text, job_line, master_text, playlist_text, reply_in};
 use hls_jobs::{Job, JobTable, run_job};
-use hls_media::{read_facts, read_init};
-use hls_samples::{init_bytes, unit_bytes};
+use hls_sample_channels::{SECOND, SampleFault, opened_with, rendition, with_units};
 use std::alloc::Global;
 use std::sync::Arc;
 use std::test::Fail;
 
-const SECOND: u64 = 1_000_000;
-
-/// A channel of one rendition, before anything came; none where memory was refused.
-fn opened(alloc: Global, epoch: Option<i64>) -> Option<Arc<Snapshot>> {
-    let rendition = Rendition {
-        name: Bytes::copy_from_slice(alloc, b"v1").ok()?,
-        video: true,
-        bandwidth: 3_000_000,
-        tolerance: 0,
-    };
+/// Two units of 4 s, of which more may come, with this moment of time 0.
+fn two_units(alloc: Global, epoch: Option<i64>) -> Result<Arc<Snapshot>, SampleFault> {
     let mut renditions = Vec::new(alloc);
-    renditions.push(rendition).ok()?;
-    let config = Config::with_epoch(alloc, 6, 4 * SECOND, renditions, epoch).ok()?;
-    Arc::new(alloc, Snapshot::first(alloc, config).ok()?).ok()
-}
-
-/// The next snapshot; none where memory was refused, or the event isn't new.
-fn stepped(alloc: Global, snapshot: &Snapshot, event: Event) -> Option<Arc<Snapshot>>
-    requires { IsFitting snapshot.now event }
-{
-    match step(snapshot, alloc, 0, event) {
-        Ok(Stepped::New(next)) => Some(next),
-        _ => None,
-    }
-}
-
-fn begun(alloc: Global, snapshot: &Snapshot) -> Option<Arc<Snapshot>> {
-    let bytes = init_bytes(alloc, b"vide", 90000).ok()?;
-    let init = read_init(alloc, &bytes).ok()?;
-    let bytes = Bytes::copy_from_slice(alloc, &bytes).ok()?;
-    let event = Event::Begin {
-        rendition: 0,
-        init,
-        bytes,
-    };
-    stepped(alloc, snapshot, event)
-}
-
-/// With a unit of 4 s at `start` ticks.
-fn with_unit(alloc: Global, snapshot: &Snapshot, start: u64) -> Option<Arc<Snapshot>> {
-    let bytes = unit_bytes(alloc, start, 360000, true, 1000).ok()?;
-    let facts = read_facts(snapshot.recording(0)?.init(), &bytes).ok()?;
-    let bytes = Bytes::copy_from_slice(alloc, &bytes).ok()?;
-    let event = Event::Accept {
-        rendition: 0,
-        facts,
-        bytes,
-    };
-    stepped(alloc, snapshot, event)
-}
-
-/// Units of 4 s one after the other; more may come.
-fn with_units(alloc: Global, epoch: Option<i64>, count: u32) -> Option<Arc<Snapshot>> {
-    let mut state = begun(alloc, &*opened(alloc, epoch)?)?;
-    for number in 0..count {
-        state = with_unit(alloc, &state, u64::from(number) * 360000)?;
-    }
-    Some(state)
+    renditions.push(rendition(alloc, b"v1", true, 0)?)?;
+    let none = opened_with(alloc, renditions, epoch)?;
+    with_units(alloc, &none, 0, &[(0, 4), (4, 8)])
 }
 
 /// What a job for the first seconds of the channel comes to.
@@ -85,9 +25,7 @@ fn run(alloc: Global, stop_us: u64) -> Result<Job, Fail> {
 
 /// The same with this moment of time 0.
 fn run_from(alloc: Global, epoch: Option<i64>, stop_us: u64) -> Result<Job, Fail> {
-    let Some(snapshot) = with_units(alloc, epoch, 2) else {
-        return Err(Fail::from("no channel"));
-    };
+    let snapshot = two_units(alloc, epoch)?;
     let asked = Request {
         start_us: 0,
         stop_us,

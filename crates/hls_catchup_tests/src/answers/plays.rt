@@ -1,36 +1,17 @@
 //! A run of events and requests: what it leaves, and that each request is answered.
-ghost use Rattle.std.specs.Prelude.{IfSome};
-ghost use Rattle.hls_core_laws.specs.State.{State};
-ghost use Rattle.hls_core_laws.specs.Moves.{IsFitting};
 
-use super::refused::configured;
-use super::{SECOND, request};
-use crate::{Action, CatchFault, Reply, play};
-use bytes::Bytes;
+use super::request;
+use hls_catchup::{Action, CatchFault, Reply, play};
 use hls_core::snapshot::Snapshot;
 use hls_core_laws::event::Event;
-use hls_media::read_init;
-use hls_samples::init_bytes;
+use hls_sample_channels::{SECOND, begin_event, opened};
 use std::alloc::Global;
 use std::sync::Arc;
 
-fn begin(alloc: Global) -> Option<Event>
-    ensures { IfSome result (λ event. (s : State) → IsFitting s event) }
-{
-    let bytes = init_bytes(alloc, b"vide", 90000).ok()?;
-    let init = read_init(alloc, &bytes).ok()?;
-    let bytes = Bytes::from_vec(bytes).ok()?;
-    Some(Event::Begin {
-        rendition: 0,
-        init,
-        bytes,
-    })
-}
-
 /// A run with a request before its events and one after them; none where memory was refused.
 fn played(alloc: Global) -> Option<(Arc<Snapshot>, Vec<Result<Reply, CatchFault>>)> {
-    let config = configured(alloc)?;
-    let begin = begin(alloc)?;
+    let config = opened(alloc).ok()?.config().share().ok()?;
+    let begin = begin_event(alloc, 0, b"vide", 90000).ok()?;
     let actions = [
         Action::Ask(request(SECOND, SECOND)),
         Action::Event(3, begin),

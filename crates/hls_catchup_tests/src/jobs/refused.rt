@@ -1,16 +1,17 @@
 //! A job that was refused memory failed, and the same request again is answered.
 
-use super::{SECOND, request, with_units};
-use crate::{Job, JobTable, run_job};
+use super::{request, with_units};
 use hls_core::snapshot::Snapshot;
+use hls_jobs::{Job, JobTable, run_job};
+use hls_sample_channels::SECOND;
 use std::alloc::Global;
 use std::sync::Arc;
 
 /// A channel of two units, built once more where memory was refused.
 fn two_units(alloc: Global) -> Option<Arc<Snapshot>> {
     match with_units(alloc, 2) {
-        Some(snapshot) => Some(snapshot),
-        None => with_units(alloc, 2),
+        Ok(snapshot) => Some(snapshot),
+        Err(_) => with_units(alloc, 2).ok(),
     }
 }
 

@@ -1,7 +1,5 @@
 //! Answers on small channels whose plans, ranges and faults were worked out by hand. Target 6 s, preferred length 4 s; each
 //! init section has 600 bytes and each unit 1000.
-ghost use Rattle.std.specs.Prelude.{IfOk};
-ghost use Rattle.hls_core_laws.specs.Moves.{IsFitting};
 
 mod dates;
 mod live;
@@ -10,127 +8,40 @@ mod plays;
 mod refused;
 mod runs;
 
-use crate::{CatchFault, Cutout, Reply, Request, answer, reply_piece, reply_total, table_of};
-use bytes::Bytes;
+use hls_catchup::{CatchFault, Cutout, Reply, Request, answer, reply_piece, reply_total, table_of};
 use hls_check::{Verdict, check};
 use hls_check_laws::{Claim, CostRule};
-use hls_core::config::Config;
 use hls_core::snapshot::Snapshot;
-use hls_core::step::step;
-use hls_core::stepped::Stepped;
-use hls_core_laws::event::Event;
-use hls_core_laws::rendition::Rendition;
 use hls_m3u8::{MediaPlaylist, Segment};
-use hls_media::{read_facts, read_init};
-use hls_samples::{init_bytes, unit_bytes};
+use hls_sample_channels::{
+    SECOND, SampleFault, begun, finished, opened, opened_with, rendition, with_unit, with_units,
+};
+use hls_samples::unit_bytes;
 use std::alloc::Global;
 use std::process::Abort;
 use std::sync::Arc;
 use std::test::Fail;
 
-const SECOND: u64 = 1_000_000;
-
-fn rendition(alloc: Global, name: &[u8], tolerance: u64) -> Result<Rendition, Fail> {
-    Ok(Rendition {
-        name: Bytes::copy_from_slice(alloc, name)?,
-        video: true,
-        bandwidth: 3_000_000,
-        tolerance,
-    })
-}
-
-/// A channel of one rendition.
-fn single(alloc: Global) -> Result<Arc<Snapshot>, Fail> {
-    let mut renditions = Vec::new(alloc);
-    renditions.push(rendition(alloc, b"v1", 0)?)?;
-    let config = Config::new(alloc, 6, 4 * SECOND, renditions)?;
-    Ok(Arc::new(alloc, Snapshot::first(alloc, config)?)?)
-}
-
 /// A channel of two renditions, with this moment of time 0.
-fn double_from(alloc: Global, tolerance: u64, epoch: Option<i64>) -> Result<Arc<Snapshot>, Fail> {
+fn double_from(
+    alloc: Global,
+    tolerance: u64,
+    epoch: Option<i64>,
+) -> Result<Arc<Snapshot>, SampleFault> {
     let mut renditions = Vec::new(alloc);
-    renditions.push(rendition(alloc, b"v1", 0)?)?;
-    renditions.push(rendition(alloc, b"en", tolerance)?)?;
-    let config = Config::with_epoch(alloc, 6, 4 * SECOND, renditions, epoch)?;
-    Ok(Arc::new(alloc, Snapshot::first(alloc, config)?)?)
+    renditions.push(rendition(alloc, b"v1", true, 0)?)?;
+    renditions.push(rendition(alloc, b"en", true, tolerance)?)?;
+    opened_with(alloc, renditions, epoch)
 }
 
 /// A channel of two renditions.
-fn double(alloc: Global, tolerance: u64) -> Result<Arc<Snapshot>, Fail> {
+fn double(alloc: Global, tolerance: u64) -> Result<Arc<Snapshot>, SampleFault> {
     double_from(alloc, tolerance, None)
 }
 
-fn stepped(alloc: Global, snapshot: &Snapshot, event: Event) -> Result<Arc<Snapshot>, Fail>
-    requires { IsFitting snapshot.now event }
-{
-    match step(snapshot, alloc, 0, event)? {
-        Stepped::New(next) => Ok(next),
-        Stepped::Repeat => Err(Fail::from("a repeat")),
-    }
-}
-
-fn begun(
-    alloc: Global,
-    snapshot: &Snapshot,
-    rendition: usize,
-    scale: u32,
-) -> Result<Arc<Snapshot>, Fail> {
-    let bytes = init_bytes(alloc, b"vide", scale)?;
-    let init = read_init(alloc, &bytes)?;
-    let bytes = Bytes::from_vec(bytes)?;
-    let event = Event::Begin {
-        rendition,
-        init,
-        bytes,
-    };
-    stepped(alloc, snapshot, event)
-}
-
-/// With a unit of a rendition that has begun; in ticks.
-fn with_unit(
-    alloc: Global,
-    snapshot: &Snapshot,
-    rendition: usize,
-    start: u64,
-    ticks: u32,
-) -> Result<Arc<Snapshot>, Fail> {
-    let bytes = unit_bytes(alloc, start, ticks, true, 1000)?;
-    let Some(recording) = snapshot.recording(rendition) else {
-        return Err(Fail::from("not begun"));
-    };
-    let facts = read_facts(recording.init(), &bytes)?;
-    let bytes = Bytes::from_vec(bytes)?;
-    let event = Event::Accept {
-        rendition,
-        facts,
-        bytes,
-    };
-    stepped(alloc, snapshot, event)
-}
-
-/// Begun, with units from one second to another.
-fn with_units(
-    alloc: Global,
-    snapshot: &Snapshot,
-    rendition: usize,
-    units: &[(u32, u32)],
-) -> Result<Arc<Snapshot>, Fail> {
-    let mut state = begun(alloc, snapshot, rendition, 90000)?;
-    for &(from, to) in units {
-        let ticks = to.saturating_sub(from).saturating_mul(90000);
-        state = with_unit(alloc, &state, rendition, u64::from(from) * 90000, ticks)?;
-    }
-    Ok(state)
-}
-
-fn finished(alloc: Global, snapshot: &Snapshot, rendition: usize) -> Result<Arc<Snapshot>, Fail> {
-    stepped(alloc, snapshot, Event::Finish { rendition })
-}
-
 /// One finished rendition.
-fn channel(alloc: Global, units: &[(u32, u32)]) -> Result<Arc<Snapshot>, Fail> {
-    let none = single(alloc)?;
+fn channel(alloc: Global, units: &[(u32, u32)]) -> Result<Arc<Snapshot>, SampleFault> {
+    let none = opened(alloc)?;
     let state = with_units(alloc, &none, 0, units)?;
     finished(alloc, &state, 0)
 }
@@ -140,7 +51,7 @@ fn channels(
     alloc: Global,
     video: &[(u32, u32)],
     audio: &[(u32, u32)],
-) -> Result<Arc<Snapshot>, Fail> {
+) -> Result<Arc<Snapshot>, SampleFault> {
     let none = double(alloc, 0)?;
     let state = with_units(alloc, &none, 0, video)?;
     let state = with_units(alloc, &state, 1, audio)?;
@@ -292,7 +203,7 @@ fn finds_no_cut_across_a_gap_of_one_rendition(rt: HostRuntime) -> Result<(), Fai
 }
 
 /// Audio of 48000 ticks a second whose units end a little after the video's.
-fn uneven(alloc: Global, epoch: Option<i64>) -> Result<Arc<Snapshot>, Fail> {
+fn uneven(alloc: Global, epoch: Option<i64>) -> Result<Arc<Snapshot>, SampleFault> {
     let none = double_from(alloc, 30000, epoch)?;
     let state = with_units(alloc, &none, 0, &[(0, 4), (4, 8)])?;
     let state = begun(alloc, &state, 1, 48000)?;
@@ -321,8 +232,8 @@ fn cuts_uneven_ends(rt: HostRuntime) -> Result<(), Fail> {
 }
 
 /// Ten units of 4 s, not finished.
-fn ten_units(alloc: Global) -> Result<Arc<Snapshot>, Fail> {
-    let none = single(alloc)?;
+fn ten_units(alloc: Global) -> Result<Arc<Snapshot>, SampleFault> {
+    let none = opened(alloc)?;
     let mut state = begun(alloc, &none, 0, 90000)?;
     for k in 0..10 {
         state = with_unit(alloc, &state, 0, k * 360000, 360000)?;
@@ -375,7 +286,7 @@ fn refuses_in_order(rt: HostRuntime) -> Result<(), Fail> {
 #[test]
 fn refuses_before_the_first_place(rt: HostRuntime) -> Result<(), Fail> {
     let alloc = rt.alloc();
-    let none = single(alloc)?;
+    let none = opened(alloc)?;
     assert_eq!(rt;
         fault(alloc, &none, request(0, SECOND)),
         Some(CatchFault::BeforeRecording)
@@ -391,8 +302,8 @@ fn refuses_before_the_first_place(rt: HostRuntime) -> Result<(), Fail> {
 }
 
 /// Units of 1 ms from 4 s on, not finished: so many places, one each millisecond.
-fn short_units(alloc: Global, count: u32) -> Result<Arc<Snapshot>, Fail> {
-    let none = single(alloc)?;
+fn short_units(alloc: Global, count: u32) -> Result<Arc<Snapshot>, SampleFault> {
+    let none = opened(alloc)?;
     let mut state = begun(alloc, &none, 0, 90000)?;
     for k in 0..count {
         state = with_unit(alloc, &state, 0, 360000 + u64::from(k) * 90, 90)?;

@@ -1,10 +1,11 @@
 //! Jobs that are added, run and read in turn.
 
-use super::{SECOND, request, with_unit, with_units};
-use crate::{Job, JobTable, run_job};
+use super::{request, with_units};
 use hls_catchup::{CatchFault, Cutout, Request};
 use hls_check::{Verdict, check};
 use hls_core::snapshot::Snapshot;
+use hls_jobs::{Job, JobTable, run_job};
+use hls_sample_channels::{SECOND, with_unit};
 use std::alloc::Global;
 use std::sync::Arc;
 use std::test::Fail;
@@ -54,18 +55,14 @@ fn outcome_of(jobs: &JobTable, id: u64) -> Result<(Told, u64), Fail> {
 #[test]
 fn a_job_is_answered_from_its_own_snapshot(rt: HostRuntime) -> Result<(), Fail> {
     let alloc = rt.alloc();
-    let Some(ten) = with_units(alloc, 10) else {
-        return Err(Fail::from("no channel"));
-    };
+    let ten = with_units(alloc, 10)?;
     let mut jobs = JobTable::new(alloc)?;
     assert_eq!(rt; run(alloc, &mut jobs, &ten, request(0, 8 * SECOND))?, 1);
     assert_eq!(rt;
         run(alloc, &mut jobs, &ten, request(0, 36 * SECOND + 1))?,
         2
     );
-    let Some(eleven) = with_unit(alloc, &ten, 3600000) else {
-        return Err(Fail::from("no unit"));
-    };
+    let eleven = with_unit(alloc, &ten, 0, 3600000, 360000)?;
     assert_eq!(rt; run(alloc, &mut jobs, &eleven, request(0, 8 * SECOND))?, 3);
     assert_eq!(rt; outcome_of(&jobs, 1)?, (Told::Cut(0), 11));
     assert_eq!(rt;
