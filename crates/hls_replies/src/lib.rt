@@ -19,6 +19,4 @@ mod query;
 mod resource;
 mod sending;
 mod standing;
-#[cfg(test)]
-mod tests;
 mod texts;

@@ -1,12 +1,12 @@
 //! Where memory is refused a job's replies are as ever, or those of want of memory. A channel of two units of 4 s.
 
 use super::refused::recorded;
-use crate::{
-    Answer, added_answer, file_answer, read_query, request_for, send, told_answer, wanted_of,
-};
 use hls_http::Session;
 use hls_http_laws::range::Asked;
 use hls_jobs::{Job, JobTable, run_job};
+use hls_replies::{
+    Answer, added_answer, file_answer, read_query, request_for, send, told_answer, wanted_of,
+};
 use hls_serve_laws::route::JobFile;
 use std::alloc::Global;
 use std::sync::Arc;

@@ -1,16 +1,14 @@
 //! The replies of job routes, over a table of jobs that were run.
 
-use super::{
-    begun, begun_in, finished_in, opened_with, part, recorded, rendition, sent, ten_units, trimmed,
-    unit_in, with_unit,
-};
-use crate::{
-    added_answer, file_answer, query_answer, read_query, removed_answer, request_for,
-    status_answer, told_answer, wanted_of,
-};
+use super::{begun, begun_in, part, recorded, sent, ten_units, trimmed, with_unit};
 use hls_core::snapshot::Snapshot;
 use hls_http_laws::range::Asked;
 use hls_jobs::{Job, JobFault, JobTable, run_job};
+use hls_replies::{
+    added_answer, file_answer, query_answer, read_query, removed_answer, request_for,
+    status_answer, told_answer, wanted_of,
+};
+use hls_sample_channels::{SampleFault, finished, opened_with, rendition};
 use hls_samples::unit_bytes;
 use hls_serve_laws::query::QueryFault;
 use hls_serve_laws::route::JobFile;
@@ -214,7 +212,7 @@ fn requests_that_have_no_answer(rt: HostRuntime) -> Result<(), Fail> {
             b"\ncut 7200000000 version 11\n"
         )?
     );
-    let over = finished_in(alloc, &state, 0)?;
+    let over = finished(alloc, &state, 0)?;
     assert!(rt; line_ends(alloc, &over, b"from=0&to=40000000", b"\ncut 0 version 12\n")?);
     assert!(rt;
         line_ends(
@@ -357,11 +355,11 @@ const BAD_QUERY: &[u8] =
     b"HTTP/1.1 400 Bad Request\r\nContent-Type: text/plain\r\nContent-Length: 17\r\n\r\nrefused BadQuery\n";
 
 /// A channel of a video rendition and one of sound with this tolerance, each begun; sound in ticks of 1/48000 s.
-fn with_sound(alloc: Global, tolerance: u64) -> Result<Arc<Snapshot>, Fail> {
+fn with_sound(alloc: Global, tolerance: u64) -> Result<Arc<Snapshot>, SampleFault> {
     let mut renditions = Vec::new(alloc);
     renditions.push(rendition(alloc, b"v1", true, 0)?)?;
     renditions.push(rendition(alloc, b"a1", false, tolerance)?)?;
-    let state = begun(alloc, &*opened_with(alloc, renditions)?)?;
+    let state = begun(alloc, &*opened_with(alloc, renditions, None)?)?;
     begun_in(alloc, &state, 1, b"soun", 48000)
 }
 
@@ -370,10 +368,10 @@ fn with_sounds(
     alloc: Global,
     snapshot: Arc<Snapshot>,
     units: &[(u32, u32)],
-) -> Result<Arc<Snapshot>, Fail> {
+) -> Result<Arc<Snapshot>, SampleFault> {
     let mut state = snapshot;
     for (start, end) in units {
-        state = unit_in(
+        state = hls_sample_channels::with_unit(
             alloc,
             &state,
             1,
@@ -385,8 +383,8 @@ fn with_sounds(
 }
 
 /// Both renditions at their end.
-fn over(alloc: Global, snapshot: &Snapshot) -> Result<Arc<Snapshot>, Fail> {
-    finished_in(alloc, &*finished_in(alloc, snapshot, 0)?, 1)
+fn over(alloc: Global, snapshot: &Snapshot) -> Result<Arc<Snapshot>, SampleFault> {
+    finished(alloc, &*finished(alloc, snapshot, 0)?, 1)
 }
 
 const GAP_IN_SOUND: &[u8] =

@@ -1,26 +1,17 @@
 //! Answers that were refused memory: the state stays as it was, and the same answer again is the one that is wanted; where it
 //! is the reply's head that finds no memory, the fixed reply is sent in its place.
 
-ghost use Rattle.hls_core_laws.specs.Moves.{IsFitting};
-
-use crate::{
-    Answer, fault_answer, finish_answer, list_answer, master_answer, media_answer, method_answer,
-    read_query, refused_answer, send, status_answer, taken_answer,
-};
-use bytes::Bytes;
-use hls_core::config::Config;
 use hls_core::snapshot::Snapshot;
-use hls_core::step::step;
-use hls_core::stepped::Stepped;
-use hls_core_laws::event::Event;
 use hls_core_laws::refusal::Refusal;
-use hls_core_laws::rendition::Rendition;
 use hls_http::{Session, SessionEnd};
 use hls_http_laws::fault::HttpFault;
 use hls_http_laws::range::Asked;
 use hls_http_laws::reply::{no_memory_head_text, no_memory_text};
-use hls_media::{read_facts, read_init};
-use hls_samples::{init_bytes, unit_bytes};
+use hls_replies::{
+    Answer, fault_answer, finish_answer, list_answer, master_answer, media_answer, method_answer,
+    read_query, refused_answer, send, status_answer, taken_answer,
+};
+use hls_sample_channels::{opened, with_units};
 use hls_serve_laws::fault::IngestFault;
 use hls_serve_laws::ingest::Counts;
 use hls_serve_laws::query::{Moment, Query};
@@ -70,60 +61,10 @@ impl Write for Page {
     }
 }
 
-/// A channel of one rendition; none where memory was refused.
-fn opened(alloc: Global) -> Option<Snapshot> {
-    let rendition = Rendition {
-        name: Bytes::copy_from_slice(alloc, b"v1").ok()?,
-        video: true,
-        bandwidth: 3_000_000,
-        tolerance: 0,
-    };
-    let mut renditions = Vec::new(alloc);
-    renditions.push(rendition).ok()?;
-    let config = Config::new(alloc, 6, 4_000_000, renditions).ok()?;
-    Snapshot::first(alloc, config).ok()
-}
-
-/// The next snapshot; none where memory was refused, or the event isn't new.
-fn stepped(alloc: Global, snapshot: &Snapshot, event: Event) -> Option<Arc<Snapshot>>
-    requires { IsFitting snapshot.now event }
-{
-    match step(snapshot, alloc, 0, event) {
-        Ok(Stepped::New(next)) => Some(next),
-        _ => None,
-    }
-}
-
-fn begun(alloc: Global, snapshot: &Snapshot) -> Option<Arc<Snapshot>> {
-    let bytes = init_bytes(alloc, b"vide", 90000).ok()?;
-    let init = read_init(alloc, &bytes).ok()?;
-    let bytes = Bytes::copy_from_slice(alloc, &bytes).ok()?;
-    let event = Event::Begin {
-        rendition: 0,
-        init,
-        bytes,
-    };
-    stepped(alloc, snapshot, event)
-}
-
-/// With a unit of 4 s at `start` ticks.
-fn with_unit(alloc: Global, snapshot: &Snapshot, start: u64) -> Option<Arc<Snapshot>> {
-    let bytes = unit_bytes(alloc, start, 360_000, true, 1000).ok()?;
-    let facts = read_facts(snapshot.recording(0)?.init(), &bytes).ok()?;
-    let bytes = Bytes::copy_from_slice(alloc, &bytes).ok()?;
-    let event = Event::Accept {
-        rendition: 0,
-        facts,
-        bytes,
-    };
-    stepped(alloc, snapshot, event)
-}
-
 /// Two units, of which more may come: one live segment.
 pub fn recorded(alloc: Global) -> Option<Arc<Snapshot>> {
-    let none = begun(alloc, &opened(alloc)?)?;
-    let one = with_unit(alloc, &none, 0)?;
-    with_unit(alloc, &one, 360_000)
+    let none = opened(alloc).ok()?;
+    with_units(alloc, &none, 0, &[(0, 4), (4, 8)]).ok()
 }
 
 /// The same, recorded once more where memory was refused.

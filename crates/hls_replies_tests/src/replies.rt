@@ -1,30 +1,23 @@
 //! Whole replies of small channels: target 6 s, preferred length 4 s, init sections of 600 bytes, and units of 1000 bytes,
 //! mostly of 4 s.
 
-ghost use Rattle.hls_core_laws.specs.Moves.{IsFitting};
-
 mod jobs;
 mod queries;
 mod refused;
 mod refused_jobs;
 
-use crate::{
-    Answer, fault_answer, finish_answer, list_answer, master_answer, media_answer, method_answer,
-    refused_answer, send, status_answer, taken_answer,
-};
-use bytes::Bytes;
-use hls_core::config::Config;
 use hls_core::snapshot::Snapshot;
-use hls_core::step::step;
-use hls_core::stepped::Stepped;
 use hls_core_laws::event::Event;
 use hls_core_laws::refusal::Refusal;
-use hls_core_laws::rendition::Rendition;
 use hls_http::Session;
 use hls_http_laws::fault::HttpFault;
 use hls_http_laws::range::Asked;
-use hls_media::{read_facts, read_init};
-use hls_samples::{init_bytes, unit_bytes};
+use hls_replies::{
+    Answer, fault_answer, finish_answer, list_answer, master_answer, media_answer, method_answer,
+    refused_answer, send, status_answer, taken_answer,
+};
+use hls_sample_channels::{SampleFault, begin_event, opened, stepped};
+use hls_samples::unit_bytes;
 use hls_serve_laws::fault::IngestFault;
 use hls_serve_laws::ingest::Counts;
 use hls_serve_laws::route::Route;
@@ -33,39 +26,6 @@ use std::alloc::{AllocError, Global};
 use std::sync::Arc;
 use std::test::Fail;
 
-/// A rendition of this name and kind, with this tolerance.
-fn rendition(alloc: Global, name: &[u8], video: bool, tolerance: u64) -> Result<Rendition, Fail> {
-    Ok(Rendition {
-        name: Bytes::copy_from_slice(alloc, name)?,
-        video,
-        bandwidth: 3_000_000,
-        tolerance,
-    })
-}
-
-/// A channel of these renditions, before anything came.
-fn opened_with(alloc: Global, renditions: Vec<Rendition>) -> Result<Arc<Snapshot>, Fail> {
-    let config = Config::new(alloc, 6, 4_000_000, renditions)?;
-    Ok(Arc::new(alloc, Snapshot::first(alloc, config)?)?)
-}
-
-/// A channel of one rendition, before anything came.
-fn opened(alloc: Global) -> Result<Arc<Snapshot>, Fail> {
-    let mut renditions = Vec::new(alloc);
-    renditions.push(rendition(alloc, b"v1", true, 0)?)?;
-    opened_with(alloc, renditions)
-}
-
-/// The next snapshot.
-fn stepped(alloc: Global, snapshot: &Snapshot, event: Event) -> Result<Arc<Snapshot>, Fail>
-    requires { IsFitting snapshot.now event }
-{
-    match step(snapshot, alloc, 0, event) {
-        Ok(Stepped::New(next)) => Ok(next),
-        _ => Err(Fail::from("the event isn't new")),
-    }
-}
-
 /// With the init section of a rendition, by its handler and timescale.
 fn begun_in(
     alloc: Global,
@@ -73,42 +33,13 @@ fn begun_in(
     rendition: usize,
     handler: &[u8; 4],
     scale: u32,
-) -> Result<Arc<Snapshot>, Fail> {
-    let bytes = init_bytes(alloc, handler, scale)?;
-    let init = read_init(alloc, &bytes)?;
-    let bytes = Bytes::copy_from_slice(alloc, &bytes)?;
-    let event = Event::Begin {
-        rendition,
-        init,
-        bytes,
-    };
+) -> Result<Arc<Snapshot>, SampleFault> {
+    let event = begin_event(alloc, rendition, handler, scale)?;
     stepped(alloc, snapshot, event)
 }
 
-fn begun(alloc: Global, snapshot: &Snapshot) -> Result<Arc<Snapshot>, Fail> {
+fn begun(alloc: Global, snapshot: &Snapshot) -> Result<Arc<Snapshot>, SampleFault> {
     begun_in(alloc, snapshot, 0, b"vide", 90000)
-}
-
-/// With one more unit of a rendition, in its ticks.
-fn unit_in(
-    alloc: Global,
-    snapshot: &Snapshot,
-    rendition: usize,
-    start: u64,
-    ticks: u32,
-) -> Result<Arc<Snapshot>, Fail> {
-    let Some(recording) = snapshot.recording(rendition) else {
-        return Err(Fail::from("no recording"));
-    };
-    let bytes = unit_bytes(alloc, start, ticks, true, 1000)?;
-    let facts = read_facts(recording.init(), &bytes)?;
-    let bytes = Bytes::copy_from_slice(alloc, &bytes)?;
-    let event = Event::Accept {
-        rendition,
-        facts,
-        bytes,
-    };
-    stepped(alloc, snapshot, event)
 }
 
 /// With one more unit, from one second to another.
@@ -117,22 +48,13 @@ fn with_unit(
     snapshot: &Snapshot,
     from: u32,
     to: u32,
-) -> Result<Arc<Snapshot>, Fail> {
+) -> Result<Arc<Snapshot>, SampleFault> {
     let ticks = to.wrapping_sub(from).wrapping_mul(90000);
-    unit_in(alloc, snapshot, 0, u64::from(from) * 90000, ticks)
-}
-
-/// With a rendition at its end.
-fn finished_in(
-    alloc: Global,
-    snapshot: &Snapshot,
-    rendition: usize,
-) -> Result<Arc<Snapshot>, Fail> {
-    stepped(alloc, snapshot, Event::Finish { rendition })
+    hls_sample_channels::with_unit(alloc, snapshot, 0, u64::from(from) * 90000, ticks)
 }
 
 /// A channel with units that go from each of these seconds to the next; more may come.
-fn recorded(alloc: Global, seconds: &[u32]) -> Result<Arc<Snapshot>, Fail> {
+fn recorded(alloc: Global, seconds: &[u32]) -> Result<Arc<Snapshot>, SampleFault> {
     let mut state = begun(alloc, &*opened(alloc)?)?;
     for n in 1..seconds.len() {
         state = with_unit(alloc, &state, seconds[n - 1], seconds[n])?;
@@ -212,17 +134,17 @@ fn parts_of_three_units(rt: HostRuntime) -> Result<(), Fail> {
 }
 
 /// After a slide by so many segments.
-fn slid(alloc: Global, snapshot: &Snapshot, count: u64) -> Result<Arc<Snapshot>, Fail> {
+fn slid(alloc: Global, snapshot: &Snapshot, count: u64) -> Result<Arc<Snapshot>, SampleFault> {
     stepped(alloc, snapshot, Event::Slide { count })
 }
 
 /// A channel of ten units, not finished.
-fn ten_units(alloc: Global) -> Result<Arc<Snapshot>, Fail> {
+fn ten_units(alloc: Global) -> Result<Arc<Snapshot>, SampleFault> {
     recorded(alloc, &[0, 4, 8, 12, 16, 20, 24, 28, 32, 36, 40])
 }
 
 /// The same once four segments have slid away and their units are trimmed.
-fn trimmed(alloc: Global, snapshot: &Snapshot) -> Result<Arc<Snapshot>, Fail> {
+fn trimmed(alloc: Global, snapshot: &Snapshot) -> Result<Arc<Snapshot>, SampleFault> {
     let trim = Event::Trim {
         rendition: 0,
         floor: 4,

@@ -1,8 +1,8 @@
 //! Queries of requests for catch-up.
 
-use super::opened;
-use crate::{read_query, request_for, wanted_of};
 use hls_catchup::{CostRule, Request};
+use hls_replies::{read_query, request_for, wanted_of};
+use hls_sample_channels::opened;
 use hls_serve_laws::query::{Moment, Query, QueryFault};
 use hls_serve_laws::wanted::Wanted;
 use std::alloc::{AllocError, Global};
