@@ -15,7 +15,7 @@ use hls_core::stepped::Stepped;
 use hls_core_laws::event::Event;
 use hls_media::read_facts;
 use hls_media_laws::facts::Facts;
-use hls_sample_channels::rendition;
+use hls_sample_channels::{SampleFault, opened_with, rendition};
 use hls_samples::unit_bytes;
 use std::alloc::Global;
 use std::sync::Arc;
@@ -351,12 +351,19 @@ fn epochs(rt: HostRuntime) -> Result<(), Fail> {
     Ok(())
 }
 
+/// A channel of one rendition, before anything came.
+fn opened_at(alloc: Global, epoch: Option<i64>) -> Result<Arc<Snapshot>, SampleFault> {
+    let mut renditions = Vec::new(alloc);
+    renditions.push(rendition(alloc, b"v1", true, 0)?)?;
+    opened_with(alloc, renditions, epoch)
+}
+
 #[test]
 fn another_epoch_is_another_channel(rt: HostRuntime) -> Result<(), Fail> {
     let alloc = rt.alloc();
-    let none = Snapshot::first(alloc, with_epoch(alloc, b"v1", None)??)?;
-    let early = Snapshot::first(alloc, with_epoch(alloc, b"v1", Some(0))??)?;
-    let late = Snapshot::first(alloc, with_epoch(alloc, b"v1", Some(1))??)?;
+    let none = opened_at(alloc, None)?;
+    let early = opened_at(alloc, Some(0))?;
+    let late = opened_at(alloc, Some(1))?;
     assert_eq!(rt; follows(&early, &early), true);
     assert_eq!(rt; follows(&early, &late), false);
     assert_eq!(rt; follows(&none, &early), false);
