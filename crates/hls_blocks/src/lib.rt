@@ -10,8 +10,3 @@ mod shared;
 
 pub use iter::Iter;
 pub use shared::Shared;
-
-#[cfg(test)]
-mod plain;
-#[cfg(test)]
-mod tests;

@@ -1,15 +1,14 @@
-//! What no clause says: that old values live on beside new ones, and that calls succeed; on the tree and on the plain list alike.
+//! What no clause says: that old values live on beside new ones, and that calls succeed.
 ghost use Rattle.std.specs.Prelude.{◌≡◌, ◌<◌, ◌≤◌, IfOk};
 ghost use Rattle.hls_blocks.specs.Numbered.{next_of, with_item, from_number, list_limit};
 
-use crate::plain::Plain;
-use crate::shared::Shared;
+use hls_blocks::Shared;
 use hls_time::Ticks;
 use std::alloc::{AllocError, Global};
 use std::process::Abort;
 use std::test::Fail;
 
-// The list with each number below `to` pushed as its own item.
+/// The list with each number below `to` pushed as its own item.
 fn tree_to(alloc: Global, list: &Shared<u64>, to: u64) -> Result<Shared<u64>, AllocError>
     requires low { next_of list.now ≤ to }
     requires high { to ≤ list_limit }
@@ -22,36 +21,7 @@ fn tree_to(alloc: Global, list: &Shared<u64>, to: u64) -> Result<Shared<u64>, Al
     Ok(all)
 }
 
-fn plain_to(alloc: Global, list: &Plain<u64>, to: u64) -> Result<Plain<u64>, AllocError>
-    requires low { next_of list.now ≤ to }
-    requires high { to ≤ list_limit }
-    ensures { IfOk result (λ s. next_of s ≡ to) }
-{
-    let mut all = list.share(alloc)?;
-    for n in list.next()..to {
-        all = all.pushed(alloc, n)?;
-    }
-    Ok(all)
-}
-
 fn assert_tree(rt: &impl Abort, list: &Shared<u64>, first: u64, next: u64) {
-    assert_eq!(rt; list.first(), first);
-    assert_eq!(rt; list.next(), next);
-    for n in 0..4170 {
-        let item = list.get(n).copied();
-        assert_eq!(rt;
-            item,
-            if first <= n && n < next {
-                Some(n)
-            } else {
-                None
-            },
-            "item {n}"
-        );
-    }
-}
-
-fn assert_plain(rt: &impl Abort, list: &Plain<u64>, first: u64, next: u64) {
     assert_eq!(rt; list.first(), first);
     assert_eq!(rt; list.next(), next);
     for n in 0..4170 {
@@ -85,24 +55,7 @@ fn old_trees_keep_their_items(rt: HostRuntime) -> Result<(), Fail> {
     Ok(())
 }
 
-#[test]
-fn old_plain_lists_keep_their_items(rt: HostRuntime) -> Result<(), Fail> {
-    let alloc = rt.alloc();
-    let short = plain_to(alloc, &Plain::empty(alloc), 64)?;
-    let middle = plain_to(alloc, &short, 4096)?;
-    let all = plain_to(alloc, &middle, 4161)?;
-    assert_eq!(rt; all.first(), 0);
-    let rest = all.dropped_front(alloc, 4100)?;
-    assert_plain(&rt, &short, 0, 64);
-    assert_plain(&rt, &middle, 0, 4096);
-    assert_plain(&rt, &all, 0, 4161);
-    assert_plain(&rt, &rest, 4100, 4161);
-    let none = rest.dropped_front(alloc, 4161)?;
-    assert_plain(&rt, &none, 4161, 4161);
-    Ok(())
-}
-
-// A push writes its leaf's entries, and one slot on each level above where the last node there has room.
+/// A push writes its leaf's entries, and one slot on each level above where the last node there has room.
 #[test]
 fn pushes_count_their_slots(rt: HostRuntime) -> Result<(), Fail> {
     let alloc = rt.alloc();
@@ -116,17 +69,16 @@ fn pushes_count_their_slots(rt: HostRuntime) -> Result<(), Fail> {
     assert_eq!(rt; ticks.count(), 1 + 1 + 2 + 1);
     assert_eq!(rt; grown.first(), 0);
     let rest = grown.dropped_front(alloc, 4090)?;
-    let mut wanted = 4091;
+    let mut wanted = 4091u64;
     for item in rest.iter_from(4091) {
-        assert!(rt; wanted < 4097);
         assert_eq!(rt; *item, wanted);
-        wanted += 1;
+        wanted = wanted.wrapping_add(1);
     }
     assert_eq!(rt; wanted, 4097);
     Ok(())
 }
 
-// A push, tried again where memory was refused.
+/// A push, tried again where memory was refused.
 fn pushed_again(alloc: Global, list: &Shared<u64>, item: u64) -> Result<Shared<u64>, AllocError>
     requires { next_of list.now < list_limit }
     ensures { IfOk result (λ s. s ≡ with_item list.now item) }
@@ -137,7 +89,7 @@ fn pushed_again(alloc: Global, list: &Shared<u64>, item: u64) -> Result<Shared<u
     }
 }
 
-// The list from number `n` on, tried again where memory was refused.
+/// The list from number `n` on, tried again where memory was refused.
 fn dropped_again(alloc: Global, list: &Shared<u64>, n: u64) -> Result<Shared<u64>, AllocError>
     requires { (list.now.first ≤ n) × (n ≤ next_of list.now) }
     ensures { IfOk result (λ s. s ≡ from_number list.now n) }
@@ -148,7 +100,7 @@ fn dropped_again(alloc: Global, list: &Shared<u64>, n: u64) -> Result<Shared<u64
     }
 }
 
-// With any one allocation refused, a second try gives what was wanted, and the list before it is as it was.
+/// With any one allocation refused, a second try gives what was wanted, and the list before it is as it was.
 #[test]
 fn refused_memory_changes_nothing(rt: HostRuntime) -> Result<(), Fail> {
     let alloc = rt.alloc();
