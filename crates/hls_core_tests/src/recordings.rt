@@ -1,6 +1,7 @@
 //! Recordings of three sample units: offsets, pieces and ranges at every boundary, trimmed and not.
 
-ghost use Rattle.std.specs.Prelude.{◌≤◌};
+ghost use Rattle.std.specs.Prelude.{◌≤◌, IfOk};
+ghost use Rattle.hls_record.specs.Valid.{IsRecorded};
 
 use crate::samples::{begun, sync_unit, with_unit};
 use hls_record::{RangeFault, RecordFault, Recording};
@@ -10,7 +11,9 @@ use std::process::Abort;
 use std::test::Fail;
 
 // A recording without a unit.
-fn none(alloc: Global) -> Result<Recording, RecordFault> {
+fn none(alloc: Global) -> Result<Recording, RecordFault>
+    ensures { IfOk result IsRecorded }
+{
     match begun(alloc, 90000) {
         Ok(recording) => Ok(recording),
         Err(_) => Err(RecordFault::Memory),
@@ -25,18 +28,23 @@ fn with_sample(
     len: u32,
 ) -> Result<Recording, RecordFault>
     requires { 108 ≤ len }
+    ensures { IfOk result IsRecorded }
 {
     with_unit(alloc, recording, sync_unit(start, 360000), len)
 }
 
 // The init section and units of 116 and 120 bytes at 0 and 4 s.
-fn two_units(alloc: Global) -> Result<Recording, RecordFault> {
+fn two_units(alloc: Global) -> Result<Recording, RecordFault>
+    ensures { IfOk result IsRecorded }
+{
     let one = with_sample(alloc, &none(alloc)?, 0, 116)?;
     with_sample(alloc, &one, 360000, 120)
 }
 
 // The same, and a unit of 130 bytes at 8 s.
-fn recorded(alloc: Global) -> Result<Recording, RecordFault> {
+fn recorded(alloc: Global) -> Result<Recording, RecordFault>
+    ensures { IfOk result IsRecorded }
+{
     with_sample(alloc, &two_units(alloc)?, 720000, 130)
 }
 
@@ -209,16 +217,21 @@ fn ranges_are_copied_or_refused(rt: HostRuntime) -> Result<(), Fail> {
 #[test]
 fn a_unit_comes_behind(rt: HostRuntime) -> Result<(), Fail> {
     let alloc = rt.alloc();
-    let none = none(alloc)?;
-    let one = with_sample(alloc, &none, 0, 116)?;
+    let one = with_sample(alloc, &none(alloc)?, 0, 116)?;
+    assert_eq!(rt; one.total(), 716);
     let again = with_sample(alloc, &one, 0, 116);
-    assert!(rt; again.err() == Some(RecordFault::Overlap));
+    assert!(rt; matches!(again, Err(RecordFault::Overlap)));
+    Ok(())
+}
+
+#[test]
+fn a_recording_without_a_unit(rt: HostRuntime) -> Result<(), Fail> {
+    let none = none(rt.alloc())?;
     assert_eq!(rt; none.count(), 0);
     assert_eq!(rt; none.last_end(), 0);
     assert_eq!(rt; none.head().len(), 600);
     assert_eq!(rt; none.init().timing(), 0);
     assert_eq!(rt; none.total(), 600);
-    assert_eq!(rt; one.total(), 716);
     Ok(())
 }
 

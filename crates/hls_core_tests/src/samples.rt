@@ -1,6 +1,7 @@
 //! Recordings over the sample init section of 600 bytes.
 
-ghost use Rattle.std.specs.Prelude.{◌≤◌};
+ghost use Rattle.std.specs.Prelude.{◌≤◌, IfOk};
+ghost use Rattle.hls_record.specs.Valid.{IsRecorded};
 
 use bytes::Bytes;
 use hls_media::{read_facts, read_init};
@@ -28,7 +29,9 @@ pub fn sync_unit(start: u64, ticks: u32) -> Unit {
 }
 
 /// A recording without a unit, at so many ticks a second.
-pub fn begun(alloc: Global, scale: u32) -> Result<Recording, MediaFault> {
+pub fn begun(alloc: Global, scale: u32) -> Result<Recording, MediaFault>
+    ensures { IfOk result IsRecorded }
+{
     let Ok(head) = init_bytes(alloc, b"vide", scale) else {
         return Err(MediaFault::Memory);
     };
@@ -54,6 +57,7 @@ pub fn with_unit(
     len: u32,
 ) -> Result<Recording, RecordFault>
     requires { 108 ≤ len }
+    ensures { IfOk result IsRecorded }
 {
     let Ok(bytes) = unit_of(alloc, unit, len) else {
         return Err(RecordFault::Memory);
@@ -68,7 +72,9 @@ pub fn with_unit(
 }
 
 /// A recording of these units, at so many ticks a second.
-pub fn recorded(alloc: Global, scale: u32, units: &[Unit]) -> Result<Recording, Fail> {
+pub fn recorded(alloc: Global, scale: u32, units: &[Unit]) -> Result<Recording, Fail>
+    ensures { IfOk result IsRecorded }
+{
     let mut recording = begun(alloc, scale)?;
     for unit in units {
         recording = with_unit(alloc, &recording, *unit, 108)?;

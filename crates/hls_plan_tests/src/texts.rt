@@ -75,14 +75,17 @@ fn a_wrong_line_is_named(rt: HostRuntime) -> Result<(), Fail> {
 #[test]
 fn a_rule_is_told_by_the_version(rt: HostRuntime) -> Result<(), Fail> {
     let alloc = rt.alloc();
-    let plain = read(alloc, FIVE_UNITS.as_bytes())?;
-    assert_eq!(rt; plain.table().rule(), CostRule::Deviation);
-    let charged = read(alloc, CHARGED.as_bytes())?;
-    assert_eq!(rt; charged.table().rule(), CostRule::Charged(3_000_000));
-    assert_eq!(rt; charged.table().preferred(), 4_000_000);
     let free = with_line(alloc, CHARGED, 2, "rule 2 0")?;
-    let free = read(alloc, free.as_bytes())?;
-    assert_eq!(rt; free.table().rule(), CostRule::Charged(0));
+    let rows = [
+        (FIVE_UNITS, CostRule::Deviation),
+        (CHARGED, CostRule::Charged(3_000_000)),
+        (free.as_str(), CostRule::Charged(0)),
+    ];
+    for (text, rule) in rows {
+        let certificate = read(alloc, text.as_bytes())?;
+        assert_eq!(rt; certificate.table().rule(), rule);
+        assert_eq!(rt; certificate.table().preferred(), 4_000_000);
+    }
     Ok(())
 }
 

@@ -105,15 +105,33 @@ fn told(alloc: Global, line: &LiveLine, place: &Place) -> Result<LiveLine, Fail>
     Ok(line.advanced(alloc, place)?)
 }
 
+/// The list of these places. Its line has just the plain program's segments, and ends with the closing place.
+fn list_of(
+    rt: &impl Abort,
+    alloc: Global,
+    places: Vec<Place>,
+    line: LiveLine,
+) -> Result<List, Fail> {
+    let cuts = cut_plainly(alloc, AIM, places.as_slice())?;
+    let segments = line.segments();
+    let mut same = segments.next() == cuts.segments.len() as u64;
+    for (number, cut) in (0..).zip(&cuts.segments) {
+        same &= segments
+            .get(number)
+            .is_some_and(|s| is_cut(&places, cut, s));
+    }
+    same &= places.get(cuts.open).is_some_and(|open| open.closing) == line.ended();
+    assert!(rt; same, "{places:?}");
+    Ok(List { places, line })
+}
+
 /// The list of one place.
 fn alone(rt: &impl Abort, alloc: Global, place: Place) -> Result<List, Fail> {
     let fresh = LiveLine::fresh(alloc, AIM.target, AIM.preferred);
     let line = told(alloc, &fresh, &place)?;
     let mut places = Vec::new(alloc);
     places.push(place)?;
-    let list = List { places, line };
-    assert_cut(rt, alloc, &list)?;
-    Ok(list)
+    list_of(rt, alloc, places, line)
 }
 
 /// The list with one more place.
@@ -124,9 +142,7 @@ fn longer(rt: &impl Abort, alloc: Global, list: &List, place: Place) -> Result<L
         places.push(earlier.copied(alloc)?)?;
     }
     places.push(place)?;
-    let list = List { places, line };
-    assert_cut(rt, alloc, &list)?;
-    Ok(list)
+    list_of(rt, alloc, places, line)
 }
 
 fn is_cut(places: &[Place], cut: &Cut, segment: &Segment) -> bool {
@@ -140,21 +156,6 @@ fn is_cut(places: &[Place], cut: &Cut, segment: &Segment) -> bool {
 
 fn is_same(a: &Place, b: &Place) -> bool {
     a.spots.as_slice() == b.spots.as_slice() && a.closing == b.closing
-}
-
-/// The line has just the plain program's segments, and ends with the closing place.
-fn assert_cut(rt: &impl Abort, alloc: Global, list: &List) -> Result<(), Fail> {
-    let places = list.places.as_slice();
-    let cuts = cut_plainly(alloc, AIM, places)?;
-    let segments = list.line.segments();
-    assert_eq!(rt; segments.next(), cuts.segments.len() as u64, "{places:?}");
-    for (number, cut) in (0..).zip(&cuts.segments) {
-        let same = segments.get(number).is_some_and(|s| is_cut(places, cut, s));
-        assert!(rt; same, "segment {number} of {places:?}");
-    }
-    let ended = places.get(cuts.open).is_some_and(|open| open.closing);
-    assert_eq!(rt; list.line.ended(), ended, "{places:?}");
-    Ok(())
 }
 
 /// Each list that ends one place behind this one.

@@ -1,7 +1,8 @@
 //! Places and programmes that were worked out by hand.
 
-ghost use Rattle.std.specs.Prelude.{◌≤◌};
+ghost use Rattle.std.specs.Prelude.{◌≤◌, IfOk, IfSome};
 ghost use Rattle.hls_check_laws.specs.Tables.{IsGoal, charge_of, charge_limit};
+ghost use Rattle.hls_check_laws.specs.Steps.{cost_limit};
 ghost use Rattle.hls_places_laws.specs.Order.{ArePlaces};
 
 use crate::samples::{Unit, recorded, sync_unit};
@@ -39,7 +40,9 @@ fn common_of(
     other: &[Unit],
     tolerance: u64,
     finished: bool,
-) -> Result<Vec<Place>, Fail> {
+) -> Result<Vec<Place>, Fail>
+    ensures { IfOk result (λ places. ArePlaces places.items) }
+{
     let first = recorded(alloc, 90000, video)?;
     let second = recorded(alloc, scale, other)?;
     Ok(common(
@@ -290,6 +293,7 @@ fn programme_ends_with_the_recording(rt: HostRuntime) -> Result<(), Fail> {
 /// Which steps the table of one rendition's places allows, and what the first costs.
 fn first_cost(alloc: Global, recording: &Recording, rule: CostRule) -> Result<Option<u64>, Fail>
     requires { charge_of rule ≤ charge_limit }
+    ensures { IfOk result (λ found. IfSome found (λ cost. cost ≤ cost_limit)) }
 {
     let places = common(alloc, &[recording], &[0], &[true])?;
     let kept: Vec<&Place> = places.iter().collect(alloc)?;
