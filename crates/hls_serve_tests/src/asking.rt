@@ -1,5 +1,7 @@
 //! Sessions over memory with a channel on one thread, and what goes out.
 
+ghost use Rattle.std.specs.Prelude.{◌<◌, ◌^◌, IfOk, length};
+
 use crate::channels::opened;
 use crate::fakes::Pieces;
 use crate::streams::put;
@@ -16,7 +18,9 @@ pub fn replies<T: Wait>(
     alloc: Global,
     own: &mut Own,
     reader: Pieces<'_>,
-) -> Result<Vec<u8>, Fail> {
+) -> Result<Vec<u8>, Fail>
+    ensures { IfOk result (λ bytes. length bytes.items < 2 ^ 64) }
+{
     let mut out = Vec::new(alloc);
     let mut session = Session::new(alloc, reader, &mut out)?;
     let _ = session_on(rt, alloc, &mut session, &Alone, own);
@@ -25,22 +29,23 @@ pub fn replies<T: Wait>(
 }
 
 /// What goes out for a text of requests.
-pub fn answered<T: Wait>(
-    rt: &T,
-    alloc: Global,
-    own: &mut Own,
-    text: &[u8],
-) -> Result<Vec<u8>, Fail> {
+pub fn answered<T: Wait>(rt: &T, alloc: Global, own: &mut Own, text: &[u8]) -> Result<Vec<u8>, Fail>
+    ensures { IfOk result (λ bytes. length bytes.items < 2 ^ 64) }
+{
     replies(rt, alloc, own, Pieces::new(text, usize::MAX, usize::MAX))
 }
 
 /// What goes out for a text of requests to a channel before anything came.
-pub fn first_replies<T: Wait>(rt: &T, alloc: Global, text: &[u8]) -> Result<Vec<u8>, Fail> {
+pub fn first_replies<T: Wait>(rt: &T, alloc: Global, text: &[u8]) -> Result<Vec<u8>, Fail>
+    ensures { IfOk result (λ bytes. length bytes.items < 2 ^ 64) }
+{
     answered(rt, alloc, &mut opened(alloc)?, text)
 }
 
 /// What goes out for one encoder's body to a channel before anything came.
-pub fn first_put<T: Wait>(rt: &T, alloc: Global, body: &[u8]) -> Result<Vec<u8>, Fail> {
+pub fn first_put<T: Wait>(rt: &T, alloc: Global, body: &[u8]) -> Result<Vec<u8>, Fail>
+    ensures { IfOk result (λ bytes. length bytes.items < 2 ^ 64) }
+{
     first_replies(rt, alloc, &put(alloc, "", body)?)
 }
 
@@ -64,7 +69,9 @@ pub fn asked<T: Wait>(
     own: &mut Own,
     method: &str,
     target: &str,
-) -> Result<Vec<u8>, Fail> {
+) -> Result<Vec<u8>, Fail>
+    ensures { IfOk result (λ bytes. length bytes.items < 2 ^ 64) }
+{
     let text = format!(in alloc; "{method} {target} HTTP/1.1\r\nHost: a\r\n\r\n")?;
     answered(rt, alloc, own, text.as_bytes())
 }

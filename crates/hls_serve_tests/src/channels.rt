@@ -1,5 +1,7 @@
 //! Channels that sessions over memory are held with: target 6 s, preferred length 4 s.
 
+ghost use Rattle.std.specs.Prelude.{◌≡◌, IfOk};
+
 use crate::asking::answered;
 use crate::streams::{put, stream};
 use bytes::Bytes;
@@ -16,7 +18,9 @@ use std::sync::{Arc, Wait};
 use std::test::Fail;
 
 /// A channel of this configuration, before anything came.
-fn channel_with(alloc: Global, config: Config) -> Result<Own, Fail> {
+fn channel_with(alloc: Global, config: Config) -> Result<Own, Fail>
+    ensures { IfOk result (λ own. own.number ≡ 0) }
+{
     Ok(Own {
         snapshot: Arc::new(alloc, Snapshot::first(alloc, config)?)?,
         number: 0,
@@ -25,17 +29,23 @@ fn channel_with(alloc: Global, config: Config) -> Result<Own, Fail> {
 }
 
 /// A channel of these renditions, before anything came.
-pub fn channel_of(alloc: Global, renditions: Vec<Rendition>) -> Result<Own, Fail> {
+pub fn channel_of(alloc: Global, renditions: Vec<Rendition>) -> Result<Own, Fail>
+    ensures { IfOk result (λ own. own.number ≡ 0) }
+{
     channel_with(alloc, Config::new(alloc, 6, 4_000_000, renditions)?)
 }
 
 /// A channel of one rendition, before anything came.
-pub fn opened(alloc: Global) -> Result<Own, Fail> {
+pub fn opened(alloc: Global) -> Result<Own, Fail>
+    ensures { IfOk result (λ own. own.number ≡ 0) }
+{
     opened_at(alloc, None)
 }
 
 /// A channel of one rendition with an epoch or without one, before anything came.
-pub fn opened_at(alloc: Global, epoch: Option<i64>) -> Result<Own, Fail> {
+pub fn opened_at(alloc: Global, epoch: Option<i64>) -> Result<Own, Fail>
+    ensures { IfOk result (λ own. own.number ≡ 0) }
+{
     let rendition = Rendition {
         name: Bytes::copy_from_slice(alloc, b"v1")?,
         video: true,
@@ -51,7 +61,9 @@ pub fn opened_at(alloc: Global, epoch: Option<i64>) -> Result<Own, Fail> {
 }
 
 /// A channel of a video and an audio rendition, before anything came.
-pub fn video_and_audio(alloc: Global, tolerance: u64) -> Result<Own, Fail> {
+pub fn video_and_audio(alloc: Global, tolerance: u64) -> Result<Own, Fail>
+    ensures { IfOk result (λ own. own.number ≡ 0) }
+{
     let mut renditions = Vec::new(alloc);
     renditions.push(Rendition {
         name: Bytes::copy_from_slice(alloc, b"v1")?,

@@ -1,6 +1,8 @@
 //! Sessions whose reader or writer fails at one call, at each in turn: the session ends by that failure, what went out is a
 //! beginning of what goes out without one, what was accepted stays, and when all is sent again the channel is as it would be.
 
+ghost use Rattle.std.specs.Prelude.{◌<◌, ◌^◌, IfOk, length};
+
 use crate::asking::{answered, asked};
 use crate::channels::opened;
 use crate::faults::{Drips, NEVER, Sink};
@@ -194,7 +196,9 @@ fn with_job<T: Wait>(rt: &T, alloc: Global) -> Result<Own, Fail> {
 }
 
 /// Requests of players: for a job's files, and for the channel's media in whole and in part, to GET and to HEAD.
-fn players(alloc: Global) -> Result<Vec<u8>, Fail> {
+fn players(alloc: Global) -> Result<Vec<u8>, Fail>
+    ensures { IfOk result (λ bytes. length bytes.items < 2 ^ 64) }
+{
     let mut text = get_files(alloc, 1)?;
     text.extend_from_slice(b"GET /media/0.mp4 HTTP/1.1\r\nHost: a\r\n\r\n")?;
     text.extend_from_slice(
@@ -205,7 +209,9 @@ fn players(alloc: Global) -> Result<Vec<u8>, Fail> {
 }
 
 /// What they are replied.
-fn players_replies(alloc: Global) -> Result<Vec<u8>, Fail> {
+fn players_replies(alloc: Global) -> Result<Vec<u8>, Fail>
+    ensures { IfOk result (λ bytes. length bytes.items < 2 ^ 64) }
+{
     let files = Files::new(alloc)?;
     let mut out = joined(alloc, &files.replies())?;
     out.extend_from_slice(&media_reply(alloc)?)?;

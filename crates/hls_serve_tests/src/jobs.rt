@@ -1,5 +1,7 @@
 //! Catch-up over sessions on one thread. Whoever asks runs the jobs, between two sessions.
 
+ghost use Rattle.std.specs.Prelude.{◌<◌, ◌^◌, IfOk, length};
+
 use crate::asking::{answered, asked, replied, says};
 use crate::channels::{is_new, video_and_audio, with_units, with_units_at};
 use crate::ranges::PARTS;
@@ -239,12 +241,9 @@ fn parts_of_a_jobs_media(rt: HostRuntime) -> Result<(), Fail> {
 }
 
 /// What a GET of the first unit's bytes is answered.
-fn first_unit<T: Wait>(
-    rt: &T,
-    alloc: Global,
-    own: &mut Own,
-    target: &str,
-) -> Result<Vec<u8>, Fail> {
+fn first_unit<T: Wait>(rt: &T, alloc: Global, own: &mut Own, target: &str) -> Result<Vec<u8>, Fail>
+    ensures { IfOk result (λ bytes. length bytes.items < 2 ^ 64) }
+{
     let text = format!(in alloc;
         "GET {target} HTTP/1.1\r\nHost: a\r\nRange: bytes=600-1599\r\n\r\n"
     )?;

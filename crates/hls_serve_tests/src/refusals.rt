@@ -1,5 +1,7 @@
 //! Every refusal of an encoder's stream that a request can reach, by its name and its status.
 
+ghost use Rattle.std.specs.Prelude.{◌<◌, ◌^◌, IfOk, length};
+
 use crate::asking::{CLOSE, answered, replied};
 use crate::channels::opened;
 use crate::streams::{init, put, stream, unit};
@@ -8,7 +10,9 @@ use std::alloc::Global;
 use std::test::Fail;
 
 /// Bytes with others in their place, from `at` on.
-fn patched(alloc: Global, bytes: &[u8], at: usize, new: &[u8]) -> Result<Vec<u8>, Fail> {
+fn patched(alloc: Global, bytes: &[u8], at: usize, new: &[u8]) -> Result<Vec<u8>, Fail>
+    ensures { IfOk result (λ bytes. length bytes.items < 2 ^ 64) }
+{
     if at > bytes.len() || new.len() > bytes.len() - at {
         return Err(Fail::from("a patch past the bytes"));
     }
@@ -70,7 +74,9 @@ fn media_that_are_refused(rt: HostRuntime) -> Result<(), Fail> {
 }
 
 /// An init section of this many tracks, each with a number of its own.
-fn with_tracks(alloc: Global, count: u8) -> Result<Vec<u8>, Fail> {
+fn with_tracks(alloc: Global, count: u8) -> Result<Vec<u8>, Fail>
+    ensures { IfOk result (λ bytes. length bytes.items < 2 ^ 64) }
+{
     let one = init(alloc)?;
     let Some(track) = one.get(387..560) else {
         return Err(Fail::from("no track"));
@@ -89,7 +95,9 @@ fn with_tracks(alloc: Global, count: u8) -> Result<Vec<u8>, Fail> {
 }
 
 /// The first unit, with its `traf` once more.
-fn with_a_second_traf(alloc: Global) -> Result<Vec<u8>, Fail> {
+fn with_a_second_traf(alloc: Global) -> Result<Vec<u8>, Fail>
+    ensures { IfOk result (λ bytes. length bytes.items < 2 ^ 64) }
+{
     let one = unit(alloc, 0)?;
     let (Some(number), Some(track), Some(data)) = (one.get(8..24), one.get(24..100), one.get(100..))
     else {
@@ -101,18 +109,24 @@ fn with_a_second_traf(alloc: Global) -> Result<Vec<u8>, Fail> {
 }
 
 /// An init section without defaults, and a unit whose run has no lengths.
-fn without_lengths(alloc: Global) -> Result<Vec<u8>, Fail> {
+fn without_lengths(alloc: Global) -> Result<Vec<u8>, Fail>
+    ensures { IfOk result (λ bytes. length bytes.items < 2 ^ 64) }
+{
     let bytes = patched(alloc, &stream(alloc, 1)?, 564, b"free")?;
     patched(alloc, &bytes, 676, b"\0\0\x06\x01")
 }
 
 /// The first unit, whose `mdat` is smaller than its header.
-fn with_a_small_mdat(alloc: Global) -> Result<Vec<u8>, Fail> {
+fn with_a_small_mdat(alloc: Global) -> Result<Vec<u8>, Fail>
+    ensures { IfOk result (λ bytes. length bytes.items < 2 ^ 64) }
+{
     patched(alloc, &stream(alloc, 1)?, 700, b"\0\0\0\x07")
 }
 
 /// An init section, a `moof`, and a whole unit.
-fn without_mdat(alloc: Global) -> Result<Vec<u8>, Fail> {
+fn without_mdat(alloc: Global) -> Result<Vec<u8>, Fail>
+    ensures { IfOk result (λ bytes. length bytes.items < 2 ^ 64) }
+{
     let mut bytes = stream(alloc, 1)?;
     bytes.truncate(700);
     bytes.extend_from_slice(&unit(alloc, 1)?)?;

@@ -1,6 +1,8 @@
 //! A channel's life in one script: an init section and three units by PUT, the end of the rendition, a request for catch-up
 //! over all of it, the files of its job, and the job's end; each request with its reply.
 
+ghost use Rattle.std.specs.Prelude.{◌<◌, ◌^◌, IfOk, length};
+
 use crate::streams::{put, stream};
 use std::alloc::{AllocError, Global};
 
@@ -15,7 +17,9 @@ pub const CATCH_UP: &[u8] = b"POST /catchup?from=0&to=12000000 HTTP/1.1\r\nHost:
 pub const FILE_NAMES: [&str; 5] = ["", "/master.m3u8", "/0.m3u8", "/0.mp4", "/certificate.txt"];
 
 /// What an encoder and a client send first: the stream, its end, and the request for catch-up.
-pub fn encoder(alloc: Global) -> Result<Vec<u8>, AllocError> {
+pub fn encoder(alloc: Global) -> Result<Vec<u8>, AllocError>
+    ensures { IfOk result (λ bytes. length bytes.items < 2 ^ 64) }
+{
     let mut text = put(alloc, "", &stream(alloc, 3)?)?;
     text.extend_from_slice(FINISH)?;
     text.extend_from_slice(CATCH_UP)?;
@@ -33,7 +37,9 @@ pub fn delete(alloc: Global, id: u32) -> Result<String, AllocError> {
 }
 
 /// What the client sends then: a request for the job's line and for each of its files.
-pub fn get_files(alloc: Global, id: u32) -> Result<Vec<u8>, AllocError> {
+pub fn get_files(alloc: Global, id: u32) -> Result<Vec<u8>, AllocError>
+    ensures { IfOk result (λ bytes. length bytes.items < 2 ^ 64) }
+{
     let mut text = Vec::new(alloc);
     for file in FILE_NAMES {
         text.extend_from_slice(get_file(alloc, id, file)?.as_bytes())?;
@@ -84,7 +90,9 @@ const CERTIFICATE: &str =
 /// The reply to a request that takes a job away.
 pub const GONE: &[u8] = b"HTTP/1.1 204 No Content\r\n\r\n";
 
-fn replied(alloc: Global, kind: &str, text: &str) -> Result<Vec<u8>, AllocError> {
+fn replied(alloc: Global, kind: &str, text: &str) -> Result<Vec<u8>, AllocError>
+    ensures { IfOk result (λ bytes. length bytes.items < 2 ^ 64) }
+{
     let len = text.len();
     let reply = format!(in alloc;
         "HTTP/1.1 200 OK\r\nContent-Type: {kind}\r\nContent-Length: {len}\r\n\r\n{text}"
@@ -93,7 +101,9 @@ fn replied(alloc: Global, kind: &str, text: &str) -> Result<Vec<u8>, AllocError>
 }
 
 /// The reply to a request for all media, of the job or of the channel.
-pub fn media_reply(alloc: Global) -> Result<Vec<u8>, AllocError> {
+pub fn media_reply(alloc: Global) -> Result<Vec<u8>, AllocError>
+    ensures { IfOk result (λ bytes. length bytes.items < 2 ^ 64) }
+{
     let mut reply = Vec::from_slice(
         alloc,
         b"HTTP/1.1 200 OK\r\nContent-Type: video/mp4\r\nContent-Length: 3600\r\n\r\n",
@@ -134,7 +144,9 @@ impl Files {
 }
 
 /// Texts, one behind the other.
-pub fn joined(alloc: Global, texts: &[&[u8]]) -> Result<Vec<u8>, AllocError> {
+pub fn joined(alloc: Global, texts: &[&[u8]]) -> Result<Vec<u8>, AllocError>
+    ensures { IfOk result (λ bytes. length bytes.items < 2 ^ 64) }
+{
     let mut all = Vec::new(alloc);
     for text in texts {
         all.extend_from_slice(text)?;

@@ -1,5 +1,7 @@
 //! Sessions over memory, on a channel of one rendition with units of 4 s and 1000 bytes each.
 
+ghost use Rattle.std.specs.Prelude.{◌<◌, ◌^◌, IfOk, length};
+
 use crate::asking::{CLOSE, STATUS, answered, first_put, first_replies, replied, replies};
 use crate::channels::opened;
 use crate::fakes::Pieces;
@@ -111,7 +113,9 @@ fn a_unit_taken(rt: HostRuntime) -> Result<(), Fail> {
 }
 
 /// Parts after an init section, or the bytes of an init section alone.
-fn behind_init(alloc: Global, bytes: &[u8]) -> Result<Vec<u8>, Fail> {
+fn behind_init(alloc: Global, bytes: &[u8]) -> Result<Vec<u8>, Fail>
+    ensures { IfOk result (λ bytes. length bytes.items < 2 ^ 64) }
+{
     let mut body = init(alloc)?;
     body.extend_from_slice(bytes)?;
     Ok(body)
@@ -221,7 +225,9 @@ fn parts_of_three_units(rt: HostRuntime) -> Result<(), Fail> {
 }
 
 /// Requests with and without bodies, one after the other.
-fn requests(alloc: Global) -> Result<Vec<u8>, Fail> {
+fn requests(alloc: Global) -> Result<Vec<u8>, Fail>
+    ensures { IfOk result (λ bytes. length bytes.items < 2 ^ 64) }
+{
     let body = stream(alloc, 1)?;
     let mut text = put(alloc, "Expect: 100-continue\r\n", &body)?;
     text.extend_from_slice(

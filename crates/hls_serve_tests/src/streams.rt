@@ -1,20 +1,28 @@
 //! Requests with encoders' bodies.
 
+ghost use Rattle.std.specs.Prelude.{◌<◌, ◌^◌, IfOk, length};
+
 use hls_samples::{boxed, init_bytes, unit_bytes, word_box};
 use std::alloc::{AllocError, Global};
 
 /// An init section of 600 bytes, 90000 ticks a second.
-pub fn init(alloc: Global) -> Result<Vec<u8>, AllocError> {
+pub fn init(alloc: Global) -> Result<Vec<u8>, AllocError>
+    ensures { IfOk result (λ bytes. length bytes.items < 2 ^ 64) }
+{
     init_bytes(alloc, b"vide", 90000)
 }
 
 /// The unit of 4 s and 1000 bytes with this number, from 0.
-pub fn unit(alloc: Global, number: u32) -> Result<Vec<u8>, AllocError> {
+pub fn unit(alloc: Global, number: u32) -> Result<Vec<u8>, AllocError>
+    ensures { IfOk result (λ bytes. length bytes.items < 2 ^ 64) }
+{
     unit_bytes(alloc, u64::from(number) * 360_000, 360_000, true, 1000)
 }
 
 /// An init section and the first units.
-pub fn stream(alloc: Global, units: u32) -> Result<Vec<u8>, AllocError> {
+pub fn stream(alloc: Global, units: u32) -> Result<Vec<u8>, AllocError>
+    ensures { IfOk result (λ bytes. length bytes.items < 2 ^ 64) }
+{
     let mut bytes = init(alloc)?;
     for number in 0..units {
         bytes.extend_from_slice(&unit(alloc, number)?)?;
@@ -23,7 +31,9 @@ pub fn stream(alloc: Global, units: u32) -> Result<Vec<u8>, AllocError> {
 }
 
 /// An init section, and a unit whose `tfhd` has a base data offset.
-pub fn with_base_offset(alloc: Global) -> Result<Vec<u8>, AllocError> {
+pub fn with_base_offset(alloc: Global) -> Result<Vec<u8>, AllocError>
+    ensures { IfOk result (λ bytes. length bytes.items < 2 ^ 64) }
+{
     let number = word_box(alloc, b"mfhd", &[0, 1])?;
     let header = word_box(alloc, b"tfhd", &[0x0002_0001, 1, 0, 0])?;
     let time = word_box(alloc, b"tfdt", &[0x0100_0000, 0, 0])?;
@@ -36,7 +46,9 @@ pub fn with_base_offset(alloc: Global) -> Result<Vec<u8>, AllocError> {
 }
 
 /// A PUT of a body with its length, and further fields, to the first rendition.
-pub fn put(alloc: Global, fields: &str, body: &[u8]) -> Result<Vec<u8>, AllocError> {
+pub fn put(alloc: Global, fields: &str, body: &[u8]) -> Result<Vec<u8>, AllocError>
+    ensures { IfOk result (λ bytes. length bytes.items < 2 ^ 64) }
+{
     put_to(alloc, 0, fields, body)
 }
 
@@ -46,7 +58,9 @@ pub fn put_to(
     rendition: usize,
     fields: &str,
     body: &[u8],
-) -> Result<Vec<u8>, AllocError> {
+) -> Result<Vec<u8>, AllocError>
+    ensures { IfOk result (λ bytes. length bytes.items < 2 ^ 64) }
+{
     let len = body.len();
     let head = format!(in alloc;
         "PUT /ingest/{rendition} HTTP/1.1\r\nHost: a\r\n{fields}Content-Length: {len}\r\n\r\n"
@@ -57,7 +71,9 @@ pub fn put_to(
 }
 
 /// The same in chunks of 7 bytes.
-pub fn put_in_chunks(alloc: Global, body: &[u8]) -> Result<Vec<u8>, AllocError> {
+pub fn put_in_chunks(alloc: Global, body: &[u8]) -> Result<Vec<u8>, AllocError>
+    ensures { IfOk result (λ bytes. length bytes.items < 2 ^ 64) }
+{
     let mut text = Vec::from_slice(
         alloc,
         b"PUT /ingest/0 HTTP/1.1\r\nHost: a\r\nTransfer-Encoding: chunked\r\n\r\n",

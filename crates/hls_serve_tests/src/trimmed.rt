@@ -1,5 +1,7 @@
 //! Media whose front was trimmed: what is gone, what is still served, and the live list.
 
+ghost use Rattle.std.specs.Prelude.{◌<◌, ◌^◌, IfOk, length};
+
 use crate::asking::{answered, asked, replied};
 use crate::channels::{is_new, with_units};
 use crate::streams::{init, unit};
@@ -40,7 +42,9 @@ const LIVE: &str =
     "#EXTM3U\n#EXT-X-VERSION:6\n#EXT-X-TARGETDURATION:6\n#EXT-X-MEDIA-SEQUENCE:4\n#EXT-X-DISCONTINUITY-SEQUENCE:0\n#EXT-X-MAP:URI=\"/media/0.mp4\",BYTERANGE=\"600@0\"\n#EXTINF:4.000000,\n#EXT-X-BYTERANGE:1000@4600\n/media/0.mp4\n#EXTINF:4.000000,\n#EXT-X-BYTERANGE:1000@5600\n/media/0.mp4\n#EXTINF:4.000000,\n#EXT-X-BYTERANGE:1000@6600\n/media/0.mp4\n#EXTINF:4.000000,\n#EXT-X-BYTERANGE:1000@7600\n/media/0.mp4\n#EXTINF:4.000000,\n#EXT-X-BYTERANGE:1000@8600\n/media/0.mp4\n";
 
 /// A part of the first rendition's media.
-fn part<T: Wait>(rt: &T, alloc: Global, own: &mut Own, range: &str) -> Result<Vec<u8>, Fail> {
+fn part<T: Wait>(rt: &T, alloc: Global, own: &mut Own, range: &str) -> Result<Vec<u8>, Fail>
+    ensures { IfOk result (λ bytes. length bytes.items < 2 ^ 64) }
+{
     let text = format!(in alloc; "GET /media/0.mp4 HTTP/1.1\r\nHost: a\r\nRange: {range}\r\n\r\n")?;
     answered(rt, alloc, own, text.as_bytes())
 }
