@@ -1,7 +1,7 @@
 -- The renditions that a cursor is moved on over are those of the snapshot.
-use Rattle.std.proofs.Common.{arith, ◌≡◌, ℕ, zero, suc, ◌+◌, ◌<◌, ◌≤◌, Bool, List, [], ◌∷◌, ◌++◌, Option, Some, None, length, map, drop, refl, sym, ap, subst, ◌∙◌, append-nil}
+use Rattle.std.proofs.Common.{arith, ◌≡◌, ℕ, zero, suc, ◌+◌, ◌<◌, ◌≤◌, Bool, List, [], ◌∷◌, ◌++◌, Option, Some, None, length, map, drop, take, get_or, false, refl, sym, ap, subst, ◌∙◌, append-nil}
 use Rattle.std.specs.Prelude.{slice_get}
-use Rattle.std.proofs.lemmas.List.{length-map, drop_all}
+use Rattle.std.proofs.lemmas.List.{length-map, get_or-map, drop_all}
 use Rattle.std.proofs.lemmas.Option.{same_Some}
 use Rattle.hls_blocks.specs.Numbered.{Numbered}
 use Rattle.hls_record.specs.Recorded.{Recorded}
@@ -11,9 +11,11 @@ use Rattle.hls_places_laws.specs.Places.{places_after}
 use Rattle.hls_places_laws.specs.Positions.{Position, IsCursor, IsThrough}
 use Rattle.hls_places_laws.proofs.Sides.{side-at, length-sources_of}
 use Rattle.hls_places_laws.proofs.Growths.{after-without, found-without}
+use Rattle.hls_places.proofs.Gathered.{next-side}
 use Rattle.hls_places.specs.declared.cursor.Advance.{Advance}
 use Rattle.hls_places.specs.Advances.{IsAdvance}
 use Rattle.hls_core_laws.specs.Config.{ConfigData}
+use Rattle.hls_core_laws.specs.declared.rendition.Rendition.{Rendition}
 use Rattle.hls_core_laws.specs.Places.{facts_of, is_finished, tolerance_of}
 use Rattle.hls_core_laws.proofs.Lists.{at_map, at_or, at_below}
 use Rattle.hls_core.specs.declared.placed.Placed.{Placed}
@@ -37,34 +39,47 @@ lane_end : (o : Option Recorded) (finished : Bool) → finished ≡ (lane_from o
 lane_end None finished = refl
 lane_end (Some r) finished = refl
 
-module _ {B X : Type 0} where
-  gathered : (now : B → Recorded) (side : X → Side) (vs : List B) (xs : List X) → map (λ b. Some (now b)) vs ≡ map (λ x. (side x).recording) xs → map (λ b. (now b).facts) vs ≡ map facts_of (map lane_of (map side xs))
-  gathered now side [] [] e = refl
-  gathered now side [] (x ∷ xs) e = cc
-  gathered now side (b ∷ vs) [] e = cc
-  gathered now side (b ∷ vs) (x ∷ xs) e =
-      let one : Some (now b) ≡ (side x).recording = cc in
-      let rest : map (λ b. Some (now b)) vs ≡ map (λ x. (side x).recording) xs = cc in
-      let head = lane_facts (side x).recording (side x).finished (now b) one in
-      let tail = gathered now side vs xs rest in
-      λ k. head k ∷ tail k
-
+-- the renditions up to one that has begun, and that one
 module _ {X : Type 0} where
-  ended : (side : X → Side) (xs : List X) → map (λ x. (side x).finished) xs ≡ map is_finished (map lane_of (map side xs))
-  ended side [] = refl
-  ended side (x ∷ xs) =
-      let head = lane_end (side x).recording (side x).finished in
-      let tail = ended side xs in
-      λ k. head k ∷ tail k
+  pub next_source : (side : X → Side) (xs : List X) (config : ConfigData) (r : ℕ) (x : X) (t : Rendition) (rec : Recorded)
+      → length config.renditions ≡ length xs → r < length xs → x ≡ get_or xs r x → t ≡ get_or config.renditions r t → (side x).recording ≡ Some rec
+      → take (r + 1) (sources_by config (map side xs))
+      ≡ take r (sources_by config (map side xs)) ++ record { facts = rec.facts; tolerance = t.tolerance; finished = (side x).finished } ∷ []
+  next_source side xs config r x t rec count within at rendition begun =
+      let sides : List Side = map side xs in
+      let lanes = map lane_of sides in
+      let sides_count : length sides ≡ length xs = length-map xs side in
+      let lanes_count : length lanes ≡ length sides = length-map sides lane_of in
+      let facts_count : length (map facts_of lanes) ≡ length lanes = length-map lanes facts_of in
+      let tolerances_count : length (map tolerance_of config.renditions) ≡ length config.renditions = length-map config.renditions tolerance_of in
+      let finished_count : length (map is_finished lanes) ≡ length lanes = length-map lanes is_finished in
+      let lane_at : get_or lanes r (lane_of (side x)) ≡ lane_of (side x) =
+      get_or-map lane_of sides r (side x) (lane_of (side x)) (omega (arith, sides_count, within))
+      ∙ ap lane_of (get_or-map side xs r x (side x) within ∙ ap side (sym at)) in
+      let facts_at : get_or (map facts_of lanes) r [] ≡ rec.facts =
+      get_or-map facts_of lanes r (lane_of (side x)) [] (omega (arith, lanes_count, sides_count, within))
+      ∙ ap facts_of lane_at ∙ sym (lane_facts (side x).recording (side x).finished rec (sym begun)) in
+      let tolerance_at : get_or (map tolerance_of config.renditions) r 0 ≡ t.tolerance =
+      get_or-map tolerance_of config.renditions r t 0 (omega (arith, count, within)) ∙ ap tolerance_of (sym rendition) in
+      let finished_at : get_or (map is_finished lanes) r false ≡ (side x).finished =
+      get_or-map is_finished lanes r (lane_of (side x)) false (omega (arith, lanes_count, sides_count, within))
+      ∙ ap is_finished lane_at ∙ sym (lane_end (side x).recording (side x).finished) in
+      let next = next-side (map facts_of lanes) (map tolerance_of config.renditions) (map is_finished lanes)
+      (omega (arith, tolerances_count, count, facts_count, lanes_count, sides_count)) (omega (arith, finished_count, facts_count)) r
+      (omega (arith, facts_count, lanes_count, sides_count, within)) in
+      let here : record { facts = get_or (map facts_of lanes) r []; tolerance = get_or (map tolerance_of config.renditions) r 0; finished = get_or (map is_finished lanes) r false }
+      ≡ record { facts = rec.facts; tolerance = t.tolerance; finished = (side x).finished } =
+      λ k. record { facts = facts_at k; tolerance = tolerance_at k; finished = finished_at k } in
+      next ∙ ap (λ (s : Source). take r (sources_by config sides) ++ s ∷ []) here
 
-module _ {B X : Type 0} where
-  pub sources_are : (now : B → Recorded) (side : X → Side) (vs : List B) (xs : List X) (config : ConfigData) (tolerances : List ℕ) (finished : List Bool)
-      → map (λ b. Some (now b)) vs ≡ map (λ x. (side x).recording) xs → tolerances ≡ map tolerance_of config.renditions → finished ≡ map (λ x. (side x).finished) xs
-      → sources_of (map (λ b. (now b).facts) vs) tolerances finished ≡ sources_by config (map side xs)
-  sources_are now side vs xs config tolerances finished all tolerances_are finished_are =
-      let facts = gathered now side vs xs all in
-      let over = finished_are ∙ ended side xs in
-      λ k. sources_of (facts k) (tolerances_are k) (over k)
+-- as many renditions as sides
+pub by_count : (config : ConfigData) (sides : List Side) → length config.renditions ≡ length sides → length (sources_by config sides) ≡ length sides
+by_count config sides count =
+    let lanes : length (map facts_of (map lane_of sides)) ≡ length sides =
+    length-map (map lane_of sides) facts_of ∙ length-map sides lane_of in
+    length-sources_of (map facts_of (map lane_of sides)) (map tolerance_of config.renditions) (map is_finished (map lane_of sides))
+    (length-map config.renditions tolerance_of ∙ count ∙ sym lanes)
+    (length-map (map lane_of sides) is_finished ∙ length-map sides lane_of ∙ sym lanes) ∙ lanes
 
 -- a rendition that hasn't begun has no facts
 bare : (config : ConfigData) (sides : List Side) → length config.renditions ≡ length sides → (l : Lacks sides) → (l.number < length (sources_by config sides)) × ((source_at (sources_by config sides) l.number).facts ≡ [])

@@ -3,19 +3,16 @@ ghost use Rattle.hls_blocks.specs.Numbered.{Numbered, next_of, list_limit};
 ghost use Rattle.hls_places_laws.specs.Places.{places_after};
 ghost use Rattle.hls_places_laws.specs.Positions.{IsCursor};
 ghost use Rattle.hls_live_laws.specs.Live.{moved_by};
-ghost use Rattle.hls_core_laws.specs.Places.{tolerance_of, is_finished};
 ghost use Rattle.hls_core.specs.Gathers.{Lacks};
 ghost use Rattle.hls_core.specs.Placed.{CanBeTold};
-ghost use Rattle.hls_core.specs.Sides.{lane_of, sources_by};
+ghost use Rattle.hls_core.specs.Sides.{sources_by};
 ghost use Rattle.hls_check_laws.specs.Tables.{rendition_limit};
 
 use crate::config::Config;
 use crate::side::Side;
 use hls_blocks::Shared;
-use hls_core_laws::rendition::Rendition;
 use hls_live::LiveLine;
-use hls_places::{Cursor, Place};
-use hls_record::Recording;
+use hls_places::{Cursor, Place, Source};
 use std::alloc::{AllocError, Global};
 use std::sync::Arc;
 
@@ -48,9 +45,9 @@ impl Placed {
         requires told { CanBeTold line.now.value (places_after (sources_by config.now (map (λ a. a.value) sides.now)) cursor.now.value.done) }
         ensures { IfOk result (IsPlaced (sources_by config.now (map (λ a. a.value) sides.now)) places.now cursor.now.value.done line.now.value) }
     {
-        let gathered = recordings_of(alloc, sides)?;
-        let recordings = match gathered {
-            Some(recordings) => recordings,
+        let gathered = sources_of(alloc, config, sides)?;
+        let sources = match gathered {
+            Some(sources) => sources,
             None => {
                 return Ok(Placed {
                     places: places.share(alloc)?,
@@ -59,9 +56,7 @@ impl Placed {
                 });
             }
         };
-        let tolerances = tolerances_of(alloc, config.renditions())?;
-        let finished = finished_of(alloc, sides)?;
-        let advance = cursor.advanced(alloc, &recordings, &tolerances, &finished)?;
+        let advance = cursor.advanced(alloc, &sources)?;
         let line = all_told(alloc, line, &advance.places)?;
         Ok(Placed {
             places: all_pushed(alloc, places, advance.places)?,
@@ -71,43 +66,26 @@ impl Placed {
     }
 }
 
-/// The recording of each rendition, or none where one hasn't begun.
-fn recordings_of<'a>(
+/// The renditions as the search for places sees them, or none where one hasn't begun.
+fn sources_of<'a>(
     alloc: Global,
+    config: &Config,
     sides: &'a [Arc<Side>],
-) -> Result<Option<Vec<&'a Recording>>, AllocError>
+) -> Result<Option<Vec<Source<'a>>>, AllocError>
+    requires count { length config.now.renditions ≡ length sides.now }
     ensures lacks { IfOk result (λ all. all ≡ None → Lacks (map (λ a. a.value) sides.entry.now)) }
-    ensures gathers { IfOk result (λ all. IfSome all (λ v. map (λ r. Some r.now) v.items ≡ map (λ a. a.value.recording) sides.entry.now)) }
+    ensures gathers { IfOk result (λ all. IfSome all (λ v. v.items ≡ sources_by config.now (map (λ a. a.value) sides.entry.now))) }
 {
-    let mut recordings = Vec::with_capacity(alloc, sides.len())?;
-    for side in sides {
-        let side: &Side = side;
-        match &side.recording {
-            Some(recording) => recordings.push(recording)?,
-            None => return Ok(None),
-        }
+    let renditions = config.renditions();
+    let mut sources = Vec::with_capacity(alloc, sides.len())?;
+    for r in 0..sides.len() {
+        let side: &Side = &sides[r];
+        let Some(recording) = &side.recording else {
+            return Ok(None);
+        };
+        sources.push(Source::new(recording, renditions[r].tolerance, side.finished))?;
     }
-    Ok(Some(recordings))
-}
-
-fn tolerances_of(alloc: Global, renditions: &[Rendition]) -> Result<Vec<u64>, AllocError>
-    ensures { IfOk result (λ v. v.items ≡ map tolerance_of renditions.now) }
-{
-    renditions
-        .iter()
-        .map(|rendition| rendition.tolerance)
-        .collect(alloc)
-}
-
-fn finished_of(alloc: Global, sides: &[Arc<Side>]) -> Result<Vec<bool>, AllocError>
-    ensures { IfOk result (λ v. v.items ≡ map (λ a. a.value.finished) sides.now) }
-{
-    let mut finished = Vec::with_capacity(alloc, sides.len())?;
-    for side in sides {
-        let side: &Side = side;
-        finished.push(side.finished)?;
-    }
-    Ok(finished)
+    Ok(Some(sources))
 }
 
 /// The line after all of these places.

@@ -2,3 +2,4 @@ mod Lookings
 pub mod Walks
 mod CutOuts
 mod Lines
+pub mod Gathered

@@ -1,7 +1,6 @@
 //! The search for common places, which goes on where it stopped.
 
-ghost use Rattle.std.specs.Prelude.{◌≡◌, ◌≤◌, length, map, slice_index, IfOk};
-ghost use Rattle.hls_places_laws.specs.Sources.{sources_of};
+ghost use Rattle.std.specs.Prelude.{◌≡◌, ◌≤◌, length, IfOk};
 ghost use Rattle.hls_places_laws.specs.Positions.{first_position, IsCursor};
 ghost use Rattle.hls_places.specs.Advances.{IsAdvance};
 ghost use Rattle.hls_places.specs.Decisions.{IsWalk};
@@ -10,8 +9,8 @@ ghost use Rattle.hls_check_laws.specs.Tables.{rendition_limit};
 use crate::closing::closing;
 use crate::decide::decide;
 use crate::renditions::Renditions;
+use crate::source::Source;
 use hls_places_laws::{Mark, Place};
-use hls_record::Recording;
 use std::alloc::{AllocError, Global};
 use std::marker::Model;
 
@@ -51,24 +50,17 @@ impl Cursor {
     /// The common places that are decided by now and weren't when this cursor stopped, and a cursor after them.
     /// Along a channel's life, moved on after each event, it looks at each fragment of each rendition once; that is read in
     /// the code, and no clause says it.
-    ///
-    /// `tolerances` are microseconds, `finished` says of which rendition no unit comes any more.
-    pub fn advanced(
+    pub fn advanced<'s, 'a>(
         &self,
         alloc: Global,
-        recordings: &[&Recording],
-        tolerances: &[u64],
-        finished: &[bool],
+        sources: &'s [Source<'a>],
     ) -> Result<Advance, AllocError>
-        requires some { 1 ≤ length recordings.now }
-        requires few { length recordings.now ≤ rendition_limit }
-        requires tolerances { length tolerances.now ≡ length recordings.now }
-        requires finished { length finished.now ≡ length recordings.now }
-        requires cursor { IsCursor self.now (sources_of (map (λ r. r.now.facts) recordings.now) tolerances.now finished.now) }
-        ensures { IfOk result
-            (IsAdvance (sources_of (map (λ r. r.now.facts) recordings.now) tolerances.now finished.now) self.now.done) }
+        requires some { 1 ≤ length sources.now }
+        requires few { length sources.now ≤ rendition_limit }
+        requires cursor { IsCursor self.now sources.now }
+        ensures { IfOk result (IsAdvance sources.now self.now.done) }
     {
-        let renditions = Renditions::new(recordings, tolerances, finished);
+        let renditions = Renditions::new(sources);
         let marks = Vec::from_slice(alloc, self.marks.as_slice())?;
         let mut advance = walk(&renditions, alloc, self.done, marks)?;
         if let Some(place) = closing(&renditions, alloc, advance.cursor.marks.as_slice())? {

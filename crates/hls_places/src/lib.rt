@@ -7,6 +7,7 @@ pub use hls_places_laws::{Mark, Place, ProgrammeFault};
 pub use kept::is_kept;
 pub use places::common;
 pub use programmes::{programme, time_of};
+pub use source::Source;
 pub use steps::{allowed, cost, pair_allowed};
 
 mod closing;
@@ -18,4 +19,5 @@ mod places;
 mod programmes;
 mod renditions;
 mod search;
+mod source;
 mod steps;

@@ -8,6 +8,7 @@ ghost use Rattle.hls_check_laws.specs.Tables.{rendition_limit};
 
 use crate::cursor::Cursor;
 use crate::renditions::Renditions;
+use crate::source::Source;
 use hls_places_laws::Place;
 use hls_record::Recording;
 use std::alloc::{AllocError, Global};
@@ -30,8 +31,27 @@ pub fn common(
         ≡ places_of (sources_of (map (λ r. r.now.facts) recordings.now) tolerances.now finished.now)) }
     ensures order { IfOk result (λ places. ArePlaces places.items) }
 {
-    Renditions::new(recordings, tolerances, finished).look_at_order();
+    let sources = gathered(alloc, recordings, tolerances, finished)?;
+    Renditions::new(&sources).look_at_order();
     let start = Cursor::first(alloc, recordings.len())?;
-    let advance = start.advanced(alloc, recordings, tolerances, finished)?;
+    let advance = start.advanced(alloc, &sources)?;
     Ok(advance.places)
+}
+
+/// Renditions given by three lists, side by side.
+fn gathered<'a>(
+    alloc: Global,
+    recordings: &[&'a Recording],
+    tolerances: &[u64],
+    finished: &[bool],
+) -> Result<Vec<Source<'a>>, AllocError>
+    requires tolerances { length tolerances.now ≡ length recordings.now }
+    requires finished { length finished.now ≡ length recordings.now }
+    ensures { IfOk result (λ v. v.items ≡ sources_of (map (λ r. r.now.facts) recordings.now) tolerances.now finished.now) }
+{
+    let mut sources = Vec::with_capacity(alloc, recordings.len())?;
+    for r in 0..recordings.len() {
+        sources.push(Source::new(recordings[r], tolerances[r], finished[r]))?;
+    }
+    Ok(sources)
 }

@@ -1,80 +1,74 @@
 //! The renditions of a channel, side by side.
 
-ghost use Rattle.std.specs.Prelude.{◌≡◌, ◌<◌, ◌≤◌, map, length};
-ghost use Rattle.hls_places_laws.specs.Sources.{source_at, sources_of};
+ghost use Rattle.std.specs.Prelude.{◌≡◌, ◌<◌, ◌≤◌, length};
+ghost use Rattle.hls_places_laws.specs.Sources.{source_at};
 ghost use Rattle.hls_places.specs.Searches.{AreInOrder};
 ghost use Rattle.hls_check_laws.specs.Tables.{rendition_limit};
 
+use crate::source::Source;
 use hls_record::Recording;
 use std::marker::Model;
 
-/// The renditions of a channel, side by side.
+/// The renditions of a channel, side by side: at most sixteen.
 #[derive(Drop)]
-pub(crate) struct Renditions<'a> {
-    recordings: &'a [&'a Recording],
-    tolerances: &'a [u64],
-    finished: &'a [bool],
+pub(crate) struct Renditions<'s, 'a> {
+    sources: &'s [Source<'a>],
 }
 
-impl<'a> Model for Renditions<'a> {
-    ghost use Rattle.std.specs.Prelude.{◌≡◌, ◌≤◌, List, map, length};
+impl<'s, 'a> Model for Renditions<'s, 'a> {
+    ghost use Rattle.std.specs.Prelude.{◌≤◌, List, length};
     ghost use Rattle.hls_check_laws.specs.Tables.{rendition_limit};
-    ghost use Rattle.hls_places_laws.specs.Sources.{Source, sources_of};
+    ghost use Rattle.hls_places_laws.specs.Sources.{Source};
 
     ghost Value = { List Source };
 
-    ghost view = { λ r. sources_of (map (λ x. x.now.facts) r.recordings.now) r.tolerances.now r.finished.now };
+    ghost view = { λ r. r.sources.now };
 
-    ghost invariant = { λ r. (length r.tolerances.now ≡ length r.recordings.now) × (length r.finished.now ≡ length r.recordings.now)
-        × (length r.recordings.now ≤ rendition_limit) };
+    ghost invariant = { λ r. length r.sources.now ≤ rendition_limit };
 }
 
-impl<'a> Renditions<'a> {
-    pub(crate) fn new(
-        recordings: &'a [&'a Recording],
-        tolerances: &'a [u64],
-        finished: &'a [bool],
-    ) -> Renditions<'a>
-        requires tolerances { length tolerances.now ≡ length recordings.now }
-        requires finished { length finished.now ≡ length recordings.now }
-        requires few { length recordings.now ≤ rendition_limit }
-        ensures { result ≡ sources_of (map (λ r. r.now.facts) recordings.now) tolerances.now finished.now }
+impl<'s, 'a> Renditions<'s, 'a> {
+    pub(crate) fn new(sources: &'s [Source<'a>]) -> Renditions<'s, 'a>
+        requires { length sources.now ≤ rendition_limit }
+        ensures { result ≡ sources.now }
     {
-        Renditions {
-            recordings,
-            tolerances,
-            finished,
-        }
+        Renditions { sources }
     }
 
     pub(crate) fn len(&self) -> usize
         ensures { result ≡ length self.now }
     {
-        self.recordings.len()
+        self.sources.len()
     }
 
     pub(crate) fn recording(&self, r: usize) -> &'a Recording
         requires { r < length self.now }
         ensures { result.now.facts ≡ (source_at self.now r).facts }
     {
-        let recordings = self.recordings;
-        recordings[r]
+        self.at(r).recording()
     }
 
     pub(crate) fn tolerance(&self, r: usize) -> u64
         requires { r < length self.now }
         ensures { result ≡ (source_at self.now r).tolerance }
     {
-        let tolerances = self.tolerances;
-        tolerances[r]
+        self.at(r).tolerance()
     }
 
     pub(crate) fn is_finished(&self, r: usize) -> bool
         requires { r < length self.now }
         ensures { result ≡ (source_at self.now r).finished }
     {
-        let finished = self.finished;
-        finished[r]
+        self.at(r).is_finished()
+    }
+
+    /// Rendition number `r`.
+    fn at(&self, r: usize) -> &'s Source<'a>
+        requires { r < length self.now }
+        ensures { result.now ≡ source_at self.now r }
+    {
+        let sources = self.sources;
+        &sources[r]
     }
 
     /// Each rendition's units are in order, as its recording says when it is asked for their count.
