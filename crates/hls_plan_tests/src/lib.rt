@@ -2,12 +2,6 @@
 #![tactic(auto)]
 
 #[cfg(test)]
-mod checks;
+mod long;
 #[cfg(test)]
-mod long_plans;
-#[cfg(test)]
-mod plans;
-#[cfg(test)]
-mod rows;
-#[cfg(test)]
-mod texts;
+mod outside;
