@@ -2,5 +2,3 @@
 
 pub mod printing;
 pub mod run;
-#[cfg(test)]
-mod tests;

@@ -6,5 +6,3 @@ pub mod gather;
 pub mod options;
 pub mod recorder;
 pub mod run;
-#[cfg(test)]
-mod tests;

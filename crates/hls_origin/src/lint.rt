@@ -2,5 +2,3 @@
 
 mod printing;
 pub mod run;
-#[cfg(test)]
-mod tests;

@@ -28,16 +28,10 @@ ghost use Rattle.hls_origin.specs.Status.{check_status, cut_status, explain_stat
 
 mod check;
 mod cut;
-#[cfg(test)]
-mod fakes;
 mod lint;
 mod pieces;
 mod reading;
-#[cfg(test)]
-mod refused_memory;
 mod serve;
-#[cfg(test)]
-mod vectors;
 
 use crate::check::run::{CheckEnd, run_check};
 use crate::cut::fault::CutFault;
