@@ -2,6 +2,8 @@
 #![tactic(auto)]
 
 #[cfg(test)]
+mod every_plan;
+#[cfg(test)]
 mod long;
 #[cfg(test)]
 mod outside;

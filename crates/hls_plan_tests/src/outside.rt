@@ -267,3 +267,22 @@ fn a_wrong_line_is_named(rt: HostRuntime) -> Result<(), Fail> {
     }
     Ok(())
 }
+
+/// Each shorter beginning of a text is refused at the line that it lacks.
+#[test]
+fn each_shorter_beginning_is_refused(rt: HostRuntime) -> Result<(), Fail> {
+    for text in [FIVE_UNITS, CHARGED, NO_CUT, TWO_RENDITIONS] {
+        let mut line = 1;
+        for (len, byte) in text.as_bytes().iter().enumerate() {
+            let beginning = text.as_bytes().get(..len).unwrap_or(b"");
+            assert_eq!(rt;
+                read(rt.alloc(), beginning).err(),
+                Some(CertFault::Form { line })
+            );
+            if *byte == b'\n' {
+                line = line.wrapping_add(1);
+            }
+        }
+    }
+    Ok(())
+}
