@@ -17,7 +17,7 @@ mod faults;
 #[cfg(test)]
 mod jobs;
 #[cfg(test)]
-mod ranges;
+mod media;
 #[cfg(test)]
 mod refusals;
 #[cfg(test)]
@@ -32,7 +32,5 @@ mod sessions;
 mod smuggling;
 #[cfg(test)]
 mod streams;
-#[cfg(test)]
-mod trimmed;
 #[cfg(test)]
 mod went;

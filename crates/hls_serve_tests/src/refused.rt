@@ -3,21 +3,26 @@
 //! session goes on, and the script sent again ends as it does with ample memory. `tests/refuse_each_allocation` refuses each
 //! request in turn.
 
+ghost use Rattle.std.specs.Prelude.{◌≤◌};
+
+use crate::channels::{opening, owned, run_all};
 use crate::faults::Page;
 use crate::script::{
     EVENTS, FILE_NAMES, Files, GONE, delete, encoder, encoder_replies, get_file, get_files,
 };
-use crate::went::{Went, judged, opening, status_of};
+use crate::went::{Went, judged, status_of};
 use hls_http::Session;
-use hls_jobs::{Job, JobTable, run_job};
+use hls_jobs::Job;
 use hls_serve::alone::{Alone, Own};
 use hls_serve::session::session_on;
 use std::alloc::Global;
-use std::sync::{Arc, Wait};
+use std::sync::Wait;
 use std::test::Fail;
 
 /// How a session goes that is to give these replies.
-fn hold<T: Wait>(rt: &T, alloc: Global, own: &mut Own, text: &[u8], replies: &[&[u8]]) -> Went {
+fn hold<T: Wait>(rt: &T, alloc: Global, own: &mut Own, text: &[u8], replies: &[&[u8]]) -> Went
+    ensures { 0 ≤ own.new.number }
+{
     let Ok(mut session) = Session::new(alloc, text, Page::new()) else {
         return Went::Wanted;
     };
@@ -26,26 +31,18 @@ fn hold<T: Wait>(rt: &T, alloc: Global, own: &mut Own, text: &[u8], replies: &[&
     judged(page.written(), end, replies)
 }
 
-/// Runs all jobs that wait.
-fn run_all(alloc: Global, own: &mut Own) {
-    for _ in 0..64u32 {
-        let Some(work) = own.jobs.take_work() else {
-            return;
-        };
-        let _ = own.jobs.finish(run_job(alloc, work));
-    }
-}
-
 /// A job that failed for memory is answered so at its line and each of its files, and goes as any other.
-fn look_at_failed<T: Wait>(rt: &T, alloc: Global, own: &mut Own, id: u32) -> Option<Went> {
+fn look_at_failed<T: Wait>(rt: &T, alloc: Global, own: &mut Own, id: u32) -> Option<Went>
+    ensures { 0 ≤ own.new.number }
+{
     for file in FILE_NAMES {
         let text = get_file(alloc, id, file).ok()?;
-        if hold(rt, alloc, own, text.as_bytes(), &[GONE]) != Went::Wanted {
+        if hold(rt, alloc, own, &text, &[GONE]) != Went::Wanted {
             return Some(Went::Astray);
         }
     }
     let text = delete(alloc, id).ok()?;
-    let gone = hold(rt, alloc, own, text.as_bytes(), &[GONE]);
+    let gone = hold(rt, alloc, own, &text, &[GONE]);
     Some(Went::Wanted.and(gone))
 }
 
@@ -56,7 +53,9 @@ fn look_at_job<T: Wait>(
     own: &mut Own,
     id: u32,
     files: &Files,
-) -> Option<Went> {
+) -> Option<Went>
+    ensures { 0 ≤ own.new.number }
+{
     match own.jobs.get(u64::from(id)) {
         Ok(Job::Finished(_)) => {}
         Ok(Job::Failed) => return look_at_failed(rt, alloc, own, id),
@@ -68,7 +67,7 @@ fn look_at_job<T: Wait>(
         return Some(went);
     }
     let text = delete(alloc, id).ok()?;
-    Some(hold(rt, alloc, own, text.as_bytes(), &[GONE]))
+    Some(hold(rt, alloc, own, &text, &[GONE]))
 }
 
 /// Whether the channel holds just what its version says: an init section and units, and not a byte beside them.
@@ -91,19 +90,21 @@ fn send<T: Wait>(
     own: &mut Own,
     id: u32,
     files: &Files,
-) -> Option<(Went, bool)> {
+) -> Option<(Went, bool)>
+    ensures { 0 ≤ own.new.number }
+{
     let text = encoder(alloc).ok()?;
     let replies = encoder_replies(own.snapshot.version(), id as usize);
     let before = own.jobs.len();
     let mut went = hold(rt, alloc, own, &text, &replies);
     let is_added = own.jobs.len() > before;
     if went == Went::Ample {
-        run_all(alloc, own);
+        let _ = run_all(alloc, own);
         went = look_at_job(rt, alloc, own, id, files)?;
     }
     let status = status_of(alloc, own.snapshot.version(), own.jobs.len()).ok()?;
     let request = b"GET /status HTTP/1.1\r\nHost: a\r\n\r\n";
-    let told = hold(rt, alloc, own, request, &[status.as_bytes()]);
+    let told = hold(rt, alloc, own, request, &[&status]);
     Some((went.and(told), is_added))
 }
 
@@ -111,11 +112,7 @@ fn send<T: Wait>(
 /// none where the channel or a text was refused memory.
 fn send_twice<T: Wait>(rt: &T, alloc: Global) -> Option<(Went, bool)> {
     let files = Files::new(alloc).ok()?;
-    let mut own = Own {
-        snapshot: Arc::new(alloc, opening(alloc)?).ok()?,
-        number: 0,
-        jobs: JobTable::new(alloc).ok()?,
-    };
+    let mut own = owned(alloc, opening(alloc, None)?).ok()?;
     let (first, is_added) = send(rt, alloc, &mut own, 1, &files)?;
     let stays = holds_what_it_counts(&own);
     let id = if is_added { 2 } else { 1 };

@@ -3,11 +3,12 @@
 
 ghost use Rattle.std.specs.Prelude.{◌≡◌};
 
+use crate::channels::opening;
 use crate::faults::Page;
 use crate::script::{
     EVENTS, FILE_NAMES, Files, GONE, delete, encoder, encoder_replies, get_file, get_files,
 };
-use crate::went::{Went, judged, opening, status_of};
+use crate::went::{Went, judged, status_of};
 use hls_http::Session;
 use hls_jobs::{Gate, Job, Jobs, work_loop};
 use hls_serve::channel::{Channel, serve_session};
@@ -59,12 +60,12 @@ fn look_at_failed<T: Wait>(
 {
     for file in FILE_NAMES {
         let text = get_file(alloc, id, file).ok()?;
-        if hold(rt, alloc, channel, pass, text.as_bytes(), &[GONE]) != Went::Wanted {
+        if hold(rt, alloc, channel, pass, &text, &[GONE]) != Went::Wanted {
             return Some(Went::Astray);
         }
     }
     let text = delete(alloc, id).ok()?;
-    let gone = hold(rt, alloc, channel, pass, text.as_bytes(), &[GONE]);
+    let gone = hold(rt, alloc, channel, pass, &text, &[GONE]);
     Some(Went::Wanted.and(gone))
 }
 
@@ -91,7 +92,7 @@ fn look_at_job<T: Wait>(
         return Some(went);
     }
     let text = delete(alloc, id).ok()?;
-    Some(hold(rt, alloc, channel, pass, text.as_bytes(), &[GONE]))
+    Some(hold(rt, alloc, channel, pass, &text, &[GONE]))
 }
 
 /// How many events the channel has.
@@ -131,7 +132,7 @@ fn send<T: Wait>(
     let version = version_of(rt, alloc, channel, other)?;
     let status = status_of(alloc, version, channel.jobs.len(rt)).ok()?;
     let request = b"GET /status HTTP/1.1\r\nHost: a\r\n\r\n";
-    let told = hold(rt, alloc, channel, other, request, &[status.as_bytes()]);
+    let told = hold(rt, alloc, channel, other, request, &[&status]);
     Some((went.and(told), is_added))
 }
 
@@ -139,7 +140,7 @@ fn send<T: Wait>(
 /// none where the turn, the jobs or a text were refused memory.
 fn send_twice<T: Wait>(rt: &T, alloc: Global) -> Option<(Went, u64)> {
     let files = Files::new(alloc).ok()?;
-    let Ok((turn, mut passes)) = Turn::new(rt, alloc, opening(alloc)?, 2) else {
+    let Ok((turn, mut passes)) = Turn::new(rt, alloc, opening(alloc, None)?, 2) else {
         return None;
     };
     let jobs = Jobs::new(alloc).ok()?;

@@ -1,10 +1,15 @@
 //! A channel's life in one script: an init section and three units by PUT, the end of the rendition, a request for catch-up
 //! over all of it, the files of its job, and the job's end; each request with its reply.
 
-ghost use Rattle.std.specs.Prelude.{◌<◌, ◌^◌, IfOk, length};
+ghost use Rattle.std.specs.Prelude.{◌≤◌, ◌<◌, ◌^◌, IfOk, length};
 
+use crate::asking::{answered, reply};
+use crate::channels::{opened, run_all};
 use crate::streams::{put, stream};
+use hls_serve::alone::Own;
 use std::alloc::{AllocError, Global};
+use std::sync::Wait;
+use std::test::Fail;
 
 /// How many events the script comes to: an init section, three units, and an end.
 pub const EVENTS: u64 = 5;
@@ -20,20 +25,26 @@ pub const FILE_NAMES: [&str; 5] = ["", "/master.m3u8", "/0.m3u8", "/0.mp4", "/ce
 pub fn encoder(alloc: Global) -> Result<Vec<u8>, AllocError>
     ensures { IfOk result (λ bytes. length bytes.items < 2 ^ 64) }
 {
-    let mut text = put(alloc, "", &stream(alloc, 3)?)?;
+    let mut text = put(alloc, 0, "", &stream(alloc, 3)?)?;
     text.extend_from_slice(FINISH)?;
     text.extend_from_slice(CATCH_UP)?;
     Ok(text)
 }
 
 /// The request for a file of a job, or for its line.
-pub fn get_file(alloc: Global, id: u32, file: &str) -> Result<String, AllocError> {
-    Ok(format!(in alloc; "GET /job/{id}{file} HTTP/1.1\r\nHost: a\r\n\r\n")?)
+pub fn get_file(alloc: Global, id: u32, file: &str) -> Result<Vec<u8>, AllocError>
+    ensures { IfOk result (λ bytes. length bytes.items < 2 ^ 64) }
+{
+    let text = format!(in alloc; "GET /job/{id}{file} HTTP/1.1\r\nHost: a\r\n\r\n")?;
+    Ok(text.into_bytes())
 }
 
 /// The request that takes a job away.
-pub fn delete(alloc: Global, id: u32) -> Result<String, AllocError> {
-    Ok(format!(in alloc; "DELETE /job/{id} HTTP/1.1\r\nHost: a\r\n\r\n")?)
+pub fn delete(alloc: Global, id: u32) -> Result<Vec<u8>, AllocError>
+    ensures { IfOk result (λ bytes. length bytes.items < 2 ^ 64) }
+{
+    let text = format!(in alloc; "DELETE /job/{id} HTTP/1.1\r\nHost: a\r\n\r\n")?;
+    Ok(text.into_bytes())
 }
 
 /// What the client sends then: a request for the job's line and for each of its files.
@@ -42,7 +53,7 @@ pub fn get_files(alloc: Global, id: u32) -> Result<Vec<u8>, AllocError>
 {
     let mut text = Vec::new(alloc);
     for file in FILE_NAMES {
-        text.extend_from_slice(get_file(alloc, id, file)?.as_bytes())?;
+        text.extend_from_slice(&get_file(alloc, id, file)?)?;
     }
     Ok(text)
 }
@@ -79,26 +90,16 @@ pub fn encoder_replies(version: u64, id: usize) -> [&'static [u8]; 3] {
 const LINE: &[u8] =
     b"HTTP/1.1 200 OK\r\nContent-Type: text/plain\r\nContent-Length: 16\r\n\r\ncut 0 version 5\n";
 
-const MASTER: &str = "#EXTM3U\n#EXT-X-VERSION:6\n#EXT-X-STREAM-INF:BANDWIDTH=3000000\n0.m3u8\n";
+const MASTER: &str = "#EXTM3U\n#EXT-X-VERSION:6\n#EXT-X-STREAM-INF:BANDWIDTH=3000000\n0.m3u8";
 
 const LIST: &str =
-    "#EXTM3U\n#EXT-X-VERSION:6\n#EXT-X-TARGETDURATION:6\n#EXT-X-MEDIA-SEQUENCE:0\n#EXT-X-DISCONTINUITY-SEQUENCE:0\n#EXT-X-PLAYLIST-TYPE:VOD\n#EXT-X-MAP:URI=\"0.mp4\",BYTERANGE=\"600@0\"\n#EXTINF:4.000000,\n#EXT-X-BYTERANGE:1000@600\n0.mp4\n#EXTINF:4.000000,\n#EXT-X-BYTERANGE:1000@1600\n0.mp4\n#EXTINF:4.000000,\n#EXT-X-BYTERANGE:1000@2600\n0.mp4\n#EXT-X-ENDLIST\n";
+    "#EXTM3U\n#EXT-X-VERSION:6\n#EXT-X-TARGETDURATION:6\n#EXT-X-MEDIA-SEQUENCE:0\n#EXT-X-DISCONTINUITY-SEQUENCE:0\n#EXT-X-PLAYLIST-TYPE:VOD\n#EXT-X-MAP:URI=\"0.mp4\",BYTERANGE=\"600@0\"\n#EXTINF:4.000000,\n#EXT-X-BYTERANGE:1000@600\n0.mp4\n#EXTINF:4.000000,\n#EXT-X-BYTERANGE:1000@1600\n0.mp4\n#EXTINF:4.000000,\n#EXT-X-BYTERANGE:1000@2600\n0.mp4\n#EXT-X-ENDLIST";
 
 const CERTIFICATE: &str =
-    "HLS-CUT-CERTIFICATE 1\ntarget 6\npreferred 4000000\nrenditions 1\nplaces 4\n0 0 0 0 0\n1 4000000 4000000 0 0\n2 8000000 8000000 0 0\n3 12000000 12000000 0 0\ncut 0\nplan 0 1 2 3\nprice 0 0\nprice 1 0\nprice 2 0\nprice 3 0\nend\n";
+    "HLS-CUT-CERTIFICATE 1\ntarget 6\npreferred 4000000\nrenditions 1\nplaces 4\n0 0 0 0 0\n1 4000000 4000000 0 0\n2 8000000 8000000 0 0\n3 12000000 12000000 0 0\ncut 0\nplan 0 1 2 3\nprice 0 0\nprice 1 0\nprice 2 0\nprice 3 0\nend";
 
 /// The reply to a request that takes a job away.
 pub const GONE: &[u8] = b"HTTP/1.1 204 No Content\r\n\r\n";
-
-fn replied(alloc: Global, kind: &str, text: &str) -> Result<Vec<u8>, AllocError>
-    ensures { IfOk result (λ bytes. length bytes.items < 2 ^ 64) }
-{
-    let len = text.len();
-    let reply = format!(in alloc;
-        "HTTP/1.1 200 OK\r\nContent-Type: {kind}\r\nContent-Length: {len}\r\n\r\n{text}"
-    )?;
-    Ok(reply.into_bytes())
-}
 
 /// The reply to a request for all media, of the job or of the channel.
 pub fn media_reply(alloc: Global) -> Result<Vec<u8>, AllocError>
@@ -124,10 +125,10 @@ pub struct Files {
 impl Files {
     pub fn new(alloc: Global) -> Result<Files, AllocError> {
         Ok(Files {
-            master: replied(alloc, "application/vnd.apple.mpegurl", MASTER)?,
-            list: replied(alloc, "application/vnd.apple.mpegurl", LIST)?,
+            master: reply(alloc, "200 OK", MASTER)?,
+            list: reply(alloc, "200 OK", LIST)?,
             media: media_reply(alloc)?,
-            certificate: replied(alloc, "text/plain", CERTIFICATE)?,
+            certificate: reply(alloc, "200 OK", CERTIFICATE)?,
         })
     }
 
@@ -141,6 +142,16 @@ impl Files {
             &self.certificate,
         ]
     }
+}
+
+/// A channel to which the encoder has sent all, and whose job is finished.
+pub fn with_job<T: Wait>(rt: &T, alloc: Global) -> Result<Own, Fail>
+    ensures { IfOk result (λ own. 0 ≤ own.number) }
+{
+    let mut own = opened(alloc)?;
+    let _ = answered(rt, alloc, &mut own, &encoder(alloc)?)?;
+    run_all(alloc, &mut own)?;
+    Ok(own)
 }
 
 /// Texts, one behind the other.

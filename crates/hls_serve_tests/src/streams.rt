@@ -2,7 +2,7 @@
 
 ghost use Rattle.std.specs.Prelude.{◌<◌, ◌^◌, IfOk, length};
 
-use hls_samples::{boxed, init_bytes, unit_bytes, word_box};
+use hls_samples::{init_bytes, unit_bytes};
 use std::alloc::{AllocError, Global};
 
 /// An init section of 600 bytes, 90000 ticks a second.
@@ -30,30 +30,8 @@ pub fn stream(alloc: Global, units: u32) -> Result<Vec<u8>, AllocError>
     Ok(bytes)
 }
 
-/// An init section, and a unit whose `tfhd` has a base data offset.
-pub fn with_base_offset(alloc: Global) -> Result<Vec<u8>, AllocError>
-    ensures { IfOk result (λ bytes. length bytes.items < 2 ^ 64) }
-{
-    let number = word_box(alloc, b"mfhd", &[0, 1])?;
-    let header = word_box(alloc, b"tfhd", &[0x0002_0001, 1, 0, 0])?;
-    let time = word_box(alloc, b"tfdt", &[0x0100_0000, 0, 0])?;
-    let run = word_box(alloc, b"trun", &[0x0701, 1, 116, 360_000, 892, 0x0200_0000])?;
-    let track = boxed(alloc, b"traf", &[&header, &time, &run])?;
-    let mut bytes = init(alloc)?;
-    bytes.extend_from_slice(&boxed(alloc, b"moof", &[&number, &track])?)?;
-    bytes.extend_from_slice(&boxed(alloc, b"mdat", &[&[0xaa; 892]])?)?;
-    Ok(bytes)
-}
-
-/// A PUT of a body with its length, and further fields, to the first rendition.
-pub fn put(alloc: Global, fields: &str, body: &[u8]) -> Result<Vec<u8>, AllocError>
-    ensures { IfOk result (λ bytes. length bytes.items < 2 ^ 64) }
-{
-    put_to(alloc, 0, fields, body)
-}
-
-/// A PUT of a body with its length, and further fields.
-pub fn put_to(
+/// A PUT of a body with its length, and further fields, to a rendition.
+pub fn put(
     alloc: Global,
     rendition: usize,
     fields: &str,
@@ -70,7 +48,7 @@ pub fn put_to(
     Ok(text)
 }
 
-/// The same in chunks of 7 bytes.
+/// A PUT of a body to the first rendition, in chunks of 7 bytes.
 pub fn put_in_chunks(alloc: Global, body: &[u8]) -> Result<Vec<u8>, AllocError>
     ensures { IfOk result (λ bytes. length bytes.items < 2 ^ 64) }
 {

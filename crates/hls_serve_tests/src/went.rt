@@ -1,32 +1,16 @@
-//! How a session went of whose requests for memory one may be refused, and the channel that it was held with.
+//! How a session went of whose requests for memory one may be refused.
 
-use bytes::Bytes;
-use hls_core::config::Config;
-use hls_core::snapshot::Snapshot;
-use hls_core_laws::rendition::Rendition;
+ghost use Rattle.std.specs.Prelude.{◌<◌, ◌^◌, IfOk, length};
+
 use hls_http::SessionEnd;
 use std::alloc::{AllocError, Global};
-
-/// A channel of one rendition, before anything came; none where memory was refused.
-pub fn opening(alloc: Global) -> Option<Snapshot> {
-    let rendition = Rendition {
-        name: Bytes::copy_from_slice(alloc, b"v1").ok()?,
-        video: true,
-        bandwidth: 3_000_000,
-        tolerance: 0,
-    };
-    let mut renditions = Vec::new(alloc);
-    renditions.push(rendition).ok()?;
-    let config = Config::new(alloc, 6, 4_000_000, renditions).ok()?;
-    Snapshot::first(alloc, config).ok()
-}
 
 /// The fixed reply to want of memory.
 const NO_MEMORY: &[u8] =
     b"HTTP/1.1 503 Service Unavailable\r\nContent-Type: text/plain\r\nContent-Length: 15\r\nConnection: close\r\n\r\nrefused Memory\n";
 
 /// How sessions went.
-#[derive(Clone, Copy, Debug, PartialEq, Eq, Drop)]
+#[derive(Clone, Copy, PartialEq)]
 pub enum Went {
     /// As with ample memory.
     Ample,
@@ -71,7 +55,9 @@ pub fn judged(out: &[u8], end: SessionEnd, replies: &[&[u8]]) -> Went {
 }
 
 /// What `/status` is answered of a channel of so many of the script's events: its places and live segments.
-pub fn status_of(alloc: Global, version: u64, jobs: usize) -> Result<String, AllocError> {
+pub fn status_of(alloc: Global, version: u64, jobs: usize) -> Result<Vec<u8>, AllocError>
+    ensures { IfOk result (λ bytes. length bytes.items < 2 ^ 64) }
+{
     let (places, segments) = match version {
         0 | 1 => (0, 0),
         2 => (1, 0),
@@ -79,7 +65,8 @@ pub fn status_of(alloc: Global, version: u64, jobs: usize) -> Result<String, All
         4 => (3, 2),
         _ => (4, 3),
     };
-    Ok(format!(in alloc;
+    let status = format!(in alloc;
         "HTTP/1.1 200 OK\r\nContent-Type: text/plain\r\nContent-Length: 47\r\n\r\nversion {version}\nplaces {places}\nsegments {segments}\nremoved 0\njobs {jobs}\n"
-    )?)
+    )?;
+    Ok(status.into_bytes())
 }
