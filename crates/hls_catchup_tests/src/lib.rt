@@ -2,10 +2,18 @@
 #![tactic(auto)]
 
 #[cfg(test)]
-mod answers;
-#[cfg(test)]
-mod job_files;
+mod channels;
 #[cfg(test)]
 mod jobs;
 #[cfg(test)]
-mod listings;
+mod lists;
+#[cfg(test)]
+mod live;
+#[cfg(test)]
+mod masters;
+#[cfg(test)]
+mod plays;
+#[cfg(test)]
+mod refused;
+#[cfg(test)]
+mod requests;

@@ -1,18 +1,36 @@
-//! A job that was refused memory failed, and the same request again is answered.
+//! Where memory is refused: an answer leaves the snapshot as it was, a job failed alone, and the same request again is answered.
 
-use super::{request, with_units};
+use crate::channels::{recorded, request};
+use hls_catchup::{CatchFault, Reply, answer, reply_total};
 use hls_core::snapshot::Snapshot;
 use hls_jobs::{Job, JobTable, run_job};
 use hls_sample_channels::SECOND;
 use std::alloc::Global;
 use std::sync::Arc;
 
-/// A channel of two units, built once more where memory was refused.
+/// Two units, recorded once more where memory was refused.
 fn two_units(alloc: Global) -> Option<Arc<Snapshot>> {
-    match with_units(alloc, 2) {
+    match recorded(alloc, None, &[(0, 4), (4, 8)]) {
         Ok(snapshot) => Some(snapshot),
-        Err(_) => with_units(alloc, 2).ok(),
+        Err(_) => recorded(alloc, None, &[(0, 4), (4, 8)]).ok(),
     }
+}
+
+/// Whether the reply has the first unit behind the init section.
+fn is_whole(reply: &Reply) -> bool {
+    reply_total(reply, 0) == Some(1600) && reply.snapshot().version() == 3
+}
+
+#[test]
+fn refused_memory_changes_no_answer(rt: HostRuntime) {
+    let alloc = rt.alloc();
+    let snapshot = two_units(alloc).expect(&rt, "a snapshot with two units");
+    let asked = request(0, 4 * SECOND);
+    let reply = match answer(alloc, &snapshot, asked) {
+        Err(CatchFault::Memory) => answer(alloc, &snapshot, asked),
+        first => first,
+    };
+    assert!(rt; reply.is_ok_and(|reply| is_whole(&reply)));
 }
 
 /// Adds a job and runs it: how far it is then.

@@ -1,5 +1,5 @@
 use Rattle.hls_catchup.proofs.Plays.{run_with_request}
-use Rattle.hls_catchup_tests.proofs.answers.runs.with_request.Goals as goal
+use Rattle.hls_catchup_tests.proofs.plays.with_request.Goals as goal
 
 pub returns : goal.returns
 returns c =
