@@ -227,8 +227,12 @@ fn refused_memory_changes_no_answer(rt: HostRuntime) {
     assert_eq!(rt; snapshot.version(), 3);
 }
 
-/// Answers with their replies to HEAD: of a playlist, and of media.
-const HEADS: [(Act, &[u8]); 2] = [
+/// Answers with their replies to HEAD: of a text, of a playlist, and of media.
+const HEADS: [(Act, &[u8]); 3] = [
+    (
+        Act::Status,
+        b"HTTP/1.1 200 OK\r\nContent-Type: text/plain\r\nContent-Length: 47\r\n\r\n",
+    ),
     (
         Act::Master,
         b"HTTP/1.1 200 OK\r\nContent-Type: application/vnd.apple.mpegurl\r\nContent-Length: 74\r\n\r\n",
