@@ -1,3 +1,2 @@
-mod FirstLaws
 mod ReaderLaws
 mod ScanLaws

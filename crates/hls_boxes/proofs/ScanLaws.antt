@@ -1,119 +1,155 @@
 -- How far a buffer is cut: from box to box, as bytes follow, and when a part is taken.
-use Rattle.std.proofs.Common.{◌≡◌, ℕ, suc, ◌+◌, ◌-◌, ◌<◌, ◌≤◌, Bool, false, Option, Some, None, List, [], ◌∷◌, ◌++◌, length, take, drop, sym, ◌∙◌, ap, arith, refl}
-use Rattle.std.specs.List.{flat_map}
-use Rattle.std.proofs.lemmas.List.{length-append, length-drop, length-take-le, append_assoc, append-nil, drop-drop, drop-append-le}
-use Rattle.std.proofs.lemmas.Grind.{flat_map-append}
-use Rattle.hls_boxes_laws.specs.declared.part.Part.{Part}
+use Rattle.std.proofs.Common.{◌≡◌, ℕ, ◌+◌, ◌-◌, ◌<◌, ◌≤◌, Bool, false, Option, Some, None, List, [], ◌∷◌, ◌++◌, length, take, drop, sym, ◌∙◌, ap, arith, refl, subst}
+use Rattle.std.proofs.lemmas.List.{length-append, length-drop, length-take, length-take-le, append_assoc, append-nil, drop-drop, drop-append-le, take-append-le}
+use Rattle.std.proofs.Math.Seq.{take-add}
 use Rattle.hls_boxes_laws.specs.declared.fault.BoxFault.{BoxFault}
 use Rattle.hls_boxes_laws.specs.declared.step.Next.TheVariants.{Joins, Ends}
 use Rattle.hls_boxes_laws.specs.Boxes.{header_at}
-use Rattle.hls_boxes_laws.specs.Parts.{bytes_of, part_of, next_of, Left, Refused, left_of, fault_left, text_fault, Cut, cut_at, cut_of, after_parts}
-use Rattle.hls_boxes_laws.proofs.CutLaws.{bytes_of-part_of, left_of-open, open-fault_left}
+use Rattle.hls_boxes_laws.specs.Parts.{part_of, next_of, Left, Refused, left_of, fault_left, text_fault, Cut, cut_at, cut_of, after_parts}
+use Rattle.hls_boxes_laws.proofs.CutLaws.{left_of-open, open-fault_left}
 use Rattle.hls_boxes_laws.proofs.NextLaws.{next-joins, next-ends, next-wait, next-fault}
-use Rattle.hls_boxes_laws.proofs.TextLaws.{few}
 use Rattle.hls_boxes.specs.declared.scan.Place.{Place}
-use Rattle.hls_boxes.specs.Scan.{Reaches, Settles, next_with}
+use Rattle.hls_boxes.specs.declared.found.Found.{Found}
+use Rattle.hls_boxes.specs.Scan.{BeginsWith, AreParts, Reaches, Settles, next_with}
 
 abbrev pub start : Place
-start = record { at = 0; before = 0; has_moof = false; ready = 0 }
-
--- nothing is passed of the empty text
-pub reaches-start : Reaches [] start
-reaches-start = record {
-  whole = [];
-  part = [];
-  within = omega arith;
-  at_is = refl;
-  before_is = refl;
-  ready_is = refl;
-  goes_on = λ more. refl;
-}
+start = record { at = 0; before = 0; has_moof = false }
 
 -- nothing waits in the empty text
-pub settles-start : Settles [] start None
+pub settles-start : Settles [] [] start None
 unfolding next_of header_at
-settles-start = record { reached = reaches-start; last = refl }
-
--- what is passed stays passed when bytes follow
-pub reaches-append : (bytes more : List ℕ) (place : Place) → Reaches bytes place → Reaches (bytes ++ more) place
-reaches-append bytes more place r = record {
-  whole = r.whole;
-  part = r.part;
-  within = omega (arith, r.within, length-append bytes more);
-  at_is = r.at_is;
-  before_is = r.before_is;
-  ready_is = r.ready_is;
-  goes_on = λ last.
-      ap cut_of (append_assoc bytes more last) ∙ r.goes_on (more ++ last)
-      ∙ ap (λ (xs : List ℕ). after_parts r.whole (cut_at r.part xs place.has_moof))
-      (sym (append_assoc (drop place.at bytes) more last) ∙ ap (λ (xs : List ℕ). xs ++ last) (sym (drop-append-le place.at bytes more r.within)));
+settles-start = record {
+  reached = record { rest = []; rest_is = refl; whole = refl; inside = omega arith; within = omega arith; goes_on = λ more. refl };
+  last = refl;
 }
 
--- no more parts than bytes
-pub reaches-few : (bytes : List ℕ) (place : Place) → Reaches bytes place → place.ready ≤ length bytes
-reaches-few bytes place r =
-    let now : cut_of (bytes ++ []) ≡ after_parts r.whole (cut_at r.part (drop place.at bytes ++ []) place.has_moof) = r.goes_on [] in
-    let all = cut_at r.part (drop place.at bytes ++ []) place.has_moof in
-    omega (arith, few (bytes ++ []), length-append bytes [], ap (λ (c : Cut). length c.parts) now, length-append r.whole all.parts, r.ready_is)
+-- parts stay parts when bytes follow
+begins-append : (bytes more : List ℕ) (found : Found) → BeginsWith bytes found → BeginsWith (bytes ++ more) found
+begins-append bytes more found b = record {
+  within = omega (arith, b.within, length-append bytes more);
+  goes_on = λ last.
+      ap cut_of (append_assoc bytes more last) ∙ b.goes_on (more ++ last)
+      ∙ ap (λ (xs : List ℕ). after_parts (part_of found.kind (take found.len bytes) ∷ []) (cut_of xs))
+      (sym (append_assoc (drop found.len bytes) more last) ∙ ap (λ (xs : List ℕ). xs ++ last) (sym (drop-append-le found.len bytes more b.within)))
+      ∙ ap (λ (xs : List ℕ). after_parts (part_of found.kind xs ∷ []) (cut_of (drop found.len (bytes ++ more) ++ last))) (sym (take-append-le found.len bytes more b.within));
+}
 
-pub next_at : (bytes : List ℕ) (place : Place) (r : Reaches bytes place) → next_of (drop place.at bytes) (length r.part) place.has_moof ≡ next_of (drop place.at bytes) place.before place.has_moof
-next_at bytes place r = ap (λ (n : ℕ). next_of (drop place.at bytes) n place.has_moof) r.before_is
+parts-append : (ready : List Found) (bytes rest more : List ℕ) → AreParts ready bytes rest → AreParts ready (bytes ++ more) (rest ++ more)
+parts-append [] bytes rest more same = ap (λ (xs : List ℕ). xs ++ more) same
+parts-append (found ∷ others) bytes rest more (first, following) = (
+  begins-append bytes more found first,
+  subst (λ (xs : List ℕ). AreParts others xs (rest ++ more)) (sym (drop-append-le found.len bytes more first.within)) (parts-append others (drop found.len bytes) rest more following),
+)
+
+-- one more part
+parts-last : (ready : List Found) (bytes rest : List ℕ) (found : Found) → AreParts ready bytes rest → BeginsWith rest found → AreParts (ready ++ found ∷ []) bytes (drop found.len rest)
+parts-last [] bytes rest found same last = (subst (λ (xs : List ℕ). BeginsWith xs found) (sym same) last, ap (drop found.len) same)
+parts-last (first ∷ others) bytes rest found (begins, following) last = (begins, parts-last others (drop first.len bytes) rest found following last)
+
+parts-length : (ready : List Found) (bytes rest : List ℕ) → AreParts ready bytes rest → length rest ≤ length bytes
+parts-length [] bytes rest same = omega (arith, ap length same)
+parts-length (found ∷ others) bytes rest (first, following) = omega (arith, parts-length others (drop found.len bytes) rest following, length-drop found.len bytes)
+
+begins-left : (bytes : List ℕ) (found : Found) → BeginsWith bytes found → (cut_of bytes).left ≡ (cut_of (drop found.len bytes)).left
+begins-left bytes found b =
+    ap (λ (xs : List ℕ). (cut_of xs).left) (sym (append-nil bytes)) ∙ ap (λ (c : Cut). c.left) (b.goes_on [])
+    ∙ ap (λ (xs : List ℕ). (cut_of xs).left) (append-nil (drop found.len bytes))
+
+parts-left : (ready : List Found) (bytes rest : List ℕ) → AreParts ready bytes rest → (cut_of bytes).left ≡ (cut_of rest).left
+parts-left [] bytes rest same = ap (λ (xs : List ℕ). (cut_of xs).left) same
+parts-left (found ∷ others) bytes rest (first, following) = begins-left bytes found first ∙ parts-left others (drop found.len bytes) rest following
+
+-- the part in progress has as many bytes as the place says, and the box at the place stands behind it
+pub behind : (bytes : List ℕ) (ready : List Found) (place : Place) (r : Reaches bytes ready place) → drop place.before r.rest ≡ drop place.at bytes
+behind bytes ready place r =
+    ap (drop place.before) r.rest_is ∙ drop-drop place.before (place.at - place.before) bytes
+    ∙ ap (λ (n : ℕ). drop n bytes) (let e : place.at - place.before + place.before ≡ place.at = omega (arith, r.inside) in e)
+
+pub rest-length : (bytes : List ℕ) (ready : List Found) (place : Place) (r : Reaches bytes ready place) → length r.rest + place.at ≡ length bytes + place.before
+rest-length bytes ready place r = omega (arith, r.inside, r.within, ap length r.rest_is, length-drop (place.at - place.before) bytes)
+
+part-length : (bytes : List ℕ) (ready : List Found) (place : Place) (r : Reaches bytes ready place) → length (take place.before r.rest) ≡ place.before
+part-length bytes ready place r = length-take-le place.before r.rest (omega (arith, rest-length bytes ready place r, r.within))
+
+next_at : (bytes : List ℕ) (ready : List Found) (place : Place) (r : Reaches bytes ready place)
+    → next_of (drop place.at bytes) (length (take place.before r.rest)) place.has_moof ≡ next_of (drop place.at bytes) place.before place.has_moof
+next_at bytes ready place r = ap (λ (n : ℕ). next_of (drop place.at bytes) n place.has_moof) (part-length bytes ready place r)
+
+longer : (bytes : List ℕ) (ready : List Found) (place : Place) (size : ℕ) (r : Reaches bytes ready place)
+    → take (place.before + size) r.rest ≡ take place.before r.rest ++ take size (drop place.at bytes)
+longer bytes ready place size r =
+    take-add place.before size r.rest ∙ ap (λ (xs : List ℕ). take place.before r.rest ++ take size xs) (behind bytes ready place r)
+
+-- what is passed stays passed when bytes follow
+pub reaches-append : (bytes more : List ℕ) (ready : List Found) (place : Place) → Reaches bytes ready place → Reaches (bytes ++ more) ready place
+reaches-append bytes more ready place r =
+    let fits : place.before ≤ length r.rest = omega (arith, rest-length bytes ready place r, r.within) in
+    record {
+      rest = r.rest ++ more;
+      rest_is = ap (λ (xs : List ℕ). xs ++ more) r.rest_is
+          ∙ sym (drop-append-le (place.at - place.before) bytes more (let e : place.at - place.before ≤ length bytes = omega (arith, r.within) in e));
+      whole = parts-append ready bytes r.rest more r.whole;
+      inside = r.inside;
+      within = omega (arith, r.within, length-append bytes more);
+      goes_on = λ last.
+          ap cut_of (append_assoc r.rest more last) ∙ r.goes_on (more ++ last)
+          ∙ ap (λ (xs : List ℕ). cut_at (take place.before r.rest) xs place.has_moof)
+          (sym (append_assoc (drop place.at bytes) more last) ∙ ap (λ (xs : List ℕ). xs ++ last) (sym (drop-append-le place.at bytes more r.within)))
+          ∙ ap (λ (xs : List ℕ). cut_at xs (drop place.at (bytes ++ more) ++ last) place.has_moof) (sym (take-append-le place.before r.rest more fits));
+    }
 
 -- one more box is passed
-pub record Passes (bytes : List ℕ) (place next : Place) (size : ℕ) : Type 0 where
+pub record Passes (bytes : List ℕ) (ready : List Found) (place next : Place) (size : ℕ) : Type 0 where
   pub some : 0 < size
   pub within : place.at + size ≤ length bytes
-  pub reaches : Reaches bytes next
+  pub reaches : Reaches bytes ready next
 
-pub reaches-joins : (bytes : List ℕ) (place : Place) (has_moof : Bool) (size : ℕ) → Reaches bytes place
+pub reaches-joins : (bytes : List ℕ) (ready : List Found) (place : Place) (has_moof : Bool) (size : ℕ) → Reaches bytes ready place
     → next_of (drop place.at bytes) place.before place.has_moof ≡ Joins has_moof size
-    → Passes bytes place (record { at = place.at + size; before = place.before + size; has_moof = has_moof; ready = place.ready }) size
-reaches-joins bytes place has_moof size r is =
-    let p = next-joins r.part (drop place.at bytes) place.has_moof has_moof size (next_at bytes place r ∙ is) in
+    → Passes bytes ready place (record { at = place.at + size; before = place.before + size; has_moof = has_moof }) size
+reaches-joins bytes ready place has_moof size r is =
+    let p = next-joins (take place.before r.rest) (drop place.at bytes) place.has_moof has_moof size (next_at bytes ready place r ∙ is) in
     let within : place.at + size ≤ length bytes = omega (arith, p.within, p.some, length-drop place.at bytes) in
-    let box : length (take size (drop place.at bytes)) ≡ size = length-take-le size (drop place.at bytes) p.within in
     record {
       some = p.some;
       within = within;
       reaches = record {
+        rest = r.rest;
+        rest_is = r.rest_is ∙ ap (λ (n : ℕ). drop n bytes) (let e : place.at - place.before ≡ place.at + size - (place.before + size) = omega arith in e);
         whole = r.whole;
-        part = r.part ++ take size (drop place.at bytes);
+        inside = omega (arith, r.inside);
         within = within;
-        at_is = omega (arith, r.at_is, box, length-append r.part (take size (drop place.at bytes)));
-        before_is = omega (arith, r.before_is, box, length-append r.part (take size (drop place.at bytes)));
-        ready_is = r.ready_is;
-        goes_on = λ more. r.goes_on more ∙ ap (λ (c : Cut). after_parts r.whole c)
-            (p.goes more ∙ ap (λ (xs : List ℕ). cut_at (r.part ++ take size (drop place.at bytes)) (xs ++ more) has_moof) (drop-drop size place.at bytes));
+        goes_on = λ more. r.goes_on more ∙ p.goes more
+            ∙ ap (λ (xs : List ℕ). cut_at xs (drop size (drop place.at bytes) ++ more) has_moof) (sym (longer bytes ready place size r))
+            ∙ ap (λ (xs : List ℕ). cut_at (take (place.before + size) r.rest) (xs ++ more) has_moof) (drop-drop size place.at bytes);
       };
     }
 
-pub reaches-ends : (bytes : List ℕ) (place : Place) (kind size : ℕ) → Reaches bytes place
+pub reaches-ends : (bytes : List ℕ) (ready : List Found) (place : Place) (kind size : ℕ) → Reaches bytes ready place
     → next_of (drop place.at bytes) place.before place.has_moof ≡ Ends kind size
-    → Passes bytes place (record { at = place.at + size; before = 0; has_moof = false; ready = place.ready + 1 }) size
-reaches-ends bytes place kind size r is =
-    let p = next-ends r.part (drop place.at bytes) place.has_moof kind size (next_at bytes place r ∙ is) in
+    → Passes bytes (ready ++ record { kind = kind; len = place.before + size } ∷ []) place (record { at = place.at + size; before = 0; has_moof = false }) size
+reaches-ends bytes ready place kind size r is =
+    let p = next-ends (take place.before r.rest) (drop place.at bytes) place.has_moof kind size (next_at bytes ready place r ∙ is) in
     let within : place.at + size ≤ length bytes = omega (arith, p.within, p.some, length-drop place.at bytes) in
-    let box : length (take size (drop place.at bytes)) ≡ size = length-take-le size (drop place.at bytes) p.within in
-    let whole : List ℕ = r.part ++ take size (drop place.at bytes) in
-    let last : Part = part_of kind whole in
-    let last_is : bytes_of last ≡ whole = bytes_of-part_of kind whole in
-    let longer : length (flat_map bytes_of (r.whole ++ last ∷ [])) ≡ length (flat_map bytes_of r.whole) + length whole =
-    ap length (flat_map-append bytes_of r.whole (last ∷ [])) ∙ length-append (flat_map bytes_of r.whole) (bytes_of last ++ [])
-    ∙ ap (λ (xs : List ℕ). length (flat_map bytes_of r.whole) + length xs) (append-nil (bytes_of last) ∙ last_is) in
+    let found : Found = record { kind = kind; len = place.before + size } in
+    let rest_is : drop (place.before + size) r.rest ≡ drop (place.at + size) bytes =
+    sym (drop-drop size place.before r.rest) ∙ ap (drop size) (behind bytes ready place r) ∙ drop-drop size place.at bytes in
+    let last : BeginsWith r.rest found = record {
+      within = omega (arith, within, rest-length bytes ready place r);
+      goes_on = λ more. r.goes_on more ∙ p.goes more
+          ∙ ap (λ (xs : List ℕ). after_parts (part_of kind xs ∷ []) (cut_of (drop size (drop place.at bytes) ++ more))) (sym (longer bytes ready place size r))
+          ∙ ap (λ (xs : List ℕ). after_parts (part_of kind (take (place.before + size) r.rest) ∷ []) (cut_of (xs ++ more))) (drop-drop size place.at bytes ∙ sym rest_is);
+    } in
     record {
       some = p.some;
       within = within;
       reaches = record {
-        whole = r.whole ++ last ∷ [];
-        part = [];
+        rest = drop (place.before + size) r.rest;
+        rest_is = rest_is ∙ ap (λ (n : ℕ). drop n bytes) (let e : place.at + size ≡ place.at + size - 0 = omega arith in e);
+        whole = parts-last ready bytes r.rest found r.whole last;
+        inside = omega arith;
         within = within;
-        at_is = omega (arith, r.at_is, longer, box, length-append r.part (take size (drop place.at bytes)));
-        before_is = refl;
-        ready_is = omega (arith, length-append r.whole (last ∷ []), r.ready_is);
-        goes_on = λ more. r.goes_on more ∙ ap (λ (c : Cut). after_parts r.whole c)
-            (p.goes more ∙ ap (λ (xs : List ℕ). after_parts (last ∷ []) (cut_of (xs ++ more))) (drop-drop size place.at bytes))
-            ∙ ap (λ (ps : List Part). record { parts = ps; left = (cut_of (drop (place.at + size) bytes ++ more)).left })
-            (sym (append_assoc r.whole (last ∷ []) (cut_of (drop (place.at + size) bytes ++ more)).parts));
+        goes_on = λ more. ap (λ (xs : List ℕ). cut_of (xs ++ more)) rest_is;
       };
     }
 
@@ -127,69 +163,59 @@ left-next : (bytes part : List ℕ) (has_moof : Bool) (fault : Option BoxFault) 
 left-next bytes part has_moof None is = next-wait part bytes has_moof is
 left-next bytes part has_moof (Some fault) is = next-fault part bytes has_moof fault is
 
--- the cut of a buffer at its last place
-pub settles-cut : (bytes : List ℕ) (place : Place) (fault : Option BoxFault) (s : Settles bytes place fault)
-    → cut_of bytes ≡ record { parts = s.reached.whole; left = left_with fault place.before (length bytes - place.at) place.has_moof }
-settles-cut bytes place fault s =
+-- the cut of what follows the whole parts, at the last place
+settles-rest : (bytes : List ℕ) (ready : List Found) (place : Place) (fault : Option BoxFault) (s : Settles bytes ready place fault)
+    → cut_of s.reached.rest ≡ record { parts = []; left = left_with fault place.before (length bytes - place.at) place.has_moof }
+settles-rest bytes ready place fault s =
     let r = s.reached in
-    let rest : List ℕ = drop place.at bytes in
-    let goes : cut_of bytes ≡ after_parts r.whole (cut_at r.part rest place.has_moof) =
-    ap cut_of (sym (append-nil bytes)) ∙ r.goes_on [] ∙ ap (λ (xs : List ℕ). after_parts r.whole (cut_at r.part xs place.has_moof)) (append-nil rest) in
-    let here = left-next rest r.part place.has_moof fault (next_at bytes place r ∙ s.last) in
-    goes ∙ ap (λ (c : Cut). after_parts r.whole c) here
-    ∙ ap (λ (ps : List Part). record { parts = ps; left = left_with fault (length r.part) (length rest) place.has_moof }) (append-nil r.whole)
-    ∙ ap (λ (n : ℕ). record { parts = r.whole; left = left_with fault n (length rest) place.has_moof }) r.before_is
-    ∙ ap (λ (n : ℕ). record { parts = r.whole; left = left_with fault place.before n place.has_moof }) (length-drop place.at bytes)
+    let at : List ℕ = drop place.at bytes in
+    ap cut_of (sym (append-nil r.rest)) ∙ r.goes_on [] ∙ ap (λ (xs : List ℕ). cut_at (take place.before r.rest) xs place.has_moof) (append-nil at)
+    ∙ left-next at (take place.before r.rest) place.has_moof fault (next_at bytes ready place r ∙ s.last)
+    ∙ ap (λ (n : ℕ). record { parts = []; left = left_with fault n (length at) place.has_moof }) (part-length bytes ready place r)
+    ∙ ap (λ (n : ℕ). record { parts = []; left = left_with fault place.before n place.has_moof }) (length-drop place.at bytes)
+
+pub settles-left : (bytes : List ℕ) (ready : List Found) (place : Place) (fault : Option BoxFault) → Settles bytes ready place fault
+    → (cut_of bytes).left ≡ left_with fault place.before (length bytes - place.at) place.has_moof
+settles-left bytes ready place fault s = parts-left ready bytes s.reached.rest s.reached.whole ∙ ap (λ (c : Cut). c.left) (settles-rest bytes ready place fault s)
 
 left_with-fault : (fault : Option BoxFault) (before rest : ℕ) (has_moof : Bool) → fault_left (left_with fault before rest has_moof) ≡ fault
 left_with-fault None before rest has_moof = open-fault_left (left_of before rest has_moof) (left_of-open before rest has_moof)
 left_with-fault (Some fault) before rest has_moof = refl
 
-pub settles-fault : (bytes : List ℕ) (place : Place) (fault : Option BoxFault) → Settles bytes place fault → text_fault bytes ≡ fault
-settles-fault bytes place fault s =
-    ap (λ (c : Cut). fault_left c.left) (settles-cut bytes place fault s) ∙ left_with-fault fault place.before (length bytes - place.at) place.has_moof
+pub settles-fault : (bytes : List ℕ) (ready : List Found) (place : Place) (fault : Option BoxFault) → Settles bytes ready place fault → text_fault bytes ≡ fault
+settles-fault bytes ready place fault s =
+    ap fault_left (settles-left bytes ready place fault s) ∙ left_with-fault fault place.before (length bytes - place.at) place.has_moof
 
-pub settles-parts : (bytes : List ℕ) (place : Place) (fault : Option BoxFault) (s : Settles bytes place fault) → (cut_of bytes).parts ≡ s.reached.whole
-settles-parts bytes place fault s = ap (λ (c : Cut). c.parts) (settles-cut bytes place fault s)
-
-same_rest : (part : Part) (others : List Part) (c d : Cut) → after_parts (part ∷ []) c ≡ after_parts (part ∷ others) d → c ≡ after_parts others d
-same_rest part others c d is =
-    let left : c.left ≡ d.left = ap (λ (e : Cut). e.left) is in
-    let all : part ∷ c.parts ≡ part ∷ (others ++ d.parts) = ap (λ (e : Cut). e.parts) is in
-    let rest : c.parts ≡ others ++ d.parts = cc in
-    ap (λ (ps : List Part). record { parts = ps; left = c.left }) rest ∙ ap (λ (l : Left). record { parts = others ++ d.parts; left = l }) left
+-- nothing is whole
+pub settles-none : (bytes : List ℕ) (place : Place) (fault : Option BoxFault) → Settles bytes [] place fault → (cut_of bytes).parts ≡ []
+settles-none bytes place fault s = ap (λ (xs : List ℕ). (cut_of xs).parts) s.reached.whole ∙ ap (λ (c : Cut). c.parts) (settles-rest bytes [] place fault s)
 
 -- when the first part is taken, the place moves to the front by its length
-pub taken_whole : (bytes rest : List ℕ) (place : Place) (fault : Option BoxFault) (part : Part) (others : List Part) (len : ℕ) (s : Settles bytes place fault) (whole : List Part)
-    → s.reached.whole ≡ whole → whole ≡ part ∷ others → len ≡ length (bytes_of part) → rest ≡ drop len bytes → len ≤ length bytes
-    → ((more : List ℕ) → cut_of (bytes ++ more) ≡ after_parts (part ∷ []) (cut_of (rest ++ more)))
-    → (len ≤ place.at) × (0 < place.ready) × Settles rest (record { at = place.at - len; before = place.before; has_moof = place.has_moof; ready = place.ready - 1 }) fault
-taken_whole bytes rest place fault part others len s whole whole_is is len_is rest_is fits follows =
+pub first-within : (bytes : List ℕ) (found : Found) (others : List Found) (place : Place) → Reaches bytes (found ∷ others) place → found.len ≤ place.at - place.before
+first-within bytes found others place r =
+    omega (arith, r.whole.0.within, r.inside, rest-length bytes (found ∷ others) place r, length-drop found.len bytes, parts-length others (drop found.len bytes) r.rest r.whole.1)
+
+pub settles-taken : (bytes : List ℕ) (found : Found) (others : List Found) (place : Place) (fault : Option BoxFault) → Settles bytes (found ∷ others) place fault
+    → Settles (drop found.len bytes) others (record { at = place.at - found.len; before = place.before; has_moof = place.has_moof }) fault
+settles-taken bytes found others place fault s =
     let r = s.reached in
-    let all : r.whole ≡ part ∷ others = whole_is ∙ is in
-    let at : length (bytes_of part) + length (flat_map bytes_of others) + length r.part ≡ place.at =
-    ap (λ (n : ℕ). n + length r.part) (sym (length-append (bytes_of part) (flat_map bytes_of others)))
-    ∙ ap (λ (ps : List Part). length (flat_map bytes_of ps) + length r.part) (sym all) ∙ r.at_is in
-    let count : suc (length others) ≡ place.ready = ap (λ (ps : List Part). length ps) (sym all) ∙ r.ready_is in
-    let before : len ≤ place.at = omega (arith, at, len_is) in
-    let drops : drop (place.at - len) rest ≡ drop place.at bytes =
-    ap (drop (place.at - len)) rest_is ∙ drop-drop (place.at - len) len bytes ∙ ap (λ (n : ℕ). drop n bytes) (let e : len + (place.at - len) ≡ place.at = omega (arith, before) in e) in (
-      before,
-      omega (arith, count),
-      record {
-        reached = record {
-          whole = others;
-          part = r.part;
-          within = omega (arith, r.within, length-drop len bytes, ap length rest_is, before);
-          at_is = omega (arith, at, len_is);
-          before_is = r.before_is;
-          ready_is = omega (arith, count);
-          goes_on = λ more.
-              let long : after_parts (part ∷ []) (cut_of (rest ++ more)) ≡ after_parts (part ∷ others) (cut_at r.part (drop place.at bytes ++ more) place.has_moof) =
-              sym (follows more) ∙ r.goes_on more ∙ ap (λ (ps : List Part). after_parts ps (cut_at r.part (drop place.at bytes ++ more) place.has_moof)) all in
-              same_rest part others (cut_of (rest ++ more)) (cut_at r.part (drop place.at bytes ++ more) place.has_moof) long
-              ∙ ap (λ (xs : List ℕ). after_parts others (cut_at r.part (xs ++ more) place.has_moof)) (sym drops);
-        };
-        last = ap (λ (xs : List ℕ). next_of xs place.before place.has_moof) drops ∙ s.last;
-      },
-    )
+    let fits = first-within bytes found others place r in
+    let drops : drop (place.at - found.len) (drop found.len bytes) ≡ drop place.at bytes =
+    drop-drop (place.at - found.len) found.len bytes ∙ ap (λ (n : ℕ). drop n bytes) (let e : found.len + (place.at - found.len) ≡ place.at = omega (arith, fits) in e) in
+    record {
+      reached = record {
+        rest = r.rest;
+        rest_is = r.rest_is ∙ ap (λ (n : ℕ). drop n bytes) (let e : place.at - place.before ≡ found.len + (place.at - found.len - place.before) = omega (arith, fits) in e)
+            ∙ sym (drop-drop (place.at - found.len - place.before) found.len bytes);
+        whole = r.whole.1;
+        inside = omega (arith, fits, r.inside);
+        within = omega (arith, r.within, length-drop found.len bytes);
+        goes_on = λ more. r.goes_on more ∙ ap (λ (xs : List ℕ). cut_at (take place.before r.rest) (xs ++ more) place.has_moof) (sym drops);
+      };
+      last = ap (λ (xs : List ℕ). next_of xs place.before place.has_moof) drops ∙ s.last;
+    }
+
+-- what was in a queue stays at its front when one more is put at its end
+pub stays-in-front : {X : Type 0} (old now : List X) (last : X) (known : ℕ) → known ≡ length old → take known now ≡ old → take known (now ++ last ∷ []) ≡ old
+stays-in-front old now last known long same =
+    take-append-le known now (last ∷ []) (omega (arith, long, ap length same, length-take known now)) ∙ same

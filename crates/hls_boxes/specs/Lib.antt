@@ -1,3 +1,2 @@
 pub mod Reader
 pub mod Scan
-pub mod FirstWalk

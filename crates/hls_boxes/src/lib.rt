@@ -4,7 +4,7 @@
 //! [`UnitReader`](reader::UnitReader) is the door through which a stream comes.
 #![tactic(auto)]
 
-mod first;
+mod found;
 pub mod reader;
 mod room;
 mod scan;

@@ -4,13 +4,14 @@ ghost use Rattle.std.specs.Prelude.{◌≡◌, ◌≢◌, [], ◌++◌, Err, IfO
 ghost use Rattle.hls_boxes_laws.specs.Parts.{cut_of, text_fault, fault_at_end};
 ghost use Rattle.hls_boxes.specs.Reader.{IsRefusal, IsTaken, HasPart, Tells};
 
-use crate::first::{first_part, part_from};
+use crate::found::{Found, part_from};
 use crate::room::cut_front;
 use crate::scan::{Place, Scanned, scan};
 use bytes::BytesMut;
 use hls_boxes_laws::fault::BoxFault;
 use hls_boxes_laws::part::Part;
 use std::alloc::{AllocError, Global};
+use std::collections::VecDeque;
 use std::marker::Model;
 
 /// A reader of one stream, which comes in pieces of any length. Contracts see it as the bytes that
@@ -19,6 +20,8 @@ use std::marker::Model;
 pub struct UnitReader {
     alloc: Global,
     buffer: BytesMut,
+    /// The parts that are whole and not yet taken, in order.
+    ready: VecDeque<Found>,
     place: Place,
     fault: Option<BoxFault>,
 }
@@ -31,7 +34,7 @@ impl Model for UnitReader {
 
     ghost view = { λ r. r.buffer.items };
 
-    ghost invariant = { λ r. Settles r.buffer.items r.place r.fault };
+    ghost invariant = { λ r. Settles r.buffer.items r.ready.items r.place r.fault };
 }
 
 impl UnitReader {
@@ -42,11 +45,11 @@ impl UnitReader {
         UnitReader {
             alloc,
             buffer: BytesMut::new(alloc),
+            ready: VecDeque::new(alloc),
             place: Place {
                 at: 0,
                 before: 0,
                 has_moof: false,
-                ready: 0,
             },
             fault: None,
         }
@@ -68,10 +71,18 @@ impl UnitReader {
         if let Some(fault) = self.fault {
             return Err(fault);
         }
+        if piece.is_empty() {
+            return Ok(());
+        }
+        let held = self.buffer.len();
         if self.buffer.extend_from_slice(piece).is_err() {
             return Err(BoxFault::Memory);
         }
-        let Scanned { place, fault } = scan(self.buffer.as_slice(), self.place);
+        let Ok(Scanned { place, fault }) = scan(self.buffer.as_slice(), self.place, &mut self.ready)
+        else {
+            self.buffer.truncate(held);
+            return Err(BoxFault::Memory);
+        };
         self.place = place;
         self.fault = fault;
         if let Some(found) = fault {
@@ -86,21 +97,14 @@ impl UnitReader {
         ensures ok { IfOk result (λ part. IsTaken part self.old self.new) }
         ensures err { OnErr result ((self.new ≡ self.old) × HasPart self.old) }
     {
-        if self.place.ready == 0 {
-            return Ok(None);
-        }
-        let Some(found) = first_part(self.buffer.as_slice()) else {
+        let Some(&found) = self.ready.front() else {
             return Ok(None);
         };
         let Ok(bytes) = cut_front(&mut self.buffer, self.alloc, found.len) else {
             return Err(AllocError);
         };
-        self.place = Place {
-            at: self.place.at - found.len,
-            before: self.place.before,
-            has_moof: self.place.has_moof,
-            ready: self.place.ready - 1,
-        };
+        self.ready.pop_front();
+        self.place.at -= found.len;
         Ok(Some(part_from(found.kind, bytes)))
     }
 

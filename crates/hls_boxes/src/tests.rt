@@ -182,6 +182,50 @@ fn refused_memory_loses_nothing(rt: HostRuntime) -> Result<(), Fail> {
     )
 }
 
+/// The memory for whole parts has to grow in the midst of this piece.
+#[test]
+fn refused_memory_between_parts(rt: HostRuntime) -> Result<(), Fail> {
+    let mut reader = UnitReader::new(rt.alloc());
+    let piece =
+        b"\x00\x00\x00\x08moov\x00\x00\x00\x09moov\x01\x00\x00\x00\x09moov\x02\x00\x00\x00\x09moov\x03\x00\x00\x00\x09moov\x04\x00\x00\x00\x09moov\x05";
+    assert!(rt; fed(&mut reader, piece).is_ok());
+    assert!(rt; is_init(&taken(&mut reader)?, b"\x00\x00\x00\x08moov"));
+    for last in 1..=5 {
+        let init = [0, 0, 0, 9, b'm', b'o', b'o', b'v', last];
+        assert!(rt; is_init(&taken(&mut reader)?, &init));
+    }
+    assert!(rt; taken(&mut reader)?.is_none());
+    assert!(rt; reader.finish().is_ok());
+    Ok(())
+}
+
+fn small_unit(alloc: Global, number: u16) -> Result<Vec<u8>, AllocError> {
+    joined(
+        alloc,
+        &[
+            b"\x00\x00\x00\x08moof\x00\x00\x00\x0amdat",
+            &number.to_be_bytes(),
+        ],
+    )
+}
+
+#[test]
+fn many_small_units_in_one_piece(rt: HostRuntime) -> Result<(), Fail> {
+    let alloc = rt.alloc();
+    let mut text = Vec::new(alloc);
+    for number in 0..5000 {
+        text.extend_from_slice(&small_unit(alloc, number)?)?;
+    }
+    let mut reader = UnitReader::new(alloc);
+    assert!(rt; fed(&mut reader, &text).is_ok());
+    for number in 0..5000 {
+        assert!(rt; is_unit(&taken(&mut reader)?, &small_unit(alloc, number)?));
+    }
+    assert!(rt; taken(&mut reader)?.is_none());
+    assert!(rt; reader.finish().is_ok());
+    Ok(())
+}
+
 #[test]
 fn parts_before_a_fault(rt: HostRuntime) -> Result<(), Fail> {
     let alloc = rt.alloc();
