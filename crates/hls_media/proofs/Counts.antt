@@ -1,5 +1,5 @@
--- How far a count of fields rises over one more box.
-use Rattle.std.proofs.Common.{◌≡◌, ℕ, suc, ◌+◌, ◌-◌, ◌*◌, ◌≤◌, List, length, drop, slice_range, arith}
+-- How far a count of fields rises over one more box, and that there is room for it.
+use Rattle.std.proofs.Common.{◌≡◌, ℕ, zero, suc, ◌+◌, ◌-◌, ◌*◌, ◌≤◌, List, length, drop, slice_range, subst, sym, arith}
 use Rattle.std.proofs.lemmas.List.{length-drop}
 use Rattle.hls_boxes_laws.specs.declared.header.Header.{Header}
 use Rattle.hls_boxes_laws.specs.Boxes.{IsWithin}
@@ -10,20 +10,44 @@ use Rattle.hls_media.proofs.Slices.{slice-length}
 more : (e walked head content : ℕ) → 3 ≤ head → walked * suc e + 3 + content * suc e ≤ (walked + head + content) * suc e
 more e walked head content long = omega (arith, long)
 
-pub counted-more : (e : ℕ) (all rest : List ℕ) (h : Header) (before now headed after : ℕ) → IsWithin (length rest) h → length rest ≤ length all
-    → RisesBy ((length all - length rest) * suc e) before now → now ≤ headed → headed ≤ now + 3 → RisesBy (length (slice_range rest h.head h.size) * suc e) headed after
-    → RisesBy ((length all - length (drop h.size rest)) * suc e) before after
-counted-more e all rest h before now headed after within walked so_far rises few step =
+pub counted-more : (f : ℕ) (all rest : List ℕ) (h : Header) (before now headed after : ℕ) → 1 ≤ f → IsWithin (length rest) h → length rest ≤ length all
+    → RisesBy ((length all - length rest) * f) before now → now ≤ headed → headed ≤ now + 3 → RisesBy (length (slice_range rest h.head h.size) * f) headed after
+    → RisesBy ((length all - length (drop h.size rest)) * f) before after
+counted-more zero all rest h before now headed after some within walked so_far rises few step = absurd (omega (arith, some))
+counted-more (suc e) all rest h before now headed after some within walked so_far rises few step =
     let content : length (slice_range rest h.head h.size) ≡ h.size - h.head = slice-length rest h.head h.size within.0 within.1 in
     let on : length all - length (drop h.size rest) ≡ (length all - length rest) + h.head + (h.size - h.head) = omega (arith, length-drop h.size rest, walked, within.0, within.1) in
     let top = rw content at step.1 in
     let most = more e (length all - length rest) h.head (h.size - h.head) (omega (arith, within.2)) in
     rw on (omega (arith, so_far.0, rises, step.0), omega (arith, so_far.1, few, top, most))
 
--- the same, where it is one for each byte
-pub counted-once : (all rest : List ℕ) (h : Header) (before now headed after : ℕ) → IsWithin (length rest) h → length rest ≤ length all
-    → RisesBy (length all - length rest) before now → now ≤ headed → headed ≤ now + 3 → RisesBy (length (slice_range rest h.head h.size)) headed after
-    → RisesBy (length all - length (drop h.size rest)) before after
-counted-once all rest h before now headed after within walked so_far rises few step =
+more_bytes : (f part others before now : ℕ) → now ≤ before + part * f → now ≤ before + (part + others) * f
+more_bytes f part others before now most = omega (arith, most)
+
+-- the same of more bytes
+pub counted-all : (f part all before now : ℕ) → part ≤ all → RisesBy (part * f) before now → RisesBy (all * f) before now
+counted-all f part all before now le counted =
+    let parts : all ≡ part + (all - part) = omega (arith, le) in
+    (counted.0, subst (λ n. now ≤ before + n * f) (sym parts) (more_bytes f part (all - part) before now counted.1))
+
+-- what was counted is below what all bytes have room for
+below : (f walked left before now top : ℕ) → before + (walked + left) * f ≤ top → now ≤ before + walked * f → now ≤ top
+below f walked left before now top room so_far = omega (arith, room, so_far)
+
+pub counted-below : (f : ℕ) (all rest : List ℕ) (before now top : ℕ) → length rest ≤ length all → before + length all * f ≤ top → RisesBy ((length all - length rest) * f) before now → now ≤ top
+counted-below f all rest before now top walked room so_far =
+    let parts : length all ≡ (length all - length rest) + length rest = omega (arith, walked) in
+    below f (length all - length rest) (length rest) before now top (subst (λ n. before + n * f ≤ top) parts room) so_far.1
+
+left_for : (e walked head content behind before now headed top : ℕ) → 3 ≤ head → before + (walked + head + content + behind) * suc e ≤ top → now ≤ before + walked * suc e → headed ≤ now + 3
+    → headed + content * suc e ≤ top
+left_for e walked head content behind before now headed top long room so_far few = omega (arith, long, room, so_far, few)
+
+pub room-for-content : (f : ℕ) (all rest : List ℕ) (h : Header) (before now headed top : ℕ) → 1 ≤ f → IsWithin (length rest) h → length rest ≤ length all → before + length all * f ≤ top
+    → RisesBy ((length all - length rest) * f) before now → headed ≤ now + 3 → headed + length (slice_range rest h.head h.size) * f ≤ top
+room-for-content zero all rest h before now headed top some within walked room so_far few = absurd (omega (arith, some))
+room-for-content (suc e) all rest h before now headed top some within walked room so_far few =
     let content : length (slice_range rest h.head h.size) ≡ h.size - h.head = slice-length rest h.head h.size within.0 within.1 in
-    (omega (arith, so_far.0, rises, step.0), omega (arith, so_far.1, few, step.1, content, length-drop h.size rest, walked, within.0, within.1, within.2))
+    let parts : length all ≡ (length all - length rest) + h.head + (h.size - h.head) + (length rest - h.size) = omega (arith, walked, within.0, within.1) in
+    rw content
+    (left_for e (length all - length rest) h.head (h.size - h.head) (length rest - h.size) before now headed top (omega (arith, within.2)) (subst (λ n. before + n * suc e ≤ top) parts room) so_far.1 few)

@@ -3,7 +3,6 @@ use Rattle.std.proofs.Common.{◌≡◌, ℕ, ◌+◌, ◌-◌, ◌≤◌, ◌==
 use Rattle.std.proofs.lemmas.List.{length-append}
 use Rattle.std.specs.Option.{option_or}
 use Rattle.hls_boxes_laws.specs.declared.header.Header.{Header}
-use Rattle.hls_boxes_laws.specs.Boxes.{child_of}
 use Rattle.hls_media_laws.specs.Kinds.{trak_type, mvex_type}
 use Rattle.hls_media_laws.specs.declared.track.Track.{Track}
 use Rattle.hls_media_laws.specs.Inits.{track_at}
@@ -24,12 +23,12 @@ added-len None ids tracks new_ids new_tracks added = absurd added
 added-len (Some t) ids tracks new_ids new_tracks added = ap length added.1 ∙ length-append ids (t.id ∷ [])
 
 pub gather-trak : (moov ids : List ℕ) (tracks : List Track) (mvex : Option Span) (rest : List ℕ) (h : Header) (new_ids : List ℕ) (new_tracks : List Track) → h.kind ≡ trak_type → Added true (track_at (slice_range rest h.head h.size)) ids tracks new_ids new_tracks
-    → gather_step (seen_with moov ids tracks mvex) (child_of h rest) ≡ Some (seen_with moov new_ids new_tracks mvex)
+    → gather_step (seen_with moov ids tracks mvex) h.kind (slice_range rest h.head h.size) ≡ Some (seen_with moov new_ids new_tracks mvex)
 gather-trak moov ids tracks mvex rest h new_ids new_tracks kind added =
     rw kind (added-true (seen_with moov ids tracks mvex) (track_at (slice_range rest h.head h.size)) new_ids new_tracks added)
 
 pub gather-trak-bad : (moov ids : List ℕ) (tracks : List Track) (mvex : Option Span) (rest : List ℕ) (h : Header) (new_ids : List ℕ) (new_tracks : List Track) → h.kind ≡ trak_type → Added false (track_at (slice_range rest h.head h.size)) ids tracks new_ids new_tracks
-    → gather_step (seen_with moov ids tracks mvex) (child_of h rest) ≡ None
+    → gather_step (seen_with moov ids tracks mvex) h.kind (slice_range rest h.head h.size) ≡ None
 gather-trak-bad moov ids tracks mvex rest h new_ids new_tracks kind added =
     rw kind (added-false (seen_with moov ids tracks mvex) (track_at (slice_range rest h.head h.size)) new_ids new_tracks added)
 
@@ -39,11 +38,11 @@ first_mvex moov ids tracks None span content is = rw is refl
 first_mvex moov ids tracks (Some m) span content is = refl
 
 pub gather-mvex : (moov ids : List ℕ) (tracks : List Track) (mvex : Option Span) (rest : List ℕ) (h : Header) → h.kind ≡ mvex_type → rest ≡ drop (length moov - length rest) moov
-    → gather_step (seen_with moov ids tracks mvex) (child_of h rest) ≡ Some (seen_with moov ids tracks (option_or mvex (Some (record { from = length moov - length rest + h.head; to = length moov - length rest + h.size }))))
+    → gather_step (seen_with moov ids tracks mvex) h.kind (slice_range rest h.head h.size) ≡ Some (seen_with moov ids tracks (option_or mvex (Some (record { from = length moov - length rest + h.head; to = length moov - length rest + h.size }))))
 gather-mvex moov ids tracks mvex rest h kind rest_is =
     rw kind (first_mvex moov ids tracks mvex (record { from = length moov - length rest + h.head; to = length moov - length rest + h.size }) (slice_range rest h.head h.size) (slice-of-drop moov rest (length moov - length rest) h.head h.size rest_is))
 
-pub gather-other : (moov ids : List ℕ) (tracks : List Track) (mvex : Option Span) (rest : List ℕ) (h : Header) → (h.kind == trak_type) ≡ false → (h.kind == mvex_type) ≡ false → gather_step (seen_with moov ids tracks mvex) (child_of h rest) ≡ Some (seen_with moov ids tracks mvex)
+pub gather-other : (moov ids : List ℕ) (tracks : List Track) (mvex : Option Span) (rest : List ℕ) (h : Header) → (h.kind == trak_type) ≡ false → (h.kind == mvex_type) ≡ false → gather_step (seen_with moov ids tracks mvex) h.kind (slice_range rest h.head h.size) ≡ Some (seen_with moov ids tracks mvex)
 gather-other moov ids tracks mvex rest h trak mvex_box = rw (trak, mvex_box) refl
 
 pub span-within : (mvex : Option Span) (span : Span) (len : ℕ) → IfSome mvex (λ s. (s.from ≤ s.to) × (s.to ≤ len)) → span.from ≤ span.to → span.to ≤ len → IfSome (option_or mvex (Some span)) (λ s. (s.from ≤ s.to) × (s.to ≤ len))

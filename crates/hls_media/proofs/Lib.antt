@@ -2,7 +2,6 @@ mod Overs
 mod TrafLaws
 mod RunLaws
 mod ColumnLaws
-mod NearLaws
 mod Slices
 mod Counts
 mod BridgeLaws

@@ -1,16 +1,16 @@
 -- A walk over boxes, one box at a time.
-use Rattle.std.proofs.Common.{◌≡◌, ℕ, ◌<◌, List, [], ◌∷◌, length, drop, Option, Some, None, option_and_then, option_map, refl, ◌∙◌, ap, arith}
+use Rattle.std.proofs.Common.{◌≡◌, ℕ, ◌<◌, List, [], ◌∷◌, length, drop, slice_range, Option, Some, None, option_and_then, option_map, refl, ◌∙◌, ap, arith}
 use Rattle.hls_boxes_laws.specs.declared.header.Header.{Header}
 use Rattle.hls_boxes_laws.specs.Boxes.{Child, child_of, children, children_by, box_at}
 use Rattle.hls_boxes_laws.proofs.Walk.{children-empty, children-step}
 use Rattle.hls_media.specs.Folds.{along, over}
 
-pub over-end : {S R : Type 0} (step : S → Child → Option S) (finish : S → Option R) (s : S) (bytes : List ℕ) → length bytes ≡ 0 → over step finish s bytes ≡ finish s
+pub over-end : {S R : Type 0} (step : S → ℕ → List ℕ → Option S) (finish : S → Option R) (s : S) (bytes : List ℕ) → length bytes ≡ 0 → over step finish s bytes ≡ finish s
 unfolding over along
 over-end step finish s [] e = ap (option_and_then (along step finish s)) children-empty
 over-end step finish s (b ∷ bytes) e = absurd (omega (arith, e))
 
-pub over-bad : {S R : Type 0} (step : S → Child → Option S) (finish : S → Option R) (s : S) (bytes : List ℕ) → 0 < length bytes → box_at bytes ≡ None → over step finish s bytes ≡ None
+pub over-bad : {S R : Type 0} (step : S → ℕ → List ℕ → Option S) (finish : S → Option R) (s : S) (bytes : List ℕ) → 0 < length bytes → box_at bytes ≡ None → over step finish s bytes ≡ None
 unfolding over
 over-bad step finish s bytes some none =
     ap (option_and_then (along step finish s)) (children-step bytes some ∙ ap (children_by children bytes) none)
@@ -20,16 +20,58 @@ nothing None = refl
 nothing (Some a) = refl
 
 -- what stands behind the first box
-front : {S R : Type 0} (step : S → Child → Option S) (finish : S → Option R) (s : S) (c : Child) (others : Option (List Child))
-    → option_and_then (along step finish s) (option_map (λ more. c ∷ more) others) ≡ option_and_then (λ s'. option_and_then (along step finish s') others) (step s c)
+front : {S R : Type 0} (step : S → ℕ → List ℕ → Option S) (finish : S → Option R) (s : S) (c : Child) (others : Option (List Child))
+    → option_and_then (along step finish s) (option_map (λ more. c ∷ more) others) ≡ option_and_then (λ s'. option_and_then (along step finish s') others) (step s c.kind c.content)
 unfolding along
-front step finish s c None = nothing (step s c)
+front step finish s c None = nothing (step s c.kind c.content)
 front step finish s c (Some cs) = refl
 
-pub over-next : {S R : Type 0} (step : S → Child → Option S) (finish : S → Option R) (s : S) (bytes : List ℕ) (h : Header) (next : Option S) → 0 < length bytes → box_at bytes ≡ Some h → step s (child_of h bytes) ≡ next
+pub over-next : {S R : Type 0} (step : S → ℕ → List ℕ → Option S) (finish : S → Option R) (s : S) (bytes : List ℕ) (h : Header) (next : Option S) → 0 < length bytes → box_at bytes ≡ Some h → step s h.kind (slice_range bytes h.head h.size) ≡ next
     → over step finish s bytes ≡ option_and_then (λ s'. over step finish s' (drop h.size bytes)) next
 unfolding over
 over-next step finish s bytes h next some is_box stepped =
     ap (option_and_then (along step finish s)) (children-step bytes some ∙ ap (children_by children bytes) is_box)
     ∙ front step finish s (child_of h bytes) (children (drop h.size bytes))
     ∙ ap (option_and_then (λ s'. option_and_then (along step finish s') (children (drop h.size bytes)))) stepped
+
+-- what is made of the last state
+finish_next : {S R : Type 0} (step : S → ℕ → List ℕ → Option S) (finish : S → Option R) (cs : List Child) → ((s : S) → option_and_then finish (along step Some s cs) ≡ along step finish s cs) → (next : Option S)
+    → option_and_then finish (option_and_then (λ s. along step Some s cs) next) ≡ option_and_then (λ s. along step finish s cs) next
+finish_next step finish cs ih None = refl
+finish_next step finish cs ih (Some s) = ih s
+
+along-finish : {S R : Type 0} (step : S → ℕ → List ℕ → Option S) (finish : S → Option R) (cs : List Child) (s : S) → option_and_then finish (along step Some s cs) ≡ along step finish s cs
+unfolding along
+along-finish step finish [] s = refl
+along-finish step finish (c ∷ cs) s = finish_next step finish cs (along-finish step finish cs) (step s c.kind c.content)
+
+finish_boxes : {S R : Type 0} (step : S → ℕ → List ℕ → Option S) (finish : S → Option R) (s : S) (boxes : Option (List Child)) → option_and_then finish (option_and_then (along step Some s) boxes) ≡ option_and_then (along step finish s) boxes
+finish_boxes step finish s None = refl
+finish_boxes step finish s (Some cs) = along-finish step finish cs s
+
+pub over-finish : {S R : Type 0} (step : S → ℕ → List ℕ → Option S) (finish : S → Option R) (s : S) (bytes : List ℕ) → option_and_then finish (over step Some s bytes) ≡ over step finish s bytes
+unfolding over
+over-finish step finish s bytes = finish_boxes step finish s (children bytes)
+
+-- a walk that keeps the same in another form
+module _ {S T R : Type 0} (view : S → T) (back : T → S) (same : (t : T) → view (back t) ≡ t) (step : T → ℕ → List ℕ → Option T) (finish : T → Option R) where
+  abbrev seen : S → ℕ → List ℕ → Option S
+  seen s kind content = option_map back (step (view s) kind content)
+
+  seen_next : (cs : List Child) → ((s : S) → along seen (λ s. finish (view s)) s cs ≡ along step finish (view s) cs) → (next : Option T)
+      → option_and_then (λ s. along seen (λ s. finish (view s)) s cs) (option_map back next) ≡ option_and_then (λ t. along step finish t cs) next
+  seen_next cs ih None = refl
+  seen_next cs ih (Some t) = ih (back t) ∙ ap (λ t. along step finish t cs) (same t)
+
+  along-seen : (cs : List Child) (s : S) → along seen (λ s. finish (view s)) s cs ≡ along step finish (view s) cs
+  unfolding along
+  along-seen [] s = refl
+  along-seen (c ∷ cs) s = seen_next cs (along-seen cs) (step (view s) c.kind c.content)
+
+  seen_boxes : (s : S) (boxes : Option (List Child)) → option_and_then (along seen (λ s. finish (view s)) s) boxes ≡ option_and_then (along step finish (view s)) boxes
+  seen_boxes s None = refl
+  seen_boxes s (Some cs) = along-seen cs s
+
+  pub over-seen : (s : S) (bytes : List ℕ) → over seen (λ s. finish (view s)) s bytes ≡ over step finish (view s) bytes
+  unfolding over
+  over-seen s bytes = seen_boxes s (children bytes)

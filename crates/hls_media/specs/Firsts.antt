@@ -1,17 +1,21 @@
 -- A walk that keeps something of the first box of each of two types.
 -- For the proofs of this crate; no public clause cites it.
-use Rattle.std.specs.Prelude.{◌≡◌, ℕ, ◌+◌, ◌-◌, ◌≤◌, ◌==◌, if◌then◌else◌, Option, Some, None, is_some, option_map, List, length}
-use Rattle.hls_boxes_laws.specs.Boxes.{Child}
-use Rattle.hls_media.specs.Folds.{over}
+use Rattle.std.specs.Prelude.{ℕ, ◌+◌, ◌==◌, if◌then◌else◌, Option, Some, is_some, option_map, List}
+use Rattle.hls_media_laws.specs.Kinds.{mdhd_type, hdlr_type, tkhd_type, mdia_type}
+use Rattle.hls_media_laws.specs.declared.track.Media.{Media}
+use Rattle.hls_media_laws.specs.declared.track.Track.{Track}
+use Rattle.hls_media_laws.specs.Inits.{versioned_field, handler_field, media_from, media_of, track_from}
+use Rattle.hls_media.specs.declared.medias.MediaSoFar.{MediaSoFar}
+use Rattle.hls_media.specs.declared.medias.TrackSoFar.{TrackSoFar}
 
 -- what was kept of either
 abbrev pub Firsts : Type 0 → Type 0 → Type 0
 Firsts X Y = Option X × Option Y
 
-abbrev pub first_step : {X Y : Type 0} → (List ℕ → Option X) → (List ℕ → Option Y) → ℕ → ℕ → Firsts X Y → Child → Option (Firsts X Y)
-first_step f g one two s c =
-    if c.kind == one then (if is_some s.0 then Some s else option_map (λ v. (Some v, s.1)) (f c.content))
-    else (if c.kind == two then (if is_some s.1 then Some s else option_map (λ v. (s.0, Some v)) (g c.content))
+abbrev pub first_step : {X Y : Type 0} → (List ℕ → Option X) → (List ℕ → Option Y) → ℕ → ℕ → Firsts X Y → ℕ → List ℕ → Option (Firsts X Y)
+first_step f g one two s kind content =
+    if kind == one then (if is_some s.0 then Some s else option_map (λ v. (Some v, s.1)) (f content))
+    else (if kind == two then (if is_some s.1 then Some s else option_map (λ v. (s.0, Some v)) (g content))
     else Some s)
 
 abbrev pub both : {X Y R : Type 0} → (Option X → Option Y → Option R) → Firsts X Y → Option R
@@ -21,7 +25,34 @@ both make s = make s.0 s.1
 abbrev pub weight : {X Y : Type 0} → ℕ → ℕ → Firsts X Y → ℕ
 weight a b s = (if is_some s.0 then a else 0) + (if is_some s.1 then b else 0)
 
-pub record FirstsSoFar {X Y R : Type 0} (f : List ℕ → Option X) (g : List ℕ → Option Y) (one two a b : ℕ) (make : Option X → Option Y → Option R) (content : List ℕ) (so_far : Firsts X Y) (rest : List ℕ) : Type 0 where
-  pub value : over (first_step f g one two) (both make) (None, None) content ≡ over (first_step f g one two) (both make) so_far rest
-  pub least : weight a b so_far ≤ length content - length rest
-  pub within : length rest ≤ length content
+-- of an `mdia`: its timescale, and its handler
+abbrev pub in_media : MediaSoFar → Firsts ℕ ℕ
+in_media s = (s.scale, s.handler)
+
+abbrev pub media_so_far : Firsts ℕ ℕ → MediaSoFar
+media_so_far s = record { scale = s.0; handler = s.1 }
+
+abbrev pub media_step : MediaSoFar → ℕ → List ℕ → Option MediaSoFar
+media_step s kind content = option_map media_so_far (first_step versioned_field handler_field mdhd_type hdlr_type (in_media s) kind content)
+
+abbrev pub whole_media : MediaSoFar → Option Media
+whole_media s = both media_from (in_media s)
+
+abbrev pub media_weight : MediaSoFar → ℕ
+media_weight s = weight 24 20 (in_media s)
+
+-- of a `trak`: its number, and its media
+abbrev pub in_track : TrackSoFar → Firsts ℕ Media
+in_track s = (s.id, s.media)
+
+abbrev pub track_so_far : Firsts ℕ Media → TrackSoFar
+track_so_far s = record { id = s.0; media = s.1 }
+
+abbrev pub track_step : TrackSoFar → ℕ → List ℕ → Option TrackSoFar
+track_step s kind content = option_map track_so_far (first_step versioned_field media_of tkhd_type mdia_type (in_track s) kind content)
+
+abbrev pub whole_track : TrackSoFar → Option Track
+whole_track s = both track_from (in_track s)
+
+abbrev pub track_weight : TrackSoFar → ℕ
+track_weight s = weight 24 52 (in_track s)

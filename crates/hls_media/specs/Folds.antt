@@ -3,14 +3,11 @@
 use Rattle.std.specs.Prelude.{ℕ, List, [], ◌∷◌, Option, option_and_then}
 use Rattle.hls_boxes_laws.specs.Boxes.{Child, children}
 
-unfoldable pub along : {S R : Type 0} → (S → Child → Option S) → (S → Option R) → S → List Child → Option R
+-- each step takes the type of a box and its content
+unfoldable pub along : {S R : Type 0} → (S → ℕ → List ℕ → Option S) → (S → Option R) → S → List Child → Option R
 along step finish s [] = finish s
-along step finish s (c ∷ cs) = option_and_then (λ s'. along step finish s' cs) (step s c)
-
--- a box of this type and content; no step looks at the length of its header
-abbrev pub box_of : ℕ → List ℕ → Child
-box_of kind content = record { kind = kind; head = 0; content = content }
+along step finish s (c ∷ cs) = option_and_then (λ s'. along step finish s' cs) (step s c.kind c.content)
 
 -- none where no boxes fill the text, or a step gives none
-unfoldable pub over : {S R : Type 0} → (S → Child → Option S) → (S → Option R) → S → List ℕ → Option R
+unfoldable pub over : {S R : Type 0} → (S → ℕ → List ℕ → Option S) → (S → Option R) → S → List ℕ → Option R
 over step finish s bytes = option_and_then (along step finish s) (children bytes)

@@ -2,7 +2,6 @@
 -- For the proofs of this crate; no public clause cites it.
 use Rattle.std.specs.Prelude.{Bool, true, false, ◌≡◌, ℕ, ◌-◌, ◌*◌, ◌≤◌, ◌==◌, if◌then◌else◌, Option, Some, None, IfSome, is_some, option_map, option_and_then, List, [], ◌∷◌, ◌++◌, length, drop, slice_range}
 use Rattle.std.specs.List.{list_any}
-use Rattle.hls_boxes_laws.specs.Boxes.{Child}
 use Rattle.hls_media_laws.specs.Kinds.{trak_type, mvex_type}
 use Rattle.hls_media_laws.specs.declared.track.Track.{Track}
 use Rattle.hls_media_laws.specs.Inits.{track_at}
@@ -30,10 +29,10 @@ Added true (Some t) ids tracks new_ids new_tracks = (list_any (λ (m : ℕ). m =
 Added false None ids tracks new_ids new_tracks = Unit {0}
 Added false (Some t) ids tracks new_ids new_tracks = list_any (λ (m : ℕ). m == t.id) ids ≡ true
 
-abbrev pub gather_step : Gathered → Child → Option Gathered
-gather_step s c =
-    if c.kind == trak_type then option_and_then (with_track s) (track_at c.content)
-    else (if c.kind == mvex_type then (if is_some s.mvex then Some s else Some (record s { mvex = Some c.content }))
+abbrev pub gather_step : Gathered → ℕ → List ℕ → Option Gathered
+gather_step s kind content =
+    if kind == trak_type then option_and_then (with_track s) (track_at content)
+    else (if kind == mvex_type then (if is_some s.mvex then Some s else Some (record s { mvex = Some content }))
     else Some s)
 
 -- whether these are the numbers of all tracks, and the tracks where they are at most eight

@@ -4,11 +4,12 @@ pub mod Noted
 pub mod Valued
 pub mod Summed
 pub mod Placed
-pub mod Walked
 pub mod Timed
+pub mod Runs
 pub mod Tallies
 pub mod Shapes
 pub mod Firsts
 pub mod Given
 pub mod Gathered
 pub mod Counted
+pub mod Lasting

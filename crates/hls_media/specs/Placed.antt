@@ -1,9 +1,7 @@
--- Where the bytes of runs lie, one box of a `traf` after the other.
+-- Where the bytes of runs lie, one after the other.
 -- For the proofs of this crate; no public clause cites it.
-use Rattle.std.specs.Prelude.{unwrap_or, option_map, ℕ, ℤ, pos, neg_ℤ, ◌+◌, ◌*◌, ◌^◌, ◌+ℤ◌, ◌≤ℤ◌, ◌==◌, ◌||◌, if◌then◌else◌, Option, Some, None, List}
-use Rattle.hls_boxes_laws.specs.Boxes.{Child}
-use Rattle.hls_media_laws.specs.Kinds.{trun_type}
-use Rattle.hls_media_laws.specs.Fields.{run_fits, sizes, total, lacks}
+use Rattle.std.specs.Prelude.{unwrap_or, option_map, ℕ, ℤ, pos, neg_ℤ, ◌+◌, ◌*◌, ◌^◌, ◌+ℤ◌, ◌≤ℤ◌, ◌||◌, Option, List}
+use Rattle.hls_media_laws.specs.Fields.{sizes, total, lacks}
 use Rattle.hls_media_laws.specs.Runs.{run_begin, is_outside}
 use Rattle.hls_media.specs.declared.places.Frame.{Frame}
 use Rattle.hls_media.specs.declared.places.Placed.{Placed}
@@ -20,14 +18,6 @@ placed_more default f p r =
     let begin = run_begin f.base p.end r in
     let len = total (sizes default r) in
     record { end = begin +ℤ pos len; lacking = p.lacking || lacks (sizes default r); outside = p.outside || is_outside f.low f.high begin len }
-
-unfoldable pub placed_by : Option ℕ → Frame → Placed → List ℕ → Option Placed
-placed_by default f p r = if run_fits r then Some (placed_more default f p r) else None
-
-abbrev pub placed_step : Option ℕ → Frame → Placed → Child → Option Placed
-placed_step default f p c =
-    if c.kind == trun_type then placed_by default f p c.content
-    else Some p
 
 -- at most n times 2 ^ 62 from zero
 abbrev pub IsNear : ℕ → ℤ → Type 0

@@ -1,7 +1,6 @@
 -- What the code keeps of the `traf` boxes so far, one more at a time.
 -- For the proofs of this crate; no public clause cites it.
-use Rattle.std.specs.Prelude.{ℕ, ℤ, pos, ◌<◌, ◌^◌, ◌==◌, false, ◌&&◌, ◌||◌, if◌then◌else◌, Option, Some, None, is_none, option_map, Result, Err, List, fold}
-use Rattle.hls_boxes_laws.specs.Boxes.{Child}
+use Rattle.std.specs.Prelude.{ℕ, ℤ, pos, ◌<◌, ◌^◌, ◌==◌, Bool, false, ◌&&◌, ◌||◌, if◌then◌else◌, Option, Some, None, is_none, option_map, Result, Err, List, fold}
 use Rattle.hls_media_laws.specs.Kinds.{traf_type}
 use Rattle.hls_media_laws.specs.declared.track.Track.{Track}
 use Rattle.hls_media_laws.specs.declared.facts.Facts.{Facts}
@@ -18,7 +17,7 @@ use Rattle.hls_media.specs.declared.tallies.Bounds.{Bounds}
 use Rattle.hls_media.specs.declared.tallies.Tally.{Tally}
 use Rattle.hls_media.specs.declared.tallies.Timing.{Timing}
 use Rattle.hls_media.specs.declared.tallies.Timing.TheVariants as timings
-use Rattle.hls_media.specs.Placed.{placed_more}
+use Rattle.hls_media.specs.Placed.{placed_more, IsNear}
 use Rattle.hls_media.specs.Timed.{timed_more, no_samples}
 
 abbrev pub given : List Track → Track → Bounds → Given
@@ -47,11 +46,19 @@ timing_more g timings.Missing t = timings.One (option_map decode_time t.time) (t
 timing_more g (timings.One time timed) t = timings.Several
 timing_more g timings.Several t = timings.Several
 
--- the same, of what the walk over the runs gave
-abbrev pub timing_by : Option ℕ → Option Timed → Timing → Option Timing
-timing_by time timed timings.Missing = option_map (λ (t : Timed). timings.One time t) timed
-timing_by time timed (timings.One time' timed') = Some timings.Several
-timing_by time timed timings.Several = Some timings.Several
+-- what is known of the samples of a `traf` before its first run, where that is asked: of the timing track's first one
+abbrev pub asked : Bool → Timing → Option Timed
+asked own timings.Missing = if own then Some no_samples else None
+asked own (timings.One time timed) = None
+asked own timings.Several = None
+
+abbrev pub one_or_several : Option ℕ → Option Timed → Timing
+one_or_several time (Some timed) = timings.One time timed
+one_or_several time None = timings.Several
+
+-- the same as `timing_more`, of what the walk over the runs gave
+abbrev pub timing_by : Bool → Option ℕ → Option Timed → Timing → Timing
+timing_by own time timed s = if own then one_or_several time timed else s
 
 unfoldable pub tally_more : Given → Tally → Traf → Tally
 tally_more g s t = record {
@@ -61,8 +68,19 @@ tally_more g s t = record {
   placed = traf_placed g s.placed t;
 }
 
-abbrev pub tally_step : Given → Tally → Child → Option Tally
-tally_step g s c = if c.kind == traf_type then option_map (tally_more g s) (traf_at c.content) else Some s
+-- a duration that is far below what 128 bits hold
+abbrev pub IsShort : Timing → Type 0
+IsShort timings.Missing = Unit {0}
+IsShort timings.Several = Unit {0}
+IsShort (timings.One time t) = t.duration < 2 ^ 106
+
+abbrev pub tally_step : Given → Tally → ℕ → List ℕ → Option Tally
+tally_step g s kind content = if kind == traf_type then option_map (tally_more g s) (traf_at content) else Some s
+
+-- what is known after boxes of so many bytes
+pub record TallyKnown (n : ℕ) (s : Tally) : Type 0 where
+  pub near : IsNear n s.placed.end
+  pub short : IsShort s.timing
 
 -- the first fault of a tally, or the facts
 abbrev pub verdict_of : Track → ℕ → Placed → Timing → Result Facts MediaFault
@@ -83,9 +101,3 @@ verdict k len s =
 abbrev pub judged : Track → ℕ → Option Tally → Result Facts MediaFault
 judged k len None = Err faults.BadBox
 judged k len (Some s) = verdict k len s
-
--- a duration that is far below what 128 bits hold
-abbrev pub IsShort : Timing → Type 0
-IsShort timings.Missing = Unit {0}
-IsShort timings.Several = Unit {0}
-IsShort (timings.One time t) = t.duration < 2 ^ 106

@@ -1,9 +1,7 @@
--- How long the samples of a `traf` last, and what the flags of its first one are, one box after the other.
+-- How long the samples of a `traf` last, and what the flags of its first one are, one run after the other.
 -- For the proofs of this crate; no public clause cites it.
-use Rattle.std.specs.Prelude.{ℕ, ◌+◌, ◌==◌, nat_lt, false, not, ◌&&◌, ◌||◌, if◌then◌else◌, Option, Some, None, List}
-use Rattle.hls_boxes_laws.specs.Boxes.{Child}
-use Rattle.hls_media_laws.specs.Kinds.{trun_type}
-use Rattle.hls_media_laws.specs.Fields.{run_fits, count_of, durations, total, lacks}
+use Rattle.std.specs.Prelude.{ℕ, ◌+◌, nat_lt, false, not, ◌&&◌, ◌||◌, if◌then◌else◌, Option, None, List}
+use Rattle.hls_media_laws.specs.Fields.{count_of, durations, total, lacks}
 use Rattle.hls_media_laws.specs.Runs.{first_sample_flags}
 use Rattle.hls_media.specs.declared.times.Timed.{Timed}
 
@@ -19,11 +17,3 @@ unfoldable pub timed_more : Option ℕ → Option ℕ → Timed → List ℕ →
 timed_more duration flags t r =
     let lengths = durations duration r in
     record { duration = t.duration + total lengths; lacking = t.lacking || lacks lengths; samples = t.samples || nat_lt 0 (count_of r); flags = flags_more flags t r }
-
-unfoldable pub timed_by : Option ℕ → Option ℕ → Timed → List ℕ → Option Timed
-timed_by duration flags t r = if run_fits r then Some (timed_more duration flags t r) else None
-
-abbrev pub timed_step : Option ℕ → Option ℕ → Timed → Child → Option Timed
-timed_step duration flags t c =
-    if c.kind == trun_type then timed_by duration flags t c.content
-    else Some t

@@ -4,6 +4,7 @@
 mod columns;
 mod fields;
 mod flags;
+mod gather;
 mod headers;
 mod headings;
 mod ids;
@@ -11,6 +12,7 @@ mod inits;
 mod medias;
 mod moovs;
 mod places;
+mod runs;
 mod tallies;
 mod tfdt;
 mod tfhd;

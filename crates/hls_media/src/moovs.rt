@@ -2,7 +2,7 @@
 
 ghost use Rattle.std.specs.Prelude.{◌≡◌, ◌^◌, ◌<◌, ◌≤◌, true, Some, [], length, IfSome, option_map, if◌then◌else◌, None};
 ghost use Rattle.hls_media_laws.specs.Inits.{track_at as track_by_lists, tracks_of};
-ghost use Rattle.hls_media.specs.Folds.{box_of, over};
+ghost use Rattle.hls_media.specs.Folds.{over};
 ghost use Rattle.hls_media.specs.declared.moovs.Rest.{Rest};
 ghost use Rattle.hls_media.specs.Given.{given_step};
 ghost use Rattle.hls_media.specs.Gathered.{gather_step, nothing_yet, seen_with, Added, AreTracks};
@@ -23,7 +23,8 @@ pub struct Span {
 
 /// Adds the track of the `trak` with this content. Whether that was good, and its number new.
 fn add_track(ids: &mut Ids, tracks: &mut Tracks, content: &[u8]) -> bool
-    requires { 76 ≤ length content.now → length ids.old < 16384 }
+    requires len { length content.now ≤ 2 ^ 20 }
+    requires room { 76 ≤ length content.now → length ids.old < 16384 }
     ensures value { Added result (track_by_lists content.now) ids.old tracks.old ids.new tracks.new }
     ensures least { result ≡ true → 76 ≤ length content.now }
 {
@@ -86,7 +87,7 @@ fn gather(moov: &[u8], ids: &mut Ids, tracks: &mut Tracks) -> Option<Rest>
 
 /// Gives the tracks the defaults of one more box of an `mvex`. Whether it was good.
 fn give_box(tracks: &mut Tracks, kind: u32, content: &[u8]) -> bool
-    ensures { given_step tracks.old (box_of kind content.now) ≡ (if result then Some tracks.new else None) }
+    ensures { given_step tracks.old kind content.now ≡ (if result then Some tracks.new else None) }
 {
     if kind != TREX {
         return true;

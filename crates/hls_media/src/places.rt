@@ -4,14 +4,11 @@
 ghost use Rattle.std.specs.Prelude.{◌≡◌, ℕ, pos, ◌+◌, ◌*◌, ◌^◌, ◌+ℤ◌, ◌≤◌, ◌<◌, ◌||◌, Some, length, IfSome};
 ghost use Rattle.hls_media_laws.specs.Runs.{is_outside as some_byte_outside};
 ghost use Rattle.hls_media.specs.Counted.{RisesBy};
-ghost use Rattle.hls_media.specs.Folds.{box_of, over};
 ghost use Rattle.hls_media.specs.Kept.{IsRun};
-ghost use Rattle.hls_media.specs.Placed.{stretched, placed_more, placed_step, IsNear, IsAround};
+ghost use Rattle.hls_media.specs.Placed.{stretched, placed_more, IsNear, IsAround};
 
 use crate::columns::sizes_of;
-use crate::headers::counted_header;
-use crate::trun::{Run, run_of};
-use hls_media_laws::kinds::TRUN;
+use crate::trun::Run;
 use hls_time::Ticks;
 
 /// What a track fragment's runs are placed in: its base, and from where to where the content of the `mdat` goes.
@@ -88,7 +85,7 @@ pub fn either(one: bool, other: bool) -> bool
 }
 
 /// One more run.
-fn place_run(
+pub fn place_run(
     so_far: Placed,
     default: Option<u32>,
     frame: Frame,
@@ -99,7 +96,7 @@ fn place_run(
     requires is_run { IsRun run content.now }
     requires base { IsNear (2 ^ 27) frame.base }
     requires end { IsNear (2 ^ 27) so_far.end }
-    requires count { ticks.old < 2 ^ 62 + 2 ^ 60 }
+    requires count { ticks.old < 2 ^ 62 + 2 ^ 61 }
     ensures value { result ≡ placed_more default frame so_far content.now }
     ensures near { (n : ℕ) → IsNear n frame.base → IsNear n so_far.end → IsNear (n + length content.now) result.end }
     ensures counted { RisesBy (length content.now) ticks.old ticks.new }
@@ -109,68 +106,4 @@ fn place_run(
     let lacking = either(so_far.lacking, sizes.lacking);
     let outside = either(so_far.outside, is_outside(frame, stretch));
     ended(stretch, lacking, outside)
-}
-
-/// One more box of the track fragment.
-fn place_box(
-    so_far: Placed,
-    default: Option<u32>,
-    frame: Frame,
-    kind: u32,
-    content: &[u8],
-    ticks: &mut Ticks,
-) -> Option<Placed>
-    requires base { IsNear (2 ^ 27) frame.base }
-    requires end { IsNear (2 ^ 27) so_far.end }
-    requires len { length content.now ≤ 2 ^ 26 }
-    requires count { ticks.old < 2 ^ 62 + 2 ^ 59 }
-    ensures value { result ≡ placed_step default frame so_far (box_of kind content.now) }
-    ensures near { (n : ℕ) → IsNear n frame.base → IsNear n so_far.end → IfSome result (λ p. IsNear (n + length content.now) p.end) }
-    ensures counted { RisesBy (length content.now * 2) ticks.old ticks.new }
-{
-    if kind != TRUN {
-        return Some(so_far);
-    }
-    let Some(run) = run_of(content, ticks) else {
-        return None;
-    };
-    Some(place_run(so_far, default, frame, content, run, ticks))
-}
-
-/// Places all runs of the track fragment with this content.
-pub fn place_runs(
-    content: &[u8],
-    default: Option<u32>,
-    frame: Frame,
-    start: Placed,
-    ticks: &mut Ticks,
-) -> Option<Placed>
-    requires len { length content.now ≤ 2 ^ 26 }
-    requires base { IsNear (2 ^ 26) frame.base }
-    requires end { IsNear (2 ^ 26) start.end }
-    requires count { ticks.old < 2 ^ 62 + 2 ^ 58 }
-    ensures value { result ≡ over (placed_step default frame) Some start content.now }
-    ensures near { (n : ℕ) → IsNear n frame.base → IsNear n start.end → IfSome result (λ p. IsNear (n + length content.now) p.end) }
-    ensures counted { RisesBy (length content.now * 2) ticks.old ticks.new }
-{
-    let mut so_far = start;
-    let mut rest = content;
-    'boxes: while !rest.is_empty() {
-        let Some(header) = counted_header(rest, ticks) else {
-            return None;
-        };
-        let Some(next) = place_box(
-            so_far,
-            default,
-            frame,
-            header.kind,
-            &rest[header.head as usize..header.size as usize],
-            ticks,
-        ) else {
-            return None;
-        };
-        so_far = next;
-        rest = &rest[header.size as usize..];
-    }
-    Some(so_far)
 }

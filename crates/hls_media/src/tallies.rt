@@ -1,21 +1,24 @@
 //! What the track fragments of a unit come to, one after the other.
 
+ghost use Rattle.std.proofs.Common.{rules};
 ghost use Rattle.std.specs.Prelude.{◌≡◌, ℕ, ◌+◌, ◌*◌, ◌^◌, ◌<◌, ◌≤◌, ◌==◌, pos, option_map, option_and_then, find, length, IfSome, if◌then◌else◌};
 ghost use Rattle.std.specs.Option.{option_or};
 ghost use Rattle.hls_media_laws.specs.declared.track.Track.{Track};
 ghost use Rattle.hls_media_laws.specs.declared.track.Defaults.{Defaults};
 ghost use Rattle.hls_media_laws.specs.Trafs.{traf_at};
 ghost use Rattle.hls_media.specs.Counted.{RisesBy};
-ghost use Rattle.hls_media.specs.Folds.{box_of, over};
+ghost use Rattle.hls_media.specs.Folds.{over};
 ghost use Rattle.hls_media.specs.Placed.{IsNear};
-ghost use Rattle.hls_media.specs.Timed.{timed_step, no_samples};
-ghost use Rattle.hls_media.specs.Tallies.{given, tally_more, tally_step, timing_by, empty, IsShort};
+ghost use Rattle.hls_media.specs.Lasting.{tally-more};
+ghost use Rattle.hls_media.specs.Runs.{IsBrief};
+ghost use Rattle.hls_media.specs.Tallies.{given, tally_more, tally_step, asked, timing_by, empty, IsShort, TallyKnown};
 
-use crate::headers::counted_header;
-use crate::places::{Frame, Placed, either, place_runs};
+use crate::gather::{Gather, over_boxes};
+use crate::places::{Frame, Placed, either};
+use crate::runs::{Rules, Runs};
 use crate::tfhd::Head;
-use crate::times::{Timed, time_runs};
-use crate::trafs::traf_of;
+use crate::times::Timed;
+use crate::trafs::heading_of;
 use hls_media_laws::flags::{BASE_DATA_OFFSET_PRESENT, DEFAULT_BASE_IS_MOOF};
 use hls_media_laws::kinds::TRAF;
 use hls_media_laws::track::{Defaults, Track};
@@ -70,22 +73,16 @@ fn trex_of(track: Option<Track>) -> Option<Defaults>
     track.defaults
 }
 
-fn duration_for(head: Head, trex: Option<Defaults>) -> Option<u32>
-    ensures { result ≡ option_or head.duration (option_map (λ (d : Defaults). d.duration) trex) }
+/// What goes for the runs of a track fragment in this frame: a default stands in its header, else in the `trex`.
+fn rules_for(head: Head, trex: Option<Defaults>, frame: Frame) -> Rules
+    ensures { result ≡ record { duration = option_or head.duration (option_map (λ (d : Defaults). d.duration) trex); size = option_or head.size (option_map (λ (d : Defaults). d.size) trex); flags = option_or head.sample_flags (option_map (λ (d : Defaults). d.flags) trex); frame = frame } }
 {
-    head.duration.or(trex.map(|d| d.duration))
-}
-
-fn size_for(head: Head, trex: Option<Defaults>) -> Option<u32>
-    ensures { result ≡ option_or head.size (option_map (λ (d : Defaults). d.size) trex) }
-{
-    head.size.or(trex.map(|d| d.size))
-}
-
-fn flags_for(head: Head, trex: Option<Defaults>) -> Option<u32>
-    ensures { result ≡ option_or head.sample_flags (option_map (λ (d : Defaults). d.flags) trex) }
-{
-    head.sample_flags.or(trex.map(|d| d.flags))
+    Rules {
+        duration: head.duration.or(trex.map(|d| d.duration)),
+        size: head.size.or(trex.map(|d| d.size)),
+        flags: head.sample_flags.or(trex.map(|d| d.flags)),
+        frame,
+    }
 }
 
 /// Where a track fragment's runs start: at the first byte of the `moof`, or where the runs before it ended.
@@ -114,51 +111,40 @@ fn frame_at(start: Placed, bounds: Bounds) -> Frame
     }
 }
 
-/// What is known of the timing track after one of its track fragments.
-fn timing_after(
-    so_far: Timing,
-    time: Option<u64>,
-    content: &[u8],
-    duration: Option<u32>,
-    flags: Option<u32>,
-    ticks: &mut Ticks,
-) -> Option<Timing>
-    requires len { length content.now ≤ 2 ^ 26 }
-    requires count { ticks.old < 2 ^ 62 + 2 ^ 58 }
-    ensures value { result ≡ timing_by time (over (timed_step duration flags) Some no_samples content.now) so_far }
-    ensures short { IfSome result IsShort }
-    ensures counted { RisesBy (length content.now * 3) ticks.old ticks.new }
-{
-    if let Timing::Missing = so_far {
-        let Some(timed) = time_runs(content, duration, flags, ticks) else {
-            return None;
-        };
-        return Some(Timing::One(time, timed));
-    }
-    Some(Timing::Several)
-}
-
-/// The same after a track fragment that is the timing track's, or isn't.
-fn timing_with(
-    own: bool,
-    so_far: Timing,
-    time: Option<u64>,
-    content: &[u8],
-    duration: Option<u32>,
-    flags: Option<u32>,
-    ticks: &mut Ticks,
-) -> Option<Timing>
-    requires len { length content.now ≤ 2 ^ 26 }
-    requires short { IsShort so_far }
-    requires count { ticks.old < 2 ^ 62 + 2 ^ 58 }
-    ensures value { result ≡ (if own then timing_by time (over (timed_step duration flags) Some no_samples content.now) so_far else Some so_far) }
-    ensures short { IfSome result IsShort }
-    ensures counted { RisesBy (length content.now * 3) ticks.old ticks.new }
+/// What is known of the samples of a track fragment before its first run, where that is asked: of the timing track's first
+/// one.
+fn untimed(own: bool, so_far: Timing) -> Option<Timed>
+    ensures value { result ≡ asked own so_far }
+    ensures brief { IsBrief 0 result }
 {
     if !own {
-        return Some(so_far);
+        return None;
     }
-    timing_after(so_far, time, content, duration, flags, ticks)
+    let Timing::Missing = so_far else {
+        return None;
+    };
+    Some(Timed {
+        duration: 0,
+        lacking: false,
+        samples: false,
+        flags: None,
+    })
+}
+
+/// What is known of the timing track after a track fragment that is its own, or isn't.
+fn timing_after(own: bool, so_far: Timing, time: Option<u64>, timed: Option<Timed>) -> Timing
+    requires short { IsShort so_far }
+    requires brief { IsBrief (2 ^ 26) timed }
+    ensures value { result ≡ timing_by own time timed so_far }
+    ensures short { IsShort result }
+{
+    if !own {
+        return so_far;
+    }
+    let Some(timed) = timed else {
+        return Timing::Several;
+    };
+    Timing::One(time, timed)
 }
 
 /// One more track fragment, with this content.
@@ -171,34 +157,25 @@ fn with_traf(
     ticks: &mut Ticks,
 ) -> Option<Tally>
     requires len { length content.now ≤ 2 ^ 26 }
-    requires end { IsNear (2 ^ 26) so_far.placed.end }
-    requires short { IsShort so_far.timing }
-    requires count { ticks.old < 2 ^ 62 + 2 ^ 57 }
+    requires known { TallyKnown (2 ^ 26) so_far }
+    requires room { ticks.old + length content.now * 4 ≤ 2 ^ 62 + 2 ^ 60 }
     ensures value { result ≡ option_map (tally_more (given tracks.now timing bounds) so_far) (traf_at content.now) }
-    ensures near { (n : ℕ) → IsNear n so_far.placed.end → IfSome result (λ s. IsNear (n + length content.now) s.placed.end) }
-    ensures short { IfSome result (λ s. IsShort s.timing) }
-    ensures counted { RisesBy (length content.now * 6) ticks.old ticks.new }
+    ensures known { IfSome result (λ s. (n : ℕ) → TallyKnown n so_far → TallyKnown (n + 8 + length content.now) s) }
+    ensures counted { RisesBy (length content.now * 4) ticks.old ticks.new }
 {
-    let Some(heading) = traf_of(content, ticks) else {
+    let Some(heading) = heading_of(content, ticks) else {
         return None;
     };
     let head = heading.head;
+    let own = head.track == timing.id;
     let track = track_with(tracks, head.track);
-    let trex = trex_of(track);
     let start = start_of(head.flags & DEFAULT_BASE_IS_MOOF != 0, so_far.placed);
-    let frame = frame_at(start, bounds);
-    let Some(placed) = place_runs(content, size_for(head, trex), frame, start, ticks) else {
-        return None;
+    let rules = rules_for(head, trex_of(track), frame_at(start, bounds));
+    let none = Runs {
+        placed: start,
+        timed: untimed(own, so_far.timing),
     };
-    let Some(timing_now) = timing_with(
-        head.track == timing.id,
-        so_far.timing,
-        heading.time,
-        content,
-        duration_for(head, trex),
-        flags_for(head, trex),
-        ticks,
-    ) else {
+    let Some(runs) = over_boxes(&rules, none, content, ticks) else {
         return None;
     };
     Some(Tally {
@@ -207,34 +184,51 @@ fn with_traf(
             so_far.base_offset,
             head.flags & BASE_DATA_OFFSET_PRESENT != 0,
         ),
-        timing: timing_now,
-        placed,
+        timing: timing_after(own, so_far.timing, heading.time, runs.timed),
+        placed: runs.placed,
     })
 }
 
-/// One more box of the `moof`.
-fn with_box(
-    tracks: &[Track],
-    timing: Track,
-    bounds: Bounds,
-    so_far: Tally,
-    kind: u32,
-    content: &[u8],
-    ticks: &mut Ticks,
-) -> Option<Tally>
-    requires len { length content.now ≤ 2 ^ 26 }
-    requires end { IsNear (2 ^ 26) so_far.placed.end }
-    requires short { IsShort so_far.timing }
-    requires count { ticks.old < 2 ^ 62 + 2 ^ 57 }
-    ensures value { result ≡ tally_step (given tracks.now timing bounds) so_far (box_of kind content.now) }
-    ensures near { (n : ℕ) → IsNear n so_far.placed.end → IfSome result (λ s. IsNear (n + length content.now) s.placed.end) }
-    ensures short { IfSome result (λ s. IsShort s.timing) }
-    ensures counted { RisesBy (length content.now * 6) ticks.old ticks.new }
-{
-    if kind != TRAF {
-        return Some(so_far);
+/// What a unit's track fragments are read under: the tracks of its init section, and where its samples may lie.
+#[derive(Clone, Copy)]
+pub struct Under<'a> {
+    pub tracks: &'a [Track],
+    pub timing: Track,
+    pub bounds: Bounds,
+}
+
+impl<'a> Gather for Under<'a> {
+    type Found = Tally;
+
+    ghost step = { λ u s kind content. tally_step (given u.tracks.now u.timing u.bounds) s kind content };
+
+    ghost known = { λ _ n s. TallyKnown n s };
+
+    ghost fields = { 4 };
+
+    fn with_box(
+        &self,
+        so_far: Tally,
+        kind: u32,
+        content: &[u8],
+        ticks: &mut Ticks,
+    ) -> Option<Tally> {
+        if kind != TRAF {
+            return Some(so_far);
+        }
+        with_traf(
+            self.tracks,
+            self.timing,
+            self.bounds,
+            so_far,
+            content,
+            ticks,
+        )
     }
-    with_traf(tracks, timing, bounds, so_far, content, ticks)
+
+    ghost lasts = { λ _. tally-more };
+
+    ghost some = { Prim.search rules };
 }
 
 /// What all track fragments of the `moof` with this content come to.
@@ -246,12 +240,12 @@ pub fn tally_of(
     ticks: &mut Ticks,
 ) -> Option<Tally>
     requires len { length moof.now ≤ 2 ^ 26 }
-    requires count { ticks.old < 2 ^ 62 + 2 ^ 56 }
+    requires room { ticks.old + length moof.now * 4 ≤ 2 ^ 62 + 2 ^ 60 }
     ensures value { result ≡ over (tally_step (given tracks.now timing bounds)) Some empty moof.now }
     ensures short { IfSome result (λ s. IsShort s.timing) }
-    ensures counted { RisesBy (length moof.now * 6) ticks.old ticks.new }
+    ensures counted { RisesBy (length moof.now * 4) ticks.old ticks.new }
 {
-    let mut so_far = Tally {
+    let nothing = Tally {
         unknown: false,
         base_offset: false,
         timing: Timing::Missing,
@@ -261,18 +255,10 @@ pub fn tally_of(
             outside: false,
         },
     };
-    let mut rest = moof;
-    'boxes: while !rest.is_empty() {
-        let Some(header) = counted_header(rest, ticks) else {
-            return None;
-        };
-        let content = &rest[header.head as usize..header.size as usize];
-        let Some(next) = with_box(tracks, timing, bounds, so_far, header.kind, content, ticks)
-        else {
-            return None;
-        };
-        so_far = next;
-        rest = &rest[header.size as usize..];
-    }
-    Some(so_far)
+    let under = Under {
+        tracks,
+        timing,
+        bounds,
+    };
+    over_boxes(&under, nothing, moof, ticks)
 }

@@ -2,15 +2,12 @@
 
 ghost use Rattle.std.specs.Prelude.{◌≡◌, ◌+◌, ◌*◌, ◌^◌, ◌<◌, ◌≤◌, Some, length, IfSome};
 ghost use Rattle.hls_media.specs.Counted.{RisesBy};
-ghost use Rattle.hls_media.specs.Folds.{box_of, over};
 ghost use Rattle.hls_media.specs.Kept.{IsRun};
-ghost use Rattle.hls_media.specs.Timed.{no_samples, flags_more, timed_more, timed_step};
+ghost use Rattle.hls_media.specs.Timed.{flags_more, timed_more};
 
 use crate::columns::{durations_of, first_flags};
-use crate::headers::counted_header;
 use crate::places::either;
-use crate::trun::{Run, run_of};
-use hls_media_laws::kinds::TRUN;
+use crate::trun::Run;
 use hls_time::Ticks;
 
 /// What is known of the samples so far.
@@ -46,7 +43,7 @@ fn flags_after(
 }
 
 /// One more run.
-fn time_run(
+pub fn time_run(
     so_far: Timed,
     duration: Option<u32>,
     flags: Option<u32>,
@@ -57,10 +54,10 @@ fn time_run(
     requires is_run { IsRun run content.now }
     requires room { so_far.duration ≤ 2 ^ 100 }
     requires len { length content.now ≤ 2 ^ 26 }
-    requires count { ticks.old < 2 ^ 62 + 2 ^ 60 }
+    requires count { ticks.old < 2 ^ 62 + 2 ^ 61 }
     ensures value { result ≡ timed_more duration flags so_far content.now }
     ensures bound { result.duration ≤ so_far.duration + length content.now * 2 ^ 61 }
-    ensures counted { RisesBy (length content.now * 2) ticks.old ticks.new }
+    ensures counted { RisesBy (length content.now + 1) ticks.old ticks.new }
 {
     let durations = durations_of(content, run, duration, ticks);
     Timed {
@@ -69,69 +66,4 @@ fn time_run(
         samples: either(so_far.samples, run.count > 0),
         flags: flags_after(so_far, flags, content, run, ticks),
     }
-}
-
-/// One more box of the track fragment.
-fn time_box(
-    so_far: Timed,
-    duration: Option<u32>,
-    flags: Option<u32>,
-    kind: u32,
-    content: &[u8],
-    ticks: &mut Ticks,
-) -> Option<Timed>
-    requires room { so_far.duration ≤ 2 ^ 100 }
-    requires len { length content.now ≤ 2 ^ 26 }
-    requires count { ticks.old < 2 ^ 62 + 2 ^ 59 }
-    ensures value { result ≡ timed_step duration flags so_far (box_of kind content.now) }
-    ensures bound { IfSome result (λ t. t.duration ≤ so_far.duration + length content.now * 2 ^ 61) }
-    ensures counted { RisesBy (length content.now * 3) ticks.old ticks.new }
-{
-    if kind != TRUN {
-        return Some(so_far);
-    }
-    let Some(run) = run_of(content, ticks) else {
-        return None;
-    };
-    Some(time_run(so_far, duration, flags, content, run, ticks))
-}
-
-/// What is known of all samples of the track fragment with this content.
-pub fn time_runs(
-    content: &[u8],
-    duration: Option<u32>,
-    flags: Option<u32>,
-    ticks: &mut Ticks,
-) -> Option<Timed>
-    requires len { length content.now ≤ 2 ^ 26 }
-    requires count { ticks.old < 2 ^ 62 + 2 ^ 58 }
-    ensures value { result ≡ over (timed_step duration flags) Some no_samples content.now }
-    ensures bound { IfSome result (λ t. t.duration ≤ length content.now * 2 ^ 61) }
-    ensures counted { RisesBy (length content.now * 3) ticks.old ticks.new }
-{
-    let mut so_far = Timed {
-        duration: 0,
-        lacking: false,
-        samples: false,
-        flags: None,
-    };
-    let mut rest = content;
-    'boxes: while !rest.is_empty() {
-        let Some(header) = counted_header(rest, ticks) else {
-            return None;
-        };
-        let Some(next) = time_box(
-            so_far,
-            duration,
-            flags,
-            header.kind,
-            &rest[header.head as usize..header.size as usize],
-            ticks,
-        ) else {
-            return None;
-        };
-        so_far = next;
-        rest = &rest[header.size as usize..];
-    }
-    Some(so_far)
 }

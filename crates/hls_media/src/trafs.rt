@@ -1,16 +1,14 @@
-//! Track fragments (ISO/IEC 14496-12 8.8.6): whether one is good, its header and its decode time.
+//! Track fragments (ISO/IEC 14496-12 8.8.6): their headers and their decode times.
 
-ghost use Rattle.std.specs.Prelude.{◌≡◌, ◌+◌, ◌^◌, ◌<◌, ◌≤◌, length, option_map};
-ghost use Rattle.hls_media_laws.specs.Trafs.{traf_at};
+ghost use Rattle.std.proofs.Common.{rules};
+ghost use Rattle.std.specs.Prelude.{◌≡◌, ◌+◌, ◌^◌, ◌≤◌, length};
 ghost use Rattle.hls_media.specs.Counted.{RisesBy};
-ghost use Rattle.hls_media.specs.Folds.{box_of};
-ghost use Rattle.hls_media.specs.Noted.{noted, whole_heading, heading_of};
+ghost use Rattle.hls_media.specs.Noted.{noted, whole_heading, heading_at};
 
-use crate::headers::counted_header;
+use crate::gather::{Gather, over_boxes};
 use crate::tfdt::time_of;
 use crate::tfhd::{Head, head_of};
-use crate::trun::run_of;
-use hls_media_laws::kinds::{TFDT, TFHD, TRUN};
+use hls_media_laws::kinds::{TFDT, TFHD};
 use hls_time::Ticks;
 
 /// The header of a track fragment, and its decode time if it has one.
@@ -20,48 +18,61 @@ pub struct Heading {
     pub time: Option<u64>,
 }
 
-/// What the boxes of a track fragment have shown so far.
+/// What the boxes of a track fragment have shown of its heading so far.
 #[derive(Clone, Copy)]
 pub struct Noted {
     pub head: Option<Head>,
     pub time: Option<u64>,
 }
 
-/// Takes note of one more box.
-fn with_box(so_far: Noted, kind: u32, content: &[u8], ticks: &mut Ticks) -> Option<Noted>
-    requires { ticks.old < 2 ^ 62 + 2 ^ 59 }
-    ensures value { result ≡ noted so_far (box_of kind content.now) }
-    ensures counted { RisesBy (length content.now) ticks.old ticks.new }
-{
-    match kind {
-        TFHD => {
-            if so_far.head.is_some() {
-                return None;
+/// Takes note of a heading, and looks at no run.
+#[derive(Clone, Copy)]
+pub struct Headings;
+
+impl Gather for Headings {
+    type Found = Noted;
+
+    ghost step = { λ _ s kind content. noted s kind content };
+
+    ghost known = { λ _ _ _. Unit {0} };
+
+    ghost fields = { 1 };
+
+    fn with_box(
+        &self,
+        so_far: Noted,
+        kind: u32,
+        content: &[u8],
+        ticks: &mut Ticks,
+    ) -> Option<Noted> {
+        match kind {
+            TFHD => {
+                if so_far.head.is_some() {
+                    return None;
+                }
+                let head = head_of(content, ticks)?;
+                Some(Noted {
+                    head: Some(head),
+                    time: so_far.time,
+                })
             }
-            let head = head_of(content, ticks)?;
-            Some(Noted {
-                head: Some(head),
-                time: so_far.time,
-            })
-        }
-        TFDT => {
-            if so_far.time.is_some() {
-                return None;
+            TFDT => {
+                if so_far.time.is_some() {
+                    return None;
+                }
+                let time = time_of(content, ticks)?;
+                Some(Noted {
+                    head: so_far.head,
+                    time: Some(time),
+                })
             }
-            let time = time_of(content, ticks)?;
-            Some(Noted {
-                head: so_far.head,
-                time: Some(time),
-            })
+            _ => Some(so_far),
         }
-        TRUN => {
-            if run_of(content, ticks).is_none() {
-                return None;
-            }
-            Some(so_far)
-        }
-        _ => Some(so_far),
     }
+
+    ghost lasts = { λ _ _ _ _ _ known. known };
+
+    ghost some = { Prim.search rules };
 }
 
 /// The heading, if there was a `tfhd`.
@@ -75,32 +86,17 @@ fn heading_from(so_far: Noted) -> Option<Heading>
     })
 }
 
-/// The heading of the track fragment with this content, if all that counts in it is good.
-pub fn traf_of(content: &[u8], ticks: &mut Ticks) -> Option<Heading>
+/// The heading of the track fragment with this content, if there is just one.
+pub fn heading_of(content: &[u8], ticks: &mut Ticks) -> Option<Heading>
     requires len { length content.now ≤ 2 ^ 26 }
-    requires count { ticks.old < 2 ^ 62 + 2 ^ 58 }
-    ensures value { result ≡ option_map heading_of (traf_at content.now) }
+    requires room { ticks.old + length content.now ≤ 2 ^ 62 + 2 ^ 60 }
+    ensures value { result ≡ heading_at content.now }
     ensures counted { RisesBy (length content.now) ticks.old ticks.new }
 {
-    let mut so_far = Noted {
+    let nothing = Noted {
         head: None,
         time: None,
     };
-    let mut rest = content;
-    'boxes: while !rest.is_empty() {
-        let Some(header) = counted_header(rest, ticks) else {
-            return None;
-        };
-        let Some(next) = with_box(
-            so_far,
-            header.kind,
-            &rest[header.head as usize..header.size as usize],
-            ticks,
-        ) else {
-            return None;
-        };
-        so_far = next;
-        rest = &rest[header.size as usize..];
-    }
-    heading_from(so_far)
+    let noted = over_boxes(&Headings, nothing, content, ticks)?;
+    heading_from(noted)
 }

@@ -1,6 +1,6 @@
 //! Track runs (ISO/IEC 14496-12 8.8.8).
 
-ghost use Rattle.std.specs.Prelude.{◌≡◌, ◌+◌, ◌^◌, ◌<◌, length, option_map, IfSome};
+ghost use Rattle.std.specs.Prelude.{◌≡◌, ◌+◌, ◌^◌, ◌<◌, ◌≤◌, length, option_map, IfSome};
 ghost use Rattle.std.specs.Int.{w32, cast_signed};
 ghost use Rattle.hls_media.specs.Kept.{run_kept, IsRun};
 ghost use Rattle.hls_media.specs.Counted.{RisesBy};
@@ -33,6 +33,7 @@ pub fn run_of(content: &[u8], ticks: &mut Ticks) -> Option<Run>
     ensures value { result ≡ run_kept content.now }
     ensures is_run { IfSome result (λ run. IsRun run content.now) }
     ensures counted { RisesBy (length content.now) ticks.old ticks.new }
+    ensures few { ticks.new ≤ ticks.old + 4 }
 {
     if content.len() < 8 {
         return None;

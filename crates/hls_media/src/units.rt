@@ -31,7 +31,7 @@ fn facts_of_moof(
     requires short { length moof.now ≤ 2 ^ 26 }
     requires count { ticks.old < 2 ^ 62 + 2 ^ 56 }
     ensures value { result ≡ facts_by_moof (given tracks.now timing bounds) len moof.now }
-    ensures counted { RisesBy (length moof.now * 6) ticks.old ticks.new }
+    ensures counted { RisesBy (length moof.now * 4) ticks.old ticks.new }
 {
     let Some(tally) = tally_of(tracks, timing, bounds, moof, ticks) else {
         return Err(MediaFault::BadBox);

@@ -50,8 +50,8 @@ fn fields_of_bad_boxes(rt: HostRuntime) -> Result<(), Fail> {
     Ok(())
 }
 
-/// Of a unit of the sample builders: 2 of each of 4 boxes outside the `traf`; of its three boxes 13 for what it is, 10 for
-/// where its bytes lie, and 11 for how long it lasts. How many bytes it holds is nothing to that.
+/// Of a unit of the sample builders: 2 of each of 4 boxes outside the `traf`; of its three boxes 10 for its heading, and 12
+/// for where its bytes lie and how long it lasts. How many bytes it holds is nothing to that.
 #[test]
 fn fields_of_a_sample_unit(rt: HostRuntime) -> Result<(), Fail> {
     let alloc = rt.alloc();
@@ -60,7 +60,7 @@ fn fields_of_a_sample_unit(rt: HostRuntime) -> Result<(), Fail> {
         let unit = unit_bytes(alloc, 0, 360000, true, len)?;
         let (facts, fields) = counted(&init, unit.iter().as_slice());
         assert!(rt; facts.is_ok());
-        assert_eq!(rt; fields, 42);
+        assert_eq!(rt; fields, 30);
     }
     Ok(())
 }
@@ -73,15 +73,15 @@ fn fields_of_rows(rt: HostRuntime) -> Result<(), Fail> {
     let cases: [(&str, u64); 3] = [
         (
             "[moof [traf [tfhd 00020000 00000001] [tfdt 01000000 0000000000000000] [trun 00000701 00000001 0000005c 00015f90 00000001 02000000]]]",
-            40,
+            28,
         ),
         (
             "[moof [traf [tfhd 00020000 00000001] [tfdt 01000000 0000000000000000] [trun 00000701 00000002 00000068 00015f90 00000001 02000000 00015f90 00000001 02000000]]]",
-            42,
+            30,
         ),
         (
             "00000001 73747970 0000000000000010 [moof [traf [tfhd 00020000 00000001] [tfdt 01000000 0000000000000000] [trun 00000701 00000001 0000005c 00015f90 00000001 02000000]]]",
-            43,
+            31,
         ),
     ];
     for (moof, fields) in cases {
@@ -94,7 +94,7 @@ fn fields_of_rows(rt: HostRuntime) -> Result<(), Fail> {
 }
 
 /// A run that announces as many samples as its field can, with durations and sizes by default, is summed by a product: it
-/// has 40 fields, and not one more for the samples that it doesn't have.
+/// has 28 fields, and not one more for the samples that it doesn't have.
 #[test]
 fn a_run_of_samples_that_no_row_gives(rt: HostRuntime) -> Result<(), Fail> {
     let alloc = rt.alloc();
@@ -109,7 +109,7 @@ fn a_run_of_samples_that_no_row_gives(rt: HostRuntime) -> Result<(), Fail> {
         let bytes = unit(alloc, moof.as_str(), 1)?;
         let (facts, fields) = counted(&init, bytes.as_slice());
         assert_eq!(rt; facts.err(), answer);
-        assert_eq!(rt; fields, 40);
+        assert_eq!(rt; fields, 28);
     }
     Ok(())
 }
@@ -144,9 +144,9 @@ fn a_count_that_goes_on(rt: HostRuntime) -> Result<(), Fail> {
     let mut ticks = Ticks::new();
     let first = read_facts_counted(&init, unit.iter().as_slice(), &mut ticks);
     assert_eq!(rt; first, own);
-    assert_eq!(rt; ticks.count(), 42);
+    assert_eq!(rt; ticks.count(), 30);
     let second = read_facts_counted(&init, unit.iter().as_slice(), &mut ticks);
     assert_eq!(rt; second, own);
-    assert_eq!(rt; ticks.count(), 84);
+    assert_eq!(rt; ticks.count(), 60);
     Ok(())
 }

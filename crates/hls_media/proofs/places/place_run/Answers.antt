@@ -1,7 +1,7 @@
 use Rattle.std.proofs.Common.{rules, ◌+◌, ◌^◌, ◌<◌, length, refl, arith}
 use Rattle.hls_media_laws.specs.Runs.{run_begin}
 use Rattle.hls_media.specs.Placed.{placed_more}
-use Rattle.hls_media.proofs.NearLaws.{near-more}
+use Rattle.hls_media.specs.Lasting.{near-more}
 use Rattle.hls_media.proofs.places.place_run.Goals as goal
 
 pub returns-clause-value : goal.returns-clause-value

@@ -1,0 +1,61 @@
+use Rattle.std.proofs.Common.{slice_range, ◌≡◌, ℕ, ◌+◌, ◌-◌, ◌^◌, ◌<◌, ◌≤◌, length, drop, Some, None, sym, ◌∙◌, arith}
+use Rattle.std.proofs.lemmas.Bool.Decides.{nat_tests}
+use Rattle.std.proofs.lemmas.List.{take_rest, length-drop}
+use Rattle.hls_media.proofs.Counts.{counted-all, counted-more, counted-below, room-for-content}
+use Rattle.hls_media.proofs.Overs.{over-bad, over-next, over-end}
+use Rattle.hls_media.proofs.Slices.{slice-length}
+use Rattle.hls_media.proofs.gather.over_boxes.Goals as goal
+
+pub counted_header-requires : goal.counted_header-requires
+counted_header-requires g c =
+    let few = counted-below g.G.Gather.fields c.args.content.now c.boxes.rest.now _ _ (2 ^ 62 + 2 ^ 60) c.boxes.invariant.within c.requires.room c.boxes.invariant.counted in
+    omega (arith, few)
+
+pub returns-in_default-clause-value : goal.returns-in_default-clause-value
+returns-in_default-clause-value g c =
+    let some : 0 < length c.boxes.rest.now = grind (arith, nat_tests) in
+    sym (c.boxes.invariant.value ∙ over-bad (g.G.Gather.step c.args.gather.now) Some c.boxes.so_far c.boxes.rest.now some (sym c.counted_header.ensures.value ∙ c.in_default.is))
+
+pub with_box-requires-clause-known : goal.with_box-requires-clause-known
+with_box-requires-clause-known g c =
+    g.met.G.Gather.lasts c.args.gather.now (length c.args.content.now - length c.boxes.rest.now) (2 ^ 26) c.boxes.so_far (omega (arith, c.requires.len)) c.boxes.invariant.known
+
+pub with_box-requires-clause-room : goal.with_box-requires-clause-room
+with_box-requires-clause-room g c =
+    room-for-content g.G.Gather.fields c.args.content.now c.boxes.rest.now c.in-Some.header _ _ _ _ g.met.G.Gather.some c.in-Some.ensures.within c.boxes.invariant.within c.requires.room c.boxes.invariant.counted c.counted_header.ensures.few
+
+pub returns-in_default-with_box-clause-value : goal.returns-in_default-with_box-clause-value
+returns-in_default-with_box-clause-value g c =
+    let some : 0 < length c.boxes.rest.now = grind (arith, nat_tests) in
+    sym (c.boxes.invariant.value ∙ over-next (g.G.Gather.step c.args.gather.now) Some c.boxes.so_far c.boxes.rest.now c.in-Some.header None some (sym c.counted_header.ensures.value ∙ c.in-Some.is) (sym c.with_box.ensures.value ∙ c.in_default-with_box.is))
+
+pub returns-in_default-with_box-clause-counted : goal.returns-in_default-with_box-clause-counted
+returns-in_default-with_box-clause-counted g c =
+    let on : length c.args.content.now - length (drop c.in-Some.header.size c.boxes.rest.now) ≤ length c.args.content.now = omega arith in
+    counted-all g.G.Gather.fields _ _ _ _ on
+    (counted-more g.G.Gather.fields c.args.content.now c.boxes.rest.now c.in-Some.header _ _ _ _ g.met.G.Gather.some c.in-Some.ensures.within c.boxes.invariant.within c.boxes.invariant.counted c.counted_header.ensures.rises c.counted_header.ensures.few c.with_box.ensures.counted)
+
+pub boxes-preserved : goal.boxes-preserved
+boxes-preserved g c =
+    let some : 0 < length c.boxes.rest.now = grind (arith, nat_tests) in
+    let walked : ℕ = length c.args.content.now - length c.boxes.rest.now in
+    let inside = slice-length c.boxes.rest.now c.in-Some.header.head c.in-Some.header.size c.in-Some.ensures.within.0 c.in-Some.ensures.within.1 in
+    rw (take_rest c.boxes.rest.now c.in-Some.header.size)
+    (record {
+      value = c.boxes.invariant.value ∙ over-next (g.G.Gather.step c.args.gather.now) Some c.boxes.so_far c.boxes.rest.now c.in-Some.header (Some c.in-Some-with_box.next) some (sym c.counted_header.ensures.value ∙ c.in-Some.is) (sym c.with_box.ensures.value ∙ c.in-Some-with_box.is);
+      known = g.met.G.Gather.lasts c.args.gather.now (walked + 8 + length (slice_range c.boxes.rest.now c.in-Some.header.head c.in-Some.header.size)) (length c.args.content.now - length (drop c.in-Some.header.size c.boxes.rest.now)) c.in-Some-with_box.next
+          (omega (arith, c.boxes.invariant.within, c.in-Some.ensures.within.0, c.in-Some.ensures.within.1, c.in-Some.ensures.within.2, length-drop c.in-Some.header.size c.boxes.rest.now, inside))
+          (c.in-Some-with_box.ensures.known walked c.boxes.invariant.known);
+      within = omega (arith, c.boxes.invariant.within, length-drop c.in-Some.header.size c.boxes.rest.now);
+      counted = counted-more g.G.Gather.fields c.args.content.now c.boxes.rest.now c.in-Some.header _ _ _ _ g.met.G.Gather.some c.in-Some.ensures.within c.boxes.invariant.within c.boxes.invariant.counted c.counted_header.ensures.rises c.counted_header.ensures.few c.with_box.ensures.counted;
+    })
+
+pub returns-clause-value : goal.returns-clause-value
+returns-clause-value g c =
+    let none : length c.boxes.rest.now ≡ 0 = grind (arith, nat_tests) in
+    sym (c.boxes.invariant.value ∙ over-end (g.G.Gather.step c.args.gather.now) Some c.boxes.so_far c.boxes.rest.now none)
+
+pub returns-clause-known : goal.returns-clause-known
+returns-clause-known g c =
+    let all : length c.args.content.now - length c.boxes.rest.now ≡ length c.args.content.now = grind (arith, nat_tests) in
+    rw all at c.boxes.invariant.known

@@ -1,0 +1,74 @@
+//! Going over the boxes that fill a text, one after the other.
+
+ghost use Rattle.std.specs.Prelude.{◌≡◌, ℕ, ◌+◌, ◌*◌, ◌^◌, ◌≤◌, Option, Some, List, length, IfSome};
+ghost use Rattle.hls_media.specs.Counted.{RisesBy};
+ghost use Rattle.hls_media.specs.Folds.{over};
+
+use crate::headers::counted_header;
+use hls_time::Ticks;
+
+/// What is looked for in boxes.
+pub trait Gather {
+    /// What the boxes so far have shown.
+    type Found: Copy;
+
+    // what one more box of this type and content shows, or none where it is no good
+    ghost step: { Self → Self.Found → ℕ → List ℕ → Option Self.Found };
+
+    // what is known of it after boxes of so many bytes
+    ghost known: { Self → ℕ → Self.Found → Type 0 };
+
+    // how many fields are read of each byte at most
+    ghost fields: { ℕ };
+
+    /// One more box.
+    fn with_box(
+        &self,
+        so_far: Self::Found,
+        kind: u32,
+        content: &[u8],
+        ticks: &mut Ticks,
+    ) -> Option<Self::Found>
+        requires len { length content.now ≤ 2 ^ 26 }
+        requires known { known self.now (2 ^ 26) so_far }
+        requires room { ticks.old + length content.now * fields ≤ 2 ^ 62 + 2 ^ 60 }
+        ensures value { result ≡ step self.now so_far kind content.now }
+        ensures known { IfSome result (λ s. (n : ℕ) → known self.now n so_far → known self.now (n + 8 + length content.now) s) }
+        ensures counted { RisesBy (length content.now * fields) ticks.old ticks.new };
+
+    // it stays known
+    ghost lasts: { (g : Self) (n m : ℕ) (s : Self.Found) → n ≤ m → known g n s → known g m s };
+
+    // each header is read
+    ghost some: { 1 ≤ fields };
+}
+
+/// Goes over the boxes that fill a text. None where no boxes do, or one is no good.
+pub fn over_boxes<G: Gather>(
+    gather: &G,
+    start: G::Found,
+    content: &[u8],
+    ticks: &mut Ticks,
+) -> Option<G::Found>
+    requires len { length content.now ≤ 2 ^ 26 }
+    requires known { G.known gather.now 0 start }
+    requires room { ticks.old + length content.now * G.fields ≤ 2 ^ 62 + 2 ^ 60 }
+    ensures value { result ≡ over (G.step gather.now) Some start content.now }
+    ensures known { IfSome result (λ s. G.known gather.now (length content.now) s) }
+    ensures counted { RisesBy (length content.now * G.fields) ticks.old ticks.new }
+{
+    let mut so_far = start;
+    let mut rest = content;
+    'boxes: while !rest.is_empty() {
+        let Some(header) = counted_header(rest, ticks) else {
+            return None;
+        };
+        let inside = &rest[header.head as usize..header.size as usize];
+        let Some(next) = gather.with_box(so_far, header.kind, inside, ticks) else {
+            return None;
+        };
+        so_far = next;
+        rest = &rest[header.size as usize..];
+    }
+    Some(so_far)
+}
