@@ -187,8 +187,8 @@ nothing-gathered : (moov : List ℕ) → over gather_step Some nothing_yet moov 
 unfolding tracks_of
 nothing-gathered moov is = no_boxes (children moov) (sym (over-gather moov) ∙ is)
 
-pub read-nothing : (moov ids : List ℕ) (tracks : List Track) → over gather_step Some nothing_yet moov ≡ None → AreTracks false (tracks_of moov) ids tracks
-read-nothing moov ids tracks is = subst (λ (o : Option (List Track)). AreTracks false o ids tracks) (sym (nothing-gathered moov is)) tt
+pub read-nothing : (moov ids : List ℕ) → over gather_step Some nothing_yet moov ≡ None → AreTracks None (tracks_of moov) ids
+read-nothing moov ids is = subst (λ (o : Option (List Track)). AreTracks None o ids) (sym (nothing-gathered moov is)) tt
 
 -- the tracks of the `moov`, by the `trex` boxes of its first `mvex`
 trexes_in : Option (List ℕ) → Option (List Trex)
@@ -213,7 +213,7 @@ tracks-gathered moov s g =
     ∙ with_trexes g.tracks (trexes_in s.mvex) g.differ
 
 -- what was gathered, given these defaults
-are-tracks : (moov : List ℕ) (s : Gathered) (g : Gathering moov s) (xs : List Trex) (tracks : List Track) → tracks ≡ map (gave xs) s.tracks → AreTracks true (Some (map (with_defaults xs) g.tracks)) s.ids tracks
+are-tracks : (moov : List ℕ) (s : Gathered) (g : Gathering moov s) (xs : List Trex) (tracks : List Track) → tracks ≡ map (gave xs) s.tracks → AreTracks (Some tracks) (Some (map (with_defaults xs) g.tracks)) s.ids
 are-tracks moov s g xs tracks is = (
   ap length g.ids_are ∙ length-map g.tracks (λ (t : Track). t.id) ∙ sym (length-map g.tracks (with_defaults xs)),
   λ few.
@@ -222,25 +222,21 @@ are-tracks moov s g xs tracks is = (
       ∙ all-gave xs g.tracks (fresh (named trak_type g.boxes) g.tracks g.read),
 )
 
-pub read-alone : (moov : List ℕ) (s : Gathered) → over gather_step Some nothing_yet moov ≡ Some s → s.mvex ≡ None → AreTracks true (tracks_of moov) s.ids s.tracks
+pub read-alone : (moov : List ℕ) (s : Gathered) → over gather_step Some nothing_yet moov ≡ Some s → s.mvex ≡ None → AreTracks (Some s.tracks) (tracks_of moov) s.ids
 unfolding trexes_in
 read-alone moov s is none =
     let g : Gathering moov s = gathering moov s is in
     let e : tracks_of moov ≡ Some (map (with_defaults []) g.tracks) = tracks-gathered moov s g ∙ ap (λ (m : Option (List ℕ)). option_map (λ (xs : List Trex). map (with_defaults xs) g.tracks) (trexes_in m)) none in
-    subst (λ (o : Option (List Track)). AreTracks true o s.ids s.tracks) (sym e) (are-tracks moov s g [] s.tracks (no-gifts s.tracks))
+    subst (λ (o : Option (List Track)). AreTracks (Some s.tracks) o s.ids) (sym e) (are-tracks moov s g [] s.tracks (no-gifts s.tracks))
 
-by_trexes : (moov : List ℕ) (s : Gathered) (g : Gathering moov s) (trexes : Option (List Trex)) (good : Bool) (tracks : List Track) → option_map (λ (xs : List Trex). map (gave xs) s.tracks) trexes ≡ cond good (Some tracks) None
-    → AreTracks good (option_map (λ (xs : List Trex). map (with_defaults xs) g.tracks) trexes) s.ids tracks
-by_trexes moov s g None true tracks is = absurd (cc)
-by_trexes moov s g None false tracks is = tt
-by_trexes moov s g (Some xs) true tracks is =
-    let same : map (gave xs) s.tracks ≡ tracks = cc in
-    are-tracks moov s g xs tracks (sym same)
-by_trexes moov s g (Some xs) false tracks is = absurd (cc)
+by_trexes : (moov : List ℕ) (s : Gathered) (g : Gathering moov s) (trexes : Option (List Trex))
+    → AreTracks (option_map (λ (xs : List Trex). map (gave xs) s.tracks) trexes) (option_map (λ (xs : List Trex). map (with_defaults xs) g.tracks) trexes) s.ids
+by_trexes moov s g None = tt
+by_trexes moov s g (Some xs) = are-tracks moov s g xs (map (gave xs) s.tracks) refl
 
-pub read-given : (moov : List ℕ) (s : Gathered) (content : List ℕ) (good : Bool) (tracks : List Track) → over gather_step Some nothing_yet moov ≡ Some s → s.mvex ≡ Some content → over given_step Some s.tracks content ≡ cond good (Some tracks) None → AreTracks good (tracks_of moov) s.ids tracks
+pub read-given : (moov : List ℕ) (s : Gathered) (content : List ℕ) → over gather_step Some nothing_yet moov ≡ Some s → s.mvex ≡ Some content → AreTracks (over given_step Some s.tracks content) (tracks_of moov) s.ids
 unfolding trexes_in
-read-given moov s content good tracks is some given_is =
+read-given moov s content is some =
     let g : Gathering moov s = gathering moov s is in
     let e : tracks_of moov ≡ option_map (λ (xs : List Trex). map (with_defaults xs) g.tracks) (trexes_of content) = tracks-gathered moov s g ∙ ap (λ (m : Option (List ℕ)). option_map (λ (xs : List Trex). map (with_defaults xs) g.tracks) (trexes_in m)) some in
-    subst (λ (o : Option (List Track)). AreTracks good o s.ids tracks) (sym e) (by_trexes moov s g (trexes_of content) good tracks (sym (over-given content s.tracks) ∙ given_is))
+    rw (e, over-given content s.tracks) (by_trexes moov s g (trexes_of content))

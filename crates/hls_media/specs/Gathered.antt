@@ -35,12 +35,12 @@ gather_step s kind content =
     else (if kind == mvex_type then (if is_some s.mvex then Some s else Some (record s { mvex = Some content }))
     else Some s)
 
--- whether these are the numbers of all tracks, and the tracks where they are at most eight
-abbrev pub AreTracks : Bool → Option (List Track) → List ℕ → List Track → Type 0
-AreTracks true None ids tracks = ⊥
-AreTracks true (Some ts) ids tracks = (length ids ≡ length ts) × (length ts ≤ 8 → tracks ≡ ts)
-AreTracks false None ids tracks = Unit {0}
-AreTracks false (Some ts) ids tracks = ⊥
+-- whether these are the numbers of all tracks, and what was read the tracks where they are at most eight
+abbrev pub AreTracks : Option (List Track) → Option (List Track) → List ℕ → Type 0
+AreTracks (Some tracks) None ids = ⊥
+AreTracks (Some tracks) (Some ts) ids = (length ids ≡ length ts) × (length ts ≤ 8 → tracks ≡ ts)
+AreTracks None None ids = Unit {0}
+AreTracks None (Some ts) ids = ⊥
 
 -- what was gathered, seen with the content of the `mvex`
 abbrev pub seen_with : List ℕ → List ℕ → List Track → Option Span → Gathered

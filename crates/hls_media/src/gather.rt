@@ -10,7 +10,7 @@ use hls_time::Ticks;
 /// What is looked for in boxes.
 pub trait Gather {
     /// What the boxes so far have shown.
-    type Found: Copy;
+    type Found: Drop;
 
     // what one more box of this type and content shows, or none where it is no good
     ghost step: { Self → Self.Found → ℕ → List ℕ → Option Self.Found };

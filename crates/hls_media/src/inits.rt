@@ -10,7 +10,6 @@ ghost use Rattle.hls_media.specs.declared.moovs.Span.{Span};
 use crate::headers::box_header;
 use crate::ids::Ids;
 use crate::moovs::{Span, read_tracks};
-use crate::tracks::Tracks;
 use hls_boxes_laws::kinds::{INIT_LIMIT, MDAT, MOOF, MOOV};
 use hls_media_laws::fault::MediaFault;
 use hls_media_laws::init::Init;
@@ -96,10 +95,9 @@ pub fn read_init(alloc: Global, bytes: &[u8]) -> Result<Init, MediaFault>
         return Err(MediaFault::BadBox);
     };
     let mut ids = Ids::new();
-    let mut tracks = Tracks::new();
-    if !read_tracks(&bytes[moov.from..moov.to], &mut ids, &mut tracks) {
+    let Some(tracks) = read_tracks(&bytes[moov.from..moov.to], &mut ids) else {
         return Err(MediaFault::BadBox);
-    }
+    };
     if ids.len() == 0 {
         return Err(MediaFault::NoTrack);
     }

@@ -27,11 +27,11 @@ pub struct TrackSoFar {
     pub media: Option<Media>,
 }
 
-/// Looks for the timescale and the handler among the boxes of an `mdia`.
+/// What is looked for in an `mdia`: its timescale, and its handler.
 #[derive(Clone, Copy)]
-pub struct Medias;
+pub struct InMdia;
 
-impl Gather for Medias {
+impl Gather for InMdia {
     type Found = MediaSoFar;
 
     ghost step = { λ _ s kind content. media_step s kind content };
@@ -99,15 +99,15 @@ fn media_of(content: &[u8], ticks: &mut Ticks) -> Option<Media>
         scale: None,
         handler: None,
     };
-    let found = over_boxes(&Medias, nothing, content, ticks)?;
+    let found = over_boxes(&InMdia, nothing, content, ticks)?;
     media_from(found)
 }
 
-/// Looks for the number and the media among the boxes of a `trak`.
+/// What is looked for in a `trak`: its number, and its media.
 #[derive(Clone, Copy)]
-pub struct Traks;
+pub struct InTrak;
 
-impl Gather for Traks {
+impl Gather for InTrak {
     type Found = TrackSoFar;
 
     ghost step = { λ _ s kind content. track_step s kind content };
@@ -170,7 +170,7 @@ fn track_from(so_far: TrackSoFar) -> Option<Track>
 
 /// The track of the `trak` with this content, as yet without defaults, if all that counts in it is good.
 ///
-/// Nobody asks how many fields of an init section are read.
+/// Nobody asks how many fields of an init section are read: they go to a count of their own.
 pub fn track_at(content: &[u8]) -> Option<Track>
     requires { length content.now ≤ 2 ^ 20 }
     ensures value { result ≡ track_by_lists content.now }
@@ -180,6 +180,6 @@ pub fn track_at(content: &[u8]) -> Option<Track>
         id: None,
         media: None,
     };
-    let found = over_boxes(&Traks, nothing, content, &mut Ticks::new())?;
+    let found = over_boxes(&InTrak, nothing, content, &mut Ticks::new())?;
     track_from(found)
 }

@@ -1,5 +1,6 @@
 //! Movie boxes (ISO/IEC 14496-12 8.2.1): their tracks, and their `mvex`.
 
+ghost use Rattle.std.proofs.Common.{rules};
 ghost use Rattle.std.specs.Prelude.{◌≡◌, ◌^◌, ◌<◌, ◌≤◌, true, Some, [], length, IfSome, option_map, if◌then◌else◌, None};
 ghost use Rattle.hls_media_laws.specs.Inits.{track_at as track_by_lists, tracks_of};
 ghost use Rattle.hls_media.specs.Folds.{over};
@@ -7,12 +8,14 @@ ghost use Rattle.hls_media.specs.declared.moovs.Rest.{Rest};
 ghost use Rattle.hls_media.specs.Given.{given_step};
 ghost use Rattle.hls_media.specs.Gathered.{gather_step, nothing_yet, seen_with, Added, AreTracks};
 
+use crate::gather::{Gather, over_boxes};
 use crate::headers::box_header;
 use crate::headings::trex_at;
 use crate::ids::Ids;
 use crate::medias::track_at;
 use crate::tracks::Tracks;
 use hls_media_laws::kinds::{MVEX, TRAK, TREX};
+use hls_time::Ticks;
 
 /// From where to where something goes.
 #[derive(Clone, Copy)]
@@ -85,54 +88,61 @@ fn gather(moov: &[u8], ids: &mut Ids, tracks: &mut Tracks) -> Option<Rest>
     Some(Rest { mvex })
 }
 
-/// Gives the tracks the defaults of one more box of an `mvex`. Whether it was good.
-fn give_box(tracks: &mut Tracks, kind: u32, content: &[u8]) -> bool
-    ensures { given_step tracks.old kind content.now ≡ (if result then Some tracks.new else None) }
-{
-    if kind != TREX {
-        return true;
-    }
-    let Some(trex) = trex_at(content) else {
-        return false;
-    };
-    tracks.give(trex);
-    true
-}
+/// What is looked for in an `mvex`: the defaults of tracks.
+#[derive(Clone, Copy)]
+pub struct InMvex;
 
-/// Gives the tracks the defaults of the `mvex` with this content. Whether all that counts in it was good.
-fn give_defaults(mvex: &[u8], tracks: &mut Tracks) -> bool
-    ensures { over given_step Some tracks.old mvex.now ≡ (if result then Some tracks.new else None) }
-{
-    let mut rest = mvex;
-    'boxes: while !rest.is_empty() {
-        let Some(header) = box_header(rest) else {
-            return false;
-        };
-        if !give_box(
-            tracks,
-            header.kind,
-            &rest[header.head as usize..header.size as usize],
-        ) {
-            return false;
+impl Gather for InMvex {
+    type Found = Tracks;
+
+    ghost step = { λ _ tracks kind content. given_step tracks kind content };
+
+    ghost known = { λ _ _ _. Unit {0} };
+
+    ghost fields = { 1 };
+
+    fn with_box(
+        &self,
+        so_far: Tracks,
+        kind: u32,
+        content: &[u8],
+        ticks: &mut Ticks,
+    ) -> Option<Tracks> {
+        if kind != TREX {
+            return Some(so_far);
         }
-        rest = &rest[header.size as usize..];
+        let trex = trex_at(content)?;
+        let mut tracks = so_far;
+        tracks.give(trex);
+        Some(tracks)
     }
-    true
+
+    ghost lasts = { λ _ _ _ _ _ known. known };
+
+    ghost some = { Prim.search rules };
 }
 
-/// Reads the tracks of the `moov` with this content: all their numbers, and the first eight tracks with their defaults.
-/// Whether all that counts in it was good, and no two tracks have one number.
-pub fn read_tracks(moov: &[u8], ids: &mut Ids, tracks: &mut Tracks) -> bool
+/// The tracks with the defaults of the `mvex` with this content, if all that counts in it is good.
+fn with_defaults(mvex: &[u8], tracks: Tracks) -> Option<Tracks>
+    requires { length mvex.now ≤ 2 ^ 20 }
+    ensures { result ≡ over given_step Some tracks mvex.now }
+{
+    over_boxes(&InMvex, tracks, mvex, &mut Ticks::new())
+}
+
+/// Reads the tracks of the `moov` with this content: all their numbers, and the first eight tracks with their defaults. None
+/// where not all that counts in it is good, or two tracks have one number.
+pub fn read_tracks(moov: &[u8], ids: &mut Ids) -> Option<Tracks>
     requires len { length moov.now ≤ 2 ^ 20 }
     requires no_ids { ids.old ≡ [] }
-    requires no_tracks { tracks.old ≡ [] }
-    ensures { AreTracks result (tracks_of moov.now) ids.new tracks.new }
+    ensures { AreTracks result (tracks_of moov.now) ids.new }
 {
-    let Some(rest) = gather(moov, ids, tracks) else {
-        return false;
+    let mut tracks = Tracks::new();
+    let Some(rest) = gather(moov, ids, &mut tracks) else {
+        return None;
     };
     let Some(mvex) = rest.mvex else {
-        return true;
+        return Some(tracks);
     };
-    give_defaults(&moov[mvex.from..mvex.to], tracks)
+    with_defaults(&moov[mvex.from..mvex.to], tracks)
 }

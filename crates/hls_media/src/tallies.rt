@@ -147,11 +147,18 @@ fn timing_after(own: bool, so_far: Timing, time: Option<u64>, timed: Option<Time
     Timing::One(time, timed)
 }
 
-/// One more track fragment, with this content.
+/// What the track fragments of a `moof` are read by: the tracks of the init section, which of them is the timing track, and
+/// where samples may lie.
+#[derive(Clone, Copy)]
+pub struct InMoof<'a> {
+    pub tracks: &'a [Track],
+    pub timing: Track,
+    pub bounds: Bounds,
+}
+
+/// One more track fragment, with this content: its heading first, which may stand behind its runs.
 fn with_traf(
-    tracks: &[Track],
-    timing: Track,
-    bounds: Bounds,
+    by: &InMoof<'_>,
     so_far: Tally,
     content: &[u8],
     ticks: &mut Ticks,
@@ -159,7 +166,7 @@ fn with_traf(
     requires len { length content.now ≤ 2 ^ 26 }
     requires known { TallyKnown (2 ^ 26) so_far }
     requires room { ticks.old + length content.now * 4 ≤ 2 ^ 62 + 2 ^ 60 }
-    ensures value { result ≡ option_map (tally_more (given tracks.now timing bounds) so_far) (traf_at content.now) }
+    ensures value { result ≡ option_map (tally_more (given by.now.tracks.now by.now.timing by.now.bounds) so_far) (traf_at content.now) }
     ensures known { IfSome result (λ s. (n : ℕ) → TallyKnown n so_far → TallyKnown (n + 8 + length content.now) s) }
     ensures counted { RisesBy (length content.now * 4) ticks.old ticks.new }
 {
@@ -167,10 +174,10 @@ fn with_traf(
         return None;
     };
     let head = heading.head;
-    let own = head.track == timing.id;
-    let track = track_with(tracks, head.track);
+    let own = head.track == by.timing.id;
+    let track = track_with(by.tracks, head.track);
     let start = start_of(head.flags & DEFAULT_BASE_IS_MOOF != 0, so_far.placed);
-    let rules = rules_for(head, trex_of(track), frame_at(start, bounds));
+    let rules = rules_for(head, trex_of(track), frame_at(start, by.bounds));
     let none = Runs {
         placed: start,
         timed: untimed(own, so_far.timing),
@@ -189,18 +196,10 @@ fn with_traf(
     })
 }
 
-/// What a unit's track fragments are read under: the tracks of its init section, and where its samples may lie.
-#[derive(Clone, Copy)]
-pub struct Under<'a> {
-    pub tracks: &'a [Track],
-    pub timing: Track,
-    pub bounds: Bounds,
-}
-
-impl<'a> Gather for Under<'a> {
+impl<'a> Gather for InMoof<'a> {
     type Found = Tally;
 
-    ghost step = { λ u s kind content. tally_step (given u.tracks.now u.timing u.bounds) s kind content };
+    ghost step = { λ by s kind content. tally_step (given by.tracks.now by.timing by.bounds) s kind content };
 
     ghost known = { λ _ n s. TallyKnown n s };
 
@@ -216,14 +215,7 @@ impl<'a> Gather for Under<'a> {
         if kind != TRAF {
             return Some(so_far);
         }
-        with_traf(
-            self.tracks,
-            self.timing,
-            self.bounds,
-            so_far,
-            content,
-            ticks,
-        )
+        with_traf(self, so_far, content, ticks)
     }
 
     ghost lasts = { λ _. tally-more };
@@ -255,10 +247,10 @@ pub fn tally_of(
             outside: false,
         },
     };
-    let under = Under {
+    let by = InMoof {
         tracks,
         timing,
         bounds,
     };
-    over_boxes(&under, nothing, moof, ticks)
+    over_boxes(&by, nothing, moof, ticks)
 }

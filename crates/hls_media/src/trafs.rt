@@ -25,11 +25,11 @@ pub struct Noted {
     pub time: Option<u64>,
 }
 
-/// Takes note of a heading, and looks at no run.
+/// What is looked for in a `traf` first: its heading.
 #[derive(Clone, Copy)]
-pub struct Headings;
+pub struct InTraf;
 
-impl Gather for Headings {
+impl Gather for InTraf {
     type Found = Noted;
 
     ghost step = { λ _ s kind content. noted s kind content };
@@ -86,7 +86,7 @@ fn heading_from(so_far: Noted) -> Option<Heading>
     })
 }
 
-/// The heading of the track fragment with this content, if there is just one.
+/// The heading of the track fragment with this content, if it is good. No run is looked at.
 pub fn heading_of(content: &[u8], ticks: &mut Ticks) -> Option<Heading>
     requires len { length content.now ≤ 2 ^ 26 }
     requires room { ticks.old + length content.now ≤ 2 ^ 62 + 2 ^ 60 }
@@ -97,6 +97,6 @@ pub fn heading_of(content: &[u8], ticks: &mut Ticks) -> Option<Heading>
         head: None,
         time: None,
     };
-    let noted = over_boxes(&Headings, nothing, content, ticks)?;
+    let noted = over_boxes(&InTraf, nothing, content, ticks)?;
     heading_from(noted)
 }

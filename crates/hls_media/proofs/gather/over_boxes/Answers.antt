@@ -27,7 +27,9 @@ with_box-requires-clause-room g c =
 pub returns-in_default-with_box-clause-value : goal.returns-in_default-with_box-clause-value
 returns-in_default-with_box-clause-value g c =
     let some : 0 < length c.boxes.rest.now = grind (arith, nat_tests) in
-    sym (c.boxes.invariant.value ∙ over-next (g.G.Gather.step c.args.gather.now) Some c.boxes.so_far c.boxes.rest.now c.in-Some.header None some (sym c.counted_header.ensures.value ∙ c.in-Some.is) (sym c.with_box.ensures.value ∙ c.in_default-with_box.is))
+    let value : c.with_box.result ≡ g.G.Gather.step c.args.gather.now c.boxes.so_far c.in-Some.header.kind (slice_range c.boxes.rest.now c.in-Some.header.head c.in-Some.header.size) = c.with_box.ensures.value in
+    let stepped : g.G.Gather.step c.args.gather.now c.boxes.so_far c.in-Some.header.kind (slice_range c.boxes.rest.now c.in-Some.header.head c.in-Some.header.size) ≡ None = sym value ∙ c.in_default-with_box.is in
+    sym (c.boxes.invariant.value ∙ over-next (g.G.Gather.step c.args.gather.now) Some c.boxes.so_far c.boxes.rest.now c.in-Some.header None some (sym c.counted_header.ensures.value ∙ c.in-Some.is) stepped)
 
 pub returns-in_default-with_box-clause-counted : goal.returns-in_default-with_box-clause-counted
 returns-in_default-with_box-clause-counted g c =
@@ -39,10 +41,12 @@ pub boxes-preserved : goal.boxes-preserved
 boxes-preserved g c =
     let some : 0 < length c.boxes.rest.now = grind (arith, nat_tests) in
     let walked : ℕ = length c.args.content.now - length c.boxes.rest.now in
+    let value : c.with_box.result ≡ g.G.Gather.step c.args.gather.now c.boxes.so_far c.in-Some.header.kind (slice_range c.boxes.rest.now c.in-Some.header.head c.in-Some.header.size) = c.with_box.ensures.value in
+    let stepped : g.G.Gather.step c.args.gather.now c.boxes.so_far c.in-Some.header.kind (slice_range c.boxes.rest.now c.in-Some.header.head c.in-Some.header.size) ≡ Some c.in-Some-with_box.next = sym value ∙ c.in-Some-with_box.is in
     let inside = slice-length c.boxes.rest.now c.in-Some.header.head c.in-Some.header.size c.in-Some.ensures.within.0 c.in-Some.ensures.within.1 in
     rw (take_rest c.boxes.rest.now c.in-Some.header.size)
     (record {
-      value = c.boxes.invariant.value ∙ over-next (g.G.Gather.step c.args.gather.now) Some c.boxes.so_far c.boxes.rest.now c.in-Some.header (Some c.in-Some-with_box.next) some (sym c.counted_header.ensures.value ∙ c.in-Some.is) (sym c.with_box.ensures.value ∙ c.in-Some-with_box.is);
+      value = c.boxes.invariant.value ∙ over-next (g.G.Gather.step c.args.gather.now) Some c.boxes.so_far c.boxes.rest.now c.in-Some.header (Some c.in-Some-with_box.next) some (sym c.counted_header.ensures.value ∙ c.in-Some.is) stepped;
       known = g.met.G.Gather.lasts c.args.gather.now (walked + 8 + length (slice_range c.boxes.rest.now c.in-Some.header.head c.in-Some.header.size)) (length c.args.content.now - length (drop c.in-Some.header.size c.boxes.rest.now)) c.in-Some-with_box.next
           (omega (arith, c.boxes.invariant.within, c.in-Some.ensures.within.0, c.in-Some.ensures.within.1, c.in-Some.ensures.within.2, length-drop c.in-Some.header.size c.boxes.rest.now, inside))
           (c.in-Some-with_box.ensures.known walked c.boxes.invariant.known);

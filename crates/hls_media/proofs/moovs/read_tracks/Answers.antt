@@ -5,7 +5,7 @@ use Rattle.hls_media.proofs.TracksLaws.{read-nothing, read-alone, read-given}
 use Rattle.hls_media.proofs.moovs.read_tracks.Goals as goal
 
 pub returns-in_default : goal.returns-in_default
-returns-in_default c = read-nothing c.args.moov.now c.gather.new.ids c.gather.new.tracks c.in_default.ensures.value
+returns-in_default c = read-nothing c.args.moov.now c.gather.new.ids c.in_default.ensures.value
 
 pub returns-in_default-mvex : goal.returns-in_default-mvex
 returns-in_default-mvex c =
@@ -13,5 +13,6 @@ returns-in_default-mvex c =
 
 pub returns : goal.returns
 returns c =
-    read-given c.args.moov.now (seen_with c.args.moov.now c.gather.new.ids c.gather.new.tracks c.in-Some.rest.mvex) (slice_range c.args.moov.now c.in-Some-mvex.mvex.from c.in-Some-mvex.mvex.to) c.give_defaults.result c.give_defaults.new.tracks
-    c.in-Some.ensures.value (ap (option_map (λ (s : Span). slice_range c.args.moov.now s.from s.to)) c.in-Some-mvex.is) c.give_defaults.ensures
+    rw c.with_defaults.ensures
+    (read-given c.args.moov.now (seen_with c.args.moov.now c.gather.new.ids c.gather.new.tracks c.in-Some.rest.mvex) (slice_range c.args.moov.now c.in-Some-mvex.mvex.from c.in-Some-mvex.mvex.to)
+    c.in-Some.ensures.value (ap (option_map (λ (s : Span). slice_range c.args.moov.now s.from s.to)) c.in-Some-mvex.is))

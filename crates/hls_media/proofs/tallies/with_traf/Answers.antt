@@ -21,7 +21,7 @@ returns-clause-value c =
     let start : Runs = record { placed = c.start_of-start.result; timed = c.untimed.result } in
     let r : Read c.args.content.now c.in-Some.heading k start c.in-Some-over_boxes.runs =
     read k start c.in-Some-over_boxes.runs c.args.content.now c.in-Some.heading (sym c.heading_of.ensures.value ∙ c.in-Some.is) (sym c.over_boxes.ensures.value ∙ c.in-Some-over_boxes.is) in
-    let l : Looked c.args.tracks.now c.args.timing c.args.bounds c.args.so_far c.in-Some.heading c.track_with-track.result c.trex_of.result k start = record {
+    let l : Looked c.args.by.now.tracks.now c.args.by.now.timing c.args.by.now.bounds c.args.so_far c.in-Some.heading c.track_with-track.result c.trex_of.result k start = record {
       track_is = c.track_with-track.ensures;
       trex_is = c.trex_of.ensures;
       duration_is = ap (λ (k : Rules). k.duration) c.rules_for-rules.ensures;
@@ -31,7 +31,7 @@ returns-clause-value c =
       placed_is = c.start_of-start.ensures.value;
       timed_is = c.untimed.ensures.value;
     } in
-    tally_is c.args.tracks.now c.args.timing c.args.bounds c.args.so_far c.args.content.now c.in-Some.heading c.track_with-track.result c.trex_of.result k start c.in-Some-over_boxes.runs r l
+    tally_is c.args.by.now.tracks.now c.args.by.now.timing c.args.by.now.bounds c.args.so_far c.args.content.now c.in-Some.heading c.track_with-track.result c.trex_of.result k start c.in-Some-over_boxes.runs r l
     c.is_none.result c.either.result c.either-2.result c.timing_after.result c.is_none.ensures c.either.ensures c.either-2.ensures c.timing_after.ensures.value
 
 pub returns-clause-known : goal.returns-clause-known
