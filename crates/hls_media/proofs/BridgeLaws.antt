@@ -12,8 +12,8 @@ use Rattle.hls_media.specs.declared.trafs.Heading.{Heading}
 use Rattle.hls_media.specs.declared.runs.Rules.{Rules}
 use Rattle.hls_media.specs.declared.runs.Runs.{Runs}
 use Rattle.hls_media.specs.declared.times.Timed.{Timed}
-use Rattle.hls_media.specs.declared.tallies.Timing.{Timing}
-use Rattle.hls_media.specs.declared.tallies.Timing.TheVariants as timings
+use Rattle.hls_media.specs.declared.timing.Timing.{Timing}
+use Rattle.hls_media.specs.declared.timing.Timing.TheVariants as timings
 use Rattle.hls_media.specs.Kept.{head_values}
 use Rattle.hls_media.specs.Folds.{along, over}
 use Rattle.hls_media.specs.Noted.{heading_with, is_heading, heading_by, heading_at}

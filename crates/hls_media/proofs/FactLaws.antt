@@ -19,7 +19,7 @@ use Rattle.hls_media.specs.declared.places.Frame.{Frame}
 use Rattle.hls_media.specs.declared.places.Placed.{Placed}
 use Rattle.hls_media.specs.declared.times.Timed.{Timed}
 use Rattle.hls_media.specs.declared.tallies.Tally.{Tally}
-use Rattle.hls_media.specs.declared.tallies.Timing.TheVariants as timings
+use Rattle.hls_media.specs.declared.timing.Timing.TheVariants as timings
 use Rattle.hls_media.specs.Folds.{along, over}
 use Rattle.hls_media.specs.Placed.{placed_more}
 use Rattle.hls_media.specs.Timed.{timed_more, no_samples}

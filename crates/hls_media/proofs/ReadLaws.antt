@@ -11,7 +11,7 @@ use Rattle.hls_media.specs.declared.runs.Rules.{Rules}
 use Rattle.hls_media.specs.declared.runs.Runs.{Runs}
 use Rattle.hls_media.specs.declared.tallies.Bounds.{Bounds}
 use Rattle.hls_media.specs.declared.tallies.Tally.{Tally}
-use Rattle.hls_media.specs.declared.tallies.Timing.{Timing}
+use Rattle.hls_media.specs.declared.timing.Timing.{Timing}
 use Rattle.hls_media.specs.Tallies.{given, tally_more, asked, timing_by, timing_more, traf_placed}
 use Rattle.hls_media.proofs.BridgeLaws.{Read, timing-read, none_flips}
 

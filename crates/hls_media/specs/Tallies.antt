@@ -15,8 +15,8 @@ use Rattle.hls_media.specs.declared.places.Placed.{Placed}
 use Rattle.hls_media.specs.declared.times.Timed.{Timed}
 use Rattle.hls_media.specs.declared.tallies.Bounds.{Bounds}
 use Rattle.hls_media.specs.declared.tallies.Tally.{Tally}
-use Rattle.hls_media.specs.declared.tallies.Timing.{Timing}
-use Rattle.hls_media.specs.declared.tallies.Timing.TheVariants as timings
+use Rattle.hls_media.specs.declared.timing.Timing.{Timing}
+use Rattle.hls_media.specs.declared.timing.Timing.TheVariants as timings
 use Rattle.hls_media.specs.Placed.{placed_more, IsNear}
 use Rattle.hls_media.specs.Timed.{timed_more, no_samples}
 

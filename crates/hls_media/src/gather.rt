@@ -7,18 +7,18 @@ ghost use Rattle.hls_media.specs.Folds.{over};
 use crate::headers::counted_header;
 use hls_time::Ticks;
 
-/// What is looked for in boxes.
+/// What is looked for in the boxes that fill a text.
 pub trait Gather {
     /// What the boxes so far have shown.
     type Found: Drop;
 
-    // what one more box of this type and content shows, or none where it is no good
+    // what they show with one more box of this type and content, or none where it is no good
     ghost step: { Self → Self.Found → ℕ → List ℕ → Option Self.Found };
 
     // what is known of it after boxes of so many bytes
     ghost known: { Self → ℕ → Self.Found → Type 0 };
 
-    // how many fields are read of each byte at most
+    // how many fields are read for each byte at most
     ghost fields: { ℕ };
 
     /// One more box.
@@ -36,10 +36,10 @@ pub trait Gather {
         ensures known { IfSome result (λ s. (n : ℕ) → known self.now n so_far → known self.now (n + 8 + length content.now) s) }
         ensures counted { RisesBy (length content.now * fields) ticks.old ticks.new };
 
-    // it stays known
+    // it stays known as there are more
     ghost lasts: { (g : Self) (n m : ℕ) (s : Self.Found) → n ≤ m → known g n s → known g m s };
 
-    // each header is read
+    // headers are read, so it is one at least
     ghost some: { 1 ≤ fields };
 }
 

@@ -17,6 +17,7 @@ mod tallies;
 mod tfdt;
 mod tfhd;
 mod times;
+mod timing;
 mod tracks;
 mod trafs;
 mod trun;

@@ -10,14 +10,13 @@ ghost use Rattle.hls_media.specs.Counted.{RisesBy};
 ghost use Rattle.hls_media.specs.Folds.{over};
 ghost use Rattle.hls_media.specs.Placed.{IsNear};
 ghost use Rattle.hls_media.specs.Lasting.{tally-more};
-ghost use Rattle.hls_media.specs.Runs.{IsBrief};
-ghost use Rattle.hls_media.specs.Tallies.{given, tally_more, tally_step, asked, timing_by, empty, IsShort, TallyKnown};
+ghost use Rattle.hls_media.specs.Tallies.{given, tally_more, tally_step, empty, IsShort, TallyKnown};
 
 use crate::gather::{Gather, over_boxes};
 use crate::places::{Frame, Placed, either};
 use crate::runs::{Rules, Runs};
 use crate::tfhd::Head;
-use crate::times::Timed;
+use crate::timing::{Timing, timing_after, untimed};
 use crate::trafs::heading_of;
 use hls_media_laws::flags::{BASE_DATA_OFFSET_PRESENT, DEFAULT_BASE_IS_MOOF};
 use hls_media_laws::kinds::TRAF;
@@ -29,15 +28,6 @@ use hls_time::Ticks;
 pub struct Bounds {
     pub low: i128,
     pub high: i128,
-}
-
-/// What is known of the timing track: no track fragment of it so far, one with its decode time and its samples, or more
-/// than one.
-#[derive(Clone, Copy)]
-pub enum Timing {
-    Missing,
-    One(Option<u64>, Timed),
-    Several,
 }
 
 /// What is known of the track fragments so far.
@@ -111,42 +101,6 @@ fn frame_at(start: Placed, bounds: Bounds) -> Frame
     }
 }
 
-/// What is known of the samples of a track fragment before its first run, where that is asked: of the timing track's first
-/// one.
-fn untimed(own: bool, so_far: Timing) -> Option<Timed>
-    ensures value { result ≡ asked own so_far }
-    ensures brief { IsBrief 0 result }
-{
-    if !own {
-        return None;
-    }
-    let Timing::Missing = so_far else {
-        return None;
-    };
-    Some(Timed {
-        duration: 0,
-        lacking: false,
-        samples: false,
-        flags: None,
-    })
-}
-
-/// What is known of the timing track after a track fragment that is its own, or isn't.
-fn timing_after(own: bool, so_far: Timing, time: Option<u64>, timed: Option<Timed>) -> Timing
-    requires short { IsShort so_far }
-    requires brief { IsBrief (2 ^ 26) timed }
-    ensures value { result ≡ timing_by own time timed so_far }
-    ensures short { IsShort result }
-{
-    if !own {
-        return so_far;
-    }
-    let Some(timed) = timed else {
-        return Timing::Several;
-    };
-    Timing::One(time, timed)
-}
-
 /// What the track fragments of a `moof` are read by: the tracks of the init section, which of them is the timing track, and
 /// where samples may lie.
 #[derive(Clone, Copy)]
@@ -157,12 +111,7 @@ pub struct InMoof<'a> {
 }
 
 /// One more track fragment, with this content: its heading first, which may stand behind its runs.
-fn with_traf(
-    by: &InMoof<'_>,
-    so_far: Tally,
-    content: &[u8],
-    ticks: &mut Ticks,
-) -> Option<Tally>
+fn with_traf(by: &InMoof<'_>, so_far: Tally, content: &[u8], ticks: &mut Ticks) -> Option<Tally>
     requires len { length content.now ≤ 2 ^ 26 }
     requires known { TallyKnown (2 ^ 26) so_far }
     requires room { ticks.old + length content.now * 4 ≤ 2 ^ 62 + 2 ^ 60 }

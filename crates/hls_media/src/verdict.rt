@@ -6,8 +6,9 @@ ghost use Rattle.hls_media_laws.specs.Runs.{is_sync as first_is_sync};
 ghost use Rattle.hls_media_laws.specs.FactCases.{ended as ended_so};
 ghost use Rattle.hls_media.specs.Tallies.{verdict, IsShort};
 
-use crate::tallies::{Tally, Timing};
+use crate::tallies::Tally;
 use crate::times::Timed;
+use crate::timing::Timing;
 use hls_media_laws::facts::Facts;
 use hls_media_laws::fault::MediaFault;
 use hls_media_laws::flags::SAMPLE_IS_NON_SYNC;

@@ -8,7 +8,7 @@ use Rattle.hls_media.proofs.gather.over_boxes.Goals as goal
 
 pub counted_header-requires : goal.counted_header-requires
 counted_header-requires g c =
-    let few = counted-below g.G.Gather.fields c.args.content.now c.boxes.rest.now _ _ (2 ^ 62 + 2 ^ 60) c.boxes.invariant.within c.requires.room c.boxes.invariant.counted in
+    let few = counted-below g.G.Gather.fields c.args.content.now c.boxes.rest.now c.args.ticks.now c.boxes.ticks (2 ^ 62 + 2 ^ 60) c.boxes.invariant.within c.requires.room c.boxes.invariant.counted in
     omega (arith, few)
 
 pub returns-in_default-clause-value : goal.returns-in_default-clause-value
@@ -22,7 +22,7 @@ with_box-requires-clause-known g c =
 
 pub with_box-requires-clause-room : goal.with_box-requires-clause-room
 with_box-requires-clause-room g c =
-    room-for-content g.G.Gather.fields c.args.content.now c.boxes.rest.now c.in-Some.header _ _ _ _ g.met.G.Gather.some c.in-Some.ensures.within c.boxes.invariant.within c.requires.room c.boxes.invariant.counted c.counted_header.ensures.few
+    room-for-content g.G.Gather.fields c.args.content.now c.boxes.rest.now c.in-Some.header c.args.ticks.now c.boxes.ticks c.counted_header.new.ticks (2 ^ 62 + 2 ^ 60) g.met.G.Gather.some c.in-Some.ensures.within c.boxes.invariant.within c.requires.room c.boxes.invariant.counted c.counted_header.ensures.few
 
 pub returns-in_default-with_box-clause-value : goal.returns-in_default-with_box-clause-value
 returns-in_default-with_box-clause-value g c =
@@ -34,8 +34,8 @@ returns-in_default-with_box-clause-value g c =
 pub returns-in_default-with_box-clause-counted : goal.returns-in_default-with_box-clause-counted
 returns-in_default-with_box-clause-counted g c =
     let on : length c.args.content.now - length (drop c.in-Some.header.size c.boxes.rest.now) ≤ length c.args.content.now = omega arith in
-    counted-all g.G.Gather.fields _ _ _ _ on
-    (counted-more g.G.Gather.fields c.args.content.now c.boxes.rest.now c.in-Some.header _ _ _ _ g.met.G.Gather.some c.in-Some.ensures.within c.boxes.invariant.within c.boxes.invariant.counted c.counted_header.ensures.rises c.counted_header.ensures.few c.with_box.ensures.counted)
+    counted-all g.G.Gather.fields (length c.args.content.now - length (drop c.in-Some.header.size c.boxes.rest.now)) (length c.args.content.now) c.args.ticks.now c.with_box.new.ticks on
+    (counted-more g.G.Gather.fields c.args.content.now c.boxes.rest.now c.in-Some.header c.args.ticks.now c.boxes.ticks c.counted_header.new.ticks c.with_box.new.ticks g.met.G.Gather.some c.in-Some.ensures.within c.boxes.invariant.within c.boxes.invariant.counted c.counted_header.ensures.rises c.counted_header.ensures.few c.with_box.ensures.counted)
 
 pub boxes-preserved : goal.boxes-preserved
 boxes-preserved g c =
@@ -51,7 +51,7 @@ boxes-preserved g c =
           (omega (arith, c.boxes.invariant.within, c.in-Some.ensures.within.0, c.in-Some.ensures.within.1, c.in-Some.ensures.within.2, length-drop c.in-Some.header.size c.boxes.rest.now, inside))
           (c.in-Some-with_box.ensures.known walked c.boxes.invariant.known);
       within = omega (arith, c.boxes.invariant.within, length-drop c.in-Some.header.size c.boxes.rest.now);
-      counted = counted-more g.G.Gather.fields c.args.content.now c.boxes.rest.now c.in-Some.header _ _ _ _ g.met.G.Gather.some c.in-Some.ensures.within c.boxes.invariant.within c.boxes.invariant.counted c.counted_header.ensures.rises c.counted_header.ensures.few c.with_box.ensures.counted;
+      counted = counted-more g.G.Gather.fields c.args.content.now c.boxes.rest.now c.in-Some.header c.args.ticks.now c.boxes.ticks c.counted_header.new.ticks c.with_box.new.ticks g.met.G.Gather.some c.in-Some.ensures.within c.boxes.invariant.within c.boxes.invariant.counted c.counted_header.ensures.rises c.counted_header.ensures.few c.with_box.ensures.counted;
     })
 
 pub returns-clause-value : goal.returns-clause-value
