@@ -65,7 +65,10 @@ fn trex_of(track: Option<Track>) -> Option<Defaults>
 
 /// What goes for the runs of a track fragment in this frame: a default stands in its header, else in the `trex`.
 fn rules_for(head: Head, trex: Option<Defaults>, frame: Frame) -> Rules
-    ensures { result ≡ record { duration = option_or head.duration (option_map (λ (d : Defaults). d.duration) trex); size = option_or head.size (option_map (λ (d : Defaults). d.size) trex); flags = option_or head.sample_flags (option_map (λ (d : Defaults). d.flags) trex); frame = frame } }
+    ensures duration { result.duration ≡ option_or head.duration (option_map (λ (d : Defaults). d.duration) trex) }
+    ensures size { result.size ≡ option_or head.size (option_map (λ (d : Defaults). d.size) trex) }
+    ensures flags { result.flags ≡ option_or head.sample_flags (option_map (λ (d : Defaults). d.flags) trex) }
+    ensures frame { result.frame ≡ frame }
 {
     Rules {
         duration: head.duration.or(trex.map(|d| d.duration)),

@@ -24,10 +24,10 @@ returns-clause-value c =
     let l : Looked c.args.by.now.tracks.now c.args.by.now.timing c.args.by.now.bounds c.args.so_far c.in-Some.heading c.track_with-track.result c.trex_of.result k start = record {
       track_is = c.track_with-track.ensures;
       trex_is = c.trex_of.ensures;
-      duration_is = ap (λ (k : Rules). k.duration) c.rules_for-rules.ensures;
-      size_is = ap (λ (k : Rules). k.size) c.rules_for-rules.ensures;
-      flags_is = ap (λ (k : Rules). k.flags) c.rules_for-rules.ensures;
-      frame_is = ap (λ (k : Rules). k.frame) c.rules_for-rules.ensures ∙ c.frame_at.ensures;
+      duration_is = c.rules_for-rules.ensures.duration;
+      size_is = c.rules_for-rules.ensures.size;
+      flags_is = c.rules_for-rules.ensures.flags;
+      frame_is = c.rules_for-rules.ensures.frame ∙ c.frame_at.ensures;
       placed_is = c.start_of-start.ensures.value;
       timed_is = c.untimed.ensures.value;
     } in
@@ -37,7 +37,7 @@ returns-clause-value c =
 pub returns-clause-known : goal.returns-clause-known
 returns-clause-known c = λ n known.
     let base_is : c.start_of-start.result.end ≡ c.rules_for-rules.result.frame.base =
-    sym (ap (λ (k : Rules). k.frame.base) c.rules_for-rules.ensures ∙ ap (λ (f : Frame). f.base) c.frame_at.ensures) in
+    sym (ap (λ (f : Frame). f.base) (c.rules_for-rules.ensures.frame ∙ c.frame_at.ensures)) in
     let base : IsNear n c.rules_for-rules.result.frame.base = subst (IsNear n) base_is (c.start_of-start.ensures.near n known.near) in
     record {
       near = near-more (n + length c.args.content.now) (n + 8 + length c.args.content.now) c.in-Some-over_boxes.runs.placed.end (omega arith) (c.in-Some-over_boxes.ensures.known.near n base);
