@@ -55,11 +55,15 @@ fn old_trees_keep_their_items(rt: HostRuntime) -> Result<(), Fail> {
     Ok(())
 }
 
-/// A push writes its leaf's entries, and one slot on each level above where the last node there has room.
+/// A push writes the recent entries of its leaf, or each of them where it settles them, and one slot on each level above where
+/// the last node there has room.
 #[test]
 fn pushes_count_their_slots(rt: HostRuntime) -> Result<(), Fail> {
     let alloc = rt.alloc();
-    let list = tree_to(alloc, &Shared::empty(alloc), 4095)?;
+    let short = tree_to(alloc, &Shared::empty(alloc), 4094)?;
+    let mut ticks = Ticks::new();
+    let list = short.pushed_counted(alloc, 4094, &mut ticks)?;
+    assert_eq!(rt; ticks.count(), 7 + 1 + 1 + 1);
     let mut ticks = Ticks::new();
     let full = list.pushed_counted(alloc, 4095, &mut ticks)?;
     assert_eq!(rt; ticks.count(), 64 + 1 + 1 + 1);
