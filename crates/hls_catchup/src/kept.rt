@@ -104,7 +104,7 @@ impl<'a> KeptPlaces<'a> {
                 return Ok(spots);
             }
             if self.has(place) {
-                spots.push(place.spots.copied(alloc)?)?;
+                spots.push(place.spots.share()?)?;
             }
         }
         Ok(spots)

@@ -8,7 +8,7 @@ ghost use Rattle.hls_catchup_laws.specs.Segments.{is_break, date_at, segment_bet
 ghost use Rattle.hls_catchup.specs.Lists.{cutting};
 
 use bytes::ByteStr;
-use hls_check_laws::{PlaceTable, Spot, Spots};
+use hls_check_laws::{PlaceTable, Spots};
 use hls_m3u8::{ByteRange, Segment};
 use hls_record::Recording;
 use std::alloc::{AllocError, Global};
@@ -30,23 +30,6 @@ pub fn is_break(place: &Spots) -> bool
         .as_slice()
         .iter()
         .any(|spot| spot.run_in != spot.run_out)
-}
-
-/// A place's spot in a rendition, one of zeros where it has none.
-fn spot_of(place: &Spots, rendition: usize) -> Spot
-    ensures { result ≡ spot_in place.now rendition }
-{
-    let spots = place.as_slice();
-    if rendition < spots.len() {
-        return spots[rendition];
-    }
-    Spot {
-        fragment: 0,
-        prev_end: 0,
-        start: 0,
-        run_in: 0,
-        run_out: 0,
-    }
 }
 
 /// The moment of a time, rounded down to whole milliseconds; None where that of time 0, the epoch, isn't known. Both are in
@@ -76,8 +59,8 @@ pub fn segment_between(
     requires start { (spot_in from.now rendition).start < 2 ^ 53 }
     ensures { result ≡ segment_between (cutting epoch recording.now rendition uri first) mark from.now to.now }
 {
-    let from = spot_of(from, rendition);
-    let to = spot_of(to, rendition);
+    let from = from.spot(rendition);
+    let to = to.spot(rendition);
     let range = ByteRange {
         length: bytes_between(recording, from.fragment, to.fragment),
         offset: recording.offset(0) + bytes_between(recording, first, from.fragment),

@@ -189,13 +189,13 @@ impl PrintedTable {
         self.cost_between(p, q)
     }
 
-    /// A copy of its own.
+    /// A copy of its own, which shares the spots of each place.
     pub fn copied(&self, alloc: Global) -> Result<PrintedTable, AllocError>
         ensures { IfOk result (λ copy. copy ≡ self.now) }
     {
         let mut places = Vec::with_capacity(alloc, self.len())?;
         for place in self.places() {
-            places.push(place.copied(alloc)?)?;
+            places.push(place.share()?)?;
         }
         Ok(PrintedTable::new(self.goal(), self.renditions(), places))
     }

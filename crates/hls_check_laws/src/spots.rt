@@ -6,11 +6,13 @@ ghost use Rattle.hls_check_laws.specs.Tables.{spot_in};
 use crate::spot::Spot;
 use std::alloc::{AllocError, Global};
 use std::marker::Model;
+use std::sync::Arc;
 
-/// A place's spots, one for each rendition, in the order of the renditions.
+/// A place's spots, one for each rendition, in the order of the renditions. They never change, so all who speak of a place
+/// share them.
 #[derive(Debug, Drop)]
 pub struct Spots {
-    spots: Vec<Spot>,
+    spots: Arc<Vec<Spot>>,
 }
 
 impl Model for Spots {
@@ -19,14 +21,16 @@ impl Model for Spots {
 
     ghost Value = { List Spot };
 
-    ghost view = { λ p. p.spots.items };
+    ghost view = { λ p. p.spots.value.items };
 }
 
 impl Spots {
-    pub fn new(spots: Vec<Spot>) -> Spots
-        ensures { result ≡ spots.items }
+    pub fn new(alloc: Global, spots: Vec<Spot>) -> Result<Spots, AllocError>
+        ensures { IfOk result (λ s. s ≡ spots.items) }
     {
-        Spots { spots }
+        Ok(Spots {
+            spots: Arc::new(alloc, spots)?,
+        })
     }
 
     /// The number of renditions.
@@ -53,12 +57,28 @@ impl Spots {
         self.spots[r]
     }
 
-    /// A copy of its own.
-    pub fn copied(&self, alloc: Global) -> Result<Spots, AllocError>
-        ensures { IfOk result (λ copy. copy ≡ self.now) }
+    /// The spot in rendition `r`, one of zeros where there is none.
+    pub fn spot(&self, r: usize) -> Spot
+        ensures { result ≡ spot_in self.now r }
+    {
+        if r < self.spots.len() {
+            return self.spots[r];
+        }
+        Spot {
+            fragment: 0,
+            prev_end: 0,
+            start: 0,
+            run_in: 0,
+            run_out: 0,
+        }
+    }
+
+    /// The same spots once more, over the same memory.
+    pub fn share(&self) -> Result<Spots, AllocError>
+        ensures { IfOk result (λ s. s ≡ self.now) }
     {
         Ok(Spots {
-            spots: Vec::from_slice(alloc, self.spots.as_slice())?,
+            spots: Arc::try_clone(&self.spots)?,
         })
     }
 }

@@ -76,7 +76,7 @@ pub fn take_place(
         rest = after;
     }
     match take_byte(rest, b'\n') {
-        Some(after) => Ok(Some((Spots::new(spots), after))),
+        Some(after) => Ok(Some((Spots::new(alloc, spots)?, after))),
         None => Ok(None),
     }
 }

@@ -280,11 +280,7 @@ impl Snapshot {
 pub(crate) fn fragment_in(place: &Place, rendition: usize) -> u64
     ensures { result ≡ (spot_in place.now.spots rendition).fragment }
 {
-    let spots = place.spots.as_slice();
-    if rendition < spots.len() {
-        return spots[rendition].fragment;
-    }
-    0
+    place.spots.spot(rendition).fragment
 }
 
 /// A side for each rendition, none of which has begun.

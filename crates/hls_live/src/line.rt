@@ -118,8 +118,8 @@ impl LiveLine {
             segments: self.segments.share(alloc)?,
             sums: self.sums.share(alloc)?,
             breaks: self.breaks,
-            open_at: copied_opening(alloc, &self.open_at)?,
-            best: copied_place(alloc, &self.best)?,
+            open_at: shared_opening(&self.open_at)?,
+            best: shared_place(&self.best)?,
         })
     }
 
@@ -263,8 +263,8 @@ impl LiveLine {
             segments: self.segments.dropped_front(alloc, first)?,
             sums: self.sums.dropped_front(alloc, first)?,
             breaks,
-            open_at: copied_opening(alloc, &self.open_at)?,
-            best: copied_place(alloc, &self.best)?,
+            open_at: shared_opening(&self.open_at)?,
+            best: shared_place(&self.best)?,
         })
     }
 
@@ -275,14 +275,12 @@ impl LiveLine {
         ensures { IfOk result (λ line. line ≡ with_told self.now (told_once self.now place.now)) }
     {
         let Some(start) = &self.open_at else {
-            return self.open_again(alloc, opening_at(alloc, place, false)?, None);
+            return self.open_again(alloc, opening_at(place, false)?, None);
         };
         match reached(self.aim, &start.place, place) {
             Reach::Skipped => self.share(alloc),
-            Reach::TooFar => self.open_again(alloc, opening_at(alloc, place, true)?, None),
-            Reach::Further => {
-                self.open_again(alloc, start.copied(alloc)?, Some(place.copied(alloc)?))
-            }
+            Reach::TooFar => self.open_again(alloc, opening_at(place, true)?, None),
+            Reach::Further => self.open_again(alloc, start.share()?, Some(place.share()?)),
             Reach::Enough => self.closed(alloc, start, place),
         }
     }
@@ -327,8 +325,8 @@ impl LiveLine {
         ensures { IfOk result (λ line. line ≡ with_closed self.now opening.now to.now) }
     {
         let segment = Segment {
-            from: opening.place.copied(alloc)?,
-            to: to.copied(alloc)?,
+            from: opening.place.share()?,
+            to: to.share()?,
             mark: self.is_marked(opening),
         };
         let sums = sums_with(alloc, &self.sums, self.breaks, &segment)?;
@@ -337,7 +335,7 @@ impl LiveLine {
             segments: self.segments.pushed(alloc, segment)?,
             sums: self.sums.pushed(alloc, sums)?,
             breaks: self.breaks,
-            open_at: Some(opening_at(alloc, to, false)?),
+            open_at: Some(opening_at(to, false)?),
             best: None,
         })
     }
@@ -391,29 +389,29 @@ fn counted(marks: u64, mark: bool) -> u64
 }
 
 /// An open place.
-fn opening_at(alloc: Global, place: &Place, anew: bool) -> Result<Opening, AllocError>
+fn opening_at(place: &Place, anew: bool) -> Result<Opening, AllocError>
     ensures { IfOk result (λ opening. opening ≡ record { place = place.now; anew = anew }) }
 {
     Ok(Opening {
-        place: place.copied(alloc)?,
+        place: place.share()?,
         anew,
     })
 }
 
-fn copied_opening(alloc: Global, opening: &Option<Opening>) -> Result<Option<Opening>, AllocError>
-    ensures { IfOk result (λ copy. copy ≡ opening.now) }
+fn shared_opening(opening: &Option<Opening>) -> Result<Option<Opening>, AllocError>
+    ensures { IfOk result (λ same. same ≡ opening.now) }
 {
     match opening {
-        Some(opening) => Ok(Some(opening.copied(alloc)?)),
+        Some(opening) => Ok(Some(opening.share()?)),
         None => Ok(None),
     }
 }
 
-fn copied_place(alloc: Global, place: &Option<Place>) -> Result<Option<Place>, AllocError>
-    ensures { IfOk result (λ copy. copy ≡ place.now) }
+fn shared_place(place: &Option<Place>) -> Result<Option<Place>, AllocError>
+    ensures { IfOk result (λ same. same ≡ place.now) }
 {
     match place {
-        Some(place) => Ok(Some(place.copied(alloc)?)),
+        Some(place) => Ok(Some(place.share()?)),
         None => Ok(None),
     }
 }

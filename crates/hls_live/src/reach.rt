@@ -4,7 +4,6 @@ ghost use Rattle.hls_check_laws.specs.Tables.{spot_in};
 ghost use Rattle.hls_live_laws.specs.Steps.{is_past, is_allowed, is_enough, is_at_gap};
 ghost use Rattle.hls_live.specs.Reaches.{reach_of};
 
-use hls_check_laws::Spot;
 use hls_live_laws::Aim;
 use hls_places::pair_allowed;
 use hls_places_laws::Place;
@@ -24,30 +23,14 @@ pub enum Reach {
     Enough,
 }
 
-/// A place's spot in rendition `r`, one of zeros where it has none.
-pub fn spot_at(place: &Place, r: usize) -> Spot
-    ensures { result ≡ spot_in place.now.spots r }
-{
-    let spots = place.spots.as_slice();
-    if r < spots.len() {
-        return spots[r];
-    }
-    Spot {
-        fragment: 0,
-        prev_end: 0,
-        start: 0,
-        run_in: 0,
-        run_out: 0,
-    }
-}
-
 /// The length from a place to another in rendition `r`, in microseconds.
 pub fn length_between(from: &Place, to: &Place, r: usize) -> u64
     ensures { result ≡ (spot_in to.now.spots r).prev_end - (spot_in from.now.spots r).start }
 {
-    spot_at(to, r)
+    to.spots
+        .spot(r)
         .prev_end
-        .saturating_sub(spot_at(from, r).start)
+        .saturating_sub(from.spots.spot(r).start)
 }
 
 /// Whether every rendition's fragment is greater at `place` than at the open place.

@@ -1,7 +1,7 @@
 ghost use Rattle.std.specs.Prelude.{◌≡◌, IfOk};
 
 use hls_places_laws::Place;
-use std::alloc::{AllocError, Global};
+use std::alloc::AllocError;
 
 /// Where the live line goes on: the start of the segment that is to come.
 #[derive(Debug, Drop)]
@@ -13,12 +13,12 @@ pub struct Opening {
 }
 
 impl Opening {
-    /// A copy of its own.
-    pub fn copied(&self, alloc: Global) -> Result<Opening, AllocError>
-        ensures { IfOk result (λ copy. copy ≡ self.now) }
+    /// The same opening once more, over the same memory.
+    pub fn share(&self) -> Result<Opening, AllocError>
+        ensures { IfOk result (λ opening. opening ≡ self.now) }
     {
         Ok(Opening {
-            place: self.place.copied(alloc)?,
+            place: self.place.share()?,
             anew: self.anew,
         })
     }

@@ -54,7 +54,7 @@ fn table(alloc: Global, times: &[u64]) -> Option<PlaceTable> {
     let mut places = Vec::new(alloc);
     for (number, seconds) in times.iter().enumerate() {
         let spots = vec![in alloc; spot(number, *seconds)].ok()?;
-        places.push(Spots::new(spots)).ok()?;
+        places.push(Spots::new(alloc, spots).ok()?).ok()?;
     }
     PlaceTable::try_new(PrintedTable::try_new(GOAL, 1, places)?)
 }
@@ -109,26 +109,15 @@ fn is_read(certificate: &Certificate) -> bool {
 /// What takes memory over a table.
 #[derive(Clone, Copy, Debug)]
 enum Act {
-    CopySpots,
     Copy,
     Print,
     Plan,
     PlanCounted,
 }
 
-const COPIES: [Act; 3] = [Act::CopySpots, Act::Copy, Act::Print];
+const COPIES: [Act; 2] = [Act::Copy, Act::Print];
 
 const PLANS: [Act; 2] = [Act::Plan, Act::PlanCounted];
-
-fn told_of_copy(alloc: Global, table: &PlaceTable) -> Told {
-    let Some(last) = table.places().last() else {
-        return Told::Astray;
-    };
-    match last.copied(alloc) {
-        Ok(copy) => Told::answer(is_place(&copy, 4, 11)),
-        Err(_) => Told::Wanted,
-    }
-}
 
 fn told_counted(alloc: Global, table: &PlaceTable) -> Told {
     let mut ticks = Ticks::new();
@@ -140,7 +129,6 @@ fn told_counted(alloc: Global, table: &PlaceTable) -> Told {
 
 fn told_by(alloc: Global, table: &PlaceTable, act: Act) -> Told {
     match act {
-        Act::CopySpots => told_of_copy(alloc, table),
         Act::Copy => match table.table().copied(alloc) {
             Ok(copy) => Told::answer(is_table(&copy, &TIMES)),
             Err(_) => Told::Wanted,

@@ -2,7 +2,7 @@
 
 use crate::told::Told;
 use hls_check_laws::{Spot, Spots};
-use hls_live::{LineFault, LiveLine, Opening};
+use hls_live::{LineFault, LiveLine};
 use hls_places_laws::Place;
 use std::alloc::Global;
 
@@ -17,7 +17,7 @@ fn place(alloc: Global, number: u64) -> Option<Place> {
         run_out: 0,
     };
     Some(Place {
-        spots: Spots::new(vec![in alloc; spot].ok()?),
+        spots: Spots::new(alloc, vec![in alloc; spot].ok()?).ok()?,
         closing: number == 3,
     })
 }
@@ -150,22 +150,4 @@ fn refused_memory_moves_the_line_once_more(rt: HostRuntime) {
         let first = told(alloc, &two, &ended, &last, act);
         assert!(rt; first.is_held(told(alloc, &two, &ended, &last, act)));
     }
-}
-
-fn told_copied(alloc: Global, opening: &Opening) -> Told {
-    match opening.copied(alloc) {
-        Ok(copy) => Told::answer(begins_at(&copy.place, 2) && copy.anew),
-        Err(_) => Told::wanted(begins_at(&opening.place, 2) && opening.anew),
-    }
-}
-
-#[test]
-fn refused_memory_copies_openings_once_more(rt: HostRuntime) {
-    let alloc = rt.alloc();
-    let opening = Opening {
-        place: place_at_last(alloc, 2).expect(&rt, "a place"),
-        anew: true,
-    };
-    let first = told_copied(alloc, &opening);
-    assert!(rt; first.is_held(told_copied(alloc, &opening)));
 }

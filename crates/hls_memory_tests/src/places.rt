@@ -55,16 +55,6 @@ fn told_cursor(alloc: Global) -> Told {
     }
 }
 
-fn told_copied(alloc: Global, places: &[Place]) -> Told {
-    let Some(last) = places.last() else {
-        return Told::Astray;
-    };
-    match last.copied(alloc) {
-        Ok(copy) => Told::answer(is_place(&copy, 3) && are_places(places)),
-        Err(_) => Told::wanted(are_places(places)),
-    }
-}
-
 /// Whether it's the table of the places from 4 s to 12 s.
 fn is_programme(table: &PlaceTable) -> bool {
     let starts = [4 * SECOND, 8 * SECOND, 12 * SECOND];
@@ -104,7 +94,6 @@ fn ample_memory_finds_places(rt: HostRuntime) {
     assert_eq!(rt; told_common(alloc, recording), Told::Ample);
     assert_eq!(rt; told_cursor(alloc), Told::Ample);
     let places = found(alloc, recording).expect(&rt, "places");
-    assert_eq!(rt; told_copied(alloc, &places), Told::Ample);
     assert_eq!(rt; told_programme(alloc, &places), Told::Ample);
 }
 
@@ -125,16 +114,6 @@ fn found_at_last(alloc: Global, recording: &Recording) -> Option<Vec<Place>>
         Some(places) => Some(places),
         None => found(alloc, recording),
     }
-}
-
-#[test]
-fn refused_memory_copies_places_once_more(rt: HostRuntime) {
-    let alloc = rt.alloc();
-    let state = finished_at_last(alloc).expect(&rt, "a channel");
-    let recording = state.recording(0).expect(&rt, "a recording");
-    let places = found_at_last(alloc, recording).expect(&rt, "places");
-    let first = told_copied(alloc, &places);
-    assert!(rt; first.is_held(told_copied(alloc, &places)));
 }
 
 #[test]

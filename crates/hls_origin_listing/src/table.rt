@@ -23,7 +23,7 @@ pub fn whole_table(
 {
     let mut spots = Vec::new(alloc);
     for place in places.iter_from(0) {
-        spots.push(place.spots.copied(alloc)?)?;
+        spots.push(place.spots.share()?)?;
     }
     Ok(PlaceTable::new(PrintedTable::new(goal, 1, spots)))
 }

@@ -31,11 +31,11 @@ fn end_spots(renditions: &Renditions, alloc: Global, marks: &[Mark]) -> Result<S
     requires over { list_all has_ended renditions.now ≡ true }
     ensures { IfOk result (λ spots. spots ≡ map end_in renditions.now) }
 {
-    let mut spots = Vec::new(alloc);
+    let mut spots = Vec::with_capacity(alloc, marks.len())?;
     for r in 0..marks.len() {
         spots.push(end_spot(renditions.recording(r), marks[r]))?;
     }
-    Ok(Spots::new(spots))
+    Spots::new(alloc, spots)
 }
 
 /// The place after all fragments, once every rendition is over.

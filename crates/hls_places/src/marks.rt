@@ -50,7 +50,7 @@ pub(crate) fn spots(
     requires found { AreAtEntries time renditions.now marks.now }
     ensures { IfOk result (λ found. found ≡ spots renditions.now time) }
 {
-    let mut spots = Vec::new(alloc);
+    let mut spots = Vec::with_capacity(alloc, marks.len())?;
     for r in 0..marks.len() {
         match search::near(
             renditions.recording(r),
@@ -62,5 +62,5 @@ pub(crate) fn spots(
             None => return Ok(None),
         }
     }
-    Ok(Some(Spots::new(spots)))
+    Ok(Some(Spots::new(alloc, spots)?))
 }

@@ -107,7 +107,7 @@ fn spots_of(alloc: Global, places: &[&Place]) -> Result<Vec<Spots>, AllocError>
 {
     let mut spots = Vec::new(alloc);
     for place in places {
-        spots.push(place.spots.copied(alloc)?)?;
+        spots.push(place.spots.share()?)?;
     }
     Ok(spots)
 }

@@ -3,7 +3,7 @@
 ghost use Rattle.std.specs.Prelude.{◌≡◌, IfOk};
 
 use hls_check_laws::Spots;
-use std::alloc::{AllocError, Global};
+use std::alloc::AllocError;
 
 /// Where one may cut in every rendition at once.
 #[derive(Debug, Drop)]
@@ -16,12 +16,12 @@ pub struct Place {
 }
 
 impl Place {
-    /// A copy of its own.
-    pub fn copied(&self, alloc: Global) -> Result<Place, AllocError>
-        ensures { IfOk result (λ copy. copy ≡ self.now) }
+    /// The same place once more, over the same memory.
+    pub fn share(&self) -> Result<Place, AllocError>
+        ensures { IfOk result (λ place. place ≡ self.now) }
     {
         Ok(Place {
-            spots: self.spots.copied(alloc)?,
+            spots: self.spots.share()?,
             closing: self.closing,
         })
     }

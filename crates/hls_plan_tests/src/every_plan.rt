@@ -110,7 +110,7 @@ fn table_of(
 ) -> Result<PlaceTable, Fail> {
     let mut places = Vec::new(alloc);
     for k in 0..PLACES {
-        places.push(Spots::new(vec![in alloc; videos[k], audios[k]]?))?;
+        places.push(Spots::new(alloc, vec![in alloc; videos[k], audios[k]]?)?)?;
     }
     let goal = Goal {
         target: 6,

@@ -21,7 +21,7 @@ fn seconds(alloc: Global, rule: CostRule) -> Result<PlaceTable, Fail> {
             run_in: 0,
             run_out: 0,
         };
-        places.push(Spots::new(vec![in alloc; spot]?))?;
+        places.push(Spots::new(alloc, vec![in alloc; spot]?)?)?;
     }
     let goal = Goal {
         target: 6,

@@ -78,7 +78,7 @@ fn place_behind(
         spots.push(spot_behind(spot, *step))?;
     }
     Ok(Place {
-        spots: Spots::new(spots),
+        spots: Spots::new(alloc, spots)?,
         closing,
     })
 }
@@ -93,7 +93,7 @@ fn first_place(alloc: Global, renditions: usize, closing: bool) -> Result<Place,
         run_out: 0,
     };
     Ok(Place {
-        spots: Spots::new(vec![in alloc; zeros; renditions]?),
+        spots: Spots::new(alloc, vec![in alloc; zeros; renditions]?)?,
         closing,
     })
 }
@@ -139,7 +139,7 @@ fn longer(rt: &impl Abort, alloc: Global, list: &List, place: Place) -> Result<L
     let line = told(alloc, &list.line, &place)?;
     let mut places = Vec::with_capacity(alloc, MOST_PLACES)?;
     for earlier in &list.places {
-        places.push(earlier.copied(alloc)?)?;
+        places.push(earlier.share()?)?;
     }
     places.push(place)?;
     list_of(rt, alloc, places, line)

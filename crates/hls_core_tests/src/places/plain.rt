@@ -86,7 +86,7 @@ fn plain_place(
         }
     }
     Ok(Some(Place {
-        spots: Spots::new(all),
+        spots: Spots::new(alloc, all)?,
         closing,
     }))
 }

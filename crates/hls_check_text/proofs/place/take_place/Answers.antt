@@ -24,7 +24,7 @@ loop-r-preserved c =
 pub returns-in-Some-take_byte : goal.returns-in-Some-take_byte
 returns-in-Some-take_byte c =
     let all : c.loop-r._r ≡ c.args.renditions = omega arith in
-    rw c.new.ensures
+    rw c.in_ok-new-in-Some-take_byte.ensures
     (place_taken c.args.renditions c.args.text.now c.loop-r.spots.items c.loop-r.rest.now c.in-Some-take_byte.after.now
     (subst (λ (r : ℕ). SpotsRead c.args.renditions c.args.text.now c.loop-r.spots.items c.loop-r.rest.now r) all c.loop-r.invariant)
     c.in-Some-take_byte.ensures)

@@ -20,6 +20,6 @@ loop-place-preserved-in_ok-push c =
     rw c.in_ok-push.ensures.items (record {
       can_next = tt;
       is_finite = tt;
-      copied = one_copy_more made c.in_ok-copied.field-0 c.args.count k.floors p c.next.new.self whole
-          (omega (arith, c.len.ensures, c.if-len-count.false)) is c.in_ok-copied.ensures before;
+      copied = one_copy_more made c.in_ok-share.field-0 c.args.count k.floors p c.next.new.self whole
+          (omega (arith, c.len.ensures, c.if-len-count.false)) is c.in_ok-share.ensures before;
     })

@@ -45,8 +45,8 @@ returns-in_ok-opening_at-in-TooFar c =
     ∙ sym (told-far live start place at past (is.far reach)) in
     subst (λ (z : Live). IfOk c.open_again-in-TooFar.result (λ line. line ≡ z)) same c.open_again-in-TooFar.ensures
 
-pub returns-in_ok-copied-in-Further-2 : goal.returns-in_ok-copied-in-Further-2
-returns-in_ok-copied-in-Further-2 c =
+pub returns-in_ok-share-in-Further-2 : goal.returns-in_ok-share-in-Further-2
+returns-in_ok-share-in-Further-2 c =
     let live = c.args.self.now in
     let start = c.in-Some.start in
     let place = c.args.place.now in
@@ -55,9 +55,9 @@ returns-in_ok-copied-in-Further-2 c =
     subst (λ (x : Live). reach_of x.aim start.place place ≡ Further) c.self.view_is (sym c.reached.ensures ∙ c.in-Further.is) in
     let is = reach-is live.aim start.place place in
     let past = is.past (λ e. let never : Further ≡ Skipped = sym reach ∙ e in absurd (cc)) in
-    let same = ap (λ (o : Opening). with_told live (told_with live.told.line.segments o (Some c.in_ok-copied-in-Further-2.field-0)))
-    c.in_ok-copied-in-Further.ensures
-    ∙ (ap (λ (p : Place). with_told live (told_with live.told.line.segments start (Some p))) c.in_ok-copied-in-Further-2.ensures
+    let same = ap (λ (o : Opening). with_told live (told_with live.told.line.segments o (Some c.in_ok-share-in-Further-2.field-0)))
+    c.in_ok-share-in-Further.ensures
+    ∙ (ap (λ (p : Place). with_told live (told_with live.told.line.segments start (Some p))) c.in_ok-share-in-Further-2.ensures
     ∙ sym (told-further live start place at past (is.further reach).0 (is.further reach).1)) in
     subst (λ (z : Live). IfOk c.open_again-in-Further.result (λ line. line ≡ z)) same c.open_again-in-Further.ensures
 
