@@ -151,7 +151,12 @@ impl Recording {
     pub fn twin(&self, start: u64) -> Option<&Bytes>
         ensures { option_copied result ≡ twin_of self.now start }
     {
-        let n = first_from(&self.items, Key::Start, self.units.first(), start);
+        let floor = self.units.first();
+        // most units come behind all others, where none can have a twin
+        if self.last_end() <= start {
+            return None;
+        }
+        let n = first_from(&self.items, Key::Start, floor, start);
         if !starts(&self.items, n, start) {
             return None;
         }
