@@ -72,22 +72,17 @@ fn begin(
     if snapshot.is_full() {
         return Err(Refusal::LedgerFull);
     }
-    let Ok(logged) = init.share() else {
-        return Err(Refusal::Memory);
-    };
     let event = Logged::Begun {
         rendition,
-        init: logged,
+        init: init.share()?,
         len: bytes.len() as u64,
     };
     let side = Side {
         recording: Some(Recording::begin(alloc, init, bytes)),
         finished: old.finished,
     };
-    match snapshot.with_side(alloc, Entry { by, event }, rendition, side) {
-        Ok(next) => Ok(Stepped::New(next)),
-        Err(_) => Err(Refusal::Memory),
-    }
+    let next = snapshot.with_side(alloc, Entry { by, event }, rendition, side)?;
+    Ok(Stepped::New(next))
 }
 
 fn accept(
@@ -132,10 +127,8 @@ fn accept(
         recording: Some(recording),
         finished: old.finished,
     };
-    match snapshot.with_side(alloc, Entry { by, event }, rendition, side) {
-        Ok(next) => Ok(Stepped::New(next)),
-        Err(_) => Err(Refusal::Memory),
-    }
+    let next = snapshot.with_side(alloc, Entry { by, event }, rendition, side)?;
+    Ok(Stepped::New(next))
 }
 
 fn finish(snapshot: &Snapshot, alloc: Global, by: u16, rendition: usize) -> Result<Stepped, Refusal>
@@ -153,18 +146,13 @@ fn finish(snapshot: &Snapshot, alloc: Global, by: u16, rendition: usize) -> Resu
     if snapshot.is_full() {
         return Err(Refusal::LedgerFull);
     }
-    let Ok(recording) = recording.share(alloc) else {
-        return Err(Refusal::Memory);
-    };
     let event = Logged::Finished { rendition };
     let side = Side {
-        recording: Some(recording),
+        recording: Some(recording.share(alloc)?),
         finished: true,
     };
-    match snapshot.with_side(alloc, Entry { by, event }, rendition, side) {
-        Ok(next) => Ok(Stepped::New(next)),
-        Err(_) => Err(Refusal::Memory),
-    }
+    let next = snapshot.with_side(alloc, Entry { by, event }, rendition, side)?;
+    Ok(Stepped::New(next))
 }
 
 fn slide(snapshot: &Snapshot, alloc: Global, by: u16, count: u64) -> Result<Stepped, Refusal>
@@ -184,10 +172,8 @@ fn slide(snapshot: &Snapshot, alloc: Global, by: u16, count: u64) -> Result<Step
     let Ok(now) = line.slide(alloc, count) else {
         return Err(Refusal::Memory);
     };
-    match snapshot.with_slid(alloc, by, count, now) {
-        Ok(next) => Ok(Stepped::New(next)),
-        Err(_) => Err(Refusal::Memory),
-    }
+    let next = snapshot.with_slid(alloc, by, count, now)?;
+    Ok(Stepped::New(next))
 }
 
 fn trim(
@@ -214,16 +200,11 @@ fn trim(
     let Some(recording) = &old.recording else {
         unreachable!()
     };
-    let Ok(recording) = recording.trimmed(alloc, floor) else {
-        return Err(Refusal::Memory);
-    };
     let event = Logged::Trimmed { rendition, floor };
     let side = Side {
-        recording: Some(recording),
+        recording: Some(recording.trimmed(alloc, floor)?),
         finished: old.finished,
     };
-    match snapshot.with_trimmed(alloc, Entry { by, event }, rendition, side) {
-        Ok(next) => Ok(Stepped::New(next)),
-        Err(_) => Err(Refusal::Memory),
-    }
+    let next = snapshot.with_trimmed(alloc, Entry { by, event }, rendition, side)?;
+    Ok(Stepped::New(next))
 }

@@ -1,3 +1,7 @@
+ghost use Rattle.std.specs.Prelude.{◌≡◌};
+ghost use Rattle.hls_core_laws.specs.declared.refusal.Refusal.TheVariants.{Memory};
+
+use std::alloc::AllocError;
 use thiserror::Error;
 
 /// Why an event was refused. A refused event changes nothing.
@@ -59,5 +63,13 @@ impl Refusal {
             Refusal::RecordingFull => "RecordingFull",
             Refusal::Memory => "Memory",
         }
+    }
+}
+
+impl From<AllocError> for Refusal {
+    ghost from_gives = { λ _ e. e ≡ Memory };
+
+    fn from(_error: AllocError) -> Refusal {
+        Refusal::Memory
     }
 }

@@ -5,12 +5,12 @@ use Rattle.hls_core.proofs.step.finish.Goals as goal
 pub with_side-requires-clause-take : goal.with_side-requires-clause-take
 with_side-requires-clause-take c =
     (finish_goes c.args.snapshot.now c.args.by c.args.rendition c.in-Some.old.now c.in-Some-recording.recording
-    c.in-Ok.recording c.side.ensures.valid c.in-Some.ensures.some c.in-Some-recording.is c.if-old.false
-    (room_of c.args.snapshot.now c.is_full.result c.is_full.ensures c.if-is_full.false) c.in-Ok.ensures.value c.in-Ok.ensures.valid).take
+    c.in_ok-share.field-0 c.side.ensures.valid c.in-Some.ensures.some c.in-Some-recording.is c.if-old.false
+    (room_of c.args.snapshot.now c.is_full.result c.is_full.ensures c.if-is_full.false) c.in_ok-share.ensures.value c.in_ok-share.ensures.valid).take
 
-pub returns-in-Ok-with_side : goal.returns-in-Ok-with_side
-returns-in-Ok-with_side c =
+pub returns : goal.returns
+returns c =
     let goes = finish_goes c.args.snapshot.now c.args.by c.args.rendition c.in-Some.old.now c.in-Some-recording.recording
-    c.in-Ok.recording c.side.ensures.valid c.in-Some.ensures.some c.in-Some-recording.is c.if-old.false
-    (room_of c.args.snapshot.now c.is_full.result c.is_full.ensures c.if-is_full.false) c.in-Ok.ensures.value c.in-Ok.ensures.valid in
-    (goes.new, c.in-Ok-with_side.ensures ∙ goes.is)
+    c.in_ok-share.field-0 c.side.ensures.valid c.in-Some.ensures.some c.in-Some-recording.is c.if-old.false
+    (room_of c.args.snapshot.now c.is_full.result c.is_full.ensures c.if-is_full.false) c.in_ok-share.ensures.value c.in_ok-share.ensures.valid in
+    (goes.new, c.in_ok-next.ensures ∙ goes.is)

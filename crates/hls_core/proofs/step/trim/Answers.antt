@@ -19,14 +19,14 @@ with_trimmed-requires-clause-there c =
 pub with_trimmed-requires-clause-trim : goal.with_trimmed-requires-clause-trim
 with_trimmed-requires-clause-trim c =
     (trim_goes c.args.snapshot.now c.args.by c.args.rendition c.args.floor c.in-Some.old.now c.in-Some-recording.recording
-    c.in-Ok.recording c.side.ensures.valid c.in-Some.ensures.some c.in-Some-recording.is
+    c.in_ok-trimmed.field-0 c.side.ensures.valid c.in-Some.ensures.some c.in-Some-recording.is
     (omega (arith, c.floor.ensures, c.if-floor.false)) (omega (arith, c.trim_limit.ensures, c.if-trim_limit-floor.false))
-    (room_of c.args.snapshot.now c.is_full.result c.is_full.ensures c.if-is_full.false) c.in-Ok.ensures.value c.in-Ok.ensures.valid).trim
+    (room_of c.args.snapshot.now c.is_full.result c.is_full.ensures c.if-is_full.false) c.in_ok-trimmed.ensures.value c.in_ok-trimmed.ensures.valid).trim
 
-pub returns-in-Ok-with_trimmed : goal.returns-in-Ok-with_trimmed
-returns-in-Ok-with_trimmed c =
+pub returns : goal.returns
+returns c =
     let goes = trim_goes c.args.snapshot.now c.args.by c.args.rendition c.args.floor c.in-Some.old.now c.in-Some-recording.recording
-    c.in-Ok.recording c.side.ensures.valid c.in-Some.ensures.some c.in-Some-recording.is
+    c.in_ok-trimmed.field-0 c.side.ensures.valid c.in-Some.ensures.some c.in-Some-recording.is
     (omega (arith, c.floor.ensures, c.if-floor.false)) (omega (arith, c.trim_limit.ensures, c.if-trim_limit-floor.false))
-    (room_of c.args.snapshot.now c.is_full.result c.is_full.ensures c.if-is_full.false) c.in-Ok.ensures.value c.in-Ok.ensures.valid in
-    (goes.new, c.in-Ok-with_trimmed.ensures ∙ goes.is)
+    (room_of c.args.snapshot.now c.is_full.result c.is_full.ensures c.if-is_full.false) c.in_ok-trimmed.ensures.value c.in_ok-trimmed.ensures.valid in
+    (goes.new, c.in_ok-next.ensures ∙ goes.is)
