@@ -1,2 +1,3 @@
+mod BoxEnds
+mod IntakeLaws
 mod ReaderLaws
-mod ScanLaws

@@ -1,2 +1,2 @@
+pub mod Intake
 pub mod Reader
-pub mod Scan

@@ -4,13 +4,11 @@
 //! [`UnitReader`](reader::UnitReader) is the door through which a stream comes.
 #![tactic(auto)]
 
-mod found;
+mod begun;
+mod intake;
 pub mod reader;
-mod room;
-mod scan;
 mod step;
-#[cfg(test)]
-mod tests;
+mod whole;
 
 pub use hls_boxes_laws::fault::BoxFault;
 pub use hls_boxes_laws::part::Part;

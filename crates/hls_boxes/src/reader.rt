@@ -4,10 +4,9 @@ ghost use Rattle.std.specs.Prelude.{◌≡◌, ◌≢◌, [], ◌++◌, Err, IfO
 ghost use Rattle.hls_boxes_laws.specs.Parts.{cut_of, text_fault, fault_at_end};
 ghost use Rattle.hls_boxes.specs.Reader.{IsRefusal, IsTaken, HasPart, Tells};
 
-use crate::found::{Found, part_from};
-use crate::room::cut_front;
-use crate::scan::{Place, Scanned, scan};
-use bytes::BytesMut;
+use crate::begun::{Begun, Mark};
+use crate::intake::take_in;
+use crate::whole::Whole;
 use hls_boxes_laws::fault::BoxFault;
 use hls_boxes_laws::part::Part;
 use std::alloc::{AllocError, Global};
@@ -19,22 +18,22 @@ use std::marker::Model;
 #[derive(Drop)]
 pub struct UnitReader {
     alloc: Global,
-    buffer: BytesMut,
     /// The parts that are whole and not yet taken, in order.
-    ready: VecDeque<Found>,
-    place: Place,
+    whole: VecDeque<Whole>,
+    /// What came behind them.
+    begun: Begun,
     fault: Option<BoxFault>,
 }
 
 impl Model for UnitReader {
     ghost use Rattle.std.specs.Prelude.{ℕ, List};
-    ghost use Rattle.hls_boxes.specs.Scan.{Settles};
+    ghost use Rattle.hls_boxes.specs.Intake.{Settles, fed_bytes};
 
     ghost Value = { List ℕ };
 
-    ghost view = { λ r. r.buffer.items };
+    ghost view = { λ r. fed_bytes r.whole.items r.begun };
 
-    ghost invariant = { λ r. Settles r.buffer.items r.ready.items r.place r.fault };
+    ghost invariant = { λ r. Settles r.whole.items r.begun r.fault };
 }
 
 impl UnitReader {
@@ -44,13 +43,8 @@ impl UnitReader {
     {
         UnitReader {
             alloc,
-            buffer: BytesMut::new(alloc),
-            ready: VecDeque::new(alloc),
-            place: Place {
-                at: 0,
-                before: 0,
-                has_moof: false,
-            },
+            whole: VecDeque::new(alloc),
+            begun: Begun::nothing(alloc),
             fault: None,
         }
     }
@@ -74,16 +68,11 @@ impl UnitReader {
         if piece.is_empty() {
             return Ok(());
         }
-        let held = self.buffer.len();
-        if self.buffer.extend_from_slice(piece).is_err() {
-            return Err(BoxFault::Memory);
-        }
-        let Ok(Scanned { place, fault }) = scan(self.buffer.as_slice(), self.place, &mut self.ready)
-        else {
-            self.buffer.truncate(held);
+        let mark = Mark::of(&self.begun, &self.whole);
+        let Ok(fault) = take_in(self.alloc, &mut self.begun, &mut self.whole, piece) else {
+            mark.take_back(&mut self.begun, &mut self.whole);
             return Err(BoxFault::Memory);
         };
-        self.place = place;
         self.fault = fault;
         if let Some(found) = fault {
             return Err(found);
@@ -97,15 +86,16 @@ impl UnitReader {
         ensures ok { IfOk result (λ part. IsTaken part self.old self.new) }
         ensures err { OnErr result ((self.new ≡ self.old) × HasPart self.old) }
     {
-        let Some(&found) = self.ready.front() else {
+        let Some(first) = self.whole.pop_front() else {
             return Ok(None);
         };
-        let Ok(bytes) = cut_front(&mut self.buffer, self.alloc, found.len) else {
-            return Err(AllocError);
-        };
-        self.ready.pop_front();
-        self.place.at -= found.len;
-        Ok(Some(part_from(found.kind, bytes)))
+        match first.into_part() {
+            Ok(part) => Ok(Some(part)),
+            Err(failed) => {
+                self.whole.push_front_reserved(failed.value);
+                Err(AllocError)
+            }
+        }
     }
 
     /// Says that the stream ends here. It takes no memory.
@@ -118,10 +108,10 @@ impl UnitReader {
         if let Some(fault) = self.fault {
             return Err(fault);
         }
-        if self.place.at < self.buffer.len() {
+        if self.begun.at < self.begun.bytes.len() {
             return Err(BoxFault::Truncated);
         }
-        if self.place.has_moof {
+        if self.begun.has_moof {
             return Err(BoxFault::Truncated);
         }
         Ok(())

@@ -1,7 +1,9 @@
 //! What the box at the front of the rest of a stream does.
 
-ghost use Rattle.std.specs.Prelude.{◌≡◌};
+ghost use Rattle.std.specs.Prelude.{◌≡◌, ◌-◌, length};
+ghost use Rattle.hls_boxes_laws.specs.Boxes.{header_at};
 ghost use Rattle.hls_boxes_laws.specs.Parts.{fault_of, next_of};
+ghost use Rattle.hls_boxes.specs.Intake.{wanted_by};
 
 use hls_boxes_laws::fault::BoxFault;
 use hls_boxes_laws::header::Header;
@@ -57,4 +59,18 @@ pub(crate) fn next_box(bytes: &[u8], before: usize, has_moof: bool) -> Next
         has_moof: has_moof || header.kind == MOOF,
         size,
     }
+}
+
+/// How many bytes are still to come of the box at the front of the bytes, or of its header, while
+/// that isn't whole.
+pub(crate) fn bytes_missing(bytes: &[u8]) -> usize
+    ensures { result ≡ wanted_by (header_at bytes.now) (length bytes.now) - length bytes.now }
+{
+    let len = bytes.len();
+    let wanted = match Header::read(bytes) {
+        Some(header) => header.size as usize,
+        None if len < 8 => 8,
+        None => 16,
+    };
+    wanted.saturating_sub(len)
 }

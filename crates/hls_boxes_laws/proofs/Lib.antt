@@ -1,7 +1,7 @@
 pub mod CutLaws
 mod Examples
 mod GrammarLaws
-mod Headers
+pub mod Headers
 pub mod KindTests
 mod KindLaws
 mod LeftLaws

@@ -3,8 +3,6 @@
 #![tactic(auto)]
 
 mod counted;
-#[cfg(test)]
-mod tests;
 mod write;
 
 pub use counted::Counted;

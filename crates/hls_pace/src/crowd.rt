@@ -50,12 +50,12 @@ impl Crowd {
     }
 
     /// Whether a worker waits for a connection.
-    pub(crate) fn has_free(&self) -> bool {
+    pub fn has_free(&self) -> bool {
         self.free.load(Ordering::SeqCst) > 0
     }
 
     /// Whether the mute connections are few.
-    pub(crate) fn has_few(&self) -> bool {
+    pub fn has_few(&self) -> bool {
         self.mute.load(Ordering::SeqCst) < self.many
     }
 }

@@ -7,8 +7,6 @@ mod crowd;
 mod pace;
 mod reader;
 mod rest;
-#[cfg(test)]
-mod tests;
 mod writer;
 
 pub use clock::milliseconds;

@@ -9,5 +9,3 @@ pub use boxes::{boxed, word_box};
 pub use init::{defaults_box, init_bytes, track_box};
 pub use unit::unit_bytes;
 
-#[cfg(test)]
-mod tests;

@@ -9,8 +9,6 @@ mod number;
 mod plain;
 mod rendition;
 mod settings;
-#[cfg(test)]
-mod tests;
 mod timing;
 mod workers;
 

@@ -1,24 +1,21 @@
-use Rattle.std.proofs.Common.{◌∙◌, ◌-◌, ◌≤◌, length, refl, arith}
-use Rattle.std.proofs.lemmas.Bool.{le-ltb}
-use Rattle.hls_boxes.proofs.ReaderLaws.{ends_with_fault, ends_without, cut_short, moof_held}
+use Rattle.std.proofs.Common.{arith}
+use Rattle.hls_boxes.proofs.ReaderLaws.{cut_short, ends_with_fault, moof_held, nothing_held}
 use Rattle.hls_boxes.proofs.reader.UnitReader.finish.Goals as goal
 
 pub returns-in-Some : goal.returns-in-Some
 returns-in-Some c =
-    ends_with_fault c.self.inside c.args.self.now c.in-Some.fault c.self.view_is c.in-Some.is c.self.invariant
+    ends_with_fault c.self.inside.whole.items c.self.inside.begun c.args.self.now c.self.inside.fault c.in-Some.fault c.self.view_is c.in-Some.is c.self.invariant
 
 pub returns-then-self-len : goal.returns-then-self-len
 returns-then-self-len c =
-    ends_without c.self.inside c.args.self.now c.self.view_is c.in_default.is c.self.invariant
-    ∙ cut_short (length c.self.inside.buffer.items - c.self.inside.place.at) c.self.inside.place.has_moof (omega (arith, c.len.ensures.value, c.if-self-len.true))
+    cut_short c.self.inside.whole.items c.self.inside.begun c.args.self.now c.self.inside.fault c.self.view_is c.in_default.is c.self.invariant
+    (omega (arith, c.len.ensures, c.if-self-len.true, c.self.inside.begun.bytes.ok))
 
 pub returns-then-self : goal.returns-then-self
 returns-then-self c =
-    ends_without c.self.inside c.args.self.now c.self.view_is c.in_default.is c.self.invariant
-    ∙ moof_held (length c.self.inside.buffer.items - c.self.inside.place.at) c.self.inside.place.has_moof c.if-self.true
+    moof_held c.self.inside.whole.items c.self.inside.begun c.args.self.now c.self.inside.fault c.self.view_is c.in_default.is c.self.invariant c.if-self.true
 
 pub returns : goal.returns
 returns c =
-    let none : length c.self.inside.buffer.items - c.self.inside.place.at ≤ 0 = omega (arith, c.len.ensures.value, c.if-self-len.false) in
-    ends_without c.self.inside c.args.self.now c.self.view_is c.in_default.is c.self.invariant
-    ∙ rw (le-ltb 0 (length c.self.inside.buffer.items - c.self.inside.place.at) none, c.if-self.false) refl
+    nothing_held c.self.inside.whole.items c.self.inside.begun c.args.self.now c.self.inside.fault c.self.view_is c.in_default.is c.self.invariant
+    (omega (arith, c.len.ensures, c.if-self-len.false, c.self.inside.begun.bytes.ok)) c.if-self.false

@@ -1,6 +1,6 @@
 //! Values from outside for what the contracts say.
 
-use crate::{read_instant, write_instant};
+use hls_instants::{read_instant, write_instant};
 use std::test::Fail;
 
 #[test]

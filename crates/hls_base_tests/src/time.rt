@@ -1,6 +1,6 @@
 //! Values from outside for what the contracts say.
 
-use crate::{Ticks, fits, read_seconds, us, write_seconds};
+use hls_time::{Ticks, fits, read_seconds, us, write_seconds};
 use std::test::Fail;
 
 #[test]

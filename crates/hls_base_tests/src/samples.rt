@@ -1,6 +1,6 @@
 //! The builders against bytes from outside.
 
-use crate::*;
+use hls_samples::*;
 use std::test::Fail;
 
 // The first bytes of the init of a video track at 90000 ticks a second.

@@ -1,6 +1,6 @@
 //! Texts of digits, and others.
 
-use crate::{MOST_DIGITS, are_digits, is_plain, read_number};
+use hls_text::{MOST_DIGITS, are_digits, is_plain, read_number};
 use std::test::Fail;
 
 #[test]

@@ -1,6 +1,6 @@
 //! Words that are taken, and words that are refused.
 
-use crate::{Settings, SettingsFault, read_settings};
+use hls_settings::{Settings, SettingsFault, read_settings};
 use std::alloc::Global;
 use std::test::Fail;
 

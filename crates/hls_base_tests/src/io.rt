@@ -1,6 +1,6 @@
 //! Bytes through counted readers and writers over memory.
 
-use crate::{Counted, write_whole};
+use hls_io::{Counted, write_whole};
 use std::io;
 use std::io::Write;
 use std::test::Fail;

@@ -1,6 +1,6 @@
 //! Streams by the sample builders, and the faults of single headers.
 
-use crate::reader::UnitReader;
+use hls_boxes::UnitReader;
 use hls_boxes_laws::fault::BoxFault;
 use hls_boxes_laws::part::Part;
 use hls_samples::{init_bytes, unit_bytes};

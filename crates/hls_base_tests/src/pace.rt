@@ -1,6 +1,6 @@
 //! Silent, idle and slow peers, on a clock that goes on by a quarter of a second at each look.
 
-use crate::{Crowd, Pace, PatientReader, PatientWriter, drop_rest};
+use hls_pace::{Crowd, Pace, PatientReader, PatientWriter, drop_rest};
 use std::cell::Cell;
 use std::io::{self, ErrorKind, Read, Write};
 use std::test::Fail;

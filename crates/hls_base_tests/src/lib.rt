@@ -1,0 +1,21 @@
+//! Tests of the crates that stand on few or none: times and instants, texts, samples, boxes, whole
+//! reads and writes, patience, and the words after `serve`. One crate has them, since a crate with
+//! tests is proved once more for them.
+#![tactic(auto)]
+
+#[cfg(test)]
+mod boxes;
+#[cfg(test)]
+mod instants;
+#[cfg(test)]
+mod io;
+#[cfg(test)]
+mod pace;
+#[cfg(test)]
+mod samples;
+#[cfg(test)]
+mod settings;
+#[cfg(test)]
+mod text;
+#[cfg(test)]
+mod time;

@@ -1,0 +1,53 @@
+use Rattle.std.proofs.Common.{ℕ, ◌<◌, Option, Some, None, List, [], ◌++◌, length, ◌∙◌, append-nil, arith, refl, subst, sym}
+use Rattle.std.proofs.lemmas.List.{take_rest}
+use Rattle.hls_boxes_laws.specs.declared.fault.BoxFault.{BoxFault}
+use Rattle.hls_boxes.specs.declared.begun.Begun.{Begun}
+use Rattle.hls_boxes.specs.Intake.{TakesIn}
+use Rattle.hls_boxes.proofs.IntakeLaws.{adds, any_error, even-grown, not_empty, piece-is, takes-more, takes-nothing, takes-rest, wants-some}
+use Rattle.hls_boxes.proofs.intake.take_in.Goals as goal
+
+pub loop-rest-init : goal.loop-rest-init
+loop-rest-init c = ([], refl, takes-nothing c.args.begun.now c.args.whole.now.items c.requires)
+
+pub pass-requires-clause-even : goal.pass-requires-clause-even
+pass-requires-clause-even c =
+    let missing = rw (take_rest, c.deref.ensures.value) at c.bytes_missing-missing.ensures in
+    even-grown c.loop-rest.begun (record { bytes = c.extend.new.bytes; at = c.loop-rest.begun.at; has_moof = c.loop-rest.begun.has_moof }) c.split_at.result.0.now c.in_ok-extend.ensures.ok refl refl c.loop-rest.invariant.2.stands
+    (omega (arith, c.split_at.ensures.front_len, c.min.ensures, missing))
+
+pub returns-in_err-extend_from_slice-clause-err : goal.returns-in_err-extend_from_slice-clause-err
+returns-in_err-extend_from_slice-clause-err c =
+    let grown : Begun = record { bytes = c.extend.new.bytes; at = c.loop-rest.begun.at; has_moof = c.loop-rest.begun.has_moof } in
+    let kept : Begun = record { bytes = c.extend_from_slice.new.self; at = c.pass.new.begun.at; has_moof = c.pass.new.begun.has_moof } in
+    let t = takes-more c.args.begun.now c.loop-rest.begun grown c.pass.new.begun c.args.whole.now.items c.loop-rest.whole.items c.pass.new.whole.items c.loop-rest.invariant.0 c.split_at.result.0.now
+    (Some c.in-Some.fault) c.loop-rest.invariant.2 c.in_ok-extend.ensures.ok (subst (λ (o : Option BoxFault). TakesIn grown c.loop-rest.whole.items [] o c.pass.new.begun c.pass.new.whole.items) c.in-Some.is c.in_ok-fault.ensures.ok) in
+    any_error c.from_residual-in_err-extend_from_slice.result
+    (adds c.args.begun.now c.pass.new.begun kept c.args.whole.now.items c.pass.new.whole.items (c.loop-rest.invariant.0 ++ c.split_at.result.0.now) [] (Some c.in-Some.fault) t
+    (c.in_err-extend_from_slice.ensures.items ∙ sym (append-nil c.pass.new.begun.bytes.items)))
+
+pub returns-in-Some-clause-ok : goal.returns-in-Some-clause-ok
+returns-in-Some-clause-ok c =
+    let grown : Begun = record { bytes = c.extend.new.bytes; at = c.loop-rest.begun.at; has_moof = c.loop-rest.begun.has_moof } in
+    let kept : Begun = record { bytes = c.extend_from_slice.new.self; at = c.pass.new.begun.at; has_moof = c.pass.new.begun.has_moof } in
+    let t = takes-more c.args.begun.now c.loop-rest.begun grown c.pass.new.begun c.args.whole.now.items c.loop-rest.whole.items c.pass.new.whole.items c.loop-rest.invariant.0 c.split_at.result.0.now
+    (Some c.in-Some.fault) c.loop-rest.invariant.2 c.in_ok-extend.ensures.ok (subst (λ (o : Option BoxFault). TakesIn grown c.loop-rest.whole.items [] o c.pass.new.begun c.pass.new.whole.items) c.in-Some.is c.in_ok-fault.ensures.ok) in
+    let is = piece-is c.args.piece.now c.loop-rest.invariant.0 c.loop-rest.rest.now c.split_at.result.0.now c.split_at.result.1.now c.min.result c.loop-rest.invariant.1 c.split_at.ensures.front c.split_at.ensures.back in
+    subst (λ (xs : List ℕ). TakesIn c.args.begun.now c.args.whole.now.items xs (Some c.in-Some.fault) kept c.pass.new.whole.items) (sym is)
+    (takes-rest c.args.begun.now c.pass.new.begun kept c.args.whole.now.items c.pass.new.whole.items (c.loop-rest.invariant.0 ++ c.split_at.result.0.now) c.split_at.result.1.now c.in-Some.fault t
+    c.in_ok-extend_from_slice.ensures.items)
+
+pub loop-rest-smaller : goal.loop-rest-smaller
+loop-rest-smaller c =
+    let missing = rw (take_rest, c.deref.ensures.value) at c.bytes_missing-missing.ensures in
+    let some = wants-some c.loop-rest.begun c.loop-rest.invariant.2.stands in
+    let smaller : length c.split_at.result.1.now < length c.loop-rest.rest.now = omega (arith, c.split_at.ensures.back_len, c.min.ensures, missing, some, not_empty c.loop-rest.rest.now c.loop-rest-test.ensures) in
+    smaller
+
+pub loop-rest-preserved : goal.loop-rest-preserved
+loop-rest-preserved c =
+    let grown : Begun = record { bytes = c.extend.new.bytes; at = c.loop-rest.begun.at; has_moof = c.loop-rest.begun.has_moof } in (
+      c.loop-rest.invariant.0 ++ c.split_at.result.0.now,
+      piece-is c.args.piece.now c.loop-rest.invariant.0 c.loop-rest.rest.now c.split_at.result.0.now c.split_at.result.1.now c.min.result c.loop-rest.invariant.1 c.split_at.ensures.front c.split_at.ensures.back,
+      takes-more c.args.begun.now c.loop-rest.begun grown c.pass.new.begun c.args.whole.now.items c.loop-rest.whole.items c.pass.new.whole.items c.loop-rest.invariant.0 c.split_at.result.0.now
+          None c.loop-rest.invariant.2 c.in_ok-extend.ensures.ok (subst (λ (o : Option BoxFault). TakesIn grown c.loop-rest.whole.items [] o c.pass.new.begun c.pass.new.whole.items) c.in_default.is c.in_ok-fault.ensures.ok),
+    )
