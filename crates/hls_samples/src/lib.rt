@@ -8,4 +8,3 @@ mod unit;
 pub use boxes::{boxed, word_box};
 pub use init::{defaults_box, init_bytes, track_box};
 pub use unit::unit_bytes;
-
