@@ -1,8 +1,6 @@
-//! Tests of a channel from its recordings to the turn that threads take: recordings, common places, live lines, steps.
+//! Tests of a channel from its recordings to the turn that threads take: recordings, common places, steps.
 #![tactic(auto)]
 
-#[cfg(test)]
-mod live_lines;
 #[cfg(test)]
 mod places;
 #[cfg(test)]

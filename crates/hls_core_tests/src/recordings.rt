@@ -7,6 +7,7 @@ use crate::samples::{begun, sync_unit, with_unit};
 use hls_record::{RangeFault, RecordFault, Recording};
 use hls_samples::{init_bytes, unit_bytes};
 use std::alloc::{AllocError, Global};
+use std::process::Abort;
 use std::test::Fail;
 
 /// A recording without a unit.
@@ -75,47 +76,64 @@ const TWO: Known = Known {
     last_end: 720000,
 };
 
-#[test]
-fn two_units_in_ample_memory(rt: HostRuntime) -> Result<(), Fail> {
-    let alloc = rt.alloc();
-    let all = resource(alloc)?;
-    let two = two_units(alloc)?;
-    assert_eq!(rt; known_of(&two), TWO);
+fn is_of_two_units(
+    rt: &impl Abort,
+    alloc: Global,
+    two: &Recording,
+    all: &[u8],
+) -> Result<(), Fail> {
+    assert_eq!(rt; known_of(two), TWO);
     assert_eq!(rt; known_of(&two.share(alloc)?), TWO);
-    assert!(rt; two.copy_range(alloc, 0, 836)?.as_slice() == all.as_slice());
-    let again = with_sample(alloc, &two, 0, 116);
+    assert!(rt; two.copy_range(alloc, 0, 836)?.as_slice() == all);
+    let again = with_sample(alloc, two, 0, 116);
     assert!(rt; matches!(again, Err(RecordFault::Overlap)));
     Ok(())
 }
 
-/// Offsets stay, and the bytes that are left.
 #[test]
-fn trimmed_bytes_are_gone(rt: HostRuntime) -> Result<(), Fail> {
-    let alloc = rt.alloc();
-    let all = resource(alloc)?;
-    let two = two_units(alloc)?;
+fn two_units_in_ample_memory(rt: HostRuntime) -> Result<(), Fail> {
+    let two = two_units(rt.alloc())?;
+    let all = resource(rt.alloc())?;
+    is_of_two_units(&rt, rt.alloc(), &two, &all)
+}
+
+/// Ranges of the recording without its first unit that can't be copied.
+const NOT_THERE: [(u64, u64, RangeFault); 4] = [
+    (599, 601, RangeFault::Gone),
+    (715, 717, RangeFault::Gone),
+    (0, 837, RangeFault::Outside),
+    (5, 4, RangeFault::Outside),
+];
+
+/// Offsets stay, and the bytes that are left.
+fn is_without_the_first(
+    rt: &impl Abort,
+    alloc: Global,
+    rest: &Recording,
+    all: &[u8],
+) -> Result<(), Fail> {
+    assert_eq!(rt; known_of(rest), Known { floor: 1, ..TWO });
+    let second = rest.copy_range(alloc, 716, 836)?;
+    assert!(rt; all.get(716..) == Some(second.as_slice()));
+    for (a, b, fault) in &NOT_THERE {
+        let copied = rest.copy_range(alloc, *a, *b);
+        assert!(rt; copied.err() == Some(*fault), "from {a} to {b}");
+    }
+    Ok(())
+}
+
+fn trimmed(alloc: Global, two: &Recording) -> Result<Recording, Fail> {
     if two.floor() != 0 || two.count() != 2 {
         return Err(Fail::from("not the recording of two units"));
     }
-    let rest = two.trimmed(alloc, 1)?;
-    assert_eq!(rt; known_of(&rest), Known { floor: 1, ..TWO });
-    assert_eq!(rt;
-        Some(rest.copy_range(alloc, 716, 836)?.as_slice()),
-        all.get(716..)
-    );
-    for (a, b, fault) in [
-        (599, 601, RangeFault::Gone),
-        (715, 717, RangeFault::Gone),
-        (0, 837, RangeFault::Outside),
-        (5, 4, RangeFault::Outside),
-    ] {
-        assert_eq!(rt;
-            rest.copy_range(alloc, a, b).err(),
-            Some(fault),
-            "from {a} to {b}"
-        );
-    }
-    Ok(())
+    Ok(two.trimmed(alloc, 1)?)
+}
+
+#[test]
+fn trimmed_bytes_are_gone(rt: HostRuntime) -> Result<(), Fail> {
+    let rest = trimmed(rt.alloc(), &two_units(rt.alloc())?)?;
+    let all = resource(rt.alloc())?;
+    is_without_the_first(&rt, rt.alloc(), &rest, &all)
 }
 
 #[test]

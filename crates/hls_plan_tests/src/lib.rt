@@ -2,8 +2,6 @@
 #![tactic(auto)]
 
 #[cfg(test)]
-mod every_plan;
-#[cfg(test)]
 mod long;
 #[cfg(test)]
 mod outside;

@@ -13,10 +13,10 @@ mod log;
 mod planner;
 mod server;
 mod station;
-#[cfg(test)]
-mod tests;
 mod worker;
 
+pub use house::keep_house;
+pub use lines::{Ingest, Limits, Name, Names, Request};
 pub use log::tell_listening;
 pub use server::run_server;
 pub use station::Station;

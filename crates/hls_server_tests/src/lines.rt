@@ -1,12 +1,12 @@
 //! The operator's lines.
 
-use crate::lines::{Ingest, Limits, Name, Names, Request};
 use hls_boxes_laws::fault::BoxFault;
 use hls_http::{BodyEnd, Method};
 use hls_http_laws::reply::Status;
 use hls_serve_laws::fault::IngestFault;
 use hls_serve_laws::ingest::{Counts, Intake};
 use hls_serve_laws::route::Route;
+use hls_server::{Ingest, Limits, Name, Names, Request};
 use hls_settings::read_settings;
 use std::net::{Ipv4Addr, SocketAddr, SocketAddrV4};
 use std::test::Fail;

@@ -3,7 +3,7 @@
 ghost use Rattle.std.specs.Prelude.{◌≡◌, All};
 ghost use denote.Param.Send.{IsSync};
 
-use crate::tests::fakes::{Held, Page};
+use crate::fakes::{Held, Page};
 use bytes::Bytes;
 use hls_core::config::Config;
 use hls_core::snapshot::Snapshot;

@@ -2,7 +2,7 @@
 
 ghost use Rattle.std.specs.Prelude.{◌≡◌};
 
-use crate::tests::sessions::{head, opening, stream};
+use crate::sessions::{head, opening, stream};
 use hls_http::Session;
 use hls_jobs::{Gate, Jobs, work_loop};
 use hls_serve::channel::{Channel, serve_session};

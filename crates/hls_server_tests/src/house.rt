@@ -1,7 +1,7 @@
 //! The housekeeper, over a channel that was told before the server closed.
 
-use crate::house::keep_house;
-use crate::tests::sessions::{opening, send};
+use crate::sessions::{opening, send};
+use hls_server::keep_house;
 use hls_settings::Timing;
 use hls_turn::Turn;
 use std::sync::atomic::{AtomicBool, AtomicU64, Ordering};
