@@ -9,11 +9,11 @@ use Rattle.hls_live_laws.specs.declared.aim.Aim.{Aim}
 use Rattle.hls_live_laws.specs.declared.segment.Segment.{Segment}
 use Rattle.hls_live_laws.specs.declared.opening.Opening.{Opening}
 use Rattle.hls_live_laws.specs.Steps.{is_past, is_allowed, is_enough}
-use Rattle.hls_live_laws.specs.Cuts.{Line, resumed, begun_anew, segment_to, line_of}
+use Rattle.hls_live_laws.specs.Cuts.{Line, resumed, begun_anew, segment_to, line_from, line_of}
 use Rattle.hls_live_laws.specs.Told.{Told, untold, told_with, has_earlier, closed_with, tried, stopped_by, advanced_from, advanced, told}
 use Rattle.hls_live_laws.specs.Live.{live_of, front_of, front_by}
 use Rattle.hls_live_laws.specs.Ends.{StandsIn}
-use Rattle.hls_live_laws.proofs.Lines.{told-none, told-more, told-is_line}
+use Rattle.hls_live_laws.proofs.Lines.{count_of, from-told, told-none, told-more, told-is_line}
 
 -- both ends of each segment, the open place and the best one
 record AreEnds (P : Place → Type 0) (segments : List Segment) : Type 0 where
@@ -125,6 +125,15 @@ front-kept P [] (Some o) p first opens at = subst P (same_Some o.place p at) (op
 front-kept P (s ∷ rest) open_at p first opens at = subst P (same_Some s.from p at) (first s refl)
 
 -- so of the front place
+pub from-holds : (P : Place → Type 0) (aim : Aim) (earlier : Bool) (o : Opening) (rest : List Place) → P o.place →
+    ((k : ℕ) (q : Place) → slice_get rest k ≡ Some q → P q) → (k : ℕ) (s : Segment) →
+    slice_get (line_from aim earlier o rest).segments k ≡ Some s → P s.from
+unfolding Each
+from-holds P aim earlier o rest here each k s at =
+    let none : AreEnds P [] = record { from = λ n x there. absurd (cc); to = λ n x there. absurd (cc) } in
+    let ends = told-ends P aim (count_of earlier) (told_with [] o None) rest each (ends-with P [] o None none here (none-best P)) in
+    ends.segments.from k s (ap (λ (l : Line). slice_get l.segments k) (sym (from-told aim earlier o rest)) ∙ at)
+
 pub front-holds : (P : Place → Type 0) (aim : Aim) (places : List Place) (removed : ℕ) (p : Place) →
     ((k : ℕ) (q : Place) → slice_get places k ≡ Some q → P q) → front_of (live_of aim places removed) ≡ Some p → P p
 unfolding Each

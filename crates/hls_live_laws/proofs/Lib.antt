@@ -8,3 +8,5 @@ mod Within
 pub mod Upkeeps
 mod Examples
 pub mod Origins
+pub mod Since
+pub mod Begun

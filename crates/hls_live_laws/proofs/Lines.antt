@@ -257,7 +257,7 @@ goes aim removed zero = goes-zero aim removed
 goes aim removed (suc m) = goes-list aim removed m (goes aim removed m)
 
 -- so the line that looks ahead is the told one, however much fuel it has
-abbrev count_of : Bool → ℕ
+abbrev pub count_of : Bool → ℕ
 count_of true = 1
 count_of false = 0
 
@@ -265,7 +265,7 @@ count-earlier : (earlier : Bool) → has_earlier (count_of earlier) [] ≡ earli
 count-earlier true = refl
 count-earlier false = refl
 
-within-told : (aim : Aim) (n : ℕ) (earlier : Bool) (o : Opening) (rest : List Place) → length rest < n →
+pub within-told : (aim : Aim) (n : ℕ) (earlier : Bool) (o : Opening) (rest : List Place) → length rest < n →
     line_within aim n earlier o rest ≡ (told aim (count_of earlier) (told_with [] o None) rest).line
 unfolding Goes
 within-told aim zero earlier o rest h = absurd (omega arith)

@@ -8,4 +8,5 @@ pub mod Answers
 pub mod Ends
 pub mod Upkeep
 pub mod Origins
+pub mod Since
 pub mod Laws

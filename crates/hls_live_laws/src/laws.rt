@@ -1,5 +1,6 @@
 ghost use Rattle.hls_live_laws.specs.Ends.{FrontStands, SegmentsFew, FrontWithin};
 ghost use Rattle.hls_live_laws.specs.Origins.{SegmentsAgree, MarksAgree};
+ghost use Rattle.hls_live_laws.specs.Since.{LineSince, SegmentsSince, MarksSince};
 ghost use Rattle.hls_live_laws.specs.Upkeep.{OneUpkeep, UpkeepSlides, UpkeepTrims};
 ghost use Rattle.hls_live_laws.specs.Laws.{LineLooksAhead, ToldIsLine, SegmentsStay, ToldKeeps, LiveIsCuts, LiveMoves, LiveSlides, TestsAllowed, LeavesMore};
 
@@ -72,6 +73,23 @@ pub fn segments_agree()
 /// And equal media sequence numbers have equal discontinuity sequence numbers.
 pub fn marks_agree()
     ensures { MarksAgree }
+{}
+
+/// The line of the places from one of its cuts on, counted from there, has the segments from that cut on; the first of them
+/// without a mark.
+pub fn line_since()
+    ensures { LineSince }
+{}
+
+/// Of an origin that was begun at a cut of another's line, its units those from the cut on, however far each is: a segment is
+/// the one that is as far behind the cut, but for the first one's mark.
+pub fn segments_since()
+    ensures { SegmentsSince }
+{}
+
+/// And so are the marks, but for that of the first one.
+pub fn marks_since()
+    ensures { MarksSince }
 {}
 
 /// There is one upkeep of a channel.

@@ -6,6 +6,7 @@ pub mod Sides
 mod Timelines
 pub mod Sorted
 pub mod Ordered
+pub mod Since
 pub mod Tables
 pub mod Found
 pub mod Growths

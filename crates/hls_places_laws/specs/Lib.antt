@@ -5,6 +5,7 @@ pub mod Places
 pub mod Positions
 pub mod Growth
 pub mod Appended
+pub mod Since
 pub mod Order
 pub mod FaultName
 pub mod Programmes

@@ -2,7 +2,9 @@
 //! of common places is in order and only grows.
 #![tactic(auto)]
 
-pub use laws::{places_alike, places_appended, places_are_ordered, places_grow};
+pub use laws::{
+    places_alike, places_appended, places_are_ordered, places_grow, places_in_row, places_since,
+};
 pub use mark::Mark;
 pub use place::Place;
 pub use programme_fault::ProgrammeFault;
