@@ -25,7 +25,8 @@ use Rattle.hls_live_laws.proofs.Since.{line-since}
 record IsChannelFrom (aim : Aim) (sources : List Source) (removed : ℕ) (cut : Place) : Type 0 where
   are : AreSources (sources_since cut.spots sources)
   segments : segments_over aim (sources_since cut.spots sources) ≡ segments_since cut.spots (drop removed (segments_over aim sources))
-  behind : (k : ℕ) (x : Segment) → slice_get (drop removed (segments_over aim sources)) k ≡ Some x → IsPlaceFrom cut x.from
+  behind : (k : ℕ) (x : Segment) → slice_get (drop removed (segments_over aim sources)) k ≡ Some x →
+      IsPlaceFrom cut x.from × IsPlaceFrom cut x.to
 
 channel-from : (aim : Aim) (sources : List Source) (removed : ℕ) (cut : Place) → AreSources sources → IsCutOf aim sources removed cut →
     IsChannelFrom aim sources removed cut

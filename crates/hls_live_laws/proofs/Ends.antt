@@ -125,14 +125,15 @@ front-kept P [] (Some o) p first opens at = subst P (same_Some o.place p at) (op
 front-kept P (s ∷ rest) open_at p first opens at = subst P (same_Some s.from p at) (first s refl)
 
 -- so of the front place
-pub from-holds : (P : Place → Type 0) (aim : Aim) (earlier : Bool) (o : Opening) (rest : List Place) → P o.place →
+pub line_ends-hold : (P : Place → Type 0) (aim : Aim) (earlier : Bool) (o : Opening) (rest : List Place) → P o.place →
     ((k : ℕ) (q : Place) → slice_get rest k ≡ Some q → P q) → (k : ℕ) (s : Segment) →
-    slice_get (line_from aim earlier o rest).segments k ≡ Some s → P s.from
+    slice_get (line_from aim earlier o rest).segments k ≡ Some s → P s.from × P s.to
 unfolding Each
-from-holds P aim earlier o rest here each k s at =
+line_ends-hold P aim earlier o rest here each k s at =
     let none : AreEnds P [] = record { from = λ n x there. absurd (cc); to = λ n x there. absurd (cc) } in
     let ends = told-ends P aim (count_of earlier) (told_with [] o None) rest each (ends-with P [] o None none here (none-best P)) in
-    ends.segments.from k s (ap (λ (l : Line). slice_get l.segments k) (sym (from-told aim earlier o rest)) ∙ at)
+    let told_at = ap (λ (l : Line). slice_get l.segments k) (sym (from-told aim earlier o rest)) ∙ at in
+    (ends.segments.from k s told_at, ends.segments.to k s told_at)
 
 pub front-holds : (P : Place → Type 0) (aim : Aim) (places : List Place) (removed : ℕ) (p : Place) →
     ((k : ℕ) (q : Place) → slice_get places k ≡ Some q → P q) → front_of (live_of aim places removed) ≡ Some p → P p

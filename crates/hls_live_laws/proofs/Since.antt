@@ -13,7 +13,7 @@ use Rattle.hls_live_laws.specs.declared.opening.Opening.{Opening}
 use Rattle.hls_live_laws.specs.Cuts.{Line, resumed, begun_anew, Ahead, Nothing, Enough, TooFar, beyond, ahead_of, segment_to, with_segment, line_by, line_within, line_from, line_of}
 use Rattle.std.proofs.lemmas.Option.{same_Some}
 use Rattle.hls_live_laws.specs.Since.{segment_since, unmarked, as_first, segments_since, GoesOnFrom}
-use Rattle.hls_live_laws.proofs.Ends.{from-holds}
+use Rattle.hls_live_laws.proofs.Ends.{line_ends-hold}
 use Rattle.hls_live_laws.proofs.Lives.{live-is_cuts}
 use Rattle.hls_live_laws.proofs.Lines.{within-told, from-told, line-looks_ahead}
 use Rattle.std.proofs.lemmas.List.{append_assoc, append-nil, length-append, length-map}
@@ -552,7 +552,7 @@ goes-on aim places removed p row found =
           (within-unmarked aim (suc (length found.rest)) found.earlier found.anew false p found.rest
           ∙ ap as_first (sym found.same))));
       behind = λ k segment at.
-          from-holds (IsPlaceFrom p) aim found.earlier (record { place = p; anew = found.anew }) found.rest (from-itself p.spots)
+          line_ends-hold (IsPlaceFrom p) aim found.earlier (record { place = p; anew = found.anew }) found.rest (from-itself p.spots)
           (λ n q there. all-at p.spots found.rest (all-rest p.spots found.between found.rest all) n q there) k segment
           (ap (λ (l : List Segment). slice_get l k) (sym found.same) ∙ at);
     }

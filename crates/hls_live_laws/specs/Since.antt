@@ -31,14 +31,14 @@ abbrev pub segments_since : List Spot → List Segment → List Segment
 segments_since cut segments = map (segment_since cut) (as_first segments)
 
 -- the place where the line begins without its first segments is one of the places told; the line of the places from there on
--- has the segments from there on, none of which begins before it
+-- has the segments from there on, none of whose ends is behind it
 pub record GoesOnFrom (aim : Aim) (places : List Place) (removed : ℕ) (p : Place) : Type 0 where
   pub number : ℕ
   pub there : slice_get places number ≡ Some p
   pub segments : (line_of aim (map (place_since p.spots) (drop number places))).segments
       ≡ segments_since p.spots (drop removed (line_of aim places).segments)
   pub behind : (k : ℕ) (segment : Segment) → slice_get (drop removed (line_of aim places).segments) k ≡ Some segment →
-      IsPlaceFrom p segment.from
+      IsPlaceFrom p segment.from × IsPlaceFrom p segment.to
 
 abbrev pub LineSince : Type 0
 LineSince = (aim : Aim) (places : List Place) (removed : ℕ) (p : Place) → AreInRow places →
@@ -64,7 +64,7 @@ pub record IsCutOf (aim : Aim) (sources : List Source) (removed : ℕ) (p : Plac
 -- a segment behind the cut, and the other origin's
 pub record IsSameFrom (cut : Place) (n : ℕ) (x y : Segment) : Type 0 where
   pub same : y ≡ counted_from cut n x
-  pub behind : IsPlaceFrom cut x.from
+  pub behind : IsPlaceFrom cut x.from × IsPlaceFrom cut x.to
 
 -- segments of the same place behind the cut are the same
 abbrev pub SegmentsSince : Type 0

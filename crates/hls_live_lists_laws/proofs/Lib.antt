@@ -6,3 +6,4 @@ mod Totals
 pub mod Texts
 mod Follows
 mod Origins
+mod Handovers

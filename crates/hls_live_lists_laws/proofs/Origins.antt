@@ -32,7 +32,7 @@ use Rattle.hls_live_lists_laws.proofs.Texts.{is-listed}
 use Rattle.hls_live_lists_laws.proofs.Follows.{cut-on, stands-among}
 
 -- renditions as the search for common places sees them
-source-begins : (s t : Source) (l m : Lane) (tolerance : ℕ) → IsOf s l tolerance → IsOf t m tolerance → LaneBegins l m → SourceGrows s t
+pub source-begins : (s t : Source) (l m : Lane) (tolerance : ℕ) → IsOf s l tolerance → IsOf t m tolerance → LaneBegins l m → SourceGrows s t
 source-begins s t l m tolerance is_l is_m begins =
     let facts : t.facts ≡ s.facts ++ begins.more =
     is_m.facts ∙ begins.facts ∙ ap (λ (fs : List Facts). fs ++ begins.more) (sym is_l.facts) in
@@ -61,7 +61,7 @@ alike-at a b r l m config at also either =
       | inr right ↦ inr (source-begins (source_at (sources b) r) (source_at (sources a) r) m l tolerance is_m is_l right)
     ]
 
-lanes-same : (a b : State) → b.config ≡ a.config → length (channel b).lanes ≡ length (channel a).lanes
+pub lanes-same : (a b : State) → b.config ≡ a.config → length (channel b).lanes ≡ length (channel a).lanes
 lanes-same a b config =
     lanes_count b.config b.log ∙ (ap (λ (c : ConfigData). length c.renditions) config ∙ sym (lanes_count a.config a.log))
 
@@ -75,17 +75,17 @@ are-alike a b fed = record {
 }
 
 -- what was ever closed, by looking ahead
-closed-is : (s : State) → closed s ≡ (line_of (aim_of s.config) (places s)).segments
+pub closed-is : (s : State) → closed s ≡ (line_of (aim_of s.config) (places s)).segments
 closed-is s = ap (λ (x : Line). x.segments) (told-is_line (aim_of s.config) (places s))
 
-closed-at : (s : State) (c : ConfigData) (n : ℕ) (x : live_line.Segment) → s.config ≡ c → slice_get (closed s) n ≡ Some x →
+pub closed-at : (s : State) (c : ConfigData) (n : ℕ) (x : live_line.Segment) → s.config ≡ c → slice_get (closed s) n ≡ Some x →
     slice_get (line_of (aim_of c) (places s)).segments n ≡ Some x
 closed-at s c n x config at =
     ap (λ (d : ConfigData). slice_get (line_of (aim_of d) (places s)).segments n) (sym config)
     ∙ (ap (λ (xs : List live_line.Segment). slice_get xs n) (sym (closed-is s)) ∙ at)
 
 -- a segment is listed alike
-stands-at : (s : State) → IsState s → (r : ℕ) (l : Lane) (n : ℕ) (x : live_line.Segment) → slice_get (channel s).lanes r ≡ Some l →
+pub stands-at : (s : State) → IsState s → (r : ℕ) (l : Lane) (n : ℕ) (x : live_line.Segment) → slice_get (channel s).lanes r ≡ Some l →
     slice_get (closed s) n ≡ Some x → StandsAmong r l.facts x
 stands-at s state r l n x at there =
     subst (StandsAmong r l.facts) (get_or_from_slice_get (closed s) n x x there)
@@ -107,12 +107,12 @@ listed-alike a b state_a state_b epoch r l m i j x at also either here there =
           (stands-at b state_b r m j x also there)
     ]
 
-sizes-same : (l m : Lane) → LaneBegins l m ⊎ LaneBegins m l → m.size ≡ l.size
+pub sizes-same : (l m : Lane) → LaneBegins l m ⊎ LaneBegins m l → m.size ≡ l.size
 sizes-same l m (inl left) = left.size
 sizes-same l m (inr right) = sym right.size
 
 -- the segment of a list's number k
-listed-at : (s : State) (r : ℕ) (l : Lane) (k : ℕ) (x : Segment) → slice_get (list_over s.config.epoch r l (line s)).segments k ≡ Some x →
+pub listed-at : (s : State) (r : ℕ) (l : Lane) (k : ℕ) (x : Segment) → slice_get (list_over s.config.epoch r l (line s)).segments k ≡ Some x →
     (y : live_line.Segment) × (slice_get (closed s) ((channel s).removed + k) ≡ Some y) × (listed (live_cutting s.config.epoch r l) y ≡ x)
 listed-at s r l k x at =
     let made = mapped_at (listed (live_cutting s.config.epoch r l)) (drop (channel s).removed (closed s)) k x at in

@@ -2,3 +2,4 @@ pub mod Lists
 pub mod Later
 pub mod Laws
 pub mod Origins
+pub mod Handovers

@@ -1,6 +1,6 @@
 //! Theorems about the definitions. Each function has no body: its contract is the law.
 
-ghost use Rattle.hls_live_lists_laws.specs.Laws.{LiveListsHaveTexts, LiveListsFollow, LiveListsAgree};
+ghost use Rattle.hls_live_lists_laws.specs.Laws.{LiveListsHaveTexts, LiveListsFollow, LiveListsAgree, LiveListsGoOn};
 
 /// The live lists of a state can be written.
 pub fn live_lists_have_texts()
@@ -16,4 +16,11 @@ pub fn live_lists_follow()
 /// same, and equal media sequence numbers have equal discontinuity sequence numbers.
 pub fn live_lists_agree()
     ensures { LiveListsAgree }
+{}
+
+/// A channel that was handed over, to an origin whose recordings begin with the units at a cut of its live line, goes on there:
+/// behind the cut the lists have the same segments, dates, lengths and marks but the first one's; ranges, media and
+/// discontinuity sequence numbers are a constant apart.
+pub fn live_lists_go_on()
+    ensures { LiveListsGoOn }
 {}

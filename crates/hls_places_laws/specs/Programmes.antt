@@ -1,6 +1,6 @@
 -- The table that a programme is cut from: all kept places from the last one at or before its start to the first one at or
 -- after its stop.
-use Rattle.std.specs.Prelude.{◌≡◌, ℕ, ◌+◌, ◌<◌, ◌≤◌, Bool, true, false, nat_le, List, [], ◌∷◌, ◌&&◌, length, slice_index_or, All, Result, Ok, Err}
+use Rattle.std.specs.Prelude.{◌≡◌, ℕ, ◌+◌, ◌<◌, ◌≤◌, Bool, true, false, nat_le, List, [], ◌∷◌, ◌&&◌, length, slice_index_or, Result, Ok, Err}
 use Rattle.std.specs.List.{filter, slice_range}
 use Rattle.hls_check_laws.specs.declared.goal.Goal.{Goal}
 use Rattle.hls_check_laws.specs.declared.spot.Spot.{Spot}
