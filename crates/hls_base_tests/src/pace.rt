@@ -1,6 +1,6 @@
 //! Silent, idle and slow peers, on a clock that goes on by a quarter of a second at each look.
 
-use hls_pace::{Crowd, Pace, PatientReader, PatientWriter, drop_rest};
+use hls_pace::{Crowd, Pace, PatientReader, PatientWriter, Turn, drop_rest};
 use std::cell::Cell;
 use std::io::{self, ErrorKind, Read, Write};
 use std::test::Fail;
@@ -31,6 +31,9 @@ impl Clock for Steps {
     }
 }
 
+/// In the place of a length: a signal interrupts the call.
+const CUT: usize = usize::MAX;
+
 /// A stream that gives, and takes, `lens` bytes in turn; where it is 0, nothing comes for a while. Then nothing comes at all.
 #[derive(Drop)]
 struct Stream<'a> {
@@ -43,10 +46,11 @@ impl<'a> Stream<'a> {
             return Err(ErrorKind::WouldBlock.into());
         };
         self.lens = rest;
-        if *len == 0 {
-            return Err(ErrorKind::WouldBlock.into());
+        match *len {
+            0 => Err(ErrorKind::WouldBlock.into()),
+            CUT => Err(ErrorKind::Interrupted.into()),
+            len => Ok(len),
         }
-        Ok(*len)
     }
 }
 
@@ -74,7 +78,15 @@ fn bytes_of(ended: io::Result<usize>) -> usize {
 }
 
 /// What a connection gives at the last of so many reads, beside `others` that are mute, where `free` of four workers wait.
-fn read_beside(others: usize, free: usize, lens: &[usize], calls: usize, step: u64) -> usize {
+/// Its first read is of a head; where that is whole by it, `body` says whether what comes behind it is taken in.
+fn read_of(
+    body: Option<bool>,
+    others: usize,
+    free: usize,
+    lens: &[usize],
+    calls: usize,
+    step: u64,
+) -> usize {
     let clock = clock_by(step);
     let pace = Cell::new(Pace::new());
     let crowd = Crowd::new(4);
@@ -88,15 +100,33 @@ fn read_beside(others: usize, free: usize, lens: &[usize], calls: usize, step: u
     let ended = Cell::new(false);
     let mut reader = PatientReader::new(&clock, Stream { lens }, &pace, &crowd, &ended, 2);
     let mut buf = [0; 100];
-    let mut last = 0;
-    for _ in 0..calls {
+    let mut last = bytes_of(reader.read(&mut buf));
+    if let Some(feeds) = body {
+        pace.set(pace.get().behind_head(feeds));
+    }
+    for _ in 1..calls {
         last = bytes_of(reader.read(&mut buf));
     }
     last
 }
 
+fn read_beside(others: usize, free: usize, lens: &[usize], step: u64) -> usize {
+    read_of(None, others, free, lens, 1, step)
+}
+
+/// Of a head that isn't whole.
 fn read_by(lens: &[usize], calls: usize, free: usize, step: u64) -> usize {
-    read_beside(0, free, lens, calls, step)
+    read_of(None, 0, free, lens, calls, step)
+}
+
+/// Of a body that is taken in.
+fn feed_by(lens: &[usize], calls: usize, step: u64) -> usize {
+    read_of(Some(true), 0, 0, lens, calls, step)
+}
+
+/// Of a body that is dropped.
+fn drop_by(lens: &[usize], calls: usize, step: u64) -> usize {
+    read_of(Some(false), 0, 0, lens, calls, step)
 }
 
 #[test]
@@ -110,9 +140,9 @@ fn an_idle_connection_ends(rt: HostRuntime) -> Result<(), Fail> {
 #[test]
 fn a_mute_connection_ends(rt: HostRuntime) -> Result<(), Fail> {
     assert!(rt; read_by(&[0, 0, 5], 1, 0, 250) == 5);
-    assert!(rt; read_by(&[0, 0, 0, 0, 5], 1, 0, 250) == 0);
-    assert!(rt; read_beside(1, 0, &[0, 0, 5], 1, 250) == 0);
-    assert!(rt; read_beside(1, 1, &[0, 0, 5], 1, 250) == 5);
+    assert!(rt; read_by(&[0, 0, 0, 0, 0, 5], 1, 0, 250) == 0);
+    assert!(rt; read_beside(1, 0, &[0, 0, 5], 250) == 0);
+    assert!(rt; read_beside(1, 1, &[0, 0, 5], 250) == 5);
     Ok(())
 }
 
@@ -134,25 +164,51 @@ fn a_crowd_is_counted(rt: HostRuntime) -> Result<(), Fail> {
     Ok(())
 }
 
+/// A head has a second where no worker is free, and else the patience, however its bytes come.
 #[test]
-fn a_silent_request_fails(rt: HostRuntime) -> Result<(), Fail> {
+fn a_head_that_isnt_whole_fails(rt: HostRuntime) -> Result<(), Fail> {
     assert!(rt; read_by(&[5], 2, 0, 250) == 1000);
-    assert!(rt; read_by(&[5, 0, 0, 7], 2, 0, 250) == 7);
+    assert!(rt; read_by(&[5], 2, 1, 250) == 1000);
+    assert!(rt; read_by(&[5, 0, 0, 7], 2, 1, 250) == 7);
+    assert!(rt; read_by(&[5, 0, 0, 7], 2, 0, 250) == 1000);
+    assert!(rt; read_by(&[1, 1, 1, 1, 1, 1], 2, 0, 250) == 1);
+    assert!(rt; read_by(&[1, 1, 1, 1, 1, 1], 3, 0, 250) == 1000);
+    assert!(rt; read_by(&[1, 1, 1, 1, 1, 1], 3, 1, 250) == 1);
+    assert!(rt; read_by(&[1, 1, 1, 1, 1, 1], 5, 1, 250) == 1000);
     Ok(())
 }
 
+/// An encoder's body may come as slowly as it likes, and a dropped one has a rate; both fail in silence.
 #[test]
-fn a_trickle_fails(rt: HostRuntime) -> Result<(), Fail> {
-    assert!(rt; read_by(&[1, 1, 1, 1, 1, 1], 3, 0, 250) == 1);
-    assert!(rt; read_by(&[1, 1, 1, 1, 1, 1], 6, 0, 250) == 1000);
-    assert!(rt; read_by(&[100, 100, 100, 100, 100, 100], 6, 0, 25) == 100);
+fn a_body_has_its_pace(rt: HostRuntime) -> Result<(), Fail> {
+    assert!(rt; feed_by(&[1; 20], 20, 250) == 1);
+    assert!(rt; feed_by(&[1, 0, 0, 0, 7], 2, 250) == 7);
+    assert!(rt; feed_by(&[1], 2, 250) == 1000);
+    assert!(rt; drop_by(&[1; 20], 4, 250) == 1);
+    assert!(rt; drop_by(&[1; 20], 20, 250) == 1000);
+    assert!(rt; drop_by(&[100; 20], 20, 25) == 100);
+    assert!(rt; drop_by(&[1], 2, 250) == 1000);
     Ok(())
 }
 
-fn write_by(text: &[u8], lens: &[usize], calls: usize, step: u64) -> usize {
+/// A call that a signal interrupts is tried again; where the process stood still for longer than the patience, what came
+/// meanwhile is read first.
+#[test]
+fn an_interrupted_read_goes_on(rt: HostRuntime) -> Result<(), Fail> {
+    assert!(rt; feed_by(&[5, CUT, 0, CUT, 7], 2, 250) == 7);
+    assert!(rt; feed_by(&[5, CUT, 7], 2, 5000) == 7);
+    assert!(rt; feed_by(&[5, CUT, CUT, 7], 2, 5000) == 1000);
+    Ok(())
+}
+
+fn write_by(text: &[u8], lens: &[usize], calls: usize, free: usize, step: u64) -> usize {
     let clock = clock_by(step);
     let pace = Cell::new(Pace::new());
-    let mut writer = PatientWriter::new(&clock, Stream { lens }, &pace, 2);
+    let crowd = Crowd::new(4);
+    for _ in 0..free {
+        crowd.wait();
+    }
+    let mut writer = PatientWriter::new(&clock, Stream { lens }, &pace, &crowd, 4);
     let mut last = 0;
     for _ in 0..calls {
         last = bytes_of(writer.write(text));
@@ -160,11 +216,31 @@ fn write_by(text: &[u8], lens: &[usize], calls: usize, step: u64) -> usize {
     last
 }
 
+/// A reply has the patience, and two seconds where no worker is free.
 #[test]
 fn a_reply_that_isnt_taken_fails(rt: HostRuntime) -> Result<(), Fail> {
-    assert!(rt; write_by(b"HTTP/1.1 200 OK", &[], 1, 250) == 1000);
-    assert!(rt; write_by(b"HTTP/1.1 200 OK", &[0, 0, 5], 1, 250) == 5);
-    assert!(rt; write_by(b"HTTP/1.1 200 OK", &[1, 1, 1, 1, 1, 1], 6, 250) == 1000);
+    let text = b"HTTP/1.1 200 OK".as_slice();
+    assert!(rt; write_by(text, &[], 1, 1, 250) == 1000);
+    assert!(rt; write_by(text, &[], 1, 0, 250) == 1000);
+    assert!(rt; write_by(text, &[0, CUT, 5], 1, 0, 250) == 5);
+    assert!(rt; write_by(text, &[0, 0, 0, 0, 0, 0, 0, 0, 0, 0, 5], 1, 1, 250) == 5);
+    assert!(rt; write_by(text, &[0, 0, 0, 0, 0, 0, 0, 0, 0, 0, 5], 1, 0, 250) == 1000);
+    assert!(rt; write_by(text, &[1; 12], 12, 1, 250) == 1000);
+    Ok(())
+}
+
+/// What a session says in between leaves the body what it is.
+#[test]
+fn a_body_goes_on_behind_100_continue(rt: HostRuntime) -> Result<(), Fail> {
+    let clock = clock_by(250);
+    let pace = Cell::new(Pace::new().heard(5, 0).behind_head(true));
+    let crowd = Crowd::new(4);
+    let lens = [25];
+    let stream = Stream { lens: &lens };
+    let mut writer = PatientWriter::new(&clock, stream, &pace, &crowd, 2);
+    let text = b"HTTP/1.1 100 Continue\r\n\r\n".as_slice();
+    assert!(rt; bytes_of(writer.write(text)) == 25);
+    assert!(rt; pace.get().turn == Turn::Feeding && pace.get().bytes == 0);
     Ok(())
 }
 
@@ -207,6 +283,7 @@ fn what_comes_behind_a_last_reply_is_dropped(rt: HostRuntime) -> Result<(), Fail
     assert!(rt; left_by(&[1; 12], 0, 250) == 4);
     assert!(rt; left_by(&[5, 0, 5, 0, 0, 0, 5], 1, 100) == 1);
     assert!(rt; left_by(&[5, 0, 5], 0, 100) == 1);
+    assert!(rt; left_by(&[5, CUT, 5, 0, 0, 0, 5], 1, 100) == 1);
     let mut text = b"behind".as_slice();
     drop_rest(&clock_by(1), &mut text, &Crowd::new(4));
     assert!(rt; text.is_empty());

@@ -2,6 +2,7 @@
 //! slow peer. A session over them knows nothing of time: it sees the end of its input, or a failed call.
 #![tactic(auto)]
 
+mod call;
 mod clock;
 mod crowd;
 mod pace;

@@ -2,9 +2,10 @@
 ghost use Rattle.std.specs.Prelude.{◌≡◌};
 ghost use Rattle.hls_pace.specs.Paces.{lingers};
 
+use crate::call::is_tried_again;
 use crate::clock::milliseconds;
 use crate::crowd::Crowd;
-use std::io::{ErrorKind, Read};
+use std::io::Read;
 use std::time::Clock;
 
 /// For how long bytes are dropped at most, in milliseconds.
@@ -21,13 +22,13 @@ pub(crate) fn lingers(passed: u64, silent: u64, free: bool) -> bool
     passed < LONGEST && (silent == 0 || (free && silent < QUIET))
 }
 
-/// Whether bytes came by a call; `None` where the peer has ended or the call failed.
+/// Whether bytes came by a call; `None` where the peer has ended or the call failed for good.
 fn hears<S: Read>(stream: &mut S, buffer: &mut [u8]) -> Option<bool> {
     match stream.read(buffer) {
         Ok(0) => None,
         Ok(_) => Some(true),
         Err(error) => {
-            if error.kind() == ErrorKind::WouldBlock {
+            if is_tried_again(error.kind()) {
                 Some(false)
             } else {
                 None
