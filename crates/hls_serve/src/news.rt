@@ -8,6 +8,13 @@ use hls_serve_laws::route::Route;
 /// What an operator is told of a session while it goes on. It is no part of what a session promises.
 #[derive(Clone, Copy, Debug, PartialEq, Eq, Drop)]
 pub enum News {
+    /// A request's head is whole; its body, where it has one, is read next.
+    Begun {
+        /// The request's method.
+        method: Method,
+        /// What its path names.
+        route: Option<Route>,
+    },
     /// An encoder's body ended, or no more of it is taken.
     Ingested {
         /// The rendition that it was for.

@@ -233,6 +233,11 @@ fn answer_head<K: Keeper, T: Wait, R: Read, W: Write>(
 {
     let renditions = keeper.renditions(pass);
     let call = read_call(alloc, session.source.taken(), renditions, head);
+    let news = News::Begun {
+        method: call.head.method,
+        route: call.route,
+    };
+    keeper.tell(pass, &news);
     let plan = plan_of(&call);
     if !write_first(session, &call.head, plan) {
         return Err(SessionEnd::WriteFailed);
