@@ -65,7 +65,7 @@ pub fn serve_stream<R: Wait + Clock + Eprint>(
     let patience = settings.plain.workers.patience;
     let ended = Cell::new(false);
     let reader = PatientReader::new(rt, stream, pace, crowd, &ended, patience);
-    let writer = PatientWriter::new(rt, stream, pace, patience);
+    let writer = PatientWriter::new(rt, stream, pace, crowd, patience);
     let Ok(mut session) = Session::new(alloc, reader, writer) else {
         if write_whole(&mut Counted::new(stream), no_memory_text()) {
             close(rt, stream, crowd);
@@ -78,6 +78,7 @@ pub fn serve_stream<R: Wait + Clock + Eprint>(
         renditions: settings.config.renditions(),
         peer,
         logs_requests: settings.plain.logs_requests,
+        pace,
     };
     let end = session_on(rt, alloc, &mut session, &station, pass);
     drop(session);

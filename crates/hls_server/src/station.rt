@@ -11,16 +11,20 @@ use hls_core_laws::event::Event;
 use hls_core_laws::refusal::Refusal;
 use hls_core_laws::rendition::Rendition;
 use hls_jobs::{Job, JobFault};
+use hls_pace::Pace;
 use hls_serve::channel::Channel;
 use hls_serve::keeper::Keeper;
 use hls_serve::news::News;
+use hls_serve::route::feeds;
 use hls_turn::{Done, Pass};
 use std::alloc::{AllocError, Global};
+use std::cell::Cell;
 use std::io::Eprint;
 use std::net::SocketAddr;
 use std::sync::{Arc, Wait};
 
-/// The channel as the keeper of one connection's session: what the session brings is told to the operator.
+/// The channel as the keeper of one connection's session: what the session brings is told to the operator, and that a head is
+/// whole to the connection's reader.
 #[derive(Drop)]
 pub struct Station<'a, E> {
     pub rt: &'a E,
@@ -31,6 +35,8 @@ pub struct Station<'a, E> {
     pub peer: SocketAddr,
     /// Whether each request is told.
     pub logs_requests: bool,
+    /// What the connection has done of late.
+    pub pace: &'a Cell<Pace>,
 }
 
 impl<'a, E: Eprint> Station<'a, E> {
@@ -99,6 +105,10 @@ impl<'a, E: Eprint> Keeper for Station<'a, E> {
 
     fn tell(&self, _pass: &Pass, news: &News) {
         match *news {
+            News::Begun { method, route } => {
+                let pace = self.pace.get();
+                self.pace.set(pace.behind_head(feeds(route, method)));
+            }
             News::Ingested {
                 rendition,
                 counts,
