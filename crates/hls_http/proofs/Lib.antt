@@ -2,6 +2,7 @@ pub mod BodySteps
 mod Buffers
 mod Digits
 mod DropLaws
+mod GatherLaws
 pub mod HeadLaws
 pub mod ListParts
 mod MediaLaws

@@ -26,7 +26,3 @@ second_cut held first second contents w = record {
 
 pub both_whole : (held first second : List ℕ) (contents : Option (List ℕ)) → Writes (held ++ first) second contents true → contents ≡ Some (held ++ (first ++ second))
 both_whole held first second contents w = writes_whole (held ++ first) second contents w ∙ ap Some (append_assoc held first second)
-
--- a head with the front of the bytes beside it, and then the rest of them
-pub with_front : (head text bytes front rest : List ℕ) → text ≡ head ++ front → bytes ≡ front ++ rest → text ++ rest ≡ head ++ bytes
-with_front head text bytes front rest joined split = ap (λ xs. xs ++ rest) joined ∙ append_assoc head front rest ∙ ap (λ xs. head ++ xs) (sym split)

@@ -1,5 +1,6 @@
 pub mod Bodies
 pub mod Drained
+pub mod Gathered
 pub mod Heads
 pub mod Media
 pub mod Replies

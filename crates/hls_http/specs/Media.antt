@@ -27,13 +27,6 @@ PartToOutput contents old new part from len Is result =
     (held bytes : List ℕ) → contents (inside_of old) ≡ Some held → part from len ≡ Some bytes → length bytes ≡ len
     → Is bytes held (contents (inside_of new)) result
 
--- the first of the bytes; the others stand behind them
-pub record IsFrontOf (part : ℕ → ℕ → Option (List ℕ)) (from len : ℕ) (bytes first : List ℕ) : Type 0 where
-  pub rest : List ℕ
-  pub split : bytes ≡ first ++ rest
-  pub size : length first + length rest ≡ len
-  pub behind : part (from + length first) (len - length first) ≡ Some rest
-
 -- a list as a resource: so many of its bytes from an offset on, where all of them are there
 abbrev pub part_of_list : List ℕ → ℕ → ℕ → Option (List ℕ)
 part_of_list bytes at len = cond (nat_le (at + len) (length bytes)) (Some (take len (drop at bytes))) None

@@ -7,6 +7,7 @@
 mod body;
 mod drain;
 mod fields;
+mod gather;
 mod head;
 mod media;
 mod number;

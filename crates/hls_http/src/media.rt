@@ -1,10 +1,11 @@
-//! Media, written from the slices that hold them.
+//! Media, written from the slices that hold them: small ones in groups, large ones as they are.
 
-ghost use Rattle.std.specs.Prelude.{◌≡◌, ◌+◌, ◌-◌, ◌<◌, ◌≤◌, ◌^◌, ℕ, List, Option, Some, length, min, option_map, take};
+ghost use Rattle.std.specs.Prelude.{◌≡◌, ◌++◌, ◌+◌, ◌-◌, ◌<◌, ◌≤◌, ◌^◌, ℕ, List, Option, Some, length, min, option_map, take};
 ghost use Rattle.hls_io.specs.Counted.{failures_of};
 ghost use Rattle.hls_io.specs.Writing.{CountsWrite, Writes};
-ghost use Rattle.hls_http.specs.Media.{GivesPiece, HasPart, IsFrontOf, PartToOutput};
+ghost use Rattle.hls_http.specs.Media.{GivesPiece, HasPart, PartToOutput};
 
+use crate::gather::put;
 use hls_io::{Counted, write_whole};
 use std::io::Write;
 
@@ -31,38 +32,22 @@ fn front(piece: &[u8], len: u64) -> &[u8]
     }
 }
 
-/// The first slice of so many bytes of a resource from an offset on, where it has at most so many bytes; else none.
-pub fn front_slice<M: Resource>(media: &M, from: u64, len: u64, most: u64) -> &[u8]
-    requires { HasPart (M.part media.now) from len }
-    ensures { (bytes : List ℕ) → M.part media.entry.now from len ≡ Some bytes → length bytes ≡ len
-        → IsFrontOf (M.part media.entry.now) from len bytes result.now }
-{
-    if len == 0 {
-        return b"";
-    }
-    let Some(piece) = media.piece(from) else {
-        unreachable!();
-    };
-    let first = front(piece, len);
-    if first.len() as u64 > most {
-        return b"";
-    }
-    first
-}
-
-/// Writes so many bytes of a resource from an offset on, from its own slices by as many calls as it takes. After a
-/// failed call, which is counted, a beginning of them is written. No memory is taken.
+/// Writes what waits, and then so many bytes of a resource from an offset on. Slices that are small are gathered in the
+/// memory of what waits, each that is larger than that goes out as it is. After a failed call, which is counted, a
+/// beginning of all this is written. No memory is taken.
 pub fn write_part<W: Write, M: Resource>(
     output: &mut Counted<W>,
+    waiting: Vec<u8>,
     media: &M,
     from: u64,
     len: u64,
 ) -> bool
     requires room { from + len < 2 ^ 64 }
     requires held { HasPart (M.part media.now) from len }
-    ensures writes { PartToOutput W.contents output.old output.new (M.part media.now) from len (λ bytes held. Writes held bytes) result }
+    ensures writes { PartToOutput W.contents output.old output.new (M.part media.now) from len (λ bytes held. Writes held (waiting.items ++ bytes)) result }
     ensures counts { CountsWrite result (failures_of output.old) (failures_of output.new) }
 {
+    let mut waiting = waiting;
     let mut at = from;
     let mut left = len;
     while left > 0 {
@@ -70,11 +55,11 @@ pub fn write_part<W: Write, M: Resource>(
             unreachable!();
         };
         let next = front(piece, left);
-        if !write_whole(output, next) {
+        if !put(output, &mut waiting, next) {
             return false;
         }
         at += next.len() as u64;
         left -= next.len() as u64;
     }
-    true
+    write_whole(output, &waiting)
 }

@@ -102,17 +102,29 @@ fn end_text(closing: bool) -> &'static [u8]
     }
 }
 
-/// The text of a reply's head, whose content has so many bytes: status line, Content-Type, Content-Length, then
-/// Content-Range, Location or Allow, then Connection, and the empty line.
-pub fn head_bytes(alloc: Global, head: &ReplyHead<'_>, len: u64) -> Result<Vec<u8>, AllocError>
+/// The text of a reply's head, as of [`head_bytes`], in memory that has room for so many bytes behind it.
+pub(crate) fn head_with_room(
+    alloc: Global,
+    head: &ReplyHead<'_>,
+    len: u64,
+    room: usize,
+) -> Result<Vec<u8>, AllocError>
     ensures { IfOk result (λ v. v.items ≡ head_text_of head.now len) }
 {
-    let mut out = Vec::with_capacity(alloc, HEAD_ROOM)?;
+    let mut out = Vec::with_capacity(alloc, HEAD_ROOM.saturating_add(room))?;
     out.extend_from_slice(status_text(head.status))?;
     push_content(&mut out, head.status, head.kind, len)?;
     push_extra(&mut out, head.extra)?;
     out.extend_from_slice(end_text(head.closing))?;
     Ok(out)
+}
+
+/// The text of a reply's head, whose content has so many bytes: status line, Content-Type, Content-Length, then
+/// Content-Range, Location or Allow, then Connection, and the empty line.
+pub fn head_bytes(alloc: Global, head: &ReplyHead<'_>, len: u64) -> Result<Vec<u8>, AllocError>
+    ensures { IfOk result (λ v. v.items ≡ head_text_of head.now len) }
+{
+    head_with_room(alloc, head, len, 0)
 }
 
 /// The body of a refusal: its name.

@@ -7,14 +7,14 @@ ghost use Rattle.hls_http_laws.specs.Reply.{head_text_of, reply_text};
 ghost use Rattle.hls_http.specs.Media.{HasPart, PartToOutput};
 ghost use Rattle.hls_http.specs.Replies.{CountsReply, Replies, RepliesMedia};
 
-use crate::media::{Resource, front_slice, write_part};
-use crate::reply::head_bytes;
+use crate::media::{Resource, write_part};
+use crate::reply::head_with_room;
 use hls_http_laws::reply::ReplyHead;
 use hls_io::{Counted, write_whole};
 use std::alloc::{AllocError, Global};
 use std::io::Write;
 
-/// The most bytes of a content, or of the first slice of one, that go out in one write with the head.
+/// The most bytes of a content that go out in one write with the head, and of its small slices in one write.
 const MOST_JOINED: usize = 16384;
 
 /// Why a reply wasn't written.
@@ -35,7 +35,7 @@ fn joined(
 ) -> Result<Vec<u8>, AllocError>
     ensures { IfOk result (λ v. v.items ≡ head_text_of head.now len ++ front.now) }
 {
-    let mut out = head_bytes(alloc, head, len)?;
+    let mut out = head_with_room(alloc, head, len, front.len())?;
     out.extend_from_slice(front)?;
     Ok(out)
 }
@@ -64,28 +64,6 @@ fn write_both<W: Write>(
         return Err(ReplyEnd::WriteFailed);
     }
     if !write_whole(output, second) {
-        return Err(ReplyEnd::WriteFailed);
-    }
-    Ok(())
-}
-
-/// Writes a text, and then so many bytes of a resource from an offset on.
-fn write_before<W: Write, M: Resource>(
-    output: &mut Counted<W>,
-    first: &[u8],
-    media: &M,
-    from: u64,
-    len: u64,
-) -> Result<(), ReplyEnd>
-    requires room { from + len < 2 ^ 64 }
-    requires held { HasPart (M.part media.now) from len }
-    ensures writes { PartToOutput W.contents output.old output.new (M.part media.now) from len (λ bytes held. Replies held (first.now ++ bytes)) result }
-    ensures counts { CountsReply result (failures_of output.old) (failures_of output.new) }
-{
-    if !write_whole(output, first) {
-        return Err(ReplyEnd::WriteFailed);
-    }
-    if !write_part(output, media, from, len) {
         return Err(ReplyEnd::WriteFailed);
     }
     Ok(())
@@ -127,7 +105,8 @@ pub fn write_reply<W: Write>(
 }
 
 /// Writes a reply whose content is so many bytes of a resource from an offset on, from the resource's own slices.
-/// Memory is taken for the head alone, with which the first slice goes out in one write where it is small.
+/// Memory is taken once, before the first write: for the head and as many bytes as are written at once, so that small
+/// slices go out in few writes, the first of them with the head. A slice that is larger goes out as it is.
 pub fn write_media<W: Write, M: Resource>(
     alloc: Global,
     output: &mut Counted<W>,
@@ -141,11 +120,12 @@ pub fn write_media<W: Write, M: Resource>(
     ensures writes { PartToOutput W.contents output.old output.new (M.part media.now) from len (RepliesMedia head.now len) result }
     ensures counts { CountsReply result (failures_of output.old) (failures_of output.new) }
 {
-    let front = front_slice(media, from, len, MOST_JOINED as u64);
-    let text = match joined(alloc, head, len, front) {
-        Ok(text) => text,
-        Err(_) => return Err(ReplyEnd::Memory),
+    let room = len.min(MOST_JOINED as u64) as usize;
+    let Ok(text) = head_with_room(alloc, head, len, room) else {
+        return Err(ReplyEnd::Memory);
     };
-    let given = front.len() as u64;
-    write_before(output, &text, media, from + given, len - given)
+    if !write_part(output, text, media, from, len) {
+        return Err(ReplyEnd::WriteFailed);
+    }
+    Ok(())
 }

@@ -10,8 +10,12 @@ mod echo;
 #[cfg(test)]
 mod fakes;
 #[cfg(test)]
+mod gathered;
+#[cfg(test)]
 mod heads;
 #[cfg(test)]
 mod refused;
 #[cfg(test)]
 mod replies;
+#[cfg(test)]
+mod slices;

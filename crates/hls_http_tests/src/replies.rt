@@ -156,7 +156,7 @@ fn media_from_their_slices(rt: HostRuntime) -> Result<(), Fail> {
             b"HTTP/1.1 206 Partial Content\r\nContent-Type: video/mp4\r\nContent-Length: 5\r\nContent-Range: bytes 2-6/10\r\n\r\n23456"
         )
     );
-    assert_eq!(rt; page.calls(), 2);
+    assert_eq!(rt; page.calls(), 1);
     Ok(())
 }
 
