@@ -3,8 +3,8 @@ use Rattle.std.proofs.lemmas.Bool.{cond-true, le-leb}
 use Rattle.std.proofs.Math.Seq.{take-length}
 use Rattle.hls_http_tests.proofs.gathered.sent_of.Goals as goal
 
-pub write_media-requires-clause-held : goal.write_media-requires-clause-held
-write_media-requires-clause-held c =
+pub write_media-end-requires-clause-held : goal.write_media-end-requires-clause-held
+write_media-end-requires-clause-held c =
     let bytes = c.args.slices.now.bytes.now in
     record {
       bytes = bytes;
