@@ -11,6 +11,7 @@ pub mod channel;
 pub mod ingest;
 pub mod keeper;
 pub mod news;
+pub mod path;
 pub mod piece;
 mod reply;
 mod request;

@@ -19,6 +19,8 @@ mod jobs;
 #[cfg(test)]
 mod media;
 #[cfg(test)]
+mod paths;
+#[cfg(test)]
 mod refusals;
 #[cfg(test)]
 mod refused;

@@ -4,8 +4,9 @@ use hls_core_laws::rendition::Rendition;
 use hls_http::{BodyEnd, Method};
 use hls_http_laws::reply::Status;
 use hls_instants::moment_text;
+use hls_serve::path::Path;
 use hls_serve_laws::ingest::{Counts, Intake};
-use hls_serve_laws::route::{JobFile, Route};
+use hls_serve_laws::route::Route;
 use hls_settings::Settings;
 use std::fmt::{self, Display, Formatter, Write};
 use std::net::SocketAddr;
@@ -125,30 +126,6 @@ fn number_of(status: Status) -> u16 {
         Status::HeadTooLarge => 431,
         Status::Unavailable => 503,
         Status::InsufficientStorage => 507,
-    }
-}
-
-/// What a route names, as a path; `-` for a path that names nothing.
-#[derive(Clone, Copy, Drop)]
-struct Path(Option<Route>);
-
-impl Display for Path {
-    fn fmt<W: Write>(&self, f: &mut Formatter<W>) -> fmt::Result {
-        match self.0 {
-            None => f.write_str("-"),
-            Some(Route::Ingest(n)) => write!(f, "/ingest/{n}"),
-            Some(Route::Finish(n)) => write!(f, "/finish/{n}"),
-            Some(Route::LiveMaster) => f.write_str("/live/master.m3u8"),
-            Some(Route::LiveList(n)) => write!(f, "/live/{n}.m3u8"),
-            Some(Route::Media(n)) => write!(f, "/media/{n}.mp4"),
-            Some(Route::CatchUp) => f.write_str("/catchup"),
-            Some(Route::Job(id)) => write!(f, "/job/{id}"),
-            Some(Route::JobFile(id, JobFile::Master)) => write!(f, "/job/{id}/master.m3u8"),
-            Some(Route::JobFile(id, JobFile::List(n))) => write!(f, "/job/{id}/{n}.m3u8"),
-            Some(Route::JobFile(id, JobFile::Media(n))) => write!(f, "/job/{id}/{n}.mp4"),
-            Some(Route::JobFile(id, JobFile::Certificate)) => write!(f, "/job/{id}/certificate"),
-            Some(Route::Status) => f.write_str("/status"),
-        }
     }
 }
 
