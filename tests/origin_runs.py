@@ -1,10 +1,9 @@
-"""What the runs of origins, edges and players share: generated streams, servers, an edge from `edge/nginx.conf`, checks.
+"""What the runs of origins, edges and players share: generated streams, servers, checks. An edge is in edge_site.py.
 
-No script of its own: tests/catchup, tests/edge, tests/two_origins, tests/players, tests/service and bench/day import it.
+No script of its own: the runs beside it, bench/day and docs/pictures/make import it.
 """
 import os
 import re
-import resource
 import shutil
 import struct
 import subprocess
@@ -102,55 +101,6 @@ class Origin:
     def requests(self):
         """The requests that it has logged so far."""
         return [line for line in self.lines() if line.startswith("serve: request ")]
-
-
-class Edge:
-    """nginx with `edge/nginx.conf`, of which only addresses, paths and the user's name are changed."""
-
-    def __init__(self, folder, first, second, changes=()):
-        self.folder = os.path.join(folder, "edge")
-        self.port, self.open, plain = free_port(), free_port(), free_port()
-        os.makedirs(os.path.join(self.folder, "cache"))
-        for path in (folder, self.folder):
-            os.chmod(path, 0o755)
-        self.certificate, key = (os.path.join(self.folder, name) for name in ("edge.crt", "edge.key"))
-        subprocess.run(["openssl", "req", "-x509", "-newkey", "ec", "-pkeyopt", "ec_paramgen_curve:prime256v1", "-nodes",
-                        "-keyout", key, "-out", self.certificate, "-days", "2", "-subj", "/CN=localhost",
-                        "-addext", "subjectAltName=DNS:localhost,IP:127.0.0.1"], check=True, stderr=subprocess.DEVNULL)
-        text = open(os.path.join(ROOT, "edge", "nginx.conf")).read()
-        for old, new in [("10.0.0.1:8080", f"127.0.0.1:{first}"), ("10.0.0.2:8080", f"127.0.0.1:{second}"),
-                         ("listen 80;", f"listen 127.0.0.1:{plain};"),
-                         # without TLS too, for players that don't take a certificate of today
-                         ("listen 443 ", f"listen 127.0.0.1:{self.open};\n        listen 127.0.0.1:{self.port} "),
-                         ("/etc/nginx/edge.crt", self.certificate), ("/etc/nginx/edge.key", key),
-                         ("/var/lib/nginx", os.path.join(self.folder, "cache")),
-                         ("/var/log/nginx", self.folder), ("/run/nginx.pid", os.path.join(self.folder, "pid")),
-                         ("/usr/share/hls_origin", os.path.join(ROOT, "edge")), ("allow 10.0.0.0/8;", "allow 127.0.0.1/32;"),
-                         ("worker_rlimit_nofile 65536;", f"worker_rlimit_nofile {resource.getrlimit(resource.RLIMIT_NOFILE)[1]};"),
-                         *changes]:
-            if old not in text:
-                raise SystemExit(f"edge/nginx.conf has no {old}")
-            text = text.replace(old, new)
-        self.conf = os.path.join(self.folder, "nginx.conf")
-        open(self.conf, "w").write(text)
-        words = ["nginx", "-c", self.conf, "-p", self.folder]
-        tried = subprocess.run([*words, "-t"], capture_output=True, text=True)
-        if tried.returncode:
-            raise SystemExit(tried.stderr)
-        self.process = subprocess.Popen([*words, "-g", "daemon off;"], stdin=subprocess.DEVNULL, stderr=subprocess.DEVNULL)
-        wait_for(self.port)
-        self.url, self.open_url = f"https://localhost:{self.port}", f"http://127.0.0.1:{self.open}"
-
-    def reload(self):
-        self.process.send_signal(1)
-
-    def errors(self):
-        with open(os.path.join(self.folder, "error.log")) as file:
-            return file.read()
-
-    def stop(self):
-        self.process.terminate()
-        self.process.wait()
 
 
 def resident(pid):
