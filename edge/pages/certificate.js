@@ -1,0 +1,219 @@
+// Checks a certificate of a catch-up cut, straight from docs/CERTIFICATE.md: it knows neither the program that made the plan
+// nor the one that checks on the server. A page imports it, node too; as a worker's script it takes the text's bytes and gives
+// back the verdict with what there is to draw. Nothing here is to be changed for a site.
+"use strict";
+
+const NUMBER_LIMIT = 2 ** 53; // numbers are below it, so a double holds each of them, and each difference of two, exactly
+const LIMITS = { target: 3600, preferred: 3600000000, charge: 3600000000, renditions: 16, places: 16384 };
+const FIELDS = ["fragment", "prevEnd", "start", "runIn", "runOut"];
+const NOT_PRICED = -1;
+const [LF, SPACE, ZERO] = [10, 32, 48];
+
+/// What is wrong with a certificate: the rule's name and its numbers.
+export class Refusal extends Error {
+    constructor(rule, ...numbers) {
+        super([rule, ...numbers].join(" "));
+        Object.assign(this, { rule, numbers });
+    }
+}
+
+// A text's lines, one after the other.
+class Lines {
+    constructor(bytes) {
+        Object.assign(this, { bytes, number: 1, from: 0, to: bytes.indexOf(LF) });
+    }
+
+    refuse() {
+        throw new Refusal("Form", this.number);
+    }
+
+    next() {
+        this.number++;
+        this.from = this.to + 1;
+        this.to = this.bytes.indexOf(LF, this.from);
+    }
+
+    beginsWith(word) {
+        if (this.to - this.from < word.length) return false;
+        for (let i = 0; i < word.length; i++) if (this.bytes[this.from + i] !== word.charCodeAt(i)) return false;
+        return true;
+    }
+
+    is(word) {
+        return this.to - this.from === word.length && this.beginsWith(word);
+    }
+
+    takeWord(word) {
+        if (!this.is(word)) this.refuse();
+        this.next();
+    }
+
+    // Takes a line of a word and from `least` to `most` numbers: gives each of them to `each`, with its place in the line.
+    takeNumbers(word, least, most, each) {
+        if (!this.beginsWith(word)) this.refuse();
+        let count = 0;
+        for (let at = this.from + word.length; count === 0 || at < this.to; count++) {
+            if (count === most || (count > 0 && this.bytes[at++] !== SPACE)) this.refuse();
+            const begin = at;
+            let value = 0;
+            for (let digit; at < this.to && (digit = this.bytes[at] - ZERO) >= 0 && digit <= 9; at++) value = value * 10 + digit;
+            if (at === begin || (this.bytes[begin] === ZERO && at - begin > 1) || value >= NUMBER_LIMIT) this.refuse();
+            each(value, count);
+        }
+        if (count < least) this.refuse();
+        this.next();
+    }
+
+    takeNumber(word, low, high) {
+        let found = 0;
+        this.takeNumbers(word, 1, 1, (value) => {
+            if (value < low || value > high) this.refuse();
+            found = value;
+        });
+        return found;
+    }
+}
+
+// For each rendition a column of each field, by place.
+function readTable(lines, renditions, places) {
+    const columns = Array.from({ length: renditions * FIELDS.length }, () => new Float64Array(places));
+    for (let place = 0; place < places; place++) {
+        lines.takeNumbers("", columns.length, columns.length, (value, at) => { columns[at][place] = value; });
+    }
+    return Array.from({ length: renditions }, (_, r) => Object.fromEntries(FIELDS.map((name, i) => [name, columns[r * FIELDS.length + i]])));
+}
+
+// The lines of a word, a place and perhaps a price, places rising, up to `end`.
+function readMarks(lines, word, width, places, each) {
+    let last = -1;
+    while (!lines.is("end")) {
+        let price = 0;
+        lines.takeNumbers(word, width, width, (value, at) => {
+            if (at > 0) price = value;
+            else if (value <= last || value >= places) lines.refuse();
+            else last = value;
+        });
+        each(last, price);
+    }
+}
+
+/// The certificate that a text is. Throws `Form` with the number of the first line that isn't as it must be.
+export function read(bytes) {
+    const lines = new Lines(bytes);
+    const charged = lines.is("HLS-CUT-CERTIFICATE 2");
+    if (charged) lines.next();
+    else lines.takeWord("HLS-CUT-CERTIFICATE 1");
+    const found = { rule: charged ? 2 : 1, charge: charged ? lines.takeNumber("rule 2 ", 0, LIMITS.charge) : 0 };
+    found.target = lines.takeNumber("target ", 1, LIMITS.target);
+    found.preferred = lines.takeNumber("preferred ", 1, LIMITS.preferred);
+    const renditions = lines.takeNumber("renditions ", 1, LIMITS.renditions);
+    const places = found.places = lines.takeNumber("places ", 2, LIMITS.places);
+    found.table = readTable(lines, renditions, places);
+    if (lines.is("none")) {
+        lines.next();
+        found.closed = new Uint8Array(places);
+        readMarks(lines, "closed ", 1, places, (place) => { found.closed[place] = 1; });
+    } else {
+        found.cut = lines.takeNumber("cut ", 0, NUMBER_LIMIT);
+        found.plan = [];
+        lines.takeNumbers("plan ", 1, Infinity, (value) => {
+            if (value >= places) lines.refuse();
+            found.plan.push(value);
+        });
+        found.prices = new Float64Array(places).fill(NOT_PRICED);
+        readMarks(lines, "price ", 2, places, (place, price) => { found.prices[place] = price; });
+    }
+    lines.takeWord("end");
+    if (lines.from < bytes.length) lines.refuse();
+    return found;
+}
+
+/// The length of a segment from place p to place q in a rendition, in microseconds.
+export const lengthOf = (spots, p, q) => spots.prevEnd[q] - spots.start[p];
+
+function isAllowed({ table, target }, p, q) {
+    const longest = target * 1000000 + 499999;
+    return table.every((spots) => spots.fragment[q] > spots.fragment[p] && spots.runOut[p] === spots.runIn[q] &&
+        spots.start[p] < spots.prevEnd[q] && lengthOf(spots, p, q) <= longest);
+}
+
+const costOf = ({ table, preferred, charge }, p, q) => Math.abs(lengthOf(table[0], p, q) - preferred) + charge;
+
+function checkTable({ table, places }) {
+    for (let place = 0; place < places; place++) {
+        const sorted = place === 0 || (table[0].start[place] > table[0].start[place - 1] &&
+            table.every((spots) => spots.fragment[place] >= spots.fragment[place - 1]));
+        const inOrder = table.every((spots) => spots.prevEnd[place] <= spots.start[place] && spots.runIn[place] <= spots.runOut[place]);
+        if (!sorted || !inOrder) throw new Refusal("TableNotSorted", place);
+    }
+}
+
+function checkPlan(certificate) {
+    const { plan, places, prices, cut } = certificate;
+    if (plan[0] !== 0 || plan[plan.length - 1] !== places - 1) throw new Refusal("PlanEnds");
+    let cost = 0;
+    for (let i = 1; i < plan.length; i++) {
+        const [p, q] = [plan[i - 1], plan[i]];
+        if (p >= q || !isAllowed(certificate, p, q)) throw new Refusal("PlanStep", p, q);
+        cost += costOf(certificate, p, q);
+    }
+    if (cost !== cut || prices[places - 1] !== cut) throw new Refusal("PlanCost");
+}
+
+// The first allowed step, by its least p and then its least q, from a place that counts for which `breaks` holds.
+function checkSteps(certificate, counts, breaks) {
+    const { table: [{ start, prevEnd }], places, target } = certificate;
+    // No place from q on is nearer than this one, so a row ends where this one is out of reach: ends needn't rise.
+    const nearest = Float64Array.from(prevEnd);
+    for (let q = places - 2; q >= 0; q--) nearest[q] = Math.min(nearest[q], nearest[q + 1]);
+    const longest = target * 1000000 + 499999;
+    for (let p = 0; p < places; p++) {
+        if (!counts(p)) continue;
+        for (let q = p + 1; q < places && nearest[q] - start[p] <= longest; q++) {
+            // a step that would break nothing needn't be allowed
+            if (breaks(p, q) && isAllowed(certificate, p, q)) throw new Refusal("PriceStep", p, q);
+        }
+    }
+}
+
+function checkPrices(certificate) {
+    const { prices } = certificate;
+    if (prices[0] !== 0) throw new Refusal("PriceStart");
+    checkSteps(certificate, (p) => prices[p] !== NOT_PRICED,
+        (p, q) => prices[q] === NOT_PRICED || prices[q] > prices[p] + costOf(certificate, p, q));
+}
+
+function checkClosed(certificate) {
+    const { closed, places } = certificate;
+    if (!closed[0]) throw new Refusal("PriceStart");
+    checkSteps(certificate, (p) => closed[p], (p, q) => !closed[q]);
+    if (closed[places - 1]) throw new Refusal("EndReached");
+}
+
+/// Throws the first rule that a certificate breaks; else says what it proves: `cut N` or `none`.
+export function check(certificate) {
+    checkTable(certificate);
+    if (certificate.closed) {
+        checkClosed(certificate);
+        return "none";
+    }
+    checkPlan(certificate);
+    checkPrices(certificate);
+    return `cut ${certificate.cut}`;
+}
+
+/// What `hls_origin check` prints of a text, and the certificate where there is one.
+export function answer(bytes) {
+    let certificate = null;
+    try {
+        certificate = read(bytes);
+        return { said: check(certificate), good: true, certificate };
+    } catch (fault) {
+        if (!(fault instanceof Refusal)) throw fault;
+        return { said: `refused ${fault.message}`, good: false, certificate };
+    }
+}
+
+if (typeof WorkerGlobalScope !== "undefined" && globalThis instanceof WorkerGlobalScope) {
+    globalThis.onmessage = ({ data }) => globalThis.postMessage(answer(new Uint8Array(data)));
+}
