@@ -1,0 +1,537 @@
+// The viewers' page: plays a live channel or a recording by Media Source Extensions, and by the browser's own player where
+// there are none (iPhone). The first video rendition's list says where on the page's own line of time each segment lies, so
+// gaps of the recording, a channel that begins anew and seconds without a network leave no hole in what is seen.
+// For a site nothing is to be changed; ?list= names another list of the same host, by default live/master.m3u8 beside the page.
+"use strict";
+
+import { Line, Source } from "./line.js";
+import { readInit, readUnit } from "./mp4.js";
+import { ListFault, ReplyFault, addressOf, isMaster, load, loadText, readMaster } from "./playlist.js";
+
+const AHEAD = 30; // seconds of media that are loaded ahead of what is seen,
+const BEHIND = 30; // and kept behind it
+const MEDIA_LIMIT = 268435456;
+const KEPT_MISSES = 300;
+const TRIES = 3; // for a segment that is listed and isn't given
+const MISPLACED = 1.5; // seconds; renditions of one place lie nearer to each other
+
+const $ = (id) => document.getElementById(id);
+const sleep = (seconds) => new Promise((done) => { setTimeout(done, 1000 * seconds); });
+const once = (target, name) => new Promise((done) => { target.addEventListener(name, done, { once: true }); });
+const byBandwidth = (choices) => choices.map(({ bandwidth }, i) => [bandwidth, i]).sort((a, b) => a[0] - b[0]);
+
+/// A fault that trying again doesn't mend, in words.
+class Hopeless extends Error {}
+
+// One kind of media: its renditions, and the source buffer that is filled with one of them after the other.
+class Track {
+    constructor(player, choices, leads) {
+        Object.assign(this, { player, leads, choice: 0, buffer: null, init: null, initKey: "", fetching: null, filling: null, emptied: false, misses: new Map() });
+        this.choices = choices.map((choice) => ({ ...choice, source: new Source(choice.url) }));
+    }
+
+    get source() { return this.choices[this.choice].source; }
+
+    // Whether a segment is there, or won't ever be.
+    has(entry) {
+        if (entry.gone || this.misses.get(entry) >= TRIES) return true;
+        const [{ buffered }, middle] = [this.buffer, entry.at + entry.length / 2];
+        for (let i = 0; i < buffered.length; i++) if (buffered.start(i) <= middle && middle < buffered.end(i)) return true;
+        return false;
+    }
+
+    // What is missing first from what is seen on. Where the leading track hasn't found out a run's shift yet, the others wait.
+    next() {
+        const { line, at, ahead, shifts } = this.player;
+        for (let i = line.indexAt(at); i < line.entries.length && line.entries[i].at < at + ahead; i++) {
+            const entry = line.entries[i];
+            if (!this.has(entry)) return this.leads || shifts.has(entry.run) ? entry : null;
+        }
+        return null;
+    }
+
+    // The rendition's segment of that number, once its list has it.
+    async segmentOf(entry) {
+        for (const age of [Infinity, 1, 0]) {
+            const { segments } = await this.source.fresh(age);
+            const segment = segments[entry.sequence - (segments[0]?.sequence ?? 0)];
+            if (segment) return segment;
+            if (age === 1) await sleep(1);
+        }
+        throw new ReplyFault(404);
+    }
+
+    // Reads an init section, and gives it to the buffer once that is there.
+    async begin(map) {
+        const key = `${map.url} ${map.range}`;
+        if (key === this.initKey) return;
+        const bytes = await load(map.url, { range: map.range, limit: MEDIA_LIMIT });
+        const init = readInit(bytes);
+        if (!init) throw new ListFault("The stream's beginning can't be read.");
+        if (!MediaSource.isTypeSupported(init.type)) throw new Hopeless(`This browser can't play ${init.tracks.map((track) => track.codec).join(" with ")}. Another browser or device may.`);
+        if (this.buffer && init.type !== this.init.type) this.buffer.changeType(init.type);
+        Object.assign(this, { init, initKey: key, initBytes: bytes });
+        this.choices[this.choice].resolution ||= init.tracks[0].size?.join("x") ?? "";
+        if (this.buffer) await this.append(bytes);
+    }
+
+    // Fills the buffer for as long as the player is there.
+    async feed() {
+        await this.append(this.initBytes);
+        while (!this.player.closed) {
+            const entry = await this.afterEmptying();
+            if (!entry) {
+                await this.player.change();
+                continue;
+            }
+            try {
+                await this.fill(entry);
+                this.player.well(this);
+            } catch (fault) {
+                await this.player.trouble(fault, this, entry);
+            }
+        }
+    }
+
+    // Gives back what another rendition was chosen for, from the end of the segment that is seen.
+    async afterEmptying() {
+        if (this.emptied) {
+            this.emptied = false;
+            const { line, at } = this.player;
+            const seen = line.entries[line.indexAt(at)];
+            await this.remove(seen && this.leads ? seen.at + seen.length : at + 0.5, Infinity);
+        }
+        return this.next();
+    }
+
+    async fill(entry) {
+        this.filling = entry;
+        this.fetching = new AbortController();
+        const { signal } = this.fetching;
+        if (this.leads) this.player.adapt(this);
+        const segment = await this.segmentOf(entry);
+        await this.begin(segment.map);
+        const begun = performance.now();
+        const bytes = await load(segment.url, { range: segment.range, limit: MEDIA_LIMIT, signal });
+        this.player.measure(bytes.length, performance.now() - begun);
+        this.place(entry, bytes);
+        await this.append(bytes);
+        if (!this.has(entry)) this.miss(entry);
+        await this.forget();
+    }
+
+    // Where the segment's media times lie on the line.
+    place(entry, bytes) {
+        const { shifts } = this.player;
+        const unit = readUnit(bytes, this.init);
+        if (!unit) throw new ListFault("A segment isn't what the list says.");
+        const shift = entry.at - unit.from / 1000000;
+        if (this.leads && (!shifts.has(entry.run) || this.misses.has(entry))) shifts.set(entry.run, shift);
+        if (Math.abs(shifts.get(entry.run) - shift) > MISPLACED) {
+            // the number stands for other media: that list is old
+            this.source.loadedAt = -Infinity;
+            throw new ReplyFault(404);
+        }
+        this.buffer.timestampOffset = shifts.get(entry.run);
+    }
+
+    async append(bytes) {
+        for (let tried = 0; ; tried++) {
+            try {
+                this.buffer.appendBuffer(bytes);
+                break;
+            } catch (fault) {
+                if (fault.name !== "QuotaExceededError" || tried === 2) throw fault;
+                await this.makeRoom(tried);
+            }
+        }
+        await once(this.buffer, "updateend");
+    }
+
+    // The browser holds no more: less from now on.
+    async makeRoom(tried) {
+        const { player } = this;
+        player.ahead = Math.max(4, player.ahead / 2);
+        await this.remove(0, player.at - (tried === 0 ? 5 : 1));
+        await this.remove(player.at + player.ahead, Infinity);
+    }
+
+    async remove(from, to) {
+        if (to <= from || this.buffer.buffered.length === 0) return;
+        this.buffer.remove(Math.max(0, from), to);
+        await once(this.buffer, "updateend");
+    }
+
+    async forget() {
+        const old = this.player.at - BEHIND;
+        if (this.buffer.buffered.length > 0 && this.buffer.buffered.start(0) < old - 10) await this.remove(0, old);
+    }
+
+    miss(entry) {
+        this.misses.set(entry, (this.misses.get(entry) ?? 0) + 1);
+        if (this.misses.size > KEPT_MISSES) this.misses.delete(this.misses.keys().next().value);
+    }
+
+    choose(choice) {
+        this.choice = choice;
+        this.emptied = true;
+        this.fetching?.abort();
+        this.player.wake();
+    }
+}
+
+// Loads, places and shows; says by `say` what there is to be said.
+class Player {
+    constructor(video, say) {
+        Object.assign(this, { video, say, line: new Line(), tracks: [], shifts: new Map(), ahead: AHEAD, goal: null, rate: 0, automatic: true });
+        Object.assign(this, { faults: new Map(), begun: false, closed: false, waiting: [], jumps: 0 });
+    }
+
+    // What is seen, or will be once it is there.
+    get at() { return this.goal ?? this.video.currentTime; }
+    get isLive() { return !this.line.ended; }
+
+    wake() {
+        for (const done of this.waiting.splice(0)) done();
+    }
+
+    change() {
+        return new Promise((done) => { this.waiting.push(done); });
+    }
+
+    // Begins at a time of a recording, or live.
+    async open(url, from) {
+        const { variants, audios } = await this.persist(async () => {
+            const text = await loadText(url, { cache: "no-cache" });
+            return isMaster(text) ? readMaster(text, url) : { variants: [{ url, bandwidth: 0, resolution: "", audio: null }], audios: [] };
+        });
+        const heard = audios.filter(({ group }) => group === variants[0].audio).sort((a, b) => b.isDefault - a.isDefault);
+        this.tracks = [new Track(this, variants, true), ...(heard.length > 0 ? [new Track(this, heard, false)] : [])];
+        this.first = this.tracks[0].choices[0].source;
+        await this.persist(async () => {
+            const list = await this.first.fresh(0);
+            if (list.segments.length === 0) throw new ReplyFault(404);
+            this.line.take(list);
+        });
+        this.tracks[0].choice = (byBandwidth(variants).filter(([bandwidth], i) => i === 0 || bandwidth <= 3000000).pop())[1];
+        for (const track of this.tracks) await this.persist(async () => track.begin((await track.source.fresh(5)).segments[0].map));
+        const source = this.source = new MediaSource();
+        this.video.src = URL.createObjectURL(source);
+        await once(source, "sourceopen");
+        URL.revokeObjectURL(this.video.src);
+        // all buffers are there before the first takes anything
+        for (const track of this.tracks) track.buffer = source.addSourceBuffer(track.init.type);
+        this.goal = this.isLive ? this.line.live : from;
+        for (const work of [...this.tracks.map((track) => track.feed()), this.follow()]) work.catch((fault) => this.fail(fault));
+        this.timer = setInterval(() => this.tick(), 250);
+    }
+
+    close() {
+        this.closed = true;
+        clearInterval(this.timer);
+        for (const track of this.tracks) track.fetching?.abort();
+    }
+
+    // Tries until it comes to something.
+    async persist(work) {
+        while (!this.closed) {
+            try {
+                const found = await work();
+                this.well(this);
+                return found;
+            } catch (fault) {
+                await this.trouble(fault, this, null);
+            }
+        }
+        throw new Hopeless("");
+    }
+
+    // Follows the first rendition's list for as long as it grows.
+    async follow() {
+        for (let pause = this.line.target; this.isLive && !this.closed;) {
+            await sleep(this.line.doubted ? 1 : pause);
+            const end = this.line.end;
+            const found = await this.persist(async () => this.line.take(await this.first.fresh(0)));
+            if (found === "anew") this.say("The channel began anew.", 8);
+            if (found === "lost") this.say("A part was missed while there was no connection.", 8);
+            // RFC 8216 6.3.4: after a list that hasn't changed, half of a target
+            pause = this.line.end > end ? this.line.target : this.line.target / 2;
+            this.wake();
+        }
+    }
+
+    // Says the line's ends to the browser.
+    show() {
+        if (this.source?.readyState !== "open" || this.tracks.some((track) => track.buffer.updating)) return;
+        if (this.isLive) {
+            if (this.source.duration !== Infinity) this.source.duration = Infinity;
+            this.source.setLiveSeekableRange(this.line.start, this.line.end);
+        } else if (!(Math.abs(this.source.duration - this.line.end) < 1)) {
+            this.source.duration = this.tracks.reduce((end, { buffer: { buffered } }) => buffered.length > 0 ? Math.max(end, buffered.end(buffered.length - 1)) : end, this.line.end);
+        }
+    }
+
+    seek(time) {
+        const target = Math.max(this.line.start, Math.min(time, this.isLive ? this.line.live : this.line.end - 0.05));
+        this.show();
+        this.goal = target;
+        for (const { filling, fetching } of this.tracks) {
+            if (filling && (filling.at + filling.length < target || filling.at > target + 10)) fetching?.abort();
+        }
+        this.tick();
+    }
+
+    // Several times a second: begins, goes on behind what can't be loaded, ends.
+    tick() {
+        const { video, line, at } = this;
+        this.show();
+        const range = [...Array(video.buffered.length).keys()].map((i) => [video.buffered.start(i), video.buffered.end(i)]).find(([, end]) => end > at + 0.1);
+        if (range && range[0] <= at + 0.05) this.arrive(at);
+        else if (range && this.isLoadedUpTo(range[0])) this.arrive(range[0] + 0.01, true);
+        else if (!range && at < line.start - 1) {
+            this.say("That part isn't kept any more; the first that is comes next.", 8);
+            this.goal = line.start;
+        }
+        if (!this.isLive && this.source.readyState === "open" && this.tracks.every((track) => !track.buffer.updating && track.has(line.last) && !track.next())) this.source.endOfStream();
+        this.wake();
+    }
+
+    arrive(time, jumps = false) {
+        if (this.goal === null && !jumps) return;
+        if (jumps && this.begun) this.jumps++;
+        if (!this.begun) this.say("");
+        this.goal = null;
+        this.begun = true;
+        if (Math.abs(this.video.currentTime - time) > 0.001) this.video.currentTime = time;
+    }
+
+    // Whether nothing more will come between here and a later time.
+    isLoadedUpTo(time) {
+        const { line, at } = this;
+        const between = line.entries.slice(line.indexAt(at)).filter((entry, i, { length }) => i < length && entry.at + entry.length / 2 < time);
+        return between.every((entry) => this.tracks.every((track) => track.has(entry)));
+    }
+
+    measure(bytes, milliseconds) {
+        const rate = 8000 * bytes / Math.max(milliseconds, 5);
+        this.rate = this.rate === 0 ? rate : 0.7 * this.rate + 0.3 * rate;
+    }
+
+    // The best rendition that the network bears, with less trust while there is little ahead.
+    adapt(track) {
+        if (!this.automatic || this.rate === 0) return;
+        const { buffered } = track.buffer;
+        const left = buffered.length > 0 ? buffered.end(buffered.length - 1) - this.at : 0;
+        const choices = byBandwidth(track.choices);
+        track.choice = (choices.filter(([bandwidth]) => bandwidth <= this.rate * (left > 8 ? 0.8 : 0.5)).pop() ?? choices[0])[1];
+    }
+
+    well(who) {
+        if (this.faults.delete(who) && this.faults.size === 0) this.say("");
+    }
+
+    // Says what is wrong, and waits before another try.
+    async trouble(fault, who, entry) {
+        if (fault.name === "AbortError" || this.closed) return;
+        if (fault instanceof Hopeless || ["NotSupportedError", "InvalidStateError", "QuotaExceededError"].includes(fault.name)) throw fault;
+        if (entry && (fault instanceof ListFault || (fault instanceof ReplyFault && fault.status < 429))) who.miss(entry);
+        const times = (this.faults.get(who) ?? 0) + 1;
+        this.faults.set(who, times);
+        if (entry && who.misses.get(entry) >= TRIES) this.say("A part is missing and is left out.", 8);
+        else if (!entry || times > 1) this.say(wordsFor(fault, this.begun));
+        await Promise.race([sleep(Math.min(times, 5)), once(window, "online")]);
+    }
+
+    fail(fault) {
+        if (this.closed) return;
+        this.close();
+        this.say(fault instanceof Hopeless ? fault.message : "The browser couldn't play what came.", Infinity);
+        this.video.dispatchEvent(new CustomEvent("hopeless"));
+    }
+}
+
+function wordsFor(fault, begun) {
+    if (fault instanceof ListFault) return fault.message;
+    if (!(fault instanceof ReplyFault)) return navigator.onLine ? "There is no connection to the server. It is tried again and again." : "This device isn't online. It goes on by itself once it is.";
+    if (fault.status === 404) return begun ? "The channel isn't there just now. It goes on by itself once it is." : "Nothing is on air here yet. It begins by itself as soon as something is.";
+    return { 403: "This isn't open to you.", 409: "This recording isn't finished yet. It begins by itself once it is.", 410: "What was asked for isn't kept any more.",
+        429: "The server has too much to do. It is tried again." }[fault.status] ?? `The server can't answer just now (${fault.status}). It is tried again.`;
+}
+
+// What the viewer sees and does.
+let player = null;
+const video = $("video");
+let saidUntil = 0;
+
+function say(words, seconds = Infinity) {
+    if (words === "" && saidUntil !== Infinity && performance.now() < saidUntil) return;
+    saidUntil = seconds === Infinity ? Infinity : performance.now() + 1000 * seconds;
+    if (seconds !== Infinity) setTimeout(() => { if (performance.now() >= saidUntil - 50) say(""); }, 1000 * seconds);
+    $("words").textContent = words;
+    $("noteText").textContent = words;
+    $("note").hidden = words === "" || (seconds !== Infinity && player?.begun) || video.readyState > 2;
+}
+
+const digits = (number) => String(Math.floor(number)).padStart(2, "0");
+const spell = (seconds) => `${seconds >= 3600 ? `${Math.floor(seconds / 3600)}:` : ""}${digits(seconds / 60 % 60)}:${digits(seconds % 60)}`;
+const clockOf = (date) => new Date(date).toLocaleTimeString("en-GB");
+
+// A time of the line in words: by the clock where there are dates, else by how far from live or from the beginning.
+function wordsAt(time) {
+    const { line } = player;
+    const date = line.dateAt(time);
+    const far = player.isLive ? `${spell(Math.max(0, line.end - time))} behind live` : `${spell(time)} of ${spell(line.end)}`;
+    return date === null ? far : `${clockOf(date)}, ${far}`;
+}
+
+function paint() {
+    const { line, begun } = player;
+    const slider = $("seek");
+    const [from, to] = [line.start, Math.max(line.start + 0.1, player.isLive ? line.live : line.end)];
+    if (document.activeElement !== slider || !slider.dragged) {
+        [slider.min, slider.max] = [from, to];
+        slider.value = player.at;
+    }
+    slider.style.setProperty("--played", `${100 * (slider.value - from) / (to - from)}%`);
+    slider.setAttribute("aria-valuetext", wordsAt(Number(slider.value)));
+    const date = begun ? line.dateAt(player.at) : null;
+    $("time").textContent = date === null ? "" : clockOf(date);
+    const behind = line.end - player.at;
+    const isAtLive = player.isLive && player.at > line.live - 2;
+    $("live").hidden = !player.isLive;
+    $("live").classList.toggle("now", isAtLive);
+    $("live").setAttribute("aria-label", isAtLive ? "Live" : "Go to live");
+    $("where").textContent = !begun ? "" : player.isLive ? (isAtLive ? "" : `-${spell(behind)}`) : `${spell(player.at)} / ${spell(line.end)}`;
+    document.title = player.isLive ? "Live" : "Recording";
+    $("title").textContent = document.title;
+    $("bar").classList.toggle("paused", video.paused);
+    $("play").setAttribute("aria-label", video.paused ? "Play" : "Pause");
+    $("bar").classList.toggle("mute", video.muted);
+    $("mute").setAttribute("aria-pressed", String(video.muted));
+    if (video.readyState > 2) $("note").hidden = true;
+    nameChoices();
+}
+
+// Offers the renditions by what their lists say.
+function offer(kind, names) {
+    const select = $(`${kind}s`);
+    $(`${kind}Label`).hidden = names.length < 2;
+    if (select.options.length !== names.length) select.replaceChildren(...names.map((name, i) => new Option(name, i)));
+    names.forEach((name, i) => { if (select.options[i].text !== name) select.options[i].text = name; });
+}
+
+function nameChoices() {
+    const [picture, sound] = player.tracks;
+    const nameOf = ({ resolution, bandwidth }) => [resolution.replace(/^\d+x(\d+)$/, "$1p"), `${(bandwidth / 1e6).toFixed(1)} Mbit/s`].filter((word) => word).join(", ");
+    const pictures = picture?.choices.map(nameOf) ?? [];
+    offer("video", pictures.length > 1 ? [`Automatic${player.automatic ? `: ${pictures[picture.choice]}` : ""}`, ...pictures] : []);
+    offer("audio", sound?.choices.map(({ name, language }) => language && language !== name ? `${name} (${language})` : name) ?? []);
+}
+
+async function play() {
+    try {
+        await video.play();
+    } catch (fault) {
+        if (fault.name !== "NotAllowedError" || video.muted) return;
+        video.muted = true;
+        video.play().catch(() => {});
+        say("The sound is off, as this browser wants it. M turns it on.", 8);
+    }
+}
+
+const actions = {
+    play: () => (video.paused ? play() : video.pause()),
+    back: () => player.seek(player.at - 10),
+    forth: () => player.seek(player.at + 10),
+    start: () => player.seek(player.line.start),
+    end: () => player.seek(player.line.end),
+    live: () => { player.seek(player.line.end); play(); },
+    mute: () => { video.muted = !video.muted; },
+    louder: () => { video.volume = Math.min(1, video.volume + 0.1); },
+    quieter: () => { video.volume = Math.max(0, video.volume - 0.1); },
+    full: () => (document.fullscreenElement ? document.exitFullscreen() : $("player").requestFullscreen()),
+    again: () => location.reload(),
+};
+const keys = { " ": "play", k: "play", ArrowLeft: "back", ArrowRight: "forth", Home: "start", End: "end", m: "mute", f: "full", ArrowUp: "louder", ArrowDown: "quieter" };
+
+function listen() {
+    for (const id of ["play", "back", "forth", "live", "mute", "full", "again"]) $(id).addEventListener("click", actions[id]);
+    document.addEventListener("keydown", (event) => {
+        const action = keys[event.key.length === 1 ? event.key.toLowerCase() : event.key];
+        const own = event.target.closest("select, #volume, summary") || (event.key === " " && event.target.closest("button"));
+        if (!action || own || event.ctrlKey || event.altKey || event.metaKey || !player.source) return;
+        event.preventDefault();
+        actions[action]();
+    });
+    const slider = $("seek");
+    slider.addEventListener("input", () => { slider.dragged = true; player.seek(Number(slider.value)); });
+    slider.addEventListener("change", () => { slider.dragged = false; });
+    slider.addEventListener("pointermove", ({ offsetX }) => {
+        const time = Number(slider.min) + Math.max(0, Math.min(1, offsetX / slider.clientWidth)) * (slider.max - slider.min);
+        $("tip").textContent = wordsAt(time);
+        $("tip").hidden = false;
+        $("tip").style.left = `${Math.max(0, Math.min(offsetX, slider.clientWidth))}px`;
+    });
+    slider.addEventListener("pointerleave", () => { $("tip").hidden = true; });
+    $("volume").addEventListener("input", () => { video.volume = Number($("volume").value); video.muted = false; });
+    video.addEventListener("volumechange", () => { $("volume").value = video.volume; });
+    video.addEventListener("hopeless", () => { $("again").hidden = $("note").hidden = false; });
+    $("videos").addEventListener("change", ({ target }) => {
+        player.automatic = target.value === "0";
+        if (!player.automatic) player.tracks[0].choose(Number(target.value) - 1);
+    });
+    $("audios").addEventListener("change", ({ target }) => player.tracks[1].choose(Number(target.value)));
+    video.addEventListener("click", actions.play);
+}
+
+// The browser's own player, with its own controls.
+function playNatively(url) {
+    $("bar").hidden = true;
+    video.controls = true;
+    video.src = url;
+    video.addEventListener("error", async () => {
+        say("Nothing can be played here just now. It is tried again.");
+        await sleep(3);
+        video.load();
+        play();
+    });
+    video.addEventListener("playing", () => say(""));
+    setInterval(() => {
+        const start = video.getStartDate?.().getTime();
+        $("time").textContent = start > 0 ? clockOf(start + 1000 * video.currentTime) : "";
+    }, 500);
+    play();
+}
+
+let restarts = 0;
+async function start(url, from) {
+    player?.close();
+    player = new Player(video, say);
+    try {
+        await player.open(url, from);
+        play();
+    } catch (fault) {
+        player.fail(fault);
+    }
+}
+
+function main() {
+    let url = "";
+    try {
+        url = addressOf(new URLSearchParams(location.search).get("list") ?? "live/master.m3u8", location.href);
+    } catch (fault) {
+        return say(fault.message);
+    }
+    say("Loading ..");
+    if (!("MediaSource" in window)) return video.canPlayType("application/vnd.apple.mpegurl") ? playNatively(url) : say("This browser can play no such stream.");
+    listen();
+    // what the browser can't decode is left out, but not for ever
+    video.addEventListener("error", () => {
+        if (!player.begun || restarts++ === 5) player.fail(video.error);
+        else start(url, player.at + 2);
+    });
+    start(url, 0);
+    setInterval(paint, 250);
+}
+
+main();
