@@ -1,0 +1,282 @@
+// The operators' page: a picture of the channel over what is kept, catch-up recordings cut from it, and their certificates, checked
+// in the browser. It asks the origin's own routes (docs/HTTP.md) below origin/1/ beside the page, which an edge lets operators alone
+// reach; ?origin=2 asks the second one's. Nothing here is to be changed for a site.
+"use strict";
+
+import { segmentsOf, checkAside, drawPrices, wordsOf, CERTIFICATE_LIMIT } from "./prices.js";
+import { Channel } from "./operate_channel.js";
+import { Lanes } from "./operate_lanes.js";
+import { ListFault, addressOf, load } from "./playlist.js";
+
+const LOG_LIMIT = 4194304;
+const JOB_LIMIT = 64;
+const SURVEY_EVERY = 60; // seconds
+const LOOK_EVERY = 2;
+const LATE = 4; // seconds that a rendition may be behind the first before it is said
+
+const $ = (id) => document.getElementById(id);
+const origin = new URLSearchParams(location.search).get("origin") ?? "1";
+const channel = new Channel(addressOf(`origin/${/^[1-9]$/.test(origin) ? origin : "1"}/`, location.href));
+const lanes = new Lanes($("lanes"), channel);
+let shown = null; // the certificate that is drawn
+
+const say = (words) => { if ($("words").textContent !== words) $("words").textContent = words; };
+const megabytes = (bytes) => bytes < 1e9 ? `${(bytes / 1e6).toFixed(bytes < 1e7 ? 1 : 0)} MB` : `${(bytes / 1e9).toFixed(2)} GB`;
+const many = (number) => number.toLocaleString("en-US");
+
+// A time of the channel's clock: of the day where there is an epoch, else in seconds.
+function clockOf(time) {
+    if (channel.epoch === null) return `${(time / 1000000).toFixed(0)} s`;
+    const date = new Date(channel.epoch + time / 1000);
+    return Number.isNaN(date.getTime()) ? "" : date.toLocaleTimeString("en-GB");
+}
+
+// What stands in the form's fields, with the viewer's day and offset; and back. Plain numbers are seconds of the channel's clock.
+function spell(time) {
+    if (channel.epoch === null) return (time / 1000000).toFixed(3);
+    const date = new Date(channel.epoch + time / 1000);
+    const two = (n, width = 2) => String(n).padStart(width, "0");
+    return `${date.getFullYear()}-${two(date.getMonth() + 1)}-${two(date.getDate())} ${two(date.getHours())}:${two(date.getMinutes())}:${two(date.getSeconds())}.${two(date.getMilliseconds(), 3)}`;
+}
+
+function timeOf(text) {
+    if (/^\s*\d{1,10}(\.\d{1,6})?\s*$/.test(text)) return Math.round(Number(text) * 1000000);
+    const found = Date.parse(text.trim().replace(" ", "T"));
+    if (Number.isNaN(found) || channel.epoch === null) throw new Error("A time is written as 2024-01-01 20:00:00, or in seconds of the channel's clock.");
+    return Math.round((found - channel.epoch) * 1000);
+}
+
+const make = (name, properties = {}, ...children) => {
+    const element = Object.assign(document.createElement(name), properties);
+    element.append(...children);
+    return element;
+};
+
+function paintFigures() {
+    const { status, pace, renditions, table } = channel;
+    $("log").textContent = many(status.version ?? 0);
+    const days = pace > 0 ? (LOG_LIMIT - status.version) / pace / 86400 : null;
+    $("logMore").textContent = `of ${many(LOG_LIMIT)} entries${days === null ? "" : `; full in ${days < 2 ? `${(24 * days).toFixed(0)} hours` : `${days.toFixed(0)} days`}`}`;
+    const kept = renditions.reduce((sum, { total, floor }) => sum + Math.max(0, total - floor), 0);
+    $("memory").textContent = renditions.length > 0 ? megabytes(kept) : "-";
+    $("memoryMore").textContent = `of ${megabytes(renditions.reduce((sum, { total }) => sum + total, 0))} that came`;
+    $("places").textContent = many(status.places ?? 0);
+    $("placesMore").textContent = table ? `${many(table.places)} of them kept` : "";
+    $("segments").textContent = many(status.segments ?? 0);
+    $("segmentsMore").textContent = `${many(status.removed ?? 0)} slid away`;
+    $("jobs").textContent = `${status.jobs ?? 0} of ${JOB_LIMIT}`;
+    $("jobsMore").textContent = status.jobs > JOB_LIMIT / 2 ? "delete those that aren't needed" : "";
+    $("clock").textContent = new Date().toLocaleTimeString("en-GB");
+}
+
+// The newest end of all renditions, and how far each is behind it.
+function paintRenditions() {
+    const rows = channel.renditions.map((rendition) => {
+        const { number, kind, name, codec, newest, cameAt, gaps, total, floor, units, bandwidth } = rendition;
+        const behind = newest ? (channel.end - newest.to) / 1000000 : null;
+        const silent = cameAt === null ? null : (performance.now() - cameAt) / 1000;
+        const isLate = behind !== null && (behind > LATE || silent > 2 * channel.target);
+        const length = units.length > 1 ? (newest.to - units[0].from) / 1000000 : 0;
+        const rate = length > 0 ? units.reduce((sum, unit) => sum + unit.bytes, 0) * 8 / length : null;
+        const cells = [`${number} ${kind}${name ? ` ${name}` : ""}`, codec, megabytes(Math.max(0, total - floor)), newest ? clockOf(newest.to) : "", behind === null ? "" : behind < 0.05 ? "first" : `${behind.toFixed(1)} s`,
+            silent === null ? "" : `${silent.toFixed(0)} s ago`, String(gaps), rate === null ? "" : `${(rate / 1e6).toFixed(2)} Mbit/s${bandwidth ? ` of ${(bandwidth / 1e6).toFixed(2)}` : ""}`];
+        return make("tr", { className: isLate ? "late" : "" }, ...cells.map((text, i) => make(i === 0 ? "th" : "td", i === 0 ? { scope: "row", textContent: text } : { textContent: text })));
+    });
+    $("renditions").replaceChildren(...rows);
+    const late = channel.renditions.filter((_, i) => rows[i].className === "late").map(({ number }) => number);
+    if (late.length > 0) say(`Rendition ${late.join(", ")} is late: no place, and so no segment, can be made without it.`);
+    else if (channel.list?.ended) say("The channel has ended.");
+    else say(`All renditions go on${channel.epoch !== null ? `; the newest unit ends at ${clockOf(channel.end)}` : ""}.`);
+}
+
+// Keeps the end of what came in sight for as long as nobody looks elsewhere.
+function setSpan(width) {
+    const end = channel.end + 2000000;
+    lanes.width_ = width;
+    lanes.span = width === null ? [Math.min(channel.start, ...channel.renditions.map(({ floorTime }) => floorTime ?? Infinity)) - (end - channel.start) / 40, end] : [end - width, end];
+    lanes.follows = true;
+}
+
+function paint() {
+    if (channel.renditions.length === 0 || channel.end === 0) return;
+    if (lanes.follows) setSpan(lanes.width_ ?? null);
+    lanes.draw(clockOf);
+    paintFigures();
+    paintRenditions();
+    const { table } = channel;
+    $("lanes").setAttribute("aria-label", `The channel from ${clockOf(channel.start)} to ${clockOf(channel.end)}: ${table?.places ?? 0} places, ${channel.live.length} live segments, ${channel.renditions.length} renditions`);
+}
+
+// The picture: dragging chooses, the wheel and the keys go nearer and along.
+function listenToPicture() {
+    const canvas = $("lanes");
+    let begun = null;
+    canvas.addEventListener("pointerdown", ({ offsetX, pointerId }) => {
+        begun = lanes.timeAt(offsetX);
+        canvas.setPointerCapture(pointerId);
+    });
+    canvas.addEventListener("pointermove", ({ offsetX }) => {
+        if (begun === null) return;
+        const here = lanes.timeAt(offsetX);
+        lanes.chosen = [Math.max(0, Math.round(Math.min(begun, here))), Math.max(0, Math.round(Math.max(begun, here)))];
+        [$("from").value, $("to").value] = lanes.chosen.map(spell);
+        lanes.draw(clockOf);
+    });
+    canvas.addEventListener("pointerup", () => { begun = null; });
+    canvas.addEventListener("wheel", (event) => {
+        event.preventDefault();
+        zoom(event.deltaY > 0 ? 1.25 : 0.8, lanes.timeAt(event.offsetX));
+    }, { passive: false });
+    canvas.addEventListener("keydown", (event) => {
+        const width = lanes.span[1] - lanes.span[0];
+        const move = { ArrowLeft: -width / 8, ArrowRight: width / 8 }[event.key];
+        if (move) {
+            lanes.follows = false;
+            lanes.span = lanes.span.map((time) => time + move);
+        } else if (event.key === "+" || event.key === "-") zoom(event.key === "+" ? 0.8 : 1.25);
+        else return;
+        event.preventDefault();
+        paint();
+    });
+    for (const [id, width] of [["viewAll", null], ["viewSome", 300000000], ["viewLast", 60000000]]) $(id).addEventListener("click", () => { setSpan(width); paint(); });
+    $("nearer").addEventListener("click", () => zoom(0.5));
+    $("farther").addEventListener("click", () => zoom(2));
+    new ResizeObserver(paint).observe(canvas.parentElement);
+}
+
+function zoom(by, around = (lanes.span[0] + lanes.span[1]) / 2) {
+    lanes.follows = false;
+    lanes.span = lanes.span.map((time) => around + (time - around) * by);
+    if (lanes.span[1] - lanes.span[0] < 1000000) lanes.span = [around - 500000, around + 500000];
+    paint();
+}
+
+// The fields that were typed in are shown on the picture.
+function showTyped() {
+    try {
+        lanes.chosen = [timeOf($("from").value), timeOf($("to").value)];
+    } catch {
+        lanes.chosen = null;
+    }
+    paint();
+}
+
+function showWishes() {
+    $("preferredSaid").textContent = `${Number($("preferred").value).toFixed(1)} s`;
+    const charge = Number($("charge").value);
+    $("chargeSaid").textContent = charge === 0 ? "none" : `${charge.toFixed(1)} s`;
+    for (const id of ["preferred", "charge"]) $(id).style.setProperty("--played", `${100 * ($(id).value - $(id).min) / ($(id).max - $(id).min)}%`);
+}
+
+async function cut(event) {
+    event.preventDefault();
+    try {
+        const wishes = { from: timeOf($("from").value), to: timeOf($("to").value), preferred: Math.round($("preferred").value * 1000000) };
+        if (wishes.from < 0 || wishes.to < 0) throw new Error("The programme begins before the channel's clock.");
+        const charge = Math.round($("charge").value * 1000000);
+        const job = await channel.cut(charge > 0 ? { ...wishes, charge } : wishes);
+        $("verdict").textContent = `Job ${job} is planned ..`;
+        const state = await channel.finished(job);
+        await showJobs();
+        if (/^(cut|none)/.test(state)) await showCertificate(job);
+        else $("verdict").textContent = `Job ${job}: ${state}. ${helpFor(state)}`;
+    } catch (fault) {
+        $("verdict").textContent = fault.message;
+    }
+}
+
+const helpFor = (state) => ({
+    BeforeRecording: "The start is before what is kept: choose a later one.", NotYet: "The end hasn't come yet: choose an earlier one, or wait.", AfterRecording: "The end is behind the channel's end.",
+    BadRange: "The start isn't before the end.", BadPreferred: "The preferred length is longer than the target.", ProgrammeTooLong: "It has more places than one table holds: choose a shorter programme.",
+})[state.split(" ")[1]] ?? "";
+
+// Checks a certificate and draws it.
+async function show(bytes, name) {
+    $("verdict").textContent = `${name} is checked ..`;
+    const begun = performance.now();
+    const answer = await checkAside(bytes);
+    const { certificate, good } = answer;
+    $("verdict").textContent = `${name}: ${wordsOf(answer)} (${((performance.now() - begun) / 1000).toFixed(2)} s)`;
+    $("verdict").className = good ? "good" : "bad";
+    shown = certificate;
+    $("prices").hidden = !certificate;
+    if (certificate) drawPrices($("prices"), certificate);
+    return answer;
+}
+
+async function showCertificate(job) {
+    try {
+        const { good, certificate } = await show(await load(`${channel.base}job/${job}/certificate.txt`, { limit: CERTIFICATE_LIMIT, cache: "no-store" }), `Job ${job}`);
+        lanes.plan = good ? segmentsOf(certificate) : null;
+        const { start, prevEnd } = certificate?.table[0] ?? {};
+        if (start) lanes.chosen = [start[0], prevEnd[certificate.places - 1]];
+        paint();
+    } catch (fault) {
+        $("verdict").textContent = `Job ${job}'s certificate: ${fault.message}`;
+    }
+}
+
+async function showJobs() {
+    await channel.lookAtStatus();
+    const jobs = await channel.jobs();
+    const { renditions } = channel;
+    $("jobRows").replaceChildren(...jobs.map(({ number, state, address }) => {
+        const base = `${channel.base}job/${number}/`;
+        const isCut = state.startsWith("cut ");
+        const file = (name) => make("a", { href: base + name, download: `job${number}_${name}`, textContent: name });
+        const files = isCut ? ["master.m3u8", ...renditions.flatMap((rendition) => [`${rendition.number}.m3u8`, `${rendition.number}.mp4`]), "certificate.txt"] : state.startsWith("none") ? ["certificate.txt"] : [];
+        const button = (text, act) => make("button", { type: "button", textContent: text, onclick: act, ariaLabel: `${text} job ${number}` });
+        const watch = make("a", { href: `watch.html?list=${encodeURIComponent(address)}`, target: "_blank", className: "button", textContent: "Play", ariaLabel: `Play job ${number}` });
+        return make("tr", {}, make("th", { scope: "row", textContent: number }), make("td", { textContent: state }), make("td", {}, ...(files.length > 0 ? [button("Certificate", () => showCertificate(number))] : [])),
+            make("td", { className: "files" }, ...files.map(file)), make("td", { className: "row" }, ...(isCut ? [watch] : []), button("Delete", () => remove(number))));
+    }));
+    if (jobs.length === 0) $("jobRows").append(make("tr", {}, make("td", { colSpan: 5, className: "pale", textContent: "No job stands." })));
+}
+
+async function remove(number) {
+    if (!confirm(`Delete job ${number}? Whoever plays it loses it.`)) return;
+    await channel.remove(number);
+    lanes.plan = null;
+    await showJobs();
+}
+
+// Looks again and again, and says what is wrong.
+async function repeat(every, work) {
+    for (;;) {
+        try {
+            await work();
+        } catch (fault) {
+            say(fault.status === 404 ? "The channel hasn't begun: no segment was made yet." : fault instanceof ListFault ? fault.message
+                : fault.status ? `The origin answers ${fault.status}.` : "The origin can't be reached. It is asked again and again.");
+        }
+        await new Promise((done) => { setTimeout(done, 1000 * every); });
+    }
+}
+
+function main() {
+    listenToPicture();
+    showWishes();
+    for (const id of ["preferred", "charge"]) $(id).addEventListener("input", showWishes);
+    for (const id of ["from", "to"]) $(id).addEventListener("change", showTyped);
+    $("form").addEventListener("submit", cut);
+    $("file").addEventListener("change", async ({ target: { files: [file] } }) => {
+        if (file && file.size <= CERTIFICATE_LIMIT) show(new Uint8Array(await file.arrayBuffer()), file.name);
+        else if (file) $("verdict").textContent = "That file is longer than any certificate.";
+    });
+    window.addEventListener("resize", () => { if (shown) drawPrices($("prices"), shown); });
+    let surveyed = -Infinity;
+    repeat(LOOK_EVERY, async () => {
+        await channel.lookAtStatus();
+        await channel.lookAtLists();
+        if (performance.now() - surveyed > SURVEY_EVERY * 1000) {
+            surveyed = performance.now();
+            await channel.survey();
+            if ($("jobRows").children.length === 0) await showJobs();
+            $("timeHelp").textContent = channel.epoch === null ? "In seconds of the channel's clock: serve has no --epoch." : `In this browser's time, ${Intl.DateTimeFormat().resolvedOptions().timeZone}. What is kept begins at ${clockOf(channel.start)}.`;
+            $("preferred").max = channel.target;
+        }
+        paint();
+    });
+}
+
+main();

@@ -1,0 +1,213 @@
+// What the operators' page knows of a channel, by the origin's own routes and nothing else (docs/HTTP.md): its state, its lists,
+// the first bytes of each unit, and the table of places of a short-lived job over all that is kept. Times are microseconds of
+// the channel's clock. Nothing here is to be changed for a site.
+"use strict";
+
+import { read } from "./certificate.js";
+import { readInit, readUnit } from "./mp4.js";
+import { ReplyFault, isMaster, loadText, readMaster, readMedia } from "./playlist.js";
+
+const HEAD = 8192; // bytes that hold the boxes before a large unit's samples; small units are read many at a time
+const MANY = 65536;
+const KEPT_UNITS = 6000;
+const PROBES = 96;
+
+/// Asks for a range of a recording: its bytes with the recording's length, or what stands in their place.
+export async function ask(url, first, last) {
+    const reply = await fetch(url, { headers: { Range: `bytes=${first}-${last}` }, cache: "no-store" });
+    const total = Number(/\/(\d+)$/.exec(reply.headers.get("Content-Range") ?? "")?.[1] ?? NaN);
+    if (reply.status === 206) return { bytes: new Uint8Array(await reply.arrayBuffer()), total };
+    await reply.body?.cancel();
+    if (reply.status !== 416) throw new ReplyFault(reply.status);
+    return { bytes: new Uint8Array(0), total };
+}
+
+// One rendition: what is kept of it, and its newest units one after the other.
+class Rendition {
+    constructor(base, number, said) {
+        Object.assign(this, { base, number, ...said, url: `${base}media/${number}.mp4` });
+        Object.assign(this, { init: null, initLength: 0, floor: 0, floorTime: null, next: null, total: 0, units: [], cameAt: null });
+    }
+
+    get newest() { return this.units[this.units.length - 1]; }
+    get gaps() { return this.units.filter((unit) => unit.gap).length; }
+    get codec() { return this.init?.tracks.map((track) => track.codec).join(", ") ?? ""; }
+
+    // The live list gives the init section's length and where its first segment begins.
+    async look(list) {
+        if (this.init || list.segments.length === 0) return;
+        const [{ map, range }] = list.segments;
+        this.initLength = map.range[1] + 1;
+        this.init = readInit((await ask(this.url, 0, map.range[1])).bytes);
+        this.next = this.floor = range[0];
+    }
+
+    // Reads the heads of the units that have come.
+    async follow() {
+        if (!this.init) return;
+        for (let reads = 0; reads < PROBES; reads++) {
+            const width = this.units.length > 0 && this.newest.bytes > MANY ? HEAD : MANY;
+            const { bytes, total } = await ask(this.url, this.next, this.next + width - 1);
+            this.total = total;
+            const before = this.next;
+            for (let at = 0; at < bytes.length;) {
+                const unit = readUnit(bytes.subarray(at), this.init);
+                if (!unit) break;
+                at += unit.bytes;
+                this.add({ ...unit, offset: before + at - unit.bytes });
+                this.next = before + at;
+            }
+            if (this.next === before || this.next >= total) return;
+        }
+    }
+
+    add(unit) {
+        const last = this.newest;
+        this.units.push({ ...unit, gap: last !== undefined && last.ticks[1] !== unit.ticks[0] });
+        if (this.units.length > KEPT_UNITS) this.units.splice(0, KEPT_UNITS / 4);
+        this.cameAt = performance.now();
+    }
+
+    // Where what is kept begins: by halves between what is gone (410) and what is there.
+    async findFloor() {
+        if (!this.init || this.total === 0) return;
+        const isThere = async (at) => {
+            try {
+                return (await ask(this.url, at, at)).bytes.length > 0;
+            } catch (fault) {
+                if (fault.status === 410) return false;
+                throw fault;
+            }
+        };
+        let [low, high] = [this.floorTime === null ? this.initLength : this.floor, this.next];
+        if (low < high && !await isThere(low)) {
+            while (high - low > 1) {
+                const middle = Math.floor((low + high) / 2);
+                if (await isThere(middle)) high = middle;
+                else low = middle;
+            }
+            low = high;
+        } else if (this.floorTime !== null) return;
+        this.floor = low;
+        this.floorTime = readUnit((await ask(this.url, low, low + MANY - 1)).bytes, this.init)?.from ?? null;
+    }
+}
+
+/// The channel, looked at again and again.
+export class Channel {
+    constructor(base) {
+        Object.assign(this, { base, renditions: [], status: {}, before: null, live: [], target: 6, epoch: null, table: null, newestJob: 0 });
+    }
+
+    async lookAtStatus() {
+        const text = await loadText(`${this.base}status`, { cache: "no-store", limit: 4096 });
+        const status = Object.fromEntries(text.trim().split("\n").map((line) => line.split(" ")).map(([name, number]) => [name, Number(number)]));
+        this.before ??= { version: status.version, at: performance.now() };
+        this.status = status;
+    }
+
+    // Log entries a second since the page was opened.
+    get pace() {
+        const passed = (performance.now() - this.before.at) / 1000;
+        return passed > 20 ? (this.status.version - this.before.version) / passed : null;
+    }
+
+    async lookAtLists() {
+        if (this.renditions.length === 0) await this.findRenditions();
+        const lists = await Promise.all(this.renditions.map(async ({ number }) => readMedia(await loadText(`${this.base}live/${number}.m3u8`, { cache: "no-store" }), this.base)));
+        await Promise.all(this.renditions.map((rendition, i) => rendition.look(lists[i])));
+        await Promise.all(this.renditions.map((rendition) => rendition.follow()));
+        [this.list] = lists;
+        this.target = this.list.target;
+        this.place();
+    }
+
+    async findRenditions() {
+        const text = await loadText(`${this.base}live/master.m3u8`, { cache: "no-store" });
+        if (!isMaster(text)) return;
+        const { variants, audios } = readMaster(text, this.base);
+        const numberOf = ({ url }) => Number(/(\d+)\.m3u8$/.exec(url)?.[1] ?? NaN);
+        const found = [...variants.map((said) => ({ ...said, kind: "video", name: "" })), ...audios.map((said) => ({ ...said, kind: "audio" }))];
+        this.renditions = found.filter((said) => numberOf(said) >= 0).map((said) => new Rendition(this.base, numberOf(said), said)).sort((a, b) => a.number - b.number);
+    }
+
+    // The live segments on the channel's clock, by the first rendition's units.
+    place() {
+        const [{ units }] = this.renditions;
+        const byOffset = new Map(units.map((unit) => [unit.offset, unit]));
+        this.live = this.list.segments.flatMap(({ range, length, mark, date }) => {
+            const unit = byOffset.get(range[0]);
+            if (unit && date !== null) this.epoch = date - Math.floor(unit.from / 1000);
+            return unit ? [{ from: unit.from, length, mark }] : [];
+        });
+    }
+
+    get end() { return Math.max(0, ...this.renditions.map(({ newest }) => newest?.to ?? 0)); }
+    get start() { return this.table?.table[0].start[0] ?? this.live[0]?.from ?? this.end; }
+
+    // All places that are kept, by the certificate of a job that is removed at once.
+    async survey() {
+        for (const rendition of this.renditions) await rendition.findFloor();
+        const last = this.live[this.live.length - 1];
+        if (!last) return;
+        const to = last.from + last.length;
+        const begin = Math.max(...this.renditions.map(({ floorTime }) => floorTime ?? 0), this.renditions[0].floorTime ?? 0);
+        const starts = [this.renditions[0].floorTime, begin, begin + this.target * 1000000, this.live[0].from].filter((time) => time !== null && time < to);
+        for (let i = 0; i < starts.length; i++) {
+            const { state, certificate } = await this.tableFrom(starts[i], to);
+            if (certificate) this.table = certificate;
+            if (certificate) return;
+            // more places than a table holds: the later half of them
+            if (state.includes("ProgrammeTooLong")) starts.splice(i + 1, 0, Math.floor((starts[i] + to) / 2));
+        }
+    }
+
+    async tableFrom(from, to) {
+        const job = await this.cut({ from, to });
+        try {
+            const state = await this.finished(job);
+            const certificate = /^(cut|none)/.test(state) ? read(new TextEncoder().encode(await loadText(`${this.base}job/${job}/certificate.txt`, { cache: "no-store", limit: 67108864 }))) : null;
+            return { state, certificate };
+        } finally {
+            await this.remove(job);
+        }
+    }
+
+    // Asks for a catch-up recording; its number.
+    async cut(wishes) {
+        const reply = await fetch(`${this.base}catchup?${new URLSearchParams(wishes)}`, { method: "POST" });
+        const said = await reply.text();
+        if (reply.status !== 202) throw new Error(said.trim() || `status ${reply.status}`);
+        this.newestJob = Number(/^job (\d+)/.exec(said)[1]);
+        return this.newestJob;
+    }
+
+    async job(number) {
+        const reply = await fetch(`${this.base}job/${number}`, { cache: "no-store" });
+        const state = (await reply.text()).trim();
+        const link = /<([^>]+)>;\s*rel="alternate"/.exec(reply.headers.get("Link") ?? "");
+        return reply.status === 200 ? { number, state, address: link?.[1] ?? `${this.base}job/${number}/master.m3u8` } : null;
+    }
+
+    async finished(number) {
+        for (let pause = 30; ; pause = Math.min(1000, pause * 2)) {
+            const found = await this.job(number);
+            if (!found || !/^(waiting|running)/.test(found.state)) return found?.state ?? "refused NotFound";
+            await new Promise((done) => { setTimeout(done, pause); });
+        }
+    }
+
+    remove(number) {
+        return fetch(`${this.base}job/${number}`, { method: "DELETE", keepalive: true });
+    }
+
+    // The jobs that stand, from the newest number that is known down.
+    async jobs() {
+        const found = [];
+        for (let number = this.newestJob, probes = 0; number > 0 && found.length < this.status.jobs && probes < PROBES; number--, probes++) {
+            const job = await this.job(number);
+            if (job) found.push(job);
+        }
+        return found;
+    }
+}

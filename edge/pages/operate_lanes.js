@@ -1,0 +1,174 @@
+// The operators' picture of a channel over time: a lane for the common places, the live segments, each rendition and a job's plan.
+// Times are microseconds of the channel's clock. Nothing here is to be changed for a site.
+"use strict";
+
+import { seconds, surface } from "./prices.js";
+
+const LANE = 30;
+const GAP = 10;
+const AXIS = 26;
+const LEFT = 92;
+const RIGHT = 12;
+const STEPS = [1, 2, 5, 10, 15, 30, 60, 120, 300, 600, 900, 1800, 3600, 7200, 14400, 43200].map((n) => n * 1000000);
+
+/// A picture of a channel on a canvas: what it shows, what is chosen on it, what is drawn.
+export class Lanes {
+    constructor(canvas, channel) {
+        Object.assign(this, { canvas, channel, span: [0, 1], chosen: null, plan: null, follows: true });
+    }
+
+    timeAt(x) {
+        const [from, to] = this.span;
+        return from + (x - LEFT) / (this.canvas.clientWidth - LEFT - RIGHT) * (to - from);
+    }
+
+    draw(clockOf) {
+        const { channel, span: [from, to] } = this;
+        const lanes = 3 + channel.renditions.length;
+        Object.assign(this, surface(this.canvas, AXIS + lanes * (LANE + GAP)));
+        this.x = (time) => LEFT + (time - from) / (to - from) * (this.width - LEFT - RIGHT);
+        this.axis(clockOf);
+        this.lane(0, "Places", (y) => this.places(y));
+        this.lane(1, "Live", (y) => this.segments(y, channel.live, "accent"));
+        channel.renditions.forEach((rendition, i) => this.lane(2 + i, rendition.kind === "audio" ? `${rendition.number} ${rendition.name}` : `${rendition.number} video`, (y) => this.rendition(y, rendition, i)));
+        this.lane(lanes - 1, "Plan", (y) => this.segments(y, this.plan ?? [], "good"));
+        this.choice(lanes);
+    }
+
+    axis(clockOf) {
+        const { pen, span: [from, to], width } = this;
+        const step = STEPS.find((step) => (width - LEFT) / ((to - from) / step) > 90) ?? STEPS[STEPS.length - 1];
+        pen.fillStyle = this.colour("pale");
+        pen.strokeStyle = this.colour("line");
+        pen.textBaseline = "top";
+        pen.textAlign = "center";
+        for (let time = Math.ceil(from / step) * step; time <= to; time += step) {
+            pen.fillText(clockOf(time), this.x(time), 2);
+            pen.beginPath();
+            pen.moveTo(this.x(time), AXIS - 6);
+            pen.lineTo(this.x(time), this.height);
+            pen.stroke();
+        }
+    }
+
+    lane(number, name, paint) {
+        const { pen } = this;
+        const y = AXIS + number * (LANE + GAP);
+        pen.fillStyle = this.colour("ink");
+        pen.textAlign = "left";
+        pen.textBaseline = "middle";
+        pen.fillText(name.slice(0, 12), 0, y + LANE / 2);
+        pen.save();
+        pen.beginPath();
+        pen.rect(LEFT, y - 4, this.width - LEFT - RIGHT, LANE + 8);
+        pen.clip();
+        paint(y);
+        pen.restore();
+    }
+
+    box(from, to, y, height, name, alpha = 1) {
+        const { pen } = this;
+        pen.globalAlpha = alpha;
+        pen.fillStyle = this.colour(name);
+        pen.fillRect(this.x(from), y, Math.max(1, this.x(to) - this.x(from)), height);
+        pen.globalAlpha = 1;
+    }
+
+    isSeen(from, to) {
+        return to >= this.span[0] && from <= this.span[1];
+    }
+
+    places(y) {
+        const { table, renditions: [first] } = this.channel;
+        this.box(...this.span, y + LANE / 2, 1, "line");
+        const known = new Set();
+        for (const time of table?.table[0].start ?? []) {
+            known.add(time);
+            if (this.isSeen(time, time)) this.box(time, time, y, LANE, "violet");
+        }
+        const { last } = this;
+        for (const { from, sync } of first?.units ?? []) if (sync && from < last && !known.has(from) && this.isSeen(from, from)) this.box(from, from, y, LANE, "warm");
+    }
+
+    // The last place that the table has.
+    get last() {
+        const { table } = this.channel;
+        return table ? table.table[0].start[table.places - 1] : 0;
+    }
+
+    segments(y, segments, name) {
+        const { pen } = this;
+        segments.forEach(({ from, length, mark }, i) => {
+            if (!this.isSeen(from, from + length)) return;
+            this.box(from, from + length, y, LANE, name, i % 2 ? 0.55 : 0.35);
+            this.box(from, from, y, LANE, mark ? "bad" : name);
+            if (this.x(length) - this.x(0) < 52) return;
+            pen.fillStyle = this.colour("ink");
+            pen.textAlign = "center";
+            pen.fillText(seconds(length), this.x(from + length / 2), y + LANE / 2);
+        });
+    }
+
+    rendition(y, { units, floorTime, floor, initLength, newest }, number) {
+        const { table } = this.channel;
+        const kept = table?.table[number];
+        const first = floorTime ?? kept?.start[0] ?? units[0]?.from;
+        if (first === undefined) return;
+        if (floor > initLength) this.trimmed(y, first);
+        this.box(first, Math.max(newest?.to ?? 0, first), y, LANE, "raised");
+        if (kept) this.keptUnits(y, kept, table.places, units[0]?.from ?? Infinity);
+        const isNear = this.x(1000000) - this.x(0) > 12;
+        for (const unit of units) {
+            if (!this.isSeen(unit.from, unit.to)) continue;
+            if (isNear) this.box(unit.from, unit.from, y + 4, LANE - 4, "pale");
+            if (unit.sync && isNear) this.box(unit.from, unit.from, y, LANE / 2, "accent");
+        }
+        units.forEach((unit, i) => { if (unit.gap) this.gap(units[i - 1].to, unit.from, y); });
+    }
+
+    // Of units that this page hasn't seen come: how many there are from place to place, and the gaps between.
+    keptUnits(y, { fragment, start, prevEnd, runIn, runOut }, places, seenFrom) {
+        for (let p = 0; p < places && start[p] < seenFrom; p++) {
+            if (runOut[p] > runIn[p]) this.gap(prevEnd[p], start[p], y);
+            if (p + 1 === places) break;
+            const count = fragment[p + 1] - fragment[p];
+            if (runIn[p + 1] > runOut[p]) this.box(start[p], prevEnd[p + 1], y + LANE - 5, 5, "bad", 0.7);
+            if (!this.isSeen(start[p], start[p + 1]) || (this.x(start[p + 1]) - this.x(start[p])) / count < 4) continue;
+            for (let i = 0; i < count; i++) this.box(start[p] + (start[p + 1] - start[p]) * i / count, start[p] + (start[p + 1] - start[p]) * i / count, y + 4, LANE - 4, "pale", 0.6);
+        }
+    }
+
+    gap(from, to, y) {
+        if (!this.isSeen(from, to)) return;
+        this.box(from, to, y, LANE, "page");
+        this.box(from, to, y, LANE, "bad", 0.45);
+    }
+
+    trimmed(y, until) {
+        const { pen } = this;
+        const right = this.x(until);
+        pen.strokeStyle = this.colour("line");
+        for (let x = LEFT - LANE; x < right; x += 8) {
+            pen.beginPath();
+            pen.moveTo(x, y + LANE);
+            pen.lineTo(Math.min(x + LANE, right), y + LANE - (Math.min(x + LANE, right) - x));
+            pen.stroke();
+        }
+        pen.fillStyle = this.colour("pale");
+        pen.textAlign = "right";
+        if (right - LEFT > 70) pen.fillText("trimmed", right - 8, y + LANE / 2);
+    }
+
+    choice(lanes) {
+        if (!this.chosen) return;
+        const { pen, chosen: [from, to] } = this;
+        this.box(from, to, AXIS, lanes * (LANE + GAP), "accent", 0.18);
+        pen.strokeStyle = this.colour("accent");
+        for (const time of [from, to]) {
+            pen.beginPath();
+            pen.moveTo(this.x(time), AXIS - 4);
+            pen.lineTo(this.x(time), this.height);
+            pen.stroke();
+        }
+    }
+}
