@@ -16,8 +16,9 @@ const LATE = 4; // seconds that a rendition may be behind the first before it is
 
 const $ = (id) => document.getElementById(id);
 const origin = new URLSearchParams(location.search).get("origin") ?? "1";
-const channel = new Channel(addressOf(`origin/${/^[1-9]$/.test(origin) ? origin : "1"}/`, location.href));
+const channel = new Channel(addressOf(`origin/${/^[12]$/.test(origin) ? origin : "1"}/`, location.href));
 const lanes = new Lanes($("lanes"), channel);
+const wished = new Map(); // the programmes of the jobs that this page asked for
 let shown = null; // the certificate that is drawn
 
 const say = (words) => { if ($("words").textContent !== words) $("words").textContent = words; };
@@ -57,8 +58,7 @@ function paintFigures() {
     $("log").textContent = many(status.version ?? 0);
     const days = pace > 0 ? (LOG_LIMIT - status.version) / pace / 86400 : null;
     $("logMore").textContent = `of ${many(LOG_LIMIT)} entries${days === null ? "" : `; full in ${days < 2 ? `${(24 * days).toFixed(0)} hours` : `${days.toFixed(0)} days`}`}`;
-    const kept = renditions.reduce((sum, { total, floor }) => sum + Math.max(0, total - floor), 0);
-    $("memory").textContent = renditions.length > 0 ? megabytes(kept) : "-";
+    $("memory").textContent = renditions.some(({ kept }) => kept !== null) ? megabytes(renditions.reduce((sum, { kept }) => sum + kept, 0)) : "-";
     $("memoryMore").textContent = `of ${megabytes(renditions.reduce((sum, { total }) => sum + total, 0))} that came`;
     $("places").textContent = many(status.places ?? 0);
     $("placesMore").textContent = table ? `${many(table.places)} of them kept` : "";
@@ -72,13 +72,13 @@ function paintFigures() {
 // The newest end of all renditions, and how far each is behind it.
 function paintRenditions() {
     const rows = channel.renditions.map((rendition) => {
-        const { number, kind, name, codec, newest, cameAt, gaps, total, floor, units, bandwidth } = rendition;
+        const { number, kind, name, codec, newest, cameAt, gaps, kept, units, bandwidth } = rendition;
         const behind = newest ? (channel.end - newest.to) / 1000000 : null;
         const silent = cameAt === null ? null : (performance.now() - cameAt) / 1000;
         const isLate = behind !== null && (behind > LATE || silent > 2 * channel.target);
         const length = units.length > 1 ? (newest.to - units[0].from) / 1000000 : 0;
         const rate = length > 0 ? units.reduce((sum, unit) => sum + unit.bytes, 0) * 8 / length : null;
-        const cells = [`${number} ${kind}${name ? ` ${name}` : ""}`, codec, megabytes(Math.max(0, total - floor)), newest ? clockOf(newest.to) : "", behind === null ? "" : behind < 0.05 ? "first" : `${behind.toFixed(1)} s`,
+        const cells = [`${number} ${kind}${name ? ` ${name}` : ""}`, codec, kept === null ? "" : megabytes(kept), newest ? clockOf(newest.to) : "", behind === null ? "" : behind < 0.05 ? "first" : `${behind.toFixed(1)} s`,
             silent === null ? "" : `${silent.toFixed(0)} s ago`, String(gaps), rate === null ? "" : `${(rate / 1e6).toFixed(2)} Mbit/s${bandwidth ? ` of ${(bandwidth / 1e6).toFixed(2)}` : ""}`];
         return make("tr", { className: isLate ? "late" : "" }, ...cells.map((text, i) => make(i === 0 ? "th" : "td", i === 0 ? { scope: "row", textContent: text } : { textContent: text })));
     });
@@ -86,20 +86,26 @@ function paintRenditions() {
     const late = channel.renditions.filter((_, i) => rows[i].className === "late").map(({ number }) => number);
     if (late.length > 0) say(`Rendition ${late.join(", ")} is late: no place, and so no segment, can be made without it.`);
     else if (channel.list?.ended) say("The channel has ended.");
-    else say(`All renditions go on${channel.epoch !== null ? `; the newest unit ends at ${clockOf(channel.end)}` : ""}.`);
+    else say(`All renditions go on${behindClock()}.`);
+}
+
+// How far the newest unit is from this machine's clock, where the channel's counts the time of day.
+function behindClock() {
+    const behind = channel.epoch === null ? Infinity : (Date.now() - channel.epoch - channel.end / 1000) / 1000;
+    return Math.abs(behind) > 86400 ? "" : `; the newest unit ends at ${clockOf(channel.end)}, ${Math.abs(behind).toFixed(0)} s ${behind < 0 ? "ahead of" : "behind"} this machine's clock`;
 }
 
 // Keeps the end of what came in sight for as long as nobody looks elsewhere.
 function setSpan(width) {
     const end = channel.end + 2000000;
-    lanes.width_ = width;
-    lanes.span = width === null ? [Math.min(channel.start, ...channel.renditions.map(({ floorTime }) => floorTime ?? Infinity)) - (end - channel.start) / 40, end] : [end - width, end];
+    lanes.shownWidth = width;
+    lanes.span = width === null ? [channel.start - (end - channel.start) / 30, end] : [end - width, end];
     lanes.follows = true;
 }
 
 function paint() {
     if (channel.renditions.length === 0 || channel.end === 0) return;
-    if (lanes.follows) setSpan(lanes.width_ ?? null);
+    if (lanes.follows) setSpan(lanes.shownWidth);
     lanes.draw(clockOf);
     paintFigures();
     paintRenditions();
@@ -175,6 +181,7 @@ async function cut(event) {
         if (wishes.from < 0 || wishes.to < 0) throw new Error("The programme begins before the channel's clock.");
         const charge = Math.round($("charge").value * 1000000);
         const job = await channel.cut(charge > 0 ? { ...wishes, charge } : wishes);
+        wished.set(job, `${clockOf(wishes.from)} to ${clockOf(wishes.to)}`);
         $("verdict").textContent = `Job ${job} is planned ..`;
         const state = await channel.finished(job);
         await showJobs();
@@ -210,6 +217,10 @@ async function showCertificate(job) {
         lanes.plan = good ? segmentsOf(certificate) : null;
         const { start, prevEnd } = certificate?.table[0] ?? {};
         if (start) lanes.chosen = [start[0], prevEnd[certificate.places - 1]];
+        if (start && !wished.has(job)) {
+            wished.set(job, lanes.chosen.map(clockOf).join(" to "));
+            await showJobs();
+        }
         paint();
     } catch (fault) {
         $("verdict").textContent = `Job ${job}'s certificate: ${fault.message}`;
@@ -227,8 +238,9 @@ async function showJobs() {
         const files = isCut ? ["master.m3u8", ...renditions.flatMap((rendition) => [`${rendition.number}.m3u8`, `${rendition.number}.mp4`]), "certificate.txt"] : state.startsWith("none") ? ["certificate.txt"] : [];
         const button = (text, act) => make("button", { type: "button", textContent: text, onclick: act, ariaLabel: `${text} job ${number}` });
         const watch = make("a", { href: `watch.html?list=${encodeURIComponent(address)}`, target: "_blank", className: "button", textContent: "Play", ariaLabel: `Play job ${number}` });
-        return make("tr", {}, make("th", { scope: "row", textContent: number }), make("td", { textContent: state }), make("td", {}, ...(files.length > 0 ? [button("Certificate", () => showCertificate(number))] : [])),
-            make("td", { className: "files" }, ...files.map(file)), make("td", { className: "row" }, ...(isCut ? [watch] : []), button("Delete", () => remove(number))));
+        return make("tr", {}, make("th", { scope: "row", textContent: number }), make("td", { textContent: state }), make("td", { textContent: wished.get(number) ?? "" }),
+            make("td", { className: "files" }, ...files.map(file)),
+            make("td", {}, make("div", { className: "row" }, ...(isCut ? [watch] : []), ...(files.length > 0 ? [button("Certificate", () => showCertificate(number))] : []), button("Delete", () => remove(number)))));
     }));
     if (jobs.length === 0) $("jobRows").append(make("tr", {}, make("td", { colSpan: 5, className: "pale", textContent: "No job stands." })));
 }

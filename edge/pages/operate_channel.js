@@ -5,16 +5,41 @@
 
 import { read } from "./certificate.js";
 import { readInit, readUnit } from "./mp4.js";
-import { ReplyFault, isMaster, loadText, readMaster, readMedia } from "./playlist.js";
+import { ReplyFault, isMaster, readMaster, readMedia } from "./playlist.js";
 
 const HEAD = 8192; // bytes that hold the boxes before a large unit's samples; small units are read many at a time
 const MANY = 65536;
 const KEPT_UNITS = 6000;
+const FIRST_SEGMENTS = 12; // of the live list, whose units are read when the page opens
 const PROBES = 96;
+const SILENCE = 15000; // milliseconds after which a request is given up
+const EVERY = 70; // milliseconds between two requests, since an edge lets operators ask so often,
+const AT_ONCE = 10; // and so many beyond that
 
-/// Asks for a range of a recording: its bytes with the recording's length, or what stands in their place.
-export async function ask(url, first, last) {
-    const reply = await fetch(url, { headers: { Range: `bytes=${first}-${last}` }, cache: "no-store" });
+// Each request waits for its turn.
+let due = 0;
+async function asked(path, options = {}) {
+    const now = performance.now();
+    due = Math.max(due, now - AT_ONCE * EVERY) + EVERY;
+    if (due > now) await new Promise((done) => { setTimeout(done, due - now); });
+    const controller = new AbortController();
+    const timer = setTimeout(() => controller.abort(new Error("nothing came")), SILENCE);
+    try {
+        return await fetch(path, { cache: "no-store", signal: controller.signal, ...options });
+    } finally {
+        clearTimeout(timer);
+    }
+}
+
+async function textOf(path, limit = 16777216) {
+    const reply = await asked(path);
+    if (reply.status !== 200 || Number(reply.headers.get("Content-Length")) > limit) throw new ReplyFault(reply.status);
+    return reply.text();
+}
+
+// Asks for a range of a recording: its bytes with the recording's length, or what stands in their place.
+async function ask(url, first, last) {
+    const reply = await asked(url, { headers: { Range: `bytes=${first}-${last}` } });
     const total = Number(/\/(\d+)$/.exec(reply.headers.get("Content-Range") ?? "")?.[1] ?? NaN);
     if (reply.status === 206) return { bytes: new Uint8Array(await reply.arrayBuffer()), total };
     await reply.body?.cancel();
@@ -26,20 +51,20 @@ export async function ask(url, first, last) {
 class Rendition {
     constructor(base, number, said) {
         Object.assign(this, { base, number, ...said, url: `${base}media/${number}.mp4` });
-        Object.assign(this, { init: null, initLength: 0, floor: 0, floorTime: null, next: null, total: 0, units: [], cameAt: null });
+        Object.assign(this, { init: null, initLength: 0, floor: null, kept: null, next: null, total: 0, units: [], cameAt: null });
     }
 
     get newest() { return this.units[this.units.length - 1]; }
     get gaps() { return this.units.filter((unit) => unit.gap).length; }
     get codec() { return this.init?.tracks.map((track) => track.codec).join(", ") ?? ""; }
 
-    // The live list gives the init section's length and where its first segment begins.
+    // The live list gives the init section's length and where its segments begin.
     async look(list) {
         if (this.init || list.segments.length === 0) return;
-        const [{ map, range }] = list.segments;
+        const { map } = list.segments[0];
         this.initLength = map.range[1] + 1;
         this.init = readInit((await ask(this.url, 0, map.range[1])).bytes);
-        this.next = this.floor = range[0];
+        [this.next] = list.segments.slice(-FIRST_SEGMENTS)[0].range;
     }
 
     // Reads the heads of the units that have come.
@@ -68,28 +93,34 @@ class Rendition {
         this.cameAt = performance.now();
     }
 
-    // Where what is kept begins: by halves between what is gone (410) and what is there.
-    async findFloor() {
-        if (!this.init || this.total === 0) return;
-        const isThere = async (at) => {
-            try {
-                return (await ask(this.url, at, at)).bytes.length > 0;
-            } catch (fault) {
-                if (fault.status === 410) return false;
-                throw fault;
+    async isThere(offset) {
+        try {
+            return (await ask(this.url, offset, offset)).bytes.length > 0;
+        } catch (fault) {
+            if (fault.status === 410) return false;
+            throw fault;
+        }
+    }
+
+    // When the first unit that is kept begins. Where it lies: first in growing steps, then by halves between what is gone (410) and
+    // what is there.
+    async firstKept() {
+        let low = this.floor ?? this.initLength;
+        if (!await this.isThere(low)) {
+            let high = this.next;
+            for (let step = MANY; low + step < high; step *= 4) {
+                if (await this.isThere(low + step)) high = low + step;
+                else low += step;
             }
-        };
-        let [low, high] = [this.floorTime === null ? this.initLength : this.floor, this.next];
-        if (low < high && !await isThere(low)) {
             while (high - low > 1) {
                 const middle = Math.floor((low + high) / 2);
-                if (await isThere(middle)) high = middle;
+                if (await this.isThere(middle)) high = middle;
                 else low = middle;
             }
             low = high;
-        } else if (this.floorTime !== null) return;
+        }
         this.floor = low;
-        this.floorTime = readUnit((await ask(this.url, low, low + MANY - 1)).bytes, this.init)?.from ?? null;
+        return readUnit((await ask(this.url, low, low + MANY - 1)).bytes, this.init)?.from ?? null;
     }
 }
 
@@ -100,7 +131,7 @@ export class Channel {
     }
 
     async lookAtStatus() {
-        const text = await loadText(`${this.base}status`, { cache: "no-store", limit: 4096 });
+        const text = await textOf(`${this.base}status`, 4096);
         const status = Object.fromEntries(text.trim().split("\n").map((line) => line.split(" ")).map(([name, number]) => [name, Number(number)]));
         this.before ??= { version: status.version, at: performance.now() };
         this.status = status;
@@ -114,16 +145,16 @@ export class Channel {
 
     async lookAtLists() {
         if (this.renditions.length === 0) await this.findRenditions();
-        const lists = await Promise.all(this.renditions.map(async ({ number }) => readMedia(await loadText(`${this.base}live/${number}.m3u8`, { cache: "no-store" }), this.base)));
-        await Promise.all(this.renditions.map((rendition, i) => rendition.look(lists[i])));
+        const listOf = async ({ number }) => readMedia(await textOf(`${this.base}live/${number}.m3u8`), this.base);
+        for (const rendition of this.renditions) if (!rendition.init) await rendition.look(await listOf(rendition));
         await Promise.all(this.renditions.map((rendition) => rendition.follow()));
-        [this.list] = lists;
+        this.list = await listOf(this.renditions[0]);
         this.target = this.list.target;
         this.place();
     }
 
     async findRenditions() {
-        const text = await loadText(`${this.base}live/master.m3u8`, { cache: "no-store" });
+        const text = await textOf(`${this.base}live/master.m3u8`);
         if (!isMaster(text)) return;
         const { variants, audios } = readMaster(text, this.base);
         const numberOf = ({ url }) => Number(/(\d+)\.m3u8$/.exec(url)?.[1] ?? NaN);
@@ -147,12 +178,13 @@ export class Channel {
 
     // All places that are kept, by the certificate of a job that is removed at once.
     async survey() {
-        for (const rendition of this.renditions) await rendition.findFloor();
         const last = this.live[this.live.length - 1];
         if (!last) return;
         const to = last.from + last.length;
-        const begin = Math.max(...this.renditions.map(({ floorTime }) => floorTime ?? 0), this.renditions[0].floorTime ?? 0);
-        const starts = [this.renditions[0].floorTime, begin, begin + this.target * 1000000, this.live[0].from].filter((time) => time !== null && time < to);
+        const kept = await this.renditions[0].firstKept();
+        const newest = Math.max(...this.renditions.map(({ units: [first] }) => first?.from ?? 0));
+        // what is kept begins with a place once something was trimmed; before that, a little later
+        const starts = [kept, kept + this.target * 1000000, newest, this.live[0].from].filter((time) => time !== null && time < to);
         for (let i = 0; i < starts.length; i++) {
             const { state, certificate } = await this.tableFrom(starts[i], to);
             if (certificate) this.table = certificate;
@@ -166,16 +198,21 @@ export class Channel {
         const job = await this.cut({ from, to });
         try {
             const state = await this.finished(job);
-            const certificate = /^(cut|none)/.test(state) ? read(new TextEncoder().encode(await loadText(`${this.base}job/${job}/certificate.txt`, { cache: "no-store", limit: 67108864 }))) : null;
-            return { state, certificate };
+            if (!/^(cut|none)/.test(state)) return { state, certificate: null };
+            if (state.startsWith("cut")) for (const rendition of this.renditions) rendition.kept = await this.lengthOf(job, rendition);
+            return { state, certificate: read(new TextEncoder().encode(await textOf(`${this.base}job/${job}/certificate.txt`, 67108864))) };
         } finally {
             await this.remove(job);
         }
     }
 
+    async lengthOf(job, { number }) {
+        return Number((await asked(`${this.base}job/${job}/${number}.mp4`, { method: "HEAD" })).headers.get("Content-Length"));
+    }
+
     // Asks for a catch-up recording; its number.
     async cut(wishes) {
-        const reply = await fetch(`${this.base}catchup?${new URLSearchParams(wishes)}`, { method: "POST" });
+        const reply = await asked(`${this.base}catchup?${new URLSearchParams(wishes)}`, { method: "POST" });
         const said = await reply.text();
         if (reply.status !== 202) throw new Error(said.trim() || `status ${reply.status}`);
         this.newestJob = Number(/^job (\d+)/.exec(said)[1]);
@@ -183,14 +220,14 @@ export class Channel {
     }
 
     async job(number) {
-        const reply = await fetch(`${this.base}job/${number}`, { cache: "no-store" });
+        const reply = await asked(`${this.base}job/${number}`);
         const state = (await reply.text()).trim();
         const link = /<([^>]+)>;\s*rel="alternate"/.exec(reply.headers.get("Link") ?? "");
         return reply.status === 200 ? { number, state, address: link?.[1] ?? `${this.base}job/${number}/master.m3u8` } : null;
     }
 
     async finished(number) {
-        for (let pause = 30; ; pause = Math.min(1000, pause * 2)) {
+        for (let pause = 50; ; pause = Math.min(1000, pause * 2)) {
             const found = await this.job(number);
             if (!found || !/^(waiting|running)/.test(found.state)) return found?.state ?? "refused NotFound";
             await new Promise((done) => { setTimeout(done, pause); });
@@ -198,7 +235,7 @@ export class Channel {
     }
 
     remove(number) {
-        return fetch(`${this.base}job/${number}`, { method: "DELETE", keepalive: true });
+        return asked(`${this.base}job/${number}`, { method: "DELETE", keepalive: true });
     }
 
     // The jobs that stand, from the newest number that is known down.

@@ -14,7 +14,7 @@ const STEPS = [1, 2, 5, 10, 15, 30, 60, 120, 300, 600, 900, 1800, 3600, 7200, 14
 /// A picture of a channel on a canvas: what it shows, what is chosen on it, what is drawn.
 export class Lanes {
     constructor(canvas, channel) {
-        Object.assign(this, { canvas, channel, span: [0, 1], chosen: null, plan: null, follows: true });
+        Object.assign(this, { canvas, channel, span: [0, 1], shownWidth: null, chosen: null, plan: null, follows: true });
     }
 
     timeAt(x) {
@@ -29,9 +29,9 @@ export class Lanes {
         this.x = (time) => LEFT + (time - from) / (to - from) * (this.width - LEFT - RIGHT);
         this.axis(clockOf);
         this.lane(0, "Places", (y) => this.places(y));
-        this.lane(1, "Live", (y) => this.segments(y, channel.live, "accent"));
-        channel.renditions.forEach((rendition, i) => this.lane(2 + i, rendition.kind === "audio" ? `${rendition.number} ${rendition.name}` : `${rendition.number} video`, (y) => this.rendition(y, rendition, i)));
-        this.lane(lanes - 1, "Plan", (y) => this.segments(y, this.plan ?? [], "good"));
+        this.lane(1, "Plan", (y) => this.segments(y, this.plan ?? [], "good"));
+        this.lane(2, "Live", (y) => this.segments(y, channel.live, "accent"));
+        channel.renditions.forEach((rendition, i) => this.lane(3 + i, rendition.kind === "audio" ? `${rendition.number} ${rendition.name}` : `${rendition.number} video`, (y) => this.rendition(y, rendition, i)));
         this.choice(lanes);
     }
 
@@ -102,17 +102,17 @@ export class Lanes {
             if (!this.isSeen(from, from + length)) return;
             this.box(from, from + length, y, LANE, name, i % 2 ? 0.55 : 0.35);
             this.box(from, from, y, LANE, mark ? "bad" : name);
-            if (this.x(length) - this.x(0) < 52) return;
+            const room = this.x(length) - this.x(0);
             pen.fillStyle = this.colour("ink");
             pen.textAlign = "center";
-            pen.fillText(seconds(length), this.x(from + length / 2), y + LANE / 2);
+            if (room > 30) pen.fillText(room > 56 ? seconds(length) : (length / 1000000).toFixed(1), this.x(from + length / 2), y + LANE / 2);
         });
     }
 
-    rendition(y, { units, floorTime, floor, initLength, newest }, number) {
-        const { table } = this.channel;
+    rendition(y, { units, newest }, number) {
+        const { table, renditions: [{ floor, initLength }] } = this.channel;
         const kept = table?.table[number];
-        const first = floorTime ?? kept?.start[0] ?? units[0]?.from;
+        const first = kept?.start[0] ?? units[0]?.from;
         if (first === undefined) return;
         if (floor > initLength) this.trimmed(y, first);
         this.box(first, Math.max(newest?.to ?? 0, first), y, LANE, "raised");
