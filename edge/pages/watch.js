@@ -7,6 +7,7 @@
 import { Line, Source } from "./line.js";
 import { readInit, readUnit } from "./mp4.js";
 import { ListFault, ReplyFault, addressOf, isMaster, load, loadText, readMaster } from "./playlist.js";
+import { CERTIFICATE_LIMIT, checkAside, drawPrices, wordsOf } from "./prices.js";
 
 const AHEAD = 30; // seconds of media that are loaded ahead of what is seen,
 const BEHIND = 30; // and kept behind it
@@ -399,6 +400,7 @@ function paint() {
     const behind = line.end - player.at;
     const isAtLive = player.isLive && player.at > line.live - 2;
     $("live").hidden = !player.isLive;
+    $("proof").hidden = player.isLive || !begun;
     $("live").classList.toggle("now", isAtLive);
     $("live").setAttribute("aria-label", isAtLive ? "Live" : "Go to live");
     $("where").textContent = !begun ? "" : player.isLive ? (isAtLive ? "" : `-${spell(behind)}`) : `${spell(player.at)} / ${spell(line.end)}`;
@@ -484,6 +486,20 @@ function listen() {
     video.addEventListener("click", actions.play);
 }
 
+// A recording's certificate, which stands beside its list: checked here, when somebody wants to know.
+async function prove(url) {
+    if (!$("proof").open) return;
+    $("verdict").textContent = "Its certificate is checked ..";
+    try {
+        const answer = await checkAside(await load(new URL("certificate.txt", url).href, { limit: CERTIFICATE_LIMIT }));
+        $("verdict").textContent = wordsOf(answer);
+        $("prices").hidden = !answer.certificate;
+        if (answer.certificate) drawPrices($("prices"), answer.certificate);
+    } catch {
+        $("verdict").textContent = "There is no certificate beside it.";
+    }
+}
+
 // The browser's own player, with its own controls.
 function playNatively(url) {
     $("bar").hidden = true;
@@ -530,6 +546,7 @@ function main() {
         if (!player.begun || restarts++ === 5) player.fail(video.error);
         else start(url, player.at + 2);
     });
+    $("proof").addEventListener("toggle", () => prove(url));
     start(url, 0);
     setInterval(paint, 250);
 }
