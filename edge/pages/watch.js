@@ -398,7 +398,7 @@ function paint() {
     const date = begun ? line.dateAt(player.at) : null;
     $("time").textContent = date === null ? "" : clockOf(date);
     const behind = line.end - player.at;
-    const isAtLive = player.isLive && player.at > line.live - 2;
+    const isAtLive = begun && player.isLive && player.at > line.live - 2;
     $("live").hidden = !player.isLive;
     $("proof").hidden = player.isLive || !begun;
     $("live").classList.toggle("now", isAtLive);
