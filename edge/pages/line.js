@@ -7,6 +7,7 @@ import { loadText, readMedia } from "./playlist.js";
 /// RFC 8216 6.3.3: a player begins no nearer to the end of a live list than so many targets.
 const TARGETS_FROM_LIVE = 3;
 const KEPT_ENTRIES = 300; // of the line before what the list still has
+const FAR = 100000; // segments: who is that far ahead wasn't away, the channel is another
 
 /// A media list, loaded anew when it is asked for and no fresher than it may be.
 export class Source {
@@ -90,9 +91,10 @@ export class Line {
             for (const segment of segments) this.add(segment, this.last && segment.mark);
             return "";
         }
-        const found = !common && segments[0].sequence > this.last.sequence ? "lost" : "anew";
+        const ahead = segments[0].sequence - this.last.sequence;
+        const found = !common && ahead > 0 && ahead < FAR ? "lost" : "anew";
         // one list that is out of its time may be an edge's old one
-        if (found === "anew" && !this.doubted) {
+        if (ahead <= 0 && !this.doubted) {
             this.doubted = true;
             return "";
         }

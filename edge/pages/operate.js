@@ -286,6 +286,7 @@ function main() {
             if ($("jobRows").children.length === 0) await showJobs();
             $("timeHelp").textContent = channel.epoch === null ? "In seconds of the channel's clock: serve has no --epoch." : `In this browser's time, ${Intl.DateTimeFormat().resolvedOptions().timeZone}. What is kept begins at ${clockOf(channel.start)}.`;
             $("preferred").max = channel.target;
+            showWishes();
         }
         paint();
     });
