@@ -4,3 +4,4 @@ mod Goes
 mod Compared
 mod Moved
 mod Upkeeps
+mod KeptPlaces

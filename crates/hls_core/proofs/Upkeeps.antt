@@ -1,15 +1,11 @@
 -- The upkeep of a state: which event it is, and that nothing but a full log or want of memory refuses it.
-use Rattle.std.proofs.Common.{◌≡◌, ℕ, zero, suc, ◌+◌, ◌-◌, ◌<◌, ◌≤◌, true, false, List, [], ◌∷◌, length, map, get_or, Option, None, Some, leb, ltb, arith, refl, sym, ap, subst, inl, inr, ◌∙◌}
+use Rattle.std.proofs.Common.{◌≡◌, ℕ, ◌+◌, ◌-◌, ◌<◌, ◌≤◌, true, false, length, get_or, Option, None, Some, leb, ltb, arith, refl, sym, ap, subst, inl, inr, ◌∙◌}
 use Rattle.std.specs.Prelude.{slice_get, slice_index, IfSome, IfNone}
 use Rattle.std.proofs.lemmas.Bool.{cases_lt, and_parts, and_from, leb-true, le-leb, lt-leb, le-ltb, cond-false}
-use Rattle.std.proofs.lemmas.List.{length-map}
-use Rattle.std.proofs.lemmas.Option.{get_or_from_slice_get}
-use Rattle.hls_check_laws.specs.declared.spot.Spot.{Spot}
 use Rattle.hls_check_laws.specs.Tables.{spot_in}
 use Rattle.hls_places_laws.specs.declared.place.Place.{Place}
-use Rattle.hls_places_laws.specs.Order.{no_place, time_of, AreOrdered}
-use Rattle.hls_places_laws.specs.Programmes.{is_kept_above, is_kept}
-use Rattle.hls_places_laws.proofs.Ordered.{places-ordered}
+use Rattle.hls_places_laws.specs.Order.{time_of}
+use Rattle.hls_places_laws.specs.Programmes.{is_kept}
 use Rattle.hls_live_laws.specs.Live.{front_of, has_ended}
 use Rattle.hls_live_laws.specs.Upkeep.{IsMostSlide, Channel, is_old, IsCut, IsSlide, IsTrim, Idle, Trims}
 use Rattle.hls_live_laws.proofs.Ends.{front-stands}
@@ -22,81 +18,15 @@ use Rattle.hls_core_laws.specs.IsState.{IsState}
 use Rattle.hls_core_laws.specs.Places.{sources, places, floors, floor_of}
 use Rattle.hls_core_laws.specs.Line.{aim_of, line}
 use Rattle.hls_core_laws.specs.Outcome.{logged_by, slide, trim, trim_limit, outcome_of}
-use Rattle.hls_core_laws.proofs.Lists.{at_below, at_some, at_map, at_or}
+use Rattle.hls_core_laws.proofs.Lists.{at_some, at_map, at_or}
 use Rattle.hls_core_laws.proofs.Lanes.{sources_count}
-use Rattle.hls_core_laws.proofs.Sources.{states_are_timed}
+use Rattle.hls_core_laws.proofs.KeptPlaces.{ordered, floors-count}
 use Rattle.hls_core.specs.Upkeeps.{watched, IsUpkeepOf}
-use Rattle.hls_core.specs.Cuts.{TimesRise, IsCountBy, IsOldUntil, NoneOld, IsCutOf, NoCut, ReachedBefore, KeptBefore, IsFirstBelow}
+use Rattle.hls_core.specs.Cuts.{IsOldUntil, NoneOld, IsCutOf, NoCut, ReachedBefore, IsFirstBelow}
+use Rattle.hls_core.specs.KeptPlaces.{IsLastKeptBy, NoKeptBy}
 
 some-is : {A : Type 0} (x y : A) → Some x ≡ Some y → x ≡ y
 some-is x y is = cc
-
--- the places of a state are in order, each with a spot a rendition
-pub floors-count : (s : State) → length (floors s) ≡ length (sources s)
-floors-count s = length-map (channel s).lanes floor_of ∙ sym (sources_count s)
-
-ordered : (s : State) → IsState s → AreOrdered (length (sources s)) (places s)
-ordered s state = places-ordered (sources s) (states_are_timed s state)
-
-place-is : (ps : List Place) (k : ℕ) (p : Place) → slice_get ps k ≡ Some p → get_or ps k no_place ≡ p
-place-is ps k p at = get_or_from_slice_get ps k p no_place at
-
-pub times-rise : (s : State) → IsState s → TimesRise (places s)
-times-rise s state i j p q before at also =
-    let pair = (ordered s state).pairs i j no_place before (at_below (places s) j q also) in
-    omega (arith, pair.after.rises, ap time_of (place-is (places s) i p at), ap time_of (place-is (places s) j q also))
-
-pub spots-count : (s : State) → IsState s → (k : ℕ) (p : Place) → slice_get (places s) k ≡ Some p → length p.spots ≡ length (floors s)
-spots-count s state k p at =
-    let here = (ordered s state).each k no_place (at_below (places s) k p at) in
-    sym (ap (λ (x : Place). length x.spots) (place-is (places s) k p at)) ∙ (here.place.count ∙ sym (floors-count s))
-
--- in order of time no fragment falls
-fragments-keep : (s : State) → IsState s → (i j : ℕ) (p q : Place) → i ≤ j → slice_get (places s) i ≡ Some p → slice_get (places s) j ≡ Some q →
-    (r : ℕ) → r < length (floors s) → (spot_in p.spots r).fragment ≤ (spot_in q.spots r).fragment
-fragments-keep s state i j p q before at also r within =
-    elim (cases_lt i j) [
-      | inl less ↦
-          let pair = (ordered s state).pairs i j no_place less (at_below (places s) j q also) in
-          let keeps = pair.after.keeps r (omega (arith, floors-count s, within)) in
-          omega (
-            arith,
-            keeps,
-            ap (λ (x : Place). (spot_in x.spots r).fragment) (place-is (places s) i p at),
-            ap (λ (x : Place). (spot_in x.spots r).fragment) (place-is (places s) j q also),
-          )
-      | inr more ↦
-          let number : i ≡ j = omega arith in
-          let same : p ≡ q = some-is p q (sym at ∙ (ap (slice_get (places s)) number ∙ also)) in
-          omega (arith, ap (λ (x : Place). (spot_in x.spots r).fragment) same)
-    ]
-
--- kept, by each rendition
-kept-parts : (above : List ℕ) (spots : List Spot) → length spots ≡ length above → is_kept_above above spots ≡ true → (k : ℕ) → k < length above →
-    get_or above k 0 ≤ (spot_in spots k).fragment
-kept-parts [] spots count is k h = absurd (omega arith)
-kept-parts (floor ∷ above) [] count is k h = absurd (omega (arith, count))
-kept-parts (floor ∷ above) (spot ∷ spots) count is zero h = leb-true floor spot.fragment (and_parts (leb floor spot.fragment) (is_kept_above above spots) is).0
-kept-parts (floor ∷ above) (spot ∷ spots) count is (suc k) h =
-    kept-parts above spots (omega (arith, count)) (and_parts (leb floor spot.fragment) (is_kept_above above spots) is).1 k (omega arith)
-
-kept-of : (above : List ℕ) (spots : List Spot) → length spots ≡ length above → ((k : ℕ) → k < length above → get_or above k 0 ≤ (spot_in spots k).fragment) →
-    is_kept_above above spots ≡ true
-kept-of [] spots count each = refl
-kept-of (floor ∷ above) [] count each = absurd (omega (arith, count))
-kept-of (floor ∷ above) (spot ∷ spots) count each =
-    and_from (leb floor spot.fragment) (is_kept_above above spots) (le-leb floor spot.fragment (each 0 (omega arith)))
-    (kept-of above spots (omega (arith, count)) (λ k h. each (suc k) (omega arith)))
-
-pub kept-all : (s : State) (p : Place) (r : ℕ) → length p.spots ≡ length (floors s) → length (floors s) ≤ r → KeptBefore s p r → is_kept (floors s) p ≡ true
-kept-all s p r count past before = kept-of (floors s) p.spots count (λ k h. before k (omega arith))
-
-pub kept-not : (s : State) (p : Place) (r : ℕ) → length p.spots ≡ length (floors s) → r < length (floors s) →
-    (spot_in p.spots r).fragment < slice_index (floors s) r → is_kept (floors s) p ≡ false
-kept-not s p r count within less = elim (is_kept (floors s) p) as (λ b. is_kept (floors s) p ≡ b → b ≡ false) [
-  | true ↦ λ is. absurd (omega (arith, less, kept-parts (floors s) p.spots count is r within))
-  | false ↦ λ is. refl
-] refl
 
 -- old, by times
 old-parts : (keep : ℕ) (front last p : Place) → is_old keep front last p ≡ true → (time_of p ≤ time_of front) × (time_of p + keep ≤ time_of last)
@@ -137,56 +67,37 @@ none-long s keep end there short front last p is last_is old =
     absurd (omega (arith, short, ap time_of same, (old-parts keep front last p old).1))
 
 -- the cut
-cut-late : (s : State) (keep time count window : ℕ) (cut : Place) → IsOldUntil s keep time → IsCountBy (places s) time count → (is : IsCut (watched s window keep) cut) →
-    is.number < count
-cut-late s keep time count window cut until by is =
+old-in : (s : State) (keep time window : ℕ) (cut : Place) (until : IsOldUntil s keep time) (is : IsCut (watched s window keep) cut) → is_old keep until.front until.last cut ≡ true
+old-in s keep time window cut until is =
     let front : is.front ≡ until.front = some-is is.front until.front (sym is.front_is ∙ until.front_is) in
     let last : is.last ≡ until.last = some-is is.last until.last (sym is.last_is ∙ until.last_is) in
-    let old : is_old keep until.front until.last cut ≡ true =
     subst (λ (l : Place). is_old keep until.front l cut ≡ true) last
-    (subst (λ (f : Place). is_old keep f is.last cut ≡ true) front is.old) in
-    elim (cases_lt is.number count) [
-      | inl less ↦ less
-      | inr more ↦ absurd (omega (arith, until.most cut old, by.late is.number cut more is.there))
-    ]
+    (subst (λ (f : Place). is_old keep f is.last cut ≡ true) front is.old)
 
 pub no-cut-old : (s : State) (keep : ℕ) → NoneOld s keep → NoCut s keep
 no-cut-old s keep none window cut is = none is.front is.last cut is.front_is is.last_is is.old
 
-pub no-cut-count : (s : State) (keep time : ℕ) → IsOldUntil s keep time → IsCountBy (places s) time 0 → NoCut s keep
-no-cut-count s keep time until by window cut is = absurd (omega (arith, cut-late s keep time 0 window cut until by is))
+pub no-cut : (s : State) (keep time : ℕ) → IsOldUntil s keep time → NoKeptBy s time → NoCut s keep
+no-cut s keep time until none window cut is =
+    absurd (omega (arith, until.most cut (old-in s keep time window cut until is), none is.number cut is.there is.kept))
 
-pub no-cut-kept : (s : State) → IsState s → (keep time count : ℕ) (p : Place) → IsOldUntil s keep time → IsCountBy (places s) time count →
-    slice_get (places s) (count - 1) ≡ Some p → is_kept (floors s) p ≡ false → NoCut s keep
-no-cut-kept s state keep time count p until by at trimmed window cut is =
-    let late = cut-late s keep time count window cut until by is in
-    let kept : is_kept (floors s) p ≡ true =
-    kept-of (floors s) p.spots (spots-count s state (count - 1) p at) (λ k h.
-    omega (
-      arith,
-      kept-parts (floors s) cut.spots (spots-count s state is.number cut is.there) is.kept k h,
-      fragments-keep s state is.number (count - 1) cut p (omega (arith, late)) is.there at k h,
-    )) in
-    let never : false ≡ true = sym trimmed ∙ kept in
-    absurd (cc)
-
-pub cut-is : (s : State) (keep time count : ℕ) (p : Place) → IsOldUntil s keep time → IsCountBy (places s) time count → 0 < count →
-    slice_get (places s) (count - 1) ≡ Some p → is_kept (floors s) p ≡ true → IsCutOf s keep p
-cut-is s keep time count p until by some at kept window =
-    let early : time_of p ≤ time = by.early (count - 1) p (omega arith) at in
+pub cut-is : (s : State) (keep time n : ℕ) (p : Place) → IsOldUntil s keep time → IsLastKeptBy s time n → slice_get (places s) n ≡ Some p → IsCutOf s keep p
+cut-is s keep time n p until last at window =
+    let early : time_of p ≤ time = last.by.early n p (omega arith) at in
+    let same : last.place ≡ p = some-is last.place p (sym last.there ∙ at) in
     record {
       front = until.front;
       front_is = until.front_is;
       last = until.last;
       last_is = until.last_is;
-      number = count - 1;
+      number = n;
       there = at;
-      kept = kept;
+      kept = subst (λ (x : Place). is_kept (floors s) x ≡ true) same last.kept;
       old = old-of keep until.front until.last p (omega (arith, early, until.before_front)) (omega (arith, early, until.before_last));
       latest = λ k q q-at q-kept old.
-          elim (cases_lt k count) [
-            | inl less ↦ omega (arith, less)
-            | inr more ↦ absurd (omega (arith, until.most q old, by.late k q more q-at))
+          elim (cases_lt n k) [
+            | inl later ↦ absurd (omega (arith, until.most q old, last.by.late k q (omega (arith, later)) q-at))
+            | inr earlier ↦ omega (arith, earlier)
           ];
     }
 
@@ -284,24 +195,6 @@ trim-taken s state window keep r floor is =
     let old : get_or (floors s) r 0 ≡ l.0.floor = at_or (floors s) r 0 l.0.floor (at_map floor_of (channel s).lanes r l.0 l.1) in
     trim-passed s r floor l.0 (front_of (line s)) raises.front l.1 raises.front_is (omega (arith, raises.rises, old)) raises.stays
 
--- the loops
-none-floor : (lanes : List Lane) (r : ℕ) → slice_get lanes r ≡ None → get_or (map floor_of lanes) r 0 ≡ 0
-none-floor [] r is = refl
-none-floor (l ∷ lanes) zero is = absurd (cc)
-none-floor (l ∷ lanes) (suc r) is = none-floor lanes r is
-
-pub floor-none : (s : State) (r : ℕ) → slice_get (channel s).lanes r ≡ None → 0 ≡ slice_index (floors s) r
-floor-none s r is = sym (none-floor (channel s).lanes r is)
-
-pub kept-more : (s : State) (p : Place) (r : ℕ) → KeptBefore s p r → slice_index (floors s) r ≤ (spot_in p.spots r).fragment → KeptBefore s p (r + 1)
-kept-more s p r before here k less =
-    elim (cases_lt k r) [
-      | inl earlier ↦ before k earlier
-      | inr later ↦
-          let same : k ≡ r = omega arith in
-          rw same here
-    ]
-
 pub reached-more : (s : State) (p : Place) (r : ℕ) → ReachedBefore s p r → (spot_in p.spots r).fragment ≤ slice_index (floors s) r → ReachedBefore s p (r + 1)
 reached-more s p r before here k less =
     elim (cases_lt k r) [
@@ -310,32 +203,6 @@ reached-more s p r before here k less =
           let same : k ≡ r = omega arith in
           rw same here
     ]
-
--- on either side of the place in the middle
-pub early-more : (ps : List Place) (middle time : ℕ) (here : Place) → TimesRise ps → slice_get ps middle ≡ Some here → time_of here ≤ time →
-    (k : ℕ) (p : Place) → k < middle + 1 → slice_get ps k ≡ Some p → time_of p ≤ time
-early-more ps middle time here rise there by k p less at =
-    elim (cases_lt k middle) [
-      | inl earlier ↦ omega (arith, rise k middle p here earlier at there, by)
-      | inr later ↦
-          let number : k ≡ middle = omega arith in
-          let same : p ≡ here = some-is p here (sym at ∙ (ap (slice_get ps) number ∙ there)) in
-          omega (arith, ap time_of same, by)
-    ]
-
-pub late-more : (ps : List Place) (middle time : ℕ) (here : Place) → TimesRise ps → slice_get ps middle ≡ Some here → time < time_of here →
-    (k : ℕ) (p : Place) → middle ≤ k → slice_get ps k ≡ Some p → time < time_of p
-late-more ps middle time here rise there past k p more at =
-    elim (cases_lt middle k) [
-      | inl later ↦ omega (arith, rise middle k here p later there at, past)
-      | inr same_number ↦
-          let number : k ≡ middle = omega arith in
-          let same : p ≡ here = some-is p here (sym at ∙ (ap (slice_get ps) number ∙ there)) in
-          omega (arith, ap time_of same, past)
-    ]
-
-pub none-late : (ps : List Place) (time k : ℕ) (p : Place) → length ps ≤ k → slice_get ps k ≡ Some p → time < time_of p
-none-late ps time k p past at = absurd (omega (arith, at_below ps k p at))
 
 -- what a search for a rendition to be trimmed comes to
 pub trimmed-by : (s : State) (window keep : ℕ) (cut : Place) (found : Option Event) → has_ended (line s) ≡ false → IsMostSlide (line s) window 0 → IsCutOf s keep cut →

@@ -1,5 +1,5 @@
 -- Which places are old enough to be trimmed away. For the proofs of this crate; no public clause cites it.
-use Rattle.std.specs.Prelude.{◌≡◌, ℕ, ◌<◌, ◌≤◌, true, List, length, Some, ◌+◌, ◌-◌, slice_get, slice_index}
+use Rattle.std.specs.Prelude.{◌≡◌, ℕ, ◌<◌, ◌≤◌, true, length, Some, ◌+◌, ◌-◌, slice_get, slice_index}
 use Rattle.hls_check_laws.specs.Tables.{spot_in}
 use Rattle.hls_places_laws.specs.declared.place.Place.{Place}
 use Rattle.hls_places_laws.specs.Order.{time_of}
@@ -11,16 +11,6 @@ use Rattle.hls_core_laws.specs.State.{State}
 use Rattle.hls_core_laws.specs.Places.{places, floors}
 use Rattle.hls_core_laws.specs.Line.{line}
 use Rattle.hls_core.specs.Upkeeps.{watched}
-
--- the times of places rise
-abbrev pub TimesRise : List Place → Type 0
-TimesRise ps = (i j : ℕ) (p q : Place) → i < j → slice_get ps i ≡ Some p → slice_get ps j ≡ Some q → time_of p < time_of q
-
--- just the first `count` places are at or before a time
-pub record IsCountBy (ps : List Place) (time count : ℕ) : Type 0 where
-  pub few : count ≤ length ps
-  pub early : (k : ℕ) (p : Place) → k < count → slice_get ps k ≡ Some p → time_of p ≤ time
-  pub late : (k : ℕ) (p : Place) → count ≤ k → slice_get ps k ≡ Some p → time < time_of p
 
 -- the places of a state that are old are those at or before a time
 pub record IsOldUntil (s : State) (keep time : ℕ) : Type 0 where

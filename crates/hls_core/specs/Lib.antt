@@ -8,4 +8,6 @@ pub mod Steps
 pub mod Placed
 pub mod Gathers
 pub mod Upkeeps
+pub mod KeptPlaces
+pub mod Fronts
 pub mod Cuts

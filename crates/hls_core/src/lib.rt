@@ -4,6 +4,7 @@
 
 pub mod config;
 pub mod follows;
+pub mod kept;
 mod placed;
 pub mod replay;
 mod same;

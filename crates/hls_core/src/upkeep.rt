@@ -1,20 +1,16 @@
 //! What is to be done so that a channel keeps no more than its window and what lies a while behind it.
 
-ghost use Rattle.std.specs.Prelude.{◌≡◌, ◌-◌, ◌<◌, ◌≤◌, length, Some, IfSome, IfNone, slice_get, slice_index};
+ghost use Rattle.std.specs.Prelude.{◌≡◌, ◌-◌, ◌<◌, ◌≤◌, length, Some, IfSome, IfNone, slice_get};
 ghost use Rattle.std.specs.Option.{option_copied};
-ghost use Rattle.hls_places_laws.specs.Programmes.{is_kept};
 ghost use Rattle.hls_core_laws.specs.Places.{places, floors};
 ghost use Rattle.hls_core_laws.specs.Outcome.{outcome_of, logged_by};
 ghost use Rattle.hls_core.specs.Upkeeps.{IsUpkeepOf};
-ghost use Rattle.hls_core.specs.Cuts.{TimesRise, IsCountBy, IsOldUntil, NoneOld, IsCutOf, NoCut, IsFirstBelow, ReachedBefore};
+ghost use Rattle.hls_core.specs.Cuts.{IsOldUntil, NoneOld, IsCutOf, NoCut, IsFirstBelow, ReachedBefore};
 
+use crate::kept::{floor_of, last_kept_by, place_there};
 use crate::snapshot::{Snapshot, fragment_in};
-use hls_blocks::Shared;
 use hls_core_laws::event::Event;
 use hls_places::{Place, time_of};
-
-/// So often a search guesses where a place is. Then it goes by halves, which takes few looks however the places come.
-const MOST_GUESSES: u32 = 8;
 
 /// The event that a housekeeper is to bring next, or none where there is nothing to do.
 ///
@@ -48,16 +44,10 @@ fn cut_of(snapshot: &Snapshot, keep: u64) -> Option<&Place>
     let Some(until) = old_until(snapshot, keep) else {
         return None;
     };
-    let places = snapshot.places();
-    let count = count_by_time(places, until);
-    if count == 0 {
+    let Some(number) = last_kept_by(snapshot, until) else {
         return None;
-    }
-    let cut = place_there(places, count - 1);
-    if !is_kept(snapshot, cut) {
-        return None;
-    }
-    Some(cut)
+    };
+    Some(place_there(snapshot, number))
 }
 
 /// The time up to which places are old, in microseconds.
@@ -86,90 +76,6 @@ fn last_place(snapshot: &Snapshot) -> Option<&Place>
         return None;
     }
     places.get(places.next() - 1)
-}
-
-/// How many places, in order of time, are at or before a time. Where they come about evenly, some three of them are looked at.
-fn count_by_time(places: &Shared<Place>, time: u64) -> u64
-    requires all { places.now.first ≡ 0 }
-    requires rising { TimesRise places.now.items }
-    ensures { IsCountBy places.now.items time result }
-{
-    let mut low = 0;
-    let mut high = places.next();
-    let mut since = time_at(places, 0);
-    let mut until = time_at(places, high.saturating_sub(1));
-    let mut guesses = MOST_GUESSES;
-    while low < high {
-        let spread = until.saturating_sub(since);
-        let middle = next_look(low, high, spread, time.saturating_sub(since), guesses);
-        guesses = guesses.saturating_sub(1);
-        let there = time_of(place_there(places, middle));
-        if there <= time {
-            low = middle + 1;
-            since = there;
-        } else {
-            high = middle;
-            until = there;
-        }
-    }
-    low
-}
-
-/// The place to look at next, from number `low` on and below `high`: the one `further` microseconds behind the first, if they
-/// come evenly over `spread` microseconds; once no guess is left, the middle one.
-fn next_look(low: u64, high: u64, spread: u64, further: u64, guesses: u32) -> u64
-    requires { low < high }
-    ensures low { low ≤ result }
-    ensures high { result < high }
-{
-    if guesses == 0 {
-        return low + (high - low) / 2;
-    }
-    let apart = (spread / (high - low)).max(1);
-    low + (further / apart).min(high - low - 1)
-}
-
-/// When the place of number `n` starts, in microseconds; 0 where there is none.
-fn time_at(places: &Shared<Place>, n: u64) -> u64 {
-    match places.get(n) {
-        Some(place) => time_of(place),
-        None => 0,
-    }
-}
-
-/// The place of number `n`.
-fn place_there(places: &Shared<Place>, n: u64) -> &Place
-    requires all { places.now.first ≡ 0 }
-    requires there { n < length places.now.items }
-    ensures { slice_get places.now.items n ≡ Some result.now }
-{
-    let Some(place) = places.get(n) else {
-        unreachable!()
-    };
-    place
-}
-
-/// Whether no unit at which a place stands is trimmed.
-fn is_kept(snapshot: &Snapshot, place: &Place) -> bool
-    requires { length place.now.spots ≡ length (floors snapshot.now) }
-    ensures { result ≡ is_kept (floors snapshot.now) place.now }
-{
-    for rendition in 0..place.spots.len() {
-        if fragment_in(place, rendition) < floor_of(snapshot, rendition) {
-            return false;
-        }
-    }
-    true
-}
-
-/// The number of the first unit of a rendition that isn't trimmed.
-fn floor_of(snapshot: &Snapshot, rendition: usize) -> u64
-    ensures { result ≡ slice_index (floors snapshot.now) rendition }
-{
-    match snapshot.side(rendition) {
-        Some(side) => side.floor(),
-        None => 0,
-    }
 }
 
 /// The trim of the first rendition that has units before a place.

@@ -13,5 +13,6 @@ pub mod Runs
 pub mod Theorems
 mod Rows
 pub mod Sources
+pub mod KeptPlaces
 pub mod Removed
 mod TestLists

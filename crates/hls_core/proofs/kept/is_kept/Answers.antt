@@ -1,7 +1,7 @@
 use Rattle.std.proofs.Common.{◌<◌, ◌≤◌, length, arith, sym}
 use Rattle.hls_core_laws.specs.Places.{floors}
-use Rattle.hls_core.proofs.Upkeeps.{kept-all, kept-not}
-use Rattle.hls_core.proofs.upkeep.is_kept.Goals as goal
+use Rattle.hls_core.proofs.KeptPlaces.{kept-all, kept-not}
+use Rattle.hls_core.proofs.kept.is_kept.Goals as goal
 
 pub returns-then-fragment_in-floor_of : goal.returns-then-fragment_in-floor_of
 returns-then-fragment_in-floor_of c =

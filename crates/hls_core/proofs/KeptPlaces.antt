@@ -1,0 +1,146 @@
+-- What a search among the places of a state comes to.
+use Rattle.std.proofs.Common.{◌≡◌, ℕ, zero, suc, ◌+◌, ◌-◌, ◌<◌, ◌≤◌, Bool, true, false, List, [], ◌∷◌, length, map, get_or, None, Some, arith, refl, sym, ap, inl, inr, ◌∙◌}
+use Rattle.std.specs.Prelude.{slice_get, slice_index, not, nat_le}
+use Rattle.std.proofs.lemmas.Bool.{cases_lt, cond-true, cond-false, leb-true, leb-false, le-leb}
+use Rattle.hls_check_laws.specs.Tables.{spot_in}
+use Rattle.hls_places_laws.specs.declared.place.Place.{Place}
+use Rattle.hls_places_laws.specs.Order.{time_of}
+use Rattle.hls_places_laws.specs.Programmes.{is_kept, kept}
+use Rattle.hls_core_laws.specs.Channel.{Lane}
+use Rattle.hls_core_laws.specs.State.{State, channel}
+use Rattle.hls_core_laws.specs.IsState.{IsState}
+use Rattle.hls_core_laws.specs.Places.{places, floors, floor_of, kept_places}
+use Rattle.hls_core_laws.proofs.Lists.{at_below}
+use Rattle.hls_core_laws.proofs.KeptPlaces.{kept-parts, kept-of, kept-goes-on, times-rise}
+use Rattle.hls_core.specs.declared.kept.Asked.{Asked}
+use Rattle.hls_core.specs.declared.kept.Asked.TheVariants.{By, Trimmed}
+use Rattle.hls_core.specs.Cuts.{KeptBefore}
+use Rattle.hls_core.specs.KeptPlaces.{IsLastKeptBy, NoKeptBy}
+use Rattle.hls_core.specs.Fronts.{meets, MeetBelow, NoneFrom, IsFront}
+
+some-is : {A : Type 0} (x y : A) → Some x ≡ Some y → x ≡ y
+some-is x y is = cc
+
+-- the floors, and what is kept above them
+none-floor : (lanes : List Lane) (r : ℕ) → slice_get lanes r ≡ None → get_or (map floor_of lanes) r 0 ≡ 0
+none-floor [] r is = refl
+none-floor (l ∷ lanes) zero is = absurd (cc)
+none-floor (l ∷ lanes) (suc r) is = none-floor lanes r is
+
+pub floor-none : (s : State) (r : ℕ) → slice_get (channel s).lanes r ≡ None → 0 ≡ slice_index (floors s) r
+floor-none s r is = sym (none-floor (channel s).lanes r is)
+
+pub kept-all : (s : State) (p : Place) (r : ℕ) → length p.spots ≡ length (floors s) → length (floors s) ≤ r → KeptBefore s p r → is_kept (floors s) p ≡ true
+kept-all s p r count past before = kept-of (floors s) p.spots count (λ k h. before k (omega arith))
+
+pub kept-not : (s : State) (p : Place) (r : ℕ) → length p.spots ≡ length (floors s) → r < length (floors s) →
+    (spot_in p.spots r).fragment < slice_index (floors s) r → is_kept (floors s) p ≡ false
+kept-not s p r count within less = elim (is_kept (floors s) p) as (λ b. is_kept (floors s) p ≡ b → b ≡ false) [
+  | true ↦ λ is. absurd (omega (arith, less, kept-parts (floors s) p.spots count is r within))
+  | false ↦ λ is. refl
+] refl
+
+pub kept-more : (s : State) (p : Place) (r : ℕ) → KeptBefore s p r → slice_index (floors s) r ≤ (spot_in p.spots r).fragment → KeptBefore s p (r + 1)
+kept-more s p r before here k less =
+    elim (cases_lt k r) [
+      | inl earlier ↦ before k earlier
+      | inr later ↦
+          let same : k ≡ r = omega arith in
+          rw same here
+    ]
+
+-- what is asked is true of a front of the places
+is-not : (b : Bool) → not b ≡ true → b ≡ false
+is-not true is = sym is
+is-not false is = refl
+
+is-so : (b : Bool) → not b ≡ false → b ≡ true
+is-so true is = refl
+is-so false is = sym is
+
+times-keep : (s : State) → IsState s → (i j : ℕ) (p q : Place) → i ≤ j → slice_get (places s) i ≡ Some p → slice_get (places s) j ≡ Some q → time_of p ≤ time_of q
+times-keep s state i j p q before at also =
+    elim (cases_lt i j) [
+      | inl less ↦ omega (arith, times-rise s state i j p q less at also)
+      | inr more ↦
+          let number : i ≡ j = omega arith in
+          let same : p ≡ q = some-is p q (sym at ∙ (ap (slice_get (places s)) number ∙ also)) in
+          omega (arith, ap time_of same)
+    ]
+
+met-before : (s : State) → IsState s → (asked : Asked) (i j : ℕ) (p q : Place) → i ≤ j → slice_get (places s) i ≡ Some p → slice_get (places s) j ≡ Some q →
+    meets s asked q ≡ true → meets s asked p ≡ true
+met-before s state (By time) i j p q before at also is =
+    le-leb (time_of p) time (omega (arith, times-keep s state i j p q before at also, leb-true (time_of q) time is))
+met-before s state Trimmed i j p q before at also is = elim (is_kept (floors s) p) as (λ b. is_kept (floors s) p ≡ b → not b ≡ true) [
+  | true ↦ λ kept.
+      let never : true ≡ false = sym (kept-goes-on s state i j p q before at also kept) ∙ is-not (is_kept (floors s) q) is in
+      absurd (cc)
+  | false ↦ λ kept. refl
+] refl
+
+pub met-more : (s : State) → IsState s → (asked : Asked) (middle : ℕ) (here : Place) → slice_get (places s) middle ≡ Some here → meets s asked here ≡ true →
+    MeetBelow s asked (middle + 1)
+met-more s state asked middle here there is k p less at = met-before s state asked k middle p here (omega (arith, less)) at there is
+
+pub unmet-more : (s : State) → IsState s → (asked : Asked) (middle : ℕ) (here : Place) → slice_get (places s) middle ≡ Some here → meets s asked here ≡ false →
+    NoneFrom s asked middle
+unmet-more s state asked middle here there isnt k p more at = elim (meets s asked p) as (λ b. meets s asked p ≡ b → b ≡ false) [
+  | true ↦ λ is.
+      let never : true ≡ false = sym (met-before s state asked middle k here p more there at is) ∙ isnt in
+      absurd (cc)
+  | false ↦ λ is. refl
+] refl
+
+pub none-past : (s : State) (asked : Asked) (n : ℕ) → length (places s) ≤ n → NoneFrom s asked n
+none-past s asked n past k p more at = absurd (omega (arith, at_below (places s) k p at))
+
+-- the places behind the trimmed ones are the kept ones
+behind : (above : List ℕ) (ps : List Place) (n : ℕ) → ((k : ℕ) (p : Place) → k < n → slice_get ps k ≡ Some p → not (is_kept above p) ≡ true) →
+    ((k : ℕ) (p : Place) → n ≤ k → slice_get ps k ≡ Some p → not (is_kept above p) ≡ false) → length (kept above ps) ≡ length ps - n
+behind above [] n trimmed rest = omega arith
+behind above (p ∷ ps) zero trimmed rest =
+    let is : is_kept above p ≡ true = is-so (is_kept above p) (rest 0 p (omega arith) refl) in
+    let more : kept above (p ∷ ps) ≡ p ∷ kept above ps = cond-true (is_kept above p) (p ∷ kept above ps) (kept above ps) is in
+    let others = behind above ps 0 (λ k q less at. absurd (omega (arith, less))) (λ k q past at. rest (suc k) q (omega arith) at) in
+    omega (arith, ap length more, others)
+behind above (p ∷ ps) (suc n) trimmed rest =
+    let isnt : is_kept above p ≡ false = is-not (is_kept above p) (trimmed 0 p (omega arith) refl) in
+    let same : kept above (p ∷ ps) ≡ kept above ps = cond-false (is_kept above p) (p ∷ kept above ps) (kept above ps) isnt in
+    let others = behind above ps n (λ k q less at. trimmed (suc k) q (omega (arith, less)) at) (λ k q past at. rest (suc k) q (omega (arith, past)) at) in
+    omega (arith, ap length same, others)
+
+pub kept-counted : (s : State) (count : ℕ) → IsFront s Trimmed count → length (kept_places s) ≡ length (places s) - count
+kept-counted s count front = behind (floors s) (places s) count front.met front.unmet
+
+-- the last kept place by a time
+late : (time : ℕ) (p : Place) → nat_le (time_of p) time ≡ false → time < time_of p
+late time p isnt = leb-false (time_of p) time isnt
+
+pub none-by : (s : State) (time : ℕ) → IsFront s (By time) 0 → NoKeptBy s time
+none-by s time front k p at is = late time p (front.unmet k p (omega arith) at)
+
+pub none-kept-by : (s : State) → IsState s → (time count : ℕ) (p : Place) → IsFront s (By time) count → slice_get (places s) (count - 1) ≡ Some p →
+    is_kept (floors s) p ≡ false → NoKeptBy s time
+none-kept-by s state time count p front there isnt k q at is =
+    elim (cases_lt k count) [
+      | inl less ↦
+          let never : true ≡ false = sym (kept-goes-on s state k (count - 1) q p (omega (arith, less)) at there is) ∙ isnt in
+          absurd (cc)
+      | inr more ↦ late time q (front.unmet k q more at)
+    ]
+
+pub last-by : (s : State) (time count : ℕ) (p : Place) → IsFront s (By time) count → 0 < count → slice_get (places s) (count - 1) ≡ Some p →
+    is_kept (floors s) p ≡ true → IsLastKeptBy s time (count - 1)
+last-by s time count p front some there is =
+    let number : count - 1 + 1 ≡ count = omega arith in
+    record {
+      place = p;
+      there = there;
+      kept = is;
+      by = rw number (record {
+        few = front.few;
+        early = λ k q less at. leb-true (time_of q) time (front.met k q less at);
+        late = λ k q more at. late time q (front.unmet k q more at);
+      });
+    }

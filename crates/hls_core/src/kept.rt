@@ -1,0 +1,145 @@
+//! The kept places of a snapshot, those with no trimmed unit: how many there are, and the last by a moment.
+
+ghost use Rattle.std.specs.Prelude.{◌≡◌, ◌<◌, ◌≤◌, length, Some, MatchOption, slice_get, slice_index};
+ghost use Rattle.hls_places_laws.specs.Programmes.{is_kept};
+ghost use Rattle.hls_core_laws.specs.IsState.{IsState};
+ghost use Rattle.hls_core_laws.specs.Places.{places, floors, kept_places};
+ghost use Rattle.hls_core.specs.KeptPlaces.{NoKeptBy, IsLastKeptBy};
+ghost use Rattle.hls_core.specs.Fronts.{meets, IsFront};
+
+use crate::snapshot::{Snapshot, fragment_in};
+use hls_blocks::Shared;
+use hls_places::{Place, time_of};
+
+/// So often a search for a time guesses where it is. Then it goes by halves, which takes few looks however the places come.
+const MOST_GUESSES: u32 = 8;
+
+/// What a search asks of a place: true of some places at the front, and of none behind them.
+#[derive(Clone, Copy)]
+enum Asked {
+    /// Whether it is at or before a time, in microseconds.
+    By(u64),
+    /// Whether a unit at which it stands is trimmed.
+    Trimmed,
+}
+
+/// How many places have no trimmed unit. Takes no memory, and looks at few places.
+pub fn kept_count(snapshot: &Snapshot) -> u64
+    ensures { result ≡ length (kept_places snapshot.now) }
+{
+    snapshot.places().next() - count_front(snapshot, Asked::Trimmed)
+}
+
+/// The number of the last place at or before a time, in microseconds, that has no trimmed unit; None where there is none. Takes
+/// no memory, and looks at few places.
+pub fn last_kept_by(snapshot: &Snapshot, time: u64) -> Option<u64>
+    ensures { MatchOption result (NoKeptBy snapshot.now time) (IsLastKeptBy snapshot.now time) }
+{
+    let count = count_front(snapshot, Asked::By(time));
+    if count == 0 {
+        return None;
+    }
+    // trims take a front of the places: where this one isn't kept, none before it is
+    if !is_kept(snapshot, place_there(snapshot, count - 1)) {
+        return None;
+    }
+    Some(count - 1)
+}
+
+/// How many places meet what is asked. Where they come about evenly, some three of them are looked at for a time.
+fn count_front(snapshot: &Snapshot, asked: Asked) -> u64
+    ensures front { IsFront snapshot.now asked result }
+    ensures valid { IsState snapshot.now }
+{
+    let (time, mut guesses) = match asked {
+        Asked::By(time) => (time, MOST_GUESSES),
+        Asked::Trimmed => (0, 0),
+    };
+    let places = snapshot.places();
+    let mut low = 0;
+    let mut high = places.next();
+    let mut since = time_at(places, 0);
+    let mut until = time_at(places, high.saturating_sub(1));
+    while low < high {
+        let spread = until.saturating_sub(since);
+        let middle = next_look(low, high, spread, time.saturating_sub(since), guesses);
+        guesses = guesses.saturating_sub(1);
+        let there = place_there(snapshot, middle);
+        if meets(snapshot, asked, there) {
+            low = middle + 1;
+            since = time_of(there);
+        } else {
+            high = middle;
+            until = time_of(there);
+        }
+    }
+    low
+}
+
+/// Whether a place meets what is asked.
+fn meets(snapshot: &Snapshot, asked: Asked, place: &Place) -> bool
+    requires { length place.now.spots ≡ length (floors snapshot.now) }
+    ensures { result ≡ meets snapshot.now asked place.now }
+{
+    match asked {
+        Asked::By(time) => time_of(place) <= time,
+        Asked::Trimmed => !is_kept(snapshot, place),
+    }
+}
+
+/// The place to look at next, from number `low` on and below `high`: the one `further` microseconds behind the first, if they
+/// come evenly over `spread` microseconds; once no guess is left, the middle one.
+fn next_look(low: u64, high: u64, spread: u64, further: u64, guesses: u32) -> u64
+    requires { low < high }
+    ensures low { low ≤ result }
+    ensures high { result < high }
+{
+    if guesses == 0 {
+        return low + (high - low) / 2;
+    }
+    let apart = (spread / (high - low)).max(1);
+    low + (further / apart).min(high - low - 1)
+}
+
+/// When the place of number `n` starts, in microseconds; 0 where there is none.
+fn time_at(places: &Shared<Place>, n: u64) -> u64 {
+    match places.get(n) {
+        Some(place) => time_of(place),
+        None => 0,
+    }
+}
+
+/// The place of number `n`.
+pub(crate) fn place_there(snapshot: &Snapshot, n: u64) -> &Place
+    requires { n < length (places snapshot.now) }
+    ensures there { slice_get (places snapshot.now) n ≡ Some result.now }
+    ensures spots { length result.now.spots ≡ length (floors snapshot.now) }
+{
+    let Some(place) = snapshot.places().get(n) else {
+        unreachable!()
+    };
+    place
+}
+
+/// Whether no unit at which a place stands is trimmed.
+fn is_kept(snapshot: &Snapshot, place: &Place) -> bool
+    requires { length place.now.spots ≡ length (floors snapshot.now) }
+    ensures { result ≡ is_kept (floors snapshot.now) place.now }
+{
+    for rendition in 0..place.spots.len() {
+        if fragment_in(place, rendition) < floor_of(snapshot, rendition) {
+            return false;
+        }
+    }
+    true
+}
+
+/// The number of the first unit of a rendition that isn't trimmed.
+pub(crate) fn floor_of(snapshot: &Snapshot, rendition: usize) -> u64
+    ensures { result ≡ slice_index (floors snapshot.now) rendition }
+{
+    match snapshot.side(rendition) {
+        Some(side) => side.floor(),
+        None => 0,
+    }
+}
