@@ -7,6 +7,7 @@ use Rattle.hls_core_laws.specs.State.{State}
 use Rattle.hls_catchup.specs.declared.request.Request.{Request}
 use Rattle.hls_jobs.specs.declared.fault.JobFault.{JobFault}
 use Rattle.hls_jobs.specs.declared.fault.JobFault.TheVariants.{TableFull, UnknownJob, Stray, Memory}
+use Rattle.hls_jobs.specs.declared.fault.Refused.{Refused}
 use Rattle.hls_jobs.specs.declared.job.Job.{Job}
 use Rattle.hls_jobs.specs.declared.row.Row.{Row}
 use Rattle.hls_jobs.specs.declared.row.Phase.{Phase}
@@ -19,6 +20,11 @@ use Rattle.hls_jobs.specs.Tables.{TableData, place_limit, id_limit, phase_at, wi
 -- the table with a job in another phase
 abbrev pub changed : TableData → ℕ → Phase → TableData
 changed t id phase = record { next = t.next; rows = with_phase id phase t.rows }
+
+-- what a call tells, apart from what a refused one gives back
+abbrev pub told : {A B : Type 0} → Result A (Refused B) → Result A JobFault
+told (Ok done) = Ok done
+told (Err refused) = Err refused.fault
 
 -- no place is free, or the last id is used
 abbrev pub IsFull : TableData → Type 0

@@ -24,6 +24,13 @@ pub enum JobFault {
     Memory,
 }
 
+/// Why a call is refused, with what it was given back: a lock can so be let go of before that is.
+#[derive(Drop)]
+pub(crate) struct Refused<T> {
+    pub(crate) fault: JobFault,
+    pub(crate) back: T,
+}
+
 impl JobFault {
     /// The variant's name, as replies print it.
     pub fn name(&self) -> &'static str

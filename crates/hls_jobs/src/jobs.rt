@@ -1,10 +1,11 @@
 //! The job table under a lock, and a bell for those who wait for work.
 
 ghost use Rattle.std.specs.Prelude.{IfOk, IfSome};
+ghost use Rattle.hls_jobs.specs.Changes.{told};
 ghost use Rattle.hls_jobs.specs.Phases.{IsRightJob};
 ghost use Rattle.hls_jobs.specs.Shared.{HasAdded, HasCounted, HasFinished, HasGot, HasRemoved, HasTaken};
 
-use crate::fault::JobFault;
+use crate::fault::{JobFault, Refused};
 use crate::finished::Finished;
 use crate::job::Job;
 use crate::row::Row;
@@ -43,7 +44,8 @@ impl Jobs {
         })
     }
 
-    /// Adds a job, and wakes a loop that waits for work. `TableFull` is the only fault. May wait.
+    /// Adds a job, and wakes a loop that waits for work. `TableFull` is the only fault; a snapshot that found no room is let go
+    /// of outside the lock. May wait.
     pub fn add<R: Wait>(
         &self,
         rt: &R,
@@ -52,9 +54,23 @@ impl Jobs {
     ) -> Result<u64, JobFault>
         ensures { HasAdded snapshot request result }
     {
-        let added = self.desk.lock(rt).table.add(snapshot, request);
+        let added = self.take_in(rt, snapshot, request);
         self.bell.notify_one();
-        added
+        match added {
+            Ok(id) => Ok(id),
+            Err(refused) => Err(refused.fault),
+        }
+    }
+
+    fn take_in<R: Wait>(
+        &self,
+        rt: &R,
+        snapshot: Arc<Snapshot>,
+        request: Request,
+    ) -> Result<u64, Refused<Arc<Snapshot>>>
+        ensures { HasAdded snapshot request (told result) }
+    {
+        self.desk.lock(rt).table.take_in(snapshot, request)
     }
 
     /// How far a job is; an answer is shared out of the lock, not copied. May wait.
@@ -106,10 +122,19 @@ impl Jobs {
             .take_work()
     }
 
-    /// Ends a job. The result of one that was removed meanwhile is dropped. May wait.
+    /// Ends a job. The result of one that was removed meanwhile is let go of outside the lock. May wait.
     pub(crate) fn finish<R: Wait>(&self, rt: &R, finished: Finished) -> Result<(), JobFault>
         ensures { HasFinished finished result }
     {
-        self.desk.lock(rt).table.finish(finished)
+        match self.end(rt, finished) {
+            Ok(()) => Ok(()),
+            Err(refused) => Err(refused.fault),
+        }
+    }
+
+    fn end<R: Wait>(&self, rt: &R, finished: Finished) -> Result<(), Refused<Finished>>
+        ensures { HasFinished finished (told result) }
+    {
+        self.desk.lock(rt).table.end(finished)
     }
 }

@@ -1,10 +1,10 @@
 //! The job table.
 
-ghost use Rattle.std.specs.Prelude.{◌≡◌, IfOk, length};
+ghost use Rattle.std.specs.Prelude.{◌≡◌, IfOk, IfErr, length};
 ghost use Rattle.hls_jobs.specs.Tables.{IsTable, empty_table};
-ghost use Rattle.hls_jobs.specs.Changes.{Adds, Takes, Finishes, Gets, Removes};
+ghost use Rattle.hls_jobs.specs.Changes.{Adds, Takes, Finishes, Gets, Removes, told};
 
-use crate::fault::JobFault;
+use crate::fault::{JobFault, Refused};
 use crate::finished::Finished;
 use crate::job::Job;
 use crate::row::{Phase, Row};
@@ -68,9 +68,28 @@ impl JobTable {
         ensures adds { Adds self.old snapshot request result self.new }
         ensures valid { IsTable self.old }
     {
+        match self.take_in(snapshot, request) {
+            Ok(id) => Ok(id),
+            Err(refused) => Err(refused.fault),
+        }
+    }
+
+    /// Adds a job, or gives its snapshot back: to let go of that can take a while.
+    pub(crate) fn take_in(
+        &mut self,
+        snapshot: Arc<Snapshot>,
+        request: Request,
+    ) -> Result<u64, Refused<Arc<Snapshot>>>
+        ensures adds { Adds self.old snapshot request (told result) self.new }
+        ensures back { IfErr result (λ refused. refused.back ≡ snapshot) }
+        ensures valid { IsTable self.old }
+    {
         let id = self.next;
         if self.rows.len() >= PLACES || id >= ID_LIMIT {
-            return Err(JobFault::TableFull);
+            return Err(Refused {
+                fault: JobFault::TableFull,
+                back: snapshot,
+            });
         }
         let phase = Phase::Waiting { snapshot, request };
         push(&mut self.rows, Row { id, phase });
@@ -98,14 +117,32 @@ impl JobTable {
         ensures finishes { Finishes self.old finished result self.new }
         ensures valid { IsTable self.old }
     {
+        match self.end(finished) {
+            Ok(()) => Ok(()),
+            Err(refused) => Err(refused.fault),
+        }
+    }
+
+    /// Ends a job, or gives back what it came to: to let go of an answer can take a while.
+    pub(crate) fn end(&mut self, finished: Finished) -> Result<(), Refused<Finished>>
+        ensures finishes { Finishes self.old finished (told result) self.new }
+        ensures back { IfErr result (λ refused. refused.back ≡ finished) }
+        ensures valid { IsTable self.old }
+    {
         let Some(at) = place_of(&self.rows, finished.id()) else {
-            return Err(JobFault::UnknownJob);
+            return Err(Refused {
+                fault: JobFault::UnknownJob,
+                back: finished,
+            });
         };
         if !self.rows[at]
             .phase
             .runs_for(finished.version(), finished.request())
         {
-            return Err(JobFault::Stray);
+            return Err(Refused {
+                fault: JobFault::Stray,
+                back: finished,
+            });
         }
         set_phase(&mut self.rows, at, Phase::of(finished.into_ending()));
         Ok(())

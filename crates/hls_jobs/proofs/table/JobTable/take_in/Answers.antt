@@ -1,6 +1,6 @@
 use Rattle.std.proofs.Common.{refl, arith}
 use Rattle.hls_jobs.proofs.Keeps.{kept_added}
-use Rattle.hls_jobs.proofs.table.JobTable.add.Goals as goal
+use Rattle.hls_jobs.proofs.table.JobTable.take_in.Goals as goal
 
 pub invariant_of-self : goal.invariant_of-self
 invariant_of-self c =

@@ -12,7 +12,7 @@ use Rattle.hls_jobs.specs.Changes.{IsStray, changed}
 use Rattle.hls_jobs.proofs.ByIds.{none_is}
 use Rattle.hls_jobs.proofs.Calls.{phase_there, changed_there}
 use Rattle.hls_jobs.proofs.Keeps.{kept_changed, right_end}
-use Rattle.hls_jobs.proofs.table.JobTable.finish.Goals as goal
+use Rattle.hls_jobs.proofs.table.JobTable.end.Goals as goal
 
 pub returns-in_default-clause-finishes : goal.returns-in_default-clause-finishes
 returns-in_default-clause-finishes c =
