@@ -66,7 +66,7 @@ class Edge:
 
     def __init__(self, folder, channels, more="", workers=2, changes=(), site_changes=()):
         install()
-        self.folder = os.path.join(folder, "edge")
+        self.folder, self.process = os.path.join(folder, "edge"), None
         self.files = os.path.join(self.folder, "hls_origin")
         self.port, self.open, self.plain, self.inner = (free_port() for _ in range(4))
         for name in ("conf.d", "sites-enabled", "snippets", "cache", "hls_origin/state", "hls_origin/masters", "pages"):
@@ -116,9 +116,30 @@ class Edge:
         write(os.path.join(self.folder, to, name), text)
 
     def tool(self, name, *words):
-        """A tool of edge/ on this edge's files."""
-        return subprocess.run([os.path.join(ROOT, "edge", name), *words, "--folder", self.files, "--nginx", " ".join(self.words)],
+        """A tool of edge/ on this edge's files; where it has told nginx to reload, once nginx has done so."""
+        before, written = self.serving(), self.written()
+        done = subprocess.run([os.path.join(ROOT, "edge", name), *words, "--folder", self.files, "--nginx", " ".join(self.words)],
                               capture_output=True, text=True, timeout=60)
+        begun = time.monotonic()
+        while done.returncode == 0 and self.written() != written and self.serving() & before and time.monotonic() - begun < 30:
+            time.sleep(0.05)
+        return done
+
+    def written(self):
+        """When the tools last wrote something for nginx."""
+        path = os.path.join(self.files, "generated.conf")
+        return os.stat(path).st_mtime_ns if os.path.exists(path) else None
+
+    def serving(self):
+        """nginx's processes that take connections: after a reload others than before."""
+        found = set()
+        for pid in subprocess.run(["pgrep", "-P", str(self.process.pid)], capture_output=True, text=True).stdout.split() if self.process else []:
+            try:
+                with open(f"/proc/{pid}/cmdline", "rb") as file:
+                    found |= {pid} if file.read().rstrip(b"\0 ") == b"nginx: worker process" else set()
+            except OSError:
+                pass
+        return found
 
     def edge(self, *words):
         return self.tool("hls_edge", *words)
@@ -128,12 +149,6 @@ class Edge:
 
     def set_state(self, name, text):
         write(os.path.join(self.files, "state", name + ".json"), text)
-
-    def apply(self):
-        """hls_edge, and until nginx goes by it."""
-        done = self.edge()
-        time.sleep(0.5)
-        return done
 
     def start(self):
         self.process = subprocess.Popen([*self.words, "-g", "daemon off;"], stdin=subprocess.DEVNULL, stderr=subprocess.DEVNULL)
