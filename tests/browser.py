@@ -100,7 +100,7 @@ class Page:
 
     def __init__(self, browser, url, width=1280, height=800, scheme="dark", before="", password=None, wait=True):
         self.browser, self.requests, self.faults, self.password = browser, [], [], password
-        target = browser.ask("Target.createTarget", url="about:blank")["targetId"]
+        target = browser.ask("Target.createTarget", url="about:blank", newWindow=True)["targetId"]
         self.target = target
         self.session = browser.ask("Target.attachToTarget", targetId=target, flatten=True)["sessionId"]
         browser.pages[self.session] = self

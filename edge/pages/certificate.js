@@ -6,7 +6,7 @@
 const NUMBER_LIMIT = 2 ** 53; // numbers are below it, so a double holds each of them, and each difference of two, exactly
 const LIMITS = { target: 3600, preferred: 3600000000, charge: 3600000000, renditions: 16, places: 16384 };
 const FIELDS = ["fragment", "prevEnd", "start", "runIn", "runOut"];
-const NOT_PRICED = -1;
+const NOT_PRICED = Infinity;
 const [LF, SPACE, ZERO] = [10, 32, 48];
 
 /// What is wrong with a certificate: the rule's name and its numbers.
@@ -131,10 +131,25 @@ export function read(bytes) {
 /// The length of a segment from place p to place q in a rendition, in microseconds.
 export const lengthOf = (spots, p, q) => spots.prevEnd[q] - spots.start[p];
 
-function isAllowed({ table, target }, p, q) {
-    const longest = target * 1000000 + 499999;
-    return table.every((spots) => spots.fragment[q] > spots.fragment[p] && spots.runOut[p] === spots.runIn[q] &&
-        spots.start[p] < spots.prevEnd[q] && lengthOf(spots, p, q) <= longest);
+const longestOf = ({ target }) => target * 1000000 + 499999;
+
+// Whether a rendition lets a step pass.
+function lets(spots, p, q, longest) {
+    const length = spots.prevEnd[q] - spots.start[p];
+    return spots.fragment[q] > spots.fragment[p] && spots.runOut[p] === spots.runIn[q] && length > 0 && length <= longest;
+}
+
+// Whether a step is allowed. The rendition that refused the last one is asked first: a certificate may be made to cost most.
+let refusing = 0;
+function isAllowed({ table }, p, q, longest) {
+    if (refusing < table.length && !lets(table[refusing], p, q, longest)) return false;
+    for (let r = 0; r < table.length; r++) {
+        if (!lets(table[r], p, q, longest)) {
+            refusing = r;
+            return false;
+        }
+    }
+    return true;
 }
 
 const costOf = ({ table, preferred, charge }, p, q) => Math.abs(lengthOf(table[0], p, q) - preferred) + charge;
@@ -154,39 +169,39 @@ function checkPlan(certificate) {
     let cost = 0;
     for (let i = 1; i < plan.length; i++) {
         const [p, q] = [plan[i - 1], plan[i]];
-        if (p >= q || !isAllowed(certificate, p, q)) throw new Refusal("PlanStep", p, q);
+        if (p >= q || !isAllowed(certificate, p, q, longestOf(certificate))) throw new Refusal("PlanStep", p, q);
         cost += costOf(certificate, p, q);
     }
     if (cost !== cut || prices[places - 1] !== cut) throw new Refusal("PlanCost");
 }
 
-// The first allowed step, by its least p and then its least q, from a place that counts for which `breaks` holds.
-function checkSteps(certificate, counts, breaks) {
-    const { table: [{ start, prevEnd }], places, target } = certificate;
-    // No place from q on is nearer than this one, so a row ends where this one is out of reach: ends needn't rise.
+// Looks at every allowed step from a place with a price, by its least p and then its least q. What has no price costs more than all.
+function checkSteps(certificate, prices) {
+    const { table: [{ start, prevEnd }], places, preferred, charge } = certificate;
+    const longest = longestOf(certificate);
+    // No place from q on is nearer than nearest[q], so a row ends where that is out of reach: ends needn't rise.
     const nearest = Float64Array.from(prevEnd);
     for (let q = places - 2; q >= 0; q--) nearest[q] = Math.min(nearest[q], nearest[q + 1]);
-    const longest = target * 1000000 + 499999;
     for (let p = 0; p < places; p++) {
-        if (!counts(p)) continue;
-        for (let q = p + 1; q < places && nearest[q] - start[p] <= longest; q++) {
-            // a step that would break nothing needn't be allowed
-            if (breaks(p, q) && isAllowed(certificate, p, q)) throw new Refusal("PriceStep", p, q);
+        const [price, from] = [prices[p] + charge, start[p]];
+        if (price === NOT_PRICED) continue;
+        for (let q = p + 1; q < places && nearest[q] - from <= longest; q++) {
+            // prices are compared first: most steps break nothing, and needn't be asked whether they are allowed
+            if (prices[q] > price + Math.abs(prevEnd[q] - from - preferred) && isAllowed(certificate, p, q, longest)) throw new Refusal("PriceStep", p, q);
         }
     }
 }
 
 function checkPrices(certificate) {
-    const { prices } = certificate;
-    if (prices[0] !== 0) throw new Refusal("PriceStart");
-    checkSteps(certificate, (p) => prices[p] !== NOT_PRICED,
-        (p, q) => prices[q] === NOT_PRICED || prices[q] > prices[p] + costOf(certificate, p, q));
+    if (certificate.prices[0] !== 0) throw new Refusal("PriceStart");
+    checkSteps(certificate, certificate.prices);
 }
 
+// The closed set: its places cost nothing, so an allowed step that leaves it leads to what costs more.
 function checkClosed(certificate) {
     const { closed, places } = certificate;
     if (!closed[0]) throw new Refusal("PriceStart");
-    checkSteps(certificate, (p) => closed[p], (p, q) => !closed[q]);
+    checkSteps(certificate, Float64Array.from(closed, (is) => is ? 0 : NOT_PRICED));
     if (closed[places - 1]) throw new Refusal("EndReached");
 }
 

@@ -63,9 +63,10 @@ const stepOf = (span, most) => [1, 2, 5].flatMap((n) => Array.from({ length: 16 
 /// Draws the prices of a certificate's places over time: the plan's as a line, the others as dots.
 export function drawPrices(canvas, certificate) {
     const { pen, width, height } = surface(canvas, 220);
-    const { table: [{ start, prevEnd }], prices, closed, plan = [], places } = certificate;
+    const { table: [{ start, prevEnd }], prices, closed, places } = certificate;
+    const plan = certificate.plan?.length <= places ? certificate.plan : [];
     const [from, to] = [start[0], Math.max(start[places - 1], prevEnd[places - 1], start[0] + 1)];
-    const most = prices ? prices.reduce((a, b) => Math.max(a, b), 1) : 1;
+    const most = prices ? prices.reduce((most, price) => price < Infinity ? Math.max(most, price) : most, 1) : 1;
     const x = (p) => MARGIN.left + (start[p] - from) / (to - from) * (width - MARGIN.left - MARGIN.right);
     const y = (price) => height - MARGIN.bottom - price / most * (height - MARGIN.top - MARGIN.bottom);
     pen.lineWidth = 1;
@@ -86,7 +87,7 @@ export function drawPrices(canvas, certificate) {
     pen.textAlign = "right";
     pen.fillText(`${seconds(to - from, 1)} of programme`, width - MARGIN.right, height - 10);
     for (let p = 0; p < places; p++) {
-        const reached = prices ? prices[p] >= 0 : closed[p];
+        const reached = prices ? prices[p] < Infinity : closed[p];
         pen.fillStyle = colour(reached ? "violet" : "bad");
         pen.beginPath();
         pen.arc(x(p), prices && reached ? y(prices[p]) : y(0), 2.5, 0, 7);
@@ -95,11 +96,11 @@ export function drawPrices(canvas, certificate) {
     pen.strokeStyle = pen.fillStyle = colour("good");
     pen.lineWidth = 2;
     pen.beginPath();
-    plan.forEach((p, i) => pen[i === 0 ? "moveTo" : "lineTo"](x(p), y(Math.max(0, prices[p]))));
+    plan.forEach((p, i) => pen[i === 0 ? "moveTo" : "lineTo"](x(p), y(prices[p])));
     pen.stroke();
     for (const p of plan) {
         pen.beginPath();
-        pen.arc(x(p), y(Math.max(0, prices[p])), 4, 0, 7);
+        pen.arc(x(p), y(prices[p]), 4, 0, 7);
         pen.fill();
     }
 }
