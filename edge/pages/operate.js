@@ -20,6 +20,7 @@ const channel = new Channel(addressOf(`origin/${/^[12]$/.test(origin) ? origin :
 const lanes = new Lanes($("lanes"), channel);
 const wished = new Map(); // the programmes of the jobs that this page asked for
 let shown = null; // the certificate that is drawn
+let jobsShown = null;
 
 const say = (words) => { if ($("words").textContent !== words) $("words").textContent = words; };
 const megabytes = (bytes) => bytes < 1e9 ? `${(bytes / 1e6).toFixed(bytes < 1e7 ? 1 : 0)} MB` : `${(bytes / 1e9).toFixed(2)} GB`;
@@ -230,6 +231,7 @@ async function showCertificate(job) {
 async function showJobs() {
     await channel.lookAtStatus();
     const jobs = await channel.jobs();
+    jobsShown = channel.status.jobs;
     const { renditions } = channel;
     $("jobRows").replaceChildren(...jobs.map(({ number, state, address }) => {
         const base = `${channel.base}job/${number}/`;
@@ -283,11 +285,12 @@ function main() {
         if (performance.now() - surveyed > SURVEY_EVERY * 1000) {
             surveyed = performance.now();
             await channel.survey();
-            if ($("jobRows").children.length === 0) await showJobs();
             $("timeHelp").textContent = channel.epoch === null ? "In seconds of the channel's clock: serve has no --epoch." : `In this browser's time, ${Intl.DateTimeFormat().resolvedOptions().timeZone}. What is kept begins at ${clockOf(channel.start)}.`;
             $("preferred").max = channel.target;
             showWishes();
         }
+        // somebody else may have asked for one
+        else if (channel.status.jobs !== jobsShown) await showJobs();
         paint();
     });
 }

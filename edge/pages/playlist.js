@@ -20,6 +20,7 @@ export class ReplyFault extends Error {
 /// Fetches all of a text or, by a range of first and last byte, of media; refuses what is longer than it may be, and gives up
 /// where nothing comes for a while.
 export async function load(url, { range = null, limit = LIMITS.bytes, signal = undefined, cache = undefined } = {}) {
+    signal?.throwIfAborted();
     const controller = new AbortController();
     let timer = 0;
     const wait = () => {
