@@ -10,6 +10,9 @@ import tempfile
 import threading
 import time
 
+# What is waited for may take so many times longer, on a machine that has much else to do.
+SLACK = float(os.environ.get("SLACK", "1"))
+
 
 class Browser:
     """A browser with a profile of its own; requests, faults and what the console says are kept for each page."""
@@ -66,7 +69,7 @@ class Browser:
         os.write(self.writes, json.dumps(message).encode() + b"\0")
         return number
 
-    def ask(self, method, session=None, seconds=30, **params):
+    def ask(self, method, session=None, seconds=30 * SLACK, **params):
         number = self.tell(method, session, **params)
         with self.lock:
             if not self.lock.wait_for(lambda: number in self.answers or "ended" in self.answers, seconds) or number not in self.answers:
@@ -137,7 +140,7 @@ class Page:
     def size(self, width, height, mobile=False):
         self.ask("Emulation.setDeviceMetricsOverride", width=width, height=height, deviceScaleFactor=1, mobile=mobile)
 
-    def run(self, script, seconds=30):
+    def run(self, script, seconds=30 * SLACK):
         """What an expression gives; promises are awaited."""
         found = self.browser.ask("Runtime.evaluate", self.session, seconds, expression=script, awaitPromise=True, returnByValue=True, userGesture=True)
         if "exceptionDetails" in found:
@@ -146,7 +149,7 @@ class Page:
 
     def wait(self, script, seconds):
         """Asks until it is true, and for so long at most; what it was at last."""
-        ends = time.monotonic() + seconds
+        ends = time.monotonic() + seconds * SLACK
         while True:
             try:
                 found = self.run(script)

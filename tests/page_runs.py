@@ -7,6 +7,7 @@ import http.server
 import os
 import re
 import shutil
+import socket
 import ssl
 import struct
 import subprocess
@@ -15,7 +16,7 @@ import threading
 import time
 
 sys.path.insert(0, os.path.dirname(os.path.abspath(__file__)))
-from browser import Browser
+from browser import SLACK, Browser
 from origin_runs import ROOT, Origin, ask, check, free_port, wait_for
 
 PAGES = os.path.join(ROOT, "edge", "pages")
@@ -98,7 +99,12 @@ class Encoder(threading.Thread):
         self.start()
 
     def run(self):
-        import socket
+        try:
+            self.send_all()
+        except OSError:
+            pass  # the origin was ended
+
+    def send_all(self):
         with socket.create_connection(("127.0.0.1", self.port)) as line:
             line.sendall(f"PUT /ingest/{self.rendition} HTTP/1.1\r\nHost: a\r\nTransfer-Encoding: chunked\r\n\r\n".encode())
             number, began = 0, time.monotonic()
@@ -262,7 +268,7 @@ def seen(page):
 
 def wait_seen(page, holds, seconds):
     """What is seen once that holds, or after so many seconds."""
-    ends = time.monotonic() + seconds
+    ends = time.monotonic() + seconds * SLACK
     while True:
         found = seen(page)
         if holds(found) or time.monotonic() > ends:
@@ -273,7 +279,7 @@ def wait_seen(page, holds, seconds):
 def plays_on(page, seconds, least=0.5):
     """Whether pictures go on for that long: at least that share of the time is shown."""
     before = seen(page)
-    time.sleep(seconds)
+    time.sleep(seconds * SLACK)
     after = seen(page)
     return after["time"] - before["time"] > least * seconds and after["frames"] > before["frames"]
 
