@@ -295,7 +295,7 @@ class World:
     """What the parts share: clips, a folder, a browser."""
 
     def __init__(self, folder, program, pictures):
-        self.folder, self.program, self.pictures, self.made, self.origins = folder, program, pictures, 0, []
+        self.folder, self.program, self.pictures, self.made, self.kept = folder, program, pictures, 0, []
         self.browser = Browser()
         print("encoding ..", flush=True)
         encode_video(self.path("v360.mp4"), LOOP, 25, 480, 270, ["-b:v", "500k"])
@@ -309,8 +309,12 @@ class World:
 
     def origin(self, options=OPTIONS, specs=SPECS, port=None):
         self.made += 1
-        self.origins.append(Origin(self.program, self.folder, options, specs, port=port, name=f"origin{self.made}"))
-        return self.origins[-1]
+        return self.keep(Origin(self.program, self.folder, options, specs, port=port, name=f"origin{self.made}"))
+
+    def keep(self, server):
+        """A server that is stopped at the end, whatever comes."""
+        self.kept.append(server)
+        return server
 
     def encoders(self, port, begins=None, speed=1, first=0):
         begins = time.time() if begins is None else begins
@@ -323,8 +327,8 @@ class World:
     def close(self):
         if self.browser.process.poll() is None:
             self.browser.close()
-        for origin in self.origins:
-            origin.stop()
+        for server in self.kept:
+            server.stop()
 
 
 def part(name):
