@@ -14,6 +14,7 @@ const BEHIND = 30; // and kept behind it
 const MEDIA_LIMIT = 268435456;
 const KEPT_MISSES = 300;
 const TRIES = 3; // for a segment that is listed and isn't given
+const MOST_RESTARTS = 10;
 const MISPLACED = 1.5; // seconds; renditions of one place lie nearer to each other
 
 const $ = (id) => document.getElementById(id);
@@ -35,7 +36,7 @@ class Track {
 
     // Whether a segment is there, or won't ever be.
     has(entry) {
-        if (entry.gone || this.misses.get(entry) >= TRIES) return true;
+        if (entry.gone || this.misses.get(entry) >= TRIES || this.player.bad.has(entry.sequence)) return true;
         const [{ buffered }, middle] = [this.buffer, entry.at + entry.length / 2];
         for (let i = 0; i < buffered.length; i++) if (buffered.start(i) <= middle && middle < buffered.end(i)) return true;
         return false;
@@ -74,6 +75,11 @@ class Track {
         Object.assign(this, { init, initKey: key, initBytes: bytes });
         this.choices[this.choice].resolution ||= init.tracks[0].size?.join("x") ?? "";
         if (this.buffer) await this.append(bytes);
+    }
+
+    open(source) {
+        this.buffer = source.addSourceBuffer(this.init.type);
+        this.buffer.addEventListener("error", () => { if (this.filling) this.player.bad.add(this.filling.sequence); });
     }
 
     // Fills the buffer for as long as the player is there.
@@ -181,10 +187,10 @@ class Track {
     }
 }
 
-// Loads, places and shows; says by `say` what there is to be said.
+// Loads, places and shows; says by `say` what there is to be said. `bad` has the numbers of segments that the browser can't take.
 class Player {
-    constructor(video, say) {
-        Object.assign(this, { video, say, line: new Line(), tracks: [], shifts: new Map(), ahead: AHEAD, goal: null, rate: 0, automatic: true });
+    constructor(video, say, bad) {
+        Object.assign(this, { video, say, bad, line: new Line(), tracks: [], shifts: new Map(), ahead: AHEAD, goal: null, rate: 0, automatic: true });
         Object.assign(this, { faults: new Map(), begun: false, closed: false, waiting: [], jumps: 0 });
     }
 
@@ -221,7 +227,7 @@ class Player {
         await once(source, "sourceopen");
         URL.revokeObjectURL(this.video.src);
         // all buffers are there before the first takes anything
-        for (const track of this.tracks) track.buffer = source.addSourceBuffer(track.init.type);
+        for (const track of this.tracks) track.open(source);
         this.goal = this.isLive ? this.line.live : from;
         for (const work of [...this.tracks.map((track) => track.feed()), this.follow()]) work.catch((fault) => this.fail(fault));
         this.timer = setInterval(() => this.tick(), 250);
@@ -519,10 +525,9 @@ function playNatively(url) {
     play();
 }
 
-let restarts = 0;
-async function start(url, from) {
+async function start(url, from, bad = new Set()) {
     player?.close();
-    player = new Player(video, say);
+    player = new Player(video, say, bad);
     try {
         await player.open(url, from);
         play();
@@ -541,10 +546,14 @@ function main() {
     say("Loading ..");
     if (!("MediaSource" in window)) return video.canPlayType("application/vnd.apple.mpegurl") ? playNatively(url) : say("This browser can play no such stream.");
     listen();
-    // what the browser can't decode is left out, but not for ever
+    // What the browser can't take is left out: a segment that it refuses, else two seconds from where it stopped; not for ever.
+    let restarts = 0, refused = 0;
     video.addEventListener("error", () => {
-        if (!player.begun || restarts++ === 5) player.fail(video.error);
-        else start(url, player.at + 2);
+        const { at, bad } = player;
+        const isKnown = bad.size > refused;
+        refused = bad.size;
+        if (restarts++ === MOST_RESTARTS) player.fail(video.error);
+        else start(url, isKnown ? at : at + 2, bad);
     });
     $("proof").addEventListener("toggle", () => prove(url));
     start(url, 0);
