@@ -123,7 +123,8 @@ class Track {
         this.player.measure(bytes.length, performance.now() - begun);
         this.place(entry, bytes);
         await this.append(bytes);
-        if (!this.has(entry)) this.miss(entry);
+        // one that doesn't reach its own middle is all that there is
+        if (!this.has(entry)) this.miss(entry, TRIES);
         await this.forget();
     }
 
@@ -174,8 +175,8 @@ class Track {
         if (this.buffer.buffered.length > 0 && this.buffer.buffered.start(0) < old - 10) await this.remove(0, old);
     }
 
-    miss(entry) {
-        this.misses.set(entry, (this.misses.get(entry) ?? 0) + 1);
+    miss(entry, times = 1) {
+        this.misses.set(entry, (this.misses.get(entry) ?? 0) + times);
         if (this.misses.size > KEPT_MISSES) this.misses.delete(this.misses.keys().next().value);
     }
 
@@ -191,7 +192,7 @@ class Track {
 class Player {
     constructor(video, say, bad) {
         Object.assign(this, { video, say, bad, line: new Line(), tracks: [], shifts: new Map(), ahead: AHEAD, goal: null, rate: 0, automatic: true });
-        Object.assign(this, { faults: new Map(), begun: false, closed: false, waiting: [], jumps: 0 });
+        Object.assign(this, { faults: new Map(), begun: false, closed: false, waiting: [], stood: { at: -1, since: 0 } });
     }
 
     // What is seen, or will be once it is there.
@@ -292,7 +293,9 @@ class Player {
     tick() {
         const { video, line, at } = this;
         this.show();
-        const range = [...Array(video.buffered.length).keys()].map((i) => [video.buffered.start(i), video.buffered.end(i)]).find(([, end]) => end > at + 0.1);
+        // browsers stop a little before the end of what they hold
+        const rest = this.stands() ? 1 : 0.1;
+        const range = [...Array(video.buffered.length).keys()].map((i) => [video.buffered.start(i), video.buffered.end(i)]).find(([, end]) => end > at + rest);
         if (range && range[0] <= at + 0.05) this.arrive(at);
         else if (range && this.isLoadedUpTo(range[0])) this.arrive(range[0] + 0.01, true);
         else if (!range && at < line.start - 1) {
@@ -303,9 +306,15 @@ class Player {
         this.wake();
     }
 
+    // Whether it would play and hasn't moved for some time.
+    stands() {
+        const { currentTime, paused, readyState } = this.video;
+        if (currentTime !== this.stood.at || paused || readyState > 2 || this.goal !== null) this.stood = { at: currentTime, since: performance.now() };
+        return performance.now() - this.stood.since > 700;
+    }
+
     arrive(time, jumps = false) {
         if (this.goal === null && !jumps) return;
-        if (jumps && this.begun) this.jumps++;
         if (!this.begun) this.say("");
         this.goal = null;
         this.begun = true;
