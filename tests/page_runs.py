@@ -294,22 +294,27 @@ def is_clean(name, page, hosts=1):
 class World:
     """What the parts share: clips, a folder, a browser."""
 
-    def __init__(self, folder, program, pictures):
-        self.folder, self.program, self.pictures, self.made, self.kept = folder, program, pictures, 0, []
+    def __init__(self, folder, media, program, pictures):
+        self.folder, self.media, self.program, self.pictures, self.kept = folder, media, program, pictures, []
+        self.clips = [Clip(self.encoded(name, encode, LOOP, *how), scale) for name, encode, how, scale in (
+            ("v360.mp4", encode_video, (25, 480, 270, ["-b:v", "500k"]), 12800), ("v180.mp4", encode_video, (25, 240, 134, ["-b:v", "150k"]), 12800),
+            ("en.mp4", encode_audio, (440,), 48000), ("de.mp4", encode_audio, (330,), 48000))]
         self.browser = Browser()
-        print("encoding ..", flush=True)
-        encode_video(self.path("v360.mp4"), LOOP, 25, 480, 270, ["-b:v", "500k"])
-        encode_video(self.path("v180.mp4"), LOOP, 25, 240, 134, ["-b:v", "150k"])
-        encode_audio(self.path("en.mp4"), LOOP, 440)
-        encode_audio(self.path("de.mp4"), LOOP, 330)
-        self.clips = [Clip(self.path(name), scale) for name, scale in (("v360.mp4", 12800), ("v180.mp4", 12800), ("en.mp4", 48000), ("de.mp4", 48000))]
+
+    def encoded(self, name, encode, *how):
+        """The path of a clip, which is encoded where it isn't there yet."""
+        path = os.path.join(self.media, name)
+        if not os.path.exists(path):
+            print(f"encoding {name} ..", flush=True)
+            encode(path + ".part", *how)
+            os.rename(path + ".part", path)
+        return path
 
     def path(self, name):
         return os.path.join(self.folder, name)
 
     def origin(self, options=OPTIONS, specs=SPECS, port=None):
-        self.made += 1
-        return self.keep(Origin(self.program, self.folder, options, specs, port=port, name=f"origin{self.made}"))
+        return self.keep(Origin(self.program, self.folder, options, specs, port=port, name=f"origin{len(self.kept)}"))
 
     def keep(self, server):
         """A server that is stopped at the end, whatever comes."""
