@@ -1,13 +1,12 @@
 //! The common places with no trimmed fragment.
 
-ghost use Rattle.std.specs.Prelude.{◌≡◌, ◌≤◌, length, take, IfOk, MatchOption};
+ghost use Rattle.std.specs.Prelude.{◌≡◌, ◌≤◌, length, take, IfOk};
 ghost use Rattle.hls_core_laws.specs.IsState.{IsState};
 ghost use Rattle.hls_core_laws.specs.Places.{sources};
 ghost use Rattle.hls_places_laws.specs.Sources.{AreSources};
 ghost use Rattle.hls_places_laws.specs.Order.{spots_of};
-ghost use Rattle.hls_places_laws.specs.Firsts.{first_after};
 ghost use Rattle.hls_places_laws.specs.Programmes.{is_kept};
-ghost use Rattle.hls_catchup.specs.Kept.{kept_in, all_kept, kept_from, IsLastBy, IsCountTo};
+ghost use Rattle.hls_catchup.specs.Kept.{kept_in, kept_from, IsCountTo};
 
 use crate::floors::floors_of;
 use hls_blocks::Shared;
@@ -55,24 +54,6 @@ impl<'a> KeptPlaces<'a> {
         ensures { result ≡ is_kept self.now.floors place.now }
     {
         is_kept(place, &self.floors[..self.renditions])
-    }
-
-    /// The number of the last kept place at or before a time in microseconds; None where there is none.
-    pub fn last_by(&self, time: u64) -> Option<u64>
-        ensures { MatchOption result (first_after time (all_kept self.now) ≡ 0) (IsLastBy self.now time) }
-    {
-        let mut last = None;
-        let mut number = 0;
-        for place in self.places.iter_from(0) {
-            if self.has(place) {
-                if time < time_of(place) {
-                    return last;
-                }
-                last = Some(number);
-            }
-            number += 1;
-        }
-        last
     }
 
     /// How many kept places there are from number `from` to the first at or after a time in microseconds, that one included;

@@ -4,7 +4,6 @@
 
 pub use actions::{Action, play};
 pub use cutout::{Cutout, cut};
-pub use floors::floors_of;
 pub use hls_check_laws::CostRule;
 pub use laws::good_is_accepted;
 pub use lists::job_lists;

@@ -9,6 +9,7 @@ use crate::kept::KeptPlaces;
 use crate::recordings::all_finished;
 use crate::request::{CatchFault, Request};
 use hls_check_laws::{CHARGE_LIMIT, PLACE_LIMIT};
+use hls_core::kept::last_kept_by;
 use hls_core::snapshot::Snapshot;
 
 /// The places of a programme: the first `count` kept ones from number `from` on.
@@ -44,7 +45,7 @@ fn programme_within(snapshot: &Snapshot, request: Request) -> Result<Programme<'
     ensures { IsFound snapshot.now request result }
 {
     let places = KeptPlaces::of(snapshot);
-    let Some(from) = places.last_by(request.start_us) else {
+    let Some(from) = last_kept_by(snapshot, request.start_us) else {
         return Err(CatchFault::BeforeRecording);
     };
     let Some(count) = places.count_to(from, request.stop_us) else {

@@ -1,45 +1,17 @@
 //! How far a channel is, as a few numbers.
 
 ghost use Rattle.std.specs.Prelude.{◌≡◌, ◌++◌, IfOk, length};
-ghost use Rattle.hls_places_laws.specs.Programmes.{kept};
 ghost use Rattle.hls_live_laws.specs.Live.{segments_of};
-ghost use Rattle.hls_core_laws.specs.Places.{kept_places};
 ghost use Rattle.hls_serve_laws.specs.Replies as spec;
 ghost use Rattle.hls_serve_laws.specs.Replies.{status_row, status_text};
 
 use crate::answer::Answer;
 use crate::texts::text_answer;
-use hls_blocks::Shared;
-use hls_catchup::floors_of;
+use hls_core::kept::kept_count;
 use hls_core::snapshot::Snapshot;
 use hls_http_laws::reply::Status;
 use hls_live::LiveLine;
-use hls_places::{Place, is_kept};
 use std::alloc::{AllocError, Global};
-
-/// How many places have no fragment below its rendition's floor.
-fn count_kept(places: &Shared<Place>, floors: &[u64]) -> u64
-    requires { places.now.first ≡ 0 }
-    ensures { result ≡ length (kept floors.now places.now.items) }
-{
-    let _ = places.next();
-    let mut count = 0;
-    for place in places.iter_from(0) {
-        if is_kept(place, floors) {
-            count += 1;
-        }
-    }
-    count
-}
-
-/// How many common places have no trimmed fragment.
-fn kept_count(snapshot: &Snapshot) -> u64
-    ensures { result ≡ length (kept_places snapshot.now) }
-{
-    let floors = floors_of(snapshot);
-    let renditions = snapshot.config().renditions().len();
-    count_kept(snapshot.places(), &floors[..renditions])
-}
 
 /// How many segments a live line keeps.
 fn live_count(line: &LiveLine) -> u64
