@@ -46,6 +46,7 @@ use hls_settings::read_epoch;
 use std::io::Eprint;
 use std::net::{Net, TcpListener, TcpStream};
 use std::process::ExitCode;
+use std::rt::{Env, Files};
 use std::sync::Wait;
 use std::thread::Threads;
 use std::time::Clock;
@@ -340,7 +341,14 @@ fn asks_for_help(words: &[String]) -> bool {
 /// Does what the first word names; without a word `cut`.
 fn run_words<R>(rt: &HostRuntime, threads: &R, words: &[String]) -> ExitCode
 where
-    R: Net<Listener = TcpListener, Stream = TcpStream> + Threads + Wait + Clock + Eprint + Sync,
+    R: Net<Listener = TcpListener, Stream = TcpStream>
+        + Threads
+        + Wait
+        + Clock
+        + Eprint
+        + Env
+        + Files
+        + Sync,
 {
     if asks_for_help(words) {
         return print_help(rt);

@@ -1,6 +1,7 @@
 //! What is told again only after a while.
 
-ghost use Rattle.std.specs.Prelude.{◌≡◌, ◌-◌, ◌||◌, nat_eq, nat_le};
+ghost use Rattle.std.specs.Prelude.{◌≡◌, ◌-◌, ◌||◌, false, nat_eq, nat_le};
+ghost use Rattle.hls_server.specs.Bells.{bell_after, said_after};
 
 /// For how long what goes on failing isn't told again, in milliseconds.
 const QUIET: u64 = 60000;
@@ -10,4 +11,65 @@ pub fn is_due(told: u64, now: u64) -> bool
     ensures { result ≡ (nat_eq told 0 || nat_le 60000 (now - told)) }
 {
     told == 0 || now.saturating_sub(told) >= QUIET
+}
+
+/// What is told of something that may last.
+#[derive(Clone, Copy)]
+pub enum Said {
+    Nothing,
+    /// That it is so.
+    Lasts,
+    /// That it is over.
+    Over,
+}
+
+/// Something that may last, as it was told.
+#[derive(Clone, Copy)]
+pub struct Bell {
+    /// Whether it was told, and not yet that it is over.
+    pub lasts: bool,
+    /// When it was told last, in milliseconds of the clock; 0 where it never was.
+    pub told: u64,
+}
+
+impl Bell {
+    /// Of what was never told.
+    pub fn new() -> Bell
+        ensures { result ≡ record { lasts = false; told = 0 } }
+    {
+        Bell {
+            lasts: false,
+            told: 0,
+        }
+    }
+
+    /// The bell and what is told, where it is so or not at a moment: once a minute at most that it is so, while it lasts
+    /// `again` or not, and that it is over once, if it was told.
+    pub fn heard(self, holds: bool, again: bool, now: u64) -> (Bell, Said)
+        ensures bell { result.0 ≡ bell_after holds again now self }
+        ensures said { result.1 ≡ said_after holds again now self }
+    {
+        if !holds {
+            let over = Bell {
+                lasts: false,
+                told: self.told,
+            };
+            return (
+                over,
+                if self.lasts {
+                    Said::Over
+                } else {
+                    Said::Nothing
+                },
+            );
+        }
+        if (self.lasts && !again) || !is_due(self.told, now) {
+            return (self, Said::Nothing);
+        }
+        let rung = Bell {
+            lasts: true,
+            told: now,
+        };
+        (rung, Said::Lasts)
+    }
 }

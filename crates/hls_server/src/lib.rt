@@ -6,17 +6,27 @@
 #![tactic(auto)]
 
 mod connection;
+mod cuts;
 mod due;
+mod gauge;
 mod house;
+mod lag;
 mod lines;
 mod log;
+mod near;
 mod planner;
+mod recent;
+mod rest;
 mod server;
+mod start;
 mod station;
+mod warnings;
+mod watch;
 mod worker;
 
 pub use house::keep_house;
 pub use lines::{Ingest, Limits, Name, Names, Request};
-pub use log::tell_listening;
+pub use log::{Log, tell_listening};
 pub use server::run_server;
+pub use start::tell_start;
 pub use station::Station;

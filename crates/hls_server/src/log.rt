@@ -3,6 +3,7 @@
 use crate::lines::{Limits, Names};
 use hls_core_laws::refusal::Refusal;
 use hls_settings::Settings;
+use std::env::{Env, FillError};
 use std::fmt::Display;
 use std::io::{Eprint, Error};
 use std::net::SocketAddr;
@@ -10,6 +11,38 @@ use std::net::SocketAddr;
 /// A line of the server's.
 pub fn tell<E: Eprint, D: Display + Drop>(rt: &E, line: D) {
     let _ = eprintln!(rt; "serve: {line}");
+}
+
+/// Where the server's lines of weight go.
+#[derive(Drop)]
+pub struct Log<'a, E> {
+    pub rt: &'a E,
+    /// Whether a journal reads them: each begins with its level then.
+    pub journal: bool,
+}
+
+impl<'a, E: Env> Log<'a, E> {
+    /// A journal's socket is told by `JOURNAL_STREAM` (systemd.exec(5)), and takes levels (sd-daemon(3)).
+    pub fn new(rt: &'a E) -> Log<'a, E> {
+        let mut value = [0; 64];
+        let found = rt.var("JOURNAL_STREAM", &mut value);
+        Log {
+            rt,
+            journal: !matches!(found, Err(FillError::NotPresent)),
+        }
+    }
+}
+
+impl<'a, E> Log<'a, E> {
+    /// What stands before a line that says what will go wrong.
+    pub fn warning(&self) -> &'static str {
+        if self.journal { "<4>" } else { "" }
+    }
+
+    /// What stands before a line that says what has gone wrong.
+    pub fn error(&self) -> &'static str {
+        if self.journal { "<3>" } else { "" }
+    }
 }
 
 /// The line of a server that listens: where, its renditions, and what is in force.
@@ -20,9 +53,9 @@ pub fn tell_listening<E: Eprint>(rt: &E, address: SocketAddr, settings: &Setting
 }
 
 /// An event of the housekeeper's that was refused, or couldn't be found.
-pub fn tell_refused_upkeep<E: Eprint>(rt: &E, refusal: Refusal) {
-    let name = refusal.name();
-    let _ = eprintln!(rt; "serve: upkeep refused {name}");
+pub fn tell_refused_upkeep<E: Eprint>(log: &Log<'_, E>, refusal: Refusal) {
+    let (level, name) = (log.error(), refusal.name());
+    let _ = eprintln!(log.rt; "{level}serve: upkeep refused {name}");
 }
 
 /// An accept that failed; told once a minute at most.
@@ -40,20 +73,21 @@ pub struct Crew {
 }
 
 /// Not all threads that are wanted could be started.
-pub fn tell_fewer_threads<E: Eprint>(rt: &E, started: Crew, wanted: Crew) {
+pub fn tell_fewer_threads<E: Eprint>(log: &Log<'_, E>, started: Crew, wanted: Crew) {
+    let (rt, warning, error) = (log.rt, log.warning(), log.error());
     if !started.keeps_house {
         let _ = eprintln!(rt;
-            "serve: no thread for upkeep: live lists don't slide, and nothing is trimmed"
+            "{error}serve: no thread for upkeep: live lists don't slide, and nothing is trimmed"
         );
     }
     let (workers, all) = (started.workers, wanted.workers);
     if workers < all {
-        let _ = eprintln!(rt; "serve: {workers} of {all} workers could be started");
+        let _ = eprintln!(rt; "{warning}serve: {workers} of {all} workers could be started");
     }
     let (planners, all) = (started.planners, wanted.planners);
     if planners == 0 {
-        let _ = eprintln!(rt; "serve: no thread for planning: catch-up jobs wait for ever");
+        let _ = eprintln!(rt; "{error}serve: no thread for planning: catch-up jobs wait for ever");
     } else if planners < all {
-        let _ = eprintln!(rt; "serve: {planners} of {all} planners could be started");
+        let _ = eprintln!(rt; "{warning}serve: {planners} of {all} planners could be started");
     }
 }

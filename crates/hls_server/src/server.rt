@@ -3,7 +3,7 @@
 ghost use Rattle.std.specs.Prelude.{◌≡◌, ◌+◌, ◌≤◌, All, max, min};
 
 use crate::house::keep_house;
-use crate::log::{Crew, tell_fewer_threads};
+use crate::log::{Crew, Log, tell_fewer_threads};
 use crate::planner::plan_jobs;
 use crate::worker::{Door, work};
 use hls_core::snapshot::Snapshot;
@@ -15,6 +15,7 @@ use hls_turn::{Pass, Turn};
 use std::alloc::{AllocError, Global};
 use std::io::Eprint;
 use std::net::TcpListener;
+use std::rt::Env;
 use std::sync::Wait;
 use std::sync::atomic::{AtomicBool, AtomicU64, Ordering};
 use std::thread::{self, Threads};
@@ -38,7 +39,7 @@ fn passes_for(workers: u64) -> u16
 /// Each worker serves one connection at a time, so idle ones are closed early where none is free. Where a thread can't be
 /// started, the rest serve, and the operator is told; want of memory comes before a thread is started, or where no worker
 /// could be. May wait.
-pub fn run_server<R: Threads + Wait + Clock + Eprint + Sync>(
+pub fn run_server<R: Threads + Wait + Clock + Eprint + Env + Sync>(
     rt: &R,
     alloc: Global,
     settings: &Settings,
@@ -60,7 +61,7 @@ pub fn run_server<R: Threads + Wait + Clock + Eprint + Sync>(
 
 /// Runs a thread for each pass: the last one's keeps house, and the others serve so many connections each. The planners' are
 /// beside them.
-fn run_threads<R: Threads + Wait + Clock + Eprint + Sync>(
+fn run_threads<R: Threads + Wait + Clock + Eprint + Env + Sync>(
     rt: &R,
     alloc: Global,
     channel: &Channel<'_>,
@@ -81,7 +82,6 @@ fn run_threads<R: Threads + Wait + Clock + Eprint + Sync>(
         told: &told,
     };
     let door = &door;
-    let timing = settings.plain.timing;
     let planners = settings.plain.workers.planners;
     thread::scope(
         thread::scope_env(),
@@ -102,7 +102,7 @@ fn run_threads<R: Threads + Wait + Clock + Eprint + Sync>(
             let keeper = scope.spawn(
                 move || -> ()
                     requires { last.turn ≡ channel.now.turn.now }
-                { keep_house(rt, alloc, channel.turn, timing, closed, &mut last) },
+                { keep_house(rt, alloc, channel, settings, closed, &mut last) },
             );
             for pass in passes {
                 let mut pass = pass;
@@ -128,7 +128,7 @@ fn run_threads<R: Threads + Wait + Clock + Eprint + Sync>(
                     started.planners = started.planners.saturating_add(1);
                 }
             }
-            tell_fewer_threads(rt, started, wanted);
+            tell_fewer_threads(&Log::new(rt), started, wanted);
             for worker in workers {
                 worker.join(rt);
             }

@@ -2,12 +2,13 @@
 ghost use Rattle.std.specs.Prelude.{map};
 ghost use Rattle.hls_origin.specs.ServeRun.{EndsServe};
 
-use hls_server::{run_server, tell_listening};
+use hls_server::{Log, run_server, tell_listening, tell_start};
 use hls_settings::{Address, SettingsFault, read_settings};
 use std::alloc::Global;
 use std::convert::AsStr;
 use std::io::Eprint;
 use std::net::{Ipv4Addr, Net, SocketAddrV4, TcpListener, TcpStream};
+use std::rt::{Env, Files};
 use std::sync::Wait;
 use std::thread::Threads;
 use std::time::Clock;
@@ -33,7 +34,14 @@ fn socket_of(address: Address) -> SocketAddrV4 {
 /// Reads the words, listens, and serves. It says on standard error where it listens, and what comes of each encoder's body.
 pub fn run_serve<'a, S: AsStr, R>(rt: &R, alloc: Global, words: &'a [S]) -> ServeEnd
 where
-    R: Net<Listener = TcpListener, Stream = TcpStream> + Threads + Wait + Clock + Eprint + Sync,
+    R: Net<Listener = TcpListener, Stream = TcpStream>
+        + Threads
+        + Wait
+        + Clock
+        + Eprint
+        + Env
+        + Files
+        + Sync,
     ensures { EndsServe (map S.text words.entry.now) result }
 {
     let settings = match read_settings(alloc, words) {
@@ -47,6 +55,7 @@ where
     if let Ok(address) = listener.local_addr() {
         tell_listening(rt, address, &settings);
     }
+    tell_start(&Log::new(rt), alloc, &settings);
     match run_server(rt, alloc, &settings, &listener, None) {
         Ok(()) => ServeEnd::Done,
         Err(_) => ServeEnd::Memory,

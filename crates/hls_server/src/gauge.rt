@@ -1,0 +1,121 @@
+//! How near something is to its limit, and when it will be there.
+
+ghost use Rattle.std.specs.Prelude.{◌≡◌, ◌≤◌, ◌^◌};
+ghost use Rattle.hls_server.specs.Gauges.{left_at, level_of, marked, raised, told_of};
+
+/// For how long a mark stands at least, in milliseconds: the rate is that of the last half hour to an hour.
+const HALF_HOUR: u64 = 1_800_000;
+
+/// How much was used at a moment of the clock, in milliseconds.
+#[derive(Clone, Copy)]
+pub struct Mark {
+    pub at: u64,
+    pub used: u64,
+}
+
+/// How much of something was used, as far as that was looked at.
+#[derive(Clone, Copy)]
+pub struct Gauge {
+    /// The level that was told, in percent; 0 before the first one.
+    pub told: u64,
+    /// The rate counts from here.
+    pub since: Mark,
+    /// From here it counts once that is half an hour old.
+    pub next: Mark,
+}
+
+/// What is told of a gauge.
+#[derive(Clone, Copy)]
+pub struct Nearing {
+    /// In percent.
+    pub level: u64,
+    /// How long it lasts, in milliseconds, where anything has come since the rate counts.
+    pub left: Option<u64>,
+}
+
+/// The greatest of 80, 90, 95 and 99 percent of a limit that is used; 0 below the first.
+fn level(used: u64, limit: u64) -> u64
+    requires used { used ≤ 2 ^ 56 }
+    requires limit { limit ≤ 2 ^ 56 }
+    ensures { result ≡ level_of used limit }
+{
+    if used * 100 >= limit * 99 {
+        return 99;
+    }
+    if used * 100 >= limit * 95 {
+        return 95;
+    }
+    if used * 100 >= limit * 90 {
+        return 90;
+    }
+    if used * 100 >= limit * 80 {
+        return 80;
+    }
+    0
+}
+
+/// In how long as much as is left will be used, where so much was in so long.
+fn left(rest: u64, gained: u64, passed: u64) -> Option<u64>
+    ensures { result ≡ left_at rest gained passed }
+{
+    if gained == 0 {
+        return None;
+    }
+    let time = u128::from(rest) * u128::from(passed) / u128::from(gained);
+    Some(u64::try_from(time).unwrap_or(u64::MAX))
+}
+
+impl Gauge {
+    /// At a moment, nothing told.
+    pub fn new(now: u64, used: u64) -> Gauge
+        ensures { result ≡ record { told = 0; since = record { at = now; used = used }; next = record { at = now; used = used } } }
+    {
+        let mark = Mark { at: now, used };
+        Gauge {
+            told: 0,
+            since: mark,
+            next: mark,
+        }
+    }
+
+    /// With the marks as they are at a moment.
+    fn marked(self, now: u64, used: u64) -> Gauge
+        ensures { result ≡ marked now used self }
+    {
+        if now.saturating_sub(self.next.at) < HALF_HOUR {
+            return self;
+        }
+        Gauge {
+            told: self.told,
+            since: self.next,
+            next: Mark { at: now, used },
+        }
+    }
+
+    /// The gauge where so much is used of a limit at a moment, and what is told then: each level once.
+    pub fn looked(self, used: u64, limit: u64, now: u64) -> (Gauge, Option<Nearing>)
+        requires used { used ≤ 2 ^ 56 }
+        requires limit { limit ≤ 2 ^ 56 }
+        ensures gauge { result.0 ≡ raised (level_of used limit) (marked now used self) }
+        ensures told { result.1 ≡ told_of used limit now self }
+    {
+        let level = level(used, limit);
+        let gauge = self.marked(now, used);
+        if level <= self.told {
+            return (gauge, None);
+        }
+        let rest = limit.saturating_sub(used);
+        let gained = used.saturating_sub(self.since.used);
+        let passed = now.saturating_sub(self.since.at);
+        let raised = Gauge {
+            told: level,
+            since: gauge.since,
+            next: gauge.next,
+        };
+        let nearing = Nearing {
+            level,
+            left: left(rest, gained, passed),
+        };
+        (raised, Some(nearing))
+    }
+}
