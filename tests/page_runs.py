@@ -62,7 +62,7 @@ def boxes(text, at=0):
 
 
 class Clip:
-    """An encoded clip's init section and its units, each with the place of its time and that time in seconds."""
+    """An encoded clip's init section and its units, each with its time in ticks and the place where that stands."""
 
     def __init__(self, path, scale):
         with open(path, "rb") as file:
@@ -78,15 +78,15 @@ class Clip:
                     raise SystemExit("a tfdt of 32 bits")
                 time_, = struct.unpack_from(">Q", unit, at)
                 if time_ < LOOP * scale:
-                    self.units.append((time_ / scale, at, unit))
+                    self.units.append((time_, at, unit))
                 begun = to
 
     def unit(self, number, begins):
         """The unit of a number, counted on from loop to loop, `begins` seconds later."""
         loop, at = divmod(number, len(self.units))
-        time_, place, unit = self.units[at]
-        time_ += loop * LOOP
-        return time_, unit[:place] + struct.pack(">Q", round((time_ + begins) * self.scale)) + unit[place + 8:]
+        ticks, place, unit = self.units[at]
+        ticks += loop * LOOP * self.scale
+        return ticks / self.scale, unit[:place] + struct.pack(">Q", ticks + round(begins * self.scale)) + unit[place + 8:]
 
 
 class Encoder(threading.Thread):
