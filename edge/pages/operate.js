@@ -85,7 +85,9 @@ function paintRenditions() {
     });
     $("renditions").replaceChildren(...rows);
     const late = channel.renditions.filter((_, i) => rows[i].className === "late").map(({ number }) => number);
-    if (late.length > 0) say(`Rendition ${late.join(", ")} is late: no place, and so no segment, can be made without it.`);
+    const silence = Math.min(...channel.renditions.map(({ cameAt }) => cameAt === null ? 0 : (performance.now() - cameAt) / 1000));
+    if (late.length === rows.length && silence > 2 * channel.target) say(`Nothing has come for ${silence.toFixed(0)} s: the encoders are silent, or this page is asleep.`);
+    else if (late.length > 0) say(`Rendition ${late.join(", ")} is late: no place, and so no segment, can be made without it.`);
     else if (channel.list?.ended) say("The channel has ended.");
     else say(`All renditions go on${behindClock()}.`);
 }
@@ -212,12 +214,20 @@ async function show(bytes, name) {
     return answer;
 }
 
+// A programme on the picture, which moves there where it isn't in sight.
+function bring(from, to) {
+    lanes.chosen = [from, to];
+    if (from >= lanes.span[0] && to <= lanes.span[1]) return;
+    lanes.follows = false;
+    lanes.span = [from - (to - from) / 4, to + (to - from) / 4];
+}
+
 async function showCertificate(job) {
     try {
         const { good, certificate } = await show(await load(`${channel.base}job/${job}/certificate.txt`, { limit: CERTIFICATE_LIMIT, cache: "no-store" }), `Job ${job}`);
         lanes.plan = good ? segmentsOf(certificate) : null;
         const { start, prevEnd } = certificate?.table[0] ?? {};
-        if (start) lanes.chosen = [start[0], prevEnd[certificate.places - 1]];
+        if (start) bring(start[0], prevEnd[certificate.places - 1]);
         if (start && !wished.has(job)) {
             wished.set(job, lanes.chosen.map(clockOf).join(" to "));
             await showJobs();

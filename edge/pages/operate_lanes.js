@@ -161,7 +161,8 @@ export class Lanes {
 
     choice(lanes) {
         if (!this.chosen) return;
-        const { pen, chosen: [from, to] } = this;
+        const { pen } = this;
+        const [from, to] = this.chosen.map((time) => Math.max(this.span[0], Math.min(time, this.span[1])));
         this.box(from, to, AXIS, lanes * (LANE + GAP), "accent", 0.18);
         pen.strokeStyle = this.colour("accent");
         for (const time of [from, to]) {
