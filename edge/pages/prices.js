@@ -33,6 +33,16 @@ export function wordsOf({ said, good, certificate }) {
     return `Checked here: of all cuts at these ${certificate.places} places none costs less than this one, ${seconds(certificate.cut, 3)}${charge}, in ${certificate.plan.length - 1} segments.`;
 }
 
+// The page's colours of the moment, each looked up once for a drawing.
+function palette() {
+    const style = getComputedStyle(document.documentElement);
+    const known = new Map();
+    return (name) => {
+        if (!known.has(name)) known.set(name, style.getPropertyValue(`--${name}`).trim());
+        return known.get(name);
+    };
+}
+
 /// Checks a certificate's bytes in a worker.
 export function checkAside(bytes) {
     return new Promise((done, failed) => {
@@ -44,8 +54,6 @@ export function checkAside(bytes) {
     });
 }
 
-const colour = (name) => getComputedStyle(document.documentElement).getPropertyValue(`--${name}`).trim();
-
 // A canvas of its own width in points, sharp on every screen.
 export function surface(canvas, height) {
     const [width, ratio] = [canvas.clientWidth || NARROW, window.devicePixelRatio || 1];
@@ -54,7 +62,7 @@ export function surface(canvas, height) {
     const pen = canvas.getContext("2d");
     pen.scale(ratio, ratio);
     pen.font = "13px system-ui, 'DejaVu Sans', sans-serif";
-    return { pen, width, height, colour };
+    return { pen, width, height, colour: palette() };
 }
 
 // A round step of which so many fit.
@@ -62,7 +70,7 @@ const stepOf = (span, most) => [1, 2, 5].flatMap((n) => Array.from({ length: 16 
 
 /// Draws the prices of a certificate's places over time: the plan's as a line, the others as dots.
 export function drawPrices(canvas, certificate) {
-    const { pen, width, height } = surface(canvas, 220);
+    const { pen, width, height, colour } = surface(canvas, 220);
     const { table: [{ start, prevEnd }], prices, closed, places } = certificate;
     const plan = certificate.plan?.length <= places ? certificate.plan : [];
     const [from, to] = [start[0], Math.max(start[places - 1], prevEnd[places - 1], start[0] + 1)];
@@ -89,9 +97,7 @@ export function drawPrices(canvas, certificate) {
     for (let p = 0; p < places; p++) {
         const reached = prices ? prices[p] < Infinity : closed[p];
         pen.fillStyle = colour(reached ? "violet" : "bad");
-        pen.beginPath();
-        pen.arc(x(p), prices && reached ? y(prices[p]) : y(0), 2.5, 0, 7);
-        pen.fill();
+        pen.fillRect(x(p) - 2, (prices && reached ? y(prices[p]) : y(0)) - 2, 4, 4);
     }
     pen.strokeStyle = pen.fillStyle = colour("good");
     pen.lineWidth = 2;
