@@ -70,18 +70,30 @@ function paintFigures() {
     $("clock").textContent = new Date().toLocaleTimeString("en-GB");
 }
 
-// The newest end of all renditions, and how far each is behind it.
+// What the table says of a rendition: how far it is behind the newest end of all, and since when nothing came.
+function cellsOf({ number, kind, name, codec, newest, gaps, kept, units, bandwidth }, behind, silent) {
+    const length = units.length > 1 ? (newest.to - units[0].from) / 1000000 : 0;
+    const rate = length > 0 ? units.reduce((sum, unit) => sum + unit.bytes, 0) * 8 / length : null;
+    const told = bandwidth ? ` of ${(bandwidth / 1e6).toFixed(2)}` : "";
+    return [
+        [number, kind, name].filter((word) => word !== "").join(" "),
+        codec,
+        kept === null ? "" : megabytes(kept),
+        newest ? clockOf(newest.to) : "",
+        behind === null ? "" : behind < 0.05 ? "first" : `${behind.toFixed(1)} s`,
+        silent === null ? "" : `${silent.toFixed(0)} s ago`,
+        gaps,
+        rate === null ? "" : `${(rate / 1e6).toFixed(2)} Mbit/s${told}`,
+    ];
+}
+
 function paintRenditions() {
     const rows = channel.renditions.map((rendition) => {
-        const { number, kind, name, codec, newest, cameAt, gaps, kept, units, bandwidth } = rendition;
-        const behind = newest ? (channel.end - newest.to) / 1000000 : null;
-        const silent = cameAt === null ? null : (performance.now() - cameAt) / 1000;
+        const behind = rendition.newest ? (channel.end - rendition.newest.to) / 1000000 : null;
+        const silent = rendition.cameAt === null ? null : (performance.now() - rendition.cameAt) / 1000;
         const isLate = behind !== null && (behind > LATE || silent > 2 * channel.target);
-        const length = units.length > 1 ? (newest.to - units[0].from) / 1000000 : 0;
-        const rate = length > 0 ? units.reduce((sum, unit) => sum + unit.bytes, 0) * 8 / length : null;
-        const cells = [`${number} ${kind}${name ? ` ${name}` : ""}`, codec, kept === null ? "" : megabytes(kept), newest ? clockOf(newest.to) : "", behind === null ? "" : behind < 0.05 ? "first" : `${behind.toFixed(1)} s`,
-            silent === null ? "" : `${silent.toFixed(0)} s ago`, String(gaps), rate === null ? "" : `${(rate / 1e6).toFixed(2)} Mbit/s${bandwidth ? ` of ${(bandwidth / 1e6).toFixed(2)}` : ""}`];
-        return make("tr", { className: isLate ? "late" : "" }, ...cells.map((text, i) => make(i === 0 ? "th" : "td", i === 0 ? { scope: "row", textContent: text } : { textContent: text })));
+        const [head, ...cells] = cellsOf(rendition, behind, silent);
+        return make("tr", { className: isLate ? "late" : "" }, make("th", { scope: "row", textContent: head }), ...cells.map((textContent) => make("td", { textContent })));
     });
     $("renditions").replaceChildren(...rows);
     const late = channel.renditions.filter((_, i) => rows[i].className === "late").map(({ number }) => number);
@@ -95,7 +107,8 @@ function paintRenditions() {
 // How far the newest unit is from this machine's clock, where the channel's counts the time of day.
 function behindClock() {
     const behind = channel.epoch === null ? Infinity : (Date.now() - channel.epoch - channel.end / 1000) / 1000;
-    return Math.abs(behind) > 86400 ? "" : `; the newest unit ends at ${clockOf(channel.end)}, ${Math.abs(behind).toFixed(0)} s ${behind < 0 ? "ahead of" : "behind"} this machine's clock`;
+    if (Math.abs(behind) > 86400) return "";
+    return `; the newest unit ends at ${clockOf(channel.end)}, ${Math.abs(behind).toFixed(0)} s ${behind < 0 ? "ahead of" : "behind"} this machine's clock`;
 }
 
 // Keeps the end of what came in sight for as long as nobody looks elsewhere.
@@ -113,7 +126,8 @@ function paint() {
     paintFigures();
     paintRenditions();
     const { table } = channel;
-    $("lanes").setAttribute("aria-label", `The channel from ${clockOf(channel.start)} to ${clockOf(channel.end)}: ${table?.places ?? 0} places, ${channel.live.length} live segments, ${channel.renditions.length} renditions`);
+    const counts = `${table?.places ?? 0} places, ${channel.live.length} live segments, ${channel.renditions.length} renditions`;
+    $("lanes").setAttribute("aria-label", `The channel from ${clockOf(channel.start)} to ${clockOf(channel.end)}: ${counts}`);
 }
 
 // The picture: dragging chooses, the wheel and the keys go nearer and along.
@@ -189,16 +203,20 @@ async function cut(event) {
         const state = await channel.finished(job);
         await showJobs();
         if (/^(cut|none)/.test(state)) await showCertificate(job);
-        else $("verdict").textContent = `Job ${job}: ${state}. ${helpFor(state)}`;
+        else $("verdict").textContent = `Job ${job}: ${state}. ${help[state.split(" ")[1]] ?? ""}`;
     } catch (fault) {
         $("verdict").textContent = fault.message;
     }
 }
 
-const helpFor = (state) => ({
-    BeforeRecording: "The start is before what is kept: choose a later one.", NotYet: "The end hasn't come yet: choose an earlier one, or wait.", AfterRecording: "The end is behind the channel's end.",
-    BadRange: "The start isn't before the end.", BadPreferred: "The preferred length is longer than the target.", ProgrammeTooLong: "It has more places than one table holds: choose a shorter programme.",
-})[state.split(" ")[1]] ?? "";
+const help = {
+    BeforeRecording: "The start is before what is kept: choose a later one.",
+    NotYet: "The end hasn't come yet: choose an earlier one, or wait.",
+    AfterRecording: "The end is behind the channel's end.",
+    BadRange: "The start isn't before the end.",
+    BadPreferred: "The preferred length is longer than the target.",
+    ProgrammeTooLong: "It has more places than one table holds: choose a shorter programme.",
+};
 
 // Checks a certificate and draws it.
 async function show(bytes, name) {
@@ -238,22 +256,29 @@ async function showCertificate(job) {
     }
 }
 
+// A job's row: its state, its programme where it is known, its files, and what can be done with it.
+function rowOf({ number, state, address }) {
+    const isCut = state.startsWith("cut ");
+    const lists = channel.renditions.flatMap((rendition) => [`${rendition.number}.m3u8`, `${rendition.number}.mp4`]);
+    const files = isCut ? ["master.m3u8", ...lists, "certificate.txt"] : state.startsWith("none") ? ["certificate.txt"] : [];
+    const file = (name) => make("a", { href: `${channel.base}job/${number}/${name}`, download: `job${number}_${name}`, textContent: name });
+    const button = (text, act) => make("button", { type: "button", textContent: text, onclick: act, ariaLabel: `${text} job ${number}` });
+    const doing = make("div", { className: "row" });
+    if (isCut) {
+        const href = `watch.html?list=${encodeURIComponent(address)}`;
+        doing.append(make("a", { href, target: "_blank", className: "button", textContent: "Play", ariaLabel: `Play job ${number}` }));
+    }
+    if (files.length > 0) doing.append(button("Certificate", () => showCertificate(number)));
+    doing.append(button("Delete", () => remove(number)));
+    return make("tr", {}, make("th", { scope: "row", textContent: number }), make("td", { textContent: state }), make("td", { textContent: wished.get(number) ?? "" }),
+        make("td", { className: "files" }, ...files.map(file)), make("td", {}, doing));
+}
+
 async function showJobs() {
     await channel.lookAtStatus();
     const jobs = await channel.jobs();
     jobsShown = channel.status.jobs;
-    const { renditions } = channel;
-    $("jobRows").replaceChildren(...jobs.map(({ number, state, address }) => {
-        const base = `${channel.base}job/${number}/`;
-        const isCut = state.startsWith("cut ");
-        const file = (name) => make("a", { href: base + name, download: `job${number}_${name}`, textContent: name });
-        const files = isCut ? ["master.m3u8", ...renditions.flatMap((rendition) => [`${rendition.number}.m3u8`, `${rendition.number}.mp4`]), "certificate.txt"] : state.startsWith("none") ? ["certificate.txt"] : [];
-        const button = (text, act) => make("button", { type: "button", textContent: text, onclick: act, ariaLabel: `${text} job ${number}` });
-        const watch = make("a", { href: `watch.html?list=${encodeURIComponent(address)}`, target: "_blank", className: "button", textContent: "Play", ariaLabel: `Play job ${number}` });
-        return make("tr", {}, make("th", { scope: "row", textContent: number }), make("td", { textContent: state }), make("td", { textContent: wished.get(number) ?? "" }),
-            make("td", { className: "files" }, ...files.map(file)),
-            make("td", {}, make("div", { className: "row" }, ...(isCut ? [watch] : []), ...(files.length > 0 ? [button("Certificate", () => showCertificate(number))] : []), button("Delete", () => remove(number)))));
-    }));
+    $("jobRows").replaceChildren(...jobs.map(rowOf));
     if (jobs.length === 0) $("jobRows").append(make("tr", {}, make("td", { colSpan: 5, className: "pale", textContent: "No job stands." })));
 }
 
@@ -295,7 +320,9 @@ function main() {
         if (performance.now() - surveyed > SURVEY_EVERY * 1000) {
             surveyed = performance.now();
             await channel.survey();
-            $("timeHelp").textContent = channel.epoch === null ? "In seconds of the channel's clock: serve has no --epoch." : `In this browser's time, ${Intl.DateTimeFormat().resolvedOptions().timeZone}. What is kept begins at ${clockOf(channel.start)}.`;
+            const zone = Intl.DateTimeFormat().resolvedOptions().timeZone;
+            const clock = channel.epoch === null ? "In seconds of the channel's clock: serve has no --epoch." : `In this browser's time, ${zone}.`;
+            $("timeHelp").textContent = `${clock} What is kept begins at ${clockOf(channel.start)}.`;
             $("preferred").max = channel.target;
             showWishes();
         }

@@ -31,7 +31,10 @@ export class Lanes {
         this.lane(0, "Places", (y) => this.places(y));
         this.lane(1, "Plan", (y) => this.segments(y, this.plan ?? [], "good"));
         this.lane(2, "Live", (y) => this.segments(y, channel.live, "accent"));
-        channel.renditions.forEach((rendition, i) => this.lane(3 + i, rendition.kind === "audio" ? `${rendition.number} ${rendition.name}` : `${rendition.number} video`, (y) => this.rendition(y, rendition, i)));
+        channel.renditions.forEach((rendition, i) => {
+            const name = `${rendition.number} ${rendition.kind === "audio" ? rendition.name : "video"}`;
+            this.lane(3 + i, name, (y) => this.rendition(y, rendition, i));
+        });
         this.choice(lanes);
     }
 
@@ -134,7 +137,10 @@ export class Lanes {
             const count = fragment[p + 1] - fragment[p];
             if (runIn[p + 1] > runOut[p]) this.box(start[p], prevEnd[p + 1], y + LANE - 5, 5, "bad", 0.7);
             if (!this.isSeen(start[p], start[p + 1]) || (this.x(start[p + 1]) - this.x(start[p])) / count < 4) continue;
-            for (let i = 0; i < count; i++) this.box(start[p] + (start[p + 1] - start[p]) * i / count, start[p] + (start[p + 1] - start[p]) * i / count, y + 4, LANE - 4, "pale", 0.6);
+            for (let i = 0; i < count; i++) {
+                const time = start[p] + (start[p + 1] - start[p]) * i / count;
+                this.box(time, time, y + 4, LANE - 4, "pale", 0.6);
+            }
         }
     }
 

@@ -275,7 +275,9 @@ class Player {
             if (this.source.duration !== Infinity) this.source.duration = Infinity;
             this.source.setLiveSeekableRange(this.line.start, this.line.end);
         } else if (!(Math.abs(this.source.duration - this.line.end) < 1)) {
-            this.source.duration = this.tracks.reduce((end, { buffer: { buffered } }) => buffered.length > 0 ? Math.max(end, buffered.end(buffered.length - 1)) : end, this.line.end);
+            // not less than what is held
+            const ends = this.tracks.map(({ buffer: { buffered } }) => buffered.length > 0 ? buffered.end(buffered.length - 1) : 0);
+            this.source.duration = Math.max(this.line.end, ...ends);
         }
     }
 
@@ -302,7 +304,8 @@ class Player {
             this.say("That part isn't kept any more; the first that is comes next.", 8);
             this.goal = line.start;
         }
-        if (!this.isLive && this.source.readyState === "open" && this.tracks.every((track) => !track.buffer.updating && track.has(line.last) && !track.next())) this.source.endOfStream();
+        const isWhole = !this.isLive && this.tracks.every((track) => !track.buffer.updating && track.has(line.last) && !track.next());
+        if (isWhole && this.source.readyState === "open") this.source.endOfStream();
         this.wake();
     }
 
@@ -366,12 +369,21 @@ class Player {
     }
 }
 
+const statusWords = {
+    403: "This isn't open to you.",
+    409: "This recording isn't finished yet. It begins by itself once it is.",
+    410: "What was asked for isn't kept any more.",
+    429: "The server has too much to do. It is tried again.",
+};
+
 function wordsFor(fault, begun) {
     if (fault instanceof ListFault) return fault.message;
-    if (!(fault instanceof ReplyFault)) return navigator.onLine ? "There is no connection to the server. It is tried again and again." : "This device isn't online. It goes on by itself once it is.";
-    if (fault.status === 404) return begun ? "The channel isn't there just now. It goes on by itself once it is." : "Nothing is on air here yet. It begins by itself as soon as something is.";
-    return { 403: "This isn't open to you.", 409: "This recording isn't finished yet. It begins by itself once it is.", 410: "What was asked for isn't kept any more.",
-        429: "The server has too much to do. It is tried again." }[fault.status] ?? `The server can't answer just now (${fault.status}). It is tried again.`;
+    if (!(fault instanceof ReplyFault)) {
+        return navigator.onLine ? "There is no connection to the server. It is tried again and again." : "This device isn't online. It goes on by itself once it is.";
+    }
+    if (fault.status === 404 && begun) return "The channel isn't there just now. It goes on by itself once it is.";
+    if (fault.status === 404) return "Nothing is on air here yet. It begins by itself as soon as something is.";
+    return statusWords[fault.status] ?? `The server can't answer just now (${fault.status}). It is tried again.`;
 }
 
 // What the viewer sees and does.
