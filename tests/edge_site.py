@@ -23,6 +23,7 @@ NGINX = """
 user {user};
 worker_processes {workers};
 worker_rlimit_nofile {files};
+pcre_jit on;
 pid {folder}/pid;
 error_log {folder}/error.log warn;
 load_module {module};
