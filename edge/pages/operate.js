@@ -22,6 +22,7 @@ const wished = new Map(); // the programmes of the jobs that this page asked for
 let shown = null; // the certificate that is drawn
 let jobsShown = null;
 
+const sleep = (seconds) => new Promise((done) => { setTimeout(done, 1000 * seconds); });
 const say = (words) => { if ($("words").textContent !== words) $("words").textContent = words; };
 const megabytes = (bytes) => bytes < 1e9 ? `${(bytes / 1e6).toFixed(bytes < 1e7 ? 1 : 0)} MB` : `${(bytes / 1e9).toFixed(2)} GB`;
 const many = (number) => number.toLocaleString("en-US");
@@ -298,7 +299,7 @@ async function repeat(every, work) {
             say(fault.status === 404 ? "The channel hasn't begun: no segment was made yet." : fault instanceof ListFault ? fault.message
                 : fault.status ? `The origin answers ${fault.status}.` : "The origin can't be reached. It is asked again and again.");
         }
-        await new Promise((done) => { setTimeout(done, 1000 * every); });
+        await sleep(every);
     }
 }
 
@@ -313,21 +314,21 @@ function main() {
         else if (file) $("verdict").textContent = "That file is longer than any certificate.";
     });
     window.addEventListener("resize", () => { if (shown) drawPrices($("prices"), shown); });
-    let surveyed = -Infinity;
     repeat(LOOK_EVERY, async () => {
         await channel.lookAtStatus();
         await channel.lookAtLists();
-        if (performance.now() - surveyed > SURVEY_EVERY * 1000) {
-            surveyed = performance.now();
-            await channel.survey();
-            const zone = Intl.DateTimeFormat().resolvedOptions().timeZone;
-            const clock = channel.epoch === null ? "In seconds of the channel's clock: serve has no --epoch." : `In this browser's time, ${zone}.`;
-            $("timeHelp").textContent = `${clock} What is kept begins at ${clockOf(channel.start)}.`;
-            $("preferred").max = channel.target;
-            showWishes();
-        }
-        // somebody else may have asked for one
-        else if (channel.status.jobs !== jobsShown) await showJobs();
+        // somebody else may have asked for a job
+        if (channel.status.jobs !== jobsShown) await showJobs();
+        paint();
+    });
+    repeat(SURVEY_EVERY, async () => {
+        while (channel.live.length === 0) await sleep(1);
+        await channel.survey();
+        const zone = Intl.DateTimeFormat().resolvedOptions().timeZone;
+        const clock = channel.epoch === null ? "In seconds of the channel's clock: serve has no --epoch." : `In this browser's time, ${zone}.`;
+        $("timeHelp").textContent = `${clock} What is kept begins at ${clockOf(channel.start)}.`;
+        $("preferred").max = channel.target;
+        showWishes();
         paint();
     });
 }

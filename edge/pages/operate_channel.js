@@ -127,7 +127,7 @@ class Rendition {
 /// The channel, looked at again and again.
 export class Channel {
     constructor(base) {
-        Object.assign(this, { base, renditions: [], status: {}, before: null, live: [], target: 6, epoch: null, table: null, newestJob: 0 });
+        Object.assign(this, { base, renditions: [], status: {}, before: null, live: [], target: 6, epoch: null, table: null, newestJob: 0, own: null });
     }
 
     async lookAtStatus() {
@@ -195,7 +195,7 @@ export class Channel {
     }
 
     async tableFrom(from, to) {
-        const job = await this.cut({ from, to });
+        const job = this.own = await this.cut({ from, to });
         try {
             const state = await this.finished(job);
             if (!/^(cut|none)/.test(state)) return { state, certificate: null };
@@ -243,7 +243,7 @@ export class Channel {
         const found = [];
         for (let number = this.newestJob, probes = 0; number > 0 && found.length < this.status.jobs && probes < PROBES; number--, probes++) {
             const job = await this.job(number);
-            if (job) found.push(job);
+            if (job && number !== this.own) found.push(job);
         }
         return found;
     }
