@@ -285,20 +285,19 @@ async function showJobs() {
 
 async function remove(number) {
     if (!confirm(`Delete job ${number}? Whoever plays it loses it.`)) return;
-    await channel.remove(number);
     lanes.plan = null;
-    await showJobs();
+    await channel.remove(number).then(showJobs).catch(sayFault);
+}
+
+function sayFault(fault) {
+    say(fault.status === 404 ? "The channel hasn't begun: no segment was made yet." : fault instanceof ListFault ? fault.message
+        : fault.status ? `The origin answers ${fault.status}.` : "The origin can't be reached. It is asked again and again.");
 }
 
 // Looks again and again, and says what is wrong.
 async function repeat(every, work) {
     for (;;) {
-        try {
-            await work();
-        } catch (fault) {
-            say(fault.status === 404 ? "The channel hasn't begun: no segment was made yet." : fault instanceof ListFault ? fault.message
-                : fault.status ? `The origin answers ${fault.status}.` : "The origin can't be reached. It is asked again and again.");
-        }
+        await work().catch(sayFault);
         await sleep(every);
     }
 }
@@ -310,7 +309,7 @@ function main() {
     for (const id of ["from", "to"]) $(id).addEventListener("change", showTyped);
     $("form").addEventListener("submit", cut);
     $("file").addEventListener("change", async ({ target: { files: [file] } }) => {
-        if (file && file.size <= CERTIFICATE_LIMIT) show(new Uint8Array(await file.arrayBuffer()), file.name);
+        if (file && file.size <= CERTIFICATE_LIMIT) await show(new Uint8Array(await file.arrayBuffer()), file.name).catch(sayFault);
         else if (file) $("verdict").textContent = "That file is longer than any certificate.";
     });
     window.addEventListener("resize", () => { if (shown) drawPrices($("prices"), shown); });
