@@ -1,4 +1,4 @@
-//! Tests of the operator's lines, the housekeeper, patience under sessions, and sessions and jobs on threads.
+//! Tests of the operator's lines, the housekeeper, and sessions and jobs on threads.
 #![tactic(auto)]
 
 #[cfg(test)]
@@ -9,7 +9,5 @@ mod fakes;
 mod house;
 #[cfg(test)]
 mod lines;
-#[cfg(test)]
-mod patience;
 #[cfg(test)]
 mod sessions;
