@@ -4,7 +4,7 @@ use Rattle.std.specs.Io.KnownBytes.{prepend_known}
 use Rattle.httparse.specs.Grammar.{ChunkLine, Field, LineEnd, ReadsChunkLine, HasNoChunkLine, MayBecomeChunkLine, ReadsSection, HasNoSection, MayBecomeSection, print_chunk_line, print_section, chunk_size}
 use Rattle.hls_http_laws.specs.declared.body.Body.{Body}
 use Rattle.hls_http_laws.specs.declared.body.Body.TheVariants.{Length, Size, Data, Trailers}
-use Rattle.hls_http_laws.specs.declared.limits.TheConstants.{MOST_HEAD, MOST_FIELDS}
+use Rattle.hls_http_laws.specs.Limits.{head_limit, field_limit}
 
 -- some of n bytes, and how many are left of them
 pub record IsPiece (n : ℕ) (input piece : List ℕ) (left : ℕ) (rest : List ℕ) : Type 0 where
@@ -16,7 +16,7 @@ pub record IsPiece (n : ℕ) (input piece : List ℕ) (left : ℕ) (rest : List 
 pub record ReadsLine (input : List ℕ) (size : ℕ) (rest : List ℕ) : Type 0 where
   pub line : ChunkLine
   pub reads : ReadsChunkLine input line rest
-  pub small : length (print_chunk_line line) ≤ MOST_HEAD
+  pub small : length (print_chunk_line line) ≤ head_limit
   pub size_is : size ≡ chunk_size line
 
 -- trailers within the limits
@@ -24,8 +24,8 @@ pub record ReadsTrailers (input rest : List ℕ) : Type 0 where
   pub fields : List Field
   pub last : LineEnd
   pub reads : ReadsSection input fields last rest
-  pub small : length (print_section fields last) ≤ MOST_HEAD
-  pub few : length fields ≤ MOST_FIELDS
+  pub small : length (print_section fields last) ≤ head_limit
+  pub few : length fields ≤ field_limit
 
 -- a size of 0 announces the trailers
 abbrev pub after_line : ℕ → Body
@@ -75,9 +75,9 @@ IsOpenData (suc n) held = held ≡ []
 
 abbrev pub IsOpen : Body → List ℕ → Type 0
 IsOpen (Length n) held = (0 < n) × (held ≡ [])
-IsOpen Size held = (length held < MOST_HEAD) × HasNoChunkLine held × MayBecomeChunkLine held
+IsOpen Size held = (length held < head_limit) × HasNoChunkLine held × MayBecomeChunkLine held
 IsOpen (Data n) held = IsOpenData n held
-IsOpen Trailers held = (length held < MOST_HEAD) × HasNoSection held × MayBecomeSection held
+IsOpen Trailers held = (length held < head_limit) × HasNoSection held × MayBecomeSection held
 
 -- steps of a reader: what it holds and what is left to be read is the rest of its input
 pub record Goes (b : Body) (input content : List ℕ) (last : Body) (held : List ℕ) (left : Option (List ℕ)) : Type 0 where

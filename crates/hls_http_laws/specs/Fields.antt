@@ -4,7 +4,7 @@ use Rattle.std.specs.List.{list_any, prefix_len, suffix_len}
 use Rattle.std.specs.Char.{is_ascii_whitespace}
 use Rattle.std.specs.Str.{str_eq_ignore_ascii_case}
 use Rattle.hls_text.specs.Digits.{number_of}
-use Rattle.hls_http_laws.specs.declared.limits.TheConstants.{MOST_LENGTH_DIGITS}
+use Rattle.hls_http_laws.specs.Limits.{length_digits}
 
 -- the names and the values of a head
 abbrev pub Fields : Type 0
@@ -21,7 +21,7 @@ values name (field ∷ fields) = cond (named name field) (field.1 ∷ values nam
 
 -- the number of a Content-Length
 abbrev pub length_of : List ℕ → Option ℕ
-length_of value = number_of MOST_LENGTH_DIGITS value
+length_of value = number_of length_digits value
 
 -- the pieces between commas
 abbrev pub onto_first : ℕ → List (List ℕ) → List (List ℕ)

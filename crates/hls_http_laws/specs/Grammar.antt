@@ -4,7 +4,7 @@ use Rattle.std.specs.List.{flat_map}
 use Rattle.httparse.specs.Grammar.{ChunkLine, IsChunkLine, print_chunk_line, chunk_size}
 use Rattle.hls_http_laws.specs.declared.body.Body.{Body}
 use Rattle.hls_http_laws.specs.declared.body.Body.TheVariants.{Length, Size, Data, Trailers}
-use Rattle.hls_http_laws.specs.declared.limits.TheConstants.{MOST_HEAD}
+use Rattle.hls_http_laws.specs.Limits.{head_limit}
 use Rattle.hls_http_laws.specs.Bodies.{ReadsTrailers}
 
 -- a chunk: its size line, and so many bytes
@@ -22,7 +22,7 @@ print_chunk chunk = print_chunk_line chunk.line ++ (chunk.bytes ++ 13 ∷ 10 ∷
 -- a line of the grammar within the limit
 pub record IsLine (line : ChunkLine) : Type 0 where
   pub good : IsChunkLine line
-  pub small : length (print_chunk_line line) ≤ MOST_HEAD
+  pub small : length (print_chunk_line line) ≤ head_limit
 
 -- a chunk that isn't the last
 pub record IsChunk (chunk : Chunk) : Type 0 where

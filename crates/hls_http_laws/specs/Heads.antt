@@ -2,12 +2,12 @@
 use Rattle.std.specs.Prelude.{ℕ, ◌<◌, ◌≤◌, ◌⊎◌, List, ◌++◌, length}
 use Rattle.httparse.specs.Grammar.{RequestHead, print_request, ReadsRequest, HasNoRequest, MayBecomeRequest}
 use Rattle.httparse.specs.Spans.{RequestExceeds}
-use Rattle.hls_http_laws.specs.declared.limits.TheConstants.{MOST_HEAD, MOST_FIELDS}
+use Rattle.hls_http_laws.specs.Limits.{head_limit, field_limit}
 
 -- a head within the limits; the empty lines before it count among its bytes
 pub record IsSmall (h : RequestHead) : Type 0 where
-  pub bytes : length (print_request h) ≤ MOST_HEAD
-  pub fields : length h.fields ≤ MOST_FIELDS
+  pub bytes : length (print_request h) ≤ head_limit
+  pub fields : length h.fields ≤ field_limit
 
 -- the text is a head within the limits, and then the rest
 pub record ReadsSmall (text : List ℕ) (h : RequestHead) (rest : List ℕ) : Type 0 where
@@ -16,11 +16,11 @@ pub record ReadsSmall (text : List ℕ) (h : RequestHead) (rest : List ℕ) : Ty
 
 -- a beginning of a head, below the limit
 pub record IsUnfinished (text : List ℕ) : Type 0 where
-  pub short : length text < MOST_HEAD
+  pub short : length text < head_limit
   pub none : HasNoRequest text
   pub goes_on : MayBecomeRequest text
 
 -- whatever follows, no head within the limits stands here: so many bytes without a head, or so many fields
 pub record IsTooLarge (text : List ℕ) : Type 0 where
   pub none : (more : List ℕ) (h : RequestHead) (rest : List ℕ) → ReadsSmall (text ++ more) h rest → ⊥
-  pub past : (MOST_HEAD ≤ length text) ⊎ RequestExceeds MOST_FIELDS text
+  pub past : (head_limit ≤ length text) ⊎ RequestExceeds field_limit text

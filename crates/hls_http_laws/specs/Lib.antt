@@ -4,6 +4,7 @@ pub mod Framing
 pub mod Grammar
 pub mod Heads
 pub mod Laws
+pub mod Limits
 pub mod Order
 pub mod Query
 pub mod Range

@@ -7,7 +7,7 @@ use Rattle.hls_http_laws.specs.declared.fault.HttpFault.{HttpFault}
 use Rattle.hls_http_laws.specs.declared.fault.HttpFault.TheVariants.{TooLarge, NotFound}
 use Rattle.hls_http_laws.specs.declared.plan.Plan.{Plan}
 use Rattle.hls_http_laws.specs.declared.plan.Plan.TheVariants.{Refuse, Feed, Skip}
-use Rattle.hls_http_laws.specs.declared.limits.TheConstants.{MOST_DROPPED}
+use Rattle.hls_http_laws.specs.Limits.{dropped_limit}
 use Rattle.hls_http_laws.specs.Fields.{closes, expects}
 use Rattle.hls_http_laws.specs.Requests.{fields_of}
 
@@ -19,9 +19,9 @@ is_over Trailers = false
 
 -- what is announced is past the limit of bodies that are dropped
 abbrev pub is_past : Body → Bool
-is_past (Length n) = nat_lt MOST_DROPPED n
+is_past (Length n) = nat_lt dropped_limit n
 is_past Size = false
-is_past (Data n) = nat_lt MOST_DROPPED n
+is_past (Data n) = nat_lt dropped_limit n
 is_past Trailers = false
 
 -- by the body or the fault of the fields, whether the path is known, and whether its parts are wanted

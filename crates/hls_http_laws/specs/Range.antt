@@ -7,7 +7,7 @@ use Rattle.hls_http_laws.specs.declared.range.Asked.{Asked}
 use Rattle.hls_http_laws.specs.declared.range.Asked.TheVariants as asks
 use Rattle.hls_http_laws.specs.declared.range.Part.{Part}
 use Rattle.hls_http_laws.specs.declared.range.Part.TheVariants as parts
-use Rattle.hls_http_laws.specs.declared.limits.TheConstants.{MOST_RANGE}
+use Rattle.hls_http_laws.specs.Limits.{range_limit}
 
 abbrev pub is_empty : List ℕ → Bool
 is_empty [] = true
@@ -15,7 +15,7 @@ is_empty (b ∷ bytes) = false
 
 -- digits of any number; one above 2^53 counts as 2^53
 abbrev pub number_in : List ℕ → ℕ
-number_in digits = min (digits_value 10 digits) MOST_RANGE
+number_in digits = min (digits_value 10 digits) range_limit
 
 -- the text before the first hyphen, and the text behind it
 abbrev pub hyphen_at : List ℕ → ℕ
@@ -67,6 +67,6 @@ part_of (asks.Last n) total = cond (nat_eq n 0) parts.Outside (slice_from total 
 -- the numbers that a Range may come to
 abbrev pub IsAsked : Asked → Type 0
 IsAsked asks.All = Unit {0}
-IsAsked (asks.Between a b) = (a ≤ b) × (b ≤ MOST_RANGE)
+IsAsked (asks.Between a b) = (a ≤ b) × (b ≤ range_limit)
 IsAsked (asks.From a) = Unit {0}
 IsAsked (asks.Last n) = Unit {0}
