@@ -28,7 +28,7 @@ pub use hls_http_laws::fault::HttpFault;
 pub use hls_http_laws::plan::Plan;
 pub use hls_io::{Counted, write_whole};
 pub use media::{Resource, write_part};
-pub use order::{continues, ends_early, is_over, plan, says_close};
+pub use order::{continues, is_over, plan, says_close};
 pub use query::{split_target, value_of};
 pub use range::part;
 pub use reply::{head_bytes, refusal_body};

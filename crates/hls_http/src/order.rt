@@ -100,14 +100,3 @@ pub fn says_close(head: &Head, early: bool) -> bool
 {
     early || head.closes
 }
-
-/// Whether a refusal at a position of a body's content, in bytes from its beginning, comes before the body's end. In
-/// chunks it always does, since the last chunk is still to come.
-pub fn ends_early(body: Body, position: u64) -> bool
-    ensures { result ≡ spec.ends_early body position }
-{
-    match body {
-        Body::Length(len) => position != len,
-        _ => true,
-    }
-}

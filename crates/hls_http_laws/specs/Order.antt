@@ -1,5 +1,5 @@
 -- The order in which a request is looked at: its fields, its path, its body, and only then the rest.
-use Rattle.std.specs.Prelude.{ℕ, nat_lt, nat_eq, Bool, true, false, not, ◌||◌, ◌&&◌, cond, Result, Ok, Err}
+use Rattle.std.specs.Prelude.{nat_lt, nat_eq, Bool, true, false, not, ◌||◌, ◌&&◌, cond, Result, Ok, Err}
 use Rattle.httparse.specs.Grammar.{RequestHead}
 use Rattle.hls_http_laws.specs.declared.body.Body.{Body}
 use Rattle.hls_http_laws.specs.declared.body.Body.TheVariants.{Length, Size, Data, Trailers}
@@ -43,10 +43,3 @@ continues head plan = expects head.minor (fields_of head) && reads_body plan
 -- a reply says `Connection: close` where it is given before the body was read to its end, or where the request asks
 abbrev pub says_close : RequestHead → Bool → Bool
 says_close head early = early || closes head.minor (fields_of head)
-
--- a refusal inside a body, at a position of its content, is before the body's end: in chunks the last chunk is still to come
-abbrev pub ends_early : Body → ℕ → Bool
-ends_early (Length n) position = not (nat_eq position n)
-ends_early Size position = true
-ends_early (Data n) position = true
-ends_early Trailers position = true
