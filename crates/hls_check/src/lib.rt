@@ -1,5 +1,5 @@
 //! The checker of certificates. It knows the printed table alone, and its yes is a proof that the
-//! plan is least, or that there is none.
+//! plan is least, or that there is none. What reads and writes a certificate's one text stands here too.
 #![tactic(auto)]
 
 pub use checker::{check, check_rows};
@@ -7,6 +7,7 @@ pub use hls_check_laws::{
     CertFault, Certificate, Claim, CostRule, Goal, PrintedTable, Spot, Spots, Verdict,
     good_cut_is_least, good_none_has_no_plan,
 };
+pub use hls_check_text::{read, write};
 pub use laws::answer_is_one;
 
 mod checker;
