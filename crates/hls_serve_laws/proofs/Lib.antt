@@ -1,2 +1,3 @@
+mod Allowed
 mod Examples
 mod Jobs

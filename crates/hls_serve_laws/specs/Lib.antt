@@ -6,5 +6,6 @@ pub mod JobLaws
 pub mod JobReplies
 pub mod Queries
 pub mod Replies
+pub mod RouteLaws
 pub mod Routes
 pub mod Sessions

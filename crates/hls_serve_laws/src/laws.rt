@@ -1,6 +1,7 @@
 //! Theorems about the definitions. Each function has no body: its contract is the law.
 
 ghost use Rattle.hls_serve_laws.specs.JobLaws.{FilesAreRight, LinesAreRight};
+ghost use Rattle.hls_serve_laws.specs.RouteLaws.{AllowNamesMethods};
 
 /// Whatever a session replies to a request for a job's file, it is a file of the right reply of some state to some request;
 /// or it says that there is none.
@@ -12,4 +13,9 @@ pub fn files_are_right()
 /// version; or that there is no answer yet, or no such job.
 pub fn lines_are_right()
     ensures { LinesAreRight }
+{}
+
+/// The field Allow names just the methods that a route allows (RFC 9110 10.2.1).
+pub fn allow_names_methods()
+    ensures { AllowNamesMethods }
 {}
