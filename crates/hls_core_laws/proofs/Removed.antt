@@ -10,11 +10,9 @@ use Rattle.hls_places_laws.specs.Places.{places_of}
 use Rattle.hls_live_laws.specs.declared.aim.Aim.{Aim}
 use Rattle.hls_live_laws.specs.declared.segment.Segment.{Segment}
 use Rattle.hls_live_laws.specs.declared.line_fault.LineFault.TheVariants.{TooMany, TooShort}
-use Rattle.hls_live_laws.specs.Cuts.{Line, line_of}
-use Rattle.hls_live_laws.specs.Told.{Told, untold, told}
+use Rattle.hls_live_laws.specs.Cuts.{line_of}
 use Rattle.hls_live_laws.specs.Live.{Live, live_of, moved_by, slid, stays_long, may_slide}
-use Rattle.hls_live_laws.proofs.Lines.{told-append, told-is_line}
-use Rattle.hls_live_laws.proofs.Kept.{told-grown}
+use Rattle.hls_live_laws.proofs.Kept.{segments-stay}
 use Rattle.hls_live_laws.proofs.Lives.{live-moves, live-slides}
 use Rattle.hls_core_laws.specs.declared.event.Event.{Event}
 use Rattle.hls_core_laws.specs.declared.event.Event.TheVariants.{Begin, Accept, Finish, Slide, Trim}
@@ -37,7 +35,7 @@ use Rattle.hls_live_laws.proofs.Ends.{segments-few}
 
 -- the whole line of a list of places
 closed_of : State → List Segment
-closed_of s = (told (aim_of s.config) 0 untold (places s)).line.segments
+closed_of s = (line_of (aim_of s.config) (places s)).segments
 
 IsWithin : State → Type 0
 IsWithin s = (channel s).removed ≤ length (closed_of s)
@@ -64,17 +62,14 @@ unfolding IsWithin closed_of
 within_advanced s by event state fits new within =
     let on = places_follow s (advanced s by event) (advanced_follows s by event state fits new) in
     let aim : Aim = aim_of s.config in
-    let whole : Told = told aim 0 untold (places s) in
-    let grown = told-grown aim 0 whole on.more in
-    let is : told aim 0 untold (places (advanced s by event)) ≡ told aim 0 whole on.more =
-    ap (told aim 0 untold) on.is ∙ told-append aim 0 untold (places s) on.more in
+    let longer = segments-stay aim (places s) on.more in
     omega (
       arith,
       ap (λ (ch : Channel). ch.removed) (channel_advanced s by event),
       removed_new s event new within,
-      ap (λ (t : Told). length t.line.segments) is,
-      ap length grown.is,
-      length-append whole.line.segments grown.more,
+      ap (λ (ps : List Place). length (line_of aim ps).segments) on.is,
+      ap length longer.1,
+      length-append (closed_of s) longer.0,
     )
 
 within_by : (s : State) (by : ℕ) (event : Event) (o : Outcome) → outcome_of s event ≡ o → IsState s → IsFitting s event → IsWithin s → IsWithin (stepped_by o (advanced s by event) s)
@@ -107,8 +102,7 @@ within_state s state =
 -- of a state's live line no more segments are removed than were closed
 pub removed_within : (s : State) → IsState s → (channel s).removed ≤ length (line_of (aim_of s.config) (places s)).segments
 unfolding IsWithin closed_of
-removed_within s state =
-    omega (arith, within_state s state, ap (λ (l : Line). length l.segments) (told-is_line (aim_of s.config) (places s)))
+removed_within s state = within_state s state
 
 -- and no place closes more than two
 pub line_few : (s : State) → IsState s → (line s).removed + length (line s).told.line.segments ≤ 2 * length (places s)
@@ -117,9 +111,8 @@ line_few s state =
     omega (
       arith,
       within_state s state,
-      length-drop (channel s).removed (told (aim_of s.config) 0 untold (places s)).line.segments,
+      length-drop (channel s).removed (closed_of s),
       segments-few (aim_of s.config) (places s),
-      ap (λ (l : Line). length l.segments) (told-is_line (aim_of s.config) (places s)),
     )
 
 -- as places come

@@ -1,5 +1,5 @@
 -- Of an origin that was begun at a cut of another's line the segments are those from the cut on.
-use Rattle.std.proofs.Common.{◌≡◌, ℕ, zero, suc, ◌+◌, ◌≤◌, Bool, false, cond, List, [], ◌∷◌, length, map, take, drop, Some, arith, refl, sym, ap, subst, ◌∙◌}
+use Rattle.std.proofs.Common.{◌≡◌, ℕ, zero, suc, ◌+◌, ◌≤◌, cond, List, [], ◌∷◌, length, map, take, drop, Some, arith, refl, sym, ap, ◌∙◌}
 use Rattle.std.specs.Prelude.{slice_get}
 use Rattle.std.proofs.lemmas.Option.{same_Some}
 use Rattle.std.proofs.lemmas.List.{length-drop, length-map}
@@ -9,14 +9,14 @@ use Rattle.hls_check_laws.specs.declared.spot.Spot.{Spot}
 use Rattle.hls_places_laws.specs.declared.place.Place.{Place}
 use Rattle.hls_places_laws.specs.Sources.{Source, AreSources}
 use Rattle.hls_places_laws.specs.Places.{places_of}
-use Rattle.hls_places_laws.specs.Since.{IsPlaceFrom, sources_since, place_since}
+use Rattle.hls_places_laws.specs.Since.{IsPlaceFrom, sources_since}
 use Rattle.hls_places_laws.proofs.Since.{places-in_row, places-since}
 use Rattle.hls_live_laws.specs.declared.aim.Aim.{Aim}
 use Rattle.hls_live_laws.specs.declared.segment.Segment.{Segment}
 use Rattle.hls_live_laws.specs.Cuts.{line_of}
 use Rattle.hls_live_laws.specs.Lengths.{is_marked, marks_in}
 use Rattle.hls_live_laws.specs.Origins.{segments_over}
-use Rattle.hls_live_laws.specs.Since.{segment_since, unmarked, as_first, segments_since, IsBegunAt, counted_from, IsSameFrom, IsCutOf}
+use Rattle.hls_live_laws.specs.Since.{segment_since, unmarked, segments_since, IsBegunAt, counted_from, IsSameFrom, IsCutOf}
 use Rattle.hls_live_laws.proofs.Lives.{marks-add}
 use Rattle.hls_live_laws.proofs.Origins.{segments-agree, marks-agree}
 use Rattle.hls_live_laws.proofs.Since.{line-since}

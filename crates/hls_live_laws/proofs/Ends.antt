@@ -142,7 +142,8 @@ front-holds P aim places removed p each at =
     let whole : Told = told aim 0 untold places in
     let ends = told-ends P aim 0 untold places each (untold-ends P) in
     front-kept P (drop removed whole.line.segments) whole.line.open_at p
-    (λ s first. ends.segments.from (removed + 0) s (sym (at_drop whole.line.segments removed 0) ∙ first)) ends.open_at at
+    (λ s first. ends.segments.from (removed + 0) s (sym (at_drop whole.line.segments removed 0) ∙ first)) ends.open_at
+    (ap (λ (l : Line). front_by (drop removed l.segments) l.open_at) (told-is_line aim places) ∙ at)
 
 pub front-stands : (aim : Aim) (places : List Place) (removed : ℕ) (p : Place) →
     front_of (live_of aim places removed) ≡ Some p → StandsIn places p

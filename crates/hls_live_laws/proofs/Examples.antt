@@ -9,7 +9,6 @@ use Rattle.hls_live_laws.specs.declared.segment.Segment.{Segment}
 use Rattle.hls_live_laws.specs.declared.line_fault.LineFault.TheVariants.{TooMany, TooShort}
 use Rattle.hls_live_laws.specs.Steps.{is_past, is_allowed, is_enough, is_at_gap}
 use Rattle.hls_live_laws.specs.Cuts.{line_within, line_of}
-use Rattle.hls_live_laws.specs.Told.{tried, stopped_by, advanced_from, told}
 use Rattle.hls_live_laws.specs.Live.{Live, live_of, may_slide, slid}
 
 abbrev aim : Aim
@@ -94,23 +93,23 @@ five = at 0 0 ∷ at 1 4000000 ∷ at 2 8000000 ∷ at 3 13000000 ∷ at 4 18000
 
 five_segments : map brief (live_of aim five 1).told.line.segments
     ≡ cut 4000000 8000000 false ∷ cut 8000000 13000000 false ∷ cut 13000000 18000000 false ∷ cut 18000000 22000000 false ∷ []
-unfolding told tried stopped_by advanced_from is_past is_allowed is_enough is_at_gap
+unfolding line_within is_past is_allowed is_enough is_at_gap
 five_segments = refl
 
 one_slides : may_slide (live_of aim five 0) 1 ≡ Ok tt
-unfolding told tried stopped_by advanced_from is_past is_allowed is_enough is_at_gap
+unfolding line_within is_past is_allowed is_enough is_at_gap
 one_slides = refl
 
 another_is_too_short : may_slide (live_of aim five 1) 1 ≡ Err TooShort
-unfolding told tried stopped_by advanced_from is_past is_allowed is_enough is_at_gap
+unfolding line_within is_past is_allowed is_enough is_at_gap
 another_is_too_short = refl
 
 none_is_too_many : may_slide (live_of aim five 0) 0 ≡ Err TooMany
-unfolding told tried stopped_by advanced_from is_past is_allowed is_enough is_at_gap
+unfolding line_within is_past is_allowed is_enough is_at_gap
 none_is_too_many = refl
 
 six_are_too_many : may_slide (live_of aim five 0) 6 ≡ Err TooMany
-unfolding told tried stopped_by advanced_from is_past is_allowed is_enough is_at_gap
+unfolding line_within is_past is_allowed is_enough is_at_gap
 six_are_too_many = refl
 
 -- an ended line slides to its end, with its marks counted
@@ -118,13 +117,13 @@ abbrev ended : Live
 ended = live_of aim (at 0 0 ∷ at 1 4000000 ∷ at 2 11000000 ∷ closing_at 3 15000000 ∷ []) 0
 
 all_slide : may_slide ended 2 ≡ Ok tt
-unfolding told tried stopped_by advanced_from is_past is_allowed is_enough is_at_gap
+unfolding line_within is_past is_allowed is_enough is_at_gap
 all_slide = refl
 
 marks_counted : (slid 2 ended).breaks ≡ 1
-unfolding told tried stopped_by advanced_from is_past is_allowed is_enough is_at_gap
+unfolding line_within is_past is_allowed is_enough is_at_gap
 marks_counted = refl
 
 none_left : (slid 2 ended).told.line.segments ≡ []
-unfolding told tried stopped_by advanced_from is_past is_allowed is_enough is_at_gap
+unfolding line_within is_past is_allowed is_enough is_at_gap
 none_left = refl

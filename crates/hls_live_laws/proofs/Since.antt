@@ -1,8 +1,8 @@
 -- The live line of places that are counted from one of its cuts on.
-use Rattle.std.proofs.Common.{◌≡◌, ℕ, zero, suc, ◌+◌, ◌-◌, ◌<◌, ◌≤◌, Bool, true, false, cond, List, [], ◌∷◌, ◌++◌, length, map, drop, get_or, Option, None, Some, arith, refl, sym, ap, subst, inl, inr, ◌∙◌}
+use Rattle.std.proofs.Common.{◌≡◌, ℕ, zero, suc, ◌-◌, ◌<◌, ◌≤◌, Bool, true, false, cond, List, [], ◌∷◌, ◌++◌, length, map, drop, get_or, Option, None, Some, arith, refl, sym, ap, subst, inl, inr, ◌∙◌}
 use Rattle.std.specs.Prelude.{slice_get, ◌⊎◌, ◌==◌, ◌&&◌, ◌||◌, not, nat_lt, nat_le}
 use Rattle.std.specs.List.{list_any}
-use Rattle.std.proofs.lemmas.Bool.{cases_Bool, cases_lt, cond-true, cond-false, lt-ltb, ltb-true, and_parts}
+use Rattle.std.proofs.lemmas.Bool.{cases_Bool, cond-true, cond-false, lt-ltb, ltb-true, and_parts}
 use Rattle.hls_check_laws.specs.declared.spot.Spot.{Spot}
 use Rattle.hls_check_laws.specs.Steps.{length_between}
 use Rattle.hls_places_laws.specs.declared.place.Place.{Place}
@@ -10,14 +10,13 @@ use Rattle.hls_places_laws.specs.Since.{IsSpotFrom, AreSpotsFrom, IsPlaceFrom, A
 use Rattle.hls_live_laws.specs.declared.aim.Aim.{Aim}
 use Rattle.hls_live_laws.specs.declared.segment.Segment.{Segment}
 use Rattle.hls_live_laws.specs.declared.opening.Opening.{Opening}
-use Rattle.hls_live_laws.specs.Cuts.{Line, resumed, begun_anew, Ahead, Nothing, Enough, TooFar, beyond, ahead_of, segment_to, with_segment, line_by, line_within, line_from, line_of}
+use Rattle.hls_live_laws.specs.Cuts.{Line, resumed, begun_anew, Ahead, Nothing, Enough, TooFar, beyond, ahead_of, segment_to, line_by, line_within, line_from, line_of}
 use Rattle.std.proofs.lemmas.Option.{same_Some}
-use Rattle.hls_live_laws.specs.Since.{segment_since, unmarked, as_first, segments_since, GoesOnFrom}
+use Rattle.hls_live_laws.specs.Since.{segment_since, as_first, GoesOnFrom}
 use Rattle.hls_live_laws.proofs.Ends.{line_ends-hold}
-use Rattle.hls_live_laws.proofs.Lives.{live-is_cuts}
 use Rattle.hls_live_laws.proofs.Lines.{within-told, from-told, line-looks_ahead}
-use Rattle.std.proofs.lemmas.List.{append_assoc, append-nil, length-append, length-map}
-use Rattle.hls_live_laws.specs.Live.{live_of, front_of, front_by, place_of}
+use Rattle.std.proofs.lemmas.List.{append_assoc, length-append, length-map}
+use Rattle.hls_live_laws.specs.Live.{live_of, front_of, front_by}
 use Rattle.hls_live_laws.specs.Steps.{each_pair, is_later, is_spot_step, is_past, is_allowed, is_enough, is_at_gap}
 
 lt-since : (c a b : ℕ) → c ≤ a → c ≤ b → nat_lt (a - c) (b - c) ≡ nat_lt a b
@@ -568,5 +567,4 @@ found-front aim (o ∷ rest) removed p few at = finds aim (suc (length rest)) fa
 pub line-since : (aim : Aim) (places : List Place) (removed : ℕ) (p : Place) → AreInRow places →
     removed ≤ length (line_of aim places).segments → front_of (live_of aim places removed) ≡ Some p → GoesOnFrom aim places removed p
 line-since aim places removed p row few at =
-    let front = ap (λ (l : Line). front_by l.segments l.open_at) (live-is_cuts aim places removed).0 in
-    goes-on aim places removed p row (found-front aim places removed p few (sym front ∙ at))
+    goes-on aim places removed p row (found-front aim places removed p few at)

@@ -17,7 +17,7 @@ abbrev pub LineLooksAhead : Type 0
 LineLooksAhead = (aim : Aim) (earlier : Bool) (o : Opening) (rest : List Place) →
     line_from aim earlier o rest ≡ line_by (line_from aim) earlier o (ahead_of aim o.place rest)
 
--- told one place after the other it is the same line
+-- told one place after the other, as a channel keeps it, it is the same line
 abbrev pub ToldIsLine : Type 0
 ToldIsLine = (aim : Aim) (places : List Place) → (told aim 0 untold places).line ≡ line_of aim places
 
@@ -31,7 +31,7 @@ abbrev pub ToldKeeps : Type 0
 ToldKeeps = (aim : Aim) (removed n : ℕ) (t : Told) (places : List Place) → n ≤ length t.line.segments →
     told aim (removed + n) (without n t) places ≡ without n (told aim removed t places)
 
--- the line of a list of places is its cuts without the removed segments
+-- the line of a channel is the cuts of its list of places without the removed segments
 abbrev pub LiveIsCuts : Type 0
 LiveIsCuts = (aim : Aim) (places : List Place) (removed : ℕ) →
     ((live_of aim places removed).told.line

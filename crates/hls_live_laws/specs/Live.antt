@@ -6,6 +6,7 @@ use Rattle.hls_live_laws.specs.declared.segment.Segment.{Segment}
 use Rattle.hls_live_laws.specs.declared.opening.Opening.{Opening}
 use Rattle.hls_live_laws.specs.declared.line_fault.LineFault.{LineFault}
 use Rattle.hls_live_laws.specs.declared.line_fault.LineFault.TheVariants.{TooMany, TooShort, Ended}
+use Rattle.hls_live_laws.specs.Cuts.{line_of}
 use Rattle.hls_live_laws.specs.Told.{Told, untold, told, advanced, without}
 use Rattle.hls_live_laws.specs.Lengths.{marks_in, is_long, renditions_of}
 
@@ -21,10 +22,14 @@ pub record Live : Type 0 where
 abbrev pub fresh : Aim → Live
 fresh aim = record { aim = aim; told = untold; removed = 0; breaks = 0 }
 
+-- the whole line of a list of places, by looking ahead, and beside it the best place that is kept while it is told
+abbrev pub whole_of : Aim → List Place → Told
+whole_of aim places = record { line = line_of aim places; best = (told aim 0 untold places).best }
+
 -- the line of a list of places, of whose segments so many were removed
 abbrev pub live_of : Aim → List Place → ℕ → Live
 live_of aim places removed =
-    let whole : Told = told aim 0 untold places in
+    let whole : Told = whole_of aim places in
     record { aim = aim; told = without removed whole; removed = removed; breaks = marks_in removed whole.line.segments }
 
 abbrev pub segments_of : Live → List Segment

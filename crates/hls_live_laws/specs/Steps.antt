@@ -1,6 +1,7 @@
 -- What the live line asks of two places.
-use Rattle.std.specs.Prelude.{ℕ, ◌+◌, ◌-◌, ◌*◌, ◌==◌, Bool, true, false, not, ◌&&◌, ◌||◌, nat_lt, nat_le, List, [], ◌∷◌}
+use Rattle.std.specs.Prelude.{ℕ, ◌-◌, ◌==◌, Bool, true, false, not, ◌&&◌, ◌||◌, nat_lt, nat_le, List, [], ◌∷◌}
 use Rattle.std.specs.List.{list_any}
+use Rattle.hls_time.specs.Times.{longest}
 use Rattle.hls_check_laws.specs.declared.spot.Spot.{Spot}
 use Rattle.hls_check_laws.specs.Steps.{length_between}
 use Rattle.hls_places_laws.specs.declared.place.Place.{Place}
@@ -16,12 +17,11 @@ each_pair test (f ∷ from) (t ∷ to) = test f t && each_pair test from to
 abbrev pub is_later : Spot → Spot → Bool
 is_later from to = nat_lt from.fragment to.fragment
 
--- one segment can reach from a spot to another: it holds a fragment, no gap lies between, and its length fits the
--- target once it is rounded to whole seconds (RFC 8216 section 4.3.3.1)
+-- one segment can reach from a spot to another: it is a step of a table, tested
 abbrev pub is_spot_step : ℕ → Spot → Spot → Bool
 is_spot_step target from to =
     ((nat_lt from.fragment to.fragment && from.run_out == to.run_in) && nat_lt from.start to.prev_end)
-    && nat_le (to.prev_end - from.start) (target * 1000000 + 499999)
+    && nat_le (to.prev_end - from.start) (longest target)
 
 -- in every rendition q's fragment is greater than o's
 unfoldable pub is_past : Place → Place → Bool

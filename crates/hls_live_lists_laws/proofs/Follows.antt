@@ -9,9 +9,9 @@ use Rattle.hls_media_laws.specs.declared.facts.Facts.{Facts}
 use Rattle.hls_places_laws.specs.Sources.{Source}
 use Rattle.hls_places_laws.specs.Places.{places_of}
 use Rattle.hls_live_laws.specs.declared.segment.Segment as live_line
-use Rattle.hls_live_laws.specs.Told.{Told, untold, told}
 use Rattle.hls_live_laws.specs.Lengths.{marks_in, is_marked as is_break}
-use Rattle.hls_live_laws.specs.Live.{is_closing, has_ended, segments_of}
+use Rattle.hls_live_laws.specs.Told.{Told}
+use Rattle.hls_live_laws.specs.Live.{whole_of, is_closing, has_ended, segments_of}
 use Rattle.hls_live_laws.proofs.Lives.{marks-append, marks-add}
 use Rattle.hls_m3u8.specs.declared.playlist.Segment.{Segment}
 use Rattle.hls_m3u8.specs.Playlist.{Playlist}
@@ -108,8 +108,8 @@ none-of (x ∷ xs) is = absurd (omega (arith, is))
 -- all that was told stays once the line has ended
 whole-stays : (a b : State) → IsState a → Follows a b → has_ended (line a) ≡ true → whole b ≡ whole a
 whole-stays a b state follows over =
-    ap (λ (c : ConfigData). told (aim_of c) 0 untold (places b)) (continues_of a b follows).config
-    ∙ ap (λ (xs : List Source). told (aim_of a.config) 0 untold (places_of xs)) (ended-stays a b state follows over)
+    ap (λ (c : ConfigData). whole_of (aim_of c) (places b)) (continues_of a b follows).config
+    ∙ ap (λ (xs : List Source). whole_of (aim_of a.config) (places_of xs)) (ended-stays a b state follows over)
 
 -- the list of the same rendition in the state that follows
 later-over : (a b : State) (r : ℕ) (l m : Lane) → IsState a → Follows a b → slice_get (channel a).lanes r ≡ Some l → slice_get (channel b).lanes r ≡ Some m →

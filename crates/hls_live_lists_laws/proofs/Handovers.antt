@@ -1,5 +1,5 @@
 -- The live lists of an origin that was begun at a cut of another's live line.
-use Rattle.std.proofs.Common.{◌≡◌, ◌⊎◌, ℕ, zero, suc, ◌+◌, ◌-◌, ◌<◌, ◌≤◌, true, false, List, ◌++◌, length, map, take, drop, get_or, Option, Some, arith, refl, sym, ap, subst, inl, inr, ◌∙◌}
+use Rattle.std.proofs.Common.{◌≡◌, ◌⊎◌, ℕ, zero, suc, ◌+◌, ◌-◌, ◌<◌, ◌≤◌, false, List, length, map, take, drop, get_or, Option, Some, arith, refl, sym, ap, subst, inl, inr, ◌∙◌}
 use Rattle.std.specs.Prelude.{◌==◌, ℤ, slice_get}
 use Rattle.std.proofs.Math.Seq.{take-add}
 use Rattle.std.proofs.lemmas.Bool.{cond-false}
@@ -12,12 +12,10 @@ use Rattle.hls_check_laws.specs.declared.spot.Spot.{Spot}
 use Rattle.hls_check_laws.specs.Tables.{spot_in}
 use Rattle.hls_places_laws.specs.declared.place.Place.{Place}
 use Rattle.hls_places_laws.specs.Sources.{Source, source_at}
-use Rattle.hls_places_laws.specs.Growth.{SourceGrows}
-use Rattle.hls_places_laws.specs.Appended.{AreAlike}
 use Rattle.hls_places_laws.specs.Order.{no_place}
-use Rattle.hls_places_laws.specs.Since.{AreSpotsFrom, IsSpotFrom, IsPlaceFrom, spot_since, spots_since, place_since, source_since, sources_since}
+use Rattle.hls_places_laws.specs.Since.{spot_since, place_since, source_since}
 use Rattle.hls_places_laws.proofs.Ordered.{places-ordered}
-use Rattle.hls_places_laws.proofs.Since.{since_at, since_long, from_long, from_at, spot_since_at}
+use Rattle.hls_places_laws.proofs.Since.{since_at, since_long, from_at, spot_since_at}
 use Rattle.hls_live_laws.specs.declared.segment.Segment as live_line
 use Rattle.hls_live_laws.specs.Cuts.{line_of}
 use Rattle.hls_live_laws.specs.Lengths.{marks_in}
@@ -41,11 +39,11 @@ use Rattle.hls_catchup_laws.specs.Jobs.{bytes_between}
 use Rattle.hls_catchup_laws.specs.Segments.{date_at}
 use Rattle.hls_live_lists_laws.specs.Lists.{live_uri, live_cutting, listed, list_over, live_list_of}
 use Rattle.hls_live_lists_laws.specs.Origins.{LaneBegins}
-use Rattle.hls_live_lists_laws.specs.Handovers.{unit_at, lane_from, IsHandedOver, bytes_before, marks_to, range_behind, IsMoved, GoesOn}
+use Rattle.hls_live_lists_laws.specs.Handovers.{unit_at, lane_from, IsHandedOver, bytes_before, marks_to, IsMoved, GoesOn}
 use Rattle.hls_live_lists_laws.proofs.Told.{closed, removed-few}
 use Rattle.hls_live_lists_laws.proofs.Listed.{StandsAmong, bytes-stay}
 use Rattle.hls_live_lists_laws.proofs.Texts.{IsAmong, closed-among, is-listed}
-use Rattle.hls_live_lists_laws.proofs.Origins.{source-begins, lanes-same, closed-is, closed-at, stands-at, sizes-same, listed-at}
+use Rattle.hls_live_lists_laws.proofs.Origins.{source-begins, lanes-same, closed-at, stands-at, sizes-same, listed-at}
 
 -- the cut is one of the first's places, so it has a spot in each rendition
 cut-long : (a : State) → IsState a → (n : ℕ) (cut : Place) → IsCutOf (aim_of a.config) (sources a) n cut → length cut.spots ≡ length (sources a)
@@ -199,10 +197,10 @@ marks-on : (a b : State) (n k : ℕ) (cut : Place) → IsState a → IsState b �
 marks-on a b n zero cut state_a state_b over few also some = absurd (omega (arith, some))
 marks-on a b n (suc k) cut state_a state_b over few also some =
     let is_b : closed b ≡ (line_of (aim_of a.config) (places b)).segments =
-    closed-is b ∙ ap (λ (c : ConfigData). (line_of (aim_of c) (places b)).segments) over.config in
+    ap (λ (c : ConfigData). (line_of (aim_of c) (places b)).segments) over.config in
     let on = marks-since (aim_of a.config) (sources a) (sources b) n cut (states_are_timed a state_a) (states_are_timed b state_b) over.is_cut
-    (begun-at a b state_a n cut over) k (omega (arith, few, ap length (closed-is a))) (omega (arith, also, ap length is_b)) in
-    ap (marks_in (n + suc k)) (closed-is a) ∙ (on ∙ ap (λ (l : List live_line.Segment). marks_to a n + marks_in (suc k) l) (sym is_b))
+    (begun-at a b state_a n cut over) k (omega (arith, few)) (omega (arith, also, ap length is_b)) in
+    on ∙ ap (λ (l : List live_line.Segment). marks_to a n + marks_in (suc k) l) (sym is_b)
 
 on-over : (a b : State) (n : ℕ) (cut : Place) (r : ℕ) (l m : Lane) → IsState a → IsState b → IsHandedOver a b n cut →
     slice_get (channel a).lanes r ≡ Some l → slice_get (channel b).lanes r ≡ Some m →

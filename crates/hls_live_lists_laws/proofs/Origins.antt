@@ -7,9 +7,8 @@ use Rattle.hls_places_laws.specs.Sources.{Source, source_at}
 use Rattle.hls_places_laws.specs.Growth.{SourceGrows}
 use Rattle.hls_places_laws.specs.Appended.{AreAlike}
 use Rattle.hls_live_laws.specs.declared.segment.Segment as live_line
-use Rattle.hls_live_laws.specs.Cuts.{Line, line_of}
+use Rattle.hls_live_laws.specs.Cuts.{line_of}
 use Rattle.hls_live_laws.specs.Lengths.{marks_in}
-use Rattle.hls_live_laws.proofs.Lines.{told-is_line}
 use Rattle.hls_live_laws.proofs.Origins.{segments-agree, marks-agree}
 use Rattle.hls_m3u8.specs.declared.playlist.Segment.{Segment}
 use Rattle.hls_m3u8.specs.Playlist.{Playlist}
@@ -74,15 +73,10 @@ are-alike a b fed = record {
       alike-at a b r l.0 m.0 fed.config l.1 m.1 (fed.each r l.0 m.0 l.1 m.1);
 }
 
--- what was ever closed, by looking ahead
-pub closed-is : (s : State) → closed s ≡ (line_of (aim_of s.config) (places s)).segments
-closed-is s = ap (λ (x : Line). x.segments) (told-is_line (aim_of s.config) (places s))
-
 pub closed-at : (s : State) (c : ConfigData) (n : ℕ) (x : live_line.Segment) → s.config ≡ c → slice_get (closed s) n ≡ Some x →
     slice_get (line_of (aim_of c) (places s)).segments n ≡ Some x
 closed-at s c n x config at =
-    ap (λ (d : ConfigData). slice_get (line_of (aim_of d) (places s)).segments n) (sym config)
-    ∙ (ap (λ (xs : List live_line.Segment). slice_get xs n) (sym (closed-is s)) ∙ at)
+    ap (λ (d : ConfigData). slice_get (line_of (aim_of d) (places s)).segments n) (sym config) ∙ at
 
 -- a segment is listed alike
 pub stands-at : (s : State) → IsState s → (r : ℕ) (l : Lane) (n : ℕ) (x : live_line.Segment) → slice_get (channel s).lanes r ≡ Some l →
@@ -141,14 +135,13 @@ agree-over a b r l m state_a state_b fed at also =
           ∙ (listed-alike a b state_a state_b (ap (λ (c : ConfigData). c.epoch) fed.config) r l m ((channel a).removed + j) ((channel a).removed + j) v.0 at also either here there ∙ v.2));
       marks = λ number.
           let few_a : (channel a).removed ≤ length (line_of (aim_of a.config) (places a)).segments =
-          omega (arith, removed-few a state_a, ap length (closed-is a)) in
+          removed-few a state_a in
           let is_b : closed b ≡ (line_of (aim_of a.config) (places b)).segments =
-          closed-is b ∙ ap (λ (c : ConfigData). (line_of (aim_of c) (places b)).segments) fed.config in
+          ap (λ (c : ConfigData). (line_of (aim_of c) (places b)).segments) fed.config in
           let few_b : (channel a).removed ≤ length (line_of (aim_of a.config) (places b)).segments =
           omega (arith, removed-few b state_b, ap length is_b, number) in
-          ap (marks_in (channel a).removed) (closed-is a)
-          ∙ (marks-agree (aim_of a.config) (sources a) (sources b) timed_a timed_b alike (channel a).removed few_a few_b
-          ∙ (ap (marks_in (channel a).removed) (sym is_b) ∙ ap (λ (n : ℕ). marks_in n (closed b)) number));
+          marks-agree (aim_of a.config) (sources a) (sources b) timed_a timed_b alike (channel a).removed few_a few_b
+          ∙ (ap (marks_in (channel a).removed) (sym is_b) ∙ ap (λ (n : ℕ). marks_in n (closed b)) number);
     }
 
 pub live-lists-agree : (a b : State) (r : ℕ) (p q : Playlist) → IsState a → IsState b → AreFedAlike a b → live_list_of a r ≡ Some p →

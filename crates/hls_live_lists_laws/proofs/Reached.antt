@@ -1,5 +1,5 @@
 -- A live line's segments: both ends are places that were told, and a segment may reach from the one to the other.
-use Rattle.std.proofs.Common.{◌≡◌, ℕ, ◌<◌, true, List, [], ◌∷◌, length, Option, None, Some, arith, refl, sym, ap, subst, ◌∙◌, All}
+use Rattle.std.proofs.Common.{◌≡◌, ℕ, ◌<◌, true, List, [], ◌∷◌, length, Option, None, Some, arith, refl, sym, subst, ◌∙◌, All}
 use Rattle.std.proofs.lemmas.Bool.{cond_both}
 use Rattle.std.proofs.lemmas.List.Elements.{All-nil, All-head, All-tail}
 use Rattle.hls_places_laws.specs.declared.place.Place.{Place}
@@ -8,9 +8,11 @@ use Rattle.hls_live_laws.specs.declared.aim.Aim.{Aim}
 use Rattle.hls_live_laws.specs.declared.segment.Segment.{Segment}
 use Rattle.hls_live_laws.specs.declared.opening.Opening.{Opening}
 use Rattle.hls_live_laws.specs.Steps.{is_past, is_allowed, is_enough}
-use Rattle.hls_live_laws.specs.Cuts.{resumed, begun_anew, segment_to}
+use Rattle.hls_live_laws.specs.Cuts.{resumed, begun_anew, segment_to, line_of}
 use Rattle.hls_live_laws.specs.Told.{Told, untold, told_with, has_earlier, closed_with, tried, stopped_by, advanced_from, advanced, told}
+use Rattle.hls_live_laws.specs.Live.{whole_of}
 use Rattle.hls_live_laws.proofs.Lines.{told-none, told-more}
+use Rattle.hls_live_laws.proofs.Lives.{whole-is_told}
 
 -- what is known of each place is known of both ends
 pub record IsReached (P : Place → Type 0) (aim : Aim) (x : Segment) : Type 0 where
@@ -117,8 +119,9 @@ untold-reached P aim = record {
 }
 
 -- of the whole line of a list of places
-pub line-reached : (P : Place → Type 0) (aim : Aim) (places : List Place) → All P places → AreReached P aim (told aim 0 untold places)
-line-reached P aim places each = told-reached P aim 0 untold places each (untold-reached P aim)
+pub line-reached : (P : Place → Type 0) (aim : Aim) (places : List Place) → All P places → AreReached P aim (whole_of aim places)
+line-reached P aim places each =
+    subst (AreReached P aim) (sym (whole-is_told aim places)) (told-reached P aim 0 untold places each (untold-reached P aim))
 
 -- where a place was told there is an open one
 pub record IsOpen (t : Told) : Type 0 where
@@ -161,8 +164,8 @@ told-open aim removed t (q ∷ rest) is =
     (told-open aim removed (advanced aim removed t q) rest (advanced-open aim removed t.line.segments t.line.open_at t.best q))
 
 -- so where a segment was closed
-pub line-open : (aim : Aim) (places : List Place) → 0 < length (told aim 0 untold places).line.segments → IsOpen (told aim 0 untold places)
-line-open aim [] some = absurd (omega (arith, some, ap (λ (t : Told). length t.line.segments) (told-none aim 0 untold)))
+pub line-open : (aim : Aim) (places : List Place) → 0 < length (line_of aim places).segments → IsOpen (whole_of aim places)
+line-open aim [] some = absurd (omega (arith, some))
 line-open aim (q ∷ rest) some =
-    subst IsOpen (sym (told-more aim 0 untold q rest))
+    subst IsOpen (sym (whole-is_told aim (q ∷ rest) ∙ told-more aim 0 untold q rest))
     (told-open aim 0 (advanced aim 0 untold q) rest (advanced-open aim 0 [] None None q))

@@ -15,11 +15,10 @@ use Rattle.hls_places_laws.proofs.Undecided.{over-stays}
 use Rattle.hls_live_laws.specs.declared.aim.Aim.{Aim}
 use Rattle.hls_live_laws.specs.declared.segment.Segment.{Segment}
 use Rattle.hls_live_laws.specs.declared.opening.Opening.{Opening}
-use Rattle.hls_live_laws.specs.Cuts.{Line}
-use Rattle.hls_live_laws.specs.Told.{Told, untold, told}
-use Rattle.hls_live_laws.specs.Live.{is_closing, has_ended}
-use Rattle.hls_live_laws.proofs.Lines.{told-append, told-is_line}
-use Rattle.hls_live_laws.proofs.Kept.{told-grown}
+use Rattle.hls_live_laws.specs.Cuts.{line_of}
+use Rattle.hls_live_laws.specs.Told.{Told}
+use Rattle.hls_live_laws.specs.Live.{whole_of, is_closing, has_ended}
+use Rattle.hls_live_laws.proofs.Kept.{segments-stay}
 use Rattle.hls_core_laws.specs.Config.{ConfigData}
 use Rattle.hls_core_laws.specs.State.{State, channel}
 use Rattle.hls_core_laws.specs.IsState.{IsState}
@@ -94,7 +93,7 @@ places-told s state k d h =
 
 -- all that was told of a state, and the segments that were ever closed
 abbrev pub whole : State → Told
-whole s = told (aim_of s.config) 0 untold (places s)
+whole s = whole_of (aim_of s.config) (places s)
 
 abbrev pub closed : State → List Segment
 closed s = (whole s).line.segments
@@ -103,8 +102,7 @@ pub closed-reached : (s : State) → IsState s → AreReached (IsTold s) (aim_of
 closed-reached s state = line-reached (IsTold s) (aim_of s.config) (places s) (places-told s state)
 
 pub removed-few : (s : State) → IsState s → (channel s).removed ≤ length (closed s)
-removed-few s state =
-    omega (arith, removed_within s state, ap (λ (l : Line). length l.segments) (told-is_line (aim_of s.config) (places s)))
+removed-few s state = removed_within s state
 
 -- a line that has ended is over
 closing-over : (s : State) (o : Option Opening) → ((x : Opening) → o ≡ Some x → IsTold s x.place) → is_closing o ≡ true →
@@ -130,12 +128,11 @@ pub closed-follow : (a b : State) → Follows a b → Came a b
 closed-follow a b follows =
     let on = places_follow a b follows in
     let aim : Aim = aim_of a.config in
-    let grown = told-grown aim 0 (whole a) on.more in
+    let longer = segments-stay aim (places a) on.more in
     record {
-      came = grown.more;
-      is = ap (λ (c : ConfigData). (told (aim_of c) 0 untold (places b)).line.segments) (continues_of a b follows).config
-          ∙ (ap (λ (ps : List Place). (told aim 0 untold ps).line.segments) on.is
-          ∙ (ap (λ (t : Told). t.line.segments) (told-append aim 0 untold (places a) on.more) ∙ grown.is));
+      came = longer.0;
+      is = ap (λ (c : ConfigData). (line_of (aim_of c) (places b)).segments) (continues_of a b follows).config
+          ∙ (ap (λ (ps : List Place). (line_of aim ps).segments) on.is ∙ longer.1);
     }
 
 -- a state has no more common places than entries and one

@@ -1,5 +1,5 @@
 -- The live lists of an origin that was begun at a cut of another's live line: a channel that is handed over goes on.
-use Rattle.std.specs.Prelude.{◌≡◌, ℕ, ◌+◌, ◌≤◌, ◌⊎◌, List, drop, take, Some, slice_get}
+use Rattle.std.specs.Prelude.{◌≡◌, ℕ, ◌+◌, ◌≤◌, ◌⊎◌, drop, take, Some, slice_get}
 use Rattle.hls_media_laws.specs.FactLists.{bytes_in}
 use Rattle.hls_check_laws.specs.Tables.{spot_in}
 use Rattle.hls_places_laws.specs.declared.place.Place.{Place}
