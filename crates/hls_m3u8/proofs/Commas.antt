@@ -3,7 +3,7 @@
 use Rattle.std.proofs.Common.{◌≡◌, refl, sym, ◌∙◌, ap, ℕ, zero, suc, ◌+◌, ◌<◌, ◌≤◌, ◌==◌, ◌&&◌, Bool, true, false, not, List, [], ◌∷◌, length, take, drop, get_or, arith, Option, Some, None, inl, inr, add-one}
 use Rattle.std.proofs.lemmas.Bool.{cases_Bool, and_parts, eqb-true}
 use Rattle.std.proofs.lemmas.List.{drop_all, drop_more}
-use Rattle.hls_m3u8.specs.declared.attribute.MapParts.{MapParts}
+use Rattle.hls_m3u8.specs.Records.{MapParts}
 use Rattle.hls_m3u8.specs.Attributes.{flipped, attribute_texts, with_attribute, whole_map, map_from}
 use Rattle.hls_m3u8.specs.Commas.{comma_place, IsFirstAttribute}
 

@@ -15,9 +15,7 @@ use Rattle.hls_m3u8.specs.declared.playlist.Kind.TheVariants.{Vod, Event}
 use Rattle.hls_m3u8.specs.declared.playlist.ByteRange.{ByteRange}
 use Rattle.hls_m3u8.specs.declared.playlist.Segment.{Segment}
 use Rattle.hls_m3u8.specs.declared.playlist.Map.{Map}
-use Rattle.hls_m3u8.specs.declared.resource.Resource.{Resource}
-use Rattle.hls_m3u8.specs.declared.value.RangeTag.{RangeTag}
-use Rattle.hls_m3u8.specs.declared.reading.Reading.{Reading}
+use Rattle.hls_m3u8.specs.Records.{Resource, RangeTag, Reading}
 use Rattle.hls_m3u8.specs.Limits.{text_limit, segment_limit}
 use Rattle.hls_m3u8.specs.Playlist.{Playlist}
 use Rattle.hls_m3u8.specs.Uri.{is_uri_byte, is_uri_text, IsUri}

@@ -12,7 +12,7 @@ use Rattle.std.specs.Prelude.{Result, Ok, Err}
 use Rattle.hls_m3u8.specs.declared.fault.ListFault.{ListFault}
 use Rattle.hls_m3u8.specs.declared.fault.ListFault.TheVariants.{NotM3u, Utf8, BadTag, MissingTag, TooLong, Memory}
 use Rattle.hls_m3u8.specs.declared.playlist.Segment.{Segment}
-use Rattle.hls_m3u8.specs.declared.reading.Reading.{Reading}
+use Rattle.hls_m3u8.specs.Records.{Reading}
 use Rattle.hls_m3u8.specs.declared.reading.Kept.{Kept}
 use Rattle.hls_m3u8.specs.Limits.{text_limit, segment_limit}
 use Rattle.hls_m3u8.specs.Playlist.{Playlist}

@@ -10,10 +10,7 @@ use Rattle.hls_m3u8.specs.declared.fault.ListFault.{ListFault}
 use Rattle.hls_m3u8.specs.declared.fault.ListFault.TheVariants.{NotM3u, Utf8, BadTag, MissingTag, TooLong}
 use Rattle.hls_m3u8.specs.declared.tag.Tag.{Tag}
 use Rattle.hls_m3u8.specs.declared.tag.Tag.TheVariants as tag
-use Rattle.hls_m3u8.specs.declared.value.RangeTag.{RangeTag}
-use Rattle.hls_m3u8.specs.declared.resource.Resource.{Resource}
-use Rattle.hls_m3u8.specs.declared.reading.Reading.{Reading}
-use Rattle.hls_m3u8.specs.declared.reading.Found.{Found}
+use Rattle.hls_m3u8.specs.Records.{RangeTag, Resource, Reading, Found}
 use Rattle.hls_m3u8.specs.Limits.{text_limit, segment_limit, number_limit}
 use Rattle.hls_m3u8.specs.Playlist.{Playlist}
 use Rattle.hls_m3u8.specs.TextLines.{split_at, text_lines}

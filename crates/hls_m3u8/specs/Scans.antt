@@ -6,8 +6,7 @@ use Rattle.std.specs.Str.{IsCharBoundary}
 use Rattle.hls_m3u8.specs.declared.fault.ListFault.{ListFault}
 use Rattle.hls_m3u8.specs.declared.fault.ListFault.TheVariants.{NotM3u, Utf8, BadTag, MissingTag, TooLong, Memory}
 use Rattle.hls_m3u8.specs.declared.playlist.MediaPlaylist.{MediaPlaylist}
-use Rattle.hls_m3u8.specs.declared.reading.Reading.{Reading}
-use Rattle.hls_m3u8.specs.declared.reading.Found.{Found}
+use Rattle.hls_m3u8.specs.Records.{Reading, Found}
 use Rattle.hls_m3u8.specs.declared.reading.Kept.{Kept}
 use Rattle.hls_m3u8.specs.Playlist.{Playlist, playlist_of}
 use Rattle.hls_m3u8.specs.TextLines.{text_lines}

@@ -1,8 +1,11 @@
 //! What the lines of a playlist have given so far.
 
+ghost use Rattle.hls_m3u8.specs.Records as records;
+
 use crate::resource::Resource;
 use crate::value::RangeTag;
 use crate::{ByteRange, Kind, Segment};
+use std::marker::Model;
 
 /// What is known after some lines: the list's tags, the next segment's tags, and the last segment.
 #[derive(Drop)]
@@ -22,6 +25,26 @@ pub(crate) struct Reading<'a> {
     pub(crate) count: usize,
 }
 
+impl<'a> Model for Reading<'a> {
+    ghost Value = { records.Reading };
+
+    ghost view = { λ r. record {
+        version = r.version;
+        target = r.target;
+        media_sequence = r.media_sequence;
+        discontinuity_sequence = r.discontinuity_sequence;
+        kind = r.kind;
+        map = r.map;
+        ended = r.ended;
+        us = r.us;
+        range = r.range;
+        mark = r.mark;
+        date = r.date;
+        last = r.last;
+        count = r.count;
+    } };
+}
+
 /// What a line that is a URI gives beside it: the segment's tags.
 #[derive(Clone, Copy)]
 pub(crate) struct Found {
@@ -29,6 +52,14 @@ pub(crate) struct Found {
     pub(crate) date: Option<i64>,
     pub(crate) us: u64,
     pub(crate) range: Option<ByteRange>,
+}
+
+impl Model for Found {
+    ghost Value = { records.Found };
+
+    ghost view = { λ r. record { mark = r.mark; date = r.date; us = r.us; range = r.range } };
+
+    ghost inverse = { λ r. record { mark = r.mark; date = r.date; us = r.us; range = r.range } };
 }
 
 /// What is known after some lines, and the segments so far.
