@@ -192,7 +192,7 @@ is-moved epoch epoch_too cut r l m u v target same_epoch either same among stand
 closed-number : (s : State) (n m : ℕ) (x : live_line.Segment) → n ≡ m → slice_get (closed s) n ≡ Some x → slice_get (closed s) m ≡ Some x
 closed-number s n m x same at = ap (slice_get (closed s)) (sym same) ∙ at
 
-marks-on : (a b : State) (n k : ℕ) (cut : Place) → IsState a → IsState b → IsHandedOver a b n cut →
+pub marks-on : (a b : State) (n k : ℕ) (cut : Place) → IsState a → IsState b → IsHandedOver a b n cut →
     n + k ≤ length (closed a) → k ≤ length (closed b) → 1 ≤ k → marks_in (n + k) (closed a) ≡ marks_to a n + marks_in k (closed b)
 marks-on a b n zero cut state_a state_b over few also some = absurd (omega (arith, some))
 marks-on a b n (suc k) cut state_a state_b over few also some =
@@ -202,7 +202,7 @@ marks-on a b n (suc k) cut state_a state_b over few also some =
     (begun-at a b state_a n cut over) k (omega (arith, few)) (omega (arith, also, ap length is_b)) in
     on ∙ ap (λ (l : List live_line.Segment). marks_to a n + marks_in (suc k) l) (sym is_b)
 
-on-over : (a b : State) (n : ℕ) (cut : Place) (r : ℕ) (l m : Lane) → IsState a → IsState b → IsHandedOver a b n cut →
+pub on-over : (a b : State) (n : ℕ) (cut : Place) (r : ℕ) (l m : Lane) → IsState a → IsState b → IsHandedOver a b n cut →
     slice_get (channel a).lanes r ≡ Some l → slice_get (channel b).lanes r ≡ Some m →
     GoesOn n (marks_to a n) (bytes_before cut r l) (list_over a.config.epoch r l (line a)) (list_over b.config.epoch r m (line b))
 on-over a b n cut r l m state_a state_b over at also =

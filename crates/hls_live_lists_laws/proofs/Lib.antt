@@ -7,3 +7,4 @@ pub mod Texts
 mod Follows
 mod Origins
 mod Handovers
+mod Joined

@@ -11,6 +11,7 @@ use Rattle.hls_live_lists_laws.specs.Lists.{live_list_of}
 use Rattle.hls_live_lists_laws.specs.Later.{IsLater}
 use Rattle.hls_live_lists_laws.specs.Origins.{AreFedAlike, Agree}
 use Rattle.hls_live_lists_laws.specs.Handovers.{IsHandedOver, bytes_before, marks_to, GoesOn}
+use Rattle.hls_live_lists_laws.specs.Joined.{Offsets, offsets_of, joined, MayTakeOver}
 
 -- the live lists of a state can be written
 abbrev pub LiveListsHaveTexts : Type 0
@@ -31,3 +32,15 @@ abbrev pub LiveListsGoOn : Type 0
 LiveListsGoOn = (a b : State) (n : ℕ) (cut : Place) (rendition : ℕ) (l : Lane) (p q : Playlist) → IsState a → IsState b →
     IsHandedOver a b n cut → slice_get (channel a).lanes rendition ≡ Some l → live_list_of a rendition ≡ Some p →
     live_list_of b rendition ≡ Some q → GoesOn n (marks_to a n) (bytes_before cut rendition l) p q
+
+-- behind a list of the first's the second's with the constants added stands as a later one may
+abbrev pub LiveListsJoin : Type 0
+LiveListsJoin = (a b : State) (n : ℕ) (cut : Place) (rendition : ℕ) (l : Lane) (p q : Playlist) → IsState a → IsState b →
+    IsHandedOver a b n cut → slice_get (channel a).lanes rendition ≡ Some l → live_list_of a rendition ≡ Some p →
+    live_list_of b rendition ≡ Some q → MayTakeOver n p q → IsLater p (joined (offsets_of a n cut rendition l) q)
+
+-- and so does each later one of the second's, by the same constants
+abbrev pub LiveListsStayJoined : Type 0
+LiveListsStayJoined = (a b : State) (o : Offsets) (rendition : ℕ) (earlier : Playlist) → IsState a → Follows a b →
+    live_list_of a rendition ≡ Some earlier →
+    (later : Playlist) × (live_list_of b rendition ≡ Some later) × IsLater (joined o earlier) (joined o later)

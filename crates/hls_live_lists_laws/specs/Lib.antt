@@ -3,3 +3,4 @@ pub mod Later
 pub mod Laws
 pub mod Origins
 pub mod Handovers
+pub mod Joined

@@ -1,6 +1,6 @@
 //! Theorems about the definitions. Each function has no body: its contract is the law.
 
-ghost use Rattle.hls_live_lists_laws.specs.Laws.{LiveListsHaveTexts, LiveListsFollow, LiveListsAgree, LiveListsGoOn};
+ghost use Rattle.hls_live_lists_laws.specs.Laws.{LiveListsHaveTexts, LiveListsFollow, LiveListsAgree, LiveListsGoOn, LiveListsJoin, LiveListsStayJoined};
 
 /// The live lists of a state can be written.
 pub fn live_lists_have_texts()
@@ -23,4 +23,15 @@ pub fn live_lists_agree()
 /// discontinuity sequence numbers are a constant apart.
 pub fn live_lists_go_on()
     ensures { LiveListsGoOn }
+{}
+
+/// Across a handover a reload stays what RFC 8216 section 6.2.2 allows: behind a list of the first origin's the second's, with the
+/// constants added, is a later one.
+pub fn live_lists_join()
+    ensures { LiveListsJoin }
+{}
+
+/// And so it stays: lists of the second origin are later ones of each other by whatever constants.
+pub fn live_lists_stay_joined()
+    ensures { LiveListsStayJoined }
 {}
