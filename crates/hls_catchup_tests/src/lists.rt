@@ -8,7 +8,7 @@ use crate::channels::{EPOCH, recorded, request};
 use hls_catchup::{CostRule, Reply, answer};
 use hls_core::config::LAST_EPOCH;
 use hls_core::snapshot::Snapshot;
-use hls_job_files::{master_text, playlist_text};
+use hls_jobs::{master_text, playlist_text};
 use hls_m3u8::is_uri;
 use hls_origin_listing::{ListFault, Listed, Listing, list};
 use hls_sample_channels::{

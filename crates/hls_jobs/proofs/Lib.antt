@@ -2,3 +2,4 @@ mod ByIds
 mod Valid
 mod Calls
 mod Keeps
+mod Lists

@@ -7,3 +7,6 @@ pub mod Changes
 pub mod Rows
 pub mod Kept
 pub mod Shared
+pub mod Standing
+pub mod Files
+pub mod Line

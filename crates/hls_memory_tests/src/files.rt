@@ -5,8 +5,9 @@ use crate::told::Told;
 use hls_catchup::{Reply, Request};
 use hls_check_laws::CostRule;
 use hls_core::snapshot::Snapshot;
-use hls_job_files::{certificate_text, job_line, master_text, playlist_text, reply_in};
-use hls_jobs::{Job, JobTable, run_job};
+use hls_jobs::{
+    Job, JobTable, certificate_text, job_line, master_text, playlist_text, reply_in, run_job,
+};
 use std::alloc::Global;
 use std::sync::Arc;
 

@@ -6,8 +6,8 @@ use Rattle.hls_http_laws.specs.Reply.{extra_line}
 use Rattle.hls_http.specs.Media.{HasPart, part_of_list}
 use Rattle.hls_catchup.specs.Replies.{ReplyData}
 use Rattle.hls_jobs.specs.declared.job.Job.{Job}
-use Rattle.hls_job_files.specs.declared.standing.Withheld.{Withheld}
-use Rattle.hls_job_files.specs.Standing.{files_of}
+use Rattle.hls_jobs.specs.declared.standing.Withheld.{Withheld}
+use Rattle.hls_jobs.specs.Standing.{files_of}
 use Rattle.hls_serve_laws.specs.JobReplies.{resource_of}
 use Rattle.hls_serve_laws.specs.Replies.{Answer, media_bytes}
 use Rattle.hls_replies.specs.declared.answer.Slice.{Slice}

@@ -12,8 +12,7 @@ use hls_http::{Resource, part};
 use hls_http_laws::fault::HttpFault;
 use hls_http_laws::range::{Asked, Part};
 use hls_http_laws::reply::{Extra, Status};
-use hls_job_files::reply_in;
-use hls_jobs::Job;
+use hls_jobs::{Job, reply_in};
 use std::alloc::{AllocError, Global};
 
 /// A rendition of a reply as a resource: its init section, and then the units of the programme.

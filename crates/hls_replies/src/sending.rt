@@ -15,7 +15,7 @@ use hls_catchup::reply_total;
 use hls_http::{Resource, Session};
 use hls_http_laws::end::SessionEnd;
 use hls_http_laws::reply::ReplyHead;
-use hls_job_files::reply_in;
+use hls_jobs::reply_in;
 use std::alloc::Global;
 use std::io::Write;
 

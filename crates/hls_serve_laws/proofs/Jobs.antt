@@ -12,7 +12,7 @@ use Rattle.hls_jobs.specs.declared.fault.JobFault.TheVariants.{TableFull, Unknow
 use Rattle.hls_jobs.specs.declared.job.Job.{Job}
 use Rattle.hls_jobs.specs.declared.job.Job.TheVariants.{Waiting, Running, Finished, Failed}
 use Rattle.hls_jobs.specs.Phases.{IsRightJob}
-use Rattle.hls_job_files.specs.Standing.{answer_files}
+use Rattle.hls_jobs.specs.Standing.{answer_files}
 use Rattle.hls_serve_laws.specs.declared.route.JobFile.{JobFile}
 use Rattle.hls_serve_laws.specs.Heard.{IsOfJob}
 use Rattle.hls_serve_laws.specs.JobLaws.{FilesAreRight, LinesAreRight, IsOfRightReply, IsOfUnfinished, IsOfRightAnswer}

@@ -14,11 +14,11 @@ use Rattle.hls_catchup.specs.Resources.{parts_in}
 use Rattle.hls_jobs.specs.declared.fault.JobFault.{JobFault}
 use Rattle.hls_jobs.specs.declared.job.Job.{Job}
 use Rattle.hls_jobs.specs.FaultName.{job_fault_name}
-use Rattle.hls_job_files.specs.declared.standing.Withheld.{Withheld}
-use Rattle.hls_job_files.specs.declared.standing.Withheld.TheVariants as withheld
-use Rattle.hls_job_files.specs.Files.{certificate_file, master_file, playlist_file}
-use Rattle.hls_job_files.specs.Line.{job_line, version_end}
-use Rattle.hls_job_files.specs.Standing.{files_of}
+use Rattle.hls_jobs.specs.declared.standing.Withheld.{Withheld}
+use Rattle.hls_jobs.specs.declared.standing.Withheld.TheVariants as withheld
+use Rattle.hls_jobs.specs.Files.{certificate_file, master_file, playlist_file}
+use Rattle.hls_jobs.specs.Line.{job_line, version_end}
+use Rattle.hls_jobs.specs.Standing.{files_of}
 use Rattle.hls_serve_laws.specs.declared.query.QueryFault.{QueryFault}
 use Rattle.hls_serve_laws.specs.declared.route.JobFile.{JobFile}
 use Rattle.hls_serve_laws.specs.declared.route.JobFile.TheVariants as files

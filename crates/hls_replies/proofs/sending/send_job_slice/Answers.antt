@@ -1,6 +1,6 @@
 use Rattle.std.proofs.Common.{◌≡◌, Result, Some, sym, subst}
 use Rattle.hls_catchup.specs.Replies.{ReplyData}
-use Rattle.hls_job_files.specs.declared.standing.Withheld.{Withheld}
+use Rattle.hls_jobs.specs.declared.standing.Withheld.{Withheld}
 use Rattle.hls_replies.specs.Contents.{job_part_of, list_part, resource_by}
 use Rattle.hls_replies.proofs.Sent.{body-sent}
 use Rattle.hls_replies.proofs.sending.send_job_slice.Goals as goal

@@ -1,7 +1,7 @@
 //! The texts among a job's files.
 
 ghost use Rattle.std.specs.Prelude.{◌≡◌, IfOk, option_map};
-ghost use Rattle.hls_job_files.specs.Files.{certificate_of, certificate_file, master_file, playlist_file};
+ghost use Rattle.hls_jobs.specs.Files.{certificate_of, certificate_file, master_file, playlist_file};
 
 use hls_catchup::{Cutout, Reply, job_master};
 use hls_check_laws::Certificate;

@@ -2,10 +2,10 @@
 
 ghost use Rattle.std.specs.Prelude.{◌≡◌};
 ghost use Rattle.std.specs.Result.{result_map_both};
-ghost use Rattle.hls_job_files.specs.Standing.{files_of};
+ghost use Rattle.hls_jobs.specs.Standing.{files_of};
 
+use crate::job::Job;
 use hls_catchup::Reply;
-use hls_jobs::Job;
 
 /// Why a job has no files.
 #[derive(Clone, Copy, Debug, PartialEq, Eq, Drop)]

@@ -5,9 +5,9 @@ use Rattle.hls_catchup.specs.declared.cutout.Cutout.{Cutout}
 use Rattle.hls_m3u8.specs.declared.playlist.MediaPlaylist.{MediaPlaylist}
 use Rattle.hls_m3u8.specs.Playlist.{playlist_of}
 use Rattle.hls_m3u8.specs.Lines.{media_text}
-use Rattle.hls_job_files.specs.Files.{playlist_in}
-use Rattle.hls_job_files.proofs.Lists.{list_has_text}
-use Rattle.hls_job_files.proofs.files.playlist_text.Goals as goal
+use Rattle.hls_jobs.specs.Files.{playlist_in}
+use Rattle.hls_jobs.proofs.Lists.{list_has_text}
+use Rattle.hls_jobs.proofs.files.playlist_text.Goals as goal
 
 pub write_media-requires : goal.write_media-requires
 write_media-requires c =

@@ -8,7 +8,7 @@ use Rattle.hls_catchup.specs.Replies.{ReplyData}
 use Rattle.hls_jobs.specs.declared.job.Job.{Job}
 use Rattle.hls_jobs.specs.declared.job.Job.TheVariants.{Waiting, Running, Finished, Failed}
 use Rattle.hls_jobs.specs.Answers.{AnsweredData}
-use Rattle.hls_job_files.specs.Files.{certificate_of}
+use Rattle.hls_jobs.specs.Files.{certificate_of}
 
 -- the version, and the line's end
 abbrev pub version_end : ℕ → List ℕ

@@ -2,12 +2,13 @@
 
 ghost use Rattle.std.specs.Prelude.{◌≡◌, IfOk, option_map};
 ghost use Rattle.std.specs.String.{string_bytes};
-ghost use Rattle.hls_job_files.specs.Line.{job_line, answer_line, reply_line};
+ghost use Rattle.hls_jobs.specs.Line.{job_line, answer_line, reply_line};
 
+use crate::answered::Answered;
 use crate::files::certificate_of;
+use crate::job::Job;
 use hls_catchup::Reply;
 use hls_check_laws::Claim;
-use hls_jobs::{Answered, Job};
 use std::alloc::{AllocError, Global};
 
 /// How far a job is, as one line that ends in LF: `waiting`, `running`, or what it came to with the version (the number of log

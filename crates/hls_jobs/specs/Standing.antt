@@ -4,8 +4,8 @@ use Rattle.hls_catchup.specs.declared.request.CatchFault.{CatchFault}
 use Rattle.hls_catchup.specs.Replies.{ReplyData}
 use Rattle.hls_jobs.specs.declared.job.Job.{Job}
 use Rattle.hls_jobs.specs.declared.job.Job.TheVariants.{Waiting, Running, Finished, Failed}
-use Rattle.hls_job_files.specs.declared.standing.Withheld.{Withheld}
-use Rattle.hls_job_files.specs.declared.standing.Withheld.TheVariants.{Unfinished, Refused, NoMemory}
+use Rattle.hls_jobs.specs.declared.standing.Withheld.{Withheld}
+use Rattle.hls_jobs.specs.declared.standing.Withheld.TheVariants.{Unfinished, Refused, NoMemory}
 
 -- of an answer: the reply, or a refused request
 abbrev pub answer_files : Result ReplyData CatchFault → Result ReplyData Withheld
