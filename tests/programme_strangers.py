@@ -133,11 +133,11 @@ def leave_at(step, path, seconds, number, spool):
     said = tool.communicate(timeout=60)[1].decode()
     took = time.time() - begun
     deleting = path.startswith("DELETE")
-    check(f"signal {int(number)} while {step}: ends in time", there and took < seconds and tool.returncode == (1 if deleting or path.startswith("POST") else 128 + number), (took, tool.returncode, said))
+    check(f"signal {int(number)} while {step}: ends in time", there and took < seconds and tool.returncode == (1 if deleting else 128 + number), (took, tool.returncode, said))
     check(f"signal {int(number)} while {step}: the job is deleted", path.startswith("POST") or "DELETE /job/7" in false.asked, false.asked)
     check(f"signal {int(number)} while {step}: nothing is left, and no traceback is shown", os.listdir(spool) == (["show"] if deleting else []) and "Traceback" not in said, (os.listdir(spool), said))
     if deleting:
-        check("a job that couldn't be deleted is told, with what to type", f"job 7 still stands" in said and f"curl -X DELETE {url(false.port)}/job/7" in said, said)
+        check("a job that couldn't be deleted is told, with what to type", "job 7 still stands" in said and f"curl -X DELETE {url(false.port)}/job/7" in said, said)
     false.server.shutdown()
 
 
@@ -345,7 +345,9 @@ def flood(daemon, news):
 def many_at_once(daemon, news):
     """A hundred viewers of a programme that stands, after a while: the origin is asked once whether it still does."""
     job = f"/job/{int(daemon.watch(3000000, 4000000, '192.0.2.9')[1].split('/')[5])}"
-    time.sleep(5.5)
+    time.sleep(3)
+    daemon.watch(3000000, 4000000, "192.0.2.9")
+    time.sleep(2.5)
     before = news.false.asked.count(f"GET {job}")
     threads = [threading.Thread(target=daemon.watch, args=(3000000, 4000000, f"198.51.100.{n}")) for n in range(100)]
     for thread in threads:
