@@ -46,5 +46,6 @@ bench_program() {
             return 1
         fi
     fi
+    # shellcheck disable=SC2034  # for whoever sources this
     BENCH_PROGRAM="$bench_work/crates/bench_$name/out/bench_$name"
 }
