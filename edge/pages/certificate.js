@@ -225,6 +225,8 @@ export function answer(bytes) {
         return { said: check(certificate), good: true, certificate };
     } catch (fault) {
         if (!(fault instanceof Refusal)) throw fault;
+        // nobody draws a refused plan, and it may have millions of places
+        if (certificate) certificate.plan = [];
         return { said: `refused ${fault.message}`, good: false, certificate };
     }
 }

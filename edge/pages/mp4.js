@@ -126,6 +126,7 @@ function runsOf(view, traf, head, defaults) {
         const firstFlags = has & 4 ? view.getUint32(sample) : null;
         if (has & 4) sample += 4;
         const width = [0x100, 0x200, 0x400, 0x800].filter((bit) => has & bit).length * 4;
+        if (sample + count * width > run.to) throw new RangeError("a run goes on behind its box");
         if (count > 0 && first === null) {
             const before = (has & 0x100 ? 4 : 0) + (has & 0x200 ? 4 : 0);
             first = firstFlags ?? (has & 0x400 ? view.getUint32(sample + before) : usual.flags ?? 0);

@@ -4,7 +4,7 @@
 "use strict";
 
 import { segmentsOf, checkAside, drawPrices, wordsOf, CERTIFICATE_LIMIT } from "./prices.js";
-import { Channel } from "./operate_channel.js";
+import { Channel, Refused } from "./operate_channel.js";
 import { Lanes } from "./operate_lanes.js";
 import { ListFault, addressOf, load } from "./playlist.js";
 
@@ -18,8 +18,8 @@ const $ = (id) => document.getElementById(id);
 const origin = new URLSearchParams(location.search).get("origin") ?? "1";
 const channel = new Channel(addressOf(`origin/${/^[12]$/.test(origin) ? origin : "1"}/`, location.href));
 const lanes = new Lanes($("lanes"), channel);
-const wished = new Map(); // the programmes of the jobs that this page asked for
 let shown = null; // the certificate that is drawn
+let shows = 0; // certificates that were to be checked
 let jobsShown = null;
 
 const sleep = (seconds) => new Promise((done) => { setTimeout(done, 1000 * seconds); });
@@ -102,14 +102,14 @@ function paintRenditions() {
     if (late.length === rows.length && silence > 2 * channel.target) say(`Nothing has come for ${silence.toFixed(0)} s: the encoders are silent, or this page is asleep.`);
     else if (late.length > 0) say(`Rendition ${late.join(", ")} is late: no place, and so no segment, can be made without it.`);
     else if (channel.list?.ended) say("The channel has ended.");
-    else say(`All renditions go on${behindClock()}.`);
+    else say("All renditions go on.");
 }
 
 // How far the newest unit is from this machine's clock, where the channel's counts the time of day.
 function behindClock() {
     const behind = channel.epoch === null ? Infinity : (Date.now() - channel.epoch - channel.end / 1000) / 1000;
     if (Math.abs(behind) > 86400) return "";
-    return `; the newest unit ends at ${clockOf(channel.end)}, ${Math.abs(behind).toFixed(0)} s ${behind < 0 ? "ahead of" : "behind"} this machine's clock`;
+    return `The newest unit ends at ${clockOf(channel.end)}, ${Math.abs(behind).toFixed(0)} s ${behind < 0 ? "ahead of" : "behind"} this machine's clock.`;
 }
 
 // Keeps the end of what came in sight for as long as nobody looks elsewhere.
@@ -126,6 +126,7 @@ function paint() {
     lanes.draw(clockOf);
     paintFigures();
     paintRenditions();
+    $("newest").textContent = behindClock();
     const { table } = channel;
     const counts = `${table?.places ?? 0} places, ${channel.live.length} live segments, ${channel.renditions.length} renditions`;
     $("lanes").setAttribute("aria-label", `The channel from ${clockOf(channel.start)} to ${clockOf(channel.end)}: ${counts}`);
@@ -135,7 +136,8 @@ function paint() {
 function listenToPicture() {
     const canvas = $("lanes");
     let begun = null;
-    canvas.addEventListener("pointerdown", ({ offsetX, pointerId }) => {
+    canvas.addEventListener("pointerdown", ({ offsetX, pointerId, button }) => {
+        if (button !== 0) return;
         begun = lanes.timeAt(offsetX);
         canvas.setPointerCapture(pointerId);
     });
@@ -146,7 +148,8 @@ function listenToPicture() {
         [$("from").value, $("to").value] = lanes.chosen.map(spell);
         lanes.draw(clockOf);
     });
-    canvas.addEventListener("pointerup", () => { begun = null; });
+    // a finger that scrolls the page gives up what it began
+    for (const name of ["pointerup", "pointercancel"]) canvas.addEventListener(name, () => { begun = null; });
     canvas.addEventListener("wheel", (event) => {
         event.preventDefault();
         zoom(event.deltaY > 0 ? 1.25 : 0.8, lanes.timeAt(event.offsetX));
@@ -155,8 +158,7 @@ function listenToPicture() {
         const width = lanes.span[1] - lanes.span[0];
         const move = { ArrowLeft: -width / 8, ArrowRight: width / 8 }[event.key];
         if (move) {
-            lanes.follows = false;
-            lanes.span = lanes.span.map((time) => time + move);
+            look(lanes.span.map((time) => time + move));
         } else if (event.key === "+" || event.key === "-") zoom(event.key === "+" ? 0.8 : 1.25);
         else return;
         event.preventDefault();
@@ -169,10 +171,19 @@ function listenToPicture() {
 }
 
 function zoom(by, around = (lanes.span[0] + lanes.span[1]) / 2) {
-    lanes.follows = false;
-    lanes.span = lanes.span.map((time) => around + (time - around) * by);
-    if (lanes.span[1] - lanes.span[0] < 1000000) lanes.span = [around - 500000, around + 500000];
+    const near = lanes.span.map((time) => around + (time - around) * by);
+    look(near[1] - near[0] < 1000000 ? [around - 500000, around + 500000] : near);
     paint();
+}
+
+// Looks elsewhere, no farther beside what is kept than that is long.
+function look([from, to]) {
+    const [start, end] = [channel.start, channel.end + 2000000];
+    const room = end - start + 60000000;
+    const width = Math.min(to - from, 2 * room);
+    const begins = Math.min(Math.max(from, start - room), end + room - width);
+    lanes.follows = false;
+    lanes.span = [begins, begins + width];
 }
 
 // The fields that were typed in are shown on the picture.
@@ -199,7 +210,7 @@ async function cut(event) {
         if (wishes.from < 0 || wishes.to < 0) throw new Error("The programme begins before the channel's clock.");
         const charge = Math.round($("charge").value * 1000000);
         const job = await channel.cut(charge > 0 ? { ...wishes, charge } : wishes);
-        wished.set(job, `${clockOf(wishes.from)} to ${clockOf(wishes.to)}`);
+        channel.wished.set(job, `${clockOf(wishes.from)} to ${clockOf(wishes.to)}`);
         $("verdict").textContent = `Job ${job} is planned ..`;
         const state = await channel.finished(job);
         await showJobs();
@@ -223,8 +234,11 @@ const help = {
 async function show(bytes, name) {
     $("verdict").textContent = `${name} is checked ..`;
     const begun = performance.now();
+    const turn = ++shows;
     const answer = await checkAside(bytes);
     const { certificate, good } = answer;
+    // another one was chosen while this one was checked
+    if (turn !== shows) return answer;
     $("verdict").textContent = `${name}: ${wordsOf(answer)} (${((performance.now() - begun) / 1000).toFixed(2)} s)`;
     $("verdict").className = good ? "good" : "bad";
     shown = certificate;
@@ -247,8 +261,8 @@ async function showCertificate(job) {
         lanes.plan = good ? segmentsOf(certificate) : null;
         const { start, prevEnd } = certificate?.table[0] ?? {};
         if (start) bring(start[0], prevEnd[certificate.places - 1]);
-        if (start && !wished.has(job)) {
-            wished.set(job, lanes.chosen.map(clockOf).join(" to "));
+        if (start && !channel.wished.has(job)) {
+            channel.wished.set(job, lanes.chosen.map(clockOf).join(" to "));
             await showJobs();
         }
         paint();
@@ -271,7 +285,7 @@ function rowOf({ number, state, address }) {
     }
     if (files.length > 0) doing.append(button("Certificate", () => showCertificate(number)));
     doing.append(button("Delete", () => remove(number)));
-    return make("tr", {}, make("th", { scope: "row", textContent: number }), make("td", { textContent: state }), make("td", { textContent: wished.get(number) ?? "" }),
+    return make("tr", {}, make("th", { scope: "row", textContent: number }), make("td", { textContent: state }), make("td", { textContent: channel.wished.get(number) ?? "" }),
         make("td", { className: "files" }, ...files.map(file)), make("td", {}, doing));
 }
 
@@ -280,7 +294,9 @@ async function showJobs() {
     const jobs = await channel.jobs();
     jobsShown = channel.status.jobs;
     $("jobRows").replaceChildren(...jobs.map(rowOf));
-    if (jobs.length === 0) $("jobRows").append(make("tr", {}, make("td", { colSpan: 5, className: "pale", textContent: "No job stands." })));
+    const more = jobsShown - jobs.length;
+    const words = jobsShown === 0 ? "No job stands." : more > 0 ? `Jobs whose numbers aren't known here: ${more}.` : "";
+    if (words) $("jobRows").append(make("tr", {}, make("td", { colSpan: 5, className: "pale", textContent: words })));
 }
 
 async function remove(number) {
@@ -291,6 +307,7 @@ async function remove(number) {
 
 function sayFault(fault) {
     say(fault.status === 404 ? "The channel hasn't begun: no segment was made yet." : fault instanceof ListFault ? fault.message
+        : fault instanceof Refused ? `The origin answers: ${fault.message}.`
         : fault.status ? `The origin answers ${fault.status}.` : "The origin can't be reached. It is asked again and again.");
 }
 
@@ -323,6 +340,8 @@ function main() {
     repeat(SURVEY_EVERY, async () => {
         while (channel.live.length === 0) await sleep(1);
         await channel.survey();
+        // jobs from before this page was opened are found from the number of the job that was just made
+        if (channel.status.jobs > 0) await showJobs();
         const zone = Intl.DateTimeFormat().resolvedOptions().timeZone;
         const clock = channel.epoch === null ? "In seconds of the channel's clock: serve has no --epoch." : `In this browser's time, ${zone}.`;
         $("timeHelp").textContent = `${clock} What is kept begins at ${clockOf(channel.start)}.`;

@@ -5,7 +5,7 @@
 
 import { read } from "./certificate.js";
 import { readInit, readUnit } from "./mp4.js";
-import { ReplyFault, isMaster, readMaster, readMedia } from "./playlist.js";
+import { ReplyFault, isMaster, readMaster, readMedia, wholeOf } from "./playlist.js";
 
 const HEAD = 8192; // bytes that hold the boxes before a large unit's samples; small units are read many at a time
 const MANY = 65536;
@@ -33,15 +33,16 @@ async function asked(path, options = {}) {
 
 async function textOf(path, limit = 16777216) {
     const reply = await asked(path);
-    if (reply.status !== 200 || Number(reply.headers.get("Content-Length")) > limit) throw new ReplyFault(reply.status);
-    return reply.text();
+    if (reply.status === 200) return new TextDecoder().decode(await wholeOf(reply, limit));
+    await reply.body?.cancel();
+    throw new ReplyFault(reply.status);
 }
 
 // Asks for a range of a recording: its bytes with the recording's length, or what stands in their place.
 async function ask(url, first, last) {
     const reply = await asked(url, { headers: { Range: `bytes=${first}-${last}` } });
     const total = Number(/\/(\d+)$/.exec(reply.headers.get("Content-Range") ?? "")?.[1] ?? NaN);
-    if (reply.status === 206) return { bytes: new Uint8Array(await reply.arrayBuffer()), total };
+    if (reply.status === 206) return { bytes: await wholeOf(reply, last - first + 1), total };
     await reply.body?.cancel();
     if (reply.status !== 416) throw new ReplyFault(reply.status);
     return { bytes: new Uint8Array(0), total };
@@ -124,15 +125,27 @@ class Rendition {
     }
 }
 
+/// What the origin refuses, in its own words.
+export class Refused extends Error {}
+
 /// The channel, looked at again and again.
 export class Channel {
     constructor(base) {
-        Object.assign(this, { base, renditions: [], status: {}, before: null, live: [], target: 6, epoch: null, table: null, newestJob: 0, own: null });
+        Object.assign(this, { base });
+        this.forget();
+    }
+
+    // As if nothing had been asked yet. `wished` has the programmes of the jobs that this page asked for.
+    forget() {
+        Object.assign(this, { renditions: [], status: {}, before: null, list: null, live: [], target: 6, epoch: null, table: null });
+        Object.assign(this, { newestJob: 0, own: null, wished: new Map() });
     }
 
     async lookAtStatus() {
         const text = await textOf(`${this.base}status`, 4096);
         const status = Object.fromEntries(text.trim().split("\n").map((line) => line.split(" ")).map(([name, number]) => [name, Number(number)]));
+        // a log never grows shorter: the origin began anew
+        if (status.version < this.status.version) this.forget();
         this.before ??= { version: status.version, at: performance.now() };
         this.status = status;
     }
@@ -148,8 +161,11 @@ export class Channel {
         const listOf = async ({ number }) => readMedia(await textOf(`${this.base}live/${number}.m3u8`), this.base);
         for (const rendition of this.renditions) if (!rendition.init) await rendition.look(await listOf(rendition));
         await Promise.all(this.renditions.map((rendition) => rendition.follow()));
-        this.list = await listOf(this.renditions[0]);
-        this.target = this.list.target;
+        const list = await listOf(this.renditions[0]);
+        const isAnew = list.sequence < this.list?.sequence || this.renditions.some(({ total, next }) => total < next);
+        if (isAnew) return this.forget();
+        this.list = list;
+        this.target = list.target;
         this.place();
     }
 
@@ -214,7 +230,7 @@ export class Channel {
     async cut(wishes) {
         const reply = await asked(`${this.base}catchup?${new URLSearchParams(wishes)}`, { method: "POST" });
         const said = await reply.text();
-        if (reply.status !== 202) throw new Error(said.trim() || `status ${reply.status}`);
+        if (reply.status !== 202) throw new Refused(said.trim() || `status ${reply.status}`);
         this.newestJob = Number(/^job (\d+)/.exec(said)[1]);
         return this.newestJob;
     }
@@ -238,13 +254,17 @@ export class Channel {
         return asked(`${this.base}job/${number}`, { method: "DELETE", keepalive: true });
     }
 
-    // The jobs that stand, from the newest number that is known down.
+    // The jobs that stand: those that came since the newest that is known, and from that one down.
     async jobs() {
         const found = [];
-        for (let number = this.newestJob, probes = 0; number > 0 && found.length < this.status.jobs && probes < PROBES; number--, probes++) {
-            const job = await this.job(number);
-            if (job && number !== this.own) found.push(job);
-        }
+        const look = async (number) => {
+            const job = number === this.own ? null : await this.job(number);
+            if (job) found.push(job);
+            return job !== null;
+        };
+        for (let next = this.newestJob + 1; this.newestJob > 0 && found.length < this.status.jobs && await look(next); next++) this.newestJob = next;
+        found.reverse();
+        for (let number = this.newestJob - found.length, probes = 0; number > 0 && found.length < this.status.jobs && probes < PROBES; number--, probes++) await look(number);
         return found;
     }
 }

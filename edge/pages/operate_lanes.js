@@ -152,7 +152,7 @@ export class Lanes {
 
     trimmed(y, until) {
         const { pen } = this;
-        const right = this.x(until);
+        const right = Math.min(this.x(until), this.width);
         pen.strokeStyle = this.colour("line");
         for (let x = LEFT - LANE; x < right; x += 8) {
             pen.beginPath();

@@ -4,7 +4,7 @@
 "use strict";
 
 const SILENCE = 15000; // milliseconds without a byte, after which a request is given up
-const LIMITS = { bytes: 16777216, segments: 131072, renditions: 256 };
+const LIMITS = { bytes: 16777216, segments: 131072, renditions: 256, target: 3600 };
 
 /// A list that can't be used, in words that a viewer may read.
 export class ListFault extends Error {}
@@ -39,7 +39,8 @@ export async function load(url, { range = null, limit = LIMITS.bytes, signal = u
     }
 }
 
-async function wholeOf(reply, limit, came) {
+/// All of a reply's bytes, unless there are more than there may be.
+export async function wholeOf(reply, limit, came = () => {}) {
     const pieces = [];
     let length = 0;
     for (const reader = reply.body.getReader(); ;) {
@@ -79,9 +80,10 @@ function whole(text) {
     return Number(text);
 }
 
+// One attribute begins where the one before ended: so a long line is read once, whatever stands in it.
 function attributesOf(text) {
     const found = {};
-    for (const [, name, quoted, plain] of text.matchAll(/([A-Z0-9-]+)=(?:"([^"]*)"|([^",]*))/g)) found[name] = quoted ?? plain;
+    for (const [, name, quoted, plain] of text.matchAll(/([A-Z0-9-]+)=(?:"([^"]*)"|([^",]*))(?:, *|$)/gy)) found[name] = quoted ?? plain;
     return found;
 }
 
@@ -157,5 +159,6 @@ export function readMedia(text, base) {
         }
     }
     if (found.target < 1) throw new ListFault("The list says no target duration.");
+    if (found.target > LIMITS.target) throw new ListFault("The list's target duration is longer than it may be.");
     return found;
 }
