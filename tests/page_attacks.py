@@ -271,6 +271,33 @@ def a_plan_without_end(world, canned):
     page.close()
 
 
+def largest_certificates():
+    """As many places, renditions and digits as there may be: a good one, one whose steps are all looked at in all renditions, one out of order."""
+    places, renditions, top = 16384, 16, 9007199254740991
+    last = places - 1
+
+    def certificate(spot, price):
+        rows = "\n".join(" ".join(spot(p, r) for r in range(renditions)) for p in range(places))
+        return (f"HLS-CUT-CERTIFICATE 1\ntarget 3600\npreferred 3600000000\nrenditions {renditions}\nplaces {places}\n{rows}\n"
+                f"cut 1961700000\nplan 0 {last}\n" + "".join(f"price {p} {price(p)}\n" for p in range(places)) + "end\n")
+
+    def spot_of(p, r, end=None, runs=f"{top} {top}"):
+        at = top - (last - p) * 100000
+        return f"{top - (last - p)} {at if end is None else end} {at} {runs}"
+
+    def forbids(p, r):
+        """Of each two steps that are next to each other another rendition forbids the one."""
+        return p != last and r == (15 if p % 2 else 14)
+
+    def dear(p):
+        return 0 if p == 0 else 1961700000 if p == last else p * 4000000000
+    good = certificate(spot_of, lambda p: 3600000000 - p * 100000 if p else 0)
+    yield "large.cert", good
+    yield "gaps.cert", certificate(lambda p, r: spot_of(p, r, None, f"{top - 1 if forbids(p, r) else top} {top}"), dear)
+    yield "lengths.cert", certificate(lambda p, r: spot_of(p, r, 0 if forbids(p, r) else None), dear)
+    yield "order.cert", good.replace(f"\n{top - last} ", f"\n{top} ", 1)
+
+
 # What is wider than the window, and what can be used and lies outside of it or under something else.
 LOST = """[...document.querySelectorAll('button, select, input, a[href], summary')].filter((e) => e.checkVisibility() && e.type !== 'file' && !e.disabled).filter((e) => {
   e.scrollIntoView({ block: 'center' });

@@ -131,25 +131,53 @@ export function read(bytes) {
 /// The length of a segment from place p to place q in a rendition, in microseconds.
 export const lengthOf = (spots, p, q) => spots.prevEnd[q] - spots.start[p];
 
-const longestOf = ({ target }) => target * 1000000 + 499999;
-
-// Whether a rendition lets a step pass.
-function lets(spots, p, q, longest) {
-    const length = spots.prevEnd[q] - spots.start[p];
-    return spots.fragment[q] > spots.fragment[p] && spots.runOut[p] === spots.runIn[q] && length > 0 && length <= longest;
+// One column of all renditions, place after place.
+function rowsOf(table, places, name) {
+    const rows = new Float64Array(places * table.length);
+    table.forEach((spots, r) => { for (let p = 0; p < places; p++) rows[p * table.length + r] = spots[name][p]; });
+    return rows;
 }
 
-// Whether a step is allowed. The rendition that refused the last one is asked first: a certificate may be made to cost most.
-let refusing = 0;
-function isAllowed({ table }, p, q, longest) {
-    if (refusing < table.length && !lets(table[refusing], p, q, longest)) return false;
-    for (let r = 0; r < table.length; r++) {
-        if (!lets(table[r], p, q, longest)) {
-            refusing = r;
-            return false;
+// A number for each place that is equal where the place's numbers are equal, in all renditions.
+function namesOf(rows, count, known) {
+    return Int32Array.from({ length: rows.length / count }, (_, p) => {
+        const name = rows.subarray(p * count, (p + 1) * count).join();
+        if (!known.has(name)) known.set(name, known.size);
+        return known.get(name);
+    });
+}
+
+// For each place the first one whose fragments are all greater: in a sorted table all behind it are so too.
+function firstBehind(table, places) {
+    const first = new Int32Array(places);
+    for (const { fragment } of table) {
+        for (let p = places - 1, next = places; p >= 0; p--) {
+            if (p + 1 < places && fragment[p + 1] > fragment[p]) next = p + 1;
+            first[p] = Math.max(first[p], next);
         }
     }
-    return true;
+    return first;
+}
+
+// Which steps of a sorted table are allowed, made ready to be asked for more than a hundred million: a certificate may be made to
+// cost most.
+class Steps {
+    constructor({ table, places, target }) {
+        const known = new Map();
+        const [into, out] = ["runIn", "runOut"].map((name) => namesOf(rowsOf(table, places, name), table.length, known));
+        const [starts, ends] = ["start", "prevEnd"].map((name) => rowsOf(table, places, name));
+        Object.assign(this, { count: table.length, longest: target * 1000000 + 499999, into, out, starts, ends, first: firstBehind(table, places) });
+    }
+
+    allows(p, q) {
+        if (q < this.first[p] || this.out[p] !== this.into[q]) return false;
+        const { count, starts, ends, longest } = this;
+        for (let from = p * count, to = q * count, last = to + count; to < last; from++, to++) {
+            const length = ends[to] - starts[from];
+            if (length <= 0 || length > longest) return false;
+        }
+        return true;
+    }
 }
 
 const costOf = ({ table, preferred, charge }, p, q) => Math.abs(lengthOf(table[0], p, q) - preferred) + charge;
@@ -163,22 +191,22 @@ function checkTable({ table, places }) {
     }
 }
 
-function checkPlan(certificate) {
+function checkPlan(certificate, steps) {
     const { plan, places, prices, cut } = certificate;
     if (plan[0] !== 0 || plan[plan.length - 1] !== places - 1) throw new Refusal("PlanEnds");
     let cost = 0;
     for (let i = 1; i < plan.length; i++) {
         const [p, q] = [plan[i - 1], plan[i]];
-        if (p >= q || !isAllowed(certificate, p, q, longestOf(certificate))) throw new Refusal("PlanStep", p, q);
+        if (p >= q || !steps.allows(p, q)) throw new Refusal("PlanStep", p, q);
         cost += costOf(certificate, p, q);
     }
     if (cost !== cut || prices[places - 1] !== cut) throw new Refusal("PlanCost");
 }
 
 // Looks at every allowed step from a place with a price, by its least p and then its least q. What has no price costs more than all.
-function checkSteps(certificate, prices) {
+function checkSteps(certificate, steps, prices) {
     const { table: [{ start, prevEnd }], places, preferred, charge } = certificate;
-    const longest = longestOf(certificate);
+    const { longest } = steps;
     // No place from q on is nearer than nearest[q], so a row ends where that is out of reach: ends needn't rise.
     const nearest = Float64Array.from(prevEnd);
     for (let q = places - 2; q >= 0; q--) nearest[q] = Math.min(nearest[q], nearest[q + 1]);
@@ -187,33 +215,34 @@ function checkSteps(certificate, prices) {
         if (price === NOT_PRICED) continue;
         for (let q = p + 1; q < places && nearest[q] - from <= longest; q++) {
             // prices are compared first: most steps break nothing, and needn't be asked whether they are allowed
-            if (prices[q] > price + Math.abs(prevEnd[q] - from - preferred) && isAllowed(certificate, p, q, longest)) throw new Refusal("PriceStep", p, q);
+            if (prices[q] > price + Math.abs(prevEnd[q] - from - preferred) && steps.allows(p, q)) throw new Refusal("PriceStep", p, q);
         }
     }
 }
 
-function checkPrices(certificate) {
+function checkPrices(certificate, steps) {
     if (certificate.prices[0] !== 0) throw new Refusal("PriceStart");
-    checkSteps(certificate, certificate.prices);
+    checkSteps(certificate, steps, certificate.prices);
 }
 
 // The closed set: its places cost nothing, so an allowed step that leaves it leads to what costs more.
-function checkClosed(certificate) {
+function checkClosed(certificate, steps) {
     const { closed, places } = certificate;
     if (!closed[0]) throw new Refusal("PriceStart");
-    checkSteps(certificate, Float64Array.from(closed, (is) => is ? 0 : NOT_PRICED));
+    checkSteps(certificate, steps, Float64Array.from(closed, (is) => is ? 0 : NOT_PRICED));
     if (closed[places - 1]) throw new Refusal("EndReached");
 }
 
 /// Throws the first rule that a certificate breaks; else says what it proves: `cut N` or `none`.
 export function check(certificate) {
     checkTable(certificate);
+    const steps = new Steps(certificate);
     if (certificate.closed) {
-        checkClosed(certificate);
+        checkClosed(certificate, steps);
         return "none";
     }
-    checkPlan(certificate);
-    checkPrices(certificate);
+    checkPlan(certificate, steps);
+    checkPrices(certificate, steps);
     return `cut ${certificate.cut}`;
 }
 

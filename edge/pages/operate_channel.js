@@ -12,6 +12,7 @@ const MANY = 65536;
 const KEPT_UNITS = 6000;
 const FIRST_SEGMENTS = 12; // of the live list, whose units are read when the page opens
 const PROBES = 96;
+const SEARCHES = 5; // for where what is kept begins
 const SILENCE = 15000; // milliseconds after which a request is given up
 const EVERY = 70; // milliseconds between two requests, since an edge lets operators ask so often,
 const AT_ONCE = 10; // and so many beyond that
@@ -46,6 +47,15 @@ async function ask(url, first, last) {
     await reply.body?.cancel();
     if (reply.status !== 416) throw new ReplyFault(reply.status);
     return { bytes: new Uint8Array(0), total };
+}
+
+// Where the first moof of some bytes begins, else -1: its name stands behind its size, and its first box is always a mfhd of 16 bytes.
+const MOOF = [..."moof\0\0\0\x10mfhd"].map((letter) => letter.charCodeAt(0));
+function placeOfMoof(bytes) {
+    for (let at = bytes.indexOf(MOOF[0], 4); at >= 0; at = bytes.indexOf(MOOF[0], at + 1)) {
+        if (MOOF.every((byte, i) => bytes[at + i] === byte)) return at - 4;
+    }
+    return -1;
 }
 
 // One rendition: what is kept of it, and its newest units one after the other.
@@ -103,25 +113,49 @@ class Rendition {
         }
     }
 
-    // When the first unit that is kept begins. Where it lies: first in growing steps, then by halves between what is gone (410) and
-    // what is there.
+    // When the first unit that is kept begins, or one soon after it; null where none is found. What is kept begins later and later
+    // while one looks.
     async firstKept() {
-        let low = this.floor ?? this.initLength;
-        if (!await this.isThere(low)) {
-            let high = this.next;
-            for (let step = MANY; low + step < high; step *= 4) {
-                if (await this.isThere(low + step)) high = low + step;
-                else low += step;
+        for (let searches = 0; searches < SEARCHES; searches++) {
+            this.floor = await this.findFloor();
+            try {
+                return await this.firstFrom(this.floor);
+            } catch (fault) {
+                if (fault.status !== 410) throw fault;
             }
-            while (high - low > 1) {
-                const middle = Math.floor((low + high) / 2);
-                if (await this.isThere(middle)) high = middle;
-                else low = middle;
-            }
-            low = high;
         }
-        this.floor = low;
-        return readUnit((await ask(this.url, low, low + MANY - 1)).bytes, this.init)?.from ?? null;
+        return null;
+    }
+
+    // A place not far behind where what is kept begins: first in growing steps, then by halves between what is gone (410) and what
+    // is there.
+    async findFloor() {
+        let low = this.floor ?? this.initLength;
+        if (await this.isThere(low)) return low;
+        let high = this.next;
+        for (let step = MANY; low + step < high; step *= 4) {
+            if (await this.isThere(low + step)) high = low + step;
+            else low += step;
+        }
+        while (high - low > MANY) {
+            const middle = Math.floor((low + high) / 2);
+            if (await this.isThere(middle)) high = middle;
+            else low = middle;
+        }
+        return high;
+    }
+
+    // When the first unit begins whose moof stands behind a place of the recording.
+    async firstFrom(place) {
+        for (let reads = 0; reads < PROBES; reads++) {
+            const { bytes } = await ask(this.url, place, place + MANY - 1);
+            const at = placeOfMoof(bytes);
+            if (at > 0) place += at;
+            else if (at === 0) return readUnit(bytes, this.init)?.from ?? null;
+            else if (bytes.length < MANY) return null;
+            else place += MANY - MOOF.length - 4;
+        }
+        return null;
     }
 }
 
@@ -200,7 +234,8 @@ export class Channel {
         const kept = await this.renditions[0].firstKept();
         const newest = Math.max(...this.renditions.map(({ units: [first] }) => first?.from ?? 0));
         // what is kept begins with a place once something was trimmed; before that, a little later
-        const starts = [kept, kept + this.target * 1000000, newest, this.live[0].from].filter((time) => time !== null && time < to);
+        const later = kept === null ? null : kept + this.target * 1000000;
+        const starts = [kept, later, newest, this.live[0].from].filter((time) => time !== null && time < to);
         for (let i = 0; i < starts.length; i++) {
             const { state, certificate } = await this.tableFrom(starts[i], to);
             if (certificate) this.table = certificate;

@@ -323,11 +323,16 @@ export class Player {
 
     // Several times a second: begins, goes on behind what can't be loaded, ends.
     tick() {
-        const { video, line, at } = this;
+        const { video: { buffered }, line } = this;
         this.show();
+        const ranges = [...Array(buffered.length).keys()].map((i) => [buffered.start(i), buffered.end(i)]);
+        const last = ranges.length > 0 ? ranges[ranges.length - 1][1] : 0;
+        // a recording's media may end just where its list says, or a little before
+        if (this.goal !== null && !this.isLive && Math.abs(line.end - last) < 0.5) this.goal = Math.min(this.goal, last - 0.15);
+        const { at } = this;
         // browsers stop a little before the end of what they hold
         const rest = this.stood() > 0.7 ? 1 : 0.1;
-        const range = [...Array(video.buffered.length).keys()].map((i) => [video.buffered.start(i), video.buffered.end(i)]).find(([, end]) => end > at + rest);
+        const range = ranges.find(([, end]) => end > at + rest);
         if (range && range[0] <= at + 0.05) this.arrive(at);
         else if (range && this.isLoadedUpTo(range[0])) this.arrive(range[0] + 0.01, true);
         else if (!range && at < line.start - 1) {
