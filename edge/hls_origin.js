@@ -166,14 +166,23 @@ function job_link(r) {
     return `<${v.hls_prefix || ''}/${place}/${signature(v.hls_secret, `${v.hls_channel}/${place}`)}/master.m3u8>; rel="alternate"`;
 }
 
+// Whether all of a reply came: nginx hands out what there is where an origin ends in the middle of one, as 200.
+function is_whole(reply) {
+    return Number(reply.headersOut['Content-Length']) === reply.responseBuffer.length;
+}
+
 // Answers with what `change` makes of the reply of an internal location, to be kept for so many seconds. What isn't 200 goes on as
-// it is, without its text: 404 for a second, since a list comes with the first segment.
+// it is, without its text: 404 for a second, since a list comes with the first segment, and faults, so that all who wait for it are
+// told at once and the origin isn't asked by each.
 async function answer(r, inner, change, seconds) {
     const reply = await r.subrequest(inner);
     if (reply.status !== 200) {
-        r.headersOut['X-Accel-Expires'] = reply.status === 404 ? '1' : '0';
+        r.headersOut['X-Accel-Expires'] = reply.status === 404 || reply.status >= 500 ? '1' : '0';
         r.return(reply.status);
         return;
+    }
+    if (!is_whole(reply)) {
+        throw new Error('not all of a reply came');
     }
     const text = await change(reply.responseText);
     r.headersOut['Content-Type'] = 'application/vnd.apple.mpegurl';
@@ -184,6 +193,7 @@ async function answer(r, inner, change, seconds) {
 // A fault in a list is the edge's or the origin's, and never a list for players.
 function told(r, fault) {
     r.error(`${r.uri}: ${fault.message}`);
+    r.headersOut['X-Accel-Expires'] = '1';
     r.return(502);
 }
 

@@ -159,7 +159,8 @@ class Edge:
         path = os.path.join(self.folder, name)
         if not os.path.exists(path):
             return []
-        with open(path, encoding="utf-8") as file:
+        # what a stranger says stands in logs as he said it
+        with open(path, encoding="utf-8", errors="replace") as file:
             return [line for line in file.read().split("\n") if line]
 
     def errors(self):
@@ -222,11 +223,12 @@ def media_of(fill, rendition, count):
 
 
 class Wire(threading.Thread):
-    """What lies between the edge and an origin: connections go through, are reset, refused or left without an answer."""
+    """What lies between the edge and an origin: connections go through, are reset, refused, left without an answer, or end in the middle
+    of a reply (`cut`: of what was said so far, how much goes on; None for all)."""
 
     def __init__(self, to):
         super().__init__(daemon=True)
-        self.to, self.heads, self.bytes, self.open, self.resets, self.fault = to, [], 0, 0, 0, None
+        self.to, self.heads, self.bytes, self.sent, self.open, self.resets, self.fault, self.silences, self.cut = to, [], 0, 0, 0, 0, None, 0, None
         self.lock = threading.Lock()
         self.listener = socket.create_server(("127.0.0.1", 0))
         self.port = self.listener.getsockname()[1]
@@ -242,6 +244,7 @@ class Wire(threading.Thread):
             reset = self.resets > 0 or self.fault == "reset"
             self.resets = max(0, self.resets - 1)
             silent = self.fault == "silent"
+            self.silences += silent
         if reset:
             near.recv(65536)
             near.setsockopt(socket.SOL_SOCKET, socket.SO_LINGER, b"\1\0\0\0\0\0\0\0")
@@ -264,13 +267,22 @@ class Wire(threading.Thread):
                 self.open -= 1
 
     def pump(self, a, b, asked):
+        said = b""
         try:
             while part := a.recv(65536):
                 with self.lock:
+                    cut = self.cut
                     if asked:
                         self.heads += [line.decode("latin-1") for line in part.split(b"\r\n") if line.endswith(b" HTTP/1.1")]
+                        self.sent += len(part)
                     else:
                         self.bytes += len(part)
+                if cut and not asked:
+                    said += part
+                    end = cut(said)
+                    if end is not None:
+                        b.sendall(part[:max(0, end - len(said) + len(part))])
+                        break
                 b.sendall(part)
         except OSError:
             pass
