@@ -16,6 +16,8 @@ import time
 
 from origin_runs import ROOT, ask, free_port, init_section, need, unit, wait_for
 
+# How long a list of a target of two seconds is kept at most: a second, and nginx counts whole ones.
+KEPT = 2.2
 OPERATOR, ENCODER = ("olga", "open sesame"), ("emil", "encode me")
 
 MODULE = "/usr/lib/nginx/modules/ngx_http_js_module.so"
