@@ -29,7 +29,7 @@ use Rattle.hls_live_lists_laws.specs.Joined.{Offsets, offsets_of, first_marked, 
 use Rattle.hls_live_lists_laws.proofs.Told.{closed, removed-few}
 use Rattle.hls_live_lists_laws.proofs.Listed.{marks-listed}
 use Rattle.hls_live_lists_laws.proofs.Texts.{is-listed}
-use Rattle.hls_live_lists_laws.proofs.Origins.{closed-is, listed-at}
+use Rattle.hls_live_lists_laws.proofs.Origins.{listed-at}
 use Rattle.hls_live_lists_laws.proofs.Follows.{live-lists-follow}
 use Rattle.hls_live_lists_laws.proofs.Handovers.{marks-on, on-over}
 
@@ -125,7 +125,7 @@ marks-joined a b n cut r l state_a state_b over few =
     elim (none-or-some rb) [
       | inl none ↦
           let before : marks_in (n + rb) (closed a) ≡ o.marks =
-          ap (λ (k : ℕ). marks_in k (closed a)) (omega (arith, none)) ∙ ap (marks_in n) (closed-is a) in
+          ap (λ (k : ℕ). marks_in k (closed a)) (omega (arith, none)) in
           let there : marks_in rb (closed b) ≡ 0 = ap (λ (k : ℕ). marks_in k (closed b)) none in
           let first : marks_uncounted o rb ≡ 0 = ap (marks_uncounted o) none in
           omega (arith, before, there, first)
@@ -164,9 +164,7 @@ join-over a b n cut r l m state_a state_b over at also may =
     let u = listed-at a r l (d + i) x there in
     let at_n : slice_get (closed a) (n + 0) ≡ Some u.0 =
     ap (slice_get (closed a)) (omega (arith, none, number)) ∙ u.1 in
-    ap (λ (xs : List live_line.Segment). first_marked (drop n xs)) (sym (closed-is a))
-    ∙ (first-at (drop n (closed a)) u.0 (at_drop (closed a) n 0 ∙ at_n)
-    ∙ ap (λ (z : Segment). z.mark) u.2) in
+    first-at (drop n (closed a)) u.0 (at_drop (closed a) n 0 ∙ at_n) ∙ ap (λ (z : Segment). z.mark) u.2 in
     joined-is o (rb + i) x y moved.0 moved.1 first in
     let on = begins-with o rb kept q.segments few same in
     let went : List Segment = take d p.segments in
@@ -249,7 +247,7 @@ first-listed s r l x none at =
     let front : slice_get (closed s) 0 ≡ Some u.0 = ap (slice_get (closed s)) (omega (arith, none)) ∙ u.1 in
     ap (λ (z : Segment). z.mark) (sym u.2)
     ∙ (sym (first-at (closed s) u.0 front)
-    ∙ (ap first_marked (closed-is s) ∙ first-of (aim_of s.config) (places s)))
+    ∙ first-of (aim_of s.config) (places s))
 
 -- a list that goes on, joined
 joined-append : (o : Offsets) (number : ℕ) (xs ys : List Segment) →
