@@ -3,6 +3,7 @@
 No script of its own: tests/alerts imports it. What is an edge is in edge_site.py.
 """
 import atexit
+import base64
 import http.client
 import json
 import os
@@ -19,6 +20,7 @@ from origin_runs import ROOT, Origin, check, encoders, free_port, init_section, 
 RULES = os.path.join(ROOT, "deploy", "prometheus", "hls_rules.yml")
 SCALE = 90000                                   # ticks a second of the generated units
 OPTIONS = ["--epoch", "1970-01-01T00:00:00Z", "--workers", "8", "--target", "2", "--preferred", "2000000", "--window", "6000000", "--keep", "6000000"]
+KNOWN = "Authorization: Basic " + base64.b64encode(":".join(OPERATOR).encode()).decode() + "\r\n"
 TWO = ["v:video:400000:0", "en:audio:64000:30000"]
 
 
