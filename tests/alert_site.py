@@ -18,6 +18,8 @@ from edge_site import OPERATOR, Edge
 from origin_runs import ROOT, Origin, check, encoders, free_port, init_section, unit, wait_for
 
 RULES = os.path.join(ROOT, "deploy", "prometheus", "hls_rules.yml")
+# as the service has it, so that what is freed goes back to the system
+HEAP = {"GLIBC_TUNABLES": "glibc.malloc.arena_max=1:glibc.malloc.mmap_threshold=131072"}
 SCALE = 90000                                   # ticks a second of the generated units
 OPTIONS = ["--epoch", "1970-01-01T00:00:00Z", "--workers", "8", "--target", "2", "--preferred", "2000000", "--window", "6000000", "--keep", "6000000"]
 KNOWN = "Authorization: Basic " + base64.b64encode(":".join(OPERATOR).encode()).decode() + "\r\n"
@@ -81,7 +83,7 @@ class Channel:
 
     def __init__(self, site, name, specs=TWO, options=OPTIONS):
         self.name, self.site, self.options, self.specs = name, site, options, list(specs)
-        self.origin = Origin(site.program, site.folder, options, specs, name=name)
+        self.origin = Origin(site.program, site.folder, options, specs, name=name, environment=HEAP)
         atexit.register(self.origin.kill)
         self.tell()
 
