@@ -398,8 +398,8 @@ export class Player {
     async trouble(fault, who, entry) {
         if (fault.name === "AbortError" || this.closed) return;
         if (fault instanceof Hopeless && who.choices?.length > 1 && who.shun(Infinity)) {
-            if (!this.automatic) this.say(fault.message, 8);
-            this.automatic = true;
+            if (!who.leads || !this.automatic) this.say(fault.message, 8);
+            this.automatic ||= who.leads;
             return;
         }
         if (fault instanceof Hopeless || ["NotSupportedError", "InvalidStateError", "QuotaExceededError"].includes(fault.name)) throw fault;

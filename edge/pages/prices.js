@@ -29,8 +29,9 @@ export function wordsOf({ said, good, certificate }) {
         return `This certificate proves nothing. ${meanings[rule](numbers)} (${said})`;
     }
     if (said === "none") return `Checked here: these ${certificate.places} places have no cut; every way ends before the last place.`;
+    const parts = certificate.plan.length - 1;
     const charge = certificate.rule === 2 ? `, with ${seconds(certificate.charge)} for each segment` : "";
-    return `Checked here: of all cuts at these ${certificate.places} places none costs less than this one, ${seconds(certificate.cut, 3)}${charge}, in ${certificate.plan.length - 1} segments.`;
+    return `Checked here: of all cuts at these ${certificate.places} places none costs less than this one, ${seconds(certificate.cut, 3)}${charge}, in ${parts === 1 ? "one segment" : `${parts} segments`}.`;
 }
 
 // The page's colours of the moment, each looked up once for a drawing.

@@ -76,11 +76,12 @@ function offer(kind, names) {
 
 function nameChoices() {
     const [picture, sound] = player.tracks;
-    if (player.automatic && $("videos").selectedIndex > 0) $("videos").selectedIndex = 0;
     const nameOf = ({ resolution, bandwidth }) => [resolution.replace(/^\d+x(\d+)$/, "$1p"), `${(bandwidth / 1e6).toFixed(1)} Mbit/s`].filter((word) => word).join(", ");
     const pictures = picture?.choices.map(nameOf) ?? [];
     offer("video", pictures.length > 1 ? [`Automatic${player.automatic ? `: ${pictures[picture.choice]}` : ""}`, ...pictures] : []);
+    if (player.automatic && $("videos").selectedIndex > 0) $("videos").selectedIndex = 0;
     offer("audio", sound?.choices.map(({ name, language }) => language && language !== name ? `${name} (${language})` : name) ?? []);
+    if (sound && $("audios").selectedIndex !== sound.choice) $("audios").selectedIndex = sound.choice;
 }
 
 async function play() {
