@@ -59,7 +59,7 @@ def hostile(world):
     """Lists, media, renditions, certificates and a clock that are made to hurt."""
     part("hostile")
     canned = world.keep(Canned(world.folder))
-    for attack in (a_line_without_end, a_target_of_months, runs_that_overlap, a_channel_that_stands, a_rendition_that_stalls, a_rendition_of_another_codec,
+    for attack in (a_line_without_end, a_target_of_months, runs_that_overlap, a_channel_that_stands, a_rendition_that_stalls, a_rendition_of_another_codec, sound_of_another_codec,
                    a_list_that_is_old, many_damaged, a_clock_that_is_off, a_plan_without_end):
         attack(world, canned)
     canned.stop()
@@ -165,6 +165,34 @@ def a_rendition_of_another_codec(world, canned):
     said = wait_seen(page, lambda s: "can't play" in s["words"], 10)
     check("who chooses it is told", "can't play zzzz" in said["words"], said)
     check("and sees the other one on", plays_on(page, 4) and seen(page)["width"] == 240, seen(page))
+    page.close()
+
+
+def give_sound(world, canned, base, codec=b"mp4a", of=b"mp4a"):
+    """A list of sound, whose init section may say another codec."""
+    clip = world.clips[2]
+    canned.give(f"{base}/sound_init_{codec.decode()}.mp4", clip.init.replace(of, codec), kind="video/mp4")
+    for i in range(8):
+        of_two_seconds = b"".join(unit for at, _, unit in clip.units if 2 * i <= at / clip.scale + 0.1 < 2 * i + 2)
+        canned.give(f"{base}/sound{i}.m4s", of_two_seconds, kind="video/mp4")
+    text = list_of([(2, f"{base}/sound{i}.m4s") for i in range(8)]).replace("init.mp4", f"{base}/sound_init_{codec.decode()}.mp4")
+    canned.give(f"{base}/sound.m3u8" if codec == of else f"{base}/sound_{codec.decode()}.m3u8", text)
+    return True
+
+
+def sound_of_another_codec(world, canned):
+    """Two languages, of which the browser can't play the first."""
+    ladder = Ladder(world, canned, "sound", 8)
+    give_sound(world, canned, "/sound")
+    give_sound(world, canned, "/sound", b"zzza")
+    canned.give("/sound/master.m3u8", "#EXTM3U\n" + "".join(f'#EXT-X-MEDIA:TYPE=AUDIO,GROUP-ID="a",NAME="{name}",DEFAULT={default},URI="/sound/{uri}.m3u8"\n' for name, default, uri in (
+        ("first", "YES", "sound_zzza"), ("second", "NO", "sound"))) + '#EXT-X-STREAM-INF:BANDWIDTH=1000,AUDIO="a"\n/sound/0.m3u8\n')
+    page = world.browser.open(ladder.url())
+    said = wait_seen(page, lambda s: s["time"] > 5, 20)
+    check("where the first sound's codec is one that the browser hasn't, the second is heard", said["time"] > 5 and "/sound/sound0.m4s" in canned.asked, said)
+    name = page.run("document.getElementById('audios').selectedOptions[0].text")
+    check("and it's the second that is shown as chosen", name == "second", name)
+    is_clean("sound of another codec", page)
     page.close()
 
 
