@@ -38,6 +38,8 @@ http {{
     fastcgi_temp_path {folder}/temporary_fastcgi;
     uwsgi_temp_path {folder}/temporary_uwsgi;
     scgi_temp_path {folder}/temporary_scgi;
+    sendfile on;
+    tcp_nopush on;
     access_log off;
     include {folder}/conf.d/*.conf;
     include {folder}/sites-enabled/*;
