@@ -170,10 +170,11 @@ def odd_folders(clip, folder):
     clip.send(origin.port)
     for name in ("a b", "-x", "line\nbreak", "$(touch x)'\"", "\u00e9\u4e2d", "#EXTM3U", "a:b"):
         store = os.path.join(folder, name)
-        status, _, err = run("hls_archive", url(origin.port), "--to", f"./{name}", "--length", 60, cwd=folder)
+        status, _, err = run("hls_archive", url(origin.port), "--to", f"./{name}", "--length", 20, cwd=folder)
         pieces = sorted(one for one in os.listdir(store) if one.isdigit())
         played = subprocess.run(["ffprobe", "-v", "error", "-allowed_extensions", "ALL", "-show_entries", "format=duration", f"file:{store}/0.m3u8"], capture_output=True, text=True)
-        check(f"an archive in {name!r}", status == 0 and pieces and (played.returncode == 0 or ":" in name), (status, err, pieces, played.stderr))
+        # what ffprobe makes of a colon and a # in a file's name is its own
+        check(f"an archive in {name!r}", status == 0 and len(pieces) > 2 and (played.returncode == 0 or name in ("a:b", "#EXTM3U")), (status, err, pieces, played.stderr))
     store = os.path.join(folder, "a b")
     whole = sorted(one for one in os.listdir(store) if one.isdigit())
     first, media = whole[0], os.path.join(store, ".programme-of-an-editor")
@@ -187,15 +188,15 @@ def odd_folders(clip, folder):
     with open(os.path.join(store, "9" * 16), "w", encoding="ascii") as file:
         file.write("a file")
     before = open(os.path.join(store, "0.m3u8")).read()
-    status, _, err = run("hls_archive", url(origin.port), "--to", store, "--length", 60)
+    status, _, err = run("hls_archive", url(origin.port), "--to", store, "--length", 20)
     check("what is no piece is told and left out", status == 0 and "Traceback" not in err and err.count("is left out") >= 5 and open(os.path.join(store, "0.m3u8")).read() == before, (status, err))
     check("what an editor makes there isn't touched", os.path.isdir(media) and os.path.isdir(os.path.join(store, "0000000000000001")), os.listdir(store))
     shutil.rmtree(os.path.join(store, first))
-    status, _, err = run("hls_archive", url(origin.port), "--to", store, "--length", 60)
+    status, _, err = run("hls_archive", url(origin.port), "--to", store, "--length", 20)
     check("lists are without a piece that was taken away", status == 0 and f"{first}/" not in open(os.path.join(store, "0.m3u8")).read(), (status, err))
     last = os.path.join(store, whole[-1])
     os.remove(os.path.join(last, "certificate.txt"))
-    status, _, err = run("hls_archive", url(origin.port), "--to", store, "--length", 60)
+    status, _, err = run("hls_archive", url(origin.port), "--to", store, "--length", 20)
     check("a last piece that is broken is in the way, in a line", status == 1 and "is in the way" in err and "Traceback" not in err, (status, err))
     with open(os.path.join(folder, "file"), "w", encoding="ascii") as file:
         file.write("x")
