@@ -1,5 +1,5 @@
 //! Tests of the crates that stand on few or none: times and instants, texts, samples, boxes, whole
-//! reads and writes, patience, and the words after `serve`. One crate has them, since a crate with
+//! reads and writes, patience, and the words after `serve` and `cut`. One crate has them, since a crate with
 //! tests is proved once more for them.
 #![tactic(auto)]
 
@@ -9,6 +9,8 @@ mod boxes;
 mod instants;
 #[cfg(test)]
 mod io;
+#[cfg(test)]
+mod options;
 #[cfg(test)]
 mod pace;
 #[cfg(test)]

@@ -1,10 +1,10 @@
-//! Words that are read: those after `serve`, the name of a refusal, the numbers of a line.
+//! Words that are read: those after `serve` and `cut`, the name of a refusal, the numbers of a line.
 
 use crate::page::Page;
 use crate::told::Told;
 use hls_io::Counted;
 use hls_refusals::{ExplainEnd, run_explain};
-use hls_settings::{Settings, SettingsFault, read_settings};
+use hls_settings::{OptionsFault, Settings, SettingsFault, read_options, read_settings};
 use hls_text::numbers_of;
 use std::alloc::Global;
 use std::process::Abort;
@@ -38,12 +38,33 @@ fn told_wrong(alloc: Global, words: &[&str], fault: SettingsFault) -> Told {
     }
 }
 
+fn told_options(alloc: Global) -> Told {
+    match read_options(alloc, &["--preferred", "4000000", "--certificate"]) {
+        Ok(options) => {
+            Told::answer(options.preferred() == Some(4_000_000) && options.wants_certificate())
+        }
+        Err(OptionsFault::Memory) => Told::Wanted,
+        Err(_) => Told::Astray,
+    }
+}
+
+/// What is told of a certificate that no plan has.
+fn told_unplanned(alloc: Global) -> Told {
+    match read_options(alloc, &["--certificate"]) {
+        Ok(_) => Told::Astray,
+        Err(OptionsFault::Memory) => Told::Wanted,
+        Err(told) => Told::answer(told == OptionsFault::Unplanned),
+    }
+}
+
 #[derive(Clone, Copy, Debug)]
 enum Act {
     Settings,
     WrongOption,
     WrongAddress,
     WrongRendition,
+    Options,
+    WrongOptions,
     Meaning,
     Names,
     NoMeaning,
@@ -57,6 +78,8 @@ const OF_SETTINGS: [Act; 4] = [
     Act::WrongAddress,
     Act::WrongRendition,
 ];
+
+const OF_OPTIONS: [Act; 2] = [Act::Options, Act::WrongOptions];
 
 const OF_MEANINGS: [Act; 3] = [Act::Meaning, Act::Names, Act::NoMeaning];
 
@@ -111,6 +134,8 @@ fn told(alloc: Global, act: Act) -> Told {
         Act::WrongRendition => {
             told_wrong(alloc, &[at, VIDEO, VIDEO], SettingsFault::Rendition(1))
         }
+        Act::Options => told_options(alloc),
+        Act::WrongOptions => told_unplanned(alloc),
         Act::Meaning => told_meaning(alloc, Some(b"Gone"), b"Gone: it was trimmed.\n"),
         Act::Names => told_meaning(alloc, None, b"Gone\nNotYet\n"),
         Act::NoMeaning => told_unknown(alloc),
@@ -136,6 +161,7 @@ fn assert_held(rt: &impl Abort, alloc: Global, acts: &[Act]) {
 fn ample_memory_reads_words(rt: HostRuntime) {
     let alloc = rt.alloc();
     assert_ample(&rt, alloc, &OF_SETTINGS);
+    assert_ample(&rt, alloc, &OF_OPTIONS);
     assert_ample(&rt, alloc, &OF_MEANINGS);
     assert_ample(&rt, alloc, &OF_NUMBERS);
 }
@@ -143,6 +169,11 @@ fn ample_memory_reads_words(rt: HostRuntime) {
 #[test]
 fn refused_memory_reads_settings_once_more(rt: HostRuntime) {
     assert_held(&rt, rt.alloc(), &OF_SETTINGS);
+}
+
+#[test]
+fn refused_memory_reads_options_once_more(rt: HostRuntime) {
+    assert_held(&rt, rt.alloc(), &OF_OPTIONS);
 }
 
 #[test]

@@ -17,7 +17,7 @@ use Rattle.hls_origin_listing.specs.declared.fault.ListFault.{ListFault}
 use Rattle.hls_origin_listing.specs.declared.forms.Listed.{Listed}
 use Rattle.hls_origin_listing.specs.Lists.{IsSingle, Lists}
 use Rattle.hls_origin.specs.Channel.{listing_of}
-use Rattle.hls_origin.specs.Options.{Choice}
+use Rattle.hls_settings.specs.Options.{Choice}
 use Rattle.hls_origin.specs.Recorded.{ended, moved_to}
 use Rattle.hls_origin.specs.Run.{IsListing}
 

@@ -2,13 +2,11 @@ mod AcceptLaws
 mod AnswerLaws
 mod Begun
 mod CheckExamples
-mod Examples
+mod Fits
 mod GatherLaws
 mod LintLaws
 mod LintLines
-mod Listings
 mod PrintLaws
 mod ReadLaws
 mod RunLaws
 mod Told
-mod Words

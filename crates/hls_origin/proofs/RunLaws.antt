@@ -13,9 +13,12 @@ use Rattle.hls_origin.specs.declared.cut.run.CutEnd.TheVariants as end
 use Rattle.hls_origin.specs.Accepts.{Becomes, Told, is_failure}
 use Rattle.hls_origin.specs.Channel.{opening_of}
 use Rattle.hls_origin.specs.Gather.{CountsReads, EndsReading, Gathers, GathersOf}
-use Rattle.hls_origin.specs.Options.{Choice}
+use Rattle.clap.specs.Words.{Text}
+use Rattle.hls_settings.specs.declared.options_fault.OptionsFault.{OptionsFault}
+use Rattle.hls_settings.specs.declared.options_fault.OptionsFault.TheVariants as wrong
+use Rattle.hls_settings.specs.Options.{Choice, ReadsOptions, options_of}
 use Rattle.hls_origin.specs.Recorded.{ended, recorded}
-use Rattle.hls_origin.specs.Run.{Answers, Comes, CountsFailures, EndsCut, IsListing, Outcome, Runs, bytes_of, is_cut}
+use Rattle.hls_origin.specs.Run.{Answers, Comes, CountsFailures, EndsCut, IsListing, Outcome, Runs, bytes_of, is_cut, is_usage}
 use Rattle.hls_origin.specs.RunParts.{CountsPrint, ListsAtEnd, Prints, Takes, TakesOf, ended_by}
 use Rattle.hls_origin.proofs.Told.{told_ended, told_recorded}
 
@@ -114,7 +117,7 @@ answers_err choice stream taken rest fault.ReadFailed h = (refl, h)
 answers_err choice stream taken rest fault.WriteFailed h = absurd h
 answers_err choice stream taken rest f h = (refl, h)
 
-pub runs_err : (choice : Choice) (stream held : List ℕ) (left contents : Option (List ℕ)) (f : CutFault) → Takes choice stream left (Err f) → contents ≡ Some held → Runs (Some choice) stream held left contents (end.Refused f)
+pub runs_err : (choice : Choice) (stream held : List ℕ) (left contents : Option (List ℕ)) (f : CutFault) → Takes choice stream left (Err f) → contents ≡ Some held → Runs (Ok choice) stream held left contents (end.Refused f)
 runs_err choice stream held left contents f h is = record {
   taken = h.taken;
   rest = h.rest;
@@ -146,7 +149,7 @@ answers_printed choice stream taken rest written left listed cut false none outc
     record { whole = none; listed = listed; outcome = outcome; beginning = record { missing = left; is = is } }
 
 pub runs_printed : (choice : Choice) (stream held text : List ℕ) (left contents : Option (List ℕ)) (listed : Listed) (cut : Bool) (answer : CutEnd) → Takes choice stream left (Ok listed) → bytes_of listed ≡ text → is_cut listed ≡ cut
-    → Prints held text contents (cut_end cut) answer → Runs (Some choice) stream held left contents answer
+    → Prints held text contents (cut_end cut) answer → Runs (Ok choice) stream held left contents answer
 runs_printed choice stream held text left contents listed cut answer h is of w =
     let outcome : Outcome choice stream (Ok listed) =
     subst (λ (xs : List ℕ). Outcome choice xs (Ok listed)) (sym (whole_stream stream h.taken h.rest h.split h.comes.0)) h.comes.1 in
@@ -176,19 +179,19 @@ counts_printed cut answer read_old read_new write_old write_new quiet h =
     let P : CutEnd → Type 0 = λ e. CountsFailures e read_old read_new write_old write_new in
     subst P (sym h.answer_is) (counts_done cut h.done read_old read_new write_old write_new quiet h.counts)
 
-not_usage : (cut done : Bool) → ended_by done (cut_end cut) ≢ end.Usage
-not_usage true true is = cc
-not_usage false true is = cc
-not_usage cut false is = cc
+not_usage : (cut done : Bool) → is_usage (ended_by done (cut_end cut)) ≡ false
+not_usage true true = refl
+not_usage false true = refl
+not_usage cut false = refl
 
-pub printed_is_used : (cut : Bool) (answer : CutEnd) (old new : ℕ) → CountsPrint (cut_end cut) answer old new → answer ≢ end.Usage
-printed_is_used cut answer old new h is = not_usage cut h.done (sym h.answer_is ∙ is)
+pub printed_is_used : (cut : Bool) (answer : CutEnd) (old new : ℕ) → CountsPrint (cut_end cut) answer old new → is_usage answer ≡ false
+printed_is_used cut answer old new h = ap is_usage h.answer_is ∙ not_usage cut h.done
 
 -- ---- a run that reads and writes nothing
 
-pub runs_without_memory : (choice : Option Choice) (stream held : List ℕ) (left contents : Option (List ℕ)) → left ≡ Some stream → contents ≡ Some held →
+pub runs_without_memory : (choice : Result Choice OptionsFault) (stream held : List ℕ) (left contents : Option (List ℕ)) → left ≡ Some stream → contents ≡ Some held →
     Runs choice stream held left contents (end.Refused fault.Memory)
-runs_without_memory None stream held left contents left_is is = record {
+runs_without_memory (Err f) stream held left contents left_is is = record {
   taken = [];
   rest = stream;
   text = [];
@@ -197,7 +200,7 @@ runs_without_memory None stream held left contents left_is is = record {
   contents_are = is ∙ ap Some (sym (append-nil held));
   answers = (refl, refl);
 }
-runs_without_memory (Some choice) stream held left contents left_is is = record {
+runs_without_memory (Ok choice) stream held left contents left_is is = record {
   taken = [];
   rest = stream;
   text = [];
@@ -207,18 +210,23 @@ runs_without_memory (Some choice) stream held left contents left_is is = record 
   answers = refl;
 }
 
-pub runs_unused : (choice : Option Choice) (stream held : List ℕ) (left contents : Option (List ℕ)) → choice ≡ None → left ≡ Some stream → contents ≡ Some held →
-    Runs choice stream held left contents end.Usage
-runs_unused None stream held left contents none left_is is = record {
+pub runs_unused : (choice : Result Choice OptionsFault) (f : OptionsFault) (stream held : List ℕ) (left contents : Option (List ℕ)) → choice ≡ Err f → left ≡ Some stream → contents ≡ Some held →
+    Runs choice stream held left contents (end.Usage f)
+runs_unused (Err g) f stream held left contents wrong left_is is = record {
   taken = [];
   rest = stream;
   text = [];
   left_is = left_is;
   split = refl;
   contents_are = is ∙ ap Some (sym (append-nil held));
-  answers = (refl, refl);
+  answers = (let same : g ≡ f = cc in same, refl, refl);
 }
-runs_unused (Some choice) stream held left contents none left_is is = cc
+runs_unused (Ok choice) f stream held left contents wrong left_is is = cc
+
+-- words that are wrong, but for want of memory
+pub told_wrong : (words : List Text) (f : OptionsFault) → (f ≡ wrong.Memory → ⊥) → ReadsOptions words (Err f) → options_of words ≡ Err f
+told_wrong words wrong.Memory other is = absurd (other refl)
+told_wrong words f other is = is
 
 -- ---- the writing
 

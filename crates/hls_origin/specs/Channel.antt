@@ -8,7 +8,7 @@ use Rattle.hls_core_laws.specs.Runs.{first_state}
 use Rattle.hls_core_laws.specs.State.{State}
 use Rattle.hls_origin_listing.specs.declared.forms.Listing.{Listing}
 use Rattle.hls_origin_listing.specs.declared.forms.Listing.TheVariants.{Each, Planned}
-use Rattle.hls_origin.specs.Options.{Choice}
+use Rattle.hls_settings.specs.Options.{Choice}
 
 -- the one rendition; what no playlist of a stream shows of it is as good as anything in range
 abbrev pub the_rendition : Rendition

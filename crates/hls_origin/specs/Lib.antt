@@ -9,7 +9,6 @@ pub mod Gather
 pub mod LintAnswer
 pub mod LintParts
 pub mod LintRun
-pub mod Options
 pub mod Reads
 pub mod Recorded
 pub mod Run

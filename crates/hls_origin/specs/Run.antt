@@ -1,6 +1,6 @@
 -- What a run of `cut` reads, writes and answers: its promise. (What its parts pass on to each other
 -- stands in RunParts.)
-use Rattle.std.specs.Prelude.{◌≡◌, ℕ, List, [], ◌++◌, Option, Some, None, Result, Ok, Err, ◌⊎◌, is_some, Bool, true, false}
+use Rattle.std.specs.Prelude.{◌≡◌, ℕ, List, [], ◌++◌, Option, Some, Result, Ok, Err, ◌⊎◌, is_ok, Bool, true, false}
 use Rattle.hls_record.specs.Recorded.{Recorded}
 use Rattle.hls_core_laws.specs.State.{State}
 use Rattle.hls_core.specs.Reads.{recording_of}
@@ -17,7 +17,8 @@ use Rattle.hls_origin.specs.declared.cut.run.CutEnd.TheVariants as end
 use Rattle.hls_origin.specs.Beginning.{IsBeginning}
 use Rattle.hls_origin.specs.Channel.{listing_of, opening_of}
 use Rattle.hls_origin.specs.Gather.{IsOpen}
-use Rattle.hls_origin.specs.Options.{Choice}
+use Rattle.hls_settings.specs.declared.options_fault.OptionsFault.{OptionsFault}
+use Rattle.hls_settings.specs.Options.{Choice}
 use Rattle.hls_origin.specs.Recorded.{recorded}
 
 -- what is listed of the state's one recording
@@ -71,21 +72,21 @@ pub record WritesAll (choice : Choice) (stream rest text : List ℕ) (cut : Bool
 abbrev pub Answers : Choice → List ℕ → List ℕ → List ℕ → List ℕ → CutEnd → Type 0
 Answers choice stream taken rest text end.Done = WritesAll choice stream rest text true
 Answers choice stream taken rest text end.NoCut = WritesAll choice stream rest text false
-Answers choice stream taken rest text end.Usage = ⊥
+Answers choice stream taken rest text (end.Usage f) = ⊥
 Answers choice stream taken rest text (end.Refused fault.Memory) = text ≡ []
 Answers choice stream taken rest text (end.Refused fault.ReadFailed) = (text ≡ []) × IsOpen (opening_of choice) taken
 Answers choice stream taken rest text (end.Refused fault.WriteFailed) = WritesSome choice stream rest text
 Answers choice stream taken rest text (end.Refused f) = (text ≡ []) × EndsCut choice f taken rest
 
--- words that are a usage fault: nothing is read or written; else what the options ask for
-abbrev pub AnswersWords : Option Choice → List ℕ → List ℕ → List ℕ → List ℕ → CutEnd → Type 0
-AnswersWords None stream taken rest text end.Usage = (taken ≡ []) × (text ≡ [])
-AnswersWords None stream taken rest text (end.Refused fault.Memory) = (taken ≡ []) × (text ≡ [])
-AnswersWords None stream taken rest text e = ⊥
-AnswersWords (Some choice) stream taken rest text e = Answers choice stream taken rest text e
+-- of words that are a usage fault the first wrong one is told, and nothing is read or written; else what the options ask for
+abbrev pub AnswersWords : Result Choice OptionsFault → List ℕ → List ℕ → List ℕ → List ℕ → CutEnd → Type 0
+AnswersWords (Err f) stream taken rest text (end.Usage g) = (f ≡ g) × (taken ≡ []) × (text ≡ [])
+AnswersWords (Err f) stream taken rest text (end.Refused fault.Memory) = (taken ≡ []) × (text ≡ [])
+AnswersWords (Err f) stream taken rest text e = ⊥
+AnswersWords (Ok choice) stream taken rest text e = Answers choice stream taken rest text e
 
 -- what was taken of the stream and what is left of it, and what was written behind what was held
-pub record Runs (choice : Option Choice) (stream held : List ℕ) (left contents : Option (List ℕ)) (ending : CutEnd) : Type 0 where
+pub record Runs (choice : Result Choice OptionsFault) (stream held : List ℕ) (left contents : Option (List ℕ)) (ending : CutEnd) : Type 0 where
   pub taken : List ℕ
   pub rest : List ℕ
   pub text : List ℕ
@@ -101,7 +102,11 @@ CountsFailures (end.Refused fault.WriteFailed) read_old read_new write_old write
 CountsFailures e read_old read_new write_old write_new = (read_new ≡ read_old) × (write_new ≡ write_old)
 
 -- words that give no options end so, but for want of memory, and no others do
-abbrev pub IsUsageFault : CutEnd → Option Choice → Type 0
-IsUsageFault end.Usage choice = choice ≡ None
+abbrev pub IsUsageFault : CutEnd → Result Choice OptionsFault → Type 0
+IsUsageFault (end.Usage f) choice = choice ≡ Err f
 IsUsageFault (end.Refused fault.Memory) choice = Unit {0}
-IsUsageFault e choice = is_some choice ≡ true
+IsUsageFault e choice = is_ok choice ≡ true
+
+abbrev pub is_usage : CutEnd → Bool
+is_usage (end.Usage f) = true
+is_usage e = false

@@ -10,7 +10,7 @@ use Rattle.hls_origin.specs.declared.cut.run.CutEnd.{CutEnd}
 use Rattle.hls_origin.specs.declared.cut.run.CutEnd.TheVariants as end
 use Rattle.hls_origin.specs.Channel.{opening_of}
 use Rattle.hls_origin.specs.Gather.{IsOpen}
-use Rattle.hls_origin.specs.Options.{Choice}
+use Rattle.hls_settings.specs.Options.{Choice}
 use Rattle.hls_origin.specs.Run.{Comes, EndsCut, Outcome}
 
 -- what the end of a recorded stream comes to

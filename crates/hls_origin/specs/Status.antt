@@ -18,7 +18,7 @@ usage_status = 2
 abbrev pub cut_status : CutEnd → ℕ
 cut_status cut.Done = 0
 cut_status (cut.Refused f) = 1
-cut_status cut.Usage = usage_status
+cut_status (cut.Usage fault) = usage_status
 cut_status cut.NoCut = 3
 
 abbrev pub check_status : CheckEnd → ℕ

@@ -3,6 +3,5 @@
 pub mod channel;
 pub mod fault;
 pub mod gather;
-pub mod options;
 pub mod recorder;
 pub mod run;

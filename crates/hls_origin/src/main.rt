@@ -32,17 +32,17 @@ mod lint;
 mod pieces;
 mod reading;
 mod serve;
+mod version;
 
 use crate::check::run::{CheckEnd, run_check};
 use crate::cut::fault::CutFault;
 use crate::cut::run::{CutEnd, run_cut};
 use crate::lint::run::{LintEnd, run_lint};
 use crate::serve::run::{ServeEnd, run_serve};
-use crate::serve::wrong::{EPOCH, Wrong};
+use crate::version::{TOOLCHAIN, VERSION};
 use hls_io::Counted;
 use hls_origin_listing::ListFault;
 use hls_refusals::{ExplainEnd, MEANINGS, run_explain};
-use hls_settings::read_epoch;
 use std::io::Eprint;
 use std::net::{Net, TcpListener, TcpStream};
 use std::process::ExitCode;
@@ -51,11 +51,6 @@ use std::sync::Wait;
 use std::thread::Threads;
 use std::time::Clock;
 use std::{env, io};
-
-/// The program's version, and the toolchain that it is proved with.
-const VERSION: &str = "hls_origin 0.1.0
-proved with rattle-kit-13b logic dac8208d650f15bf
-";
 
 const USAGE: &str =
     "usage: hls_origin [cut [--each] [--target N] [--uri TEXT] [--epoch TEXT]] < STREAM > PLAYLIST
@@ -132,9 +127,9 @@ fn print_help(rt: &HostRuntime) -> ExitCode {
     ExitCode::SUCCESS
 }
 
-/// Prints the program's version.
+/// Prints the program's version, and the toolchain that it is proved with.
 fn print_version(rt: &HostRuntime) -> ExitCode {
-    let _ = print!(rt; "{VERSION}");
+    let _ = print!(rt; "hls_origin {VERSION}\nproved with {TOOLCHAIN}\n");
     ExitCode::SUCCESS
 }
 
@@ -165,50 +160,18 @@ fn end_cut(rt: &HostRuntime, end: CutEnd) -> ExitCode
             let _ = print_refusal(rt, fault);
             ExitCode::from(1)
         }
-        CutEnd::Usage => usage_fault(rt),
-    }
-}
-
-/// Whether a text that follows `--epoch` is no epoch.
-fn is_wrong_epoch(text: Option<&str>) -> bool {
-    text.is_some() && read_epoch(text).is_none()
-}
-
-/// Whether a word, with the one behind it, gives a wrong epoch.
-fn gives_wrong_epoch(word: &str, next: Option<&str>) -> bool {
-    if word == "--epoch" {
-        return is_wrong_epoch(next);
-    }
-    is_wrong_epoch(word.strip_prefix("--epoch="))
-}
-
-/// Whether the words give a wrong epoch.
-fn have_wrong_epoch(words: &[String]) -> bool {
-    for (n, word) in words.iter().enumerate() {
-        let next = words.get(n.saturating_add(1)).map(|next| next.as_str());
-        if gives_wrong_epoch(word.as_str(), next) {
-            return true;
+        CutEnd::Usage(fault) => {
+            let _ = eprint!(rt; "cut: {fault}; hls_origin --help says more\n{USAGE}");
+            ExitCode::from(2)
         }
     }
-    false
-}
-
-/// Tells how the program is used, after the line that says what an epoch is.
-fn epoch_fault(rt: &HostRuntime) -> ExitCode
-    ensures { exit_status result ≡ usage_status }
-{
-    let _ = eprint!(rt; "cut: {EPOCH}; hls_origin --help says more\n{USAGE}");
-    ExitCode::from(2)
 }
 
 /// Does `cut` with the words after it.
 fn run_cut_words(rt: &HostRuntime, words: &[String]) -> ExitCode {
     let mut input = Counted::new(rt.stdin());
     let mut output = Counted::new(io::writer(rt));
-    match run_cut(rt.alloc(), words, &mut input, &mut output) {
-        CutEnd::Usage if have_wrong_epoch(words) => epoch_fault(rt),
-        end => end_cut(rt, end),
-    }
+    end_cut(rt, run_cut(rt.alloc(), words, &mut input, &mut output))
 }
 
 /// Ends the program as `check` ended.
@@ -314,8 +277,7 @@ fn end_serve(rt: &HostRuntime, end: ServeEnd) -> ExitCode
     match end {
         ServeEnd::Done => ExitCode::SUCCESS,
         ServeEnd::Usage(fault) => {
-            let wrong = Wrong(fault);
-            let _ = eprint!(rt; "serve: {wrong}; hls_origin --help says more\n{USAGE}");
+            let _ = eprint!(rt; "serve: {fault}; hls_origin --help says more\n{USAGE}");
             ExitCode::from(2)
         }
         ServeEnd::BindFailed => {

@@ -1,4 +1,3 @@
 //! The command `serve`: a live channel over HTTP.
 
 pub mod run;
-pub mod wrong;

@@ -1,2 +1,5 @@
+mod Charges
+mod Examples
+mod OptionWords
 mod Says
 mod Words

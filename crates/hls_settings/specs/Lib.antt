@@ -5,3 +5,4 @@ pub mod Said
 pub mod Settings
 pub mod Command
 pub mod Reading
+pub mod Options

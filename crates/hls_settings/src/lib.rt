@@ -1,4 +1,4 @@
-//! What the words after `serve` ask for: options, an address and renditions; or which word is wrong.
+//! What the words after `serve` and `cut` ask for, or which word is wrong and what it may be.
 #![tactic(auto)]
 
 mod address;
@@ -6,16 +6,19 @@ mod command;
 mod epoch;
 mod fault;
 mod number;
+mod options;
+mod options_fault;
 mod plain;
 mod rendition;
 mod settings;
 mod timing;
 mod workers;
+mod wrong;
 
 pub use address::{Address, read_address};
-pub use command::valued;
-pub use epoch::read_epoch;
 pub use fault::SettingsFault;
+pub use options::{Options, read_options};
+pub use options_fault::OptionsFault;
 pub use plain::Plain;
 pub use settings::{Settings, read_settings};
 pub use timing::Timing;

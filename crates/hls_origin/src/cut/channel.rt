@@ -1,11 +1,13 @@
-//! The channel that a stream is taken into.
+//! The channel that a stream is taken into, and how it is listed.
 ghost use Rattle.std.specs.Prelude.{◌≡◌, IfOk};
-ghost use Rattle.hls_origin.specs.Channel.{config_of, the_rendition};
+ghost use Rattle.hls_origin_listing.specs.Lists.{CanList};
+ghost use Rattle.hls_origin.specs.Channel.{config_of, listing_of, the_rendition};
 
-use crate::cut::options::Options;
 use bytes::Bytes;
-use hls_core::config::Config;
+use hls_core::config::{Config, ConfigFault};
 use hls_core_laws::rendition::Rendition;
+use hls_origin_listing::Listing;
+use hls_settings::Options;
 use std::alloc::{AllocError, Global};
 
 /// The one rendition.
@@ -24,14 +26,35 @@ fn rendition(alloc: Global) -> Result<Rendition, AllocError>
 pub fn config(alloc: Global, options: &Options<'_>) -> Result<Config, AllocError>
     ensures { IfOk result (λ config. config ≡ config_of options.now) }
 {
-    let preferred = match options.preferred {
+    let preferred = match options.preferred() {
         Some(length) => length,
-        None => options.target * 1_000_000,
+        None => options.target() * 1_000_000,
     };
     let mut renditions = Vec::with_capacity(alloc, 1)?;
     renditions.push(rendition(alloc)?)?;
-    match Config::with_epoch(alloc, options.target, preferred, renditions, options.epoch) {
+    match Config::with_epoch(
+        alloc,
+        options.target(),
+        preferred,
+        renditions,
+        options.epoch(),
+    ) {
         Ok(config) => Ok(config),
-        Err(_) => Err(AllocError),
+        Err(ConfigFault::Memory) => Err(AllocError),
+        Err(_) => unreachable!(),
+    }
+}
+
+/// How the recorded stream is to be listed: each place begins a segment, or a least plan is made.
+pub fn listing(options: &Options<'_>) -> Listing
+    ensures value { result ≡ listing_of options.now }
+    ensures in_range { CanList result }
+{
+    if options.preferred().is_none() {
+        return Listing::Each;
+    }
+    Listing::Planned {
+        rule: options.rule(),
+        certificate: options.wants_certificate(),
     }
 }

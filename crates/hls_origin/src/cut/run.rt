@@ -1,21 +1,21 @@
 //! `cut`, from the words and the bytes in to the bytes out.
-ghost use Rattle.std.specs.Prelude.{◌≡◌, ◌≢◌, Some, map, IfOk};
+ghost use Rattle.std.specs.Prelude.{◌≡◌, Ok, map, IfOk, false, true};
 ghost use Rattle.hls_io.specs.Counted.{failures_of};
 ghost use Rattle.hls_io.specs.Streams.{FromInput, Through, ToOutput};
 ghost use Rattle.hls_origin.specs.Channel.{opening_of};
 ghost use Rattle.hls_origin.specs.Gather.{CountsReads};
-ghost use Rattle.hls_origin.specs.Options.{options_of};
 ghost use Rattle.hls_origin.specs.Recorded.{ended};
-ghost use Rattle.hls_origin.specs.Run.{CountsFailures, IsUsageFault, Runs};
+ghost use Rattle.hls_origin.specs.Run.{CountsFailures, IsUsageFault, Runs, is_usage};
 ghost use Rattle.hls_origin.specs.RunParts.{CountsPrint, ListsAtEnd, Prints, Takes};
+ghost use Rattle.hls_settings.specs.Options.{options_of};
 
-use crate::cut::channel::config;
+use crate::cut::channel::{config, listing};
 use crate::cut::fault::CutFault;
 use crate::cut::gather::gather;
-use crate::cut::options::{Options, read_options};
 use crate::cut::recorder::Recorder;
 use hls_io::{Counted, write_whole};
 use hls_origin_listing::{ListFault, Listed, list};
+use hls_settings::{Options, OptionsFault, read_options};
 use std::alloc::{AllocError, Global};
 use std::convert::AsStr;
 use std::io::{Read, Write};
@@ -29,8 +29,8 @@ pub enum CutEnd {
     NoCut,
     /// The stream was refused, or a read or write failed: status 1.
     Refused(CutFault),
-    /// The words ask for nothing that `cut` does; nothing was read or written: status 2.
-    Usage,
+    /// A word is wrong; nothing was read or written: status 2.
+    Usage(OptionsFault),
 }
 
 /// A recorder of the channel that the options ask for.
@@ -52,7 +52,7 @@ fn list_recorded(
         Ok(()) => {}
         Err(fault) => return Err(fault),
     }
-    match list(alloc, recorder.snapshot(), options.uri, options.listing()) {
+    match list(alloc, recorder.snapshot(), options.uri(), listing(options)) {
         Ok(listed) => Ok(listed),
         Err(ListFault::Memory) => Err(CutFault::Memory),
         Err(fault) => Err(CutFault::Listing(fault)),
@@ -96,9 +96,9 @@ fn run<R: Read, W: Write>(
     input: &mut Counted<R>,
     output: &mut Counted<W>,
 ) -> CutEnd
-    ensures runs { Through R.remaining input.old input.new W.contents output.old output.new (Runs (Some options.now)) result }
+    ensures runs { Through R.remaining input.old input.new W.contents output.old output.new (Runs (Ok options.now)) result }
     ensures counts { CountsFailures result (failures_of input.old) (failures_of input.new) (failures_of output.old) (failures_of output.new) }
-    ensures used { result ≢ CutEnd.Usage }
+    ensures used { is_usage result ≡ false }
 {
     match take_stream(alloc, options, input) {
         Ok(Listed::Text(text)) => print(output, &text, CutEnd::Done),
@@ -125,11 +125,11 @@ pub fn run_cut<'a, S: AsStr, R: Read, W: Write>(
         (Runs (options_of (map S.text words.entry.now))) result }
     ensures counts { CountsFailures result (failures_of input.old) (failures_of input.new) (failures_of output.old) (failures_of output.new) }
     ensures words { IsUsageFault result (options_of (map S.text words.entry.now)) }
-    ensures untouched { result ≡ CutEnd.Usage → (input.new ≡ input.old) × (output.new ≡ output.old) }
+    ensures untouched { is_usage result ≡ true → (input.new ≡ input.old) × (output.new ≡ output.old) }
 {
     match read_options(alloc, words) {
-        Ok(Some(options)) => run(alloc, &options, input, output),
-        Ok(None) => CutEnd::Usage,
-        Err(_) => CutEnd::Refused(CutFault::Memory),
+        Ok(options) => run(alloc, &options, input, output),
+        Err(OptionsFault::Memory) => CutEnd::Refused(CutFault::Memory),
+        Err(fault) => CutEnd::Usage(fault),
     }
 }

@@ -1,5 +1,5 @@
 -- The words after `cut`, as `clap` takes or refuses them.
-use Rattle.std.proofs.Common.{◌≡◌, ◌∙◌, ap, ap₂, refl, sym, codes, true, List, [], ◌∷◌, Option, None, inl, inr}
+use Rattle.std.proofs.Common.{◌≡◌, ◌∙◌, ◌⊎◌, ap, ap₂, refl, sym, subst, codes, true, List, [], ◌∷◌, Option, Result, Ok, Err, inl, inr}
 use Rattle.clap.specs.Words.{App, Text, fault_of, first_of, first_value, found_of, is_simple, is_simple_and_free, kind_of, matches_of, rows_of, HasMatchesOf}
 use Rattle.clap.specs.Kinds.{Kinds, HasKind, IsAmong}
 use Rattle.clap.specs.declared.parser.matches.ArgMatches.{ArgMatches}
@@ -7,7 +7,9 @@ use Rattle.clap.specs.declared.error.Error.{Error}
 use Rattle.clap.specs.declared.error.kind.ErrorKind.{ErrorKind}
 use Rattle.clap.specs.declared.error.kind.ErrorKind.TheVariants as kind
 use Rattle.clap.proofs.WalkLemmas.{first_value-rows}
-use Rattle.hls_origin.specs.Options.{Choice, choice_in, choice_of, cut_app, options_of, unless_refused}
+use Rattle.hls_settings.specs.declared.options_fault.OptionsFault.{OptionsFault}
+use Rattle.hls_settings.specs.declared.options_fault.OptionsFault.TheVariants as faults
+use Rattle.hls_settings.specs.Options.{Choice, ReadsOptions, choice_in, choice_of, cut_app, options_of, refused_option, unless_refused}
 
 pub cut_is_simple : is_simple cut_app ≡ true
 unfolding cut_app
@@ -42,13 +44,34 @@ taken_words app words m is has none =
         ap (λ x. choice_in x b c d e f g) p ∙ ap (λ x. choice_in a' x c d e f g) q ∙ ap (λ x. choice_in a' b' x d e f g) r
         ∙ ap (λ x. choice_in a' b' c' x e f g) s ∙ ap (λ x. choice_in a' b' c' d' x f g) t ∙ ap₂ (choice_in a' b' c' d' e') u v
 
-some_fault : (ks : Kinds) (k : ErrorKind) (choice : Option Choice) → IsAmong k ks → None ≡ unless_refused ks choice
+-- a refusal is for want of memory, or of the words
+memory_or_words : (k : ErrorKind) → (refused_option k ≡ faults.Memory) ⊎ (refused_option k ≡ faults.Words)
+memory_or_words kind.OutOfMemory = inl refl
+memory_or_words _ = inr refl
+
+some_fault : (ks : Kinds) (k : ErrorKind) (choice : Result Choice OptionsFault) → IsAmong k ks → unless_refused ks choice ≡ Err faults.Words
 some_fault [] k choice among = absurd among
 some_fault (j ∷ ks) k choice among = refl
 
--- words that were refused, for another reason than memory
-pub refused_words : (app : App) (words : List Text) (e : Error) → app ≡ cut_app → (kind_of e ≡ kind.OutOfMemory → ⊥) → HasKind (fault_of app words) e → None ≡ options_of words
+without_memory : (words : List Text) (fault : OptionsFault) → fault ≡ faults.Memory → ReadsOptions words (Err fault)
+without_memory words fault is = subst (λ (f : OptionsFault). ReadsOptions words (Err f)) (sym is) tt
+
+-- words that were refused
+pub refused_words : (app : App) (words : List Text) (e : Error) (fault : OptionsFault) → app ≡ cut_app → fault ≡ refused_option (kind_of e) → HasKind (fault_of app words) e → ReadsOptions words (Err fault)
 unfolding options_of
-refused_words app words e is other (inl memory) = absurd (other memory)
-refused_words app words e is other (inr among) =
-    some_fault _ (kind_of e) _ among ∙ ap (λ (a : App). unless_refused (fault_of a words) (choice_of (matches_of cut_app words))) is
+refused_words app words e fault is by (inl memory) = without_memory words fault (by ∙ ap refused_option memory)
+refused_words app words e fault is by (inr among) = go (memory_or_words (kind_of e))
+  where
+    go : (refused_option (kind_of e) ≡ faults.Memory) ⊎ (refused_option (kind_of e) ≡ faults.Words) → ReadsOptions words (Err fault)
+    go (inl memory) = without_memory words fault (by ∙ memory)
+    go (inr wrong) =
+        let some : unless_refused (fault_of app words) (choice_of (matches_of cut_app words)) ≡ Err faults.Words = some_fault (fault_of app words) (kind_of e) _ among in
+        let of_cut : options_of words ≡ Err faults.Words =
+        subst (λ (a : App). unless_refused (fault_of a words) (choice_of (matches_of cut_app words)) ≡ Err faults.Words) is some in
+        subst (λ (f : OptionsFault). ReadsOptions words (Err f)) (sym (by ∙ wrong)) of_cut
+
+-- what was read is what the words give, but for want of memory
+pub reads_options : (words : List Text) (result : Result Choice OptionsFault) → options_of words ≡ result → ReadsOptions words result
+reads_options words (Err faults.Memory) is = tt
+reads_options words (Err f) is = is
+reads_options words (Ok choice) is = is

@@ -1,5 +1,5 @@
-use Rattle.hls_origin.proofs.Listings.{rule_in_range}
-use Rattle.hls_origin.proofs.cut.options.Options.listing.Goals as goal
+use Rattle.hls_settings.proofs.Charges.{rule_in_range}
+use Rattle.hls_settings.proofs.options.Options.rule.Goals as goal
 
 pub returns-clause-in_range : goal.returns-clause-in_range
 returns-clause-in_range c = rw c.of_charge.ensures (rule_in_range c.self.inside.charge c.self.invariant.charge)

@@ -1,15 +1,15 @@
-//! What to change in the words of `serve`.
+//! The line that says which word is wrong, and what it may be.
 
-use hls_settings::SettingsFault;
+use crate::fault::SettingsFault;
+use crate::options_fault::OptionsFault;
 use std::fmt::{self, Display, Formatter, Write};
 
 /// What an epoch may be.
-pub const EPOCH: &str =
+const EPOCH: &str =
     "--epoch takes an instant from 1970 to 9000-01-01T00:00:00Z, as in 2024-01-01T00:00:00Z or 2024-01-01T01:00:00.5+01:00";
 
-/// The line that says which word is wrong, and what it may be.
-#[derive(Clone, Copy, Drop)]
-pub struct Wrong(pub SettingsFault);
+/// What a target duration may be.
+const TARGET: &str = "--target takes 1 to 3600 whole seconds";
 
 /// A rendition's word that is wrong.
 fn wrong_rendition<W: Write>(f: &mut Formatter<W>, n: usize) -> fmt::Result {
@@ -28,12 +28,12 @@ fn wrong_rendition<W: Write>(f: &mut Formatter<W>, n: usize) -> fmt::Result {
     )
 }
 
-impl Display for Wrong {
+impl Display for SettingsFault {
     fn fmt<W: Write>(&self, f: &mut Formatter<W>) -> fmt::Result {
-        let text = match self.0 {
+        let text = match *self {
             SettingsFault::Words =>
                 "there is an option that isn't known, stands twice or has no value",
-            SettingsFault::Target => "--target takes 1 to 3600 whole seconds",
+            SettingsFault::Target => TARGET,
             SettingsFault::Preferred => {
                 "--preferred takes 1 to the target, in microseconds (4000000 if not given): with a target below 4, give it"
             }
@@ -49,10 +49,33 @@ impl Display for Wrong {
             SettingsFault::Patience => "--patience takes 1 to 3600 whole seconds",
             SettingsFault::Log => "--log takes the word requests",
             SettingsFault::Address => {
-                "give an address a.b.c.d:port before the renditions, as in 0.0.0.0:8080, without leading zeros"
+                "give an address a.b.c.d:port before the renditions, as in 127.0.0.1:8080, without leading zeros"
             }
             SettingsFault::Rendition(n) => return wrong_rendition(f, n),
             SettingsFault::Memory => "memory was wanted",
+        };
+        f.write_str(text)
+    }
+}
+
+impl Display for OptionsFault {
+    fn fmt<W: Write>(&self, f: &mut Formatter<W>) -> fmt::Result {
+        let text = match *self {
+            OptionsFault::Words => {
+                "there is a word that is no option, or an option that isn't known, stands twice or has no value"
+            }
+            OptionsFault::Target => TARGET,
+            OptionsFault::Uri => {
+                "--uri takes a text that isn't empty, doesn't begin with # and has no line ends or quotation marks"
+            }
+            OptionsFault::Preferred => {
+                "--preferred takes 1 to the target, in microseconds (the target is 6 seconds if not given)"
+            }
+            OptionsFault::Charge => "--charge takes 0 to 3600000000 microseconds",
+            OptionsFault::Epoch => EPOCH,
+            OptionsFault::Each => "--each excludes --preferred and --certificate",
+            OptionsFault::Unplanned => "--certificate and --charge need --preferred",
+            OptionsFault::Memory => "memory was wanted",
         };
         f.write_str(text)
     }

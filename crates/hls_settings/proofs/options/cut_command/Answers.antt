@@ -3,8 +3,8 @@ use Rattle.std.proofs.lemmas.Result.{IfOk-weaker}
 use Rattle.clap.specs.Words.{app_of, with_rule}
 use Rattle.clap.specs.Simple.{app_of_fields}
 use Rattle.hls_settings.specs.Command.{value_rule, without_name}
-use Rattle.hls_origin.specs.Options.{cut_app, flag_rule, named_app}
-use Rattle.hls_origin.proofs.cut.options.command.Goals as goal
+use Rattle.hls_settings.specs.Options.{cut_app, flag_rule, named_app}
+use Rattle.hls_settings.proofs.options.cut_command.Goals as goal
 
 pub returns : goal.returns
 unfolding cut_app

@@ -1,18 +1,18 @@
 //! What the words after `cut` ask for.
 ghost use Rattle.std.specs.Prelude.{◌≡◌, ◌≤◌, map, option_map, IfOk, IfSome, false};
-ghost use Rattle.clap.specs.Words.{app_of, first_value, found_of, rule_of};
+ghost use Rattle.clap.specs.Words.{app_of, first_value, found_of, kind_of, rule_of};
+ghost use Rattle.hls_check_laws.specs.Tables.{charge_limit, charge_of, rule_of as cost_rule_of, target_limit};
+ghost use Rattle.hls_core_laws.specs.Config.{IsEpoch, IsTarget};
 ghost use Rattle.hls_m3u8.specs.Uri.{IsUri};
-ghost use Rattle.hls_origin.specs.Channel.{listing_of};
-ghost use Rattle.hls_origin.specs.Options.{IsCharge, IsPreferred, agrees, charge_in, checked_uri, choice_by, cut_app, flag_rule, is_set, options_of, preferred_in, target_in, uri_in};
-ghost use Rattle.hls_check_laws.specs.Tables.{target_limit};
-ghost use Rattle.hls_origin_listing.specs.Lists.{CanList};
+ghost use Rattle.hls_settings.specs.Options.{IsCharge, IsPreferredOf, ReadsOptions, charge_in, checked_uri, choice_by, cut_app, flag_rule, is_planned, is_set, preferred_in, refused_option, stands_alone, target_in, uri_in};
 
+use crate::command::valued;
+use crate::epoch::read_epoch;
+use crate::options_fault::OptionsFault;
 use clap::error::ErrorKind;
-use clap::{Arg, ArgAction, ArgMatches, Command};
+use clap::{Arg, ArgAction, ArgMatches, Command, Error};
 use hls_check_laws::{CHARGE_LIMIT, CostRule, TARGET_LIMIT};
 use hls_m3u8::is_uri;
-use hls_origin_listing::Listing;
-use hls_settings::{read_epoch, valued};
 use hls_text::{MOST_DIGITS, read_number};
 use std::alloc::{AllocError, Global};
 use std::convert::AsStr;
@@ -25,23 +25,23 @@ const DEFAULT_TARGET: u64 = 6;
 #[derive(Debug, Drop)]
 pub struct Options<'a> {
     /// The playlist's target duration in whole seconds, 1 to 3600 (RFC 8216 section 4.3.3.1).
-    pub target: u64,
+    target: u64,
     /// The URI of the media file, as each segment and the map name it.
-    pub uri: &'a str,
+    uri: &'a str,
     /// The preferred length of a segment in microseconds, 1 to the target, where a least plan is
     /// wanted; without it each place begins a segment.
-    pub preferred: Option<u64>,
+    preferred: Option<u64>,
     /// What a least plan pays for each segment beside its deviation, 0 to 3600000000 microseconds;
     /// without it the plan is least by deviation alone.
-    pub charge: Option<u64>,
+    charge: Option<u64>,
     /// The moment of time 0 in microseconds since 1970-01-01T00:00:00Z, from which segments have dates.
-    pub epoch: Option<i64>,
+    epoch: Option<i64>,
     /// Whether the plan's certificate is wanted in place of the playlist.
-    pub certificate: bool,
+    certificate: bool,
 }
 
 impl<'a> Model for Options<'a> {
-    ghost use Rattle.hls_origin.specs.Options.{Choice, IsGood, choice_with};
+    ghost use Rattle.hls_settings.specs.Options.{Choice, IsGood, choice_with};
 
     ghost Value = { Choice };
 
@@ -51,18 +51,51 @@ impl<'a> Model for Options<'a> {
 }
 
 impl<'a> Options<'a> {
-    /// How the recorded stream is to be listed.
-    pub fn listing(&self) -> Listing
-        ensures value { result ≡ listing_of self.now }
-        ensures in_range { CanList result }
+    /// The playlist's target duration in whole seconds, 1 to 3600.
+    pub fn target(&self) -> u64
+        ensures value { result ≡ self.now.target }
+        ensures in_range { IsTarget result }
     {
-        if self.preferred.is_none() {
-            return Listing::Each;
-        }
-        Listing::Planned {
-            rule: CostRule::of_charge(self.charge),
-            certificate: self.certificate,
-        }
+        self.target
+    }
+
+    /// The URI of the media file, which can stand in a playlist.
+    pub fn uri(&self) -> &'a str
+        ensures value { result.now ≡ self.now.uri }
+        ensures good { IsUri result.now }
+    {
+        self.uri
+    }
+
+    /// The preferred length of a segment in microseconds, where a least plan is wanted.
+    pub fn preferred(&self) -> Option<u64>
+        ensures value { result ≡ self.now.preferred }
+        ensures in_range { IsPreferredOf self.now.target result }
+    {
+        self.preferred
+    }
+
+    /// What makes a plan least.
+    pub fn rule(&self) -> CostRule
+        ensures value { result ≡ cost_rule_of self.now.charge }
+        ensures in_range { charge_of result ≤ charge_limit }
+    {
+        CostRule::of_charge(self.charge)
+    }
+
+    /// The moment of time 0 in microseconds since 1970-01-01T00:00:00Z, where it is known.
+    pub fn epoch(&self) -> Option<i64>
+        ensures value { result ≡ self.now.epoch }
+        ensures in_range { IsEpoch result }
+    {
+        self.epoch
+    }
+
+    /// Whether the plan's certificate is wanted in place of the playlist.
+    pub fn wants_certificate(&self) -> bool
+        ensures { result ≡ self.now.certificate }
+    {
+        self.certificate
     }
 }
 
@@ -75,7 +108,7 @@ fn flag<'a>(alloc: Global, name: &'a str) -> Arg<'a>
 }
 
 /// The command as `clap` reads it.
-fn command<'a>(alloc: Global) -> Result<Command<'a>, AllocError>
+fn cut_command<'a>(alloc: Global) -> Result<Command<'a>, AllocError>
     ensures { IfOk result (λ made. app_of made ≡ cut_app) }
 {
     Command::new(alloc, "cut")
@@ -110,7 +143,7 @@ fn target_of(text: Option<&str>) -> Option<u64>
 fn preferred_of(target: u64, text: Option<&str>) -> Option<Option<u64>>
     requires { target ≤ target_limit }
     ensures value { result ≡ preferred_in target (option_map (λ t. t.now) text.entry) }
-    ensures in_range { IfSome result (λ preferred. IsPreferred target preferred) }
+    ensures in_range { IfSome result (IsPreferredOf target) }
 {
     let Some(text) = text else {
         return Some(None);
@@ -165,29 +198,49 @@ fn is_set(text: Option<&str>) -> bool
     }
 }
 
-/// Whether `--each` stands alone, and `--certificate` and `--charge` beside `--preferred`.
-fn agrees(each: bool, preferred: bool, certificate: bool, charge: bool) -> bool
-    ensures { result ≡ agrees each preferred certificate charge }
+/// Whether `--each`, where it is given, stands without `--preferred` and `--certificate`.
+fn stands_alone(each: bool, preferred: bool, certificate: bool) -> bool
+    ensures { result ≡ stands_alone each preferred certificate }
 {
-    !(each && (preferred || certificate)) && !((certificate || charge) && !preferred)
+    !(each && (preferred || certificate))
 }
 
-/// The options among what `clap` found; `None` where a value is outside its range, or two options
-/// exclude each other.
-fn options_in<'a>(matches: &ArgMatches<'a>) -> Option<Options<'a>>
+/// Whether `--certificate` and `--charge`, where they are given, stand beside `--preferred`.
+fn is_planned(preferred: bool, certificate: bool, charge: bool) -> bool
+    ensures { result ≡ is_planned preferred certificate charge }
+{
+    !((certificate || charge) && !preferred)
+}
+
+/// The options among what `clap` found, or which of them is wrong first.
+fn options_in<'a>(matches: &ArgMatches<'a>) -> Result<Options<'a>, OptionsFault>
     ensures { result ≡ choice_by (first_value (found_of matches.now)) }
 {
-    let target = target_of(matches.get_str("target"))?;
-    let uri = uri_of(matches.get_str("uri"))?;
-    let preferred = preferred_of(target, matches.get_str("preferred"))?;
-    let charge = charge_of(matches.get_str("charge"))?;
-    let epoch = read_epoch(matches.get_str("epoch"))?;
+    let Some(target) = target_of(matches.get_str("target")) else {
+        return Err(OptionsFault::Target);
+    };
+    let Some(uri) = uri_of(matches.get_str("uri")) else {
+        return Err(OptionsFault::Uri);
+    };
+    let Some(preferred) = preferred_of(target, matches.get_str("preferred")) else {
+        return Err(OptionsFault::Preferred);
+    };
+    let Some(charge) = charge_of(matches.get_str("charge")) else {
+        return Err(OptionsFault::Charge);
+    };
+    let Some(epoch) = read_epoch(matches.get_str("epoch")) else {
+        return Err(OptionsFault::Epoch);
+    };
+    let planned = preferred.is_some();
     let each = is_set(matches.get_str("each"));
     let certificate = is_set(matches.get_str("certificate"));
-    if !agrees(each, preferred.is_some(), certificate, charge.is_some()) {
-        return None;
+    if !stands_alone(each, planned, certificate) {
+        return Err(OptionsFault::Each);
     }
-    Some(Options {
+    if !is_planned(planned, certificate, charge.is_some()) {
+        return Err(OptionsFault::Unplanned);
+    }
+    Ok(Options {
         target,
         uri,
         preferred,
@@ -197,23 +250,30 @@ fn options_in<'a>(matches: &ArgMatches<'a>) -> Option<Options<'a>>
     })
 }
 
-/// Reads the words after `cut`. `None` is a usage fault: a word that `clap` refuses, a value
-/// outside its range, or options that exclude each other. `AllocError` comes only where memory was
-/// refused.
+/// Why `clap` took no options.
+fn refused(error: &Error) -> OptionsFault
+    ensures { result ≡ refused_option (kind_of error.now) }
+{
+    if error.kind() == ErrorKind::OutOfMemory {
+        OptionsFault::Memory
+    } else {
+        OptionsFault::Words
+    }
+}
+
+/// Reads the words after `cut`. The first that is wrong is told, in the order of the variants of `OptionsFault`; `Memory` comes
+/// only where a growth was refused.
 pub fn read_options<'a, S: AsStr>(
     alloc: Global,
     words: &'a [S],
-) -> Result<Option<Options<'a>>, AllocError>
-    ensures { IfOk result (λ options. options ≡ options_of (map S.text words.entry.now)) }
+) -> Result<Options<'a>, OptionsFault>
+    ensures { ReadsOptions (map S.text words.entry.now) result }
 {
-    match command(alloc)?.try_get_matches_from(words) {
-        Ok(matches) => Ok(options_in(&matches)),
-        Err(error) => {
-            if error.kind() == ErrorKind::OutOfMemory {
-                Err(AllocError)
-            } else {
-                Ok(None)
-            }
-        }
+    let Ok(command) = cut_command(alloc) else {
+        return Err(OptionsFault::Memory);
+    };
+    match command.try_get_matches_from(words) {
+        Ok(matches) => options_in(&matches),
+        Err(error) => Err(refused(&error)),
     }
 }

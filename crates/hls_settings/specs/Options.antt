@@ -1,13 +1,17 @@
 -- What the words after `cut` ask for.
-use Rattle.std.specs.Prelude.{ℕ, ℤ, ◌*◌, List, [], ◌∷◌, Option, Some, None, Bool, true, false, not, ◌≤◌, ◌&&◌, ◌||◌, cond, codes, is_some}
+use Rattle.std.specs.Prelude.{◌≡◌, ℕ, ℤ, ◌*◌, List, [], ◌∷◌, Option, Some, None, Result, Ok, Err, Bool, false, not, ◌≤◌, ◌&&◌, ◌||◌, cond, codes, is_some}
 use Rattle.std.specs.Prelude.{nat_lt, nat_le, option_and_then}
 use Rattle.std.specs.Str.{bytes_eq}
 use Rattle.clap.specs.Words.{App, Row, Rule, Text, fault_of, first_of, matches_of, new_app, new_rule, with_rule}
 use Rattle.clap.specs.Kinds.{Kinds}
 use Rattle.clap.specs.declared.builder.action.ArgAction.TheVariants.{SetTrue}
+use Rattle.clap.specs.declared.error.kind.ErrorKind.{ErrorKind}
+use Rattle.clap.specs.declared.error.kind.ErrorKind.TheVariants as kinds
 use Rattle.hls_m3u8.specs.Uri.{IsUri, is_uri_text}
 use Rattle.hls_core_laws.specs.Config.{IsEpoch}
 use Rattle.hls_text.specs.Digits.{number_of}
+use Rattle.hls_settings.specs.declared.options_fault.OptionsFault.{OptionsFault}
+use Rattle.hls_settings.specs.declared.options_fault.OptionsFault.TheVariants as faults
 use Rattle.hls_settings.specs.Command.{value_rule, without_name}
 use Rattle.hls_settings.specs.Settings.{epoch_in}
 use Rattle.hls_check_laws.specs.Tables.{charge_limit, target_limit}
@@ -23,9 +27,9 @@ pub record Choice : Type 0 where
   pub epoch : Option ℤ
   pub certificate : Bool
 
-abbrev pub IsPreferred : ℕ → Option ℕ → Type 0
-IsPreferred target None = Unit {0}
-IsPreferred target (Some length) = (1 ≤ length) × (length ≤ target * 1000000)
+abbrev pub IsPreferredOf : ℕ → Option ℕ → Type 0
+IsPreferredOf target None = Unit {0}
+IsPreferredOf target (Some length) = (1 ≤ length) × (length ≤ target * 1000000)
 
 abbrev pub IsCharge : Option ℕ → Type 0
 IsCharge None = Unit {0}
@@ -41,7 +45,7 @@ pub record IsGood (choice : Choice) : Type 0 where
   pub least : 1 ≤ choice.target
   pub most : choice.target ≤ target_limit
   pub is_uri : IsUri choice.uri
-  pub preferred : IsPreferred choice.target choice.preferred
+  pub preferred : IsPreferredOf choice.target choice.preferred
   pub charge : IsCharge choice.charge
   pub epoch : IsEpoch choice.epoch
 
@@ -98,35 +102,54 @@ abbrev pub is_set : Option Text → Bool
 is_set None = false
 is_set (Some text) = bytes_eq text (codes "true")
 
--- `--each` stands alone, and `--certificate` and `--charge` beside `--preferred`
-abbrev pub agrees : Bool → Bool → Bool → Bool → Bool
-agrees each preferred certificate charge = not (each && (preferred || certificate)) && not ((certificate || charge) && not preferred)
+-- `--each` excludes `--preferred` and `--certificate`
+abbrev pub stands_alone : Bool → Bool → Bool → Bool
+stands_alone each preferred certificate = not (each && (preferred || certificate))
 
--- what the values come to, where all are good
-abbrev pub chosen : ℕ → List ℕ → Option ℕ → Option ℕ → Option ℤ → Bool → Bool → Option Choice
+-- `--certificate` and `--charge` need `--preferred`
+abbrev pub is_planned : Bool → Bool → Bool → Bool
+is_planned preferred certificate charge = not ((certificate || charge) && not preferred)
+
+-- what a good value leads to, or what is wrong
+abbrev pub or_wrong : {A : Type 0} → OptionsFault → Option A → (A → Result Choice OptionsFault) → Result Choice OptionsFault
+or_wrong fault None next = Err fault
+or_wrong fault (Some value) next = next value
+
+-- what good values come to
+abbrev pub chosen : ℕ → List ℕ → Option ℕ → Option ℕ → Option ℤ → Bool → Bool → Result Choice OptionsFault
 chosen target uri preferred charge epoch each certificate =
-    cond (agrees each (is_some preferred) certificate (is_some charge))
-    (Some (choice_with target uri preferred charge epoch certificate)) None
+    cond (stands_alone each (is_some preferred) certificate)
+    (cond (is_planned (is_some preferred) certificate (is_some charge)) (Ok (choice_with target uri preferred charge epoch certificate)) (Err faults.Unplanned))
+    (Err faults.Each)
 
-abbrev pub choice_in : Option Text → Option Text → Option Text → Option Text → Option Text → Option Text → Option Text → Option Choice
+abbrev pub choice_in : Option Text → Option Text → Option Text → Option Text → Option Text → Option Text → Option Text → Result Choice OptionsFault
 choice_in each preferred certificate target uri charge epoch =
-    option_and_then (λ t. option_and_then (λ u. option_and_then (λ p. option_and_then (λ c.
-    option_and_then (λ e. chosen t u p c e (is_set each) (is_set certificate))
-    (epoch_in epoch)) (charge_in charge)) (preferred_in t preferred)) (uri_in uri)) (target_in target)
+    or_wrong faults.Target (target_in target) (λ t. or_wrong faults.Uri (uri_in uri) (λ u. or_wrong faults.Preferred (preferred_in t preferred) (λ p.
+    or_wrong faults.Charge (charge_in charge) (λ c. or_wrong faults.Epoch (epoch_in epoch) (λ e. chosen t u p c e (is_set each) (is_set certificate))))))
 
-abbrev pub unless_refused : Kinds → Option Choice → Option Choice
+abbrev pub unless_refused : Kinds → Result Choice OptionsFault → Result Choice OptionsFault
 unless_refused [] choice = choice
-unless_refused (k ∷ ks) choice = None
+unless_refused (k ∷ ks) choice = Err faults.Words
 
 -- by the value of each option, where it is given
-abbrev pub choice_by : (List ℕ → Option Text) → Option Choice
+abbrev pub choice_by : (List ℕ → Option Text) → Result Choice OptionsFault
 choice_by value =
     choice_in (value (codes "each")) (value (codes "preferred")) (value (codes "certificate")) (value (codes "target"))
     (value (codes "uri")) (value (codes "charge")) (value (codes "epoch"))
 
-abbrev pub choice_of : List Row → Option Choice
+abbrev pub choice_of : List Row → Result Choice OptionsFault
 choice_of rows = choice_by (λ name. first_of name rows)
 
--- the options that the words give; none is a usage fault
-unfoldable pub options_of : List Text → Option Choice
+-- the options that the words give, or which word is wrong first
+unfoldable pub options_of : List Text → Result Choice OptionsFault
 options_of words = unless_refused (fault_of cut_app words) (choice_of (matches_of cut_app words))
+
+-- want of memory may come instead
+abbrev pub ReadsOptions : List Text → Result Choice OptionsFault → Type 0
+ReadsOptions words (Err faults.Memory) = Unit {0}
+ReadsOptions words result = options_of words ≡ result
+
+-- words that are refused, but for want of memory. For the code alone
+abbrev pub refused_option : ErrorKind → OptionsFault
+refused_option kinds.OutOfMemory = faults.Memory
+refused_option _ = faults.Words

@@ -1,7 +1,7 @@
 -- A charge in its range gives a rule that can be listed by.
 use Rattle.std.proofs.Common.{ℕ, ◌≤◌, Option, Some, None, arith}
 use Rattle.hls_check_laws.specs.Tables.{charge_limit, charge_of, rule_of}
-use Rattle.hls_origin.specs.Options.{IsCharge}
+use Rattle.hls_settings.specs.Options.{IsCharge}
 
 pub rule_in_range : (charge : Option ℕ) → IsCharge charge → charge_of (rule_of charge) ≤ charge_limit
 rule_in_range None good = omega arith

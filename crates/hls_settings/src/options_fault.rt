@@ -1,0 +1,24 @@
+//! Which word after `cut` is wrong.
+
+/// Which word after `cut` is wrong first, in the order of the variants.
+#[derive(Clone, Copy, Debug, PartialEq, Eq, Drop)]
+pub enum OptionsFault {
+    /// An option that there isn't, that stands twice or has no value, or a word that is no option.
+    Words,
+    /// `--target` isn't 1 to 3600 seconds.
+    Target,
+    /// `--uri` can't stand in a playlist.
+    Uri,
+    /// `--preferred` isn't 1 microsecond to the target.
+    Preferred,
+    /// `--charge` is above 3600000000 microseconds, or no number.
+    Charge,
+    /// `--epoch` isn't an instant from 1970 to 9000-01-01T00:00:00Z.
+    Epoch,
+    /// `--each` stands beside `--preferred` or `--certificate`.
+    Each,
+    /// `--certificate` or `--charge` stands without `--preferred`.
+    Unplanned,
+    /// Memory was wanted.
+    Memory,
+}
