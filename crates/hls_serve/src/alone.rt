@@ -7,6 +7,7 @@ ghost use Rattle.hls_core_laws.specs.Workers.{events_by};
 ghost use Rattle.hls_turn.specs.Passes.{Known};
 ghost use Rattle.hls_turn.specs.Calls.{LookedOn, Looks, Submits};
 ghost use Rattle.hls_serve_laws.specs.Desks.{shared_desk};
+ghost use Rattle.hls_serve.specs.Meanwhile.{Met};
 ghost use Rattle.hls_serve.specs.Owned.{known_of};
 
 use crate::keeper::Keeper;
@@ -21,7 +22,7 @@ use hls_turn::Done;
 use std::alloc::{AllocError, Global};
 use std::sync::{Arc, Wait};
 
-/// The keeper of a channel that one thread has for itself.
+/// The keeper of a channel that one thread has for itself: nobody else acts, so what it saw is what is there.
 #[derive(Clone, Copy, Debug, Drop)]
 pub struct Alone;
 
@@ -41,7 +42,8 @@ impl Own {
     /// Lets the state meet the event.
     fn take(&mut self, alloc: Global, event: Event) -> Result<Done, Refusal>
         requires { IsFittingAsSeen (known_of self.old).seen event }
-        ensures { Submits (known_of self.old) event result (known_of self.new) }
+        ensures submits { Submits (known_of self.old) event result (known_of self.new) }
+        ensures met { Met (λ a b. b ≡ a) (known_of self.old) event (known_of self.new) }
     {
         let version = self.snapshot.version();
         match step(&self.snapshot, alloc, self.number, event) {
@@ -63,6 +65,8 @@ impl Keeper for Alone {
     ghost serves = { λ keeper pass. Unit {0} };
 
     ghost known = { known_of };
+
+    ghost meanwhile = { λ a b. b ≡ a };
 
     ghost desk = { shared_desk };
 

@@ -1,6 +1,7 @@
 //! A channel that many threads share: its turn and its jobs as a keeper, and the sessions of one pass.
 
 ghost use Rattle.std.specs.Prelude.{◌≡◌, IfOk, length};
+ghost use Rattle.hls_core_laws.specs.Follows.{Follows};
 ghost use Rattle.hls_core_laws.specs.IsState.{IsState};
 ghost use Rattle.hls_core_laws.specs.Moves.{IsFittingAsSeen};
 ghost use Rattle.hls_replies.specs.Playlists.{lists};
@@ -38,6 +39,8 @@ impl<'a> Keeper for Channel<'a> {
     ghost serves = { λ channel pass. pass.turn ≡ channel.turn.now };
 
     ghost known = { λ pass. pass.known };
+
+    ghost meanwhile = { Follows };
 
     ghost desk = { shared_desk };
 

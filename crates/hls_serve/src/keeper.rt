@@ -3,9 +3,11 @@
 ghost use Rattle.std.specs.Prelude.{◌≡◌, IfOk, length};
 ghost use Rattle.hls_core_laws.specs.IsState.{IsState};
 ghost use Rattle.hls_core_laws.specs.Moves.{IsFittingAsSeen};
+ghost use Rattle.hls_core_laws.specs.State.{State};
 ghost use Rattle.hls_turn.specs.Passes.{Known};
 ghost use Rattle.hls_turn.specs.Calls.{LookedOn, Looks, Submits};
 ghost use Rattle.hls_serve_laws.specs.Desks.{Desk};
+ghost use Rattle.hls_serve.specs.Meanwhile.{Met};
 
 use crate::news::News;
 use hls_catchup::Request;
@@ -29,6 +31,9 @@ pub trait Keeper {
     /// What the pass knows: its number, the state that it saw last, and the events that it brought.
     ghost known: { Self.Pass → Known };
 
+    /// To which states others may lead from one that the pass has seen, before its next call.
+    ghost meanwhile: { State → State → Type 0 };
+
     /// What is known of the jobs: what a call may be answered.
     ghost desk: { Desk };
 
@@ -48,7 +53,8 @@ pub trait Keeper {
         requires { serves self.now pass.old }
         ensures serves { serves self.now pass.new }
         ensures looked { LookedOn (known pass.old) (known pass.new) }
-        ensures looks { IfOk result (λ s. Looks (known pass.old) s.value (known pass.new)) };
+        ensures looks { IfOk result (λ s. Looks (known pass.old) s.value (known pass.new)) }
+        ensures meanwhile { meanwhile (known pass.old).seen (known pass.new).seen };
 
     /// Lets the current state meet the event as one of this pass. The refusals are those of a step of the core. May wait.
     fn submit<R: Wait>(
@@ -61,7 +67,8 @@ pub trait Keeper {
         requires serves { serves self.now pass.old }
         requires fitting { IsFittingAsSeen (known pass.old).seen event }
         ensures serves { serves self.now pass.new }
-        ensures submits { Submits (known pass.old) event result (known pass.new) };
+        ensures submits { Submits (known pass.old) event result (known pass.new) }
+        ensures met { Met meanwhile (known pass.old) event (known pass.new) };
 
     /// Adds a job that answers the request from the snapshot, and tells its id; `TableFull` where there is no place for it.
     /// May wait.

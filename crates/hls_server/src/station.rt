@@ -1,6 +1,7 @@
 //! The channel as one connection's session sees it.
 
 ghost use Rattle.std.specs.Prelude.{◌≡◌};
+ghost use Rattle.hls_core_laws.specs.Follows.{Follows};
 ghost use Rattle.hls_serve_laws.specs.Desks.{shared_desk};
 
 use crate::lines::{Ingest, Name, Request};
@@ -55,6 +56,8 @@ impl<'a, E: Eprint> Keeper for Station<'a, E> {
     ghost serves = { λ station pass. pass.turn ≡ station.channel.turn.now };
 
     ghost known = { λ pass. pass.known };
+
+    ghost meanwhile = { Follows };
 
     ghost desk = { shared_desk };
 

@@ -4,8 +4,8 @@ use Rattle.hls_core_laws.specs.Outcome.{Refused}
 use Rattle.hls_core_laws.specs.Moves.{Moves}
 use Rattle.hls_serve.proofs.alone.Own.take.Goals as goal
 
-pub returns-in-Err : goal.returns-in-Err
-returns-in-Err c = record {
+pub returns-in-Err-clause-submits : goal.returns-in-Err-clause-submits
+returns-in-Err-clause-submits c = record {
   number = refl;
   met = c.args.self.now.snapshot.value;
   outcome = Refused c.in-Err.refusal;
@@ -13,4 +13,12 @@ returns-in-Err c = record {
   entries = refl;
   moves = subst (λ (s : State). Moves s c.args.self.now.number c.args.event (Refused c.in-Err.refusal) s) c.deref-2.ensures c.in-Err.ensures;
   answers = (refl, refl);
+}
+
+pub returns-in-Err-clause-met : goal.returns-in-Err-clause-met
+returns-in-Err-clause-met c = record {
+  met = c.args.self.now.snapshot.value;
+  outcome = Refused c.in-Err.refusal;
+  between = refl;
+  moves = subst (λ (s : State). Moves s c.args.self.now.number c.args.event (Refused c.in-Err.refusal) s) c.deref-2.ensures c.in-Err.ensures;
 }
