@@ -1,0 +1,194 @@
+-- A piece more, behind whatever content was fed before.
+use Rattle.std.proofs.Common.{◌≡◌, ◌∙◌, ℕ, ◌<◌, ◌≤◌, inl, inr, List, [], ◌∷◌, ◌++◌, length, take, drop, Option, Some, None, Result, Ok, Err, refl, sym, ap, subst, arith, append_assoc, append-nil, length-append, true, false}
+use Rattle.std.proofs.lemmas.Bool.{cases_lt}
+use Rattle.std.proofs.lemmas.List.{take-append-drop, take-append-le}
+use Rattle.hls_boxes_laws.specs.declared.part.Part.{Part}
+use Rattle.hls_boxes_laws.specs.declared.fault.BoxFault.{BoxFault}
+use Rattle.hls_boxes_laws.specs.declared.fault.BoxFault.TheVariants as boxes
+use Rattle.hls_boxes_laws.specs.Parts.{Cut, Left, Nothing, Boxes, CutShort, Refused as Broken, after_parts, cut_of, fault_at_end, fault_left, text_fault}
+use Rattle.hls_boxes_laws.proofs.TextLaws.{stay}
+use Rattle.hls_boxes.specs.Reader.{IsRefusal, held_by}
+use Rattle.hls_feed.specs.declared.fault.StreamFault.TheVariants as faults
+use Rattle.hls_feed.specs.declared.fault.Untaken.{Untaken}
+use Rattle.hls_feed.specs.declared.fault.Untaken.TheVariants.{Refused, Memory}
+use Rattle.hls_feed.specs.Shortest.{IsShortestFault, IsShortestPart}
+use Rattle.hls_feed.specs.Steps.{Drains, TakenFrom}
+use Rattle.hls_feed.specs.Streams.{EndsSo, FeedsBehind, IsLeft, Reached, RefusesBehind, TakesAll, Wants}
+use Rattle.hls_feed.proofs.DrainLaws.{parts_of, takes_append, wants_none}
+use Rattle.hls_feed.proofs.ShortestLaws.{grows, shortest_fault, shortest_part}
+
+-- ---- texts
+
+-- what is cut of the content and a piece behind it
+cut_on : (content old piece : List ℕ) → IsLeft content old → cut_of (content ++ piece) ≡ after_parts (cut_of content).parts (cut_of (old ++ piece))
+cut_on content old piece left = left piece
+
+parts_on : (content old piece : List ℕ) → IsLeft content old → (cut_of (content ++ piece)).parts ≡ (cut_of content).parts ++ (cut_of (old ++ piece)).parts
+parts_on content old piece left = ap (λ (c : Cut). c.parts) (left piece)
+
+fault_on : (content old piece : List ℕ) → IsLeft content old → text_fault (content ++ piece) ≡ text_fault (old ++ piece)
+fault_on content old piece left = ap (λ (c : Cut). fault_left c.left) (left piece)
+
+left_of : (content held : List ℕ) → IsLeft content held → (cut_of content).left ≡ (cut_of held).left
+left_of content held left = ap (λ (c : Cut). c.left) (ap cut_of (sym (append-nil content)) ∙ left [] ∙ ap (λ xs. after_parts (cut_of content).parts (cut_of xs)) (append-nil held))
+
+left_refused : (left : Left) (f : BoxFault) → fault_left left ≡ Some f → left ≡ Broken f
+left_refused Nothing f is = cc
+left_refused (Boxes m) f is = cc
+left_refused CutShort f is = cc
+left_refused (Broken g) f is = cc
+
+-- a beginning of both texts that shows a part more than the content does is longer than it
+part_behind : (content piece : List ℕ) (taken : List Part) (part : Part) (size : ℕ) → length (cut_of content).parts ≤ length taken → IsShortestPart (content ++ piece) taken part size
+    → length content < size
+part_behind content piece taken part size few shows =
+    elim (cases_lt (length content) size) [
+      | inl behind ↦ behind
+      | inr within ↦
+          let here : take size (content ++ piece) ≡ take size content = take-append-le size content piece within in
+          let front : (cut_of (take size content)).parts ≡ taken ++ part ∷ shows.others = ap (λ xs. (cut_of xs).parts) (sym here) ∙ shows.shows in
+          let later = grows (take size content) (drop size content) in
+          let whole : (cut_of content).parts ≡ (cut_of (take size content)).parts ++ later.0 = ap (λ xs. (cut_of xs).parts) (sym (take-append-drop size content)) ∙ later.1 in
+          absurd (omega (arith, few, ap length whole, length-append (cut_of (take size content)).parts later.0, ap length front, length-append taken (part ∷ shows.others)))
+    ]
+
+-- .. and so is one that shows a fault where the content shows none
+fault_behind : (content piece : List ℕ) (f : BoxFault) (size : ℕ) → text_fault content ≡ None → (cut_of (content ++ piece)).left ≡ Broken f → IsShortestFault (content ++ piece) size
+    → length content < size
+fault_behind content piece f size clean found shows =
+    elim (cases_lt (length content) size) [
+      | inl behind ↦ behind
+      | inr within ↦
+          let here : take size (content ++ piece) ≡ take size content = take-append-le size content piece within in
+          let front : (cut_of (take size content)).left ≡ Broken f = ap (λ xs. (cut_of xs).left) (sym here) ∙ ap (λ (c : Cut). c.left) shows.shows ∙ found in
+          let whole : cut_of content ≡ cut_of (take size content) = ap cut_of (sym (take-append-drop size content)) ∙ stay (take size content) (drop size content) f front in
+          let told : text_fault content ≡ Some f = ap (λ (c : Cut). fault_left c.left) whole ∙ ap fault_left front in
+          absurd (none_some f (sym clean ∙ told))
+    ]
+  where
+    none_some : (f : BoxFault) → None ≡ Some f → ⊥
+    none_some f is = cc
+
+-- ---- what a piece leaves in the reader
+
+pub fault_before : (content held : List ℕ) → IsLeft content held → text_fault content ≡ None → text_fault held ≡ None
+fault_before content held left clean = ap fault_left (sym (left_of content held left)) ∙ clean
+
+pub refusal_is : (f : BoxFault) (old piece held : List ℕ) → text_fault old ≡ None → (f ≡ boxes.Memory → ⊥) → IsRefusal f old piece held → (held ≡ old ++ piece) × (text_fault held ≡ Some f)
+refusal_is boxes.Memory old piece held clean other is = absurd (other refl)
+refusal_is f old piece held clean other is = (is.0 ∙ ap (λ (o : Option BoxFault). held_by o old piece) clean, is.1)
+
+module _ {S : Type 0} (Comes : S → Part → S → Result (Unit {0}) Untaken → Type 0) where
+  -- ---- a piece that is taken in
+
+  left_on : (x y : S) (content old piece held : List ℕ) (h : TakenFrom Comes x (old ++ piece) held y) → IsLeft content old → (cut_of held).parts ≡ [] → IsLeft (content ++ piece) held
+  left_on x y content old piece held h left none more =
+      let parts : (cut_of (content ++ piece)).parts ≡ (cut_of content).parts ++ h.parts =
+      parts_on content old piece left ∙ ap (λ (ps : List Part). (cut_of content).parts ++ ps) (parts_of Comes x y (old ++ piece) held h ∙ ap (λ (ps : List Part). h.parts ++ ps) none ∙ append-nil h.parts) in
+      ap cut_of (append_assoc content piece more) ∙ left (piece ++ more)
+      ∙ ap (λ xs. after_parts (cut_of content).parts (cut_of xs)) (sym (append_assoc old piece more))
+      ∙ ap (after_parts (cut_of content).parts) (h.follows more)
+      ∙ ap (λ (ps : List Part). record { parts = ps; left = (cut_of (held ++ more)).left }) (sym (append_assoc (cut_of content).parts h.parts (cut_of (held ++ more)).parts))
+      ∙ ap (λ (ps : List Part). after_parts ps (cut_of (held ++ more))) (sym parts)
+
+  takes_on : (start x y : S) (content old piece held : List ℕ) (h : TakenFrom Comes x (old ++ piece) held y) → Reached Comes start content old x → (cut_of held).parts ≡ []
+      → TakesAll Comes start (cut_of (content ++ piece)).parts y
+  takes_on start x y content old piece held h reached none =
+      let parts : (cut_of (content ++ piece)).parts ≡ (cut_of content).parts ++ h.parts =
+      parts_on content old piece reached.left ∙ ap (λ (ps : List Part). (cut_of content).parts ++ ps) (parts_of Comes x y (old ++ piece) held h ∙ ap (λ (ps : List Part). h.parts ++ ps) none ∙ append-nil h.parts) in
+      subst (λ (ps : List Part). TakesAll Comes start ps y) (sym parts) (takes_append Comes (cut_of content).parts h.parts start x y reached.taken.takes h.takes)
+
+  pub reached_on : (start x y : S) (content old piece held : List ℕ) → Reached Comes start content old x → text_fault (old ++ piece) ≡ None
+      → Drains Comes (old ++ piece) held x y (Ok tt) → Reached Comes start (content ++ piece) held y
+  reached_on start x y content old piece held reached clean drained = record {
+    taken = record {
+      takes = takes_on start x y content old piece held drained.0 reached drained.1;
+      no_fault = fault_on content old piece reached.left ∙ clean;
+    };
+    left = left_on x y content old piece held drained.0 reached.left drained.1;
+  }
+
+  -- ---- a refusal
+
+  pub stops_behind : (start x y : S) (content old piece held now : List ℕ) (untaken : Untaken) → Reached Comes start content old x
+      → Drains Comes (old ++ piece) held x y (Err untaken) → FeedsBehind Comes start content piece now y (Err untaken)
+  stops_behind start x y content old piece held now (Refused fault) reached next =
+      let taken = (cut_of content).parts ++ next.taken in
+      let parts : (cut_of (content ++ piece)).parts ≡ taken ++ next.part ∷ next.others =
+      parts_on content old piece reached.left ∙ ap (λ (ps : List Part). (cut_of content).parts ++ ps) next.next ∙ sym (append_assoc (cut_of content).parts next.taken (next.part ∷ next.others)) in
+      let found = shortest_part (content ++ piece) taken next.others next.part parts in record {
+        size = found.0;
+        behind = part_behind content piece taken next.part found.0 (omega (arith, length-append (cut_of content).parts next.taken)) found.1;
+        refuses = inl (record {
+          taken = taken;
+          last = next.last;
+          takes = takes_append Comes (cut_of content).parts next.taken start x next.last reached.taken.takes next.takes;
+          part = next.part;
+          shows = found.1;
+          refuses = next.refuses;
+        });
+      }
+  stops_behind start x y content old piece held now Memory reached wants = record {
+    taken = (cut_of content).parts ++ wants.taken;
+    others = wants.others;
+    front = parts_on content old piece reached.left ∙ ap (λ (ps : List Part). (cut_of content).parts ++ ps) wants.front ∙ sym (append_assoc (cut_of content).parts wants.taken wants.others);
+    last = wants.last;
+    takes = takes_append Comes (cut_of content).parts wants.taken start x wants.last reached.taken.takes wants.takes;
+    wants = wants.wants;
+  }
+
+  -- what a piece comes to that shows no fault
+  pub goes_behind : (start x y : S) (content old piece held : List ℕ) (result : Result (Unit {0}) Untaken) → Reached Comes start content old x → text_fault (old ++ piece) ≡ None
+      → Drains Comes (old ++ piece) held x y result → FeedsBehind Comes start content piece held y result
+  goes_behind start x y content old piece held (Ok done) reached clean drained = reached_on start x y content old piece held reached clean drained
+  goes_behind start x y content old piece held (Err untaken) reached clean drained = stops_behind start x y content old piece held held untaken reached drained
+
+  -- a fault behind all parts
+  pub broken_behind : (start x y : S) (content old piece held : List ℕ) (f : BoxFault) → Reached Comes start content old x → text_fault (old ++ piece) ≡ Some f
+      → Drains Comes (old ++ piece) held x y (Ok tt) → RefusesBehind Comes start content piece (faults.Boxes f) y
+  broken_behind start x y content old piece held f reached found drained =
+      let told : text_fault (content ++ piece) ≡ Some f = fault_on content old piece reached.left ∙ found in
+      let left : (cut_of (content ++ piece)).left ≡ Broken f = left_refused (cut_of (content ++ piece)).left f told in
+      let shown = shortest_fault (content ++ piece) f left in record {
+        size = shown.0;
+        behind = fault_behind content piece f shown.0 reached.taken.no_fault left shown.1;
+        refuses = inr (record {
+          takes = takes_on start x y content old piece held drained.0 reached drained.1;
+          box = f;
+          fault_is = refl;
+          found = told;
+          shows = shown.1;
+        });
+      }
+
+  -- a piece that couldn't be taken in
+  pub wants_behind : (start x : S) (content old piece : List ℕ) → Reached Comes start content old x → Wants Comes start (content ++ piece) x
+  wants_behind start x content old piece reached = record {
+    taken = (cut_of content).parts;
+    others = (cut_of (old ++ piece)).parts;
+    front = parts_on content old piece reached.left;
+    last = x;
+    takes = reached.taken.takes;
+    wants = wants_none Comes x (cut_of (old ++ piece)).parts;
+  }
+
+-- ---- the end
+
+ends_by : (content held : List ℕ) → IsLeft content held → fault_at_end (cut_of content).left ≡ fault_at_end (cut_of held).left
+ends_by content held left = ap fault_at_end (left_of content held left)
+
+truncated : (left : Left) (f : BoxFault) → fault_left left ≡ None → fault_at_end left ≡ Some f → f ≡ boxes.Truncated
+truncated Nothing f clean is = cc
+truncated (Boxes true) f clean is = cc
+truncated (Boxes false) f clean is = cc
+truncated CutShort f clean is = cc
+truncated (Broken g) f clean is = cc
+
+pub ends_whole : (content held : List ℕ) → IsLeft content held → fault_at_end (cut_of held).left ≡ None → EndsSo content (Ok tt)
+ends_whole content held left is = ends_by content held left ∙ is
+
+pub ends_inside : (content held : List ℕ) (f : BoxFault) → text_fault content ≡ None → IsLeft content held → fault_at_end (cut_of held).left ≡ Some f → EndsSo content (Err (faults.Boxes f))
+ends_inside content held f clean left is =
+    let at : fault_at_end (cut_of content).left ≡ Some f = ends_by content held left ∙ is in
+    let same : f ≡ boxes.Truncated = truncated (cut_of content).left f clean at in
+    (ap faults.Boxes same, at ∙ ap Some same)

@@ -1,0 +1,4 @@
+pub mod DrainLaws
+pub mod FeedLaws
+pub mod Least
+pub mod ShortestLaws

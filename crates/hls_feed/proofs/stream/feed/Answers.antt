@@ -1,0 +1,39 @@
+use Rattle.std.proofs.Common.{◌≡◌, ◌∙◌, List, ℕ, Ok, Err, ap, sym, subst, rules}
+use Rattle.hls_boxes_laws.specs.Parts.{text_fault}
+use Rattle.hls_feed.specs.Steps.{Drains}
+use Rattle.hls_feed.proofs.FeedLaws.{broken_behind, fault_before, goes_behind, refusal_is, stops_behind}
+use Rattle.hls_feed.proofs.stream.feed.Goals as goal
+
+pub returns-in-Ok-clause-feeds : goal.returns-in-Ok-clause-feeds
+returns-in-Ok-clause-feeds g c = λ start content reached.
+    let x = g.T.Taker.progress c.args.kept.now c.args.channel.now in
+    let y = g.T.Taker.progress c.drain.new.kept c.drain.new.channel in
+    let fed = c.in-Ok.ensures.ok in
+    goes_behind (g.T.Taker.comes c.args.taker.now) start x y content c.args.reader.now c.args.piece.now c.drain.new.reader c.drain.result reached
+    (ap text_fault (sym fed.0) ∙ fed.1)
+    (subst (λ (text : List ℕ). Drains (g.T.Taker.comes c.args.taker.now) text c.drain.new.reader x y c.drain.result) fed.0 c.drain.ensures.drains)
+
+pub returns-in_err-drain-in_default : goal.returns-in_err-drain-in_default
+returns-in_err-drain-in_default g c =
+    let is : c.from_residual.result ≡ Err c.in_err-drain-in_default.field-0.0 = search rules in
+    let x = g.T.Taker.progress c.args.kept.now c.args.channel.now in
+    let y = g.T.Taker.progress c.drain-in_default.new.kept c.drain-in_default.new.channel in record {
+      fits = c.drain-in_default.ensures.fits;
+      feeds = λ start content reached.
+          let fed = refusal_is c.in-Err.fault c.args.reader.now c.args.piece.now c.feed.new.self (fault_before content c.args.reader.now reached.left reached.taken.no_fault) c.in_default.not-Memory c.in-Err.ensures.err in
+          rw is
+          (stops_behind (g.T.Taker.comes c.args.taker.now) start x y content c.args.reader.now c.args.piece.now c.drain-in_default.new.reader c.drain-in_default.new.reader c.in_err-drain-in_default.field-0.0 reached
+          (subst (λ (text : List ℕ). Drains (g.T.Taker.comes c.args.taker.now) text c.drain-in_default.new.reader x y (Err c.in_err-drain-in_default.field-0.0)) fed.0 c.in_err-drain-in_default.ensures.drains));
+    }
+
+pub returns-in_ok-drain-in_default : goal.returns-in_ok-drain-in_default
+returns-in_ok-drain-in_default g c =
+    let x = g.T.Taker.progress c.args.kept.now c.args.channel.now in
+    let y = g.T.Taker.progress c.drain-in_default.new.kept c.drain-in_default.new.channel in record {
+      fits = c.drain-in_default.ensures.fits;
+      feeds = λ start content reached.
+          let fed = refusal_is c.in-Err.fault c.args.reader.now c.args.piece.now c.feed.new.self (fault_before content c.args.reader.now reached.left reached.taken.no_fault) c.in_default.not-Memory c.in-Err.ensures.err in
+          broken_behind (g.T.Taker.comes c.args.taker.now) start x y content c.args.reader.now c.args.piece.now c.drain-in_default.new.reader c.in-Err.fault reached
+          (ap text_fault (sym fed.0) ∙ fed.1)
+          (subst (λ (text : List ℕ). Drains (g.T.Taker.comes c.args.taker.now) text c.drain-in_default.new.reader x y (Ok tt)) fed.0 c.in_ok-drain-in_default.ensures.drains);
+    }

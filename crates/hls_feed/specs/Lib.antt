@@ -1,0 +1,4 @@
+pub mod Names
+pub mod Shortest
+pub mod Streams
+pub mod Steps
