@@ -6,7 +6,7 @@ use Rattle.hls_boxes_laws.specs.declared.part.Part.{Part}
 use Rattle.hls_boxes_laws.specs.declared.fault.BoxFault.{BoxFault}
 use Rattle.hls_boxes_laws.specs.declared.fault.BoxFault.TheVariants as boxes
 use Rattle.hls_boxes_laws.specs.Parts.{Cut, Left, Nothing, Boxes, CutShort, Refused as Broken, after_parts, cut_of, fault_at_end, fault_left, text_fault}
-use Rattle.hls_boxes_laws.proofs.TextLaws.{stay}
+use Rattle.hls_boxes_laws.proofs.TextLaws.{empty, stay}
 use Rattle.hls_boxes.specs.Reader.{IsRefusal, held_by}
 use Rattle.hls_feed.specs.declared.fault.StreamFault.TheVariants as faults
 use Rattle.hls_feed.specs.declared.fault.Untaken.{Untaken}
@@ -32,7 +32,7 @@ fault_on content old piece left = ap (λ (c : Cut). fault_left c.left) (left pie
 left_of : (content held : List ℕ) → IsLeft content held → (cut_of content).left ≡ (cut_of held).left
 left_of content held left = ap (λ (c : Cut). c.left) (ap cut_of (sym (append-nil content)) ∙ left [] ∙ ap (λ xs. after_parts (cut_of content).parts (cut_of xs)) (append-nil held))
 
-left_refused : (left : Left) (f : BoxFault) → fault_left left ≡ Some f → left ≡ Broken f
+pub left_refused : (left : Left) (f : BoxFault) → fault_left left ≡ Some f → left ≡ Broken f
 left_refused Nothing f is = cc
 left_refused (Boxes m) f is = cc
 left_refused CutShort f is = cc
@@ -79,6 +79,17 @@ refusal_is boxes.Memory old piece held clean other is = absurd (other refl)
 refusal_is f old piece held clean other is = (is.0 ∙ ap (λ (o : Option BoxFault). held_by o old piece) clean, is.1)
 
 module _ {S : Type 0} (Comes : S → Part → S → Result (Unit {0}) Untaken → Type 0) where
+  -- ---- the beginning
+
+  pub reached_none : (start : S) → Reached Comes start [] [] start
+  reached_none start = record {
+    taken = record {
+      takes = subst (λ (ps : List Part). TakesAll Comes start ps start) (sym (ap (λ (c : Cut). c.parts) empty)) refl;
+      no_fault = ap (λ (c : Cut). fault_left c.left) empty;
+    };
+    left = λ more. ap (λ (ps : List Part). after_parts ps (cut_of more)) (sym (ap (λ (c : Cut). c.parts) empty));
+  }
+
   -- ---- a piece that is taken in
 
   left_on : (x y : S) (content old piece held : List ℕ) (h : TakenFrom Comes x (old ++ piece) held y) → IsLeft content old → (cut_of held).parts ≡ [] → IsLeft (content ++ piece) held

@@ -17,21 +17,23 @@ use Rattle.hls_core_laws.specs.State.{State}
 use Rattle.hls_core_laws.specs.Outcome.{Outcome, New, Repeated, Refused, outcome_of}
 use Rattle.hls_core_laws.specs.Moves.{IsRefused, advanced}
 use Rattle.hls_core.specs.Reads.{recording_of}
-use Rattle.hls_origin.specs.declared.cut.fault.CutFault.{CutFault}
-use Rattle.hls_origin.specs.declared.cut.fault.CutFault.TheVariants as fault
+use Rattle.hls_feed.specs.declared.fault.StreamFault.{StreamFault}
+use Rattle.hls_feed.specs.declared.fault.StreamFault.TheVariants as fault
+use Rattle.hls_feed.specs.declared.fault.Untaken.{Untaken}
+use Rattle.hls_feed.specs.declared.fault.Untaken.TheVariants as untaken
 use Rattle.hls_origin.specs.Accepts.{Becomes, Means}
 use Rattle.hls_origin.specs.Recorded.{moved_to, stepped, with_part, with_unit}
 use Rattle.hls_origin.specs.Then.{◌>>=◌, or_refused_as}
 
 -- ---- an init section that is read
 
-pub means_fault : (f : MediaFault) (defined : Result InitData MediaFault) → (f ≡ faults.Memory → ⊥) → ReadsAs (Err f) defined → Means (or_refused_as fault.Media defined) (Err (fault.Media f))
+pub means_fault : (f : MediaFault) (defined : Result InitData MediaFault) → (f ≡ faults.Memory → ⊥) → ReadsAs (Err f) defined → Means (or_refused_as fault.Media defined) (Err (untaken.Refused (fault.Media f)))
 means_fault faults.Memory defined other is = absurd (other refl)
 means_fault f defined other is = ap (or_refused_as fault.Media) is
 
 -- ---- a step
 
-pub stepped_by : (s new : State) (event : Event) (outcome : Outcome) (found : Result State CutFault) → outcome_of s event ≡ outcome → moved_to outcome (advanced s 0 event) s ≡ found → stepped s event ≡ found
+pub stepped_by : (s new : State) (event : Event) (outcome : Outcome) (found : Result State StreamFault) → outcome_of s event ≡ outcome → moved_to outcome (advanced s 0 event) s ≡ found → stepped s event ≡ found
 stepped_by s new event outcome found is then = ap (λ (x : Outcome). moved_to x (advanced s 0 event) s) is ∙ then
 
 pub steps_new : (s new : State) (event : Event) → outcome_of s event ≡ New → new ≡ advanced s 0 event → stepped s event ≡ Ok new
@@ -46,10 +48,10 @@ steps_refused s event r other is = stepped_by s s event (Refused r) (Err (fault.
 
 -- ---- a part
 
-becomes_as : {A : Type 0} (x y : Result A CutFault) (new : A) (result : Result (Unit {0}) CutFault) → y ≡ x → Becomes x new result → Becomes y new result
+becomes_as : {A : Type 0} (x y : Result A StreamFault) (new : A) (result : Result (Unit {0}) Untaken) → y ≡ x → Becomes x new result → Becomes y new result
 becomes_as x y new (Ok done) same is = same ∙ is
-becomes_as x y new (Err fault.Memory) same is = tt
-becomes_as x y new (Err f) same is = same ∙ is
+becomes_as x y new (Err untaken.Memory) same is = tt
+becomes_as x y new (Err (untaken.Refused f)) same is = same ∙ is
 
 means_ok : (bytes : List ℕ) (x : Result InitData MediaFault) (init : InitData) → or_refused_as fault.Media x ≡ Ok init → x ≡ Ok init
 means_ok bytes (Ok i) init is = cc
@@ -58,30 +60,30 @@ means_ok bytes (Err f) init is = cc
 pub reads_init : (bytes : List ℕ) (init : InitData) → Means (or_refused_as fault.Media (init_of bytes)) (Ok init) → init_of bytes ≡ Ok init
 reads_init bytes init is = means_ok bytes (init_of bytes) init is
 
-pub accepts_init : (s new : State) (bytes : List ℕ) (init : InitData) (result : Result (Unit {0}) CutFault) → Means (or_refused_as fault.Media (init_of bytes)) (Ok init)
+pub accepts_init : (s new : State) (bytes : List ℕ) (init : InitData) (result : Result (Unit {0}) Untaken) → Means (or_refused_as fault.Media (init_of bytes)) (Ok init)
     → Becomes (stepped s (Begin 0 init bytes)) new result → Becomes (with_part s (parts.Init bytes)) new result
 unfolding with_part
 accepts_init s new bytes init result means becomes =
-    becomes_as _ (with_part s (parts.Init bytes)) new result (ap (λ (x : Result InitData CutFault). x >>= (λ i. stepped s (Begin 0 i bytes))) means) becomes
+    becomes_as _ (with_part s (parts.Init bytes)) new result (ap (λ (x : Result InitData StreamFault). x >>= (λ i. stepped s (Begin 0 i bytes))) means) becomes
 
-pub refuses_init : (s new : State) (bytes : List ℕ) (f : CutFault) → Means (or_refused_as fault.Media (init_of bytes)) (Err f) → Becomes (with_part s (parts.Init bytes)) new (Err f)
+pub refuses_init : (s new : State) (bytes : List ℕ) (f : Untaken) → Means (or_refused_as fault.Media (init_of bytes)) (Err f) → Becomes (with_part s (parts.Init bytes)) new (Err f)
 unfolding with_part
-refuses_init s new bytes fault.Memory means = tt
-refuses_init s new bytes f means = ap (λ (x : Result InitData CutFault). x >>= (λ i. stepped s (Begin 0 i bytes))) means
+refuses_init s new bytes untaken.Memory means = tt
+refuses_init s new bytes (untaken.Refused f) means = ap (λ (x : Result InitData StreamFault). x >>= (λ i. stepped s (Begin 0 i bytes))) means
 
 unit_by : (s : State) (bytes : List ℕ) (found : Option Recorded) → recording_of s 0 ≡ found → with_part s (parts.Unit bytes) ≡ with_unit found s bytes
 unfolding with_part
 unit_by s bytes found is = ap (λ (x : Option Recorded). with_unit x s bytes) is
 
-pub accepts_unit : (s new : State) (bytes : List ℕ) (recorded : Recorded) (f : Facts) (result : Result (Unit {0}) CutFault) → recording_of s 0 ≡ Some recorded → facts recorded.init bytes ≡ Ok f
+pub accepts_unit : (s new : State) (bytes : List ℕ) (recorded : Recorded) (f : Facts) (result : Result (Unit {0}) Untaken) → recording_of s 0 ≡ Some recorded → facts recorded.init bytes ≡ Ok f
     → Becomes (stepped s (Accept 0 f bytes)) new result → Becomes (with_part s (parts.Unit bytes)) new result
 accepts_unit s new bytes recorded f result is found becomes =
     becomes_as _ (with_part s (parts.Unit bytes)) new result
     (unit_by s bytes (Some recorded) is ∙ ap (λ (x : Result Facts MediaFault). or_refused_as fault.Media x >>= (λ g. stepped s (Accept 0 g bytes))) found) becomes
 
-pub refuses_unit : (s new : State) (bytes : List ℕ) (recorded : Recorded) (f : MediaFault) → recording_of s 0 ≡ Some recorded → facts recorded.init bytes ≡ Err f → Becomes (with_part s (parts.Unit bytes)) new (Err (fault.Media f))
+pub refuses_unit : (s new : State) (bytes : List ℕ) (recorded : Recorded) (f : MediaFault) → recording_of s 0 ≡ Some recorded → facts recorded.init bytes ≡ Err f → Becomes (with_part s (parts.Unit bytes)) new (Err (untaken.Refused (fault.Media f)))
 refuses_unit s new bytes recorded f is found =
     unit_by s bytes (Some recorded) is ∙ ap (λ (x : Result Facts MediaFault). or_refused_as fault.Media x >>= (λ g. stepped s (Accept 0 g bytes))) found
 
-pub refuses_early : (s new : State) (bytes : List ℕ) → recording_of s 0 ≡ None → Becomes (with_part s (parts.Unit bytes)) new (Err (fault.Core refusal.NoInit))
+pub refuses_early : (s new : State) (bytes : List ℕ) → recording_of s 0 ≡ None → Becomes (with_part s (parts.Unit bytes)) new (Err (untaken.Refused (fault.Core refusal.NoInit)))
 refuses_early s new bytes is = unit_by s bytes None is

@@ -9,4 +9,3 @@ mod LintLines
 mod PrintLaws
 mod ReadLaws
 mod RunLaws
-mod Told

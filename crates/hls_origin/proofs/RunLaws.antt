@@ -1,6 +1,5 @@
 -- From what was gathered to what is answered.
-use Rattle.std.proofs.Common.{◌≡◌, ◌≢◌, ◌∙◌, ℕ, List, [], ◌++◌, Option, Some, None, Result, Ok, Err, Bool, refl, sym, ap, subst, inl, inr, true≢false, true, false, append-nil}
-use Rattle.hls_boxes_laws.specs.Parts.{cut_of}
+use Rattle.std.proofs.Common.{◌≡◌, ◌≢◌, ◌∙◌, ℕ, List, [], ◌++◌, Option, Some, None, Result, Ok, Err, Bool, refl, sym, ap, subst, inl, inr, true, false, append-nil}
 use Rattle.hls_core_laws.specs.State.{State}
 use Rattle.hls_io.specs.Writing.{CountsWrite, Writes}
 use Rattle.hls_origin_listing.specs.declared.fault.ListFault.{ListFault}
@@ -10,8 +9,12 @@ use Rattle.hls_origin.specs.declared.cut.fault.CutFault.{CutFault}
 use Rattle.hls_origin.specs.declared.cut.fault.CutFault.TheVariants as fault
 use Rattle.hls_origin.specs.declared.cut.run.CutEnd.{CutEnd}
 use Rattle.hls_origin.specs.declared.cut.run.CutEnd.TheVariants as end
-use Rattle.hls_origin.specs.Accepts.{Becomes, Told, is_failure}
+use Rattle.hls_feed.specs.declared.fault.StreamFault.{StreamFault}
+use Rattle.hls_feed.specs.declared.fault.Untaken.{Untaken}
+use Rattle.hls_feed.specs.declared.fault.Untaken.TheVariants as untaken
+use Rattle.hls_origin.specs.Accepts.{Becomes}
 use Rattle.hls_origin.specs.Channel.{opening_of}
+use Rattle.hls_origin.specs.FaultName.{fault_of}
 use Rattle.hls_origin.specs.Gather.{CountsReads, EndsReading, Gathers, GathersOf}
 use Rattle.clap.specs.Words.{Text}
 use Rattle.hls_settings.specs.declared.options_fault.OptionsFault.{OptionsFault}
@@ -20,34 +23,23 @@ use Rattle.hls_settings.specs.Options.{Choice, ReadsOptions, options_of}
 use Rattle.hls_origin.specs.Recorded.{ended, recorded}
 use Rattle.hls_origin.specs.Run.{Answers, Comes, CountsFailures, EndsCut, IsListing, Outcome, Runs, bytes_of, is_cut, is_usage}
 use Rattle.hls_origin.specs.RunParts.{CountsPrint, ListsAtEnd, Prints, Takes, TakesOf, ended_by}
-use Rattle.hls_origin.proofs.Told.{told_ended, told_recorded}
 
 -- ---- refusals of the stream
 
-refused_comes : (choice : Choice) (x : Result State CutFault) (f : CutFault) → x ≡ Err f → Comes choice x (Err f)
+refused_comes : (choice : Choice) (x : Result State StreamFault) (f : StreamFault) → x ≡ Err f → Comes choice x (Err (fault.Stream f))
 refused_comes choice (Ok s) f is = cc
 refused_comes choice (Err g) f is = cc
 
-ends_at : (choice : Choice) (f : CutFault) (taken rest : List ℕ) → EndsReading (opening_of choice) f taken rest → EndsCut choice f taken rest
+ends_at : (choice : Choice) (f : StreamFault) (taken rest : List ℕ) → EndsReading (opening_of choice) f taken rest → EndsCut choice (fault.Stream f) taken rest
 ends_at choice f taken rest (inl h) = inl (h.0, refused_comes choice (recorded (opening_of choice) taken) f h.1)
 ends_at choice f taken rest (inr h) = inr (λ more. refused_comes choice (recorded (opening_of choice) (taken ++ more)) f (h more))
-
--- no refusal of a stream tells of a failed read or write
-no_failure : (o : State) (stream : List ℕ) (f : CutFault) → recorded o stream ≡ Err f → is_failure f ≡ false
-no_failure o stream f is =
-    let told : Told (recorded o stream) = told_recorded o (cut_of stream) in
-    let P : Result State CutFault → Type 0 = Told in
-    subst P is told
-
-ends_no_failure : (o : State) (f : CutFault) (taken rest : List ℕ) → EndsReading o f taken rest → is_failure f ≡ false
-ends_no_failure o f taken rest (inl h) = no_failure o taken f h.1
-ends_no_failure o f taken rest (inr h) = no_failure o (taken ++ []) f (h [])
 
 takes_of_err : (choice : Choice) (taken rest : List ℕ) (s : State) (f : CutFault) → GathersOf (opening_of choice) taken rest s (Err f) → TakesOf choice taken rest (Err f)
 takes_of_err choice taken rest s fault.Memory h = tt
 takes_of_err choice taken rest s fault.ReadFailed h = h
-takes_of_err choice taken rest s fault.WriteFailed h = absurd (true≢false (ends_no_failure (opening_of choice) fault.WriteFailed taken rest h))
-takes_of_err choice taken rest s f h = ends_at choice f taken rest h
+takes_of_err choice taken rest s fault.WriteFailed h = absurd h
+takes_of_err choice taken rest s (fault.Listing f) h = absurd h
+takes_of_err choice taken rest s (fault.Stream f) h = ends_at choice f taken rest h
 
 pub takes_err : (choice : Choice) (stream : List ℕ) (left : Option (List ℕ)) (o s : State) (f : CutFault) → o ≡ opening_of choice → Gathers o stream left s (Err f) → Takes choice stream left (Err f)
 takes_err choice stream left o s f is h =
@@ -60,24 +52,23 @@ takes_none choice stream left is = record { taken = []; rest = stream; left_is =
 
 -- ---- what is listed
 
-comes_no_failure : (choice : Choice) (x : Result State CutFault) (f : CutFault) → Told x → Comes choice x (Err f) → is_failure f ≡ false
-comes_no_failure choice (Err g) f told is = subst (λ (e : CutFault). is_failure e ≡ false) is told
-comes_no_failure choice (Ok s) (fault.Listing f) told is = refl
-comes_no_failure choice (Ok s) fault.ReadFailed told is = absurd is
-comes_no_failure choice (Ok s) fault.WriteFailed told is = absurd is
-comes_no_failure choice (Ok s) f told is = refl
+-- no listing and no refusal of a stream tells of a failed read or write
+no_read_failed : (choice : Choice) (x : Result State StreamFault) → Comes choice x (Err fault.ReadFailed) → ⊥
+no_read_failed choice (Ok s) is = is
+no_read_failed choice (Err f) is = cc
 
-lists_no_failure : (choice : Choice) (s : State) (f : CutFault) → Comes choice (ended s) (Err f) → is_failure f ≡ false
-lists_no_failure choice s f is = comes_no_failure choice (ended s) f (told_ended s) is
+no_write_failed : (choice : Choice) (x : Result State StreamFault) → Comes choice x (Err fault.WriteFailed) → ⊥
+no_write_failed choice (Ok s) is = is
+no_write_failed choice (Err f) is = cc
 
-comes_as : (choice : Choice) (x y : Result State CutFault) (result : Result Listed CutFault) → x ≡ y → Comes choice y result → Comes choice x result
-comes_as choice x y result is h = let P : Result State CutFault → Type 0 = λ z. Comes choice z result in subst P (sym is) h
+comes_as : (choice : Choice) (x y : Result State StreamFault) (result : Result Listed CutFault) → x ≡ y → Comes choice y result → Comes choice x result
+comes_as choice x y result is h = let P : Result State StreamFault → Type 0 = λ z. Comes choice z result in subst P (sym is) h
 
 takes_of_ok : (choice : Choice) (taken rest : List ℕ) (s : State) (result : Result Listed CutFault) → GathersOf (opening_of choice) taken rest s (Ok tt) → ListsAtEnd choice (ended s) result → TakesOf choice taken rest result
 takes_of_ok choice taken rest s (Ok listed) h is = (h.0, comes_as choice _ (ended s) (Ok listed) h.1 is)
 takes_of_ok choice taken rest s (Err fault.Memory) h is = tt
-takes_of_ok choice taken rest s (Err fault.ReadFailed) h is = absurd (true≢false (lists_no_failure choice s fault.ReadFailed is))
-takes_of_ok choice taken rest s (Err fault.WriteFailed) h is = absurd (true≢false (lists_no_failure choice s fault.WriteFailed is))
+takes_of_ok choice taken rest s (Err fault.ReadFailed) h is = absurd (no_read_failed choice (ended s) is)
+takes_of_ok choice taken rest s (Err fault.WriteFailed) h is = absurd (no_write_failed choice (ended s) is)
 takes_of_ok choice taken rest s (Err f) h is = inl (h.0, comes_as choice _ (ended s) (Err f) h.1 is)
 
 pub takes_ok : (choice : Choice) (stream : List ℕ) (left : Option (List ℕ)) (o s : State) (result : Result Listed CutFault) → o ≡ opening_of choice → Gathers o stream left s (Ok tt)
@@ -89,24 +80,24 @@ takes_ok choice stream left o s result is h lists =
 pub counts_listed : (choice : Choice) (s : State) (old new : ℕ) (result : Result Listed CutFault) → ListsAtEnd choice (ended s) result → new ≡ old → CountsReads {A = Listed} result old new
 counts_listed choice s old new (Ok listed) is quiet = quiet
 counts_listed choice s old new (Err fault.Memory) is quiet = quiet
-counts_listed choice s old new (Err fault.ReadFailed) is quiet = absurd (true≢false (lists_no_failure choice s fault.ReadFailed is))
-counts_listed choice s old new (Err fault.WriteFailed) is quiet = absurd (true≢false (lists_no_failure choice s fault.WriteFailed is))
+counts_listed choice s old new (Err fault.ReadFailed) is quiet = absurd (no_read_failed choice (ended s) is)
+counts_listed choice s old new (Err fault.WriteFailed) is quiet = absurd (no_write_failed choice (ended s) is)
 counts_listed choice s old new (Err f) is quiet = quiet
 
 -- ---- the end of a recorded stream
 
-pub ends_refused : (choice : Choice) (defined : Result State CutFault) (new : State) (f : CutFault) → Becomes defined new (Err f) → ListsAtEnd choice defined (Err f)
-ends_refused choice defined new fault.Memory is = tt
-ends_refused choice defined new f is = refused_comes choice defined f is
+pub ends_refused : (choice : Choice) (defined : Result State StreamFault) (new : State) (f : Untaken) → Becomes defined new (Err f) → ListsAtEnd choice defined (Err (fault_of f))
+ends_refused choice defined new untaken.Memory is = tt
+ends_refused choice defined new (untaken.Refused f) is = refused_comes choice defined f is
 
-pub ends_listed : (choice : Choice) (defined : Result State CutFault) (new : State) (listed : Listed) → defined ≡ Ok new → IsListing choice new (Ok listed) → ListsAtEnd choice defined (Ok listed)
+pub ends_listed : (choice : Choice) (defined : Result State StreamFault) (new : State) (listed : Listed) → defined ≡ Ok new → IsListing choice new (Ok listed) → ListsAtEnd choice defined (Ok listed)
 ends_listed choice defined new listed is lists = comes_as choice defined (Ok new) (Ok listed) is lists
 
 listing_fault : (choice : Choice) (s : State) (f : ListFault) → (f ≡ list.Memory → ⊥) → IsListing choice s (Err f) → Comes choice (Ok s) (Err (fault.Listing f))
 listing_fault choice s list.Memory other is = absurd (other refl)
 listing_fault choice s f other is = is
 
-pub ends_unlisted : (choice : Choice) (defined : Result State CutFault) (new : State) (f : ListFault) → (f ≡ list.Memory → ⊥) → defined ≡ Ok new → IsListing choice new (Err f) → ListsAtEnd choice defined (Err (fault.Listing f))
+pub ends_unlisted : (choice : Choice) (defined : Result State StreamFault) (new : State) (f : ListFault) → (f ≡ list.Memory → ⊥) → defined ≡ Ok new → IsListing choice new (Err f) → ListsAtEnd choice defined (Err (fault.Listing f))
 ends_unlisted choice defined new f other is lists = comes_as choice defined (Ok new) (Err (fault.Listing f)) is (listing_fault choice new f other lists)
 
 -- ---- the run

@@ -4,6 +4,7 @@ use Rattle.std.specs.Prelude.{◌≡◌, ℕ, List, [], ◌++◌, Option, Some, 
 use Rattle.hls_record.specs.Recorded.{Recorded}
 use Rattle.hls_core_laws.specs.State.{State}
 use Rattle.hls_core.specs.Reads.{recording_of}
+use Rattle.hls_feed.specs.declared.fault.StreamFault.{StreamFault}
 use Rattle.hls_io.specs.Rose.{Rose}
 use Rattle.hls_origin_listing.specs.declared.fault.ListFault.{ListFault}
 use Rattle.hls_origin_listing.specs.declared.fault.ListFault.TheVariants as list
@@ -28,13 +29,13 @@ pub record IsListing (choice : Choice) (s : State) (result : Result Listed ListF
   pub lists : ListsOf s recording choice.uri (listing_of choice) result
 
 -- what a recorded state, or a refusal, comes to
-abbrev pub Comes : Choice → Result State CutFault → Result Listed CutFault → Type 0
+abbrev pub Comes : Choice → Result State StreamFault → Result Listed CutFault → Type 0
 Comes choice (Ok s) (Ok listed) = IsListing choice s (Ok listed)
 Comes choice (Ok s) (Err (fault.Listing list.Memory)) = ⊥
 Comes choice (Ok s) (Err (fault.Listing f)) = IsListing choice s (Err f)
 Comes choice (Ok s) (Err f) = ⊥
 Comes choice (Err f) (Ok listed) = ⊥
-Comes choice (Err f) (Err g) = f ≡ g
+Comes choice (Err f) (Err g) = g ≡ fault.Stream f
 
 -- what a whole stream comes to: what is listed, or the first refusal in the stream's order
 abbrev pub Outcome : Choice → List ℕ → Result Listed CutFault → Type 0

@@ -2,6 +2,7 @@
 -- What the parts of a run of `cut` pass on to each other.
 use Rattle.std.specs.Prelude.{◌≡◌, ℕ, List, [], ◌++◌, Option, Some, Result, Ok, Err, Bool, true, false}
 use Rattle.hls_core_laws.specs.State.{State}
+use Rattle.hls_feed.specs.declared.fault.StreamFault.{StreamFault}
 use Rattle.hls_io.specs.Writing.{CountsWrite, Writes}
 use Rattle.hls_origin_listing.specs.declared.forms.Listed.{Listed}
 use Rattle.hls_origin.specs.declared.cut.fault.CutFault.{CutFault}
@@ -14,7 +15,7 @@ use Rattle.hls_settings.specs.Options.{Choice}
 use Rattle.hls_origin.specs.Run.{Comes, EndsCut, Outcome}
 
 -- what the end of a recorded stream comes to
-abbrev pub ListsAtEnd : Choice → Result State CutFault → Result Listed CutFault → Type 0
+abbrev pub ListsAtEnd : Choice → Result State StreamFault → Result Listed CutFault → Type 0
 ListsAtEnd choice defined (Ok listed) = Comes choice defined (Ok listed)
 ListsAtEnd choice defined (Err fault.Memory) = Unit {0}
 ListsAtEnd choice defined (Err f) = Comes choice defined (Err f)

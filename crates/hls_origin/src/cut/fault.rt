@@ -1,11 +1,9 @@
 //! Why `cut` refuses a stream.
 ghost use Rattle.std.specs.Prelude.{◌≡◌};
-ghost use Rattle.hls_origin.specs.FaultName.{name_of};
+ghost use Rattle.hls_origin.specs.FaultName.{fault_of, name_of};
 ghost use Rattle.hls_origin.specs.declared.cut.fault.CutFault.TheVariants.{Memory};
 
-use hls_boxes_laws::fault::BoxFault;
-use hls_core_laws::refusal::Refusal;
-use hls_media_laws::fault::MediaFault;
+use hls_feed::{StreamFault, Untaken};
 use hls_origin_listing::ListFault;
 use std::alloc::{AllocError, AllocFailed};
 use thiserror::Error;
@@ -13,16 +11,10 @@ use thiserror::Error;
 /// Why `cut` refuses a stream, or couldn't read or write.
 #[derive(Clone, Copy, Debug, PartialEq, Eq, Error)]
 pub enum CutFault {
-    /// The stream can't be cut into parts, or ends inside a part.
+    /// The stream is refused: it can't be cut into parts, or ends inside a part; an init section or
+    /// a unit is no good; or the channel refuses what comes, or the end before any init section.
     #[error("{0}")]
-    Boxes(BoxFault),
-    /// An init section or a unit is no good.
-    #[error("{0}")]
-    Media(MediaFault),
-    /// The channel refuses what comes: `NoInit` for a unit or the end before any init section,
-    /// `InitChanged`, `Overlap`, `LedgerFull` or `RecordingFull`.
-    #[error("{0}")]
-    Core(Refusal),
+    Stream(StreamFault),
     /// The recorded stream can't be listed.
     #[error("{0}")]
     Listing(ListFault),
@@ -43,13 +35,22 @@ impl CutFault {
         ensures { result.now ≡ name_of self.now }
     {
         match self {
-            CutFault::Boxes(fault) => fault.name(),
-            CutFault::Media(fault) => fault.name(),
-            CutFault::Core(refusal) => refusal.name(),
+            CutFault::Stream(fault) => fault.name(),
             CutFault::Listing(fault) => fault.name(),
             CutFault::ReadFailed => "ReadFailed",
             CutFault::WriteFailed => "WriteFailed",
             CutFault::Memory => "Memory",
+        }
+    }
+}
+
+impl From<Untaken> for CutFault {
+    ghost from_gives = { λ untaken fault. fault ≡ fault_of untaken };
+
+    fn from(untaken: Untaken) -> CutFault {
+        match untaken {
+            Untaken::Refused(fault) => CutFault::Stream(fault),
+            Untaken::Memory => CutFault::Memory,
         }
     }
 }

@@ -5,12 +5,11 @@ ghost use Rattle.hls_media_laws.specs.UnitFacts.{facts};
 ghost use Rattle.hls_core_laws.specs.Moves.{IsFitting};
 ghost use Rattle.hls_core_laws.specs.Runs.{first_state};
 ghost use Rattle.hls_core.specs.Reads.{recording_of};
-ghost use Rattle.hls_origin.specs.declared.cut.fault.CutFault.TheVariants.{Media};
+ghost use Rattle.hls_feed.specs.declared.fault.StreamFault.TheVariants.{Media};
 ghost use Rattle.hls_origin.specs.Accepts.{Becomes, Means};
 ghost use Rattle.hls_origin.specs.Recorded.{ended, stepped, with_part};
 ghost use Rattle.hls_origin.specs.Then.{or_refused_as};
 
-use crate::cut::fault::CutFault;
 use bytes::Bytes;
 use hls_boxes_laws::part::Part;
 use hls_core::config::Config;
@@ -19,6 +18,7 @@ use hls_core::step::step;
 use hls_core::stepped::Stepped;
 use hls_core_laws::event::Event;
 use hls_core_laws::refusal::Refusal;
+use hls_feed::{StreamFault, Taker, Untaken};
 use hls_media::{read_facts, read_init};
 use hls_media_laws::fault::MediaFault;
 use hls_media_laws::init::Init;
@@ -50,13 +50,13 @@ impl Model for Recorder {
 }
 
 /// What the bytes of an init section mean.
-fn meaning_of(alloc: Global, bytes: &[u8]) -> Result<Init, CutFault>
+fn meaning_of(alloc: Global, bytes: &[u8]) -> Result<Init, Untaken>
     ensures { Means (or_refused_as Media (init_of bytes.now)) result }
 {
     match read_init(alloc, bytes) {
         Ok(meaning) => Ok(meaning),
-        Err(MediaFault::Memory) => Err(CutFault::Memory),
-        Err(fault) => Err(CutFault::Media(fault)),
+        Err(MediaFault::Memory) => Err(Untaken::Memory),
+        Err(fault) => Err(Untaken::Refused(StreamFault::Media(fault))),
     }
 }
 
@@ -79,7 +79,7 @@ impl Recorder {
     }
 
     /// Takes an event; one that comes again adds nothing.
-    fn take(&mut self, alloc: Global, event: Event) -> Result<(), CutFault>
+    fn take(&mut self, alloc: Global, event: Event) -> Result<(), Untaken>
         requires { IsFitting self.old event }
         ensures { Becomes (stepped self.old event) self.new result }
     {
@@ -89,13 +89,13 @@ impl Recorder {
                 Ok(())
             }
             Ok(Stepped::Repeat) => Ok(()),
-            Err(Refusal::Memory) => Err(CutFault::Memory),
-            Err(refusal) => Err(CutFault::Core(refusal)),
+            Err(Refusal::Memory) => Err(Untaken::Memory),
+            Err(refusal) => Err(Untaken::Refused(StreamFault::Core(refusal))),
         }
     }
 
     /// Takes an init section.
-    fn accept_init(&mut self, alloc: Global, bytes: Bytes) -> Result<(), CutFault>
+    fn accept_init(&mut self, alloc: Global, bytes: Bytes) -> Result<(), Untaken>
         ensures { Becomes (with_part self.old (Part.Init bytes)) self.new result }
     {
         let init = match meaning_of(alloc, &bytes) {
@@ -111,15 +111,15 @@ impl Recorder {
     }
 
     /// Takes a unit.
-    fn accept_unit(&mut self, alloc: Global, bytes: Bytes) -> Result<(), CutFault>
+    fn accept_unit(&mut self, alloc: Global, bytes: Bytes) -> Result<(), Untaken>
         ensures { Becomes (with_part self.old (Part.Unit bytes)) self.new result }
     {
         let Some(recording) = self.snapshot.recording(RENDITION) else {
-            return Err(CutFault::Core(Refusal::NoInit));
+            return Err(Untaken::Refused(StreamFault::Core(Refusal::NoInit)));
         };
         let facts = match read_facts(recording.init(), &bytes) {
             Ok(facts) => facts,
-            Err(fault) => return Err(CutFault::Media(fault)),
+            Err(fault) => return Err(Untaken::Refused(StreamFault::Media(fault))),
         };
         let event = Event::Accept {
             rendition: RENDITION,
@@ -129,24 +129,45 @@ impl Recorder {
         self.take(alloc, event)
     }
 
-    /// Takes one more part.
-    pub fn accept(&mut self, alloc: Global, part: Part) -> Result<(), CutFault>
-        ensures { Becomes (with_part self.old part) self.new result }
-    {
-        match part {
-            Part::Init(bytes) => self.accept_init(alloc, bytes),
-            Part::Unit(bytes) => self.accept_unit(alloc, bytes),
-        }
-    }
-
     /// Ends the stream: no unit will come any more.
     #[tactic(auto, unfolding(crate::specs::Recorded::ended))]
-    pub fn finish(&mut self, alloc: Global) -> Result<(), CutFault>
+    pub fn finish(&mut self, alloc: Global) -> Result<(), Untaken>
         ensures { Becomes (ended self.old) self.new result }
     {
         let event = Event::Finish {
             rendition: RENDITION,
         };
         self.take(alloc, event)
+    }
+}
+
+/// Takes the parts of a stream into a recorder.
+#[derive(Clone, Copy)]
+pub struct Recording {
+    /// Where memory is taken.
+    pub alloc: Global,
+}
+
+impl Taker for Recording {
+    ghost use Rattle.hls_core_laws.specs.State.{State};
+    ghost use Rattle.hls_origin.specs.Recorded.{PartComes};
+
+    type Kept = ();
+
+    type Channel = Recorder;
+
+    ghost Progress = { State };
+
+    ghost progress = { λ kept recorder. recorder };
+
+    ghost fits = { λ recording kept recorder. Unit {0} };
+
+    ghost comes = { λ recording. PartComes };
+
+    fn take(&self, _kept: &mut (), recorder: &mut Recorder, part: Part) -> Result<(), Untaken> {
+        match part {
+            Part::Init(bytes) => recorder.accept_init(self.alloc, bytes),
+            Part::Unit(bytes) => recorder.accept_unit(self.alloc, bytes),
+        }
     }
 }

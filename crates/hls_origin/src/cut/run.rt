@@ -48,10 +48,7 @@ fn list_recorded(
 ) -> Result<Listed, CutFault>
     ensures { ListsAtEnd options.now (ended recorder.old) result }
 {
-    match recorder.finish(alloc) {
-        Ok(()) => {}
-        Err(fault) => return Err(fault),
-    }
+    recorder.finish(alloc)?;
     match list(alloc, recorder.snapshot(), options.uri(), listing(options)) {
         Ok(listed) => Ok(listed),
         Err(ListFault::Memory) => Err(CutFault::Memory),

@@ -1,13 +1,11 @@
-use Rattle.std.proofs.Common.{◌≡◌, ◌<◌, ℕ, List, Some, length}
+use Rattle.std.proofs.Common.{◌≡◌, ◌<◌, List, ℕ, Some, length}
 use Rattle.hls_io.specs.Counted.{calls_left, failures_of, inside_of}
-use Rattle.hls_origin.specs.Gather.{IsSettled}
 use Rattle.hls_origin.proofs.GatherLaws.{Reading}
 use Rattle.hls_origin.proofs.cut.gather.read_parts.Given as goal
 
 abbrev pub invariant-pieces : goal.invariant-pieces
 invariant-pieces g l = record {
   reading : (stream : List ℕ) → g.R.Read.remaining (inside_of l.initial.input) ≡ Some stream → Reading l.initial.recorder stream (g.R.Read.remaining (inside_of l.input)) l.reader l.recorder;
-  settled : IsSettled l.reader;
   room : 0 < length l.piece;
   quiet : failures_of l.input ≡ failures_of l.initial.input;
 }

@@ -1,6 +1,6 @@
 use Rattle.std.proofs.Common.{◌≡◌, rules, List, ℕ, Ok, Err, subst}
 use Rattle.hls_media_laws.specs.Inits.{init_of}
-use Rattle.hls_origin.specs.declared.cut.fault.CutFault.TheVariants.{Media}
+use Rattle.hls_feed.specs.declared.fault.StreamFault.TheVariants.{Media}
 use Rattle.hls_origin.specs.Accepts.{Means}
 use Rattle.hls_origin.specs.Then.{or_refused_as}
 use Rattle.hls_origin.proofs.AcceptLaws.{accepts_init, refuses_init}
