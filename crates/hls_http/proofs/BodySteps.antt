@@ -1,5 +1,5 @@
 -- Steps of a body in what is held, and in what follows.
-use Rattle.std.proofs.Common.{◌≡◌, ◌∙◌, ℕ, zero, suc, ◌≤◌, ◌<◌, List, [], ◌∷◌, ◌++◌, ◌⊎◌, inl, inr, Option, Some, length, take, drop, refl, sym, ap, subst, arith, append_assoc, append-nil, length-append, length-take}
+use Rattle.std.proofs.Common.{◌≡◌, ◌∙◌, ℕ, zero, suc, ◌+◌, ◌≤◌, ◌<◌, List, [], ◌∷◌, ◌++◌, ◌⊎◌, inl, inr, Option, Some, length, take, drop, refl, sym, ap, subst, arith, append_assoc, append-nil, length-append, length-take}
 use Rattle.std.specs.Io.KnownBytes.{prepend_known}
 use Rattle.std.proofs.lemmas.List.{length-map}
 use Rattle.httparse.specs.declared.spans.HeaderSpan.{HeaderSpan}
@@ -11,6 +11,7 @@ use Rattle.std.specs.List.{flat_map}
 use Rattle.hls_http_laws.specs.declared.body.Body.{Body}
 use Rattle.hls_http_laws.specs.declared.body.Body.TheVariants.{Length, Size, Data, Trailers}
 use Rattle.hls_http_laws.specs.Bodies.{after_line, TakesData, EndsData, Steps, RunsIn, Runs, HasNoStep, Goes}
+use Rattle.hls_http.specs.Bodies.{IsLastAlone}
 use Rattle.hls_http_laws.proofs.Lists.{cut}
 use Rattle.hls_http_laws.proofs.BodyLaws.{runs_none, runs_step}
 use Rattle.hls_http.proofs.HeadLaws.{known_left}
@@ -125,3 +126,67 @@ goes_waited b middle input got held now old left g waits =
     let w = known_left held old g.later g.known in
     let e = waits w.rest w.left_is in
     (record { later = g.later; runs = g.runs; known = e.0 ∙ ap Some (sym w.input_is) }, e.1)
+
+-- ---- what a run leaves of a body
+
+-- by length what wasn't taken of it, and in chunks never bytes by length
+abbrev IsOfChunks : Body → Type 0
+IsOfChunks last = (n : ℕ) → last ≡ Length (suc n) → ⊥
+
+abbrev pub Leaves : Body → ℕ → Body → Type 0
+Leaves (Length n) taken last = (left : ℕ) × (last ≡ Length left) × (taken + left ≡ n)
+Leaves Size taken last = IsOfChunks last
+Leaves (Data n) taken last = IsOfChunks last
+Leaves Trailers taken last = IsOfChunks last
+
+leaves_none : (b : Body) → Leaves b 0 b
+leaves_none (Length n) = (n, refl, omega arith)
+leaves_none Size = λ n is. cc
+leaves_none (Data m) = λ n is. cc
+leaves_none Trailers = λ n is. cc
+
+behind_line : (size taken : ℕ) (last : Body) → Leaves (after_line size) taken last → IsOfChunks last
+behind_line zero taken last l = l
+behind_line (suc n) taken last l = l
+
+behind_trailers : (taken : ℕ) (last : Body) → Leaves (Length 0) taken last → IsOfChunks last
+behind_trailers taken last l = λ n is. absurd (omega (arith, ap announced (sym is ∙ l.1), l.2))
+  where
+    announced : Body → ℕ
+    announced (Length n) = n
+    announced Size = 0
+    announced (Data n) = n
+    announced Trailers = 0
+
+data_leaves : (n taken : ℕ) (input piece rest : List ℕ) (next last : Body) → TakesData n input piece next rest ⊎ EndsData n input piece next rest → Leaves next taken last → IsOfChunks last
+data_leaves n taken input piece rest next last (inl s) l = subst (λ (x : Body). Leaves x taken last) s.2 l
+data_leaves n taken input piece rest next last (inr s) l = subst (λ (x : Body). Leaves x taken last) s.3 l
+
+step_leaves : (b next last : Body) (input piece rest : List ℕ) (taken : ℕ) → Steps b input piece next rest → Leaves next taken last → Leaves b (length piece + taken) last
+step_leaves (Length n) next last input piece rest taken s l =
+    let there = subst (λ (x : Body). Leaves x taken last) s.2 l in (there.0, there.1, omega (arith, s.1.count, there.2))
+step_leaves Size next last input piece rest taken s l = behind_line s.0 taken last (subst (λ (x : Body). Leaves x taken last) s.3 l)
+step_leaves (Data n) next last input piece rest taken s l = data_leaves n taken input piece rest next last s l
+step_leaves Trailers next last input piece rest taken s l = behind_trailers taken last (subst (λ (x : Body). Leaves x taken last) s.2 l)
+
+run_leaves : (k : ℕ) (b last : Body) (input content rest : List ℕ) → RunsIn k b input content last rest → Leaves b (length content) last
+run_leaves zero b last input content rest r =
+    let here = subst (λ (n : ℕ). Leaves b n b) (sym (ap length r.2)) (leaves_none b) in subst (λ (x : Body). Leaves b (length content) x) (sym r.0) here
+run_leaves (suc k) b last input content rest r =
+    let more = step_leaves b r.1 last input r.0 r.2 (length r.3) r.4 (run_leaves k r.1 last r.2 r.3 rest r.5) in
+    subst (λ (n : ℕ). Leaves b n last) (sym (ap length r.6 ∙ length-append r.0 r.3)) more
+
+pub runs_leave : (b last : Body) (input content rest : List ℕ) → Runs b input content last rest → Leaves b (length content) last
+runs_leave b last input content rest r = run_leaves r.steps b last input content rest r.run
+
+-- where nothing was taken yet and the last byte is next, it is all of the body
+pub last_alone : (b middle next : Body) (input rest : List ℕ) → Runs b input [] middle rest → IsLastAlone middle next → IsLastAlone b next
+last_alone b middle next input rest r alone = λ over. all b (runs_leave b middle input [] rest r) (alone over)
+  where
+    same : (n m : ℕ) → Length n ≡ Length m → n ≡ m
+    same n m is = cc
+    all : (b : Body) → Leaves b 0 middle → middle ≡ Length 1 → b ≡ Length 1
+    all (Length n) l is = ap Length (omega (arith, same l.0 1 (sym l.1 ∙ is), l.2))
+    all Size l is = absurd (l 0 is)
+    all (Data n) l is = absurd (l 0 is)
+    all Trailers l is = absurd (l 0 is)

@@ -14,9 +14,14 @@ use Rattle.hls_http.specs.declared.body.Given.TheVariants.{Piece, Over}
 use Rattle.hls_http.specs.declared.body.BodyEnd.{BodyEnd}
 use Rattle.hls_http.specs.declared.body.BodyEnd.TheVariants.{BadFraming, CutShort, ReadFailed}
 
+-- the last byte of a body by length is a piece of its own; and no other piece ends a body, since in chunks their last line and the
+-- trailers are still to come
+abbrev pub IsLastAlone : Body → Body → Type 0
+IsLastAlone b next = next ≡ Length 0 → b ≡ Length 1
+
 -- so many held bytes, and how the body goes on behind them
 abbrev pub StepsTo : Body → List ℕ → Move → Type 0
-StepsTo b held (moves.Piece len next) = (0 < len) × (len ≤ length held) × Steps b held (take len held) next (drop len held)
+StepsTo b held (moves.Piece len next) = (0 < len) × (len ≤ length held) × Steps b held (take len held) next (drop len held) × IsLastAlone b next
 StepsTo b held (moves.Frame len next) = (0 < len) × (len ≤ length held) × Steps b held [] next (drop len held)
 
 abbrev pub Moves : Body → List ℕ → Result Move Lack → Type 0
@@ -50,7 +55,7 @@ CountsWait (Err end) old new = CountsEnd end old new
 
 -- a piece that isn't empty; or the end of the body; or why there is none
 abbrev pub Passes : Body → List ℕ → Body → List ℕ → List ℕ → Option (List ℕ) → Result Given BodyEnd → Type 0
-Passes b input last taken held left (Ok Piece) = (0 < length taken) × Goes b input taken last held left
+Passes b input last taken held left (Ok Piece) = (0 < length taken) × Goes b input taken last held left × IsLastAlone b last
 Passes b input last taken held left (Ok Over) = (last ≡ Length 0) × Goes b input [] last held left
 Passes b input last taken held left (Err end) = Goes b input [] last held left × Stops last held left end
 

@@ -61,12 +61,22 @@ fn piece_len(held: &[u8], left: u64) -> usize
     }
 }
 
+/// How many bytes of a body by length a piece may hold: those before the last one, which is alone.
+fn before_last(left: u64) -> u64
+    requires { 0 < left }
+    ensures some { 0 < result }
+    ensures within { result ≤ left }
+    ensures alone { result ≡ left → left ≡ 1 }
+{
+    if left > 1 { left - 1 } else { left }
+}
+
 /// Bytes by length.
 fn find_length(held: &[u8], left: u64) -> Result<Move, Lack>
     requires { 0 < left }
     ensures { Moves (Body.Length left) held.now result }
 {
-    let len = piece_len(held, left);
+    let len = piece_len(held, before_last(left));
     if len == 0 {
         return Err(Lack::Wait);
     }
@@ -181,7 +191,8 @@ pub fn wait_move<R: Read>(source: &mut Source<R>, body: Body) -> Result<Move, Bo
 }
 
 /// Takes the next piece of a body, reading as much as it needs; the body says where it goes on. Where it is over,
-/// what follows it is held. No memory is taken.
+/// what follows it is held. The last byte of a body by length is a piece of its own, so what an earlier piece shows
+/// stands before the body's end. No memory is taken.
 pub fn read_body<R: Read>(source: &mut Source<R>, body: &mut Body) -> Result<Given, BodyEnd>
     ensures passes { FromSource R.remaining source.old source.new (λ input. Passes body.old input body.new (taken_of source.new)) result }
     ensures counts { CountsBody result (read_failures source.old) (read_failures source.new) }

@@ -83,7 +83,8 @@ impl<R> Source<R> {
 
     /// The bytes that were taken last: a head, or a piece of a body.
     pub fn taken(&self) -> &[u8]
-        ensures { result.now ≡ taken_of self.now }
+        ensures taken { result.now ≡ taken_of self.now }
+        ensures few { length result.now ≤ 65536 }
     {
         &self.buffer[self.from..self.start]
     }

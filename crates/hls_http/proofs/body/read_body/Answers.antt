@@ -2,7 +2,7 @@ use Rattle.std.proofs.Common.{◌≡◌, ◌∙◌, ◌<◌, ◌-◌, ◌++◌, 
 use Rattle.hls_io.specs.Counted.{calls_left, failures_of, inside_of}
 use Rattle.hls_http_laws.specs.Bodies.{Goes}
 use Rattle.hls_http.specs.Source.{held_of}
-use Rattle.hls_http.proofs.BodySteps.{goes_none, goes_then, goes_waited}
+use Rattle.hls_http.proofs.BodySteps.{goes_none, goes_then, goes_waited, last_alone}
 use Rattle.hls_http.proofs.body.read_body.Goals as goal
 
 pub loop-source-init : goal.loop-source-init
@@ -18,6 +18,7 @@ returns-in-Ok-Piece-clause-passes g c = λ rest known.
     w.0 w.1.2 c.take.ensures.held (ap (λ r. g.R.Read.remaining (inside_of r)) c.take.ensures.reader) in (
       subst (λ (xs : List ℕ). 0 < length xs) (sym c.take.ensures.taken) some,
       subst (λ (xs : List ℕ). Goes c.args.body.now (held_of c.args.source.now ++ rest) xs c.in-Ok-Piece.next (held_of c.take.new.self) (g.R.Read.remaining (inside_of c.take.new.self.reader))) (sym c.take.ensures.taken) goes,
+      last_alone c.args.body.now c.loop-source.body c.in-Ok-Piece.next (held_of c.args.source.now ++ rest) w.0.later w.0.runs w.1.3,
     )
 
 pub loop-source-smaller : goal.loop-source-smaller
