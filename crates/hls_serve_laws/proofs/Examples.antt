@@ -7,6 +7,7 @@ use Rattle.hls_instants.specs.Instants.{instant_of}
 use Rattle.hls_instants.specs.Shape.{after_pattern, is_zone_behind}
 use Rattle.hls_boxes_laws.specs.declared.fault.BoxFault.TheVariants as boxes
 use Rattle.hls_core_laws.specs.declared.refusal.Refusal.TheVariants as core
+use Rattle.hls_feed.specs.declared.fault.StreamFault.TheVariants.{Boxes, Core}
 use Rattle.hls_http_laws.specs.declared.fault.HttpFault.TheVariants as http
 use Rattle.hls_http_laws.specs.declared.range.Asked.TheVariants as ranges
 use Rattle.hls_http_laws.specs.declared.reply.Kind.TheVariants.{Media}
@@ -17,7 +18,6 @@ use Rattle.hls_http.specs.declared.head.Method.TheVariants as methods
 use Rattle.hls_jobs.specs.declared.fault.JobFault.TheVariants as jobs
 use Rattle.hls_jobs.specs.declared.job.Job.TheVariants as told
 use Rattle.hls_turn.specs.declared.done.Done.TheVariants as moved
-use Rattle.hls_serve_laws.specs.declared.fault.IngestFault.TheVariants.{Boxes, Core}
 use Rattle.hls_serve_laws.specs.declared.query.Moment.TheVariants.{Instant}
 use Rattle.hls_serve_laws.specs.declared.query.Query.{Query}
 use Rattle.hls_serve_laws.specs.declared.query.QueryFault.TheVariants.{BadQuery, BeforeEpoch}

@@ -1,5 +1,5 @@
 -- What one request comes to: the acts on the channel and on the table of jobs that it leads to, and the bytes that are due.
-use Rattle.std.specs.Prelude.{◌≡◌, ◌≢◌, ◌⊎◌, ℕ, Bool, true, false, not, cond, List, [], ◌∷◌, ◌++◌, length, Option, Some, None, Result, Ok, Err, codes}
+use Rattle.std.specs.Prelude.{◌≡◌, ◌≢◌, ◌⊎◌, ℕ, Bool, true, false, cond, List, [], ◌∷◌, ◌++◌, length, Option, Some, None, Result, Ok, Err, codes}
 use Rattle.std.specs.Option.{is_some}
 use Rattle.std.specs.Io.KnownBytes.{prepend_known}
 use Rattle.httparse.specs.Grammar.{RequestHead}
@@ -7,6 +7,8 @@ use Rattle.hls_core_laws.specs.declared.event.Event.TheVariants.{Finish}
 use Rattle.hls_core_laws.specs.declared.refusal.Refusal.{Refusal}
 use Rattle.hls_core_laws.specs.declared.refusal.Refusal.TheVariants.{Memory}
 use Rattle.hls_core_laws.specs.State.{State}
+use Rattle.hls_feed.specs.declared.fault.StreamFault.{StreamFault}
+use Rattle.hls_feed.specs.Names.{name_of}
 use Rattle.hls_turn.specs.declared.done.Done.{Done}
 use Rattle.hls_turn.specs.Passes.{Known}
 use Rattle.hls_turn.specs.Calls.{LookedOn, Looks, Submits}
@@ -24,7 +26,7 @@ use Rattle.hls_http_laws.specs.Heads.{ReadsSmall}
 use Rattle.hls_http_laws.specs.Fields.{values}
 use Rattle.hls_http_laws.specs.Range.{asked_of}
 use Rattle.hls_http_laws.specs.Requests.{begins, fields_of}
-use Rattle.hls_http_laws.specs.Order.{plan_by, continues, says_close, is_over}
+use Rattle.hls_http_laws.specs.Order.{plan_by, continues, says_close}
 use Rattle.hls_http_laws.specs.Reply.{continue_text, is_success, no_memory_to}
 use Rattle.hls_http.specs.declared.head.Method.{Method}
 use Rattle.hls_http.specs.declared.head.HeadEnd.{HeadEnd}
@@ -38,7 +40,6 @@ use Rattle.hls_http.specs.Drained.{Drops}
 use Rattle.hls_jobs.specs.declared.fault.JobFault.{JobFault}
 use Rattle.hls_jobs.specs.declared.fault.JobFault.TheVariants.{UnknownJob}
 use Rattle.hls_jobs.specs.declared.job.Job.{Job}
-use Rattle.hls_serve_laws.specs.declared.fault.IngestFault.{IngestFault}
 use Rattle.hls_serve_laws.specs.declared.ingest.Intake.{Intake}
 use Rattle.hls_serve_laws.specs.declared.ingest.Intake.TheVariants as came
 use Rattle.hls_serve_laws.specs.declared.query.Query.{Query}
@@ -48,7 +49,7 @@ use Rattle.hls_serve_laws.specs.declared.route.Route.{Route}
 use Rattle.hls_serve_laws.specs.declared.route.Route.TheVariants as routes
 use Rattle.hls_serve_laws.specs.declared.wanted.Wanted.{Wanted}
 use Rattle.hls_serve_laws.specs.Desks.{Desk}
-use Rattle.hls_serve_laws.specs.Faults.{name_of, status_of}
+use Rattle.hls_serve_laws.specs.Faults.{status_of}
 use Rattle.hls_serve_laws.specs.Ingest.{Ingests, Progress, counts_text}
 use Rattle.hls_serve_laws.specs.JobReplies.{added_answer, query_answer, file_answer, removed_answer, told_answer}
 use Rattle.hls_serve_laws.specs.Queries.{query_in, request_for, wanted_of}
@@ -230,23 +231,24 @@ abbrev pub taken_answer : Progress → Answer
 taken_answer y = text_answer statuses.Done (counts_text y.counts)
 
 -- the deepest fault's name, and what was taken before
-abbrev pub refused_answer : IngestFault → Progress → Answer
+abbrev pub refused_answer : StreamFault → Progress → Answer
 refused_answer fault y = text_answer (status_of fault) (codes "refused " ++ (name_of fault ++ (32 ∷ counts_text y.counts)))
 
--- a refusal at the body's last byte stands at its end
-abbrev pub IsFed : RequestHead → Plan → Body → Progress → Due → Result (Unit {0}) Intake → Type 0
-IsFed h plan last y due (Ok done) = IsDue h plan (taken_answer y) false due
-IsFed h plan last y due (Err (came.Refused fault)) = IsDue h plan (refused_answer fault y) (not (is_over last)) due
-IsFed h plan last y due (Err came.Memory) = due ≡ due_for_memory h plan
-IsFed h plan last y due (Err (came.Stopped end)) = IsDueAtStop h plan end due
+-- by whether more of a body is still to come behind what is refused
+abbrev pub IsFed : RequestHead → Plan → Bool → Progress → Due → Result (Unit {0}) Intake → Type 0
+IsFed h plan early y due (Ok done) = IsDue h plan (taken_answer y) false due
+IsFed h plan early y due (Err (came.Refused fault)) = IsDue h plan (refused_answer fault y) early due
+IsFed h plan early y due (Err came.Memory) = due ≡ due_for_memory h plan
+IsFed h plan early y due (Err (came.Stopped end)) = IsDueAtStop h plan end due
 
 pub record Feeds (h : RequestHead) (plan : Plan) (r : ℕ) (a : Known) (body : Body) (input : List ℕ) (due : Due) (b : Known) (held : List ℕ) (left : Option (List ℕ)) : Type 0 where
   pub last : Body
   pub progress : Progress
+  pub early : Bool
   pub result : Result (Unit {0}) Intake
-  pub ingests : Ingests r a body input last held left progress result
+  pub ingests : Ingests r a body input last held left progress early result
   pub known : b ≡ progress.known
-  pub fed : IsFed h plan last progress due result
+  pub fed : IsFed h plan early progress due result
 
 -- ---- a request
 

@@ -1,10 +1,14 @@
--- What an encoder's body comes to: its parts as events, one after the other, up to the first refusal.
-use Rattle.std.specs.Prelude.{◌≡◌, ◌≢◌, ◌⊎◌, ℕ, ◌+◌, min, List, [], ◌∷◌, ◌++◌, length, Option, Some, None, option_map, Result, Ok, Err, codes}
+-- What an encoder's body comes to: its parts as events, one after the other; by the whole of its content, all of them, or the shortest
+-- beginning that shows a refusal.
+use Rattle.std.specs.Prelude.{◌≡◌, ◌≢◌, ◌⊎◌, ℕ, nat_eq, ◌+◌, ◌<◌, min, Bool, false, not, List, [], ◌∷◌, ◌++◌, length, Option, Some, None, option_map, Result, Ok, Err, codes}
 use Rattle.std.specs.Fmt.{decimal}
 use Rattle.hls_boxes_laws.specs.declared.part.Part.{Part}
 use Rattle.hls_boxes_laws.specs.declared.part.Part.TheVariants as parts
-use Rattle.hls_boxes_laws.specs.declared.fault.BoxFault.{BoxFault}
-use Rattle.hls_boxes_laws.specs.Parts.{Refused as Broken, after_parts, cut_of, fault_at_end}
+use Rattle.hls_feed.specs.declared.fault.StreamFault.{StreamFault}
+use Rattle.hls_feed.specs.declared.fault.StreamFault.TheVariants.{Boxes, Media, Core}
+use Rattle.hls_feed.specs.declared.fault.Untaken.{Untaken}
+use Rattle.hls_feed.specs.declared.fault.Untaken.TheVariants as untaken
+use Rattle.hls_feed.specs.Streams.{EndsSo, IsTaken, Refuses as RefusesAt, Wants}
 use Rattle.hls_media_laws.specs.InitData.{InitData}
 use Rattle.hls_media_laws.specs.declared.facts.Facts.{Facts}
 use Rattle.hls_media_laws.specs.Meaning.{IsInit, IsUnit}
@@ -20,14 +24,12 @@ use Rattle.hls_turn.specs.declared.done.Done.TheVariants as done
 use Rattle.hls_turn.specs.Passes.{Known}
 use Rattle.hls_turn.specs.Calls.{LookedOn, Looks, Submits}
 use Rattle.hls_http_laws.specs.declared.body.Body.{Body}
-use Rattle.hls_http_laws.specs.declared.body.Body.TheVariants.{Length}
+use Rattle.hls_http_laws.specs.declared.body.Body.TheVariants.{Length, Size, Data, Trailers}
 use Rattle.hls_http_laws.specs.Bodies.{Goes}
 use Rattle.hls_http.specs.Bodies.{Stops}
 use Rattle.hls_serve_laws.specs.declared.ingest.Counts.{Counts}
 use Rattle.hls_serve_laws.specs.declared.ingest.Intake.{Intake}
 use Rattle.hls_serve_laws.specs.declared.ingest.Intake.TheVariants as came
-use Rattle.hls_serve_laws.specs.declared.fault.IngestFault.{IngestFault}
-use Rattle.hls_serve_laws.specs.declared.fault.IngestFault.TheVariants.{Boxes, Media, Core}
 
 -- ---- counts
 
@@ -101,15 +103,10 @@ abbrev pub Takes : ℕ → Progress → Part → Progress → Type 0
 Takes r x (parts.Init bytes) y = TakesInit r x bytes y
 Takes r x (parts.Unit bytes) y = TakesUnit r x bytes y
 
--- parts one after the other
-abbrev pub TakesAll : ℕ → Progress → List Part → Progress → Type 0
-TakesAll r x [] y = y ≡ x
-TakesAll r x (part ∷ others) y = (z : Progress) × Takes r x part z × TakesAll r z others y
-
 -- ---- refusals
 
 -- an init section that isn't good, or that the channel refuses
-abbrev pub RefusesInit : ℕ → Known → List ℕ → IngestFault → Known → Type 0
+abbrev pub RefusesInit : ℕ → Known → List ℕ → StreamFault → Known → Type 0
 RefusesInit r known bytes (Boxes fault) z = ⊥
 RefusesInit r known bytes (Media fault) z = (init_of bytes ≡ Err fault) × (z ≡ known)
 RefusesInit r known bytes (Core refusal) z =
@@ -130,104 +127,61 @@ pub record RefusesUnitAt (r : ℕ) (x : Progress) (bytes : List ℕ) (refusal : 
   pub told : refusal ≢ Memory
   pub submits : Submits looked (Accept r facts bytes) (Err refusal) z
 
-abbrev pub RefusesUnit : ℕ → Progress → List ℕ → IngestFault → Known → Type 0
+abbrev pub RefusesUnit : ℕ → Progress → List ℕ → StreamFault → Known → Type 0
 RefusesUnit r x bytes (Boxes fault) z = ⊥
 RefusesUnit r x bytes (Media fault) z = (init : InitData) × FindsInit r x init z × (facts init bytes ≡ Err fault)
 RefusesUnit r x bytes (Core refusal) z = IsTooEarly r x refusal z ⊎ RefusesUnitAt r x bytes refusal z
 
-abbrev pub Refuses : ℕ → Progress → Part → IngestFault → Known → Type 0
+abbrev pub Refuses : ℕ → Progress → Part → StreamFault → Known → Type 0
 Refuses r x (parts.Init bytes) fault z = RefusesInit r x.known bytes fault z
 Refuses r x (parts.Unit bytes) fault z = RefusesUnit r x bytes fault z
 
 -- what one part comes to: it is taken, or refused; want of memory leaves what the pass knows but for a later state seen
-abbrev pub PartComes : ℕ → Progress → Part → Progress → Result (Unit {0}) Intake → Type 0
+abbrev pub PartComes : ℕ → Progress → Part → Progress → Result (Unit {0}) Untaken → Type 0
 PartComes r x part y (Ok taken) = Takes r x part y
-PartComes r x part y (Err (came.Refused fault)) = Refuses r x part fault y.known × (y.counts ≡ x.counts)
-PartComes r x part y (Err came.Memory) = LookedOn x.known y.known
-PartComes r x part y (Err (came.Stopped end)) = ⊥
+PartComes r x part y (Err (untaken.Refused fault)) = Refuses r x part fault y.known × (y.counts ≡ x.counts)
+PartComes r x part y (Err untaken.Memory) = LookedOn x.known y.known
 
--- ---- what has come of a body's content
+-- ---- a body, by the whole of its content
 
--- the content's parts lead here, and `held` is still to be cut, whatever follows
-pub record Reached (r : ℕ) (start : Known) (content held : List ℕ) (y : Progress) : Type 0 where
-  pub parts : List Part
-  pub takes : TakesAll r (begun start) parts y
-  pub follows : (more : List ℕ) → cut_of (content ++ more) ≡ after_parts parts (cut_of (held ++ more))
+-- why no more is taken of a body of which more may come
+abbrev pub intake_of : Untaken → Intake
+intake_of (untaken.Refused fault) = came.Refused fault
+intake_of untaken.Memory = came.Memory
 
--- .. and nothing of `held` is a part, or shows a fault
-pub record IsCaughtUp (r : ℕ) (start : Known) (content : List ℕ) (y : Progress) : Type 0 where
-  pub held : List ℕ
-  pub reached : Reached r start content held y
-  pub no_part : (cut_of held).parts ≡ []
+-- whether a body ends behind so many bytes of its content: by length it may. In chunks it never does, since the last chunk's line and
+-- the trailers are still to come
+abbrev pub ends_at : Body → ℕ → Bool
+ends_at (Length n) size = nat_eq size n
+ends_at Size size = false
+ends_at (Data n) size = false
+ends_at Trailers size = false
 
--- so many parts of the text are taken; the next one is refused, or a box behind them shows a fault
-pub record IsRefusedNext (r : ℕ) (x : Progress) (text : List ℕ) (fault : IngestFault) (y : Progress) : Type 0 where
-  pub taken : List Part
-  pub last : Progress
-  pub takes : TakesAll r x taken last
-  pub part : Part
-  pub others : List ℕ → List Part
-  pub next : (more : List ℕ) → (cut_of (text ++ more)).parts ≡ taken ++ part ∷ others more
-  pub refuses : Refuses r last part fault y.known
-  pub counts : y.counts ≡ last.counts
-
-pub record IsBrokenNext (r : ℕ) (x : Progress) (text : List ℕ) (fault : IngestFault) (y : Progress) : Type 0 where
-  pub taken : List Part
-  pub takes : TakesAll r x taken y
-  pub box : BoxFault
-  pub fault_is : fault ≡ Boxes box
-  pub cut : cut_of text ≡ record { parts = taken; left = Broken box }
-
--- what was taken of the body has nothing refused but for its last piece, which is the body's last byte where that ends it
-pub record IsRefusedIn (r : ℕ) (start : Known) (content : List ℕ) (last : Body) (fault : IngestFault) (y : Progress) : Type 0 where
-  pub front : List ℕ
-  pub piece : List ℕ
-  pub split : content ≡ front ++ piece
-  pub short : last ≡ Length 0 → length piece ≡ 1
-  pub held : List ℕ
-  pub before : Progress
-  pub reached : Reached r start front held before
-  pub no_part : (cut_of held).parts ≡ []
-  pub shows : IsRefusedNext r before (held ++ piece) fault y ⊎ IsBrokenNext r before (held ++ piece) fault y
-
--- all of the content is taken, and it ends inside a part
-pub record IsTruncated (r : ℕ) (start : Known) (content : List ℕ) (last : Body) (fault : IngestFault) (y : Progress) : Type 0 where
+-- all of the content came, and its parts are taken: it is whole, or ends inside a part
+pub record IsEnded (r : ℕ) (start : Known) (content : List ℕ) (last : Body) (y : Progress) (result : Result (Unit {0}) StreamFault) : Type 0 where
   pub over : last ≡ Length 0
-  pub held : List ℕ
-  pub reached : Reached r start content held y
-  pub no_part : (cut_of held).parts ≡ []
-  pub box : BoxFault
-  pub fault_is : fault ≡ Boxes box
-  pub ends : fault_at_end (cut_of held).left ≡ Some box
+  pub taken : IsTaken (PartComes r) (begun start) content y
+  pub ends : EndsSo content result
 
--- all of the content is taken, and nothing is missing
-pub record IsAllTaken (r : ℕ) (start : Known) (content : List ℕ) (last : Body) (y : Progress) : Type 0 where
-  pub over : last ≡ Length 0
-  pub held : List ℕ
-  pub reached : Reached r start content held y
-  pub no_part : (cut_of held).parts ≡ []
-  pub whole : fault_at_end (cut_of held).left ≡ None
+-- the first `size` bytes of the content, and no fewer, show a refusal: what stands behind them is never looked at. Less came of it than
+-- a source's buffer holds
+pub record IsRefusedAt (size : ℕ) (r : ℕ) (start : Known) (content : List ℕ) (fault : StreamFault) (y : Progress) : Type 0 where
+  pub refuses : RefusesAt (PartComes r) (begun start) content size fault y
+  pub few : length content < size + 65536
 
--- memory was wanted: some parts are taken, and then perhaps a later state is seen
-pub record IsWanting (r : ℕ) (start : Known) (content : List ℕ) (y : Progress) : Type 0 where
-  pub taken : List Part
-  pub others : List ℕ → List Part
-  pub front : (more : List ℕ) → (cut_of (content ++ more)).parts ≡ taken ++ others more
-  pub last : Progress
-  pub takes : TakesAll r (begun start) taken last
-  pub looked : LookedOn last.known y.known
-
--- what the body comes to, of which so much content was taken; a piece that shows a refusal may hold a box's fault and more
-abbrev pub BodyComes : ℕ → Known → List ℕ → Body → List ℕ → Option (List ℕ) → Progress → Result (Unit {0}) Intake → Type 0
-BodyComes r start content last held left y (Ok done) = IsAllTaken r start content last y
-BodyComes r start content last held left y (Err (came.Refused fault)) =
-    IsTruncated r start content last fault y ⊎ IsRefusedIn r start content last fault y
-BodyComes r start content last held left y (Err came.Memory) = IsWanting r start content y
-BodyComes r start content last held left y (Err (came.Stopped end)) = IsCaughtUp r start content y × Stops last held left end
+-- what the body comes to, of which so much content came, and whether more of it is still to come behind what is refused: Truncated
+-- stands at the body's end, and every other refusal where it shows. Where no more of the body comes, all that came was taken
+abbrev pub BodyComes : ℕ → Known → Body → List ℕ → Body → List ℕ → Option (List ℕ) → Progress → Bool → Result (Unit {0}) Intake → Type 0
+BodyComes r start body content last held left y early (Ok done) = IsEnded r start content last y (Ok done)
+BodyComes r start body content last held left y early (Err (came.Refused fault)) =
+    (IsEnded r start content last y (Err fault) × (early ≡ false))
+    ⊎ ((size : ℕ) × IsRefusedAt size r start content fault y × (early ≡ not (ends_at body size)))
+BodyComes r start body content last held left y early (Err came.Memory) = Wants (PartComes r) (begun start) content y
+BodyComes r start body content last held left y early (Err (came.Stopped end)) = IsTaken (PartComes r) (begun start) content y × Stops last held left end
 
 -- a body whose parts are taken as they come, from where its head ended
 pub record Ingests (r : ℕ) (start : Known) (body : Body) (input : List ℕ) (last : Body) (held : List ℕ) (left : Option (List ℕ))
-    (y : Progress) (result : Result (Unit {0}) Intake) : Type 0 where
+    (y : Progress) (early : Bool) (result : Result (Unit {0}) Intake) : Type 0 where
   pub content : List ℕ
   pub goes : Goes body input content last held left
-  pub comes : BodyComes r start content last held left y result
+  pub comes : BodyComes r start body content last held left y early result

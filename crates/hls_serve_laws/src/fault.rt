@@ -1,24 +1,13 @@
-//! Why an encoder's body is refused.
+//! The statuses of what an encoder's body is refused for.
 
 ghost use Rattle.std.specs.Prelude.{◌≡◌};
 ghost use Rattle.hls_serve_laws.specs.Faults as spec;
-ghost use Rattle.hls_serve_laws.specs.Faults.{name_of, status_of};
 
 use hls_boxes_laws::fault::BoxFault;
 use hls_core_laws::refusal::Refusal;
+use hls_feed::StreamFault;
 use hls_http_laws::reply::Status;
 use hls_media_laws::fault::MediaFault;
-
-/// Why an encoder's body is refused: by its boxes, by what a part of it says, or by the channel's state.
-#[derive(Clone, Copy, Debug, PartialEq, Eq, Drop)]
-pub enum IngestFault {
-    /// The body is no stream of boxes, or ends inside a part.
-    Boxes(BoxFault),
-    /// A part is no good init section or no good unit.
-    Media(MediaFault),
-    /// The channel refuses a part.
-    Core(Refusal),
-}
 
 /// A part that is too large is 413, want of memory 503, and every other fault of boxes 400.
 fn box_status(fault: BoxFault) -> Status
@@ -65,26 +54,13 @@ pub fn core_status(refusal: Refusal) -> Status
     }
 }
 
-impl IngestFault {
-    /// The name of the deepest fault, as replies print it.
-    pub fn name(&self) -> &'static str
-        ensures { result.now ≡ name_of self.now }
-    {
-        match self {
-            IngestFault::Boxes(fault) => fault.name(),
-            IngestFault::Media(fault) => fault.name(),
-            IngestFault::Core(refusal) => refusal.name(),
-        }
-    }
-
-    /// The status of its reply.
-    pub fn status(self) -> Status
-        ensures { result ≡ status_of self }
-    {
-        match self {
-            IngestFault::Boxes(fault) => box_status(fault),
-            IngestFault::Media(fault) => media_status(fault),
-            IngestFault::Core(refusal) => core_status(refusal),
-        }
+/// The status of the reply to an encoder's body that is refused.
+pub fn status_of(fault: StreamFault) -> Status
+    ensures { result ≡ spec.status_of fault }
+{
+    match fault {
+        StreamFault::Boxes(fault) => box_status(fault),
+        StreamFault::Media(fault) => media_status(fault),
+        StreamFault::Core(refusal) => core_status(refusal),
     }
 }

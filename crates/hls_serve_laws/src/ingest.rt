@@ -1,6 +1,9 @@
 //! What is told of an encoder's body.
 
-use crate::fault::IngestFault;
+ghost use Rattle.std.specs.Prelude.{◌≡◌};
+ghost use Rattle.hls_serve_laws.specs.Ingest.{intake_of};
+
+use hls_feed::{StreamFault, Untaken};
 use hls_http::BodyEnd;
 
 /// How many parts of a body were taken.
@@ -18,9 +21,20 @@ pub struct Counts {
 #[derive(Clone, Copy, Debug, PartialEq, Eq, Drop)]
 pub enum Intake {
     /// It is refused.
-    Refused(IngestFault),
+    Refused(StreamFault),
     /// Memory was wanted.
     Memory,
     /// No more of it comes.
     Stopped(BodyEnd),
+}
+
+impl From<Untaken> for Intake {
+    ghost from_gives = { λ untaken intake. intake ≡ intake_of untaken };
+
+    fn from(untaken: Untaken) -> Intake {
+        match untaken {
+            Untaken::Refused(fault) => Intake::Refused(fault),
+            Untaken::Memory => Intake::Memory,
+        }
+    }
 }
