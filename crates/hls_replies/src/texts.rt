@@ -3,7 +3,8 @@
 ghost use Rattle.std.specs.Prelude.{◌≡◌, ◌++◌, ◌∷◌, codes, string_bytes, IfOk};
 ghost use Rattle.hls_http_laws.specs.Reply.{refusal};
 ghost use Rattle.hls_core_laws.specs.RefusalName as core_names;
-ghost use Rattle.hls_serve_laws.specs.Faults.{core_status, name_of, status_of};
+ghost use Rattle.hls_feed.specs.Names.{name_of};
+ghost use Rattle.hls_serve_laws.specs.Faults.{core_status, status_of};
 ghost use Rattle.hls_serve_laws.specs.Ingest.{counts_text};
 ghost use Rattle.hls_serve_laws.specs.Replies as spec;
 ghost use Rattle.hls_serve_laws.specs.Replies.{text_answer};
@@ -11,10 +12,11 @@ ghost use Rattle.hls_serve_laws.specs.Routes.{methods_of};
 
 use crate::answer::Answer;
 use hls_core_laws::refusal::Refusal;
+use hls_feed::StreamFault;
 use hls_http::refusal_body;
 use hls_http_laws::fault::HttpFault;
 use hls_http_laws::reply::{Extra, Kind, Status};
-use hls_serve_laws::fault::{IngestFault, core_status};
+use hls_serve_laws::fault::{core_status, status_of};
 use hls_serve_laws::ingest::Counts;
 use hls_serve_laws::route::Route;
 use hls_turn::Done;
@@ -114,7 +116,7 @@ pub fn taken_answer(alloc: Global, counts: Counts) -> Result<Answer, AllocError>
 /// An encoder's body of which a part was refused: `refused Overlap init 1 accepted 4 repeated 0`, with what was taken before.
 pub fn refused_answer(
     alloc: Global,
-    fault: IngestFault,
+    fault: StreamFault,
     counts: Counts,
 ) -> Result<Answer, AllocError>
     ensures { IfOk result (λ a. a ≡ text_answer (status_of fault) (codes "refused " ++ (name_of fault ++ (32 ∷ counts_text counts)))) }
@@ -124,5 +126,5 @@ pub fn refused_answer(
     body.push(b' ')?;
     let counts = counts_text(alloc, counts)?;
     body.extend_from_slice(counts.as_bytes())?;
-    Ok(text_answer(fault.status(), body))
+    Ok(text_answer(status_of(fault), body))
 }

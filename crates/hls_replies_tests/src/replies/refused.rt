@@ -3,6 +3,7 @@
 
 use hls_core::snapshot::Snapshot;
 use hls_core_laws::refusal::Refusal;
+use hls_feed::StreamFault;
 use hls_http::{Session, SessionEnd};
 use hls_http_laws::fault::HttpFault;
 use hls_http_laws::range::Asked;
@@ -12,7 +13,6 @@ use hls_replies::{
     read_query, refused_answer, send, status_answer, taken_answer,
 };
 use hls_sample_channels::{opened, with_units};
-use hls_serve_laws::fault::IngestFault;
 use hls_serve_laws::ingest::Counts;
 use hls_serve_laws::query::{Moment, Query};
 use hls_serve_laws::route::Route;
@@ -109,7 +109,7 @@ fn answer(alloc: Global, snapshot: &Arc<Snapshot>, act: Act) -> Result<Answer, A
         Act::Part => part(alloc, snapshot, Asked::Between(0, 7)),
         Act::Outside => part(alloc, snapshot, Asked::From(2600)),
         Act::Taken => taken_answer(alloc, COUNTS),
-        Act::Refused => refused_answer(alloc, IngestFault::Core(Refusal::RecordingFull), COUNTS),
+        Act::Refused => refused_answer(alloc, StreamFault::Core(Refusal::RecordingFull), COUNTS),
         Act::Finished => finish_answer(alloc, Ok(Done::Repeat)),
         Act::Full => finish_answer(alloc, Err(Refusal::LedgerFull)),
         Act::Method => method_answer(alloc, Route::Status),
