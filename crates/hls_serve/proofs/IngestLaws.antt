@@ -1,23 +1,26 @@
 -- A body taken piece by piece.
-use Rattle.std.proofs.Common.{◌≡◌, ◌∙◌, ℕ, zero, suc, inl, inr, List, [], ◌++◌, length, Option, Some, Result, Ok, Err, refl, sym, ap, subst, append_assoc, append-nil}
+use Rattle.std.proofs.Common.{◌≡◌, ◌∙◌, ℕ, zero, suc, ◌+◌, ◌<◌, ◌≤◌, Bool, false, not, nat_eq, inl, inr, List, [], ◌++◌, length, Option, Some, None, Result, Ok, Err, refl, sym, ap, subst, arith, append_assoc, append-nil, length-append}
+use Rattle.std.proofs.lemmas.Bool.{eq-eqb, ne_eqb}
 use Rattle.hls_boxes_laws.specs.declared.part.Part.{Part}
-use Rattle.hls_boxes_laws.specs.Parts.{Cut, after_parts, cut_of}
+use Rattle.hls_boxes_laws.specs.Parts.{text_fault}
+use Rattle.hls_feed.specs.declared.fault.StreamFault.{StreamFault}
+use Rattle.hls_feed.specs.declared.fault.Untaken.{Untaken}
+use Rattle.hls_feed.specs.declared.fault.Untaken.TheVariants as untaken
+use Rattle.hls_feed.specs.Streams.{EndsSo, FeedsBehind, IsLeft, Reached, Refuses}
+use Rattle.hls_feed.proofs.FeedLaws.{reached_none}
 use Rattle.hls_http_laws.specs.declared.body.Body.{Body}
-use Rattle.hls_http_laws.specs.declared.body.Body.TheVariants.{Length}
+use Rattle.hls_http_laws.specs.declared.body.Body.TheVariants.{Length, Size, Data, Trailers}
 use Rattle.hls_http_laws.specs.Bodies.{RunsIn, Runs, Goes}
+use Rattle.hls_http_laws.specs.Order.{is_over}
 use Rattle.hls_http.specs.declared.body.BodyEnd.{BodyEnd}
 use Rattle.hls_http.specs.declared.body.Given.TheVariants.{Piece, Over}
-use Rattle.hls_http.specs.Bodies.{Passes}
-use Rattle.hls_http.proofs.BodySteps.{goes_none}
+use Rattle.hls_http.specs.Bodies.{IsLastAlone, Passes}
+use Rattle.hls_http.proofs.BodySteps.{Leaves, goes_none, runs_leave}
 use Rattle.hls_http.proofs.HeadLaws.{known_left}
 use Rattle.hls_turn.specs.Passes.{Known}
 use Rattle.hls_serve_laws.specs.declared.ingest.Intake.{Intake}
 use Rattle.hls_serve_laws.specs.declared.ingest.Intake.TheVariants as came
-use Rattle.hls_serve_laws.specs.Ingest.{Progress, Reached, Ingests, BodyComes, IsWanting, begun}
-use Rattle.hls_serve.specs.Taken.{IsSettled, TakenFrom, TakesIn, WantsIn}
-use Rattle.hls_serve.specs.Counted.{EndsBody}
-use Rattle.hls_serve.specs.Ingesting.{Ingesting}
-use Rattle.hls_serve.proofs.PartLaws.{takes_append}
+use Rattle.hls_serve_laws.specs.Ingest.{BodyComes, Progress, Ingests, PartComes, begun, ends_at, intake_of}
 
 -- ---- a body's steps, joined
 
@@ -43,101 +46,135 @@ goes_on : (b middle last : Body) (input got held now : List ℕ) (old left : Opt
 goes_on b middle last input got held now old left g next =
     subst (λ (c : List ℕ). Goes b input c last now left) (append-nil got) (goes_join b middle last input got held now [] old left g next)
 
+-- ---- where a refusal stands
+
+-- no bytes by length are left of a body in chunks
+chunks_go_on : (middle last : Body) → ((n : ℕ) → middle ≡ Length (suc n) → ⊥) → IsLastAlone middle last → is_over last ≡ false
+chunks_go_on middle (Length zero) never alone = absurd (never 0 (alone refl))
+chunks_go_on middle (Length (suc n)) never alone = ne_eqb (suc n) 0 (λ is. omega (arith, is))
+chunks_go_on middle Size never alone = refl
+chunks_go_on middle (Data n) never alone = refl
+chunks_go_on middle Trailers never alone = refl
+
+-- what shows in a piece stands at the end of a body by length where that piece is its last byte, and before it in any other
+length_ends : (n before after size left : ℕ) (middle last : Body) → Leaves (Length n) before middle → last ≡ Length left → after + left ≡ n → IsLastAlone middle last
+    → before < size → size ≤ after → is_over last ≡ nat_eq size n
+length_ends n before after size zero middle last l is count alone behind within =
+    let one : l.0 ≡ 1 = same l.0 1 (sym l.1 ∙ alone is) in
+    ap is_over is ∙ sym (eq-eqb size n (omega (arith, one, l.2, count, behind, within)))
+  where
+    same : (n m : ℕ) → Length n ≡ Length m → n ≡ m
+    same n m is = cc
+length_ends n before after size (suc k) middle last l is count alone behind within =
+    ap is_over is ∙ ne_eqb (suc k) 0 (λ none. omega (arith, none)) ∙ sym (ne_eqb size n (λ same. omega (arith, same, count, within)))
+
+ends_so : (b middle last : Body) (before after size : ℕ) → Leaves b before middle → Leaves b after last → IsLastAlone middle last → before < size → size ≤ after → is_over last ≡ ends_at b size
+ends_so (Length n) middle last before after size l later alone behind within = length_ends n before after size later.0 middle last l later.1 later.2 alone behind within
+ends_so Size middle last before after size l later alone behind within = chunks_go_on middle last l alone
+ends_so (Data n) middle last before after size l later alone behind within = chunks_go_on middle last l alone
+ends_so Trailers middle last before after size l later alone behind within = chunks_go_on middle last l alone
+
+within_of : {S : Type 0} {Comes : S → Part → S → Result (Unit {0}) Untaken → Type 0} (start y : S) (content : List ℕ) (size : ℕ) (fault : StreamFault) → Refuses Comes start content size fault y → size ≤ length content
+within_of start y content size fault (inl part) = part.shows.within
+within_of start y content size fault (inr box) = box.shows.within
+
 -- ---- the beginning
+
+-- so much of a body's content came and is taken, and `text` is still to be cut
+pub record Ingesting (r : ℕ) (start : Known) (b : Body) (input : List ℕ) (last : Body) (held : List ℕ) (left : Option (List ℕ)) (text : List ℕ) (y : Progress) : Type 0 where
+  pub content : List ℕ
+  pub goes : Goes b input content last held left
+  pub reached : Reached (PartComes r) (begun start) content text y
 
 pub ingesting_none : (r : ℕ) (start : Known) (b : Body) (held rest : List ℕ) (left : Option (List ℕ)) (text : List ℕ) (y : Progress) → left ≡ Some rest → text ≡ [] → y ≡ begun start
     → Ingesting r start b (held ++ rest) b held left text y
 ingesting_none r start b held rest left text y known empty fresh =
-    let at : Reached r start [] [] (begun start) = record { parts = []; takes = refl; follows = λ more. refl } in
-    let here = subst (λ (xs : List ℕ). Reached r start [] xs (begun start)) (sym empty) at in record {
+    let here = subst (λ (xs : List ℕ). Reached (PartComes r) (begun start) [] xs (begun start)) (sym empty) (reached_none (PartComes r) (begun start)) in record {
       content = [];
       goes = goes_none b held rest left known;
-      reached = subst (λ (p : Progress). Reached r start [] text p) (sym fresh) here;
+      reached = subst (λ (p : Progress). Reached (PartComes r) (begun start) [] text p) (sym fresh) here;
     }
 
 -- ---- a piece more
-
-cut_on : (content text piece held more : List ℕ) (ps qs : List Part) → ((later : List ℕ) → cut_of (content ++ later) ≡ after_parts ps (cut_of (text ++ later)))
-    → cut_of ((text ++ piece) ++ more) ≡ after_parts qs (cut_of (held ++ more)) → cut_of ((content ++ piece) ++ more) ≡ after_parts (ps ++ qs) (cut_of (held ++ more))
-cut_on content text piece held more ps qs follows next =
-    ap cut_of (append_assoc content piece more) ∙ follows (piece ++ more) ∙ ap (λ xs. after_parts ps (cut_of xs)) (sym (append_assoc text piece more))
-    ∙ ap (after_parts ps) next
-    ∙ ap (λ (all : List Part). record { parts = all; left = (cut_of (held ++ more)).left }) (sym (append_assoc ps qs (cut_of (held ++ more)).parts))
-
-reached_on : (r : ℕ) (start : Known) (content text piece held : List ℕ) (y z : Progress) → Reached r start content text y → TakenFrom r y (text ++ piece) held z → Reached r start (content ++ piece) held z
-reached_on r start content text piece held y z h t = record {
-  parts = h.parts ++ t.parts;
-  takes = takes_append r h.parts t.parts (begun start) y z h.takes t.takes;
-  follows = λ more. cut_on content text piece held more h.parts t.parts h.follows (t.follows more);
-}
 
 -- what a call for the next piece brought
 abbrev pub Brought : Body → List ℕ → Option (List ℕ) → Body → List ℕ → List ℕ → Option (List ℕ) → Type 0
 Brought middle held old last piece now left = (rest : List ℕ) → old ≡ Some rest → Passes middle (held ++ rest) last piece now left (Ok Piece)
 
-pub ingesting_more : (r : ℕ) (start : Known) (b middle last : Body) (input held now text piece next : List ℕ) (old left : Option (List ℕ)) (y z : Progress)
-    → Ingesting r start b input middle held old text y → Brought middle held old last piece now left → TakenFrom r y (text ++ piece) next z → Ingesting r start b input last now left next z
-ingesting_more r start b middle last input held now text piece next old left y z h brought taken = record {
-  content = h.content ++ piece;
-  goes = goes_join b middle last input h.content held now piece old left h.goes (λ rest known. (brought rest known).1);
-  reached = reached_on r start h.content text piece next y z h.reached taken;
-}
+-- what its taking came to, behind whatever content came before
+abbrev pub Fed : ℕ → Known → List ℕ → Progress → List ℕ → List ℕ → Progress → Result (Unit {0}) Untaken → Type 0
+Fed r start text y piece next z result =
+    (content : List ℕ) → Reached (PartComes r) (begun start) content text y → FeedsBehind (PartComes r) (begun start) content piece next z result
 
-wanting : (r : ℕ) (start : Known) (content text piece : List ℕ) (y z : Progress) → Reached r start content text y → WantsIn r y (text ++ piece) z → IsWanting r start (content ++ piece) z
-wanting r start content text piece y z h w = record {
-  taken = h.parts ++ w.taken;
-  others = w.others;
-  front = λ more.
-      ap (λ xs. (cut_of xs).parts) (append_assoc content piece more) ∙ ap (λ (c : Cut). c.parts) (h.follows (piece ++ more))
-      ∙ ap (λ xs. h.parts ++ (cut_of xs).parts) (sym (append_assoc text piece more)) ∙ ap (λ (ps : List Part). h.parts ++ ps) (w.front more)
-      ∙ sym (append_assoc h.parts w.taken (w.others more));
-  last = w.last;
-  takes = takes_append r h.parts w.taken (begun start) y w.last h.takes w.takes;
-  looked = w.looked;
+goes_more : (b middle last : Body) (input got held now piece : List ℕ) (old left : Option (List ℕ)) → Goes b input got middle held old → Brought middle held old last piece now left
+    → Goes b input (got ++ piece) last now left
+goes_more b middle last input got held now piece old left g brought = goes_join b middle last input got held now piece old left g (λ rest known. (brought rest known).1)
+
+pub ingesting_more : (r : ℕ) (start : Known) (b middle last : Body) (input held now text piece next : List ℕ) (old left : Option (List ℕ)) (y z : Progress)
+    → Ingesting r start b input middle held old text y → Brought middle held old last piece now left → Fed r start text y piece next z (Ok tt) → Ingesting r start b input last now left next z
+ingesting_more r start b middle last input held now text piece next old left y z h brought fed = record {
+  content = h.content ++ piece;
+  goes = goes_more b middle last input h.content held now piece old left h.goes brought;
+  reached = fed h.content h.reached;
 }
 
 -- .. that isn't taken in whole
-pub ingest_refused : (r : ℕ) (start : Known) (b middle last : Body) (input held now text piece next : List ℕ) (old left : Option (List ℕ)) (y z : Progress) (intake : Intake)
-    → Ingesting r start b input middle held old text y → IsSettled text → Brought middle held old last piece now left → (last ≡ Length 0 → length piece ≡ 1)
-    → TakesIn r y (text ++ piece) next z (Err intake) → Ingests r start b input last now left z (Err intake)
-ingest_refused r start b middle last input held now text piece next old left y z (came.Refused fault) h settled brought short stops = record {
+pub ingest_untaken : (r : ℕ) (start : Known) (b middle last : Body) (input held now text piece next : List ℕ) (old left : Option (List ℕ)) (y z : Progress) (untaken : Untaken)
+    → Ingesting r start b input middle held old text y → Brought middle held old last piece now left → length piece ≤ 65536 → Fed r start text y piece next z (Err untaken)
+    → Ingests r start b input last now left z (not (is_over last)) (Err (intake_of untaken))
+ingest_untaken r start b middle last input held now text piece next old left y z (untaken.Refused fault) h brought few fed =
+    let goes = goes_more b middle last input h.content held now piece old left h.goes brought in
+    let w = known_left held old h.goes.later h.goes.known in
+    let refused = fed h.content h.reached in
+    let within = within_of (begun start) z (h.content ++ piece) refused.size fault refused.refuses in
+    let ends = ends_so b middle last (length h.content) (length (h.content ++ piece)) refused.size (runs_leave b middle input h.content h.goes.later h.goes.runs)
+    (runs_leave b last input (h.content ++ piece) goes.later goes.runs) (brought w.rest w.left_is).2 refused.behind within in record {
+      content = h.content ++ piece;
+      goes = goes;
+      comes = inr (
+        refused.size,
+        record { refuses = refused.refuses; few = omega (arith, refused.behind, few, length-append h.content piece) },
+        ap not ends,
+      );
+    }
+ingest_untaken r start b middle last input held now text piece next old left y z untaken.Memory h brought few fed = record {
   content = h.content ++ piece;
-  goes = goes_join b middle last input h.content held now piece old left h.goes (λ rest known. (brought rest known).1);
-  comes = inr (record { front = h.content; piece = piece; split = refl; short = short; held = text; before = y; reached = h.reached; no_part = settled.no_part; shows = stops });
+  goes = goes_more b middle last input h.content held now piece old left h.goes brought;
+  comes = fed h.content h.reached;
 }
-ingest_refused r start b middle last input held now text piece next old left y z came.Memory h settled brought short stops = record {
-  content = h.content ++ piece;
-  goes = goes_join b middle last input h.content held now piece old left h.goes (λ rest known. (brought rest known).1);
-  comes = wanting r start h.content text piece y z h.reached stops;
-}
-ingest_refused r start b middle last input held now text piece next old left y z (came.Stopped end) h settled brought short stops = absurd stops
 
 -- ---- the end
 
-end_comes : (r : ℕ) (start : Known) (content text : List ℕ) (last : Body) (held : List ℕ) (left : Option (List ℕ)) (y : Progress) (result : Result (Unit {0}) Intake)
-    → Reached r start content text y → IsSettled text → last ≡ Length 0 → EndsBody text result → BodyComes r start content last held left y result
-end_comes r start content text last held left y (Ok done) h settled over ends =
-    record { over = over; held = text; reached = h; no_part = settled.no_part; whole = ends }
-end_comes r start content text last held left y (Err intake) h settled over (box, is, ends) =
-    subst (λ (i : Intake). BodyComes r start content last held left y (Err i)) (sym is)
-    (inl (record { over = over; held = text; reached = h; no_part = settled.no_part; box = box; fault_is = refl; ends = ends }))
+-- what the end of the stream comes to, whatever content came before
+abbrev pub Ended : List ℕ → Result (Unit {0}) StreamFault → Type 0
+Ended text result = (content : List ℕ) → text_fault content ≡ None → IsLeft content text → EndsSo content result
 
-pub ingest_over : (r : ℕ) (start : Known) (b middle last : Body) (input held now text piece : List ℕ) (old left : Option (List ℕ)) (y : Progress) (result : Result (Unit {0}) Intake)
-    → Ingesting r start b input middle held old text y → IsSettled text → ((rest : List ℕ) → old ≡ Some rest → Passes middle (held ++ rest) last piece now left (Ok Over))
-    → EndsBody text result → Ingests r start b input last now left y result
-ingest_over r start b middle last input held now text piece old left y result h settled passes ends =
-    let w = known_left held old h.goes.later h.goes.known in record {
+abbrev pub at_end : Result (Unit {0}) StreamFault → Result (Unit {0}) Intake
+at_end (Ok done) = Ok done
+at_end (Err fault) = Err (came.Refused fault)
+
+pub ingest_over : (r : ℕ) (start : Known) (b middle last : Body) (input held now text piece : List ℕ) (old left : Option (List ℕ)) (y : Progress) (result : Result (Unit {0}) StreamFault)
+    → Ingesting r start b input middle held old text y → ((rest : List ℕ) → old ≡ Some rest → Passes middle (held ++ rest) last piece now left (Ok Over)) → Ended text result
+    → Ingests r start b input last now left y (not (is_over last)) (at_end result)
+ingest_over r start b middle last input held now text piece old left y result h passes ends =
+    let w = known_left held old h.goes.later h.goes.known in
+    let over : last ≡ Length 0 = (passes w.rest w.left_is).0 in
+    let at = ends h.content h.reached.taken.no_fault h.reached.left in record {
       content = h.content;
       goes = goes_on b middle last input h.content held now old left h.goes (λ rest known. (passes rest known).1);
-      comes = end_comes r start h.content text last now left y result h.reached settled (passes w.rest w.left_is).0 ends;
+      comes = told over result at;
     }
+  where
+    told : last ≡ Length 0 → (result : Result (Unit {0}) StreamFault) → EndsSo h.content result → BodyComes r start b h.content last now left y (not (is_over last)) (at_end result)
+    told over (Ok done) at = record { over = over; taken = h.reached.taken; ends = at }
+    told over (Err fault) at = inl (record { over = over; taken = h.reached.taken; ends = at }, ap (λ x. not (is_over x)) over)
 
-pub ingest_stopped : (r : ℕ) (start : Known) (b middle last : Body) (input held now text piece : List ℕ) (old left : Option (List ℕ)) (y : Progress) (end : BodyEnd)
-    → Ingesting r start b input middle held old text y → IsSettled text → ((rest : List ℕ) → old ≡ Some rest → Passes middle (held ++ rest) last piece now left (Err end))
-    → Ingests r start b input last now left y (Err (came.Stopped end))
-ingest_stopped r start b middle last input held now text piece old left y end h settled passes =
+pub ingest_stopped : (r : ℕ) (start : Known) (b middle last : Body) (input held now text piece : List ℕ) (old left : Option (List ℕ)) (y : Progress) (early : Bool) (end : BodyEnd)
+    → Ingesting r start b input middle held old text y → ((rest : List ℕ) → old ≡ Some rest → Passes middle (held ++ rest) last piece now left (Err end))
+    → Ingests r start b input last now left y early (Err (came.Stopped end))
+ingest_stopped r start b middle last input held now text piece old left y early end h passes =
     let w = known_left held old h.goes.later h.goes.known in record {
       content = h.content;
       goes = goes_on b middle last input h.content held now old left h.goes (λ rest known. (passes rest known).0);
-      comes = (record { held = text; reached = h.reached; no_part = settled.no_part }, (passes w.rest w.left_is).1);
+      comes = (h.reached.taken, (passes w.rest w.left_is).1);
     }

@@ -1,5 +1,4 @@
 mod IngestLaws
-mod PartLaws
 mod PassLaws
 mod SessionLaws
 mod TurnLaws

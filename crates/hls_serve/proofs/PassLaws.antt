@@ -19,9 +19,9 @@ use Rattle.hls_turn.specs.declared.done.Done.{Done}
 use Rattle.hls_turn.specs.Passes.{Known}
 use Rattle.hls_turn.specs.Calls.{Answers, LookedOn, Submits}
 use Rattle.hls_boxes_laws.specs.declared.part.Part.TheVariants as parts
-use Rattle.hls_serve_laws.specs.declared.fault.IngestFault.{IngestFault}
-use Rattle.hls_serve_laws.specs.declared.ingest.Intake.{Intake}
-use Rattle.hls_serve_laws.specs.declared.ingest.Intake.TheVariants as came
+use Rattle.hls_feed.specs.declared.fault.StreamFault.{StreamFault}
+use Rattle.hls_feed.specs.declared.fault.Untaken.{Untaken}
+use Rattle.hls_feed.specs.declared.fault.Untaken.TheVariants as untaken
 use Rattle.hls_serve_laws.specs.Ingest.{Progress, FindsInit, PartComes, RefusesUnit}
 use Rattle.hls_serve.specs.Taken.{Finds, HasInit, IsUsable, told_as}
 
@@ -91,12 +91,11 @@ unit_refused r x y bytes init z f q finds is counts s =
     (inr (record { init = init; looked = z; finds = finds; facts = f; reads = is; told = λ e. cc; submits = s }), counts)
 
 -- what is no init section yet is no unit's
-pub unit_without_init : (r : ℕ) (x y : Progress) (bytes : List ℕ) (intake : Intake) → Finds r x y (Err intake) → PartComes r x (parts.Unit bytes) y (Err intake)
-unit_without_init r x y bytes (came.Refused fault) h =
-    let P : IngestFault → Type 0 = λ e. RefusesUnit r x bytes e y.known × (y.counts ≡ x.counts) in
+pub unit_without_init : (r : ℕ) (x y : Progress) (bytes : List ℕ) (stops : Untaken) → Finds r x y (Err stops) → PartComes r x (parts.Unit bytes) y (Err stops)
+unit_without_init r x y bytes (untaken.Refused fault) h =
+    let P : StreamFault → Type 0 = λ e. RefusesUnit r x bytes e y.known × (y.counts ≡ x.counts) in
     subst P (sym h.1) (inl h.2, h.0)
-unit_without_init r x y bytes came.Memory h = h
-unit_without_init r x y bytes (came.Stopped end) h = absurd h
+unit_without_init r x y bytes untaken.Memory h = h
 
 pub looked_self : (k : Known) → LookedOn k k
 looked_self k = record { number = refl; follows = follows_itself k.seen; mine = refl }

@@ -17,12 +17,12 @@ use Rattle.hls_core_laws.specs.declared.event.Event.TheVariants.{Finish}
 use Rattle.hls_core_laws.specs.declared.refusal.Refusal.{Refusal}
 use Rattle.hls_core_laws.specs.declared.refusal.Refusal.TheVariants.{Memory}
 use Rattle.hls_core_laws.specs.State.{State}
+use Rattle.hls_feed.specs.declared.fault.StreamFault.{StreamFault}
 use Rattle.hls_turn.specs.declared.done.Done.{Done as Moved}
 use Rattle.hls_turn.specs.Passes.{Known}
 use Rattle.hls_turn.specs.Calls.{LookedOn, Looks, Submits}
 use Rattle.hls_jobs.specs.declared.fault.JobFault.{JobFault}
 use Rattle.hls_jobs.specs.declared.job.Job.{Job}
-use Rattle.hls_serve_laws.specs.declared.fault.IngestFault.{IngestFault}
 use Rattle.hls_serve_laws.specs.declared.ingest.Counts.{Counts}
 use Rattle.hls_serve_laws.specs.declared.route.Route.{Route}
 use Rattle.hls_serve_laws.specs.Desks.{Desk}
@@ -112,7 +112,7 @@ pub taken_due : {E : Type 0} (h : RequestHead) (plan : Plan) (y : Progress) (cou
 taken_due h plan y counts made due same is =
     due_is h plan (taken_answer y) false made due (subst (λ (c : Counts). IfOk made (λ x. x ≡ text_answer Done (counts_text c))) (sym same) is)
 
-pub refused_due : {E : Type 0} (h : RequestHead) (plan : Plan) (y : Progress) (counts : Counts) (fault : IngestFault) (early : Bool) (made : Result Answer E) (due : Due) → y.counts ≡ counts
+pub refused_due : {E : Type 0} (h : RequestHead) (plan : Plan) (y : Progress) (counts : Counts) (fault : StreamFault) (early : Bool) (made : Result Answer E) (due : Due) → y.counts ≡ counts
     → IfOk made (λ x. x ≡ refused_answer fault (record { known = y.known; init = y.init; counts = counts }))
     → IsMade (first_of h plan) made (says_close h early) (to_head h) due → IsDue h plan (refused_answer fault y) early due
 refused_due h plan y counts fault early made due same is =

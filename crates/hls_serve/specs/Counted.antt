@@ -1,7 +1,5 @@
--- Failures counted, and the end of a body.
-use Rattle.std.specs.Prelude.{◌≡◌, ℕ, List, Some, None, Result, Ok, Err}
-use Rattle.hls_boxes_laws.specs.Parts.{cut_of, fault_at_end}
-use Rattle.hls_boxes_laws.specs.declared.fault.BoxFault.{BoxFault}
+-- Failures counted.
+use Rattle.std.specs.Prelude.{◌≡◌, ℕ, Result, Ok, Err}
 use Rattle.hls_io.specs.Counted.{failures_of}
 use Rattle.hls_io.specs.Rose.{Rose}
 use Rattle.hls_http_laws.specs.declared.end.SessionEnd.{SessionEnd}
@@ -11,7 +9,6 @@ use Rattle.hls_http.specs.Bodies.{CountsEnd}
 use Rattle.hls_http.specs.Source.{read_failures}
 use Rattle.hls_serve_laws.specs.declared.ingest.Intake.{Intake}
 use Rattle.hls_serve_laws.specs.declared.ingest.Intake.TheVariants as came
-use Rattle.hls_serve_laws.specs.declared.fault.IngestFault.TheVariants.{Boxes}
 
 -- a failure of the reader is told only where one was counted
 abbrev pub CountsIngest : Result (Unit {0}) Intake → ℕ → ℕ → Type 0
@@ -19,11 +16,6 @@ CountsIngest (Ok done) old new = new ≡ old
 CountsIngest (Err (came.Refused fault)) old new = new ≡ old
 CountsIngest (Err came.Memory) old new = new ≡ old
 CountsIngest (Err (came.Stopped end)) old new = CountsEnd end old new
-
--- at its end a body is whole, or shows the fault of what is left
-abbrev pub EndsBody : List ℕ → Result (Unit {0}) Intake → Type 0
-EndsBody held (Ok done) = fault_at_end (cut_of held).left ≡ None
-EndsBody held (Err intake) = (box : BoxFault) × (intake ≡ came.Refused (Boxes box)) × (fault_at_end (cut_of held).left ≡ Some box)
 
 -- a session's end tells of a failure only where one was counted, and of no other
 abbrev pub CountsSession : SessionEnd → ℕ → ℕ → ℕ → ℕ → Type 0

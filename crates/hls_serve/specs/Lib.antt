@@ -1,9 +1,7 @@
 pub mod Answering
 pub mod Counted
 pub mod Exchanges
-pub mod Ingesting
 pub mod Meanwhile
 pub mod Owned
-pub mod Pieces
 pub mod Taken
 pub mod Turns

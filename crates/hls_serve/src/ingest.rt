@@ -3,20 +3,19 @@
 ghost use Rattle.std.specs.Prelude.{◌≡◌, None};
 ghost use Rattle.hls_http.specs.Source.{read_failures};
 ghost use Rattle.hls_serve_laws.specs.Ingest.{PartComes, begun, no_counts, with_init as after_init, with_unit as after_unit};
-ghost use Rattle.hls_serve.specs.Taken.{Finds, IsSettled, IsUsable, TakesBody, TakesOn, TakesOut, progress_of, told_as};
-ghost use Rattle.hls_serve.specs.Counted.{CountsIngest, EndsBody};
+ghost use Rattle.hls_serve.specs.Taken.{Finds, IsUsable, TakesBody, progress_of, told_as};
+ghost use Rattle.hls_serve.specs.Counted.{CountsIngest};
 
 use crate::keeper::Keeper;
-use crate::piece::next_piece;
 use bytes::Bytes;
-use hls_boxes::{BoxFault, Part, UnitReader};
+use hls_boxes::{Part, UnitReader};
 use hls_core_laws::event::Event;
 use hls_core_laws::refusal::Refusal;
-use hls_http::{Body, Given, Source};
+use hls_feed::{StreamFault, Taker, Untaken, end, feed};
+use hls_http::{Body, Given, Source, read_body};
 use hls_media::{read_facts, read_init};
 use hls_media_laws::fault::MediaFault;
 use hls_media_laws::init::Init;
-use hls_serve_laws::fault::IngestFault;
 use hls_serve_laws::ingest::{Counts, Intake};
 use hls_turn::Done;
 use std::alloc::Global;
@@ -83,212 +82,148 @@ fn with_unit(counts: Counts, done: Done) -> Counts
 }
 
 /// What a refused event is told as.
-fn refused(refusal: Refusal) -> Intake
+fn refused(refusal: Refusal) -> Untaken
     ensures { result ≡ told_as refusal }
 {
     match refusal {
-        Refusal::Memory => Intake::Memory,
-        _ => Intake::Refused(IngestFault::Core(refusal)),
+        Refusal::Memory => Untaken::Memory,
+        _ => Untaken::Refused(StreamFault::Core(refusal)),
     }
 }
 
-/// Takes an init section.
-fn take_init<K: Keeper, T: Wait>(
-    rt: &T,
-    alloc: Global,
-    keeper: &K,
-    pass: &mut K::Pass,
-    rendition: usize,
-    taken: &mut Taken,
-    bytes: Bytes,
-) -> Result<(), Intake>
-    requires serves { K.serves keeper.now pass.old }
-    requires usable { IsUsable rendition (progress_of (K.known pass.old) taken.old) }
-    ensures serves { K.serves keeper.now pass.new }
-    ensures usable { IsUsable rendition (progress_of (K.known pass.new) taken.new) }
-    ensures comes { PartComes rendition (progress_of (K.known pass.old) taken.old) (Part.Init bytes) (progress_of (K.known pass.new) taken.new) result }
-{
-    let init = match read_init(alloc, &bytes) {
-        Ok(init) => init,
-        Err(MediaFault::Memory) => return Err(Intake::Memory),
-        Err(fault) => return Err(Intake::Refused(IngestFault::Media(fault))),
-    };
-    let event = Event::Begin {
-        rendition,
-        init,
-        bytes,
-    };
-    match keeper.submit(rt, alloc, pass, event) {
-        Ok(done) => {
-            taken.counts = with_init(taken.counts, done);
-            Ok(())
-        }
-        Err(refusal) => Err(refused(refusal)),
-    }
+/// Takes the parts of a rendition's encoder into a channel, by its keeper.
+#[derive(Drop)]
+pub struct Encoder<'a, K, T> {
+    /// By what it waits.
+    pub rt: &'a T,
+    /// Where memory is taken.
+    pub alloc: Global,
+    /// Who keeps the channel.
+    pub keeper: &'a K,
+    /// The rendition.
+    pub rendition: usize,
 }
 
-/// Finds the rendition's init section, by a look where it wasn't looked for yet.
-fn find_init<K: Keeper, T: Wait>(
-    rt: &T,
-    alloc: Global,
-    keeper: &K,
-    pass: &mut K::Pass,
-    rendition: usize,
-    taken: &mut Taken,
-) -> Result<(), Intake>
-    requires serves { K.serves keeper.now pass.old }
-    requires usable { IsUsable rendition (progress_of (K.known pass.old) taken.old) }
-    ensures serves { K.serves keeper.now pass.new }
-    ensures usable { IsUsable rendition (progress_of (K.known pass.new) taken.new) }
-    ensures finds { Finds rendition (progress_of (K.known pass.old) taken.old) (progress_of (K.known pass.new) taken.new) result }
-{
-    if taken.init.is_some() {
-        return Ok(());
-    }
-    let Ok(state) = keeper.look(rt, alloc, pass) else {
-        return Err(Intake::Memory);
-    };
-    let Some(recording) = state.recording(rendition) else {
-        return Err(Intake::Refused(IngestFault::Core(Refusal::NoInit)));
-    };
-    let Ok(init) = recording.init().share() else {
-        return Err(Intake::Memory);
-    };
-    taken.init = Some(init);
-    Ok(())
-}
-
-/// Takes a unit.
-fn take_unit<K: Keeper, T: Wait>(
-    rt: &T,
-    alloc: Global,
-    keeper: &K,
-    pass: &mut K::Pass,
-    rendition: usize,
-    taken: &mut Taken,
-    bytes: Bytes,
-) -> Result<(), Intake>
-    requires serves { K.serves keeper.now pass.old }
-    requires usable { IsUsable rendition (progress_of (K.known pass.old) taken.old) }
-    ensures serves { K.serves keeper.now pass.new }
-    ensures usable { IsUsable rendition (progress_of (K.known pass.new) taken.new) }
-    ensures comes { PartComes rendition (progress_of (K.known pass.old) taken.old) (Part.Unit bytes) (progress_of (K.known pass.new) taken.new) result }
-{
-    match find_init(rt, alloc, keeper, pass, rendition, taken) {
-        Ok(()) => {}
-        Err(intake) => return Err(intake),
-    }
-    let Some(init) = &taken.init else {
-        unreachable!()
-    };
-    let facts = match read_facts(init, &bytes) {
-        Ok(facts) => facts,
-        Err(fault) => return Err(Intake::Refused(IngestFault::Media(fault))),
-    };
-    let event = Event::Accept {
-        rendition,
-        facts,
-        bytes,
-    };
-    match keeper.submit(rt, alloc, pass, event) {
-        Ok(done) => {
-            taken.counts = with_unit(taken.counts, done);
-            Ok(())
-        }
-        Err(refusal) => Err(refused(refusal)),
-    }
-}
-
-/// Takes a part.
-fn take_part<K: Keeper, T: Wait>(
-    rt: &T,
-    alloc: Global,
-    keeper: &K,
-    pass: &mut K::Pass,
-    rendition: usize,
-    taken: &mut Taken,
-    part: Part,
-) -> Result<(), Intake>
-    requires serves { K.serves keeper.now pass.old }
-    requires usable { IsUsable rendition (progress_of (K.known pass.old) taken.old) }
-    ensures serves { K.serves keeper.now pass.new }
-    ensures usable { IsUsable rendition (progress_of (K.known pass.new) taken.new) }
-    ensures comes { PartComes rendition (progress_of (K.known pass.old) taken.old) part (progress_of (K.known pass.new) taken.new) result }
-{
-    match part {
-        Part::Init(bytes) => take_init(rt, alloc, keeper, pass, rendition, taken, bytes),
-        Part::Unit(bytes) => take_unit(rt, alloc, keeper, pass, rendition, taken, bytes),
-    }
-}
-
-/// Takes all whole parts of what was fed.
-fn take_parts<K: Keeper, T: Wait>(
-    rt: &T,
-    alloc: Global,
-    keeper: &K,
-    pass: &mut K::Pass,
-    rendition: usize,
-    taken: &mut Taken,
-    reader: &mut UnitReader,
-) -> Result<(), Intake>
-    requires serves { K.serves keeper.now pass.old }
-    requires usable { IsUsable rendition (progress_of (K.known pass.old) taken.old) }
-    ensures serves { K.serves keeper.now pass.new }
-    ensures usable { IsUsable rendition (progress_of (K.known pass.new) taken.new) }
-    ensures takes { TakesOut rendition (progress_of (K.known pass.old) taken.old) reader.old reader.new (progress_of (K.known pass.new) taken.new) result }
-{
-    loop {
-        let part = match reader.take() {
-            Ok(Some(part)) => part,
-            Ok(None) => return Ok(()),
-            Err(_) => return Err(Intake::Memory),
+impl<'a, K: Keeper, T: Wait> Encoder<'a, K, T> {
+    /// Takes an init section.
+    fn take_init(
+        &self,
+        taken: &mut Taken,
+        pass: &mut K::Pass,
+        bytes: Bytes,
+    ) -> Result<(), Untaken>
+        requires serves { K.serves self.now.keeper.now pass.old }
+        requires usable { IsUsable self.now.rendition (progress_of (K.known pass.old) taken.old) }
+        ensures serves { K.serves self.now.keeper.now pass.new }
+        ensures usable { IsUsable self.now.rendition (progress_of (K.known pass.new) taken.new) }
+        ensures comes { PartComes self.now.rendition (progress_of (K.known pass.old) taken.old) (Part.Init bytes)
+            (progress_of (K.known pass.new) taken.new) result }
+    {
+        let init = match read_init(self.alloc, &bytes) {
+            Ok(init) => init,
+            Err(MediaFault::Memory) => return Err(Untaken::Memory),
+            Err(fault) => return Err(Untaken::Refused(StreamFault::Media(fault))),
         };
-        match take_part(rt, alloc, keeper, pass, rendition, taken, part) {
+        let event = Event::Begin {
+            rendition: self.rendition,
+            init,
+            bytes,
+        };
+        match self.keeper.submit(self.rt, self.alloc, pass, event) {
+            Ok(done) => {
+                taken.counts = with_init(taken.counts, done);
+                Ok(())
+            }
+            Err(refusal) => Err(refused(refusal)),
+        }
+    }
+
+    /// Finds the rendition's init section, by a look where it wasn't looked for yet.
+    fn find_init(&self, taken: &mut Taken, pass: &mut K::Pass) -> Result<(), Untaken>
+        requires serves { K.serves self.now.keeper.now pass.old }
+        requires usable { IsUsable self.now.rendition (progress_of (K.known pass.old) taken.old) }
+        ensures serves { K.serves self.now.keeper.now pass.new }
+        ensures usable { IsUsable self.now.rendition (progress_of (K.known pass.new) taken.new) }
+        ensures finds { Finds self.now.rendition (progress_of (K.known pass.old) taken.old)
+            (progress_of (K.known pass.new) taken.new) result }
+    {
+        if taken.init.is_some() {
+            return Ok(());
+        }
+        let Ok(state) = self.keeper.look(self.rt, self.alloc, pass) else {
+            return Err(Untaken::Memory);
+        };
+        let Some(recording) = state.recording(self.rendition) else {
+            return Err(Untaken::Refused(StreamFault::Core(Refusal::NoInit)));
+        };
+        let Ok(init) = recording.init().share() else {
+            return Err(Untaken::Memory);
+        };
+        taken.init = Some(init);
+        Ok(())
+    }
+
+    /// Takes a unit.
+    fn take_unit(
+        &self,
+        taken: &mut Taken,
+        pass: &mut K::Pass,
+        bytes: Bytes,
+    ) -> Result<(), Untaken>
+        requires serves { K.serves self.now.keeper.now pass.old }
+        requires usable { IsUsable self.now.rendition (progress_of (K.known pass.old) taken.old) }
+        ensures serves { K.serves self.now.keeper.now pass.new }
+        ensures usable { IsUsable self.now.rendition (progress_of (K.known pass.new) taken.new) }
+        ensures comes { PartComes self.now.rendition (progress_of (K.known pass.old) taken.old) (Part.Unit bytes)
+            (progress_of (K.known pass.new) taken.new) result }
+    {
+        match self.find_init(taken, pass) {
             Ok(()) => {}
-            Err(intake) => return Err(intake),
+            Err(untaken) => return Err(untaken),
+        }
+        let Some(init) = &taken.init else {
+            unreachable!()
+        };
+        let facts = match read_facts(init, &bytes) {
+            Ok(facts) => facts,
+            Err(fault) => return Err(Untaken::Refused(StreamFault::Media(fault))),
+        };
+        let event = Event::Accept {
+            rendition: self.rendition,
+            facts,
+            bytes,
+        };
+        match self.keeper.submit(self.rt, self.alloc, pass, event) {
+            Ok(done) => {
+                taken.counts = with_unit(taken.counts, done);
+                Ok(())
+            }
+            Err(refusal) => Err(refused(refusal)),
         }
     }
 }
 
-/// Takes in the next piece of a body, up to the first refusal.
-fn take_in<K: Keeper, T: Wait>(
-    rt: &T,
-    alloc: Global,
-    keeper: &K,
-    pass: &mut K::Pass,
-    rendition: usize,
-    taken: &mut Taken,
-    reader: &mut UnitReader,
-    piece: &[u8],
-) -> Result<(), Intake>
-    requires serves { K.serves keeper.now pass.old }
-    requires usable { IsUsable rendition (progress_of (K.known pass.old) taken.old) }
-    requires settled { IsSettled reader.old }
-    ensures serves { K.serves keeper.now pass.new }
-    ensures usable { IsUsable rendition (progress_of (K.known pass.new) taken.new) }
-    ensures takes { TakesOn rendition (progress_of (K.known pass.old) taken.old) reader.old piece.now reader.new
-        (progress_of (K.known pass.new) taken.new) result }
-{
-    let fault = match reader.feed(piece) {
-        Ok(()) => return take_parts(rt, alloc, keeper, pass, rendition, taken, reader),
-        Err(fault) => fault,
-    };
-    match fault {
-        BoxFault::Memory => Err(Intake::Memory),
-        _ => match take_parts(rt, alloc, keeper, pass, rendition, taken, reader) {
-            Ok(()) => Err(Intake::Refused(IngestFault::Boxes(fault))),
-            Err(earlier) => Err(earlier),
-        },
-    }
-}
+impl<'a, K: Keeper, T: Wait> Taker for Encoder<'a, K, T> {
+    ghost use Rattle.hls_serve_laws.specs.Ingest.{Progress as ProgressOf};
 
-/// What the end of a body comes to.
-fn end(reader: &UnitReader) -> Result<(), Intake>
-    ensures { EndsBody reader.now result }
-{
-    match reader.finish() {
-        Ok(()) => Ok(()),
-        Err(fault) => Err(Intake::Refused(IngestFault::Boxes(fault))),
+    type Kept = Taken;
+
+    type Channel = K::Pass;
+
+    ghost Progress = { ProgressOf };
+
+    ghost progress = { λ taken pass. progress_of (K.known pass) taken };
+
+    ghost fits = { λ encoder taken pass.
+        K.serves encoder.keeper.now pass × IsUsable encoder.rendition (progress_of (K.known pass) taken) };
+
+    ghost comes = { λ encoder. PartComes encoder.rendition };
+
+    fn take(&self, taken: &mut Taken, pass: &mut K::Pass, part: Part) -> Result<(), Untaken> {
+        match part {
+            Part::Init(bytes) => self.take_init(taken, pass, bytes),
+            Part::Unit(bytes) => self.take_unit(taken, pass, bytes),
+        }
     }
 }
 
@@ -312,25 +247,21 @@ pub fn ingest<K: Keeper, T: Wait, R: Read>(
         (progress_of (K.known pass.new) taken.new) result }
     ensures counts { CountsIngest result (read_failures source.old) (read_failures source.new) }
 {
+    let encoder = Encoder {
+        rt,
+        alloc,
+        keeper,
+        rendition,
+    };
     let mut reader = UnitReader::new(alloc);
     for _ in rt.forever() {
-        match next_piece(source, body) {
-            Ok(Given::Piece) => {}
-            Ok(Given::Over) => return end(&reader),
+        match read_body(source, body) {
+            Ok(Given::Piece) => feed(&mut reader, &encoder, taken, pass, source.taken())?,
+            Ok(Given::Over) => match end(&reader) {
+                Ok(()) => return Ok(()),
+                Err(fault) => return Err(Intake::Refused(fault)),
+            },
             Err(stop) => return Err(Intake::Stopped(stop)),
-        }
-        match take_in(
-            rt,
-            alloc,
-            keeper,
-            pass,
-            rendition,
-            taken,
-            &mut reader,
-            source.taken(),
-        ) {
-            Ok(()) => {}
-            Err(intake) => return Err(intake),
         }
     }
     unreachable!()

@@ -12,7 +12,6 @@ pub mod ingest;
 pub mod keeper;
 pub mod news;
 pub mod path;
-pub mod piece;
 mod reply;
 mod request;
 mod respond;

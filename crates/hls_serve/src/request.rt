@@ -1,12 +1,12 @@
 //! One request, from its head to its reply.
 
-ghost use Rattle.std.specs.Prelude.{◌≡◌, ◌≤◌, ℕ, List, Some, false};
+ghost use Rattle.std.specs.Prelude.{◌≡◌, ◌≤◌, ℕ, List, Some, false, not};
 ghost use Rattle.std.specs.Option.{is_some};
 ghost use Rattle.hls_io.specs.Counted.{failures_of};
 ghost use Rattle.hls_io.specs.Streams.{ToOutput};
 ghost use Rattle.hls_io.specs.Writing.{CountsWrite};
 ghost use Rattle.hls_http_laws.specs.declared.body.Body.{Body as BodyState};
-ghost use Rattle.hls_http_laws.specs.Order.{plan_by};
+ghost use Rattle.hls_http_laws.specs.Order.{is_over as over_by, plan_by};
 ghost use Rattle.hls_http.specs.Drained.{CountsDrop, announced_by};
 ghost use Rattle.hls_core_laws.specs.IsState.{IsState};
 ghost use Rattle.hls_replies.specs.Playlists.{lists};
@@ -59,7 +59,7 @@ fn fed<K: Keeper, R, W: Write>(
     intake: Result<(), Intake>,
 ) -> Result<(), SessionEnd>
     ensures fed { (y : Progress) → y.counts ≡ counts
-        → RepliesTo W.contents call.now session.old session.new (λ h plan due. IsFed h plan last y due intake) result }
+        → RepliesTo W.contents call.now session.old session.new (λ h plan due. IsFed h plan (not (over_by last)) y due intake) result }
     ensures counts { CountsBehind (CountsIngest intake) session.old session.new result }
     ensures source { session.new.source ≡ session.old.source }
 {

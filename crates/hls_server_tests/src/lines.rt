@@ -1,9 +1,9 @@
 //! The operator's lines.
 
 use hls_boxes_laws::fault::BoxFault;
+use hls_feed::StreamFault;
 use hls_http::{BodyEnd, Method};
 use hls_http_laws::reply::Status;
-use hls_serve_laws::fault::IngestFault;
 use hls_serve_laws::ingest::{Counts, Intake};
 use hls_serve_laws::route::Route;
 use hls_server::{Ingest, Limits, Name, Names, Request};
@@ -34,7 +34,7 @@ fn a_body_that_ended(rt: HostRuntime) -> Result<(), Fail> {
     let done = ended(Ok(()));
     let line = "ingest v720 from 10.0.0.7:5000: done init 1 accepted 12 repeated 3";
     assert_eq!(rt; format!(in alloc; "{done}")?.as_str(), line);
-    let refused = ended(Err(Intake::Refused(IngestFault::Boxes(BoxFault::Truncated))));
+    let refused = ended(Err(Intake::Refused(StreamFault::Boxes(BoxFault::Truncated))));
     let line = "ingest v720 from 10.0.0.7:5000: refused Truncated init 1 accepted 12 repeated 3";
     assert_eq!(rt; format!(in alloc; "{refused}")?.as_str(), line);
     let cut = ended(Err(Intake::Stopped(BodyEnd::CutShort)));

@@ -1,5 +1,6 @@
-use Rattle.std.proofs.Common.{◌++◌, refl, sym}
+use Rattle.std.proofs.Common.{◌++◌, not, refl, sym}
 use Rattle.hls_http_laws.specs.declared.plan.Plan.TheVariants.{Feed}
+use Rattle.hls_http_laws.specs.Order.{is_over}
 use Rattle.hls_http.specs.Source.{held_of, reader_of}
 use Rattle.hls_serve_laws.specs.Heard.{Feeds}
 use Rattle.hls_serve.specs.Taken.{progress_of}
@@ -18,6 +19,7 @@ returns-clause-feeds g c = λ count h input out call known there.
       is = record {
         last = c.ingest-intake.new.body;
         progress = progress;
+        early = not (is_over c.ingest-intake.new.body);
         result = c.ingest-intake.result;
         ingests = c.ingest-intake.ensures.ingests input known;
         known = refl;
