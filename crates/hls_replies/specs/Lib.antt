@@ -1,3 +1,2 @@
-pub mod Playlists
 pub mod Contents
 pub mod Sends

@@ -3,7 +3,7 @@
 ghost use Rattle.std.specs.Prelude.{◌≡◌, IfOk, option_map};
 ghost use Rattle.hls_serve_laws.specs.Replies as spec;
 ghost use Rattle.hls_serve_laws.specs.Replies.{playlist_answer};
-ghost use Rattle.hls_replies.specs.Playlists.{lists, live_text};
+ghost use Rattle.hls_serve_laws.specs.Playlists.{live_master_text, live_text};
 
 use crate::answer::Answer;
 use crate::texts::fault_answer;
@@ -50,14 +50,14 @@ pub fn list_answer(
     snapshot: &Snapshot,
     rendition: usize,
 ) -> Result<Answer, AllocError>
-    ensures { IfOk result (λ a. a ≡ spec.list_answer (lists.live snapshot.now rendition)) }
+    ensures { IfOk result (λ a. a ≡ spec.list_answer (live_text snapshot.now rendition)) }
 {
     playlist_or_none(alloc, live_text(alloc, snapshot, rendition)?)
 }
 
 /// The master playlist of the live lists.
 pub fn master_answer(alloc: Global, snapshot: &Snapshot) -> Result<Answer, AllocError>
-    ensures { IfOk result (λ a. a ≡ playlist_answer (lists.master snapshot.now)) }
+    ensures { IfOk result (λ a. a ≡ playlist_answer (live_master_text snapshot.now)) }
 {
     let list = live_master(alloc, snapshot)?;
     let text = write_master(alloc, &list)?;

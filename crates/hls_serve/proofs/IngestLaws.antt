@@ -2,7 +2,7 @@
 use Rattle.std.proofs.Common.{◌≡◌, ◌∙◌, ℕ, zero, suc, ◌+◌, ◌<◌, ◌≤◌, Bool, false, not, nat_eq, inl, inr, List, [], ◌++◌, length, Option, Some, None, Result, Ok, Err, refl, sym, ap, subst, arith, append_assoc, append-nil, length-append}
 use Rattle.std.proofs.lemmas.Bool.{eq-eqb, ne_eqb}
 use Rattle.hls_boxes_laws.specs.declared.part.Part.{Part}
-use Rattle.hls_boxes_laws.specs.Parts.{text_fault}
+use Rattle.hls_boxes_laws.specs.Parts.{cut_of, text_fault}
 use Rattle.hls_feed.specs.declared.fault.StreamFault.{StreamFault}
 use Rattle.hls_feed.specs.declared.fault.Untaken.{Untaken}
 use Rattle.hls_feed.specs.declared.fault.Untaken.TheVariants as untaken
@@ -141,6 +141,22 @@ ingest_untaken r start b middle last input held now text piece next old left y z
   content = h.content ++ piece;
   goes = goes_more b middle last input h.content held now piece old left h.goes brought;
   comes = fed h.content h.reached;
+}
+
+-- of which no more is taken
+pub ingest_left : (r : ℕ) (start : Known) (b last : Body) (input held text : List ℕ) (left : Option (List ℕ)) (y : Progress) (early : Bool)
+    → Ingesting r start b input last held left text y → Ingests r start b input last held left y early (Err came.Memory)
+ingest_left r start b last input held text left y early h = record {
+  content = h.content;
+  goes = h.goes;
+  comes = record {
+    taken = (cut_of h.content).parts;
+    others = [];
+    front = sym (append-nil (cut_of h.content).parts);
+    last = y;
+    takes = h.reached.taken.takes;
+    wants = refl;
+  };
 }
 
 -- ---- the end

@@ -23,12 +23,13 @@ use Rattle.hls_turn.specs.Passes.{Known}
 use Rattle.hls_turn.specs.Calls.{LookedOn, Looks, Submits}
 use Rattle.hls_jobs.specs.declared.fault.JobFault.{JobFault}
 use Rattle.hls_jobs.specs.declared.job.Job.{Job}
+use Rattle.hls_jobs.specs.Shared.{HasCounted}
+use Rattle.hls_serve_laws.specs.JobTable.{IsTold}
 use Rattle.hls_serve_laws.specs.declared.ingest.Counts.{Counts}
 use Rattle.hls_serve_laws.specs.declared.route.Route.{Route}
-use Rattle.hls_serve_laws.specs.Desks.{Desk}
-use Rattle.hls_serve_laws.specs.Heard.{Asks, Due, Reply, Silence, Finishes, IsDue, IsSkipped, Serves, ServesAllowed, ServesBy, ServesJob, ShowsJob, ShowsStatus, due_for, first_of, job_at, to_head, taken_answer, refused_answer}
+use Rattle.hls_serve_laws.specs.Heard.{Asks, Due, Reply, Request, Silence, Finishes, IsDue, IsSkipped, Serves, ServesAllowed, ServesBy, ServesJob, ShowsJob, ShowsStatus, due_for, first_of, job_at, to_head, taken_answer, refused_answer}
 use Rattle.hls_serve_laws.specs.Ingest.{Progress, counts_text}
-use Rattle.hls_serve_laws.specs.Replies.{Answer, Lists, answer_text, fault_answer, finish_answer, status_answer, text_answer}
+use Rattle.hls_serve_laws.specs.Replies.{Answer, answer_text, fault_answer, finish_answer, status_answer, text_answer}
 use Rattle.hls_serve_laws.specs.Routes.{allows, removes}
 use Rattle.hls_replies.specs.Sends.{Sends}
 use Rattle.hls_serve.specs.Turns.{Settles, IsMade, IsRefusedHead, IsResponse, Makes, WritesFirst, memory_due, reply_due}
@@ -123,12 +124,13 @@ pub wanting_due : {E : Type 0} (e : E) (first : List ℕ) (closing head : Bool) 
 wanting_due e first closing head due (inl p) = p
 wanting_due e first closing head due (inr p) = p
 
-pub skipped_due : {E : Type 0} (lists : Lists) (desk : Desk) (h : RequestHead) (q : Asks) (route : Route) (plan : Plan) (a b : Known) (made : Result Answer E) (due : Due)
-    → Makes (IsResponse lists desk q route a b) a b made → IsMade (first_of h plan) made (says_close h false) (to_head h) due → IsSkipped lists desk h q route plan a b due (Ok tt)
-skipped_due lists desk h q route plan a b (Ok x) due made is = (Some x, made, is)
-skipped_due lists desk h q route plan a b (Err e) due (inl looked) is = (None, looked, inr (wanting_due e (first_of h plan) (says_close h false) (to_head h) due is))
-skipped_due lists desk h q route plan a b (Err e) due (inr made) is =
-    (Some made.0, made.1, inr (wanting_due e (first_of h plan) (says_close h false) (to_head h) due is))
+pub skipped_due : {E : Type 0} (request : Request) (route : Route) (a b : Known) (made : Result Answer E) (due : Due) → Makes (IsResponse request.asks route a b) a b made
+    → IsMade (first_of request.head request.plan) made (says_close request.head false) (to_head request.head) due → IsSkipped request route a b due (Ok tt)
+skipped_due request route a b (Ok x) due made is = (Some x, made, is)
+skipped_due request route a b (Err e) due (inl looked) is =
+    (None, looked, inr (wanting_due e (first_of request.head request.plan) (says_close request.head false) (to_head request.head) due is))
+skipped_due request route a b (Err e) due (inr made) is =
+    (Some made.0, made.1, inr (wanting_due e (first_of request.head request.plan) (says_close request.head false) (to_head request.head) due is))
 
 -- a refused head's reply closes the session, and is no success
 pub refused_head_due : {E : Type 0} (fault : HttpFault) (made : Result Answer E) (due : Due) → is_success (fault_status fault) ≡ false → IfOk made (λ x. x ≡ fault_answer fault)
@@ -171,24 +173,24 @@ pub finish_made : {E : Type 0} (a b : Known) (r : ℕ) (done : Result Moved Refu
 finish_made a b r done (Ok x) submits told same = (done, submits, told, same)
 finish_made a b r done (Err e) submits told same = inr (finish_answer done, (done, submits, told, refl))
 
-pub response_made : {E : Type 0} (lists : Lists) (desk : Desk) (q : Asks) (route : Route) (a b : Known) (made : Result Answer E) → job_at route ≡ None → allows route q.method ≡ true
-    → Makes (λ answer. Serves lists desk q route a answer b) a b made → Makes (IsResponse lists desk q route a b) a b made
-response_made lists desk q route a b made of_none allowed serves =
-    subst (λ (job : Option ℕ). Makes (λ answer. ServesBy lists desk q route a answer b job) a b made) (sym of_none)
-    (subst (λ (m : Bool). Makes (λ answer. ServesAllowed lists desk q route a answer b m) a b made) (sym allowed) serves)
+pub response_made : {E : Type 0} (q : Asks) (route : Route) (a b : Known) (made : Result Answer E) → job_at route ≡ None → allows route q.method ≡ true
+    → Makes (λ answer. Serves q route a answer b) a b made → Makes (IsResponse q route a b) a b made
+response_made q route a b made of_none allowed serves =
+    subst (λ (job : Option ℕ). Makes (λ answer. ServesBy q route a answer b job) a b made) (sym of_none)
+    (subst (λ (m : Bool). Makes (λ answer. ServesAllowed q route a answer b m) a b made) (sym allowed) serves)
 
-pub job_made : {E : Type 0} (lists : Lists) (desk : Desk) (q : Asks) (route : Route) (id : ℕ) (a b : Known) (made : Result Answer E) → job_at route ≡ Some id → b ≡ a
-    → IfOk made (λ x. ServesJob desk q route id x (removes route q.method)) → Makes (IsResponse lists desk q route a b) a b made
-job_made lists desk q route id a b (Ok x) of_job same serves =
-    subst (λ (job : Option ℕ). ServesBy lists desk q route a x b job) (sym of_job) (same, serves)
-job_made lists desk q route id a b (Err e) of_job same serves = inl (subst (λ (k : Known). LookedOn a k) (sym same) (looked_self a))
+pub job_made : {E : Type 0} (q : Asks) (route : Route) (id : ℕ) (a b : Known) (made : Result Answer E) → job_at route ≡ Some id → b ≡ a
+    → IfOk made (λ x. ServesJob q route id x (removes route q.method)) → Makes (IsResponse q route a b) a b made
+job_made q route id a b (Ok x) of_job same serves =
+    subst (λ (job : Option ℕ). ServesBy q route a x b job) (sym of_job) (same, serves)
+job_made q route id a b (Err e) of_job same serves = inl (subst (λ (k : Known). LookedOn a k) (sym same) (looked_self a))
 
-pub status_made : {E : Type 0} (desk : Desk) (a b : Known) (s : State) (jobs : ℕ) (made : Result Answer E) → Looks a s b → desk.counts jobs
-    → IfOk made (λ x. x ≡ status_answer s jobs) → Makes (ShowsStatus desk a b) a b made
-status_made desk a b s jobs (Ok x) looks counts is = (jobs, counts, (s, looks, is))
-status_made desk a b s jobs (Err e) looks counts is = inl looks.looked
+pub status_made : {E : Type 0} (a b : Known) (s : State) (jobs : ℕ) (made : Result Answer E) → Looks a s b → HasCounted jobs
+    → IfOk made (λ x. x ≡ status_answer s jobs) → Makes (ShowsStatus a b) a b made
+status_made a b s jobs (Ok x) looks counts is = (jobs, counts, (s, looks, is))
+status_made a b s jobs (Err e) looks counts is = inl looks.looked
 
-pub shown_job : {E : Type 0} (desk : Desk) (id : ℕ) (shown : Job → Option Answer) (told : Result Job JobFault) (job : Job) (made : Result Answer E) → told ≡ Ok job → desk.tells id told
-    → IfOk made (λ a. Some a ≡ shown job) → IfOk made (ShowsJob desk id shown)
-shown_job desk id shown told job (Ok x) is tells same = (Ok job, subst (λ (t : Result Job JobFault). desk.tells id t) is tells, sym same)
-shown_job desk id shown told job (Err e) is tells same = same
+pub shown_job : {E : Type 0} (id : ℕ) (shown : Job → Option Answer) (told : Result Job JobFault) (job : Job) (made : Result Answer E) → told ≡ Ok job → IsTold id told
+    → IfOk made (λ a. Some a ≡ shown job) → IfOk made (ShowsJob id shown)
+shown_job id shown told job (Ok x) is tells same = (Ok job, subst (λ (t : Result Job JobFault). IsTold id t) is tells, sym same)
+shown_job id shown told job (Err e) is tells same = same

@@ -3,26 +3,23 @@
 use Rattle.std.specs.Prelude.{◌≡◌, ℕ, Bool, List, ◌++◌, IfOk, Option, Some, Result}
 use Rattle.httparse.specs.Grammar.{RequestHead}
 use Rattle.hls_io.specs.Counted.{inside_of}
-use Rattle.hls_http_laws.specs.declared.body.Body.{Body}
 use Rattle.hls_http_laws.specs.declared.end.SessionEnd.{SessionEnd}
 use Rattle.hls_http_laws.specs.declared.plan.Plan.{Plan}
-use Rattle.hls_http_laws.specs.declared.plan.Plan.TheVariants.{Feed, Skip}
 use Rattle.hls_http_laws.specs.Order.{says_close}
 use Rattle.hls_http.specs.declared.drain.DropEnd.{DropEnd}
 use Rattle.hls_http.specs.declared.head.Head.{Head}
 use Rattle.hls_http.specs.declared.session.Session.{Session}
 use Rattle.hls_http.specs.Heads.{IsHead}
-use Rattle.hls_http.specs.Source.{held_of, reader_of, taken_of}
+use Rattle.hls_http.specs.Source.{held_of, taken_of}
 use Rattle.hls_turn.specs.Passes.{Known}
-use Rattle.hls_replies.specs.Playlists.{lists}
 use Rattle.hls_serve_laws.specs.declared.query.Query.{Query}
 use Rattle.hls_serve_laws.specs.declared.route.Route.{Route}
 use Rattle.hls_serve_laws.specs.Queries.{query_in}
-use Rattle.hls_serve_laws.specs.Desks.{Desk}
-use Rattle.hls_serve_laws.specs.Heard.{Asks, Due, Feeds, IsSkipped, Skips, asks_of, first_of, to_head}
+use Rattle.hls_serve_laws.specs.Heard.{After, Asks, Before, Due, IsSkipped, Request, asks_of, first_of, to_head}
 use Rattle.hls_serve_laws.specs.Replies.{Answer}
 use Rattle.hls_serve.specs.declared.call.Call.{Call}
-use Rattle.hls_serve.specs.Turns.{IsCall, IsMade, Makes, Settles}
+use Rattle.hls_serve.specs.Exchanges.{Streams, Visit, left_of, written_of}
+use Rattle.hls_serve.specs.Turns.{HearsBehind, IsCall, IsMade, Makes, Settles}
 
 -- ---- what a head or a call is of
 
@@ -37,6 +34,17 @@ OfCall call Is = (count : ℕ) (h : RequestHead) → IsCall count h call → Is 
 -- .. where it is for this route
 abbrev pub OfCallTo : Route → Call → (RequestHead → Asks → Type 0) → Type 0
 OfCallTo route call Is = OfCall call (λ h q. call.route ≡ Some route → Is h q)
+
+-- a head as a request, by whatever plan
+abbrev pub request_by : ℕ → RequestHead → Plan → Request
+request_by count h plan = record { head = h; asks = asks_of count h; plan = plan }
+
+-- a session as it is before and behind a request
+abbrev pub before : {R W : Type 0} → Visit R W → List ℕ → Before
+before v input = record { known = v.known; input = held_of v.session.source ++ input }
+
+abbrev pub after : {R W : Type 0} → Streams R W → Visit R W → After
+after io v = record { known = v.known; held = held_of v.session.source; left = left_of io v }
 
 -- what a query asks, of whatever text it was read
 abbrev pub OfQuery : {E : Type 0} → Result (Option Query) E → (Option Query → Type 0) → Type 0
@@ -71,49 +79,30 @@ RepliesTo contents call old new Is result =
     → contents (inside_of old.writer) ≡ Some (out ++ first_of h plan) → Settles (Is h plan) out (contents (inside_of new.writer)) result
 
 -- .. where its body was dropped, or couldn't be
-abbrev pub RepliesSkipped : {R W : Type 0} → (W → Option (List ℕ)) → Desk → Call → Route → Result (Unit {0}) DropEnd → Session R W → Session R W
-    → Known → Known → Result (Unit {0}) SessionEnd → Type 0
-RepliesSkipped contents desk call route dropped old new a b result =
+abbrev pub RepliesSkipped : {R W : Type 0} → (W → Option (List ℕ)) → Call → Route → Result (Unit {0}) DropEnd → Visit R W → Visit R W
+    → Result (Unit {0}) SessionEnd → Type 0
+RepliesSkipped contents call route dropped old new result =
     (count : ℕ) (h : RequestHead) (plan : Plan) (out : List ℕ) → IsCall count h call → call.route ≡ Some route
-    → contents (inside_of old.writer) ≡ Some (out ++ first_of h plan)
-    → Settles (λ due. IsSkipped lists desk h (asks_of count h) route plan a b due dropped) out (contents (inside_of new.writer)) result
+    → contents (inside_of old.session.writer) ≡ Some (out ++ first_of h plan)
+    → Settles (λ due. IsSkipped (request_by count h plan) route old.known new.known due dropped) out (contents (inside_of new.session.writer)) result
 
 -- ---- what is heard
 
 -- what was still to come is heard so, and what is due of it is written behind what the writer held
-abbrev pub HearsAndSettles : {R W : Type 0} → (R → Option (List ℕ)) → (W → Option (List ℕ)) → Session R W → Session R W
-    → (Known → List ℕ → Due → Known → List ℕ → Option (List ℕ) → Type 0) → Known → Known → Result (Unit {0}) SessionEnd → Type 0
-HearsAndSettles remaining contents old new Is a b result =
-    (input out : List ℕ) → remaining (reader_of old.source) ≡ Some input → contents (inside_of old.writer) ≡ Some out
-    → Settles (λ due. Is a (held_of old.source ++ input) due b (held_of new.source) (remaining (reader_of new.source))) out
-    (contents (inside_of new.writer)) result
+abbrev pub HearsAndSettles : {R W : Type 0} → Streams R W → Visit R W → Visit R W → (Before → Due → After → Type 0)
+    → Result (Unit {0}) SessionEnd → Type 0
+HearsAndSettles io old new Is result =
+    (input out : List ℕ) → left_of io old ≡ Some input → written_of io old ≡ Some out
+    → Settles (λ due. Is (before old input) due (after io new)) out (written_of io new) result
 
 -- .. behind a head that was taken
-abbrev pub HearsBehindHead : {R W : Type 0} → (R → Option (List ℕ)) → (W → Option (List ℕ)) → Head → Session R W → Session R W
-    → (RequestHead → Known → List ℕ → Due → Known → List ℕ → Option (List ℕ) → Type 0) → Known → Known
-    → Result (Unit {0}) SessionEnd → Type 0
-HearsBehindHead remaining contents head old new Is a b result =
-    OfHead head (taken_of old.source) (λ h. HearsAndSettles remaining contents old new (Is h) a b result)
+abbrev pub HearsBehindHead : {R W : Type 0} → Streams R W → Head → Visit R W → Visit R W → Result (Unit {0}) SessionEnd → Type 0
+HearsBehindHead io head old new result = OfHead head (taken_of old.session.source) (λ h. HearsAndSettles io old new (HearsBehind h) result)
 
 -- .. of a call, by a plan after which 100 Continue was written or not
-abbrev pub HearsCall : {R W : Type 0} → (R → Option (List ℕ)) → (W → Option (List ℕ)) → Call → Plan → Session R W → Session R W
-    → (RequestHead → Asks → Plan → Known → List ℕ → Due → Known → List ℕ → Option (List ℕ) → Type 0) → Known → Known
+abbrev pub HearsCall : {R W : Type 0} → Streams R W → Call → Plan → Visit R W → Visit R W → (Request → Before → Due → After → Type 0)
     → Result (Unit {0}) SessionEnd → Type 0
-HearsCall remaining contents call plan old new Is a b result =
-    (count : ℕ) (h : RequestHead) (input out : List ℕ) → IsCall count h call → remaining (reader_of old.source) ≡ Some input
-    → contents (inside_of old.writer) ≡ Some (out ++ first_of h plan)
-    → Settles (λ due. Is h (asks_of count h) plan a (held_of old.source ++ input) due b (held_of new.source)
-    (remaining (reader_of new.source))) out (contents (inside_of new.writer)) result
-
--- .. an encoder's body for this rendition
-abbrev pub FeedsCall : {R W : Type 0} → (R → Option (List ℕ)) → (W → Option (List ℕ)) → Call → ℕ → Body → Session R W → Session R W
-    → Known → Known → Result (Unit {0}) SessionEnd → Type 0
-FeedsCall remaining contents call r body old new a b result =
-    HearsCall remaining contents call (Feed body) old new (λ h q plan a. Feeds h plan r a body) a b result
-
--- .. a body that is dropped, of a request for this route
-abbrev pub SkipsCall : {R W : Type 0} → (R → Option (List ℕ)) → (W → Option (List ℕ)) → Desk → Call → Route → Body → Session R W → Session R W
-    → Known → Known → Result (Unit {0}) SessionEnd → Type 0
-SkipsCall remaining contents desk call route body old new a b result =
-    call.route ≡ Some route
-    → HearsCall remaining contents call (Skip body) old new (λ h q plan a. Skips lists desk h q route plan a body) a b result
+HearsCall io call plan old new Is result =
+    (count : ℕ) (h : RequestHead) (input out : List ℕ) → IsCall count h call → left_of io old ≡ Some input
+    → written_of io old ≡ Some (out ++ first_of h plan)
+    → Settles (λ due. Is (request_by count h plan) (before old input) due (after io new)) out (written_of io new) result

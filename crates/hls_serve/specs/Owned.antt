@@ -1,9 +1,9 @@
 -- For the proofs of this crate; no public clause cites it.
--- What is known of a channel of one's own.
+-- What is known of a channel that one thread has for itself.
 use Rattle.hls_core_laws.specs.Workers.{events_by}
 use Rattle.hls_turn.specs.Passes.{Known}
-use Rattle.hls_serve.specs.declared.alone.Own.{Own}
+use Rattle.hls_serve.specs.declared.alone.Alone.{Alone}
 
 -- its state is what was seen, and its entries of the number are the events that were brought
-abbrev pub known_of : Own → Known
-known_of own = record { number = own.number; seen = own.snapshot.value; mine = events_by own.number own.snapshot.value.log }
+abbrev pub known_of : Alone → Known
+known_of alone = record { number = alone.number; seen = alone.snapshot.value; mine = events_by alone.number alone.snapshot.value.log }

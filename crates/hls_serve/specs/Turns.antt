@@ -13,10 +13,9 @@ use Rattle.hls_turn.specs.Passes.{Known}
 use Rattle.hls_turn.specs.Calls.{LookedOn}
 use Rattle.hls_serve_laws.specs.declared.route.Route.{Route}
 use Rattle.hls_serve_laws.specs.declared.route.Route.TheVariants as routes
-use Rattle.hls_serve_laws.specs.Desks.{Desk}
-use Rattle.hls_serve_laws.specs.Heard.{Asks, Due, Reply, Follows, IsUnheard, ServesBy, asks_of, first_of, job_at, plan_for, refused_head}
+use Rattle.hls_serve_laws.specs.Heard.{After, Asks, Before, Due, Reply, IsHeard, ServesBy, first_of, job_at, refused_head, request_of}
 use Rattle.hls_serve_laws.specs.Queries.{query_in}
-use Rattle.hls_serve_laws.specs.Replies.{Answer, Lists, answer_text}
+use Rattle.hls_serve_laws.specs.Replies.{Answer, answer_text}
 use Rattle.hls_serve_laws.specs.Routes.{path_of, query_of, route_of}
 use Rattle.hls_serve_laws.specs.Sessions.{Comes, Runs}
 use Rattle.hls_serve.specs.declared.call.Call.{Call}
@@ -69,21 +68,19 @@ abbrev pub Makes : {E : Type 0} → (Answer → Type 0) → Known → Known → 
 Makes Is a b (Ok answer) = Is answer
 Makes Is a b (Err e) = LookedOn a b ⊎ ((answer : Answer) × Is answer)
 
-abbrev pub IsResponse : Lists → Desk → Asks → Route → Known → Known → Answer → Type 0
-IsResponse lists desk q route a b answer = ServesBy lists desk q route a answer b (job_at route)
+abbrev pub IsResponse : Asks → Route → Known → Known → Answer → Type 0
+IsResponse q route a b answer = ServesBy q route a answer b (job_at route)
 
 -- ---- a request
 
 -- what a request whose head was read comes to
-abbrev pub HearsBehind : Lists → Desk → RequestHead → Known → List ℕ → Due → Known → List ℕ → Option (List ℕ) → Type 0
-HearsBehind lists desk h a behind due b held left =
-    Follows lists desk h (asks_of (length a.seen.config.renditions) h) (plan_for h (asks_of (length a.seen.config.renditions) h)) a behind due b held left
-    ⊎ IsUnheard h (plan_for h (asks_of (length a.seen.config.renditions) h)) a due b
+abbrev pub HearsBehind : RequestHead → Before → Due → After → Type 0
+HearsBehind h x due y = IsHeard (request_of (length x.known.seen.config.renditions) h) x due y
 
 -- so many requests were answered, and the rest is still to come
-pub record SoFar (lists : Lists) (desk : Desk) (a : Known) (input out : List ℕ) (b : Known) (held : List ℕ) (left contents : Option (List ℕ)) : Type 0 where
+pub record SoFar (a : Known) (input out : List ℕ) (b : Known) (held : List ℕ) (left contents : Option (List ℕ)) : Type 0 where
   pub text : List ℕ
   pub rest : List ℕ
-  pub runs : Runs lists desk a input text b rest
+  pub runs : Runs a input text b rest
   pub known : prepend_known held left ≡ Some rest
   pub contents_are : contents ≡ Some (out ++ text)

@@ -1,12 +1,8 @@
 //! A channel kept on one thread, with its jobs.
 
-ghost use Rattle.std.specs.Prelude.{◌≡◌, IfOk, length};
-ghost use Rattle.hls_core_laws.specs.IsState.{IsState};
+ghost use Rattle.std.specs.Prelude.{◌≡◌};
 ghost use Rattle.hls_core_laws.specs.Moves.{IsFittingAsSeen};
-ghost use Rattle.hls_core_laws.specs.Workers.{events_by};
-ghost use Rattle.hls_turn.specs.Passes.{Known};
-ghost use Rattle.hls_turn.specs.Calls.{LookedOn, Looks, Submits};
-ghost use Rattle.hls_serve_laws.specs.Desks.{shared_desk};
+ghost use Rattle.hls_turn.specs.Calls.{Submits};
 ghost use Rattle.hls_serve.specs.Meanwhile.{Met};
 ghost use Rattle.hls_serve.specs.Owned.{known_of};
 
@@ -20,16 +16,14 @@ use hls_core_laws::refusal::Refusal;
 use hls_jobs::{Job, JobFault, JobTable};
 use hls_turn::Done;
 use std::alloc::{AllocError, Global};
-use std::sync::{Arc, Wait};
+use std::sync::Arc;
 
-/// The keeper of a channel that one thread has for itself: nobody else acts, so what it saw is what is there.
-#[derive(Clone, Copy, Debug, Drop)]
-pub struct Alone;
-
-/// A channel of one's own: its state, the number under which events stand in the log, and its jobs. These wait until they
-/// are taken from the table and run.
+/// A channel that one thread has for itself: its state, the number under which events stand in the log, and its jobs, which
+/// wait until they are taken from the table and run. Nobody else acts, so what it saw is what is there.
 #[derive(Drop)]
-pub struct Own {
+pub struct Alone {
+    /// Where it takes memory.
+    pub alloc: Global,
     /// The state.
     pub snapshot: Arc<Snapshot>,
     /// The number of the one worker.
@@ -38,15 +32,15 @@ pub struct Own {
     pub jobs: JobTable,
 }
 
-impl Own {
+impl Alone {
     /// Lets the state meet the event.
-    fn take(&mut self, alloc: Global, event: Event) -> Result<Done, Refusal>
+    fn take(&mut self, event: Event) -> Result<Done, Refusal>
         requires { IsFittingAsSeen (known_of self.old).seen event }
         ensures submits { Submits (known_of self.old) event result (known_of self.new) }
         ensures met { Met (λ a b. b ≡ a) (known_of self.old) event (known_of self.new) }
     {
         let version = self.snapshot.version();
-        match step(&self.snapshot, alloc, self.number, event) {
+        match step(&self.snapshot, self.alloc, self.number, event) {
             Ok(Stepped::New(next)) => {
                 self.snapshot = next;
                 Ok(Done::New {
@@ -60,59 +54,40 @@ impl Own {
 }
 
 impl Keeper for Alone {
-    type Pass = Own;
-
-    ghost serves = { λ keeper pass. Unit {0} };
-
     ghost known = { known_of };
 
     ghost meanwhile = { λ a b. b ≡ a };
 
-    ghost desk = { shared_desk };
-
-    fn renditions(&self, pass: &Own) -> usize {
-        let _ = pass.snapshot.version();
-        pass.snapshot.config().renditions().len()
+    fn alloc(&self) -> Global {
+        self.alloc
     }
 
-    fn look<R: Wait>(
-        &self,
-        _rt: &R,
-        _alloc: Global,
-        pass: &mut Own,
-    ) -> Result<Arc<Snapshot>, AllocError> {
-        Ok(Arc::try_clone(&pass.snapshot)?)
+    fn renditions(&self) -> usize {
+        let _ = self.snapshot.version();
+        self.snapshot.config().renditions().len()
     }
 
-    fn submit<R: Wait>(
-        &self,
-        _rt: &R,
-        alloc: Global,
-        pass: &mut Own,
-        event: Event,
-    ) -> Result<Done, Refusal> {
-        pass.take(alloc, event)
+    fn look(&mut self) -> Result<Arc<Snapshot>, AllocError> {
+        Ok(Arc::try_clone(&self.snapshot)?)
     }
 
-    fn add_job<R: Wait>(
-        &self,
-        _rt: &R,
-        pass: &mut Own,
-        snapshot: Arc<Snapshot>,
-        request: Request,
-    ) -> Result<u64, JobFault> {
-        pass.jobs.add(snapshot, request)
+    fn submit(&mut self, event: Event) -> Result<Done, Refusal> {
+        self.take(event)
     }
 
-    fn job<R: Wait>(&self, _rt: &R, pass: &Own, id: u64) -> Result<Job, JobFault> {
-        pass.jobs.get(id)
+    fn add_job(&mut self, snapshot: Arc<Snapshot>, request: Request) -> Result<u64, JobFault> {
+        self.jobs.add(snapshot, request)
     }
 
-    fn remove_job<R: Wait>(&self, _rt: &R, pass: &mut Own, id: u64) -> Result<(), JobFault> {
-        pass.jobs.remove(id)
+    fn job(&self, id: u64) -> Result<Job, JobFault> {
+        self.jobs.get(id)
     }
 
-    fn jobs<R: Wait>(&self, _rt: &R, pass: &Own) -> usize {
-        pass.jobs.len()
+    fn remove_job(&mut self, id: u64) -> Result<(), JobFault> {
+        self.jobs.remove(id)
+    }
+
+    fn jobs(&self) -> usize {
+        self.jobs.len()
     }
 }

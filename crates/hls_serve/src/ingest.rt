@@ -18,9 +18,8 @@ use hls_media_laws::fault::MediaFault;
 use hls_media_laws::init::Init;
 use hls_serve_laws::ingest::{Counts, Intake};
 use hls_turn::Done;
-use std::alloc::Global;
 use std::io::Read;
-use std::sync::Wait;
+use std::marker::PhantomData;
 
 /// What was taken of a body, and the rendition's init section once it was looked for.
 #[derive(Drop)]
@@ -91,35 +90,23 @@ fn refused(refusal: Refusal) -> Untaken
     }
 }
 
-/// Takes the parts of a rendition's encoder into a channel, by its keeper.
+/// Takes the parts of a rendition's encoder into a channel, by a keeper of this type.
 #[derive(Drop)]
-pub struct Encoder<'a, K, T> {
-    /// By what it waits.
-    pub rt: &'a T,
-    /// Where memory is taken.
-    pub alloc: Global,
-    /// Who keeps the channel.
-    pub keeper: &'a K,
+pub struct Encoder<K> {
     /// The rendition.
     pub rendition: usize,
+    of: PhantomData<K>,
 }
 
-impl<'a, K: Keeper, T: Wait> Encoder<'a, K, T> {
+impl<K: Keeper> Encoder<K> {
     /// Takes an init section.
-    fn take_init(
-        &self,
-        taken: &mut Taken,
-        pass: &mut K::Pass,
-        bytes: Bytes,
-    ) -> Result<(), Untaken>
-        requires serves { K.serves self.now.keeper.now pass.old }
-        requires usable { IsUsable self.now.rendition (progress_of (K.known pass.old) taken.old) }
-        ensures serves { K.serves self.now.keeper.now pass.new }
-        ensures usable { IsUsable self.now.rendition (progress_of (K.known pass.new) taken.new) }
-        ensures comes { PartComes self.now.rendition (progress_of (K.known pass.old) taken.old) (Part.Init bytes)
-            (progress_of (K.known pass.new) taken.new) result }
+    fn take_init(&self, taken: &mut Taken, keeper: &mut K, bytes: Bytes) -> Result<(), Untaken>
+        requires usable { IsUsable self.now.rendition (progress_of (K.known keeper.old) taken.old) }
+        ensures usable { IsUsable self.now.rendition (progress_of (K.known keeper.new) taken.new) }
+        ensures comes { PartComes self.now.rendition (progress_of (K.known keeper.old) taken.old) (Part.Init bytes)
+            (progress_of (K.known keeper.new) taken.new) result }
     {
-        let init = match read_init(self.alloc, &bytes) {
+        let init = match read_init(keeper.alloc(), &bytes) {
             Ok(init) => init,
             Err(MediaFault::Memory) => return Err(Untaken::Memory),
             Err(fault) => return Err(Untaken::Refused(StreamFault::Media(fault))),
@@ -129,7 +116,7 @@ impl<'a, K: Keeper, T: Wait> Encoder<'a, K, T> {
             init,
             bytes,
         };
-        match self.keeper.submit(self.rt, self.alloc, pass, event) {
+        match keeper.submit(event) {
             Ok(done) => {
                 taken.counts = with_init(taken.counts, done);
                 Ok(())
@@ -139,18 +126,16 @@ impl<'a, K: Keeper, T: Wait> Encoder<'a, K, T> {
     }
 
     /// Finds the rendition's init section, by a look where it wasn't looked for yet.
-    fn find_init(&self, taken: &mut Taken, pass: &mut K::Pass) -> Result<(), Untaken>
-        requires serves { K.serves self.now.keeper.now pass.old }
-        requires usable { IsUsable self.now.rendition (progress_of (K.known pass.old) taken.old) }
-        ensures serves { K.serves self.now.keeper.now pass.new }
-        ensures usable { IsUsable self.now.rendition (progress_of (K.known pass.new) taken.new) }
-        ensures finds { Finds self.now.rendition (progress_of (K.known pass.old) taken.old)
-            (progress_of (K.known pass.new) taken.new) result }
+    fn find_init(&self, taken: &mut Taken, keeper: &mut K) -> Result<(), Untaken>
+        requires usable { IsUsable self.now.rendition (progress_of (K.known keeper.old) taken.old) }
+        ensures usable { IsUsable self.now.rendition (progress_of (K.known keeper.new) taken.new) }
+        ensures finds { Finds self.now.rendition (progress_of (K.known keeper.old) taken.old)
+            (progress_of (K.known keeper.new) taken.new) result }
     {
         if taken.init.is_some() {
             return Ok(());
         }
-        let Ok(state) = self.keeper.look(self.rt, self.alloc, pass) else {
+        let Ok(state) = keeper.look() else {
             return Err(Untaken::Memory);
         };
         let Some(recording) = state.recording(self.rendition) else {
@@ -164,20 +149,13 @@ impl<'a, K: Keeper, T: Wait> Encoder<'a, K, T> {
     }
 
     /// Takes a unit.
-    fn take_unit(
-        &self,
-        taken: &mut Taken,
-        pass: &mut K::Pass,
-        bytes: Bytes,
-    ) -> Result<(), Untaken>
-        requires serves { K.serves self.now.keeper.now pass.old }
-        requires usable { IsUsable self.now.rendition (progress_of (K.known pass.old) taken.old) }
-        ensures serves { K.serves self.now.keeper.now pass.new }
-        ensures usable { IsUsable self.now.rendition (progress_of (K.known pass.new) taken.new) }
-        ensures comes { PartComes self.now.rendition (progress_of (K.known pass.old) taken.old) (Part.Unit bytes)
-            (progress_of (K.known pass.new) taken.new) result }
+    fn take_unit(&self, taken: &mut Taken, keeper: &mut K, bytes: Bytes) -> Result<(), Untaken>
+        requires usable { IsUsable self.now.rendition (progress_of (K.known keeper.old) taken.old) }
+        ensures usable { IsUsable self.now.rendition (progress_of (K.known keeper.new) taken.new) }
+        ensures comes { PartComes self.now.rendition (progress_of (K.known keeper.old) taken.old) (Part.Unit bytes)
+            (progress_of (K.known keeper.new) taken.new) result }
     {
-        match self.find_init(taken, pass) {
+        match self.find_init(taken, keeper) {
             Ok(()) => {}
             Err(untaken) => return Err(untaken),
         }
@@ -193,7 +171,7 @@ impl<'a, K: Keeper, T: Wait> Encoder<'a, K, T> {
             facts,
             bytes,
         };
-        match self.keeper.submit(self.rt, self.alloc, pass, event) {
+        match keeper.submit(event) {
             Ok(done) => {
                 taken.counts = with_unit(taken.counts, done);
                 Ok(())
@@ -203,60 +181,53 @@ impl<'a, K: Keeper, T: Wait> Encoder<'a, K, T> {
     }
 }
 
-impl<'a, K: Keeper, T: Wait> Taker for Encoder<'a, K, T> {
+impl<K: Keeper> Taker for Encoder<K> {
     ghost use Rattle.hls_serve_laws.specs.Ingest.{Progress as ProgressOf};
 
     type Kept = Taken;
 
-    type Channel = K::Pass;
+    type Channel = K;
 
     ghost Progress = { ProgressOf };
 
-    ghost progress = { λ taken pass. progress_of (K.known pass) taken };
+    ghost progress = { λ taken keeper. progress_of (K.known keeper) taken };
 
-    ghost fits = { λ encoder taken pass.
-        K.serves encoder.keeper.now pass × IsUsable encoder.rendition (progress_of (K.known pass) taken) };
+    ghost fits = { λ encoder taken keeper. IsUsable encoder.rendition (progress_of (K.known keeper) taken) };
 
     ghost comes = { λ encoder. PartComes encoder.rendition };
 
-    fn take(&self, taken: &mut Taken, pass: &mut K::Pass, part: Part) -> Result<(), Untaken> {
+    fn take(&self, taken: &mut Taken, keeper: &mut K, part: Part) -> Result<(), Untaken> {
         match part {
-            Part::Init(bytes) => self.take_init(taken, pass, bytes),
-            Part::Unit(bytes) => self.take_unit(taken, pass, bytes),
+            Part::Init(bytes) => self.take_init(taken, keeper, bytes),
+            Part::Unit(bytes) => self.take_unit(taken, keeper, bytes),
         }
     }
 }
 
-/// Takes an encoder's body part by part: each whole part is submitted before more of the body is read.
-pub fn ingest<K: Keeper, T: Wait, R: Read>(
-    rt: &T,
-    alloc: Global,
+/// Takes an encoder's body part by part: each whole part is submitted before more of the body is read. A loop is proved to end,
+/// so this one counts its pieces; of a body of 2^64 pieces no more is taken, as where memory is wanted.
+pub fn ingest<K: Keeper, R: Read>(
     source: &mut Source<R>,
     body: &mut Body,
-    keeper: &K,
-    pass: &mut K::Pass,
+    keeper: &mut K,
     rendition: usize,
     taken: &mut Taken,
 ) -> Result<(), Intake>
-    requires serves { K.serves keeper.now pass.old }
-    requires usable { IsUsable rendition (progress_of (K.known pass.old) taken.old) }
-    requires none { progress_of (K.known pass.old) taken.old ≡ begun (K.known pass.old) }
-    ensures serves { K.serves keeper.now pass.new }
-    ensures usable { IsUsable rendition (progress_of (K.known pass.new) taken.new) }
-    ensures ingests { TakesBody R.remaining source.old source.new rendition (K.known pass.old) body.old body.new
-        (progress_of (K.known pass.new) taken.new) result }
+    requires usable { IsUsable rendition (progress_of (K.known keeper.old) taken.old) }
+    requires none { progress_of (K.known keeper.old) taken.old ≡ begun (K.known keeper.old) }
+    ensures usable { IsUsable rendition (progress_of (K.known keeper.new) taken.new) }
+    ensures ingests { TakesBody R.remaining source.old source.new rendition (K.known keeper.old) body.old body.new
+        (progress_of (K.known keeper.new) taken.new) result }
     ensures counts { CountsIngest result (read_failures source.old) (read_failures source.new) }
 {
-    let encoder = Encoder {
-        rt,
-        alloc,
-        keeper,
+    let encoder: Encoder<K> = Encoder {
         rendition,
+        of: PhantomData,
     };
-    let mut reader = UnitReader::new(alloc);
-    for _ in rt.forever() {
+    let mut reader = UnitReader::new(keeper.alloc());
+    for _ in 0..u64::MAX {
         match read_body(source, body) {
-            Ok(Given::Piece) => feed(&mut reader, &encoder, taken, pass, source.taken())?,
+            Ok(Given::Piece) => feed(&mut reader, &encoder, taken, keeper, source.taken())?,
             Ok(Given::Over) => match end(&reader) {
                 Ok(()) => return Ok(()),
                 Err(fault) => return Err(Intake::Refused(fault)),
@@ -264,5 +235,5 @@ pub fn ingest<K: Keeper, T: Wait, R: Read>(
             Err(stop) => return Err(Intake::Stopped(stop)),
         }
     }
-    unreachable!()
+    Err(Intake::Memory)
 }

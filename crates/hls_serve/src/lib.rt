@@ -2,7 +2,7 @@
 //! part by part, and whole sessions.
 //!
 //! What a session is stands in `hls_serve_laws`. The channel is kept by a [`Keeper`](keeper::Keeper): by
-//! [`Alone`](alone::Alone) on one thread, by a [`Channel`](channel::Channel) for many.
+//! [`Alone`](alone::Alone) on one thread, by a [`Station`](station::Station) on each of many.
 #![tactic(auto)]
 
 pub mod alone;
@@ -17,3 +17,4 @@ mod request;
 mod respond;
 pub mod route;
 pub mod session;
+pub mod station;

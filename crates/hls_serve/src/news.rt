@@ -5,6 +5,17 @@ use hls_http_laws::reply::Status;
 use hls_serve_laws::ingest::{Counts, Intake};
 use hls_serve_laws::route::Route;
 
+/// How an encoder's body ended, or why no more of it is taken.
+#[derive(Clone, Copy, Debug, PartialEq, Eq, Drop)]
+pub struct Ingested {
+    /// The rendition that it was for.
+    pub rendition: usize,
+    /// How many of its parts were taken.
+    pub counts: Counts,
+    /// Why no more of it is taken, where it didn't end.
+    pub result: Result<(), Intake>,
+}
+
 /// What an operator is told of a session while it goes on. It is no part of what a session promises.
 #[derive(Clone, Copy, Debug, PartialEq, Eq, Drop)]
 pub enum News {
@@ -16,14 +27,7 @@ pub enum News {
         route: Option<Route>,
     },
     /// An encoder's body ended, or no more of it is taken.
-    Ingested {
-        /// The rendition that it was for.
-        rendition: usize,
-        /// How many of its parts were taken.
-        counts: Counts,
-        /// Why no more of it is taken, where it didn't end.
-        result: Result<(), Intake>,
-    },
+    Ingested(Ingested),
     /// A reply was made; whether it is written isn't known yet.
     Replied {
         /// The request's method; another than those that are known where no head could be read.
@@ -33,4 +37,18 @@ pub enum News {
         /// The status of the reply.
         status: Status,
     },
+}
+
+/// Who is told of a session's news: a value of each connection, since a keeper may serve many.
+pub trait Observer {
+    /// Tells the news; nothing is promised of it.
+    fn tell(&self, news: &News);
+}
+
+/// Nobody is told.
+#[derive(Clone, Copy, Debug, Drop)]
+pub struct Unobserved;
+
+impl Observer for Unobserved {
+    fn tell(&self, _news: &News) {}
 }

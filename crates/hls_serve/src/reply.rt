@@ -13,8 +13,7 @@ ghost use Rattle.hls_serve.specs.Counted.{CountsBehind};
 ghost use Rattle.hls_serve.specs.Turns.{IsMade, IsRefusedHead, Settles};
 
 use crate::call::Call;
-use crate::keeper::Keeper;
-use crate::news::News;
+use crate::news::{News, Observer};
 use crate::route::is_to_head;
 use hls_http::{BodyEnd, HeadEnd, HttpFault, Method, Session, SessionEnd, says_close};
 use hls_http_laws::reply::Status;
@@ -49,11 +48,10 @@ fn send_made<R, W: Write>(
 }
 
 /// Replies to a request; `early` is said of a reply before the body's end.
-pub fn reply<K: Keeper, R, W: Write>(
+pub fn reply<O: Observer, R, W: Write>(
     alloc: Global,
     session: &mut Session<R, W>,
-    keeper: &K,
-    pass: &K::Pass,
+    observer: &O,
     call: &Call,
     made: Result<Answer, AllocError>,
     early: bool,
@@ -67,18 +65,17 @@ pub fn reply<K: Keeper, R, W: Write>(
         route: call.route,
         status: status_of(&made),
     };
-    keeper.tell(pass, &news);
+    observer.tell(&news);
     let closing = says_close(&call.head, early);
     let to_head = is_to_head(call.head.method);
     send_made(alloc, session, made, closing, to_head)
 }
 
 /// Refuses a request.
-pub fn refuse<K: Keeper, R, W: Write>(
+pub fn refuse<O: Observer, R, W: Write>(
     alloc: Global,
     session: &mut Session<R, W>,
-    keeper: &K,
-    pass: &K::Pass,
+    observer: &O,
     call: &Call,
     fault: HttpFault,
     early: bool,
@@ -88,15 +85,14 @@ pub fn refuse<K: Keeper, R, W: Write>(
     ensures source { session.new.source ≡ session.old.source }
 {
     let made = fault_answer(alloc, fault);
-    reply(alloc, session, keeper, pass, call, made, early)
+    reply(alloc, session, observer, call, made, early)
 }
 
 /// What is replied where no more of a body comes.
-pub fn stopped<K: Keeper, R, W: Write>(
+pub fn stopped<O: Observer, R, W: Write>(
     alloc: Global,
     session: &mut Session<R, W>,
-    keeper: &K,
-    pass: &K::Pass,
+    observer: &O,
     call: &Call,
     end: BodyEnd,
 ) -> Result<(), SessionEnd>
@@ -106,15 +102,7 @@ pub fn stopped<K: Keeper, R, W: Write>(
 {
     match end {
         BodyEnd::BadFraming => {
-            refuse(
-                alloc,
-                session,
-                keeper,
-                pass,
-                call,
-                HttpFault::BadFraming,
-                true,
-            )
+            refuse(alloc, session, observer, call, HttpFault::BadFraming, true)
         }
         BodyEnd::CutShort => Err(SessionEnd::CutShort),
         BodyEnd::ReadFailed => Err(SessionEnd::ReadFailed),
@@ -122,11 +110,10 @@ pub fn stopped<K: Keeper, R, W: Write>(
 }
 
 /// Refuses what is no head.
-fn refuse_head<K: Keeper, R, W: Write>(
+fn refuse_head<O: Observer, R, W: Write>(
     alloc: Global,
     session: &mut Session<R, W>,
-    keeper: &K,
-    pass: &K::Pass,
+    observer: &O,
     fault: HttpFault,
 ) -> Result<(), SessionEnd>
     ensures sends { ToOutput W.contents session.old.writer session.new.writer (Settles (IsRefusedHead fault)) result }
@@ -139,16 +126,15 @@ fn refuse_head<K: Keeper, R, W: Write>(
         route: None,
         status: status_of(&made),
     };
-    keeper.tell(pass, &news);
+    observer.tell(&news);
     send_made(alloc, session, made, true, false)
 }
 
 /// What is replied where no head comes.
-pub fn without_head<K: Keeper, R, W: Write>(
+pub fn without_head<O: Observer, R, W: Write>(
     alloc: Global,
     session: &mut Session<R, W>,
-    keeper: &K,
-    pass: &K::Pass,
+    observer: &O,
     end: HeadEnd,
 ) -> Result<(), SessionEnd>
     ensures sends { ToOutput W.contents session.old.writer session.new.writer (Settles (IsDueWithoutHead end)) result }
@@ -158,8 +144,8 @@ pub fn without_head<K: Keeper, R, W: Write>(
     match end {
         HeadEnd::Closed => Err(SessionEnd::Closed),
         HeadEnd::CutShort => Err(SessionEnd::CutShort),
-        HeadEnd::BadHead => refuse_head(alloc, session, keeper, pass, HttpFault::BadHead),
-        HeadEnd::HeadTooLarge => refuse_head(alloc, session, keeper, pass, HttpFault::HeadTooLarge),
+        HeadEnd::BadHead => refuse_head(alloc, session, observer, HttpFault::BadHead),
+        HeadEnd::HeadTooLarge => refuse_head(alloc, session, observer, HttpFault::HeadTooLarge),
         HeadEnd::ReadFailed => Err(SessionEnd::ReadFailed),
     }
 }

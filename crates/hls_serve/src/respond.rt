@@ -3,9 +3,9 @@
 ghost use Rattle.std.specs.Prelude.{◌≡◌, Some, None, IfOk, true, false};
 ghost use Rattle.httparse.specs.Grammar.{RequestHead};
 ghost use Rattle.hls_http_laws.specs.declared.fault.HttpFault.TheVariants as http;
-ghost use Rattle.hls_replies.specs.Playlists.{lists};
 ghost use Rattle.hls_serve_laws.specs.Heard.{AddsJob, AsksFor, CatchesUp, Finishes, RemovesJob, Serves, ServesJob, ShowsJob, ShowsState, ShowsStatus, asks_of, shown_if};
 ghost use Rattle.hls_serve_laws.specs.Replies as replies;
+ghost use Rattle.hls_serve_laws.specs.Playlists.{live_master_text, live_text};
 ghost use Rattle.hls_serve_laws.specs.Replies.{playlist_answer};
 ghost use Rattle.hls_serve_laws.specs.Routes as spec;
 ghost use Rattle.hls_serve_laws.specs.Heard as heard;
@@ -30,86 +30,51 @@ use hls_serve_laws::query::{Query, QueryFault};
 use hls_serve_laws::route::Route;
 use hls_serve_laws::wanted::Wanted;
 use std::alloc::{AllocError, Global};
-use std::sync::{Arc, Wait};
+use std::sync::Arc;
 
-fn show_master<K: Keeper, T: Wait>(
-    rt: &T,
-    alloc: Global,
-    keeper: &K,
-    pass: &mut K::Pass,
-) -> Result<Answer, AllocError>
-    requires { K.serves keeper.now pass.old }
-    ensures serves { K.serves keeper.now pass.new }
-    ensures shows { MakesBy (λ a b. ShowsState a b (λ s. playlist_answer (lists.master s))) (K.known pass.old) (K.known pass.new) result }
+fn show_master<K: Keeper>(keeper: &mut K) -> Result<Answer, AllocError>
+    ensures { MakesBy (λ a b. ShowsState a b (λ s. playlist_answer (live_master_text s))) (K.known keeper.old) (K.known keeper.new) result }
 {
-    let state = keeper.look(rt, alloc, pass)?;
-    master_answer(alloc, &state)
+    let state = keeper.look()?;
+    master_answer(keeper.alloc(), &state)
 }
 
-fn show_list<K: Keeper, T: Wait>(
-    rt: &T,
-    alloc: Global,
-    keeper: &K,
-    pass: &mut K::Pass,
-    rendition: usize,
-) -> Result<Answer, AllocError>
-    requires { K.serves keeper.now pass.old }
-    ensures serves { K.serves keeper.now pass.new }
-    ensures shows { MakesBy (λ a b. ShowsState a b (λ s. replies.list_answer (lists.live s rendition)))
-        (K.known pass.old) (K.known pass.new) result }
+fn show_list<K: Keeper>(keeper: &mut K, rendition: usize) -> Result<Answer, AllocError>
+    ensures { MakesBy (λ a b. ShowsState a b (λ s. replies.list_answer (live_text s rendition)))
+        (K.known keeper.old) (K.known keeper.new) result }
 {
-    let state = keeper.look(rt, alloc, pass)?;
-    list_answer(alloc, &state, rendition)
+    let state = keeper.look()?;
+    list_answer(keeper.alloc(), &state, rendition)
 }
 
-fn show_media<K: Keeper, T: Wait>(
-    rt: &T,
-    alloc: Global,
-    keeper: &K,
-    pass: &mut K::Pass,
+fn show_media<K: Keeper>(
+    keeper: &mut K,
     rendition: usize,
     asked: Asked,
 ) -> Result<Answer, AllocError>
-    requires { K.serves keeper.now pass.old }
-    ensures serves { K.serves keeper.now pass.new }
-    ensures shows { MakesBy (λ a b. ShowsState a b (λ s. replies.media_answer s rendition asked))
-        (K.known pass.old) (K.known pass.new) result }
+    ensures { MakesBy (λ a b. ShowsState a b (λ s. replies.media_answer s rendition asked))
+        (K.known keeper.old) (K.known keeper.new) result }
 {
-    let state = keeper.look(rt, alloc, pass)?;
-    media_answer(alloc, state, rendition, asked)
+    let state = keeper.look()?;
+    media_answer(keeper.alloc(), state, rendition, asked)
 }
 
-fn show_status<K: Keeper, T: Wait>(
-    rt: &T,
-    alloc: Global,
-    keeper: &K,
-    pass: &mut K::Pass,
-) -> Result<Answer, AllocError>
-    requires { K.serves keeper.now pass.old }
-    ensures serves { K.serves keeper.now pass.new }
-    ensures shows { MakesBy (ShowsStatus K.desk) (K.known pass.old) (K.known pass.new) result }
+fn show_status<K: Keeper>(keeper: &mut K) -> Result<Answer, AllocError>
+    ensures { MakesBy ShowsStatus (K.known keeper.old) (K.known keeper.new) result }
 {
-    let state = keeper.look(rt, alloc, pass)?;
-    let jobs = keeper.jobs(rt, pass);
-    status_answer(alloc, &state, jobs)
+    let state = keeper.look()?;
+    let jobs = keeper.jobs();
+    status_answer(keeper.alloc(), &state, jobs)
 }
 
 /// The end of a rendition.
-fn finish<K: Keeper, T: Wait>(
-    rt: &T,
-    alloc: Global,
-    keeper: &K,
-    pass: &mut K::Pass,
-    rendition: usize,
-) -> Result<Answer, AllocError>
-    requires { K.serves keeper.now pass.old }
-    ensures serves { K.serves keeper.now pass.new }
-    ensures finishes { MakesBy (λ a b. Finishes a rendition b) (K.known pass.old) (K.known pass.new) result }
+fn finish<K: Keeper>(keeper: &mut K, rendition: usize) -> Result<Answer, AllocError>
+    ensures { MakesBy (λ a b. Finishes a rendition b) (K.known keeper.old) (K.known keeper.new) result }
 {
-    match keeper.submit(rt, alloc, pass, Event::Finish { rendition }) {
-        Ok(done) => finish_answer(alloc, Ok(done)),
+    match keeper.submit(Event::Finish { rendition }) {
+        Ok(done) => finish_answer(keeper.alloc(), Ok(done)),
         Err(Refusal::Memory) => Err(AllocError),
-        Err(refusal) => finish_answer(alloc, Err(refusal)),
+        Err(refusal) => finish_answer(keeper.alloc(), Err(refusal)),
     }
 }
 
@@ -125,59 +90,41 @@ fn range_of(call: &Call) -> Asked
 }
 
 /// Adds a job that answers from a state.
-fn add_job<K: Keeper, T: Wait>(
-    rt: &T,
-    alloc: Global,
-    keeper: &K,
-    pass: &mut K::Pass,
+fn add_job<K: Keeper>(
+    keeper: &mut K,
     state: Arc<Snapshot>,
     wanted: Wanted,
 ) -> Result<Answer, AllocError>
-    requires { K.serves keeper.now pass.old }
-    ensures serves { K.serves keeper.now pass.new }
-    ensures known { K.known pass.new ≡ K.known pass.old }
-    ensures adds { IfOk result (AddsJob K.desk state.value wanted) }
+    ensures known { K.known keeper.new ≡ K.known keeper.old }
+    ensures adds { IfOk result (AddsJob state.value wanted) }
 {
     let version = state.version();
     let request = request_for(&state, wanted);
-    let added = keeper.add_job(rt, pass, state, request);
-    added_answer(alloc, version, added)
+    let added = keeper.add_job(state, request);
+    added_answer(keeper.alloc(), version, added)
 }
 
 /// Adds the job that a query asks the current state for; or replies why it asks for nothing.
-fn add_wanted<K: Keeper, T: Wait>(
-    rt: &T,
-    alloc: Global,
-    keeper: &K,
-    pass: &mut K::Pass,
-    query: Query,
-) -> Result<Answer, AllocError>
-    requires { K.serves keeper.now pass.old }
-    ensures serves { K.serves keeper.now pass.new }
-    ensures adds { Makes (AsksFor K.desk query (K.known pass.old) (K.known pass.new)) (K.known pass.old) (K.known pass.new) result }
+fn add_wanted<K: Keeper>(keeper: &mut K, query: Query) -> Result<Answer, AllocError>
+    ensures { Makes (AsksFor query (K.known keeper.old) (K.known keeper.new)) (K.known keeper.old) (K.known keeper.new) result }
 {
-    let state = keeper.look(rt, alloc, pass)?;
+    let state = keeper.look()?;
     match wanted_of(state.config().epoch(), query) {
-        Ok(wanted) => add_job(rt, alloc, keeper, pass, state, wanted),
-        Err(fault) => query_answer(alloc, fault),
+        Ok(wanted) => add_job(keeper, state, wanted),
+        Err(fault) => query_answer(keeper.alloc(), fault),
     }
 }
 
 /// A catch-up recording is asked for, by a query that was read before.
-fn catch_up<K: Keeper, T: Wait>(
-    rt: &T,
-    alloc: Global,
-    keeper: &K,
-    pass: &mut K::Pass,
+fn catch_up<K: Keeper>(
+    keeper: &mut K,
     query: Result<Option<Query>, AllocError>,
 ) -> Result<Answer, AllocError>
-    requires { K.serves keeper.now pass.old }
-    ensures serves { K.serves keeper.now pass.new }
-    ensures adds { OfQuery query (λ asked. MakesBy (CatchesUp K.desk asked) (K.known pass.old) (K.known pass.new) result) }
+    ensures { OfQuery query (λ asked. MakesBy (CatchesUp asked) (K.known keeper.old) (K.known keeper.new) result) }
 {
     match query {
-        Ok(Some(query)) => add_wanted(rt, alloc, keeper, pass, query),
-        Ok(None) => query_answer(alloc, QueryFault::BadQuery),
+        Ok(Some(query)) => add_wanted(keeper, query),
+        Ok(None) => query_answer(keeper.alloc(), QueryFault::BadQuery),
         Err(error) => Err(error),
     }
 }
@@ -204,89 +151,58 @@ fn show_found(
 }
 
 /// What is replied of a job that stays; 404 where there is none.
-fn show_job<K: Keeper, T: Wait>(
-    rt: &T,
-    alloc: Global,
-    keeper: &K,
-    pass: &K::Pass,
-    call: &Call,
-    route: Route,
-    id: u64,
-) -> Result<Answer, AllocError>
-    requires serves { K.serves keeper.now pass.now }
-    requires of_job { heard.job_at route ≡ Some id }
-    ensures { OfCall call.now (λ h q. IfOk result (ShowsJob K.desk id (shown_if q route (spec.allows route q.method)))) }
+fn show_job<K: Keeper>(keeper: &K, call: &Call, route: Route, id: u64) -> Result<Answer, AllocError>
+    requires { heard.job_at route ≡ Some id }
+    ensures { OfCall call.now (λ h q. IfOk result (ShowsJob id (shown_if q route (spec.allows route q.method)))) }
 {
-    match keeper.job(rt, pass, id) {
-        Ok(job) => show_found(alloc, call, route, id, job),
-        Err(JobFault::UnknownJob) => fault_answer(alloc, HttpFault::NotFound),
+    match keeper.job(id) {
+        Ok(job) => show_found(keeper.alloc(), call, route, id, job),
+        Err(JobFault::UnknownJob) => fault_answer(keeper.alloc(), HttpFault::NotFound),
         Err(_) => Err(AllocError),
     }
 }
 
 /// Takes a job away; 404 where there is none.
-fn remove_job<K: Keeper, T: Wait>(
-    rt: &T,
-    alloc: Global,
-    keeper: &K,
-    pass: &mut K::Pass,
-    id: u64,
-) -> Result<Answer, AllocError>
-    requires { K.serves keeper.now pass.old }
-    ensures serves { K.serves keeper.now pass.new }
-    ensures known { K.known pass.new ≡ K.known pass.old }
-    ensures removes { IfOk result (RemovesJob K.desk id) }
+fn remove_job<K: Keeper>(keeper: &mut K, id: u64) -> Result<Answer, AllocError>
+    ensures known { K.known keeper.new ≡ K.known keeper.old }
+    ensures removes { IfOk result (RemovesJob id) }
 {
-    let removed = keeper.remove_job(rt, pass, id);
-    removed_answer(alloc, removed)
+    let removed = keeper.remove_job(id);
+    removed_answer(keeper.alloc(), removed)
 }
 
 /// By the route of a job: an unknown job comes first, then a method that the route hasn't.
-fn serve_job<K: Keeper, T: Wait>(
-    rt: &T,
-    alloc: Global,
-    keeper: &K,
-    pass: &mut K::Pass,
+fn serve_job<K: Keeper>(
+    keeper: &mut K,
     call: &Call,
     route: Route,
     id: u64,
 ) -> Result<Answer, AllocError>
-    requires serves { K.serves keeper.now pass.old }
-    requires of_job { heard.job_at route ≡ Some id }
-    ensures serves { K.serves keeper.now pass.new }
-    ensures known { K.known pass.new ≡ K.known pass.old }
-    ensures answers { OfCall call.now (λ h q. IfOk result (λ a. ServesJob K.desk q route id a (spec.removes route q.method))) }
+    requires { heard.job_at route ≡ Some id }
+    ensures known { K.known keeper.new ≡ K.known keeper.old }
+    ensures answers { OfCall call.now (λ h q. IfOk result (λ a. ServesJob q route id a (spec.removes route q.method))) }
 {
     if removes(route, call.head.method) {
-        return remove_job(rt, alloc, keeper, pass, id);
+        return remove_job(keeper, id);
     }
-    show_job(rt, alloc, keeper, pass, call, route, id)
+    show_job(keeper, call, route, id)
 }
 
 /// By the route, which is no job's, and whose method is one of its own.
-fn serve<K: Keeper, T: Wait>(
-    rt: &T,
-    alloc: Global,
-    keeper: &K,
-    pass: &mut K::Pass,
-    call: &Call,
-    route: Route,
-) -> Result<Answer, AllocError>
-    requires serves { K.serves keeper.now pass.old }
+fn serve<K: Keeper>(keeper: &mut K, call: &Call, route: Route) -> Result<Answer, AllocError>
     requires of_none { heard.job_at route ≡ None }
     requires dropped { spec.feeds (Some route) call.now.head.method ≡ false }
     requires allowed { spec.allows route call.now.head.method ≡ true }
-    ensures serves { K.serves keeper.now pass.new }
-    ensures answers { OfCallTo route call.now
-        (λ h q. MakesBy (λ a b answer. Serves lists K.desk q route a answer b) (K.known pass.old) (K.known pass.new) result) }
+    ensures { OfCallTo route call.now
+        (λ h q. MakesBy (λ a b answer. Serves q route a answer b) (K.known keeper.old) (K.known keeper.new) result) }
 {
     match route {
-        Route::Finish(rendition) => finish(rt, alloc, keeper, pass, rendition),
-        Route::LiveMaster => show_master(rt, alloc, keeper, pass),
-        Route::LiveList(rendition) => show_list(rt, alloc, keeper, pass, rendition),
-        Route::Media(rendition) => show_media(rt, alloc, keeper, pass, rendition, range_of(call)),
-        Route::CatchUp => catch_up(rt, alloc, keeper, pass, call.query),
-        Route::Status => show_status(rt, alloc, keeper, pass),
+        Route::Finish(rendition) => finish(keeper, rendition),
+        Route::LiveMaster => show_master(keeper),
+        Route::LiveList(rendition) => show_list(keeper, rendition),
+        Route::Media(rendition) => show_media(keeper, rendition, range_of(call)),
+        Route::CatchUp => catch_up(keeper, call.query),
+        Route::Status => show_status(keeper),
         Route::Ingest(_) => unreachable!(),
         Route::Job(_) => unreachable!(),
         Route::JobFile(_, _) => unreachable!(),
@@ -295,25 +211,16 @@ fn serve<K: Keeper, T: Wait>(
 
 /// The answer to a request whose body was dropped, or want of memory for it: an unknown job comes first, then a method that
 /// the route hasn't.
-pub fn respond<K: Keeper, T: Wait>(
-    rt: &T,
-    alloc: Global,
-    keeper: &K,
-    pass: &mut K::Pass,
-    call: &Call,
-    route: Route,
-) -> Result<Answer, AllocError>
-    requires serves { K.serves keeper.now pass.old }
-    requires dropped { spec.feeds (Some route) call.now.head.method ≡ false }
-    ensures serves { K.serves keeper.now pass.new }
-    ensures responds { OfCallTo route call.now
-        (λ h q. MakesBy (IsResponse lists K.desk q route) (K.known pass.old) (K.known pass.new) result) }
+pub fn respond<K: Keeper>(keeper: &mut K, call: &Call, route: Route) -> Result<Answer, AllocError>
+    requires { spec.feeds (Some route) call.now.head.method ≡ false }
+    ensures { OfCallTo route call.now
+        (λ h q. MakesBy (IsResponse q route) (K.known keeper.old) (K.known keeper.new) result) }
 {
     if let Some(id) = job_at(route) {
-        return serve_job(rt, alloc, keeper, pass, call, route, id);
+        return serve_job(keeper, call, route, id);
     }
     if !allows(route, call.head.method) {
-        return method_answer(alloc, route);
+        return method_answer(keeper.alloc(), route);
     }
-    serve(rt, alloc, keeper, pass, call, route)
+    serve(keeper, call, route)
 }

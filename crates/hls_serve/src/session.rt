@@ -1,14 +1,13 @@
 //! Sessions.
 
-ghost use Rattle.hls_replies.specs.Playlists.{lists};
 ghost use Rattle.hls_serve_laws.specs.Sessions as spec;
 ghost use Rattle.hls_serve.specs.Counted.{SessionCounts};
-ghost use Rattle.hls_serve.specs.Exchanges.{Exchanges};
+ghost use Rattle.hls_serve.specs.Exchanges.{Exchanges, streams, visit};
 
 use crate::keeper::Keeper;
+use crate::news::Observer;
 use crate::request::one_request;
 use hls_http::{Session, SessionEnd};
-use std::alloc::Global;
 use std::io::{Read, Write};
 use std::sync::Wait;
 
@@ -16,22 +15,19 @@ use std::sync::Wait;
 /// says `Connection: close`, or a failure of the reader or the writer. May wait for its keeper.
 ///
 /// Memory that is taken for a request is given back with its reply; where there is none, the fixed reply is written and the
-/// session ends.
-pub fn session_on<K: Keeper, T: Wait, R: Read, W: Write>(
+/// session ends. The runtime is for the session that would never end.
+pub fn session_on<K: Keeper, O: Observer, T: Wait, R: Read, W: Write>(
     rt: &T,
-    alloc: Global,
     session: &mut Session<R, W>,
-    keeper: &K,
-    pass: &mut K::Pass,
+    keeper: &mut K,
+    observer: &O,
 ) -> SessionEnd
-    requires serves { K.serves keeper.now pass.old }
-    ensures serves { K.serves keeper.now pass.new }
-    ensures session { Exchanges R.remaining W.contents session.old session.new
-        (spec.Session lists K.desk) (K.known pass.old) (K.known pass.new) result }
+    ensures session { Exchanges (streams R.remaining W.contents) (visit (K.known keeper.old) session.old)
+        (visit (K.known keeper.new) session.new) spec.Session result }
     ensures counts { SessionCounts session.old session.new result }
 {
     for _ in rt.forever() {
-        match one_request(rt, alloc, session, keeper, pass) {
+        match one_request(session, keeper, observer) {
             Ok(()) => {}
             Err(end) => return end,
         }

@@ -48,12 +48,14 @@ use Rattle.hls_serve_laws.specs.declared.query.QueryFault.TheVariants.{BadQuery}
 use Rattle.hls_serve_laws.specs.declared.route.Route.{Route}
 use Rattle.hls_serve_laws.specs.declared.route.Route.TheVariants as routes
 use Rattle.hls_serve_laws.specs.declared.wanted.Wanted.{Wanted}
-use Rattle.hls_serve_laws.specs.Desks.{Desk}
+use Rattle.hls_jobs.specs.Shared.{HasCounted, HasRemoved}
 use Rattle.hls_serve_laws.specs.Faults.{status_of}
 use Rattle.hls_serve_laws.specs.Ingest.{Ingests, Progress, counts_text}
+use Rattle.hls_serve_laws.specs.JobTable.{IsAdded, IsTold}
+use Rattle.hls_serve_laws.specs.Playlists.{live_master_text, live_text}
 use Rattle.hls_serve_laws.specs.JobReplies.{added_answer, query_answer, file_answer, removed_answer, told_answer}
 use Rattle.hls_serve_laws.specs.Queries.{query_in, request_for, wanted_of}
-use Rattle.hls_serve_laws.specs.Replies.{Answer, Lists, answer_text, fault_answer, finish_answer, list_answer, media_answer, method_answer, playlist_answer, status_answer, text_answer}
+use Rattle.hls_serve_laws.specs.Replies.{Answer, answer_text, fault_answer, finish_answer, list_answer, media_answer, method_answer, playlist_answer, status_answer, text_answer}
 use Rattle.hls_serve_laws.specs.Routes.{allows, feeds, is_to_head, path_of, query_of, removes, route_of}
 
 -- what a request's head asks
@@ -71,6 +73,23 @@ asks_of count h = record {
   range = asked_of (values (codes "range") (fields_of h));
 }
 
+-- a request whose head was read: what it asks, and what is done with it
+pub record Request : Type 0 where
+  pub head : RequestHead
+  pub asks : Asks
+  pub plan : Plan
+
+-- what is known before a request, and the input that is still to come
+pub record Before : Type 0 where
+  pub known : Known
+  pub input : List ℕ
+
+-- what is known behind it, what is held of the input, and what is left of the reader
+pub record After : Type 0 where
+  pub known : Known
+  pub held : List ℕ
+  pub left : Option (List ℕ)
+
 -- HEAD is answered as GET without Range (RFC 9110, sections 9.3.2 and 14.2)
 abbrev pub range_for : Bool → Asked → Asked
 range_for to_head range = cond to_head asks.All range
@@ -82,8 +101,8 @@ abbrev pub ShowsState : Known → Known → (State → Answer) → Answer → Ty
 ShowsState a b shown answer = (s : State) × Looks a s b × (answer ≡ shown s)
 
 -- .. with the number of jobs
-abbrev pub ShowsStatus : Desk → Known → Known → Answer → Type 0
-ShowsStatus desk a b answer = (jobs : ℕ) × desk.counts jobs × ShowsState a b (λ s. status_answer s jobs) answer
+abbrev pub ShowsStatus : Known → Known → Answer → Type 0
+ShowsStatus a b answer = (jobs : ℕ) × HasCounted jobs × ShowsState a b (λ s. status_answer s jobs) answer
 
 -- the event's outcome is replied
 abbrev pub Finishes : Known → ℕ → Known → Answer → Type 0
@@ -92,26 +111,26 @@ Finishes a r b answer = (done : Result Done Refusal) × Submits a (Finish r) don
 -- ---- acts on the table of jobs: one for each request
 
 -- a job is added with a state, and what came of that is replied
-pub record AddsJob (desk : Desk) (s : State) (wanted : Wanted) (answer : Answer) : Type 0 where
+pub record AddsJob (s : State) (wanted : Wanted) (answer : Answer) : Type 0 where
   pub result : Result ℕ JobFault
-  pub adds : desk.adds s (request_for s wanted) result
+  pub adds : IsAdded s (request_for s wanted) result
   pub answer_is : answer ≡ added_answer (length s.log) result
 
 -- a query that asks for nothing comes before a full table
-abbrev pub AddsWanted : Desk → State → Result Wanted QueryFault → Answer → Type 0
-AddsWanted desk s (Err fault) answer = answer ≡ query_answer fault
-AddsWanted desk s (Ok wanted) answer = AddsJob desk s wanted answer
+abbrev pub AddsWanted : State → Result Wanted QueryFault → Answer → Type 0
+AddsWanted s (Err fault) answer = answer ≡ query_answer fault
+AddsWanted s (Ok wanted) answer = AddsJob s wanted answer
 
 -- by the epoch of the state that is seen, which is every state's of the channel
-pub record AsksFor (desk : Desk) (query : Query) (a b : Known) (answer : Answer) : Type 0 where
+pub record AsksFor (query : Query) (a b : Known) (answer : Answer) : Type 0 where
   pub state : State
   pub looks : Looks a state b
-  pub adds : AddsWanted desk state (wanted_of state.config.epoch query) answer
+  pub adds : AddsWanted state (wanted_of state.config.epoch query) answer
 
 -- what isn't a query in any channel needs no look
-abbrev pub CatchesUp : Desk → Option Query → Known → Known → Answer → Type 0
-CatchesUp desk None a b answer = (b ≡ a) × (answer ≡ query_answer BadQuery)
-CatchesUp desk (Some query) a b answer = AsksFor desk query a b answer
+abbrev pub CatchesUp : Option Query → Known → Known → Answer → Type 0
+CatchesUp None a b answer = (b ≡ a) × (answer ≡ query_answer BadQuery)
+CatchesUp (Some query) a b answer = AsksFor query a b answer
 
 -- what is told of a job is replied; where there is none it isn't found, and want of memory has one reply
 abbrev pub IsOfJob : Result Job JobFault → (Job → Option Answer) → Answer → Type 0
@@ -119,11 +138,11 @@ IsOfJob (Ok job) shown answer = shown job ≡ Some answer
 IsOfJob (Err UnknownJob) shown answer = answer ≡ fault_answer http.NotFound
 IsOfJob (Err fault) shown answer = ⊥
 
-abbrev pub ShowsJob : Desk → ℕ → (Job → Option Answer) → Answer → Type 0
-ShowsJob desk id shown answer = (told : Result Job JobFault) × desk.tells id told × IsOfJob told shown answer
+abbrev pub ShowsJob : ℕ → (Job → Option Answer) → Answer → Type 0
+ShowsJob id shown answer = (told : Result Job JobFault) × IsTold id told × IsOfJob told shown answer
 
-abbrev pub RemovesJob : Desk → ℕ → Answer → Type 0
-RemovesJob desk id answer = (gone : Result (Unit {0}) JobFault) × desk.removes id gone × (answer ≡ removed_answer gone)
+abbrev pub RemovesJob : ℕ → Answer → Type 0
+RemovesJob id answer = (gone : Result (Unit {0}) JobFault) × HasRemoved id gone × (answer ≡ removed_answer gone)
 
 -- what is replied of a job that is there: how far it is, or a file
 abbrev pub shown_at : Asks → Route → Job → Option Answer
@@ -136,27 +155,27 @@ abbrev pub shown_if : Asks → Route → Bool → Job → Option Answer
 shown_if q route true job = shown_at q route job
 shown_if q route false job = Some (method_answer route)
 
-abbrev pub ServesJob : Desk → Asks → Route → ℕ → Answer → Bool → Type 0
-ServesJob desk q route id answer true = RemovesJob desk id answer
-ServesJob desk q route id answer false = ShowsJob desk id (shown_if q route (allows route q.method)) answer
+abbrev pub ServesJob : Asks → Route → ℕ → Answer → Bool → Type 0
+ServesJob q route id answer true = RemovesJob id answer
+ServesJob q route id answer false = ShowsJob id (shown_if q route (allows route q.method)) answer
 
 -- ---- by the route
 
 -- where the method is one of its own
-abbrev pub Serves : Lists → Desk → Asks → Route → Known → Answer → Known → Type 0
-Serves lists desk q (routes.Ingest r) a answer b = ⊥
-Serves lists desk q (routes.Finish r) a answer b = Finishes a r b answer
-Serves lists desk q routes.LiveMaster a answer b = ShowsState a b (λ s. playlist_answer (lists.master s)) answer
-Serves lists desk q (routes.LiveList r) a answer b = ShowsState a b (λ s. list_answer (lists.live s r)) answer
-Serves lists desk q (routes.Media r) a answer b = ShowsState a b (λ s. media_answer s r (range_for (is_to_head q.method) q.range)) answer
-Serves lists desk q routes.CatchUp a answer b = CatchesUp desk (query_in q.query) a b answer
-Serves lists desk q (routes.Job id) a answer b = ⊥
-Serves lists desk q (routes.JobFile id file) a answer b = ⊥
-Serves lists desk q routes.Status a answer b = ShowsStatus desk a b answer
+abbrev pub Serves : Asks → Route → Known → Answer → Known → Type 0
+Serves q (routes.Ingest r) a answer b = ⊥
+Serves q (routes.Finish r) a answer b = Finishes a r b answer
+Serves q routes.LiveMaster a answer b = ShowsState a b (λ s. playlist_answer (live_master_text s)) answer
+Serves q (routes.LiveList r) a answer b = ShowsState a b (λ s. list_answer (live_text s r)) answer
+Serves q (routes.Media r) a answer b = ShowsState a b (λ s. media_answer s r (range_for (is_to_head q.method) q.range)) answer
+Serves q routes.CatchUp a answer b = CatchesUp (query_in q.query) a b answer
+Serves q (routes.Job id) a answer b = ⊥
+Serves q (routes.JobFile id file) a answer b = ⊥
+Serves q routes.Status a answer b = ShowsStatus a b answer
 
-abbrev pub ServesAllowed : Lists → Desk → Asks → Route → Known → Answer → Known → Bool → Type 0
-ServesAllowed lists desk q route a answer b true = Serves lists desk q route a answer b
-ServesAllowed lists desk q route a answer b false = (b ≡ a) × (answer ≡ method_answer route)
+abbrev pub ServesAllowed : Asks → Route → Known → Answer → Known → Bool → Type 0
+ServesAllowed q route a answer b true = Serves q route a answer b
+ServesAllowed q route a answer b false = (b ≡ a) × (answer ≡ method_answer route)
 
 -- the job of a route
 abbrev pub job_at : Route → Option ℕ
@@ -165,14 +184,14 @@ job_at (routes.JobFile id file) = Some id
 job_at route = None
 
 -- an unknown job comes before a method that the route hasn't
-abbrev pub ServesBy : Lists → Desk → Asks → Route → Known → Answer → Known → Option ℕ → Type 0
-ServesBy lists desk q route a answer b (Some id) = (b ≡ a) × ServesJob desk q route id answer (removes route q.method)
-ServesBy lists desk q route a answer b None = ServesAllowed lists desk q route a answer b (allows route q.method)
+abbrev pub ServesBy : Asks → Route → Known → Answer → Known → Option ℕ → Type 0
+ServesBy q route a answer b (Some id) = (b ≡ a) × ServesJob q route id answer (removes route q.method)
+ServesBy q route a answer b None = ServesAllowed q route a answer b (allows route q.method)
 
 -- the answer to a request, or want of memory for one
-abbrev pub Responds : Lists → Desk → Asks → Route → Known → Option Answer → Known → Type 0
-Responds lists desk q route a (Some answer) b = ServesBy lists desk q route a answer b (job_at route)
-Responds lists desk q route a None b = LookedOn a b
+abbrev pub Responds : Asks → Route → Known → Option Answer → Known → Type 0
+Responds q route a (Some answer) b = ServesBy q route a answer b (job_at route)
+Responds q route a None b = LookedOn a b
 
 -- ---- what is due
 
@@ -213,17 +232,18 @@ IsDueAtStop h plan bodies.ReadFailed due = due ≡ Silence (first_of h plan) end
 
 -- ---- bodies that are dropped
 
-abbrev pub IsSkipped : Lists → Desk → RequestHead → Asks → Route → Plan → Known → Known → Due → Result (Unit {0}) DropEnd → Type 0
-IsSkipped lists desk h q route plan a b due (Ok done) =
-    (answer : Option Answer) × Responds lists desk q route a answer b × ((due ≡ due_for_maybe h plan answer false) ⊎ (due ≡ due_for_memory h plan))
-IsSkipped lists desk h q route plan a b due (Err drops.TooLarge) = (b ≡ a) × IsDue h plan (fault_answer http.TooLarge) true due
-IsSkipped lists desk h q route plan a b due (Err (drops.Stopped end)) = (b ≡ a) × IsDueAtStop h plan end due
+abbrev pub IsSkipped : Request → Route → Known → Known → Due → Result (Unit {0}) DropEnd → Type 0
+IsSkipped request route a b due (Ok done) =
+    (answer : Option Answer) × Responds request.asks route a answer b
+    × ((due ≡ due_for_maybe request.head request.plan answer false) ⊎ (due ≡ due_for_memory request.head request.plan))
+IsSkipped request route a b due (Err drops.TooLarge) = (b ≡ a) × IsDue request.head request.plan (fault_answer http.TooLarge) true due
+IsSkipped request route a b due (Err (drops.Stopped end)) = (b ≡ a) × IsDueAtStop request.head request.plan end due
 
-pub record Skips (lists : Lists) (desk : Desk) (h : RequestHead) (q : Asks) (route : Route) (plan : Plan) (a : Known) (body : Body) (input : List ℕ) (due : Due) (b : Known) (held : List ℕ) (left : Option (List ℕ)) : Type 0 where
+pub record Skips (request : Request) (route : Route) (body : Body) (x : Before) (due : Due) (y : After) : Type 0 where
   pub last : Body
   pub result : Result (Unit {0}) DropEnd
-  pub drops : Drops body input last held left result
-  pub skipped : IsSkipped lists desk h q route plan a b due result
+  pub drops : Drops body x.input last y.held y.left result
+  pub skipped : IsSkipped request route x.known y.known due result
 
 -- ---- encoders' bodies
 
@@ -241,52 +261,59 @@ IsFed h plan early y due (Err (came.Refused fault)) = IsDue h plan (refused_answ
 IsFed h plan early y due (Err came.Memory) = due ≡ due_for_memory h plan
 IsFed h plan early y due (Err (came.Stopped end)) = IsDueAtStop h plan end due
 
-pub record Feeds (h : RequestHead) (plan : Plan) (r : ℕ) (a : Known) (body : Body) (input : List ℕ) (due : Due) (b : Known) (held : List ℕ) (left : Option (List ℕ)) : Type 0 where
+pub record Feeds (request : Request) (r : ℕ) (body : Body) (x : Before) (due : Due) (y : After) : Type 0 where
   pub last : Body
   pub progress : Progress
   pub early : Bool
   pub result : Result (Unit {0}) Intake
-  pub ingests : Ingests r a body input last held left progress early result
-  pub known : b ≡ progress.known
-  pub fed : IsFed h plan early progress due result
+  pub ingests : Ingests r x.known body x.input last y.held y.left progress early result
+  pub known : y.known ≡ progress.known
+  pub fed : IsFed request.head request.plan early progress due result
 
 -- ---- a request
 
 -- the rendition that an encoder's body is for
-abbrev pub FeedsBy : Option Route → RequestHead → Plan → Known → Body → List ℕ → Due → Known → List ℕ → Option (List ℕ) → Type 0
-FeedsBy (Some (routes.Ingest r)) h plan a body input due b held left = Feeds h plan r a body input due b held left
-FeedsBy route h plan a body input due b held left = ⊥
+abbrev pub FeedsBy : Option Route → Request → Body → Before → Due → After → Type 0
+FeedsBy (Some (routes.Ingest r)) request body x due y = Feeds request r body x due y
+FeedsBy route request body x due y = ⊥
 
-abbrev pub SkipsBy : Option Route → Lists → Desk → RequestHead → Asks → Plan → Known → Body → List ℕ → Due → Known → List ℕ → Option (List ℕ) → Type 0
-SkipsBy None lists desk h q plan a body input due b held left = ⊥
-SkipsBy (Some route) lists desk h q plan a body input due b held left = Skips lists desk h q route plan a body input due b held left
+abbrev pub SkipsBy : Option Route → Request → Body → Before → Due → After → Type 0
+SkipsBy None request body x due y = ⊥
+SkipsBy (Some route) request body x due y = Skips request route body x due y
 
 -- by what is done with it: refused before its body, its body taken part by part, or its body dropped
-abbrev pub Follows : Lists → Desk → RequestHead → Asks → Plan → Known → List ℕ → Due → Known → List ℕ → Option (List ℕ) → Type 0
-Follows lists desk h q (Refuse fault closing) a input due b held left =
-    (b ≡ a) × (prepend_known held left ≡ Some input) × IsDue h (Refuse fault closing) (fault_answer fault) closing due
-Follows lists desk h q (Feed body) a input due b held left = FeedsBy q.route h (Feed body) a body input due b held left
-Follows lists desk h q (Skip body) a input due b held left = SkipsBy q.route lists desk h q (Skip body) a body input due b held left
+abbrev pub FollowsBy : Plan → Request → Before → Due → After → Type 0
+FollowsBy (Refuse fault closing) request x due y =
+    (y.known ≡ x.known) × (prepend_known y.held y.left ≡ Some x.input) × IsDue request.head request.plan (fault_answer fault) closing due
+FollowsBy (Feed body) request x due y = FeedsBy request.asks.route request body x due y
+FollowsBy (Skip body) request x due y = SkipsBy request.asks.route request body x due y
+
+abbrev pub Follows : Request → Before → Due → After → Type 0
+Follows request x due y = FollowsBy request.plan request x due y
 
 abbrev pub plan_for : RequestHead → Asks → Plan
 plan_for h q = plan_by (begins h) (is_some q.route) (feeds q.route q.method)
 
+-- a head as a request, in a channel of so many renditions
+abbrev pub request_of : ℕ → RequestHead → Request
+request_of count h = record { head = h; asks = asks_of count h; plan = plan_for h (asks_of count h) }
+
 -- 100 Continue couldn't be written: nothing more is done
-pub record IsUnheard (h : RequestHead) (plan : Plan) (a : Known) (due : Due) (b : Known) : Type 0 where
+pub record IsUnheard (request : Request) (a : Known) (due : Due) (b : Known) : Type 0 where
   pub same : b ≡ a
-  pub waited : continues h plan ≡ true
+  pub waited : continues request.head request.plan ≡ true
   pub due_is : due ≡ Silence continue_text ends.WriteFailed
 
--- a request whose head stands at the front of the input, in a channel of so many renditions
-pub record HearsHead (lists : Lists) (desk : Desk) (a : Known) (input : List ℕ) (due : Due) (b : Known) (held : List ℕ) (left : Option (List ℕ)) : Type 0 where
+-- a request whose head was read
+abbrev pub IsHeard : Request → Before → Due → After → Type 0
+IsHeard request x due y = Follows request x due y ⊎ IsUnheard request x.known due y.known
+
+-- a request whose head stands at the front of the input
+pub record HearsHead (x : Before) (due : Due) (y : After) : Type 0 where
   pub head : RequestHead
   pub behind : List ℕ
-  pub reads : ReadsSmall input head behind
-  pub asked : Asks
-  pub asked_is : asked ≡ asks_of (length a.seen.config.renditions) head
-  pub plan : Plan
-  pub plan_is : plan ≡ plan_for head asked
-  pub follows : Follows lists desk head asked plan a behind due b held left ⊎ IsUnheard head plan a due b
+  pub reads : ReadsSmall x.input head behind
+  pub heard : IsHeard (request_of (length x.known.seen.config.renditions) head) (record { known = x.known; input = behind }) due y
 
 -- what is due where no head comes
 abbrev pub refused_head : HttpFault → Due
@@ -299,13 +326,13 @@ IsDueWithoutHead heads.BadHead due = (due ≡ refused_head http.BadHead) ⊎ (du
 IsDueWithoutHead heads.HeadTooLarge due = (due ≡ refused_head http.HeadTooLarge) ⊎ (due ≡ Reply (no_memory_to false) true false)
 IsDueWithoutHead heads.ReadFailed due = due ≡ Silence [] ends.ReadFailed
 
-pub record HearsNone (a : Known) (input : List ℕ) (due : Due) (b : Known) (held : List ℕ) (left : Option (List ℕ)) : Type 0 where
-  pub same : b ≡ a
+pub record HearsNone (x : Before) (due : Due) (y : After) : Type 0 where
+  pub same : y.known ≡ x.known
   pub taken : List ℕ
   pub end : HeadEnd
-  pub hears : Hears input taken held left (Err end)
+  pub hears : Hears x.input taken y.held y.left (Err end)
   pub due_is : IsDueWithoutHead end due
 
--- what stands at the front of the input comes to this: what is due, what the pass then knows, and what is still to be read
-abbrev pub Heard : Lists → Desk → Known → List ℕ → Due → Known → List ℕ → Option (List ℕ) → Type 0
-Heard lists desk a input due b held left = HearsHead lists desk a input due b held left ⊎ HearsNone a input due b held left
+-- what stands at the front of the input comes to this: what is due, what the keeper then knows, and what is still to be read
+abbrev pub Heard : Before → Due → After → Type 0
+Heard x due y = HearsHead x due y ⊎ HearsNone x due y

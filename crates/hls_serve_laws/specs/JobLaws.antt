@@ -10,7 +10,6 @@ use Rattle.hls_catchup.specs.Replies.{ReplyData, IsRightReply}
 use Rattle.hls_catchup.specs.Plays.{IsAnswered}
 use Rattle.hls_jobs.specs.Line.{result_line}
 use Rattle.hls_serve_laws.specs.declared.route.JobFile.{JobFile}
-use Rattle.hls_serve_laws.specs.Desks.{shared_desk}
 use Rattle.hls_serve_laws.specs.Heard.{ShowsJob}
 use Rattle.hls_serve_laws.specs.JobReplies.{file_answer, reply_answer, told_answer}
 use Rattle.hls_serve_laws.specs.Replies.{Answer, fault_answer, text_answer}
@@ -25,7 +24,7 @@ pub record IsOfRightReply (file : JobFile) (asked : Asked) (answer : Answer) : T
 
 -- whatever is replied to a request for a job's file, it is that of a right reply; or there is no such job, or no reply
 abbrev pub FilesAreRight : Type 0
-FilesAreRight = (id : ℕ) (file : JobFile) (asked : Asked) (answer : Answer) → ShowsJob shared_desk id (file_answer file asked) answer →
+FilesAreRight = (id : ℕ) (file : JobFile) (asked : Asked) (answer : Answer) → ShowsJob id (file_answer file asked) answer →
     (answer ≡ fault_answer http.NotFound) ⊎ ((answer ≡ fault_answer http.Conflict) ⊎ IsOfRightReply file asked answer)
 
 -- the line of the right answer of some state to some request, with that state's version
@@ -42,5 +41,5 @@ IsOfUnfinished answer = (answer ≡ text_answer Done (codes "waiting\n")) ⊎ (a
 
 -- whatever is told of a job, it is that of a right answer; or there is no such job, or no answer yet
 abbrev pub LinesAreRight : Type 0
-LinesAreRight = (id : ℕ) (answer : Answer) → ShowsJob shared_desk id told_answer answer →
+LinesAreRight = (id : ℕ) (answer : Answer) → ShowsJob id told_answer answer →
     (answer ≡ fault_answer http.NotFound) ⊎ (IsOfUnfinished answer ⊎ IsOfRightAnswer answer)

@@ -1,9 +1,10 @@
-pub mod Desks
 pub mod Faults
 pub mod Heard
 pub mod Ingest
 pub mod JobLaws
 pub mod JobReplies
+pub mod JobTable
+pub mod Playlists
 pub mod Queries
 pub mod Replies
 pub mod RouteLaws

@@ -134,8 +134,3 @@ playlist_answer text = record { status = Done; kind = Playlist; field = []; body
 abbrev pub list_answer : Option (List ℕ) → Answer
 list_answer None = fault_answer http.NotFound
 list_answer (Some text) = playlist_answer text
-
--- the texts of a channel's playlists: the live list of a rendition, and the master playlist
-pub record Lists : Type 0 where
-  pub live : State → ℕ → Option (List ℕ)
-  pub master : State → List ℕ

@@ -5,9 +5,7 @@ use Rattle.hls_io.specs.Writing.{Writes}
 use Rattle.hls_http_laws.specs.declared.end.SessionEnd.{SessionEnd}
 use Rattle.hls_http_laws.specs.declared.end.SessionEnd.TheVariants as ends
 use Rattle.hls_turn.specs.Passes.{Known}
-use Rattle.hls_serve_laws.specs.Desks.{Desk}
-use Rattle.hls_serve_laws.specs.Heard.{Due, Reply, Silence, Heard}
-use Rattle.hls_serve_laws.specs.Replies.{Lists}
+use Rattle.hls_serve_laws.specs.Heard.{After, Due, Reply, Silence, Heard}
 
 -- what is due, written behind what was there; the session goes on behind a reply that doesn't close
 abbrev pub Comes : Due → List ℕ → Option (List ℕ) → Result (Unit {0}) SessionEnd → Type 0
@@ -22,26 +20,26 @@ Comes (Silence first ends.WriteFailed) out contents (Err found) = (found ≡ end
 Comes (Silence first end) out contents (Err found) = (found ≡ end) × (contents ≡ Some (out ++ first))
 
 -- so many requests, each answered by a reply behind which the session goes on
-abbrev pub RunsIn : ℕ → Lists → Desk → Known → List ℕ → List ℕ → Known → List ℕ → Type 0
-RunsIn zero lists desk a input text b rest = (b ≡ a) × (rest ≡ input) × (text ≡ [])
-RunsIn (suc n) lists desk a input text b rest =
-    (first : List ℕ) × (success : Bool) × (middle : Known) × (held : List ℕ) × (left : Option (List ℕ)) × (behind : List ℕ) × (more : List ℕ)
-    × Heard lists desk a input (Reply first false success) middle held left × (prepend_known held left ≡ Some behind)
-    × RunsIn n lists desk middle behind more b rest × (text ≡ first ++ more)
+abbrev pub RunsIn : ℕ → Known → List ℕ → List ℕ → Known → List ℕ → Type 0
+RunsIn zero a input text b rest = (b ≡ a) × (rest ≡ input) × (text ≡ [])
+RunsIn (suc n) a input text b rest =
+    (first : List ℕ) × (success : Bool) × (middle : After) × (behind : List ℕ) × (more : List ℕ)
+    × Heard (record { known = a; input = input }) (Reply first false success) middle × (prepend_known middle.held middle.left ≡ Some behind)
+    × RunsIn n middle.known behind more b rest × (text ≡ first ++ more)
 
-pub record Runs (lists : Lists) (desk : Desk) (a : Known) (input text : List ℕ) (b : Known) (rest : List ℕ) : Type 0 where
+pub record Runs (a : Known) (input text : List ℕ) (b : Known) (rest : List ℕ) : Type 0 where
   pub count : ℕ
-  pub run : RunsIn count lists desk a input text b rest
+  pub run : RunsIn count a input text b rest
 
 -- a session: requests that were answered, and then the one that ends it, or the input's end or a failure. So reading stops
 -- only there, or behind a reply with `Connection: close`
-pub record Session (lists : Lists) (desk : Desk) (a : Known) (input out : List ℕ) (contents : Option (List ℕ)) (b : Known) (end : SessionEnd) : Type 0 where
+pub record Session (a : Known) (input out : List ℕ) (contents : Option (List ℕ)) (b : Known) (end : SessionEnd) : Type 0 where
   pub text : List ℕ
   pub middle : Known
   pub rest : List ℕ
-  pub runs : Runs lists desk a input text middle rest
+  pub runs : Runs a input text middle rest
   pub due : Due
-  pub held : List ℕ
-  pub left : Option (List ℕ)
-  pub heard : Heard lists desk middle rest due b held left
+  pub after : After
+  pub known : b ≡ after.known
+  pub heard : Heard (record { known = middle; input = rest }) due after
   pub comes : Comes due (out ++ text) contents (Err end)

@@ -7,7 +7,8 @@ use crate::fakes::Pieces;
 use crate::script::GONE;
 use crate::streams::put;
 use hls_http::Session;
-use hls_serve::alone::{Alone, Own};
+use hls_serve::alone::Alone;
+use hls_serve::news::Unobserved;
 use hls_serve::session::session_on;
 use std::alloc::{AllocError, Global};
 use std::process::Abort;
@@ -18,20 +19,25 @@ use std::test::Fail;
 pub fn replies<T: Wait>(
     rt: &T,
     alloc: Global,
-    own: &mut Own,
+    own: &mut Alone,
     reader: Pieces<'_>,
 ) -> Result<Vec<u8>, Fail>
     ensures { IfOk result (λ bytes. length bytes.items < 2 ^ 64) }
 {
     let mut out = Vec::new(alloc);
     let mut session = Session::new(alloc, reader, &mut out)?;
-    let _ = session_on(rt, alloc, &mut session, &Alone, own);
+    let _ = session_on(rt, &mut session, own, &Unobserved);
     drop(session);
     Ok(out)
 }
 
 /// What goes out for a text of requests.
-pub fn answered<T: Wait>(rt: &T, alloc: Global, own: &mut Own, text: &[u8]) -> Result<Vec<u8>, Fail>
+pub fn answered<T: Wait>(
+    rt: &T,
+    alloc: Global,
+    own: &mut Alone,
+    text: &[u8],
+) -> Result<Vec<u8>, Fail>
     ensures { IfOk result (λ bytes. length bytes.items < 2 ^ 64) }
 {
     replies(rt, alloc, own, Pieces::new(text, usize::MAX, usize::MAX))
@@ -84,7 +90,12 @@ fn add_exchange(
 
 /// Sends the requests of a text in one session, and compares what goes out with their replies. An empty line stands between
 /// two exchanges; the lines of one are the method and the target, the reply's head as for `reply`, and the reply's text.
-pub fn talk(rt: &(impl Wait + Abort), alloc: Global, own: &mut Own, text: &str) -> Result<(), Fail>
+pub fn talk(
+    rt: &(impl Wait + Abort),
+    alloc: Global,
+    own: &mut Alone,
+    text: &str,
+) -> Result<(), Fail>
     ensures { 0 ≤ own.new.number }
 {
     let mut requests = Vec::new(alloc);
@@ -101,7 +112,7 @@ pub fn talk(rt: &(impl Wait + Abort), alloc: Global, own: &mut Own, text: &str) 
 pub fn puts(
     rt: &(impl Wait + Abort),
     alloc: Global,
-    own: &mut Own,
+    own: &mut Alone,
     body: &[u8],
     told: (&str, &str),
 ) -> Result<(), Fail>
@@ -121,7 +132,7 @@ pub type Part = (&'static str, &'static str, usize, usize);
 pub fn gives_parts(
     rt: &(impl Wait + Abort),
     alloc: Global,
-    own: &mut Own,
+    own: &mut Alone,
     request: &str,
     media: &[u8],
     parts: &[Part],

@@ -10,7 +10,7 @@ use hls_core::snapshot::Snapshot;
 use hls_core_laws::event::Event;
 use hls_core_laws::rendition::Rendition;
 use hls_jobs::{JobFault, JobTable, run_job};
-use hls_serve::alone::{Alone, Own};
+use hls_serve::alone::Alone;
 use hls_serve::keeper::Keeper;
 use hls_turn::Done;
 use std::alloc::{AllocError, Global};
@@ -37,10 +37,11 @@ pub fn opening(alloc: Global, epoch: Option<i64>) -> Option<Snapshot> {
 }
 
 /// A channel of this state, with no job.
-pub fn owned(alloc: Global, snapshot: Snapshot) -> Result<Own, AllocError>
+pub fn owned(alloc: Global, snapshot: Snapshot) -> Result<Alone, AllocError>
     ensures { IfOk result (λ own. own.number ≡ 0) }
 {
-    Ok(Own {
+    Ok(Alone {
+        alloc,
         snapshot: Arc::new(alloc, snapshot)?,
         number: 0,
         jobs: JobTable::new(alloc)?,
@@ -48,14 +49,14 @@ pub fn owned(alloc: Global, snapshot: Snapshot) -> Result<Own, AllocError>
 }
 
 /// A channel of one rendition, before anything came.
-pub fn opened(alloc: Global) -> Result<Own, Fail>
+pub fn opened(alloc: Global) -> Result<Alone, Fail>
     ensures { IfOk result (λ own. own.number ≡ 0) }
 {
     Ok(owned(alloc, opening(alloc, None).ok_or("no channel")?)?)
 }
 
 /// A channel of a video and an audio rendition, before anything came.
-pub fn video_and_audio(alloc: Global, tolerance: u64) -> Result<Own, Fail>
+pub fn video_and_audio(alloc: Global, tolerance: u64) -> Result<Alone, Fail>
     ensures { IfOk result (λ own. own.number ≡ 0) }
 {
     let audio = Rendition {
@@ -75,7 +76,7 @@ pub fn with_units<T: Wait>(
     alloc: Global,
     units: u32,
     epoch: Option<i64>,
-) -> Result<Own, Fail>
+) -> Result<Alone, Fail>
     ensures { IfOk result (λ own. 0 ≤ own.number) }
 {
     let mut own = owned(alloc, opening(alloc, epoch).ok_or("no channel")?)?;
@@ -85,7 +86,7 @@ pub fn with_units<T: Wait>(
 }
 
 /// Runs all jobs that wait.
-pub fn run_all(alloc: Global, own: &mut Own) -> Result<(), JobFault>
+pub fn run_all(alloc: Global, own: &mut Alone) -> Result<(), JobFault>
     ensures { 0 ≤ own.new.number }
 {
     for _ in 0..64u32 {
@@ -98,7 +99,7 @@ pub fn run_all(alloc: Global, own: &mut Own) -> Result<(), JobFault>
 }
 
 /// Brings an event of upkeep; whether it was new.
-pub fn is_new<T: Wait>(rt: &T, alloc: Global, own: &mut Own, event: Event) -> bool
+pub fn is_new(own: &mut Alone, event: Event) -> bool
     ensures { 0 ≤ own.new.number }
 {
     match event {
@@ -106,5 +107,5 @@ pub fn is_new<T: Wait>(rt: &T, alloc: Global, own: &mut Own, event: Event) -> bo
         Event::Trim { .. } => {}
         _ => return false,
     }
-    matches!(Alone.submit(rt, alloc, own, event), Ok(Done::New { .. }))
+    matches!(own.submit(event), Ok(Done::New { .. }))
 }

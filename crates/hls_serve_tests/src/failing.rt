@@ -12,7 +12,8 @@ use crate::script::{
 };
 use crate::streams::unit;
 use hls_http::{Session, SessionEnd};
-use hls_serve::alone::{Alone, Own};
+use hls_serve::alone::Alone;
+use hls_serve::news::Unobserved;
 use hls_serve::session::session_on;
 use std::alloc::Global;
 use std::process::Abort;
@@ -26,14 +27,14 @@ const MOST_CALLS: usize = 100_000;
 pub fn hold<T: Wait>(
     rt: &T,
     alloc: Global,
-    own: &mut Own,
+    own: &mut Alone,
     reader: &mut Drips<'_>,
     writer: &mut Sink,
 ) -> Result<SessionEnd, Fail>
     ensures { 0 ≤ own.new.number }
 {
     let mut session = Session::new(alloc, reader, writer)?;
-    Ok(session_on(rt, alloc, &mut session, &Alone, own))
+    Ok(session_on(rt, &mut session, own, &Unobserved))
 }
 
 /// The side of a session that fails.
@@ -59,7 +60,7 @@ struct Held {
 fn hold_failing<T: Wait>(
     rt: &T,
     alloc: Global,
-    own: &mut Own,
+    own: &mut Alone,
     texts: (&[u8], &[u8]),
     side: Side,
     step: usize,
@@ -125,7 +126,7 @@ fn is_at_its_stage(side: Side, held: Held, version: u64) -> bool {
 
 /// Whether all of the encoder's requests, sent again, are answered as by what the channel has, and bring it to its last version
 /// with the stream's bytes.
-fn goes_on<T: Wait>(rt: &T, alloc: Global, own: &mut Own, text: &[u8]) -> Result<bool, Fail>
+fn goes_on<T: Wait>(rt: &T, alloc: Global, own: &mut Alone, text: &[u8]) -> Result<bool, Fail>
     ensures { 0 ≤ own.new.number }
 {
     let id = own.jobs.len().wrapping_add(1);
@@ -243,7 +244,7 @@ fn a_job_is_gone_where_its_reply_fails(rt: HostRuntime) -> Result<(), Fail> {
 fn is_answered_in_drips<T: Wait>(
     rt: &T,
     alloc: Global,
-    own: &mut Own,
+    own: &mut Alone,
     text: &[u8],
     replies: &[u8],
     step: usize,

@@ -6,7 +6,7 @@ use crate::asking::{answered, gives_parts, talk};
 use crate::channels::{run_all, video_and_audio, with_units};
 use crate::streams::{init, put, stream};
 use hls_samples::{init_bytes, unit_bytes};
-use hls_serve::alone::Own;
+use hls_serve::alone::Alone;
 use std::alloc::Global;
 use std::process::Abort;
 use std::sync::Wait;
@@ -305,7 +305,7 @@ fn a_programme_by_the_clock_in_a_full_table(rt: HostRuntime) -> Result<(), Fail>
 fn send_all(
     rt: &(impl Wait + Abort),
     alloc: Global,
-    own: &mut Own,
+    own: &mut Alone,
     rendition: usize,
     init: &[u8],
     units: &[(u64, u32)],

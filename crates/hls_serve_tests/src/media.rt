@@ -159,7 +159,7 @@ fn media_whose_front_is_trimmed(rt: HostRuntime) -> Result<(), Fail> {
         ),
     ];
     for (event, want) in events {
-        assert_eq!(rt; is_new(&rt, alloc, &mut own, event), want);
+        assert_eq!(rt; is_new(&mut own, event), want);
     }
     let media = stream(alloc, 10)?;
     gives_parts(&rt, alloc, &mut own, "GET /media/0.mp4", &media, &TRIMMED)?;

@@ -13,26 +13,27 @@ use crate::script::{
 use crate::went::{Went, judged, status_of};
 use hls_http::Session;
 use hls_jobs::Job;
-use hls_serve::alone::{Alone, Own};
+use hls_serve::alone::Alone;
+use hls_serve::news::Unobserved;
 use hls_serve::session::session_on;
 use std::alloc::Global;
 use std::sync::Wait;
 use std::test::Fail;
 
 /// How a session goes that is to give these replies.
-fn hold<T: Wait>(rt: &T, alloc: Global, own: &mut Own, text: &[u8], replies: &[&[u8]]) -> Went
+fn hold<T: Wait>(rt: &T, alloc: Global, own: &mut Alone, text: &[u8], replies: &[&[u8]]) -> Went
     ensures { 0 ≤ own.new.number }
 {
     let Ok(mut session) = Session::new(alloc, text, Page::new()) else {
         return Went::Wanted;
     };
-    let end = session_on(rt, alloc, &mut session, &Alone, own);
+    let end = session_on(rt, &mut session, own, &Unobserved);
     let page = session.writer.into_inner();
     judged(page.written(), end, replies)
 }
 
 /// A job that failed for memory is answered so at its line and each of its files, and goes as any other.
-fn look_at_failed<T: Wait>(rt: &T, alloc: Global, own: &mut Own, id: u32) -> Option<Went>
+fn look_at_failed<T: Wait>(rt: &T, alloc: Global, own: &mut Alone, id: u32) -> Option<Went>
     ensures { 0 ≤ own.new.number }
 {
     for file in FILE_NAMES {
@@ -50,7 +51,7 @@ fn look_at_failed<T: Wait>(rt: &T, alloc: Global, own: &mut Own, id: u32) -> Opt
 fn look_at_job<T: Wait>(
     rt: &T,
     alloc: Global,
-    own: &mut Own,
+    own: &mut Alone,
     id: u32,
     files: &Files,
 ) -> Option<Went>
@@ -71,7 +72,7 @@ fn look_at_job<T: Wait>(
 }
 
 /// Whether the channel holds just what its version says: an init section and units, and not a byte beside them.
-fn holds_what_it_counts(own: &Own) -> bool {
+fn holds_what_it_counts(own: &Alone) -> bool {
     let version = own.snapshot.version();
     match own.snapshot.recording(0) {
         Some(recording) => {
@@ -87,7 +88,7 @@ fn holds_what_it_counts(own: &Own) -> bool {
 fn send<T: Wait>(
     rt: &T,
     alloc: Global,
-    own: &mut Own,
+    own: &mut Alone,
     id: u32,
     files: &Files,
 ) -> Option<(Went, bool)>

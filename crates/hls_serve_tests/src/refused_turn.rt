@@ -1,8 +1,6 @@
 //! The script through a turn and a table of jobs, on one thread, with any one request for memory refused: as `refused`, and the
 //! turn's state is in its place again, since a session of another pass goes on.
 
-ghost use Rattle.std.specs.Prelude.{◌≡◌};
-
 use crate::channels::opening;
 use crate::faults::Page;
 use crate::script::{
@@ -11,28 +9,20 @@ use crate::script::{
 use crate::went::{Went, judged, status_of};
 use hls_http::Session;
 use hls_jobs::{Gate, Job, Jobs, work_loop};
-use hls_serve::channel::{Channel, serve_session};
-use hls_turn::{Pass, Turn};
+use hls_serve::channel::Channel;
+use hls_serve::keeper::Keeper;
+use hls_serve::station::{Station, serve_session};
+use hls_turn::Turn;
 use std::alloc::Global;
 use std::sync::Wait;
 use std::test::Fail;
 
 /// How a session goes that is to give these replies.
-fn hold<T: Wait>(
-    rt: &T,
-    alloc: Global,
-    channel: &Channel<'_>,
-    pass: &mut Pass,
-    text: &[u8],
-    replies: &[&[u8]],
-) -> Went
-    requires { pass.old.turn ≡ channel.now.turn.now }
-    ensures { pass.new.turn ≡ channel.now.turn.now }
-{
-    let Ok(mut session) = Session::new(alloc, text, Page::new()) else {
+fn hold<T: Wait>(station: &mut Station<'_, T>, text: &[u8], replies: &[&[u8]]) -> Went {
+    let Ok(mut session) = Session::new(station.alloc, text, Page::new()) else {
         return Went::Wanted;
     };
-    let end = serve_session(rt, alloc, &mut session, channel.turn, pass, channel.jobs);
+    let end = serve_session(&mut session, station);
     let page = session.writer.into_inner();
     judged(page.written(), end, replies)
 }
@@ -48,95 +38,64 @@ impl Gate for Open {
 }
 
 /// A job that failed for memory is answered so at its line and each of its files, and goes as any other.
-fn look_at_failed<T: Wait>(
-    rt: &T,
-    alloc: Global,
-    channel: &Channel<'_>,
-    pass: &mut Pass,
-    id: u32,
-) -> Option<Went>
-    requires { pass.old.turn ≡ channel.now.turn.now }
-    ensures { pass.new.turn ≡ channel.now.turn.now }
-{
+fn look_at_failed<T: Wait>(station: &mut Station<'_, T>, id: u32) -> Option<Went> {
     for file in FILE_NAMES {
-        let text = get_file(alloc, id, file).ok()?;
-        if hold(rt, alloc, channel, pass, &text, &[GONE]) != Went::Wanted {
+        let text = get_file(station.alloc, id, file).ok()?;
+        if hold(station, &text, &[GONE]) != Went::Wanted {
             return Some(Went::Astray);
         }
     }
-    let text = delete(alloc, id).ok()?;
-    let gone = hold(rt, alloc, channel, pass, &text, &[GONE]);
+    let text = delete(station.alloc, id).ok()?;
+    let gone = hold(station, &text, &[GONE]);
     Some(Went::Wanted.and(gone))
 }
 
 /// How the job of an id is found once it was run, and goes.
-fn look_at_job<T: Wait>(
-    rt: &T,
-    alloc: Global,
-    channel: &Channel<'_>,
-    pass: &mut Pass,
-    id: u32,
-    files: &Files,
-) -> Option<Went>
-    requires { pass.old.turn ≡ channel.now.turn.now }
-    ensures { pass.new.turn ≡ channel.now.turn.now }
-{
-    match channel.jobs.get(rt, u64::from(id)) {
+fn look_at_job<T: Wait>(station: &mut Station<'_, T>, id: u32, files: &Files) -> Option<Went> {
+    match station.job(u64::from(id)) {
         Ok(Job::Finished(_)) => {}
-        Ok(Job::Failed) => return look_at_failed(rt, alloc, channel, pass, id),
+        Ok(Job::Failed) => return look_at_failed(station, id),
         _ => return Some(Went::Astray),
     }
-    let text = get_files(alloc, id).ok()?;
-    let went = hold(rt, alloc, channel, pass, &text, &files.replies());
+    let text = get_files(station.alloc, id).ok()?;
+    let went = hold(station, &text, &files.replies());
     if went != Went::Ample {
         return Some(went);
     }
-    let text = delete(alloc, id).ok()?;
-    Some(hold(rt, alloc, channel, pass, &text, &[GONE]))
+    let text = delete(station.alloc, id).ok()?;
+    Some(hold(station, &text, &[GONE]))
 }
 
 /// How many events the channel has.
-fn version_of<T: Wait>(rt: &T, alloc: Global, channel: &Channel<'_>, pass: &mut Pass) -> Option<u64>
-    requires { pass.old.turn ≡ channel.now.turn.now }
-    ensures { pass.new.turn ≡ channel.now.turn.now }
-{
-    Some(channel.turn.look(rt, alloc, pass).ok()?.version())
+fn version_of<T: Wait>(station: &mut Station<'_, T>) -> Option<u64> {
+    Some(station.look().ok()?.version())
 }
 
-/// Sends the script with one pass to the channel, whose next job has this id, up to the first want of memory, and asks for the
-/// channel's status with another pass: how that went, and whether a job was added; none where the texts for it were refused
-/// memory.
+/// Sends the script at one station to the channel, whose next job has this id, up to the first want of memory, and asks for the
+/// channel's status at another: how that went, and whether a job was added; none where the texts for it were refused memory.
 fn send<T: Wait>(
-    rt: &T,
-    alloc: Global,
-    channel: &Channel<'_>,
-    pass: &mut Pass,
-    other: &mut Pass,
+    station: &mut Station<'_, T>,
+    other: &mut Station<'_, T>,
     id: u32,
     files: &Files,
-) -> Option<(Went, bool)>
-    requires ours { pass.old.turn ≡ channel.now.turn.now }
-    requires others { other.old.turn ≡ channel.now.turn.now }
-    ensures ours { pass.new.turn ≡ channel.now.turn.now }
-    ensures others { other.new.turn ≡ channel.now.turn.now }
-{
-    let text = encoder(alloc).ok()?;
-    let replies = encoder_replies(version_of(rt, alloc, channel, other)?, id as usize);
-    let before = channel.jobs.len(rt);
-    let mut went = hold(rt, alloc, channel, pass, &text, &replies);
-    let is_added = channel.jobs.len(rt) > before;
+) -> Option<(Went, bool)> {
+    let text = encoder(station.alloc).ok()?;
+    let replies = encoder_replies(version_of(other)?, id as usize);
+    let before = station.jobs();
+    let mut went = hold(station, &text, &replies);
+    let is_added = station.jobs() > before;
     if went == Went::Ample {
-        work_loop(rt, alloc, channel.jobs, &Open);
-        went = look_at_job(rt, alloc, channel, pass, id, files)?;
+        work_loop(station.rt, station.alloc, station.channel.jobs, &Open);
+        went = look_at_job(station, id, files)?;
     }
-    let version = version_of(rt, alloc, channel, other)?;
-    let status = status_of(alloc, version, channel.jobs.len(rt)).ok()?;
+    let version = version_of(other)?;
+    let status = status_of(station.alloc, version, station.jobs()).ok()?;
     let request = b"GET /status HTTP/1.1\r\nHost: a\r\n\r\n";
-    let told = hold(rt, alloc, channel, other, request, &[&status]);
+    let told = hold(other, request, &[&status]);
     Some((went.and(told), is_added))
 }
 
-/// Sends the script to a new channel with one pass, and then with another: how that went, and how many events there are then;
+/// Sends the script to a new channel at one station, and then at another: how that went, and how many events there are then;
 /// none where the turn, the jobs or a text were refused memory.
 fn send_twice<T: Wait>(rt: &T, alloc: Global) -> Option<(Went, u64)> {
     let files = Files::new(alloc).ok()?;
@@ -150,16 +109,18 @@ fn send_twice<T: Wait>(rt: &T, alloc: Global) -> Option<(Went, u64)> {
         turn: &turn,
         jobs: &jobs,
     };
-    let Some(mut second) = passes.pop() else {
+    let Some(second) = passes.pop() else {
         return None;
     };
-    let Some(mut first) = passes.pop() else {
+    let Some(first) = passes.pop() else {
         return None;
     };
-    let (went, is_added) = send(rt, alloc, &channel, &mut first, &mut second, 1, &files)?;
+    let mut first = Station::new(rt, alloc, &channel, first);
+    let mut second = Station::new(rt, alloc, &channel, second);
+    let (went, is_added) = send(&mut first, &mut second, 1, &files)?;
     let id = if is_added { 2 } else { 1 };
-    let (then, _) = send(rt, alloc, &channel, &mut second, &mut first, id, &files)?;
-    let version = version_of(rt, alloc, &channel, &mut first)?;
+    let (then, _) = send(&mut second, &mut first, id, &files)?;
+    let version = version_of(&mut first)?;
     Some((went.and(then), version))
 }
 

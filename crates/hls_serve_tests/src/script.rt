@@ -6,7 +6,7 @@ ghost use Rattle.std.specs.Prelude.{◌≤◌, ◌<◌, ◌^◌, IfOk, length};
 use crate::asking::{answered, reply};
 use crate::channels::{opened, run_all};
 use crate::streams::{put, stream};
-use hls_serve::alone::Own;
+use hls_serve::alone::Alone;
 use std::alloc::{AllocError, Global};
 use std::sync::Wait;
 use std::test::Fail;
@@ -145,7 +145,7 @@ impl Files {
 }
 
 /// A channel to which the encoder has sent all, and whose job is finished.
-pub fn with_job<T: Wait>(rt: &T, alloc: Global) -> Result<Own, Fail>
+pub fn with_job<T: Wait>(rt: &T, alloc: Global) -> Result<Alone, Fail>
     ensures { IfOk result (λ own. 0 ≤ own.number) }
 {
     let mut own = opened(alloc)?;

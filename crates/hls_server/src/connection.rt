@@ -1,19 +1,14 @@
 //! One connection, from its accept to its end.
 
-ghost use Rattle.std.specs.Prelude.{◌≡◌};
-
-use crate::station::Station;
+use crate::client::Client;
 use hls_http::{Counted, Session, SessionEnd, write_whole};
 use hls_http_laws::reply::no_memory_text;
-use hls_pace::{Crowd, Pace, PatientReader, PatientWriter, drop_rest};
-use hls_serve::channel::Channel;
+use hls_pace::{Crowd, PatientReader, PatientWriter, drop_rest};
 use hls_serve::session::session_on;
-use hls_settings::Settings;
-use hls_turn::Pass;
-use std::alloc::Global;
+use hls_serve::station::Station;
 use std::cell::Cell;
 use std::io::{self, Eprint};
-use std::net::{Shutdown, SocketAddr, TcpStream};
+use std::net::{Shutdown, TcpStream};
 use std::sync::Wait;
 use std::time::{Clock, Duration};
 
@@ -44,43 +39,30 @@ fn ends_by_reply(end: SessionEnd, ended: bool) -> bool {
     !ended && (end == SessionEnd::Closed || end == SessionEnd::Refused)
 }
 
-/// Serves a connection until its session ends, or the reader or writer gives up on it. Its pace says what it did last.
+/// Serves a client until its session ends, or the reader or writer gives up on it. The client's pace says what its connection
+/// did last.
 pub fn serve_stream<R: Wait + Clock + Eprint>(
-    rt: &R,
-    alloc: Global,
-    channel: &Channel<'_>,
-    settings: &Settings,
+    station: &mut Station<'_, R>,
     crowd: &Crowd,
-    pace: &Cell<Pace>,
-    pass: &mut Pass,
+    client: &Client<'_, R>,
     stream: &TcpStream,
-    peer: SocketAddr,
-)
-    requires { pass.old.turn ≡ channel.now.turn.now }
-    ensures { pass.new.turn ≡ channel.now.turn.now }
-{
+) {
     if set_up(stream).is_err() {
         return;
     }
-    let patience = settings.plain.workers.patience;
+    let rt = client.rt;
+    let pace = &client.pace;
+    let patience = client.settings.plain.workers.patience;
     let ended = Cell::new(false);
     let reader = PatientReader::new(rt, stream, pace, crowd, &ended, patience);
     let writer = PatientWriter::new(rt, stream, pace, crowd, patience);
-    let Ok(mut session) = Session::new(alloc, reader, writer) else {
+    let Ok(mut session) = Session::new(station.alloc, reader, writer) else {
         if write_whole(&mut Counted::new(stream), no_memory_text()) {
             close(rt, stream, crowd);
         }
         return;
     };
-    let station = Station {
-        rt,
-        channel: *channel,
-        renditions: settings.config.renditions(),
-        peer,
-        logs_requests: settings.plain.logs_requests,
-        pace,
-    };
-    let end = session_on(rt, alloc, &mut session, &station, pass);
+    let end = session_on(rt, &mut session, station, client);
     drop(session);
     if ends_by_reply(end, ended.get()) {
         close(rt, stream, crowd);

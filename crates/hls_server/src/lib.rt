@@ -5,6 +5,7 @@
 //! nothing is claimed.
 #![tactic(auto)]
 
+mod client;
 mod connection;
 mod cuts;
 mod due;
@@ -19,7 +20,6 @@ mod recent;
 mod rest;
 mod server;
 mod start;
-mod station;
 mod warnings;
 mod watch;
 mod worker;
@@ -29,4 +29,3 @@ pub use lines::{Ingest, Limits, Name, Names, Request};
 pub use log::{Log, tell_listening};
 pub use server::run_server;
 pub use start::tell_start;
-pub use station::Station;

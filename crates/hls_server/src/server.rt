@@ -10,6 +10,7 @@ use hls_core::snapshot::Snapshot;
 use hls_jobs::Jobs;
 use hls_pace::Crowd;
 use hls_serve::channel::Channel;
+use hls_serve::station::Station;
 use hls_settings::Settings;
 use hls_turn::{Pass, Turn};
 use std::alloc::{AllocError, Global};
@@ -55,33 +56,30 @@ pub fn run_server<R: Threads + Wait + Clock + Eprint + Env + Sync>(
         turn: &turn,
         jobs: &jobs,
     };
-    let most = connections.unwrap_or(u64::MAX);
-    run_threads(rt, alloc, &channel, settings, listener, passes, most)
+    let crowd = Crowd::new(settings.plain.workers.workers);
+    let told = AtomicU64::new(0);
+    let door = Door {
+        listener,
+        crowd: &crowd,
+        told: &told,
+        connections: connections.unwrap_or(u64::MAX),
+    };
+    run_threads(rt, alloc, &channel, settings, &door, passes)
 }
 
-/// Runs a thread for each pass: the last one's keeps house, and the others serve so many connections each. The planners' are
-/// beside them.
+/// Runs a thread for each pass: the last one's keeps house, and the others serve connections. The planners' are beside them.
 fn run_threads<R: Threads + Wait + Clock + Eprint + Env + Sync>(
     rt: &R,
     alloc: Global,
     channel: &Channel<'_>,
     settings: &Settings,
-    listener: &TcpListener,
+    door: &Door<'_>,
     passes: Vec<Pass>,
-    most: u64,
 ) -> Result<(), AllocError>
     requires { All (λ p. p.turn ≡ channel.now.turn.now) passes.items }
 {
-    let crowd = Crowd::new(settings.plain.workers.workers);
-    let told = AtomicU64::new(0);
     let closed = AtomicBool::new(false);
     let closed = &closed;
-    let door = Door {
-        listener,
-        crowd: &crowd,
-        told: &told,
-    };
-    let door = &door;
     let planners = settings.plain.workers.planners;
     thread::scope(
         thread::scope_env(),
@@ -105,11 +103,13 @@ fn run_threads<R: Threads + Wait + Clock + Eprint + Env + Sync>(
                 { keep_house(rt, alloc, channel, settings, closed, &mut last) },
             );
             for pass in passes {
-                let mut pass = pass;
                 let worker = scope.spawn(
                     move || -> ()
                         requires { pass.turn ≡ channel.now.turn.now }
-                    { work(rt, alloc, channel, settings, door, &mut pass, most) },
+                    {
+                        let mut station = Station::new(rt, alloc, channel, pass);
+                        work(&mut station, settings, door);
+                    },
                 );
                 if let Ok(worker) = worker {
                     let _ = workers.push(worker);

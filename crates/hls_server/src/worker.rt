@@ -1,16 +1,12 @@
 //! A worker: takes one connection after the other.
 
-ghost use Rattle.std.specs.Prelude.{◌≡◌};
-
+use crate::client::Client;
 use crate::connection::serve_stream;
 use crate::due::is_due;
 use crate::log::tell_failed_accept;
-use hls_pace::{Crowd, Pace, milliseconds};
-use hls_serve::channel::Channel;
+use hls_pace::{Crowd, milliseconds};
+use hls_serve::station::Station;
 use hls_settings::Settings;
-use hls_turn::Pass;
-use std::alloc::Global;
-use std::cell::Cell;
 use std::io::{Eprint, Error};
 use std::net::TcpListener;
 use std::sync::Wait;
@@ -29,6 +25,8 @@ pub struct Door<'a> {
     pub crowd: &'a Crowd,
     /// When a failed accept was told last, in milliseconds of the clock; 0 where none was.
     pub told: &'a AtomicU64,
+    /// How many connections each of them serves.
+    pub connections: u64,
 }
 
 /// Whether this failed accept is told: the first one, and then one a minute. Of workers that ask at once, one tells.
@@ -48,29 +46,21 @@ fn wait_out<R: Clock + Eprint>(rt: &R, door: &Door<'_>, error: Error) {
 
 /// Serves so many connections, one after the other; a failed accept counts as one. May wait.
 pub fn work<R: Wait + Clock + Eprint>(
-    rt: &R,
-    alloc: Global,
-    channel: &Channel<'_>,
+    station: &mut Station<'_, R>,
     settings: &Settings,
     door: &Door<'_>,
-    pass: &mut Pass,
-    connections: u64,
-)
-    requires { pass.old.turn ≡ channel.now.turn.now }
-    ensures { pass.new.turn ≡ channel.now.turn.now }
-{
-    for _ in 0..connections {
+) {
+    let rt = station.rt;
+    for _ in 0..door.connections {
         door.crowd.wait();
         let accepted = door.listener.accept();
         door.crowd.go_on();
         match accepted {
-            Ok((stream, peer)) => {
-                let pace = Cell::new(Pace::new());
+            Ok((stream, address)) => {
+                let client = Client::new(rt, settings, address);
                 door.crowd.begin();
-                serve_stream(
-                    rt, alloc, channel, settings, door.crowd, &pace, pass, &stream, peer,
-                );
-                door.crowd.end(pace.get());
+                serve_stream(station, door.crowd, &client, &stream);
+                door.crowd.end(client.pace.get());
             }
             Err(error) => wait_out(rt, door, error),
         }

@@ -5,7 +5,8 @@ ghost use Rattle.std.specs.Prelude.{◌≡◌};
 use crate::sessions::{head, opening, stream};
 use hls_http::Session;
 use hls_jobs::{Gate, Jobs, work_loop};
-use hls_serve::channel::{Channel, serve_session};
+use hls_serve::channel::Channel;
+use hls_serve::station::{Station, serve_session};
 use hls_turn::{Pass, Turn};
 use std::alloc::{AllocError, Global};
 use std::sync::Wait;
@@ -23,55 +24,26 @@ const RENDITIONS: usize = 4;
 const PLACES: u64 = 64;
 
 /// What one session over memory is answered.
-fn answered<R: Wait>(
-    rt: &R,
-    alloc: Global,
-    channel: &Channel<'_>,
-    pass: &mut Pass,
-    text: &[u8],
-) -> Result<Vec<u8>, AllocError>
-    requires { pass.old.turn ≡ channel.now.turn.now }
-    ensures { pass.new.turn ≡ channel.now.turn.now }
-{
-    let mut out = Vec::new(alloc);
-    let mut session = Session::new(alloc, text, &mut out)?;
-    let _ = serve_session(rt, alloc, &mut session, channel.turn, pass, channel.jobs);
+fn answered<R: Wait>(station: &mut Station<'_, R>, text: &[u8]) -> Result<Vec<u8>, AllocError> {
+    let mut out = Vec::new(station.alloc);
+    let mut session = Session::new(station.alloc, text, &mut out)?;
+    let _ = serve_session(&mut session, station);
     drop(session);
     Ok(out)
 }
 
 /// Whether the last reply to these requests ends so.
-fn ends_with<R: Wait>(
-    rt: &R,
-    alloc: Global,
-    channel: &Channel<'_>,
-    pass: &mut Pass,
-    text: &[u8],
-    end: &[u8],
-) -> bool
-    requires { pass.old.turn ≡ channel.now.turn.now }
-    ensures { pass.new.turn ≡ channel.now.turn.now }
-{
-    match answered(rt, alloc, channel, pass, text) {
+fn ends_with<R: Wait>(station: &mut Station<'_, R>, text: &[u8], end: &[u8]) -> bool {
+    match answered(station, text) {
         Ok(reply) => reply.ends_with(end),
         Err(_) => false,
     }
 }
 
 /// Whether that comes to be.
-fn becomes<R: Wait>(
-    rt: &R,
-    alloc: Global,
-    channel: &Channel<'_>,
-    pass: &mut Pass,
-    text: &[u8],
-    end: &[u8],
-) -> bool
-    requires { pass.old.turn ≡ channel.now.turn.now }
-    ensures { pass.new.turn ≡ channel.now.turn.now }
-{
+fn becomes<R: Wait>(station: &mut Station<'_, R>, text: &[u8], end: &[u8]) -> bool {
     for _ in 0..LOOKS {
-        if ends_with(rt, alloc, channel, pass, text, end) {
+        if ends_with(station, text, end) {
             return true;
         }
         thread::yield_now();
@@ -139,15 +111,15 @@ fn plan_by_two<R: Threads + Wait + Sync>(
         move |scope| -> (bool, bool)
             requires { pass.turn ≡ channel.now.turn.now }
         {
-            let mut pass = pass;
+            let mut station = Station::new(rt, alloc, channel, pass);
             let one = scope.spawn(move || work_loop(rt, alloc, channel.jobs, gate));
             let two = scope.spawn(move || work_loop(rt, alloc, channel.jobs, gate));
             let second = one.is_ok()
                 && two.is_ok()
-                && becomes(rt, alloc, channel, &mut pass, SECOND, CUT)
-                && ends_with(rt, alloc, channel, &mut pass, FIRST, b"\r\n\r\nrunning\n");
+                && becomes(&mut station, SECOND, CUT)
+                && ends_with(&mut station, FIRST, b"\r\n\r\nrunning\n");
             open.store(true, Ordering::SeqCst);
-            let first = second && becomes(rt, alloc, channel, &mut pass, FIRST, CUT);
+            let first = second && becomes(&mut station, FIRST, CUT);
             channel.jobs.close(rt);
             (first, second)
         },
@@ -157,21 +129,25 @@ fn plan_by_two<R: Threads + Wait + Sync>(
 #[test]
 fn a_held_job_holds_no_other(rt: HostRuntime) -> Result<(), Fail> {
     let alloc = rt.alloc();
-    let (turn, mut passes) = Turn::new(&rt, alloc, opening(alloc)?, 1)?;
+    let (turn, mut passes) = Turn::new(&rt, alloc, opening(alloc)?, 2)?;
     let jobs = Jobs::new(alloc)?;
     let channel = Channel {
         turn: &turn,
         jobs: &jobs,
     };
-    let Some(mut pass) = passes.pop() else {
+    let Some(pass) = passes.pop() else {
         return Err(Fail::from("no pass"));
     };
+    let Some(other) = passes.pop() else {
+        return Err(Fail::from("no pass"));
+    };
+    let mut station = Station::new(&rt, alloc, &channel, pass);
     let mut text = encoders(alloc)?;
     text.extend_from_slice(ASK)?;
     text.extend_from_slice(ASK)?;
     let added = b"\r\nLocation: /job/2\r\n\r\njob 2 version 12\n";
-    assert!(rt; ends_with(&rt, alloc, &channel, &mut pass, &text, added));
-    assert_eq!(rt; plan_by_two(&rt, alloc, &channel, pass), (true, true));
+    assert!(rt; ends_with(&mut station, &text, added));
+    assert_eq!(rt; plan_by_two(&rt, alloc, &channel, other), (true, true));
     Ok(())
 }
 
@@ -186,12 +162,9 @@ impl Gate for Open {
 }
 
 /// Asks for catch-up until the table is full, and counts the jobs that were added.
-fn fill<R: Wait>(rt: &R, alloc: Global, channel: &Channel<'_>, pass: &mut Pass, added: &AtomicU64)
-    requires { pass.old.turn ≡ channel.now.turn.now }
-    ensures { pass.new.turn ≡ channel.now.turn.now }
-{
+fn fill<R: Wait>(station: &mut Station<'_, R>, added: &AtomicU64) {
     for _ in 0..PLACES {
-        if ends_with(rt, alloc, channel, pass, ASK, b" version 12\n") {
+        if ends_with(station, ASK, b" version 12\n") {
             added.fetch_add(1, Ordering::SeqCst);
         }
     }
@@ -200,20 +173,10 @@ fn fill<R: Wait>(rt: &R, alloc: Global, channel: &Channel<'_>, pass: &mut Pass, 
 const MEDIA: &[u8] = b"GET /job/1/3.mp4 HTTP/1.1\r\nHost: a\r\n\r\n";
 
 /// Reads the first job's media, over and over, until the table is full: whether all replies ended so.
-fn reads_on<R: Wait>(
-    rt: &R,
-    alloc: Global,
-    channel: &Channel<'_>,
-    pass: &mut Pass,
-    media: &[u8],
-    is_full: &AtomicBool,
-) -> bool
-    requires { pass.old.turn ≡ channel.now.turn.now }
-    ensures { pass.new.turn ≡ channel.now.turn.now }
-{
+fn reads_on<R: Wait>(station: &mut Station<'_, R>, media: &[u8], is_full: &AtomicBool) -> bool {
     for _ in 0..LOOKS {
         let was_full = is_full.load(Ordering::SeqCst);
-        if !ends_with(rt, alloc, channel, pass, MEDIA, media) {
+        if !ends_with(station, MEDIA, media) {
             return false;
         }
         if was_full {
@@ -247,23 +210,23 @@ fn read_while_others_ask<R: Threads + Wait + Sync>(
             requires asker { asker.turn ≡ channel.now.turn.now }
             requires reader { reader.turn ≡ channel.now.turn.now }
         {
-            let mut asker = asker;
-            let mut reader = reader;
+            let mut reader = Station::new(rt, alloc, channel, reader);
             let one = scope.spawn(move || work_loop(rt, alloc, channel.jobs, &Open));
             let two = scope.spawn(move || work_loop(rt, alloc, channel.jobs, &Open));
             let asks = scope.spawn(
                 move || -> ()
                     requires { asker.turn ≡ channel.now.turn.now }
                 {
-                    fill(rt, alloc, channel, &mut asker, count);
+                    let mut station = Station::new(rt, alloc, channel, asker);
+                    fill(&mut station, count);
                     is_full.store(true, Ordering::SeqCst);
                 },
             );
             let is_right = one.is_ok()
                 && two.is_ok()
                 && asks.is_ok()
-                && becomes(rt, alloc, channel, &mut reader, FIRST, CUT)
-                && reads_on(rt, alloc, channel, &mut reader, media, is_full);
+                && becomes(&mut reader, FIRST, CUT)
+                && reads_on(&mut reader, media, is_full);
             channel.jobs.close(rt);
             is_right
         },
@@ -274,7 +237,7 @@ fn read_while_others_ask<R: Threads + Wait + Sync>(
 #[test]
 fn a_jobs_media_while_others_are_asked_for(rt: HostRuntime) -> Result<(), Fail> {
     let alloc = rt.alloc();
-    let (turn, mut passes) = Turn::new(&rt, alloc, opening(alloc)?, 2)?;
+    let (turn, mut passes) = Turn::new(&rt, alloc, opening(alloc)?, 3)?;
     let jobs = Jobs::new(alloc)?;
     let channel = Channel {
         turn: &turn,
@@ -283,13 +246,17 @@ fn a_jobs_media_while_others_are_asked_for(rt: HostRuntime) -> Result<(), Fail> 
     let Some(asker) = passes.pop() else {
         return Err(Fail::from("no pass"));
     };
-    let Some(mut reader) = passes.pop() else {
+    let Some(reader) = passes.pop() else {
         return Err(Fail::from("no pass"));
     };
+    let Some(pass) = passes.pop() else {
+        return Err(Fail::from("no pass"));
+    };
+    let mut station = Station::new(&rt, alloc, &channel, pass);
     let mut text = encoders(alloc)?;
     text.extend_from_slice(ASK)?;
     let added = b"\r\nLocation: /job/1\r\n\r\njob 1 version 12\n";
-    assert!(rt; ends_with(&rt, alloc, &channel, &mut reader, &text, added));
+    assert!(rt; ends_with(&mut station, &text, added));
     let media = stream(alloc, 1)?;
     let ended = read_while_others_ask(&rt, alloc, &channel, asker, reader, &media);
     assert_eq!(rt; ended, (true, 63));
@@ -309,18 +276,19 @@ fn each_job_is_told_by_its_own_number(rt: HostRuntime) -> Result<(), Fail> {
         turn: &turn,
         jobs: &jobs,
     };
-    let Some(mut pass) = passes.pop() else {
+    let Some(pass) = passes.pop() else {
         return Err(Fail::from("no pass"));
     };
+    let mut station = Station::new(&rt, alloc, &channel, pass);
     let mut text = encoders(alloc)?;
     text.extend_from_slice(ASK_TOO_MUCH)?;
     text.extend_from_slice(ASK)?;
     let added = b"\r\nLocation: /job/2\r\n\r\njob 2 version 12\n";
-    assert!(rt; ends_with(&rt, alloc, &channel, &mut pass, &text, added));
+    assert!(rt; ends_with(&mut station, &text, added));
     jobs.close(&rt);
     work_loop(&rt, alloc, &jobs, &Open);
     let refused = b"\r\n\r\nrefused NotYet version 12\n";
-    assert!(rt; ends_with(&rt, alloc, &channel, &mut pass, FIRST, refused));
-    assert!(rt; ends_with(&rt, alloc, &channel, &mut pass, SECOND, CUT));
+    assert!(rt; ends_with(&mut station, FIRST, refused));
+    assert!(rt; ends_with(&mut station, SECOND, CUT));
     Ok(())
 }

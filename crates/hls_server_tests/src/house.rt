@@ -3,6 +3,7 @@
 use crate::sessions::{opening, send};
 use hls_jobs::Jobs;
 use hls_serve::channel::Channel;
+use hls_serve::station::Station;
 use hls_server::keep_house;
 use hls_settings::read_settings;
 use hls_turn::Turn;
@@ -26,21 +27,24 @@ fn a_told_channel_is_kept_up(rt: HostRuntime) -> Result<(), Fail> {
     let Ok(settings) = read_settings(alloc, &WORDS) else {
         return Err(Fail::from("good words are refused"));
     };
-    let (turn, mut passes) = Turn::new(&rt, alloc, opening(alloc)?, 1)?;
+    let (turn, mut passes) = Turn::new(&rt, alloc, opening(alloc)?, 2)?;
     let Some(mut pass) = passes.pop() else {
         return Err(Fail::from("no pass"));
     };
-    let right = AtomicU64::new(0);
-    send(&rt, alloc, &turn, &mut pass, 0, &right);
-    send(&rt, alloc, &turn, &mut pass, 1, &right);
-    send(&rt, alloc, &turn, &mut pass, 2, &right);
-    send(&rt, alloc, &turn, &mut pass, 3, &right);
-    assert_eq!(rt; right.load(Ordering::SeqCst), 4);
+    let Some(other) = passes.pop() else {
+        return Err(Fail::from("no pass"));
+    };
     let jobs = Jobs::new(alloc)?;
     let channel = Channel {
         turn: &turn,
         jobs: &jobs,
     };
+    let mut station = Station::new(&rt, alloc, &channel, other);
+    let right = AtomicU64::new(0);
+    for rendition in 0..4 {
+        send(&mut station, rendition, &right);
+    }
+    assert_eq!(rt; right.load(Ordering::SeqCst), 4);
     let closed = AtomicBool::new(true);
     keep_house(&rt, alloc, &channel, &settings, &closed, &mut pass);
     let state = turn.look(&rt, alloc, &mut pass)?;

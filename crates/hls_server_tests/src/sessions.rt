@@ -12,7 +12,9 @@ use hls_core_laws::rendition::Rendition;
 use hls_http::Session;
 use hls_jobs::Jobs;
 use hls_samples::{init_bytes, unit_bytes};
-use hls_serve::channel::serve_session;
+use hls_serve::channel::Channel;
+use hls_serve::keeper::Keeper;
+use hls_serve::station::{Station, serve_session};
 use hls_turn::{Pass, Turn};
 use std::alloc::{AllocError, Global};
 use std::sync::Wait;
@@ -62,24 +64,11 @@ pub fn head(alloc: Global, rendition: usize, len: usize) -> Result<String, Alloc
 }
 
 /// What one session over memory is answered, compared with what is wanted.
-fn is_answered<R: Wait>(
-    rt: &R,
-    alloc: Global,
-    turn: &Turn,
-    pass: &mut Pass,
-    reader: Held<'_>,
-    wanted: &[u8],
-) -> bool
-    requires { pass.old.turn ≡ turn.now }
-    ensures { pass.new.turn ≡ turn.now }
-{
-    let Ok(mut session) = Session::new(alloc, reader, Page::new()) else {
+fn is_answered<R: Wait>(station: &mut Station<'_, R>, reader: Held<'_>, wanted: &[u8]) -> bool {
+    let Ok(mut session) = Session::new(station.alloc, reader, Page::new()) else {
         return false;
     };
-    let Ok(jobs) = Jobs::new(alloc) else {
-        return false;
-    };
-    let _ = serve_session(rt, alloc, &mut session, turn, pass, &jobs);
+    let _ = serve_session(&mut session, station);
     session.writer.into_inner().says(wanted)
 }
 
@@ -87,12 +76,12 @@ fn is_answered<R: Wait>(
 fn answers_beside_a_held_body<R: Threads + Wait + Sync>(
     rt: &R,
     alloc: Global,
-    turn: &Turn,
+    channel: &Channel<'_>,
     passes: Vec<Pass>,
     head: &[u8],
     body: &[u8],
 ) -> (bool, bool)
-    requires { All (λ p. p.turn ≡ turn.now) passes.items }
+    requires { All (λ p. p.turn ≡ channel.now.turn.now) passes.items }
 {
     let answered = AtomicBool::new(false);
     let answered = &answered;
@@ -104,19 +93,20 @@ fn answers_beside_a_held_body<R: Threads + Wait + Sync>(
         thread::scope_env(),
         rt,
         move |scope| -> bool
-            requires { All (λ p. p.turn ≡ turn.now) passes.items }
+            requires { All (λ p. p.turn ≡ channel.now.turn.now) passes.items }
         {
             let mut passes = passes;
-            let Some(mut encoders) = passes.pop() else {
+            let Some(encoders) = passes.pop() else {
                 return false;
             };
-            let Some(mut askers) = passes.pop() else {
+            let Some(askers) = passes.pop() else {
                 return false;
             };
             let encoder = scope.spawn(
                 move || -> ()
-                    requires { encoders.turn ≡ turn.now }
+                    requires { encoders.turn ≡ channel.now.turn.now }
                 {
+                    let mut station = Station::new(rt, alloc, channel, encoders);
                     let reader = Held {
                         first: head,
                         then: body,
@@ -124,10 +114,7 @@ fn answers_beside_a_held_body<R: Threads + Wait + Sync>(
                     };
                     let reply =
                         b"HTTP/1.1 200 OK\r\nContent-Type: text/plain\r\nContent-Length: 29\r\n\r\ninit 1 accepted 1 repeated 0\n";
-                    taken.store(
-                        is_answered(rt, alloc, turn, &mut encoders, reader, reply),
-                        Ordering::SeqCst,
-                    );
+                    taken.store(is_answered(&mut station, reader, reply), Ordering::SeqCst);
                 },
             );
             let reader = Held {
@@ -137,7 +124,8 @@ fn answers_beside_a_held_body<R: Threads + Wait + Sync>(
             };
             let reply =
                 b"HTTP/1.1 200 OK\r\nContent-Type: text/plain\r\nContent-Length: 47\r\n\r\nversion 0\nplaces 0\nsegments 0\nremoved 0\njobs 0\n";
-            let asked = encoder.is_ok() && is_answered(rt, alloc, turn, &mut askers, reader, reply);
+            let mut station = Station::new(rt, alloc, channel, askers);
+            let asked = encoder.is_ok() && is_answered(&mut station, reader, reply);
             answered.store(true, Ordering::SeqCst);
             asked
         },
@@ -149,12 +137,17 @@ fn answers_beside_a_held_body<R: Threads + Wait + Sync>(
 fn a_session_holds_nothing_while_it_reads(rt: HostRuntime) -> Result<(), Fail> {
     let alloc = rt.alloc();
     let (turn, passes) = Turn::new(&rt, alloc, opening(alloc)?, 2)?;
+    let jobs = Jobs::new(alloc)?;
+    let channel = Channel {
+        turn: &turn,
+        jobs: &jobs,
+    };
     let body = stream(alloc, 1)?;
     let head = head(alloc, 0, body.len())?;
     let ended = answers_beside_a_held_body(
         &rt,
         alloc,
-        &turn,
+        &channel,
         passes,
         head.as_bytes(),
         body.as_slice(),
@@ -164,21 +157,11 @@ fn a_session_holds_nothing_while_it_reads(rt: HostRuntime) -> Result<(), Fail> {
 }
 
 /// Sends an encoder's stream through a session over memory, and counts it where the reply is right.
-pub fn send<R: Wait>(
-    rt: &R,
-    alloc: Global,
-    turn: &Turn,
-    pass: &mut Pass,
-    rendition: usize,
-    right: &AtomicU64,
-)
-    requires { pass.old.turn ≡ turn.now }
-    ensures { pass.new.turn ≡ turn.now }
-{
-    let Ok(body) = stream(alloc, UNITS) else {
+pub fn send<R: Wait>(station: &mut Station<'_, R>, rendition: usize, right: &AtomicU64) {
+    let Ok(body) = stream(station.alloc, UNITS) else {
         return;
     };
-    let Ok(head) = head(alloc, rendition, body.len()) else {
+    let Ok(head) = head(station.alloc, rendition, body.len()) else {
         return;
     };
     let open = AtomicBool::new(true);
@@ -189,40 +172,28 @@ pub fn send<R: Wait>(
     };
     let reply =
         b"HTTP/1.1 200 OK\r\nContent-Type: text/plain\r\nContent-Length: 30\r\n\r\ninit 1 accepted 25 repeated 0\n";
-    if is_answered(rt, alloc, turn, pass, reader, reply) {
+    if is_answered(station, reader, reply) {
         right.fetch_add(1, Ordering::SeqCst);
     }
 }
 
-/// One encoder for each pass, all at once: how many were answered rightly.
-fn send_all<R: Threads + Wait + Sync>(
-    rt: &R,
-    alloc: Global,
-    turn: &Turn,
-    passes: &mut [Pass],
-) -> u64
-    requires { All (λ p. p.turn ≡ turn.now) passes.old }
-    ensures { All (λ p. p.turn ≡ turn.now) passes.new }
-{
+/// One encoder for each station, all at once: how many were answered rightly.
+fn send_all<'a, R: Threads + Wait + Sync>(rt: &R, stations: &mut [Station<'a, R>]) -> u64 {
     let right = AtomicU64::new(0);
     thread::for_each_mut(
         rt,
-        passes,
+        stations,
         ENCODERS,
-        &|i, pass: &mut Pass| -> ()
-            requires { IsSync R.row × (pass.old.turn ≡ turn.now) }
-            ensures { pass.new.turn ≡ turn.entry.now }
-        { send(rt, alloc, turn, pass, i, &right) },
+        &|i, station: &mut Station<'a, R>| -> ()
+            requires { IsSync R.row }
+        { send(station, i, &right) },
     );
     right.load(Ordering::SeqCst)
 }
 
-/// Counts a pass that sees so many events.
-fn look<R: Wait>(rt: &R, alloc: Global, turn: &Turn, pass: &mut Pass, right: &AtomicU64)
-    requires { pass.old.turn ≡ turn.now }
-    ensures { pass.new.turn ≡ turn.now }
-{
-    let Ok(state) = turn.look(rt, alloc, pass) else {
+/// Counts a station that sees so many events.
+fn look<R: Wait>(station: &mut Station<'_, R>, right: &AtomicU64) {
+    let Ok(state) = station.look() else {
         return;
     };
     if state.version() == EVENTS {
@@ -230,25 +201,16 @@ fn look<R: Wait>(rt: &R, alloc: Global, turn: &Turn, pass: &mut Pass, right: &At
     }
 }
 
-/// How many of the passes, one after the other, see all events.
-fn look_with_all<R: Threads + Wait + Sync>(
-    rt: &R,
-    alloc: Global,
-    turn: &Turn,
-    passes: &mut [Pass],
-) -> u64
-    requires { All (λ p. p.turn ≡ turn.now) passes.old }
-    ensures { All (λ p. p.turn ≡ turn.now) passes.new }
-{
+/// How many of the stations, one after the other, see all events.
+fn look_with_all<'a, R: Threads + Wait + Sync>(rt: &R, stations: &mut [Station<'a, R>]) -> u64 {
     let right = AtomicU64::new(0);
     thread::for_each_mut(
         rt,
-        passes,
+        stations,
         1,
-        &|_i, pass: &mut Pass| -> ()
-            requires { IsSync R.row × (pass.old.turn ≡ turn.now) }
-            ensures { pass.new.turn ≡ turn.entry.now }
-        { look(rt, alloc, turn, pass, &right) },
+        &|_i, station: &mut Station<'a, R>| -> ()
+            requires { IsSync R.row }
+        { look(station, &right) },
     );
     right.load(Ordering::SeqCst)
 }
@@ -286,11 +248,26 @@ fn are_in_order(state: &Snapshot, worker: u16) -> bool {
 #[test]
 fn four_encoders_end_in_one_log(rt: HostRuntime) -> Result<(), Fail> {
     let alloc = rt.alloc();
-    let (turn, mut passes) = Turn::new(&rt, alloc, opening(alloc)?, 4)?;
-    let passes = passes.as_mut_slice();
-    assert_eq!(rt; send_all(&rt, alloc, &turn, passes), 4);
-    assert_eq!(rt; look_with_all(&rt, alloc, &turn, passes), 4);
-    let met = turn.meet(&rt, alloc, passes)?;
+    let (turn, mut passes) = Turn::new(&rt, alloc, opening(alloc)?, 6)?;
+    let Some(last) = passes.pop() else {
+        return Err(Fail::from("no pass"));
+    };
+    let Some(other) = passes.pop() else {
+        return Err(Fail::from("no pass"));
+    };
+    let jobs = Jobs::new(alloc)?;
+    let channel = Channel {
+        turn: &turn,
+        jobs: &jobs,
+    };
+    let mut stations = Vec::with_capacity(alloc, ENCODERS)?;
+    for pass in passes {
+        stations.push(Station::new(&rt, alloc, &channel, pass))?;
+    }
+    let stations = stations.as_mut_slice();
+    assert_eq!(rt; send_all(&rt, stations), 4);
+    assert_eq!(rt; look_with_all(&rt, stations), 4);
+    let met = turn.meet(&rt, alloc, &mut [other, last])?;
     assert_eq!(rt; met.version(), EVENTS);
     for worker in 0..4 {
         assert!(rt; are_in_order(&met, worker));

@@ -6,12 +6,9 @@ use Rattle.hls_serve.proofs.ingest.ingest.Given as goal
 
 abbrev pub invariant-loop : goal.invariant-loop
 invariant-loop g l = record {
-  can_next : (goal.iterator-loop g).can_next l.iterator';
-  is_finite : (goal.iterator-loop g).is_finite l.iterator';
-  serves : g.K.Keeper.serves l.keeper l.pass;
-  usable : IsUsable l.rendition (progress_of (g.K.Keeper.known l.pass) l.taken);
+  usable : IsUsable l.rendition (progress_of (g.K.Keeper.known l.keeper) l.taken);
   reading : (rest : List ℕ) → g.R.Read.remaining (reader_of l.initial.source) ≡ Some rest
-      → Ingesting l.rendition (g.K.Keeper.known l.initial.pass) l.initial.body (held_of l.initial.source ++ rest) l.body (held_of l.source)
-      (g.R.Read.remaining (reader_of l.source)) l.reader (progress_of (g.K.Keeper.known l.pass) l.taken);
+      → Ingesting l.rendition (g.K.Keeper.known l.initial.keeper) l.initial.body (held_of l.initial.source ++ rest) l.body (held_of l.source)
+      (g.R.Read.remaining (reader_of l.source)) l.reader (progress_of (g.K.Keeper.known l.keeper) l.taken);
   quiet : read_failures l.source ≡ read_failures l.initial.source;
 }

@@ -1,7 +1,6 @@
 use Rattle.std.proofs.Common.{◌≡◌, ◌++◌, List, ℕ, Some}
 use Rattle.hls_io.specs.Counted.{failures_of, inside_of}
 use Rattle.hls_http.specs.Source.{held_of, read_failures, reader_of}
-use Rattle.hls_replies.specs.Playlists.{lists}
 use Rattle.hls_serve.specs.Turns.{SoFar}
 use Rattle.hls_serve.proofs.session.session_on.Given as goal
 
@@ -9,9 +8,8 @@ abbrev pub invariant-loop : goal.invariant-loop
 invariant-loop g l = record {
   can_next : (goal.iterator-loop g).can_next l.iterator';
   is_finite : (goal.iterator-loop g).is_finite l.iterator';
-  serves : g.K.Keeper.serves l.keeper l.pass;
   reading : (input out : List ℕ) → g.R.Read.remaining (reader_of l.initial.session.source) ≡ Some input → g.W.Write.contents (inside_of l.initial.session.writer) ≡ Some out
-      → SoFar lists g.K.Keeper.desk (g.K.Keeper.known l.initial.pass) (held_of l.initial.session.source ++ input) out (g.K.Keeper.known l.pass) (held_of l.session.source)
+      → SoFar (g.K.Keeper.known l.initial.keeper) (held_of l.initial.session.source ++ input) out (g.K.Keeper.known l.keeper) (held_of l.session.source)
       (g.R.Read.remaining (reader_of l.session.source)) (g.W.Write.contents (inside_of l.session.writer));
   reads : read_failures l.session.source ≡ read_failures l.initial.session.source;
   writes : failures_of l.session.writer ≡ failures_of l.initial.session.writer;

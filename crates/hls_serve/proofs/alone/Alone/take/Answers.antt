@@ -2,7 +2,7 @@ use Rattle.std.proofs.Common.{inl, refl, subst}
 use Rattle.hls_core_laws.specs.State.{State}
 use Rattle.hls_core_laws.specs.Outcome.{Refused}
 use Rattle.hls_core_laws.specs.Moves.{Moves}
-use Rattle.hls_serve.proofs.alone.Own.take.Goals as goal
+use Rattle.hls_serve.proofs.alone.Alone.take.Goals as goal
 
 pub returns-in-Err-clause-submits : goal.returns-in-Err-clause-submits
 returns-in-Err-clause-submits c = record {

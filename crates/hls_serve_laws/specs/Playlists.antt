@@ -5,7 +5,6 @@ use Rattle.hls_m3u8.specs.Lines.{media_text}
 use Rattle.hls_m3u8.specs.Masters.{master_text}
 use Rattle.hls_catchup_laws.specs.Masters.{live_master}
 use Rattle.hls_live_lists_laws.specs.Lists.{live_list_of}
-use Rattle.hls_serve_laws.specs.Replies.{Lists}
 
 -- of the live list of a rendition; none until a segment was ever closed
 abbrev pub live_text : State → ℕ → Option (List ℕ)
@@ -14,6 +13,3 @@ live_text s rendition = option_map media_text (live_list_of s rendition)
 -- of the master playlist of the live lists
 abbrev pub live_master_text : State → List ℕ
 live_master_text s = master_text (live_master s)
-
-abbrev pub lists : Lists
-lists = record { live = live_text; master = live_master_text }

@@ -7,17 +7,7 @@ use Rattle.hls_catchup.specs.declared.request.Request.{Request}
 use Rattle.hls_jobs.specs.declared.fault.JobFault.{JobFault}
 use Rattle.hls_jobs.specs.declared.job.Job.{Job}
 use Rattle.hls_jobs.specs.Phases.{IsRightJob}
-use Rattle.hls_jobs.specs.Shared.{HasAdded, HasCounted, HasGot, HasRemoved}
-
-pub record Desk : Type 1 where
-  -- what may come of adding a job that answers the request from the state
-  pub adds : State → Request → Result ℕ JobFault → Type 0
-  -- what may be told of the job of an id
-  pub tells : ℕ → Result Job JobFault → Type 0
-  -- what may come of taking the job of an id away
-  pub removes : ℕ → Result (Unit {0}) JobFault → Type 0
-  -- how many jobs there may be
-  pub counts : ℕ → Type 0
+use Rattle.hls_jobs.specs.Shared.{HasAdded, HasGot}
 
 -- a job with this very state was added to some table of jobs
 pub record IsAdded (s : State) (request : Request) (result : Result ℕ JobFault) : Type 0 where
@@ -29,7 +19,3 @@ pub record IsAdded (s : State) (request : Request) (result : Result ℕ JobFault
 pub record IsTold (id : ℕ) (result : Result Job JobFault) : Type 0 where
   pub gets : HasGot id result
   pub right : IfOk result IsRightJob
-
--- a table of jobs that threads share
-abbrev pub shared_desk : Desk
-shared_desk = record { adds = IsAdded; tells = IsTold; removes = λ id result. HasRemoved id result; counts = HasCounted }

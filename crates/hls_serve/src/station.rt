@@ -1,0 +1,105 @@
+//! A thread's place at a channel that many threads share, and the sessions that it serves.
+
+ghost use Rattle.std.specs.Prelude.{◌≡◌};
+ghost use Rattle.hls_core_laws.specs.Follows.{Follows};
+ghost use Rattle.hls_serve_laws.specs.Sessions as spec;
+ghost use Rattle.hls_serve.specs.Counted.{SessionCounts};
+ghost use Rattle.hls_serve.specs.Exchanges.{Exchanges, streams, visit};
+
+use crate::channel::Channel;
+use crate::keeper::Keeper;
+use crate::news::Unobserved;
+use crate::session::session_on;
+use hls_catchup::Request;
+use hls_core::snapshot::Snapshot;
+use hls_core_laws::event::Event;
+use hls_core_laws::refusal::Refusal;
+use hls_http::{Session, SessionEnd};
+use hls_jobs::{Job, JobFault};
+use hls_turn::{Done, Pass};
+use std::alloc::{AllocError, Global};
+use std::io::{Read, Write};
+use std::sync::{Arc, Wait};
+
+/// A thread's place at a channel: the runtime by which it waits, its memory, the channel's turn and jobs, and a pass that came
+/// with the turn. What other passes bring meanwhile is seen at the next look or event; nothing is held of the turn or the jobs
+/// between two calls.
+#[derive(Drop)]
+pub struct Station<'a, T: Wait> {
+    /// By which it waits.
+    pub rt: &'a T,
+    /// Where it takes memory.
+    pub alloc: Global,
+    /// The turn and the jobs.
+    pub channel: Channel<'a>,
+    /// What it may do with the turn.
+    pub pass: Pass,
+    ghost ours: { pass.turn ≡ channel.turn.now },
+}
+
+impl<'a, T: Wait> Station<'a, T> {
+    /// The place of a pass that came with the channel's turn.
+    pub fn new(rt: &'a T, alloc: Global, channel: &Channel<'a>, pass: Pass) -> Station<'a, T>
+        requires { pass.turn ≡ channel.now.turn.now }
+        ensures { result.pass.known ≡ pass.known }
+    {
+        Station {
+            rt,
+            alloc,
+            channel: *channel,
+            pass,
+        }
+    }
+}
+
+impl<'a, T: Wait> Keeper for Station<'a, T> {
+    ghost known = { λ station. station.pass.known };
+
+    ghost meanwhile = { Follows };
+
+    fn alloc(&self) -> Global {
+        self.alloc
+    }
+
+    fn renditions(&self) -> usize {
+        self.pass.renditions()
+    }
+
+    fn look(&mut self) -> Result<Arc<Snapshot>, AllocError> {
+        self.channel.turn.look(self.rt, self.alloc, &mut self.pass)
+    }
+
+    fn submit(&mut self, event: Event) -> Result<Done, Refusal> {
+        self.channel
+            .turn
+            .submit(self.rt, self.alloc, &mut self.pass, event)
+    }
+
+    fn add_job(&mut self, snapshot: Arc<Snapshot>, request: Request) -> Result<u64, JobFault> {
+        self.channel.jobs.add(self.rt, snapshot, request)
+    }
+
+    fn job(&self, id: u64) -> Result<Job, JobFault> {
+        self.channel.jobs.get(self.rt, id)
+    }
+
+    fn remove_job(&mut self, id: u64) -> Result<(), JobFault> {
+        self.channel.jobs.remove(self.rt, id)
+    }
+
+    fn jobs(&self) -> usize {
+        self.channel.jobs.len(self.rt)
+    }
+}
+
+/// Serves the requests of a session at a station, of which nobody is told. May wait.
+pub fn serve_session<T: Wait, R: Read, W: Write>(
+    session: &mut Session<R, W>,
+    station: &mut Station<'_, T>,
+) -> SessionEnd
+    ensures session { Exchanges (streams R.remaining W.contents) (visit station.old.pass.known session.old)
+        (visit station.new.pass.known session.new) spec.Session result }
+    ensures counts { SessionCounts session.old session.new result }
+{
+    session_on(station.rt, session, station, &Unobserved)
+}
