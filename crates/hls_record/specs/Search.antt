@@ -1,4 +1,4 @@
--- For the proofs of this crate; no public clause cites it.
+-- For the proofs of this crate; public clauses cite Stands alone.
 -- What the searches among the units of a recording look for.
 use Rattle.std.specs.Prelude.{◌≡◌, ℕ, ◌+◌, ◌<◌, ◌≤◌, ◌==◌, Bool, false, List, length, Option, Some, None, slice_get}
 use Rattle.hls_record.specs.declared.item.Item.{Item}

@@ -29,8 +29,8 @@ impl Recording {
         Some(self.piece_of(n, at))
     }
 
-    // The number of the kept unit in which byte `at` stands.
-    fn unit_of(&self, at: u64) -> u64
+    /// The number of the kept unit in which byte `at` stands. Found in logarithmic time.
+    pub fn unit_of(&self, at: u64) -> u64
         requires low { offset_at self.now self.now.floor ≤ at }
         requires high { at < total_of self.now }
         ensures { Stands self.now at result }

@@ -1,0 +1,127 @@
+//! A part of a resource, of which the front may have gone.
+
+ghost use Rattle.std.specs.Prelude.{◌≡◌, ◌+◌, ◌<◌, ◌≤◌, ◌==◌, ◌^◌, [], length, take, drop, get_or};
+ghost use Rattle.std.specs.List.{concat};
+ghost use Rattle.bytes.specs.Unread.{IsChunkOf};
+ghost use Rattle.hls_output.specs.Slices.{part_at, rest_at};
+
+use crate::resource::Resource;
+use std::marker::Model;
+
+/// So many bytes of a resource, from a place in its slices on. A clause sees the bytes that are left.
+///
+/// It goes on from one slice to the next by their numbers: nothing is looked for.
+#[derive(Drop)]
+pub struct Media<R: Resource> {
+    resource: R,
+    /// The number of the slice in which the next byte stands.
+    number: u64,
+    /// How far in that slice.
+    within: u64,
+    /// How many bytes are left.
+    left: u64,
+}
+
+impl<R: Resource> Model for Media<R> {
+    ghost use Rattle.std.specs.Prelude.{ℕ, List};
+    ghost use Rattle.hls_output.specs.Slices.{IsPlace, part_at};
+
+    ghost Value = { List ℕ };
+
+    ghost view = { λ m. part_at (R.slices m.resource) m.number m.within m.left };
+
+    ghost invariant = { λ m. IsPlace (R.slices m.resource) m.number m.within m.left };
+}
+
+/// The front of some bytes.
+fn front(bytes: &[u8], most: u64) -> &[u8]
+    ensures { result.now ≡ take most bytes.entry.now }
+{
+    if most < bytes.len() as u64 {
+        &bytes[..most as usize]
+    } else {
+        bytes
+    }
+}
+
+/// The place at which a byte stands that is told from a place before it on: slices that end before it, or are empty, are
+/// passed over.
+fn settled<R: Resource>(resource: &R, number: u64, within: u64) -> (u64, u64)
+    requires { within < length (concat (drop number (R.slices resource.now))) }
+    ensures rest { rest_at (R.slices resource.now) result.0 result.1 ≡ rest_at (R.slices resource.now) number within }
+    ensures inside { result.1 < length (get_or (R.slices resource.now) result.0 []) }
+    ensures back { result.1 ≤ within }
+{
+    let mut number = number;
+    let mut within = within;
+    let mut len = resource.slice(number).len() as u64;
+    while len <= within {
+        within -= len;
+        number += 1;
+        len = resource.slice(number).len() as u64;
+    }
+    (number, within)
+}
+
+impl<R: Resource> Media<R> {
+    /// So many bytes from a place on: from a slice's number, and how far in it.
+    pub fn new(resource: R, number: u64, within: u64, len: u64) -> Media<R>
+        requires room { within + len < 2 ^ 64 }
+        requires there { len ≤ length (rest_at (R.slices resource) number within) }
+        ensures { result ≡ part_at (R.slices resource) number within len }
+    {
+        if len == 0 {
+            return Media {
+                resource,
+                number,
+                within,
+                left: 0,
+            };
+        }
+        let (number, within) = settled(&resource, number, within);
+        Media {
+            resource,
+            number,
+            within,
+            left: len,
+        }
+    }
+
+    /// How many bytes are left.
+    pub fn len(&self) -> u64
+        ensures { result ≡ length self.now }
+    {
+        self.left
+    }
+
+    /// Whether none is left.
+    pub fn is_empty(&self) -> bool
+        ensures { result ≡ (length self.now == 0) }
+    {
+        self.left == 0
+    }
+
+    /// The next bytes, up to the end of their slice.
+    pub fn chunk(&self) -> &[u8]
+        ensures { IsChunkOf result.now self.now }
+    {
+        if self.left == 0 {
+            return b"";
+        }
+        let slice = self.resource.slice(self.number);
+        front(&slice[self.within as usize..], self.left)
+    }
+
+    /// So many bytes have gone.
+    pub fn advance(&mut self, count: u64)
+        requires { count ≤ length self.old }
+        ensures { self.new ≡ drop count self.old }
+    {
+        self.left -= count;
+        if self.left > 0 {
+            let (number, within) = settled(&self.resource, self.number, self.within + count);
+            self.number = number;
+            self.within = within;
+        }
+    }
+}
