@@ -1,8 +1,6 @@
 pub mod Bodies
 pub mod Drained
-pub mod Gathered
 pub mod Heads
-pub mod Media
 pub mod Replies
 pub mod Sessions
 pub mod Source

@@ -5,7 +5,7 @@ use Rattle.hls_io.specs.Writing.{Writes}
 use Rattle.hls_http_laws.specs.declared.end.SessionEnd.{SessionEnd}
 use Rattle.hls_http_laws.specs.declared.end.SessionEnd.TheVariants as ends
 use Rattle.hls_http_laws.specs.declared.reply.ReplyHead.{ReplyHead}
-use Rattle.hls_http_laws.specs.Reply.{head_text_of, is_success, no_memory_to, reply_text}
+use Rattle.hls_http_laws.specs.Reply.{is_success, no_memory_to, reply_text}
 use Rattle.hls_http.specs.declared.send.ReplyEnd.{ReplyEnd}
 use Rattle.hls_http.specs.declared.send.ReplyEnd.TheVariants.{Memory, WriteFailed}
 
@@ -14,10 +14,6 @@ abbrev pub Replies : List ℕ → List ℕ → Option (List ℕ) → Result (Uni
 Replies held text contents (Ok done) = contents ≡ Some (held ++ text)
 Replies held text contents (Err Memory) = contents ≡ Some held
 Replies held text contents (Err WriteFailed) = Writes held text contents false
-
--- .. of a head and a content that would have so many bytes, and these
-abbrev pub RepliesMedia : ReplyHead → ℕ → List ℕ → List ℕ → Option (List ℕ) → Result (Unit {0}) ReplyEnd → Type 0
-RepliesMedia head len bytes held contents result = Replies held (head_text_of head len ++ bytes) contents result
 
 abbrev pub CountsReply : Result (Unit {0}) ReplyEnd → ℕ → ℕ → Type 0
 CountsReply (Ok done) old new = new ≡ old
@@ -54,10 +50,6 @@ Answers head to_head held text contents (Err ends.WriteFailed) =
 -- .. of a head and a content; to HEAD without it
 abbrev pub AnswersText : ReplyHead → Bool → List ℕ → List ℕ → Option (List ℕ) → Result (Unit {0}) SessionEnd → Type 0
 AnswersText head to_head body held contents result = Answers head to_head held (reply_text head body to_head) contents result
-
--- .. of a head and a content that would have so many bytes, and these
-abbrev pub AnswersMedia : ReplyHead → ℕ → List ℕ → List ℕ → Option (List ℕ) → Result (Unit {0}) SessionEnd → Type 0
-AnswersMedia head len bytes held contents result = Answers head false held (head_text_of head len ++ bytes) contents result
 
 -- .. behind what came of sending a text
 abbrev pub AnswersSent : ReplyHead → Bool → Option (List ℕ) → Result (Unit {0}) ReplyEnd → Option (List ℕ) → Result (Unit {0}) SessionEnd → Type 0

@@ -7,9 +7,7 @@
 mod body;
 mod drain;
 mod fields;
-mod gather;
 mod head;
-mod media;
 mod number;
 mod order;
 mod query;
@@ -27,7 +25,6 @@ pub use hls_http_laws::end::SessionEnd;
 pub use hls_http_laws::fault::HttpFault;
 pub use hls_http_laws::plan::Plan;
 pub use hls_io::{Counted, write_whole};
-pub use media::{Resource, write_part};
 pub use order::{continues, is_over, plan, says_close};
 pub use query::{split_target, value_of};
 pub use range::part;

@@ -1,21 +1,21 @@
-//! Replies written: a small one by one write, media from the slices that hold them.
+//! Replies written: small slices many at once, the first of them with the head, and large ones as they are.
 
-ghost use Rattle.std.specs.Prelude.{◌≡◌, ◌++◌, ◌+◌, ◌<◌, ◌^◌, IfOk};
+ghost use Rattle.std.specs.Prelude.{◌≡◌, false};
 ghost use Rattle.hls_io.specs.Counted.{failures_of};
 ghost use Rattle.hls_io.specs.Streams.{ToOutput};
+ghost use Rattle.hls_io.specs.Writing.{CountsWrite, Writes};
 ghost use Rattle.hls_http_laws.specs.Reply.{head_text_of, reply_text};
-ghost use Rattle.hls_http.specs.Media.{HasPart, PartToOutput};
-ghost use Rattle.hls_http.specs.Replies.{CountsReply, Replies, RepliesMedia};
+ghost use Rattle.hls_http.specs.Replies.{CountsReply, Replies};
 
-use crate::media::{Resource, write_part};
-use crate::reply::head_with_room;
+use crate::reply::{head_bytes, head_with_room};
 use hls_http_laws::reply::ReplyHead;
 use hls_io::{Counted, write_whole};
-use std::alloc::{AllocError, Global};
+use hls_output::{Media, Output, Resource, Text};
+use std::alloc::Global;
 use std::io::Write;
 
-/// The most bytes of a content that go out in one write with the head, and of its small slices in one write.
-const MOST_JOINED: usize = 16384;
+/// The most bytes of small slices that go out in one write.
+const MOST_GATHERED: u64 = 16384;
 
 /// Why a reply wasn't written.
 #[derive(Clone, Copy, Debug, PartialEq, Eq, Drop)]
@@ -26,105 +26,75 @@ pub enum ReplyEnd {
     WriteFailed,
 }
 
-/// A head, and the front of its content.
-fn joined(
-    alloc: Global,
-    head: &ReplyHead<'_>,
-    len: u64,
-    front: &[u8],
-) -> Result<Vec<u8>, AllocError>
-    ensures { IfOk result (λ v. v.items ≡ head_text_of head.now len ++ front.now) }
+/// Writes all that waits. After a failed call, which is counted, a beginning of it is written.
+fn write_output<W: Write, M: Resource + Drop>(writer: &mut Counted<W>, output: Output<M>) -> bool
+    ensures writes { ToOutput W.contents writer.old writer.new (λ held. Writes held output) result }
+    ensures counts { CountsWrite result (failures_of writer.old) (failures_of writer.new) }
 {
-    let mut out = head_with_room(alloc, head, len, front.len())?;
-    out.extend_from_slice(front)?;
-    Ok(out)
-}
-
-/// All of a small content and nothing, or nothing and all of a large one.
-fn split_small(content: &[u8]) -> (&[u8], &[u8])
-    ensures { content.entry.now ≡ result.0.now ++ result.1.now }
-{
-    if content.len() <= MOST_JOINED {
-        (content, b"")
-    } else {
-        (b"", content)
+    let mut output = output;
+    while !output.is_empty() {
+        let next = output.chunk();
+        if !write_whole(writer, next) {
+            return false;
+        }
+        let count = next.len();
+        output.advance(count);
     }
-}
-
-/// Writes two texts, one after the other.
-fn write_both<W: Write>(
-    output: &mut Counted<W>,
-    first: &[u8],
-    second: &[u8],
-) -> Result<(), ReplyEnd>
-    ensures writes { ToOutput W.contents output.old output.new (λ held. Replies held (first.now ++ second.now)) result }
-    ensures counts { CountsReply result (failures_of output.old) (failures_of output.new) }
-{
-    if !write_whole(output, first) {
-        return Err(ReplyEnd::WriteFailed);
-    }
-    if !write_whole(output, second) {
-        return Err(ReplyEnd::WriteFailed);
-    }
-    Ok(())
+    true
 }
 
 /// Writes the head of a reply to HEAD, whose content would have so many bytes.
 pub fn write_head<W: Write>(
     alloc: Global,
-    output: &mut Counted<W>,
+    writer: &mut Counted<W>,
     head: &ReplyHead<'_>,
     len: u64,
 ) -> Result<(), ReplyEnd>
-    ensures writes { ToOutput W.contents output.old output.new (λ held. Replies held (head_text_of head.now len)) result }
-    ensures counts { CountsReply result (failures_of output.old) (failures_of output.new) }
+    ensures writes { ToOutput W.contents writer.old writer.new (λ held. Replies held (head_text_of head.now len)) result }
+    ensures counts { CountsReply result (failures_of writer.old) (failures_of writer.new) }
 {
-    match joined(alloc, head, len, b"") {
-        Ok(text) => write_both(output, &text, b""),
-        Err(_) => Err(ReplyEnd::Memory),
+    let Ok(text) = head_bytes(alloc, head, len) else {
+        return Err(ReplyEnd::Memory);
+    };
+    if !write_whole(writer, &text) {
+        return Err(ReplyEnd::WriteFailed);
     }
+    Ok(())
 }
 
 /// Writes a reply whose content is a text; to HEAD without it. A small one goes out in one write.
 pub fn write_reply<W: Write>(
     alloc: Global,
-    output: &mut Counted<W>,
+    writer: &mut Counted<W>,
     head: &ReplyHead<'_>,
     body: &[u8],
     to_head: bool,
 ) -> Result<(), ReplyEnd>
-    ensures writes { ToOutput W.contents output.old output.new (λ held. Replies held (reply_text head.now body.now to_head)) result }
-    ensures counts { CountsReply result (failures_of output.old) (failures_of output.new) }
+    ensures writes { ToOutput W.contents writer.old writer.new (λ held. Replies held (reply_text head.now body.now to_head)) result }
+    ensures counts { CountsReply result (failures_of writer.old) (failures_of writer.new) }
 {
-    let content: &[u8] = if to_head { b"" } else { body };
-    let (front, rest) = split_small(content);
-    match joined(alloc, head, body.len() as u64, front) {
-        Ok(text) => write_both(output, &text, rest),
-        Err(_) => Err(ReplyEnd::Memory),
+    if to_head {
+        return write_head(alloc, writer, head, body.len() as u64);
     }
+    write_media(alloc, writer, head, Text::media(body))
 }
 
-/// Writes a reply whose content is so many bytes of a resource from an offset on, from the resource's own slices.
-/// Memory is taken once, before the first write: for the head and as many bytes as are written at once, so that small
-/// slices go out in few writes, the first of them with the head. A slice that is larger goes out as it is.
-pub fn write_media<W: Write, M: Resource>(
+/// Writes a reply whose content is a part of a resource, from the resource's own slices. Memory is taken once, before the
+/// first write: for the head, and for as many bytes of small slices as are written at once.
+pub fn write_media<W: Write, M: Resource + Drop>(
     alloc: Global,
-    output: &mut Counted<W>,
+    writer: &mut Counted<W>,
     head: &ReplyHead<'_>,
-    media: &M,
-    from: u64,
-    len: u64,
+    media: Media<M>,
 ) -> Result<(), ReplyEnd>
-    requires room { from + len < 2 ^ 64 }
-    requires held { HasPart (M.part media.now) from len }
-    ensures writes { PartToOutput W.contents output.old output.new (M.part media.now) from len (RepliesMedia head.now len) result }
-    ensures counts { CountsReply result (failures_of output.old) (failures_of output.new) }
+    ensures writes { ToOutput W.contents writer.old writer.new (λ held. Replies held (reply_text head.now media false)) result }
+    ensures counts { CountsReply result (failures_of writer.old) (failures_of writer.new) }
 {
-    let room = len.min(MOST_JOINED as u64) as usize;
-    let Ok(text) = head_with_room(alloc, head, len, room) else {
+    let len = media.len();
+    let Ok(text) = head_with_room(alloc, head, len, len.min(MOST_GATHERED) as usize) else {
         return Err(ReplyEnd::Memory);
     };
-    if !write_part(output, text, media, from, len) {
+    if !write_output(writer, Output::of_media(text, media)) {
         return Err(ReplyEnd::WriteFailed);
     }
     Ok(())

@@ -1,20 +1,18 @@
 //! A session: the requests that come of a reader, and the replies that go to a writer.
 
-ghost use Rattle.std.specs.Prelude.{◌≡◌, ◌+◌, ◌<◌, ◌≤◌, ◌^◌, ℕ, true};
+ghost use Rattle.std.specs.Prelude.{◌≡◌, ◌≤◌, ℕ, false, true};
 ghost use Rattle.hls_io.specs.Counted.{failures_of, inside_of};
 ghost use Rattle.hls_io.specs.Streams.{ToOutput};
 ghost use Rattle.hls_http_laws.specs.Reply.{head_text_of, no_memory_to};
 ghost use Rattle.hls_http.specs.Bodies.{CountsBody, Passes};
 ghost use Rattle.hls_http.specs.Drained.{announced_by, CountsDrop, Drops};
 ghost use Rattle.hls_http.specs.Heads.{CountsHead, Hears};
-ghost use Rattle.hls_http.specs.Media.{HasPart, PartToOutput};
-ghost use Rattle.hls_http.specs.Replies.{Answers, AnswersMedia, AnswersMemory, AnswersSent, AnswersText, CountsAnswer, CountsEnding, CountsReply, EndsBy};
+ghost use Rattle.hls_http.specs.Replies.{Answers, AnswersMemory, AnswersSent, AnswersText, CountsAnswer, CountsEnding, CountsReply, EndsBy};
 ghost use Rattle.hls_http.specs.Source.{FromSource, read_failures, taken_of};
 
 use crate::body::{BodyEnd, Given, read_body};
 use crate::drain::DropEnd;
 use crate::head::{Head, HeadEnd};
-use crate::media::Resource;
 use crate::send::{ReplyEnd, write_head, write_media, write_reply};
 use crate::source::Source;
 use crate::{drain, head};
@@ -22,6 +20,7 @@ use hls_http_laws::body::Body;
 use hls_http_laws::end::SessionEnd;
 use hls_http_laws::reply::{ReplyHead, no_memory_head_text, no_memory_text};
 use hls_io::{Counted, write_whole};
+use hls_output::{Media, Resource};
 use std::alloc::{AllocError, Global};
 use std::io::{Read, Write};
 
@@ -168,22 +167,18 @@ impl<R, W: Write> Session<R, W> {
         finish(&mut self.writer, sent, head, true)
     }
 
-    /// Replies with so many bytes of a resource from an offset on, from the resource's own slices.
-    pub fn reply_media<M: Resource>(
+    /// Replies with a part of a resource, from the resource's own slices.
+    pub fn reply_media<M: Resource + Drop>(
         &mut self,
         alloc: Global,
         head: &ReplyHead<'_>,
-        media: &M,
-        from: u64,
-        len: u64,
+        media: Media<M>,
     ) -> Result<(), SessionEnd>
-        requires room { from + len < 2 ^ 64 }
-        requires held { HasPart (M.part media.now) from len }
-        ensures answers { PartToOutput W.contents self.old.writer self.new.writer (M.part media.now) from len (AnswersMedia head.now len) result }
+        ensures answers { ToOutput W.contents self.old.writer self.new.writer (AnswersText head.now false media) result }
         ensures counts { CountsAnswer result (failures_of self.old.writer) (failures_of self.new.writer) }
         ensures reader { self.new.source ≡ self.old.source }
     {
-        let sent = write_media(alloc, &mut self.writer, head, media, from, len);
+        let sent = write_media(alloc, &mut self.writer, head, media);
         finish(&mut self.writer, sent, head, false)
     }
 
