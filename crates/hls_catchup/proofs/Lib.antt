@@ -9,6 +9,7 @@ pub mod States
 mod Tables
 pub mod Bounded
 mod Covered
+mod Slices
 mod Spans
 pub mod Plays
 mod Names

@@ -1,5 +1,5 @@
 -- The resource of a rendition, from the reply alone.
-use Rattle.std.specs.Prelude.{ℕ, List, ◌∷◌, length, Option, Some, None, option_map}
+use Rattle.std.specs.Prelude.{◌≡◌, ℕ, ◌≤◌, List, [], ◌∷◌, length, drop, Option, Some, None, option_map, unwrap_or}
 use Rattle.std.specs.List.{concat}
 use Rattle.hls_record.specs.Recorded.{unit_piece}
 use Rattle.hls_core_laws.specs.State.{State}
@@ -25,3 +25,16 @@ length_of_parts parts = option_map (λ parts. length (concat parts)) parts
 abbrev pub piece_of : Option (List (List ℕ)) → ℕ → Option (List ℕ)
 piece_of None at = None
 piece_of (Some parts) at = unit_piece parts at
+
+-- its slices, none where there is no such resource
+abbrev pub slices_in : ReplyData → ℕ → List (List ℕ)
+slices_in reply r = unwrap_or (parts_in reply r) []
+
+-- a place in slices, one's number and how far in it, from which on the same stands as from byte `at` of the slices joined
+pub record IsPlaceOf (slices : List (List ℕ)) (at number within : ℕ) : Type 0 where
+  pub rest : drop within (concat (drop number slices)) ≡ drop at (concat slices)
+  pub back : within ≤ at
+
+abbrev pub FindsPlace : List (List ℕ) → ℕ → Option (ℕ × ℕ) → Type 0
+FindsPlace slices at None = length (concat slices) ≤ at
+FindsPlace slices at (Some place) = IsPlaceOf slices at place.0 place.1

@@ -11,9 +11,9 @@ pub use live::live_playlist;
 pub use masters::{job_master, live_master};
 pub use reply::{Reply, answer};
 pub use request::{CatchFault, Request};
-pub use resource::{resource_piece, resource_total};
+pub use resource::{resource_piece, resource_place, resource_slice, resource_total};
 pub use segments::{bytes_between, is_break, segment_between, segments_of};
-pub use span::{reply_piece, reply_total};
+pub use span::{reply_piece, reply_place, reply_slice, reply_total};
 pub use table::table_of;
 
 mod actions;

@@ -1,9 +1,10 @@
 //! The resource of a recording from one unit to another.
 
-ghost use Rattle.std.specs.Prelude.{◌≡◌, ◌∷◌, ◌≤◌, length};
+ghost use Rattle.std.specs.Prelude.{◌≡◌, [], ◌∷◌, ◌<◌, ◌≤◌, ◌^◌, get_or, length};
 ghost use Rattle.std.specs.Option.{option_copied};
 ghost use Rattle.hls_record.specs.Recorded.{unit_piece};
 ghost use Rattle.hls_catchup_laws.specs.Jobs.{units_between, resource_of};
+ghost use Rattle.hls_catchup.specs.Resources.{FindsPlace};
 
 use crate::segments::bytes_between;
 use hls_record::Recording;
@@ -35,4 +36,42 @@ pub fn resource_piece(recording: &Recording, first: u64, end: u64, at: u64) -> O
         return None;
     }
     recording.piece(recording.offset(first) + (at - init_length))
+}
+
+/// The bytes of a slice of that resource by its number: the init section, and then each unit. None where there is no such slice.
+pub fn resource_slice(recording: &Recording, first: u64, end: u64, number: u64) -> &[u8]
+    requires kept { recording.now.floor ≤ first }
+    ensures bytes { result.now ≡ get_or (recording.now.head ∷ units_between recording.now.floor recording.now.units first end) number [] }
+    ensures few { length (recording.now.head ∷ units_between recording.now.floor recording.now.units first end) < 2 ^ 64 }
+{
+    let _ = recording.count();
+    if number == 0 {
+        return recording.head().as_slice();
+    }
+    if end.saturating_sub(first) < number {
+        return b"";
+    }
+    match recording.unit(first + (number - 1)) {
+        Some(unit) => unit.as_slice(),
+        None => b"",
+    }
+}
+
+/// Where byte `at` of that resource stands: the number of its slice, and how far in it. None at or past the end. Found in
+/// logarithmic time.
+pub fn resource_place(recording: &Recording, first: u64, end: u64, at: u64) -> Option<(u64, u64)>
+    requires kept { recording.now.floor ≤ first }
+    ensures { FindsPlace (recording.now.head ∷ units_between recording.now.floor recording.now.units first end) at result }
+{
+    let _ = recording.count();
+    let init_length = recording.offset(0);
+    if at < init_length {
+        return Some((0, at));
+    }
+    if bytes_between(recording, first, end) <= at - init_length {
+        return None;
+    }
+    let offset = recording.offset(first) + (at - init_length);
+    let unit = recording.unit_of(offset);
+    Some((unit - first + 1, offset - recording.offset(unit)))
 }

@@ -1,13 +1,13 @@
 //! The resource of a rendition, from a reply alone.
 
-ghost use Rattle.std.specs.Prelude.{◌≡◌, IfNone, IfSome, None};
+ghost use Rattle.std.specs.Prelude.{◌≡◌, ◌<◌, ◌^◌, [], get_or, length, IfNone, IfSome, None};
 ghost use Rattle.std.specs.Option.{option_copied};
-ghost use Rattle.hls_catchup.specs.Resources.{parts_in, length_of_parts, piece_of};
+ghost use Rattle.hls_catchup.specs.Resources.{FindsPlace, parts_in, length_of_parts, piece_of, slices_in};
 ghost use Rattle.hls_catchup.specs.Spans.{IsSpan};
 
 use crate::cutout::Cutout;
 use crate::reply::Reply;
-use crate::resource::{resource_piece, resource_total};
+use crate::resource::{resource_piece, resource_place, resource_slice, resource_total};
 use hls_record::Recording;
 
 /// Which units of a recording a reply's resource has: those from number `first` to the one before `end`.
@@ -54,4 +54,25 @@ pub fn reply_piece(reply: &Reply, rendition: usize, at: u64) -> Option<&[u8]>
 {
     let span = span_of(reply, rendition)?;
     resource_piece(span.recording, span.first, span.end, at)
+}
+
+/// The bytes of a slice of that resource by its number: the init section, and then each unit of the programme. None where
+/// there is no such slice. No byte is copied, and no memory taken.
+pub fn reply_slice(reply: &Reply, rendition: usize, number: u64) -> &[u8]
+    ensures bytes { result.now ≡ get_or (slices_in reply.now rendition) number [] }
+    ensures few { length (slices_in reply.now rendition) < 2 ^ 64 }
+{
+    match span_of(reply, rendition) {
+        Some(span) => resource_slice(span.recording, span.first, span.end, number),
+        None => b"",
+    }
+}
+
+/// Where byte `at` of that resource stands: the number of its slice, and how far in it. None at or past the end. Found in
+/// logarithmic time.
+pub fn reply_place(reply: &Reply, rendition: usize, at: u64) -> Option<(u64, u64)>
+    ensures { FindsPlace (slices_in reply.now rendition) at result }
+{
+    let span = span_of(reply, rendition)?;
+    resource_place(span.recording, span.first, span.end, at)
 }
