@@ -10,12 +10,9 @@ ghost use Rattle.hls_http.specs.Replies.{CountsReply, Replies};
 use crate::reply::{head_bytes, head_with_room};
 use hls_http_laws::reply::ReplyHead;
 use hls_io::{Counted, write_whole};
-use hls_output::{Media, Output, Resource, Text};
+use hls_output::{MOST_GATHERED, Media, Output, Resource, Text};
 use std::alloc::Global;
 use std::io::Write;
-
-/// The most bytes of small slices that go out in one write.
-const MOST_GATHERED: u64 = 16384;
 
 /// Why a reply wasn't written.
 #[derive(Clone, Copy, Debug, PartialEq, Eq, Drop)]
@@ -91,7 +88,7 @@ pub fn write_media<W: Write, M: Resource + Drop>(
     ensures counts { CountsReply result (failures_of writer.old) (failures_of writer.new) }
 {
     let len = media.len();
-    let Ok(text) = head_with_room(alloc, head, len, len.min(MOST_GATHERED) as usize) else {
+    let Ok(text) = head_with_room(alloc, head, len, len.min(MOST_GATHERED as u64) as usize) else {
         return Err(ReplyEnd::Memory);
     };
     if !write_output(writer, Output::of_media(text, media)) {

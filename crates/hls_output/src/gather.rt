@@ -5,14 +5,17 @@ ghost use Rattle.std.specs.Prelude.{◌≡◌, ◌++◌};
 use crate::media::Media;
 use crate::resource::Resource;
 
-/// Puts the next bytes behind a text, slice by slice, as long as the text's memory has room for a whole one.
+/// The most bytes of a slice that is gathered.
+pub const MOST_GATHERED: usize = 16384;
+
+/// Puts the next bytes behind a text, slice by slice, as long as they are small and the text's memory has room for a whole one.
 pub(crate) fn gather<R: Resource>(text: &mut Vec<u8>, media: &mut Media<R>)
     ensures { text.new.items ++ media.new ≡ text.old.items ++ media.old }
 {
     while !media.is_empty() {
         let next = media.chunk();
         let count = next.len();
-        if count > text.capacity() - text.len() {
+        if count > MOST_GATHERED || count > text.capacity() - text.len() {
             return;
         }
         let Ok(()) = text.extend_from_slice(next) else {

@@ -9,6 +9,7 @@ mod output;
 mod resource;
 mod text;
 
+pub use gather::MOST_GATHERED;
 pub use media::Media;
 pub use output::Output;
 pub use resource::Resource;

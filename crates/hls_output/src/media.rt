@@ -18,6 +18,8 @@ pub struct Media<R: Resource> {
     number: u64,
     /// How far in that slice.
     within: u64,
+    /// How long that slice is.
+    len: u64,
     /// How many bytes are left.
     left: u64,
 }
@@ -30,7 +32,7 @@ impl<R: Resource> Model for Media<R> {
 
     ghost view = { λ m. part_at (R.slices m.resource) m.number m.within m.left };
 
-    ghost invariant = { λ m. IsPlace (R.slices m.resource) m.number m.within m.left };
+    ghost invariant = { λ m. IsPlace (R.slices m.resource) m.number m.within m.len m.left };
 }
 
 /// The front of some bytes.
@@ -44,23 +46,26 @@ fn front(bytes: &[u8], most: u64) -> &[u8]
     }
 }
 
-/// The place at which a byte stands that is told from a place before it on: slices that end before it, or are empty, are
-/// passed over.
-fn settled<R: Resource>(resource: &R, number: u64, within: u64) -> (u64, u64)
-    requires { within < length (concat (drop number (R.slices resource.now))) }
+/// The place at which a byte stands that is told from a slice before it on, whose length is known: the number of its slice,
+/// how far in it, and the slice's length. Slices that end before the byte, or are empty, are passed over.
+fn settled<R: Resource>(resource: &R, number: u64, within: u64, len: u64) -> (u64, u64, u64)
+    requires there { within < length (concat (drop number (R.slices resource.now))) }
+    requires here { len ≡ length (get_or (R.slices resource.now) number []) }
+    requires few { length (R.slices resource.now) < 2 ^ 64 }
     ensures rest { rest_at (R.slices resource.now) result.0 result.1 ≡ rest_at (R.slices resource.now) number within }
-    ensures inside { result.1 < length (get_or (R.slices resource.now) result.0 []) }
+    ensures inside { result.1 < result.2 }
+    ensures here { result.2 ≡ length (get_or (R.slices resource.now) result.0 []) }
     ensures back { result.1 ≤ within }
 {
     let mut number = number;
     let mut within = within;
-    let mut len = resource.slice(number).len() as u64;
+    let mut len = len;
     while len <= within {
         within -= len;
         number += 1;
         len = resource.slice(number).len() as u64;
     }
-    (number, within)
+    (number, within, len)
 }
 
 impl<R: Resource> Media<R> {
@@ -75,14 +80,17 @@ impl<R: Resource> Media<R> {
                 resource,
                 number,
                 within,
+                len: 0,
                 left: 0,
             };
         }
-        let (number, within) = settled(&resource, number, within);
+        let here = resource.slice(number).len() as u64;
+        let (number, within, here) = settled(&resource, number, within, here);
         Media {
             resource,
             number,
             within,
+            len: here,
             left: len,
         }
     }
@@ -119,9 +127,15 @@ impl<R: Resource> Media<R> {
     {
         self.left -= count;
         if self.left > 0 {
-            let (number, within) = settled(&self.resource, self.number, self.within + count);
+            let (number, within, len) = settled(
+                &self.resource,
+                self.number,
+                self.within + count,
+                self.len,
+            );
             self.number = number;
             self.within = within;
+            self.len = len;
         }
     }
 }

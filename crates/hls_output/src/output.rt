@@ -31,9 +31,9 @@ impl Words {
 
 /// A text, and then at most one part of a resource. A clause sees the bytes that are left.
 ///
-/// Small slices of the resource are gathered behind the text, as far as the text's memory has room for them, and once the text
-/// has gone, in its place; so they go out many at once. A slice that is larger than that memory is handed out as it is. No
-/// memory is taken.
+/// Small slices of the resource, of at most 16384 bytes, are gathered behind the text, as far as the text's memory has room for
+/// them, and once the text has gone, in its place; so they go out many at once. A larger one is handed out as it is. No memory
+/// is taken.
 #[derive(Drop)]
 pub struct Output<R: Resource> {
     text: Words,

@@ -13,7 +13,7 @@ loop-len-preserved g c =
     record {
       rest = ap (λ n. rest_at slices (number + 1) (within - n)) here ∙ next_slice slices number within past ∙ c.loop-len.invariant.rest;
       there = omega (arith, here, next_there slices number within past c.loop-len.invariant.there);
-      here = ap length c.slice-in-loop-len.ensures.bytes;
+      here = ap length c.slice.ensures.bytes;
       few = c.loop-len.invariant.few;
       back = omega (arith, c.loop-len.invariant.back);
     }
