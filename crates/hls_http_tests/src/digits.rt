@@ -1,42 +1,33 @@
-//! Ten digits in two slices, as a resource of media.
+//! Ten digits as a resource of media, in slices of which one is empty.
 
-ghost use Rattle.std.specs.Prelude.{◌≡◌, ℕ, List, Option, Some};
-ghost use Rattle.hls_http.specs.Media.{GivesPiece, part_of_list};
+ghost use Rattle.std.specs.Prelude.{◌≡◌, ◌≤◌, [], ◌∷◌, codes, drop, length, take};
+ghost use Rattle.hls_output.specs.Slices.{part_at};
 
-use crate::fakes::Page;
-use hls_http::{ReplyEnd, Resource, write_media};
-use hls_http_laws::reply::ReplyHead;
-use hls_io::Counted;
-use std::alloc::Global;
-
-/// The digits from 0 to 9.
-const DIGITS: &[u8] = b"0123456789";
+use hls_output::{Media, Resource};
 
 /// The resource.
-#[derive(Drop)]
+#[derive(Clone, Copy, Drop)]
 pub struct Digits;
 
 impl Resource for Digits {
-    ghost use Rattle.hls_http_tests.specs.declared.digits.TheConstants.{DIGITS};
+    ghost use Rattle.std.specs.Prelude.{[], ◌∷◌, codes};
 
-    ghost part = { λ digits at len. part_of_list DIGITS.now at len };
+    ghost slices = { λ digits. codes "0123" ∷ (codes "" ∷ (codes "456" ∷ (codes "789" ∷ []))) };
 
-    fn piece(&self, at: u64) -> Option<&[u8]> {
-        if at < 4 {
-            return Some(&DIGITS[at as usize..4]);
+    fn slice(&self, number: u64) -> &[u8] {
+        match number {
+            0 => b"0123",
+            2 => b"456",
+            3 => b"789",
+            _ => b"",
         }
-        if at < 10 {
-            return Some(&DIGITS[at as usize..]);
-        }
-        None
     }
 }
 
-/// Replies with the digits from 2 to 6.
-pub fn write_digits(
-    alloc: Global,
-    output: &mut Counted<Page>,
-    head: &ReplyHead<'_>,
-) -> Result<(), ReplyEnd> {
-    write_media(alloc, output, head, &Digits, 2, 5)
+/// The first so many digits, at most ten.
+pub fn first_digits(count: u64) -> Media<Digits>
+    requires { count ≤ 10 }
+    ensures { result ≡ take count (codes "0123456789") }
+{
+    Media::new(Digits, 0, 0, count)
 }

@@ -1,9 +1,10 @@
 //! Media of many slices: in how many writes they go out, and that a large slice isn't copied.
 
-use crate::slices::Slices;
+use crate::digits::first_digits;
 use hls_http::{ReplyEnd, head_bytes, write_media};
 use hls_http_laws::reply::{Extra, Kind, ReplyHead, Status};
 use hls_io::Counted;
+use hls_output::{Media, Resource, Text};
 use std::alloc::Global;
 use std::io::{self, Write};
 use std::test::Fail;
@@ -37,26 +38,25 @@ const HEAD: ReplyHead<'static> = ReplyHead {
     closing: false,
 };
 
-/// What comes of a reply with all of a resource.
-fn sent_of(alloc: Global, slices: &Slices<'_>) -> (Result<(), ReplyEnd>, Tally) {
+/// What comes of a reply with media.
+fn sent_of<M: Resource + Drop>(alloc: Global, media: Media<M>) -> (Result<(), ReplyEnd>, Tally) {
     let mut output = Counted::new(Tally {
         bytes: 0,
         calls: 0,
         largest: 0,
     });
-    let end = write_media(alloc, &mut output, &HEAD, slices, 0, slices.len());
+    let end = write_media(alloc, &mut output, &HEAD, media);
     (end, output.into_inner())
 }
 
 #[test]
-fn small_slices_in_few_writes(rt: HostRuntime) -> Result<(), Fail> {
+fn small_slices_in_one_write(rt: HostRuntime) -> Result<(), Fail> {
     let alloc = rt.alloc();
-    let bytes = vec![in alloc; 65u8; 65536]?;
-    let head = head_bytes(alloc, &HEAD, 65536)?;
-    let (end, sent) = sent_of(alloc, &Slices::new(&bytes, 1600));
+    let head = head_bytes(alloc, &HEAD, 10)?;
+    let (end, sent) = sent_of(alloc, first_digits(10));
     assert_eq!(rt; end, Ok(()));
-    assert_eq!(rt; sent.bytes, head.len().wrapping_add(65536));
-    assert!(rt; sent.calls <= 6);
+    assert_eq!(rt; sent.bytes, head.len().wrapping_add(10));
+    assert_eq!(rt; sent.calls, 1);
     Ok(())
 }
 
@@ -64,7 +64,7 @@ fn small_slices_in_few_writes(rt: HostRuntime) -> Result<(), Fail> {
 fn a_large_slice_as_it_is(rt: HostRuntime) -> Result<(), Fail> {
     let alloc = rt.alloc();
     let bytes = vec![in alloc; 65u8; 1 << 20]?;
-    let (end, sent) = sent_of(alloc, &Slices::new(&bytes, 1 << 20));
+    let (end, sent) = sent_of(alloc, Text::media(&bytes));
     assert_eq!(rt; end, Ok(()));
     assert_eq!(rt; sent.largest, 1 << 20);
     assert_eq!(rt; sent.calls, 2);

@@ -14,8 +14,8 @@ mod gathered;
 #[cfg(test)]
 mod heads;
 #[cfg(test)]
+mod outputs;
+#[cfg(test)]
 mod refused;
 #[cfg(test)]
 mod replies;
-#[cfg(test)]
-mod slices;

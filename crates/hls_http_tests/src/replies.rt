@@ -1,8 +1,8 @@
 //! Whole replies: their texts, and in how many writes they go out.
 
-use crate::digits::write_digits;
+use crate::digits::first_digits;
 use crate::fakes::Page;
-use hls_http::{HttpFault, ReplyEnd, head_bytes, refusal_body, write_reply};
+use hls_http::{HttpFault, ReplyEnd, head_bytes, refusal_body, write_media, write_reply};
 use hls_http_laws::reply::{Extra, Kind, ReplyHead, Status};
 use hls_io::Counted;
 use std::alloc::{AllocError, Global};
@@ -149,7 +149,9 @@ fn media_from_their_slices(rt: HostRuntime) -> Result<(), Fail> {
     let mut partial = head(Status::PartialContent, Extra::Range(2, 6, 10), false);
     partial.kind = Kind::Media;
     let mut output = Counted::new(Page::new(0));
-    assert!(rt; write_digits(rt.alloc(), &mut output, &partial).is_ok());
+    let mut media = first_digits(7);
+    media.advance(2);
+    assert!(rt; write_media(rt.alloc(), &mut output, &partial, media).is_ok());
     let page = output.into_inner();
     assert!(rt;
         page.says(

@@ -58,7 +58,7 @@ fn told(alloc: Global, act: Act, reply: &[u8]) -> Told {
     let Ok(mut session) = Session::new(alloc, b"".as_slice(), Page::new()) else {
         return Told::Wanted;
     };
-    let end = send(alloc, &mut session, &answer, false, false);
+    let end = send(alloc, &mut session, answer, false, false);
     let page = session.writer.into_inner();
     match end {
         Ok(()) => Told::answer(page.says(reply)),

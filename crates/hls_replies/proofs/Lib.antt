@@ -1,5 +1,5 @@
 mod Wholes
 mod Parts
-mod Lists
+mod Kept
 mod Sent
 mod Shown

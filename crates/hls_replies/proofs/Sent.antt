@@ -1,12 +1,10 @@
 -- What a reply that was sent is of an answer.
 use Rattle.std.proofs.Common.{◌≡◌, ◌∙◌, ℕ, Bool, true, false, List, [], ◌++◌, Option, Some, Result, Ok, Err, inl, inr, length, refl, sym, ap, subst, append-nil}
-use Rattle.std.specs.Prelude.{unwrap_or}
 use Rattle.hls_io.specs.Writing.{Writes}
 use Rattle.hls_http_laws.specs.declared.end.SessionEnd.{SessionEnd}
 use Rattle.hls_http_laws.specs.declared.end.SessionEnd.TheVariants as ends
 use Rattle.hls_http_laws.specs.declared.reply.ReplyHead.{ReplyHead}
 use Rattle.hls_http_laws.specs.Reply.{extra_line, head_text_of, reply_text}
-use Rattle.hls_http.specs.Media.{HasPart}
 use Rattle.hls_http.specs.Replies.{Answers}
 use Rattle.hls_serve_laws.specs.Replies.{Answer, answer_text}
 use Rattle.hls_replies.specs.Sends.{Sends}
@@ -20,21 +18,10 @@ part-to_head head bytes len to_head held contents result size to answers =
     subst (λ (t : Bool). Answers head t held (reply_text head bytes t) contents result) (sym to)
     (subst (λ (xs : List ℕ). Answers head true held xs contents result) (sym text) answers)
 
-pub part-to_get : (head : ReplyHead) (bytes : List ℕ) (len : ℕ) (to_head : Bool) (held : List ℕ) (contents : Option (List ℕ)) (result : Result (Unit {0}) SessionEnd)
-    → length bytes ≡ len → to_head ≡ false → Answers head false held (head_text_of head len ++ bytes) contents result
-    → Answers head to_head held (reply_text head bytes to_head) contents result
-part-to_get head bytes len to_head held contents result size to answers =
-    let text : reply_text head bytes false ≡ head_text_of head len ++ bytes = ap (λ n. head_text_of head n ++ bytes) size in
-    subst (λ (t : Bool). Answers head t held (reply_text head bytes t) contents result) (sym to)
-    (subst (λ (xs : List ℕ). Answers head false held xs contents result) (sym text) answers)
-
--- bytes that are there are the answer's body
-pub body-sent : (head : ReplyHead) (part : ℕ → ℕ → Option (List ℕ)) (from len : ℕ) (to_head : Bool) (held : List ℕ) (contents : Option (List ℕ))
-    (result : Result (Unit {0}) SessionEnd) → (has : HasPart part from len) → Answers head to_head held (reply_text head has.bytes to_head) contents result
-    → Answers head to_head held (reply_text head (unwrap_or (part from len) []) to_head) contents result
-body-sent head part from len to_head held contents result has answers =
-    subst (λ (body : List ℕ). Answers head to_head held (reply_text head body to_head) contents result)
-    (sym (ap (λ (found : Option (List ℕ)). unwrap_or found []) has.is)) answers
+pub part-to_get : (head : ReplyHead) (bytes : List ℕ) (to_head : Bool) (held : List ℕ) (contents : Option (List ℕ)) (result : Result (Unit {0}) SessionEnd)
+    → to_head ≡ false → Answers head false held (reply_text head bytes false) contents result → Answers head to_head held (reply_text head bytes to_head) contents result
+part-to_get head bytes to_head held contents result to answers =
+    subst (λ (t : Bool). Answers head t held (reply_text head bytes t) contents result) (sym to) answers
 
 reply-text : (a : Answer) (head : ReplyHead) (closing to_head : Bool) (body : List ℕ) → head.status ≡ a.status → head.kind ≡ a.kind → extra_line head.extra ≡ a.field
     → head.closing ≡ closing → body ≡ a.body → reply_text head body to_head ≡ answer_text a closing to_head

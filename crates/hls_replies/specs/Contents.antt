@@ -1,52 +1,53 @@
--- What an answer holds: a text, or the place of its bytes in a recording or in a job's resource.
-use Rattle.std.specs.Prelude.{ℕ, ◌+◌, ◌≤◌, nat_le, cond, List, [], Option, Some, None, unwrap_or, Result, Ok, Err}
-use Rattle.hls_record.specs.Recorded.{Recorded, total_of}
+-- What the body of an answer stands in: a text, a recording, or a job's resource, each in slices.
+use Rattle.std.specs.Prelude.{ℕ, ◌-◌, ◌≤◌, nat_lt, cond, List, [], ◌∷◌, length, Option, Some, None, Result, Ok, Err}
+use Rattle.hls_record.specs.Recorded.{Recorded, offset_at, total_of}
 use Rattle.hls_core.specs.Reads.{recording_of}
 use Rattle.hls_http_laws.specs.Reply.{extra_line}
-use Rattle.hls_http.specs.Media.{HasPart, part_of_list}
+use Rattle.hls_catchup_laws.specs.Jobs.{units_between}
 use Rattle.hls_catchup.specs.Replies.{ReplyData}
+use Rattle.hls_catchup.specs.Resources.{slices_in}
 use Rattle.hls_jobs.specs.declared.job.Job.{Job}
 use Rattle.hls_jobs.specs.declared.standing.Withheld.{Withheld}
 use Rattle.hls_jobs.specs.Standing.{files_of}
 use Rattle.hls_serve_laws.specs.JobReplies.{resource_of}
 use Rattle.hls_serve_laws.specs.Replies.{Answer, media_bytes}
-use Rattle.hls_replies.specs.declared.answer.Slice.{Slice}
-use Rattle.hls_replies.specs.declared.answer.JobSlice.{JobSlice}
-use Rattle.hls_replies.specs.declared.answer.Content.{Content}
-use Rattle.hls_replies.specs.declared.answer.Content.TheVariants.{Text, Media, JobMedia}
+use Rattle.hls_replies.specs.declared.media.Recorded.{Recorded as Kept}
+use Rattle.hls_replies.specs.declared.resource.Programme.{Programme as Made}
+use Rattle.hls_replies.specs.declared.body.Body.{Body}
+use Rattle.hls_replies.specs.declared.body.Body.TheVariants as bodies
 use Rattle.hls_replies.specs.declared.answer.Answer.TheInside.{Inside}
 
 -- ---- of a recording
 
--- so many bytes of a resource from an offset on, where all of them are there and none is trimmed
-abbrev pub part_in : Recorded → ℕ → ℕ → Option (List ℕ)
-part_in rec from len = cond (nat_le (from + len) (total_of rec)) (media_bytes rec from len) None
+-- its init section, and the units that are kept
+abbrev pub kept_slices : Option Recorded → List (List ℕ)
+kept_slices None = []
+kept_slices (Some rec) = rec.head ∷ units_between rec.floor rec.units rec.floor (length rec.facts)
 
+abbrev pub recorded_slices : Kept → List (List ℕ)
+recorded_slices kept = kept_slices (recording_of kept.snapshot.value kept.rendition)
+
+-- where a byte that isn't trimmed stands among those that aren't
+abbrev pub kept_at : Recorded → ℕ → ℕ
+kept_at rec at = cond (nat_lt at (length rec.head)) at (at - (offset_at rec rec.floor - length rec.head))
+
+-- so many bytes from an offset on, where none of them is trimmed
 abbrev pub part_by : Option Recorded → ℕ → ℕ → Option (List ℕ)
 part_by None from len = None
-part_by (Some rec) from len = part_in rec from len
+part_by (Some rec) from len = media_bytes rec from len
 
-abbrev pub part_of : Slice → ℕ → ℕ → Option (List ℕ)
-part_of slice from len = part_by (recording_of slice.snapshot.value slice.rendition) from len
+abbrev pub part_of : Kept → ℕ → ℕ → Option (List ℕ)
+part_of kept from len = part_by (recording_of kept.snapshot.value kept.rendition) from len
 
--- the bytes of a slice are there
-abbrev pub HasSlice : Slice → Type 0
-HasSlice slice = HasPart (part_of slice) slice.from slice.len
-
--- the slice lies within the resource
+-- the offset is none past the resource's end
 abbrev pub FitsBy : Option Recorded → ℕ → Type 0
 FitsBy None end = ⊥
 FitsBy (Some rec) end = end ≤ total_of rec
 
-abbrev pub FitsIn : Slice → Type 0
-FitsIn slice = FitsBy (recording_of slice.snapshot.value slice.rendition) (slice.from + slice.len)
+abbrev pub FitsIn : Kept → ℕ → Type 0
+FitsIn kept end = FitsBy (recording_of kept.snapshot.value kept.rendition) end
 
 -- ---- of a job
-
--- so many bytes of a list from an offset on, where all of them are there
-abbrev pub list_part : Option (List ℕ) → ℕ → ℕ → Option (List ℕ)
-list_part None from len = None
-list_part (Some bytes) from len = part_of_list bytes from len
 
 -- the resource of a rendition in the reply of a job that has one
 abbrev pub resource_by : Result ReplyData Withheld → ℕ → Option (List ℕ)
@@ -56,23 +57,20 @@ resource_by (Err why) r = None
 abbrev pub resource_in : Job → ℕ → Option (List ℕ)
 resource_in job r = resource_by (files_of job) r
 
-abbrev pub job_part_of : JobSlice → ℕ → ℕ → Option (List ℕ)
-job_part_of slice from len = list_part (resource_in slice.job slice.rendition) from len
+-- its slices: the init section, and the units of the programme
+abbrev pub slices_by : Result ReplyData Withheld → ℕ → List (List ℕ)
+slices_by (Ok reply) r = slices_in reply r
+slices_by (Err why) r = []
 
-abbrev pub HasJobSlice : JobSlice → Type 0
-HasJobSlice slice = HasPart (job_part_of slice) slice.from slice.len
+abbrev pub programme_slices : Made → List (List ℕ)
+programme_slices made = slices_by (files_of made.job) made.rendition
 
 -- ---- of an answer
 
-abbrev pub body_of : Content → List ℕ
-body_of (Text text) = text.items
-body_of (Media slice) = unwrap_or (part_of slice slice.from slice.len) []
-body_of (JobMedia slice) = unwrap_or (job_part_of slice slice.from slice.len) []
+abbrev pub slices_of : Body → List (List ℕ)
+slices_of (bodies.Text text) = text.items ∷ []
+slices_of (bodies.Recorded kept) = recorded_slices kept
+slices_of (bodies.Programme made) = programme_slices made
 
 abbrev pub seen : Inside → Answer
-seen a = record { status = a.status; kind = a.kind; field = extra_line a.extra; body = body_of a.content }
-
-abbrev pub IsHeld : Content → Type 0
-IsHeld (Text text) = Unit {0}
-IsHeld (Media slice) = HasSlice slice
-IsHeld (JobMedia slice) = HasJobSlice slice
+seen a = record { status = a.status; kind = a.kind; field = extra_line a.extra; body = a.body }

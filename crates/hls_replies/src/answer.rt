@@ -1,59 +1,21 @@
 //! An answer: a reply but for `Connection`.
 
-ghost use Rattle.std.specs.Prelude.{◌≡◌, []};
+ghost use Rattle.std.specs.Prelude.{◌≡◌};
 ghost use Rattle.hls_http_laws.specs.Reply.{extra_line};
-ghost use Rattle.hls_replies.specs.Contents.{HasJobSlice, HasSlice, body_of};
 
-use hls_core::snapshot::Snapshot;
+use crate::body::Body;
 use hls_http_laws::reply::{Extra, Kind, ReplyHead, Status};
-use hls_jobs::Job;
+use hls_output::Media;
 use std::marker::Model;
-use std::sync::Arc;
 
-/// So many bytes of a rendition's resource from an offset on.
-#[derive(Drop)]
-pub struct Slice {
-    /// The snapshot that keeps them.
-    pub snapshot: Arc<Snapshot>,
-    /// The rendition.
-    pub rendition: usize,
-    /// The offset of the first byte.
-    pub from: u64,
-    /// The number of bytes.
-    pub len: u64,
-}
-
-/// So many bytes of the resource of a job's rendition from an offset on.
-#[derive(Drop)]
-pub struct JobSlice {
-    /// The job, whose answer keeps them.
-    pub job: Job,
-    /// The rendition.
-    pub rendition: usize,
-    /// The offset of the first byte.
-    pub from: u64,
-    /// The number of bytes.
-    pub len: u64,
-}
-
-/// What the body of an answer is.
-#[derive(Drop)]
-pub enum Content {
-    /// A text.
-    Text(Vec<u8>),
-    /// Bytes of a recording, which stay where they are.
-    Media(Slice),
-    /// Bytes of a job's resource, which stay where they are.
-    JobMedia(JobSlice),
-}
-
-/// A reply but for `Connection`: its status, the type of its body, the one field that only some replies have, and its body.
+/// A reply but for `Connection`: its status, the type of its body, the one field that only some replies have, and its body,
+/// which stays where it stands.
 #[derive(Drop)]
 pub struct Answer {
     status: Status,
     kind: Kind,
     extra: Extra<'static>,
-    content: Content,
+    body: Media<Body>,
 }
 
 impl Model for Answer {
@@ -61,16 +23,12 @@ impl Model for Answer {
 
     ghost Value = { replies.Answer };
 
-    ghost use Rattle.hls_replies.specs.Contents.{seen, IsHeld};
+    ghost use Rattle.hls_replies.specs.Contents.{seen};
 
     ghost view = { seen };
-
-    ghost invariant = { λ a. IsHeld a.content };
 }
 
 impl Answer {
-    ghost use Rattle.hls_replies.specs.Contents.{IsHeld};
-
     /// An answer whose body is a text.
     pub(crate) fn of_text(
         status: Status,
@@ -80,37 +38,24 @@ impl Answer {
     ) -> Answer
         ensures { result ≡ record { status = status; kind = kind; field = extra_line extra.entry; body = body.items } }
     {
+        let len = body.len() as u64;
         Answer {
             status,
             kind,
             extra,
-            content: Content::Text(body),
+            body: Media::new(Body::Text(body), 0, 0, len),
         }
     }
 
-    /// An answer whose body stands in a recording.
-    pub(crate) fn of_media(status: Status, extra: Extra<'static>, slice: Slice) -> Answer
-        requires { HasSlice slice }
-        ensures { result ≡ record { status = status; kind = Kind.Media; field = extra_line extra.entry; body = body_of (Content.Media slice) } }
+    /// An answer whose body is media.
+    pub(crate) fn of_media(status: Status, extra: Extra<'static>, body: Media<Body>) -> Answer
+        ensures { result ≡ record { status = status; kind = Kind.Media; field = extra_line extra.entry; body = body } }
     {
         Answer {
             status,
             kind: Kind::Media,
             extra,
-            content: Content::Media(slice),
-        }
-    }
-
-    /// An answer whose body stands in a job's resource.
-    pub(crate) fn of_job_media(status: Status, extra: Extra<'static>, slice: JobSlice) -> Answer
-        requires { HasJobSlice slice }
-        ensures { result ≡ record { status = status; kind = Kind.Media; field = extra_line extra.entry; body = body_of (Content.JobMedia slice) } }
-    {
-        Answer {
-            status,
-            kind: Kind::Media,
-            extra,
-            content: Content::JobMedia(slice),
+            body,
         }
     }
 
@@ -136,11 +81,10 @@ impl Answer {
         }
     }
 
-    /// What its body is.
-    pub(crate) fn content(&self) -> &Content
-        ensures body { body_of result.now ≡ self.now.body }
-        ensures held { IsHeld result.now }
+    /// Its body.
+    pub(crate) fn into_body(self) -> Media<Body>
+        ensures { result ≡ self.body }
     {
-        &self.content
+        self.body
     }
 }

@@ -12,6 +12,7 @@ pub use standing::status_answer;
 pub use texts::{fault_answer, finish_answer, method_answer, refused_answer, taken_answer};
 
 mod answer;
+mod body;
 mod jobs;
 mod media;
 mod playlists;

@@ -1,38 +1,47 @@
 //! Answers that are media: parts of a rendition's resource.
 
-ghost use Rattle.std.specs.Prelude.{◌≡◌, ◌+◌, ◌-◌, ◌<◌, ◌≤◌, ◌^◌, max, min, length, true, false, Some, None, IfOk, IfSome, option_map};
+ghost use Rattle.std.specs.Prelude.{◌≡◌, ◌+◌, ◌-◌, ◌<◌, ◌≤◌, ◌^◌, max, min, length, true, false, IfOk, IfSome, option_map};
 ghost use Rattle.hls_record.specs.Recorded.{offset_at, total_of};
 ghost use Rattle.hls_core.specs.Reads.{recording_of};
 ghost use Rattle.hls_serve_laws.specs.Replies as spec;
 ghost use Rattle.hls_serve_laws.specs.Replies.{media_given};
-ghost use Rattle.hls_replies.specs.Contents.{FitsIn, HasSlice, part_of};
+ghost use Rattle.hls_replies.specs.Contents.{FitsIn, kept_at, part_of};
 
-use crate::answer::{Answer, Slice};
+use crate::answer::Answer;
+use crate::body::Body;
 use crate::texts::fault_answer;
+use hls_catchup::{resource_place, resource_slice};
 use hls_core::snapshot::Snapshot;
-use hls_http::{Resource, part, refusal_body};
+use hls_http::{part, refusal_body};
 use hls_http_laws::fault::HttpFault;
 use hls_http_laws::range::{Asked, Part};
 use hls_http_laws::reply::{Extra, Kind, Status};
+use hls_output::{Media, Resource};
 use hls_record::Recording;
 use std::alloc::{AllocError, Global};
 use std::sync::Arc;
 
-/// A recording as a resource: its init section, and then all units ever appended.
-#[derive(Clone, Copy)]
-pub struct Recorded<'a> {
-    /// The recording.
-    pub recording: &'a Recording,
+/// A rendition's recording in a state, which it shares: its init section, and then the units that are kept.
+#[derive(Drop)]
+pub struct Recorded {
+    /// The state.
+    snapshot: Arc<Snapshot>,
+    /// The rendition.
+    rendition: usize,
 }
 
-impl Resource for Recorded<'_> {
-    ghost use Rattle.hls_replies.specs.Contents.{part_in};
+impl Resource for Recorded {
+    ghost use Rattle.hls_replies.specs.Contents.{recorded_slices};
 
-    ghost part = { λ held from len. part_in held.recording.now from len };
+    ghost slices = { recorded_slices };
 
-    fn piece(&self, at: u64) -> Option<&[u8]> {
-        let _ = self.recording.total();
-        self.recording.piece(at)
+    fn slice(&self, number: u64) -> &[u8] {
+        match self.snapshot.recording(self.rendition) {
+            Some(recording) => {
+                resource_slice(recording, recording.floor(), recording.count(), number)
+            }
+            None => b"",
+        }
     }
 }
 
@@ -46,33 +55,51 @@ fn is_trimmed(recording: &Recording, from: u64, end: u64) -> bool
     start < stop
 }
 
-/// Whether some byte of a slice is trimmed.
-fn is_gone(slice: &Slice) -> bool
-    requires { FitsIn slice.now }
-    ensures yes { result ≡ true → part_of slice.now slice.now.from slice.now.len ≡ None }
-    ensures no { result ≡ false → HasSlice slice.now }
+/// Where a byte that isn't trimmed stands among those that aren't.
+fn kept_at(recording: &Recording, at: u64) -> u64
+    ensures { result ≡ kept_at recording.now at }
 {
-    let Some(recording) = slice.snapshot.recording(slice.rendition) else {
-        unreachable!();
-    };
-    let _ = recording.total();
-    is_trimmed(recording, slice.from, slice.from + slice.len)
+    let head = recording.head().len() as u64;
+    if at < head {
+        return at;
+    }
+    at.saturating_sub(recording.offset(recording.floor()) - head)
 }
 
-/// Bytes of a recording, where none of them is trimmed; else 410.
-fn slice_answer(
+/// So many bytes of a recording from an offset on, which stay where they are; none where one of them is trimmed.
+fn kept_part(recorded: Recorded, from: u64, len: u64) -> Option<Media<Body>>
+    requires { FitsIn recorded (from + len) }
+    ensures { result ≡ part_of recorded from len }
+{
+    let recording = recorded.snapshot.recording(recorded.rendition)?;
+    let _ = recording.total();
+    if is_trimmed(recording, from, from + len) {
+        return None;
+    }
+    let at = kept_at(recording, from);
+    // at the end no byte is asked for
+    let (number, within) = resource_place(
+        recording,
+        recording.floor(),
+        recording.count(),
+        at,
+    ).unwrap_or((0, 0));
+    Some(Media::new(Body::Recorded(recorded), number, within, len))
+}
+
+/// Media that are there; else 410.
+pub(crate) fn given_answer(
     alloc: Global,
-    slice: Slice,
+    media: Option<Media<Body>>,
     status: Status,
     extra: Extra<'static>,
 ) -> Result<Answer, AllocError>
-    requires { FitsIn slice }
-    ensures { IfOk result (λ a. a ≡ media_given status extra.entry (part_of slice slice.from slice.len)) }
+    ensures { IfOk result (λ a. a ≡ media_given status extra.entry media) }
 {
-    if is_gone(&slice) {
-        return fault_answer(alloc, HttpFault::Gone);
+    match media {
+        Some(media) => Ok(Answer::of_media(status, extra, media)),
+        None => fault_answer(alloc, HttpFault::Gone),
     }
-    Ok(Answer::of_media(status, extra, slice))
 }
 
 /// A part that holds no byte of a resource: 416 with the total (RFC 9110 15.5.17).
@@ -108,26 +135,20 @@ pub fn media_answer(
     let Some(total) = total_in(&snapshot, rendition) else {
         return fault_answer(alloc, HttpFault::NotFound);
     };
+    let recorded = Recorded {
+        snapshot,
+        rendition,
+    };
     match part(asked, total) {
         Part::Outside => outside_answer(alloc, total),
         Part::Whole => {
-            let slice = Slice {
-                snapshot,
-                rendition,
-                from: 0,
-                len: total,
-            };
-            slice_answer(alloc, slice, Status::Done, Extra::Nothing)
+            let media = kept_part(recorded, 0, total);
+            given_answer(alloc, media, Status::Done, Extra::Nothing)
         }
         Part::Slice { from, len } => {
-            let slice = Slice {
-                snapshot,
-                rendition,
-                from,
-                len,
-            };
+            let media = kept_part(recorded, from, len);
             let range = Extra::Range(from, from + len - 1, total);
-            slice_answer(alloc, slice, Status::PartialContent, range)
+            given_answer(alloc, media, Status::PartialContent, range)
         }
     }
 }

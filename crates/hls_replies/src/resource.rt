@@ -1,38 +1,65 @@
 //! Answers that are media of a job: parts of the resource of one of its renditions.
 
-ghost use Rattle.std.specs.Prelude.{◌≡◌, length, IfOk, option_map};
+ghost use Rattle.std.specs.Prelude.{◌≡◌, ◌+◌, ◌≤◌, ◌<◌, ◌^◌, drop, length, take, IfOk, option_map};
+ghost use Rattle.std.specs.List.{concat};
+ghost use Rattle.hls_catchup.specs.Resources.{FindsPlace};
 ghost use Rattle.hls_serve_laws.specs.JobReplies as spec;
-ghost use Rattle.hls_replies.specs.Contents.{resource_in};
+ghost use Rattle.hls_replies.specs.Contents.{programme_slices, resource_in};
 
-use crate::answer::{Answer, JobSlice};
-use crate::media::outside_answer;
+use crate::answer::Answer;
+use crate::body::Body;
+use crate::media::{given_answer, outside_answer};
 use crate::texts::fault_answer;
-use hls_catchup::{Reply, reply_piece, reply_total};
-use hls_http::{Resource, part};
+use hls_catchup::{reply_place, reply_slice, reply_total};
+use hls_http::part;
 use hls_http_laws::fault::HttpFault;
 use hls_http_laws::range::{Asked, Part};
 use hls_http_laws::reply::{Extra, Status};
 use hls_jobs::{Job, reply_in};
+use hls_output::{Media, Resource};
 use std::alloc::{AllocError, Global};
 
-/// A rendition of a reply as a resource: its init section, and then the units of the programme.
-#[derive(Clone, Copy)]
-pub struct Programme<'a> {
-    /// The reply.
-    pub reply: &'a Reply,
+/// A rendition of a job, whose answer it shares: its init section, and then the units of the programme.
+#[derive(Drop)]
+pub struct Programme {
+    /// The job.
+    job: Job,
     /// The rendition.
-    pub rendition: usize,
+    rendition: usize,
 }
 
-impl Resource for Programme<'_> {
-    ghost use Rattle.hls_serve_laws.specs.JobReplies.{resource_of};
-    ghost use Rattle.hls_replies.specs.Contents.{list_part};
+impl Resource for Programme {
+    ghost use Rattle.hls_replies.specs.Contents.{programme_slices};
 
-    ghost part = { λ held from len. list_part (resource_of held.reply.now held.rendition) from len };
+    ghost slices = { programme_slices };
 
-    fn piece(&self, at: u64) -> Option<&[u8]> {
-        reply_piece(self.reply, self.rendition, at)
+    fn slice(&self, number: u64) -> &[u8] {
+        match reply_in(&self.job) {
+            Ok(reply) => reply_slice(reply, self.rendition, number),
+            Err(_) => b"",
+        }
     }
+}
+
+/// Where a byte of a job's resource stands: the number of its slice, and how far in it. None at or past the end.
+fn place_in(programme: &Programme, at: u64) -> Option<(u64, u64)>
+    ensures { FindsPlace (programme_slices programme.now) at result }
+{
+    match reply_in(&programme.job) {
+        Ok(reply) => reply_place(reply, programme.rendition, at),
+        Err(_) => None,
+    }
+}
+
+/// So many bytes of a job's resource from an offset on, which stay where they are.
+fn programme_part(programme: Programme, from: u64, len: u64) -> Media<Body>
+    requires room { from + len < 2 ^ 64 }
+    requires within { from + len ≤ length (concat (programme_slices programme)) }
+    ensures { result ≡ take len (drop from (concat (programme_slices programme))) }
+{
+    // at the end no byte is asked for
+    let (number, within) = place_in(&programme, from).unwrap_or((0, 0));
+    Media::new(Body::Programme(programme), number, within, len)
 }
 
 /// The length of the resource of a job's rendition; none where the job has no reply, or the reply no cut.
@@ -58,26 +85,17 @@ pub(crate) fn resource_answer(
     let Some(total) = total_in(&job, rendition) else {
         return fault_answer(alloc, HttpFault::NotFound);
     };
+    let programme = Programme { job, rendition };
     match part(asked, total) {
         Part::Outside => outside_answer(alloc, total),
         Part::Whole => {
-            let slice = JobSlice {
-                job,
-                rendition,
-                from: 0,
-                len: total,
-            };
-            Ok(Answer::of_job_media(Status::Done, Extra::Nothing, slice))
+            let media = programme_part(programme, 0, total);
+            given_answer(alloc, Some(media), Status::Done, Extra::Nothing)
         }
         Part::Slice { from, len } => {
-            let slice = JobSlice {
-                job,
-                rendition,
-                from,
-                len,
-            };
+            let media = programme_part(programme, from, len);
             let range = Extra::Range(from, from + len - 1, total);
-            Ok(Answer::of_job_media(Status::PartialContent, range, slice))
+            given_answer(alloc, Some(media), Status::PartialContent, range)
         }
     }
 }

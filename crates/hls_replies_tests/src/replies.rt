@@ -58,7 +58,7 @@ fn sent(alloc: Global, answer: Answer, closing: bool, to_head: bool) -> Result<V
 {
     let mut out = Vec::with_capacity(alloc, 8192)?;
     let mut session = Session::new(alloc, b"".as_slice(), &mut out)?;
-    let _ = send(alloc, &mut session, &answer, closing, to_head);
+    let _ = send(alloc, &mut session, answer, closing, to_head);
     drop(session);
     Ok(out)
 }

@@ -42,7 +42,7 @@ fn send_made<R, W: Write>(
     ensures source { session.new.source ≡ session.old.source }
 {
     match made {
-        Ok(answer) => send(alloc, session, &answer, closing, to_head),
+        Ok(answer) => send(alloc, session, answer, closing, to_head),
         Err(_) => Err(session.reply_no_memory(to_head)),
     }
 }

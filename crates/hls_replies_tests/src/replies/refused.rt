@@ -138,7 +138,7 @@ fn give(alloc: Global, snapshot: &Arc<Snapshot>, act: Act, reply: &[u8], to_head
     let Ok(mut session) = Session::new(alloc, b"".as_slice(), Page::new()) else {
         return Came::Nowhere;
     };
-    let sent = send(alloc, &mut session, &answer, false, to_head);
+    let sent = send(alloc, &mut session, answer, false, to_head);
     let page = session.writer.into_inner();
     let no_memory = if to_head {
         no_memory_head_text()

@@ -37,7 +37,7 @@ fn run_again(alloc: Global) -> Option<Job> {
 fn sent(alloc: Global, answer: Answer) -> Option<Vec<u8>> {
     let mut out = Vec::with_capacity(alloc, 8192).ok()?;
     let mut session = Session::new(alloc, b"".as_slice(), &mut out).ok()?;
-    let _ = send(alloc, &mut session, &answer, false, false);
+    let _ = send(alloc, &mut session, answer, false, false);
     drop(session);
     Some(out)
 }
