@@ -57,6 +57,11 @@ kept-placed found rec from len first end at place there valid fits kept first_is
     (subst (λ (n : ℕ). FindsPlace (rec.head ∷ units_between rec.floor rec.units rec.floor n) at place) end_is
     (subst (λ (n : ℕ). FindsPlace (rec.head ∷ units_between rec.floor rec.units n end) at place) first_is finds))))
 
+-- .. by the place that was taken
+pub kept-by : (found : Option Recorded) (from len : ℕ) (place : Option (ℕ × ℕ)) (taken : ℕ × ℕ) → taken ≡ unwrap_or place (0, 0)
+    → IsKeptPart found from len (unwrap_or place (0, 0)) → IsKeptPart found from len taken
+kept-by found from len place taken is part = subst (λ (p : ℕ × ℕ). IsKeptPart found from len p) (sym is) part
+
 -- where some byte is trimmed there is no part
 pub kept-gone : (found : Option Recorded) (rec : Recorded) (from len : ℕ) → Some rec ≡ found → IsRecorded rec → FitsBy found (from + len)
     → max from (length rec.head) < min (from + len) (offset_at rec rec.floor) → None ≡ part_by found from len

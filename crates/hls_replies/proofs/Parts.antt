@@ -42,6 +42,12 @@ part-placed slices at len (Some place) finds size = record {
   back = finds.back;
 }
 
+-- .. by the place that was taken
+pub placed-at : (slices : List (List ℕ)) (at len : ℕ) (found : Option (ℕ × ℕ)) (place : ℕ × ℕ) → place ≡ unwrap_or found (0, 0) → FindsPlace slices at found
+    → length (take len (drop at (concat slices))) ≡ len → IsPlaced slices at len place.0 place.1
+placed-at slices at len found place is finds size =
+    subst (λ (p : ℕ × ℕ). IsPlaced slices at len p.0 p.1) (sym is) (part-placed slices at len found finds size)
+
 pub part-long : (xs : List ℕ) (at len : ℕ) → at + len ≤ length xs → length (take len (drop at xs)) ≡ len
 part-long xs at len within = omega (arith, within, length-take len (drop at xs), length-drop at xs)
 

@@ -71,7 +71,9 @@ fn kept_part(recorded: Recorded, from: u64, len: u64) -> Option<Media<Body>>
     requires { FitsIn recorded (from + len) }
     ensures { result ≡ part_of recorded from len }
 {
-    let recording = recorded.snapshot.recording(recorded.rendition)?;
+    let Some(recording) = recorded.snapshot.recording(recorded.rendition) else {
+        return None;
+    };
     let _ = recording.total();
     if is_trimmed(recording, from, from + len) {
         return None;

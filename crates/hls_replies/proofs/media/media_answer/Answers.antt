@@ -8,17 +8,17 @@ use Rattle.hls_serve_laws.specs.Replies.{Answer, media_given}
 use Rattle.hls_replies.proofs.Shown.{fits-shown, part-fits, slice-shown, whole-shown}
 use Rattle.hls_replies.proofs.media.media_answer.Goals as goal
 
-pub kept_part-media-requires-in-Whole : goal.kept_part-media-requires-in-Whole
-kept_part-media-requires-in-Whole c =
+pub kept_part-media-requires : goal.kept_part-media-requires
+kept_part-media-requires c =
     let there = c.in-Some.ensures.value ∙ ap (λ s. option_map total_of (recording_of s c.args.rendition)) c.deref.ensures in
     fits-shown (recording_of c.args.snapshot.value c.args.rendition) c.in-Some.total _ there (omega arith)
 
 pub returns-in-Whole : goal.returns-in-Whole
 returns-in-Whole c =
     let there = c.in-Some.ensures.value ∙ ap (λ s. option_map total_of (recording_of s c.args.rendition)) c.deref.ensures in
-    let shown = ap (media_given Done Nothing) c.kept_part-media-in-Whole.ensures
+    let shown = ap (media_given Done Nothing) c.kept_part-media.ensures
     ∙ whole-shown (recording_of c.args.snapshot.value c.args.rendition) c.args.asked c.in-Some.total there c.in-Whole.ensures in
-    subst (λ (y : Answer). IfOk c.given_answer-in-Whole.result (λ a. a ≡ y)) shown c.given_answer-in-Whole.ensures
+    subst (λ (y : Answer). IfOk c.given_answer.result (λ a. a ≡ y)) shown c.given_answer.ensures
 
 pub kept_part-media-requires-in-Slice : goal.kept_part-media-requires-in-Slice
 kept_part-media-requires-in-Slice c =

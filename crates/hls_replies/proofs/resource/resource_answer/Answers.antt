@@ -5,21 +5,12 @@ use Rattle.hls_replies.specs.Contents.{resource_in}
 use Rattle.hls_replies.proofs.Shown.{job-fits, job-slice-shown, job-whole-shown, joined-slices, part-fits}
 use Rattle.hls_replies.proofs.resource.resource_answer.Goals as goal
 
-pub programme_part-media-requires-clause-within-in-Whole : goal.programme_part-media-requires-clause-within-in-Whole
-programme_part-media-requires-clause-within-in-Whole c =
-    job-fits (files_of c.args.job) c.args.rendition c.in-Some.total c.in-Some.total c.in-Some.ensures (omega arith)
-
-pub programme_part-media-requires-clause-within-in-Slice : goal.programme_part-media-requires-clause-within-in-Slice
-programme_part-media-requires-clause-within-in-Slice c =
-    job-fits (files_of c.args.job) c.args.rendition c.in-Some.total _ c.in-Some.ensures
-    (part-fits c.args.asked c.in-Some.total c.in-Slice.from c.in-Slice.len (sym c.in-Slice.ensures))
-
 pub returns-in-Whole : goal.returns-in-Whole
 returns-in-Whole c =
     let files = files_of c.args.job in
-    let bytes = c.programme_part-media-in-Whole.ensures ∙ ap (λ (xs : List ℕ). take c.in-Some.total (drop 0 xs)) (joined-slices files c.args.rendition) in
+    let bytes = c.programme_part-media.ensures ∙ ap (λ (xs : List ℕ). take c.in-Some.total (drop 0 xs)) (joined-slices files c.args.rendition) in
     let shown = job-whole-shown (resource_in c.args.job c.args.rendition) c.args.asked c.in-Some.total _ c.in-Some.ensures c.in-Whole.ensures bytes in
-    subst (λ (y : Answer). IfOk c.given_answer-in-Whole.result (λ a. a ≡ y)) shown c.given_answer-in-Whole.ensures
+    subst (λ (y : Answer). IfOk c.given_answer.result (λ a. a ≡ y)) shown c.given_answer.ensures
 
 pub returns-in-Slice : goal.returns-in-Slice
 returns-in-Slice c =
