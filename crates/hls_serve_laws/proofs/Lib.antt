@@ -1,3 +1,4 @@
 mod Allowed
 mod Examples
 mod Jobs
+mod Requests

@@ -7,6 +7,7 @@ pub mod JobTable
 pub mod Playlists
 pub mod Queries
 pub mod Replies
+pub mod RequestLaws
 pub mod RouteLaws
 pub mod Routes
 pub mod Sessions

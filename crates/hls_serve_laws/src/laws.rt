@@ -1,6 +1,7 @@
 //! Theorems about the definitions. Each function has no body: its contract is the law.
 
 ghost use Rattle.hls_serve_laws.specs.JobLaws.{FilesAreRight, LinesAreRight};
+ghost use Rattle.hls_serve_laws.specs.RequestLaws.{RequestsAreRead};
 ghost use Rattle.hls_serve_laws.specs.RouteLaws.{AllowNamesMethods};
 
 /// Whatever a session replies to a request for a job's file, it is a file of the right reply of some state to some request;
@@ -18,4 +19,10 @@ pub fn lines_are_right()
 /// The field Allow names just the methods that a route allows (RFC 9110 10.2.1).
 pub fn allow_names_methods()
     ensures { AllowNamesMethods }
+{}
+
+/// The requests behind whose replies a session went on are the first ones of its input by the standard's grammar (RFC 9112), each
+/// a head and its whole body, and what the session hears next stands right behind them.
+pub fn requests_are_read()
+    ensures { RequestsAreRead }
 {}
