@@ -1,3 +1,4 @@
+-- The checker's answers: what each says of its certificate.
 use Rattle.std.specs.Prelude.{◌≡◌, ◌≢◌, ℕ, ◌-◌, List, length, Option, Some, Bool, true, Result, Ok, Err}
 use Rattle.hls_check_laws.specs.declared.cert_fault.CertFault.{CertFault}
 use Rattle.hls_check_laws.specs.declared.cert_fault.CertFault.TheVariants.{Form, TableNotSorted, PlanEnds, PlanStep, PlanCost, PriceStart, PriceStep, EndReached, Memory}

@@ -1,3 +1,4 @@
+-- The law of the checker's answers.
 use Rattle.std.specs.Prelude.{◌≡◌, Result}
 use Rattle.hls_check_laws.specs.declared.cert_fault.CertFault.{CertFault}
 use Rattle.hls_check_laws.specs.declared.verdict.Verdict.{Verdict}

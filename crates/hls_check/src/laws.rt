@@ -1,3 +1,5 @@
+//! Laws of the checker's answers.
+
 ghost use Rattle.hls_check.specs.Laws.{AnswerIsOne};
 
 /// A certificate has at most one answer: its verdict, or the first fault with its numbers.

@@ -1,3 +1,4 @@
+-- The laws of a certificate's text.
 use Rattle.std.specs.Prelude.{◌≡◌, ℕ, List}
 use Rattle.hls_check_laws.specs.Certificates.{Printed, IsCertificate}
 use Rattle.hls_check_text.specs.Text.{text}

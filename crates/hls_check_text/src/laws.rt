@@ -1,3 +1,5 @@
+//! Laws of a certificate's text and of its first wrong line.
+
 ghost use Rattle.hls_check_text.specs.Laws.{WrongLineIsOne, TextHasNoWrongLine, TextIsOfOne};
 
 /// A text has at most one first wrong line.

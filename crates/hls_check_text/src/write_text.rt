@@ -1,4 +1,5 @@
-// A certificate's text, line by line.
+//! A certificate's text, line by line.
+
 ghost use Rattle.std.specs.Prelude.{◌≡◌, ◌++◌, ◌<◌, [], ◌∷◌, length, map, IfOk};
 ghost use Rattle.std.specs.Fmt.{decimal};
 ghost use Rattle.hls_text.specs.Lines.{joined};

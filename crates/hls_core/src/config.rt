@@ -1,3 +1,5 @@
+//! The configuration of a channel, and what may be wrong with one.
+
 ghost use Rattle.std.specs.Prelude.{◌≡◌, ℕ, ◌*◌, ◌<◌, ◌≤◌, ◌↔◌, length, IsTrue, IfOk, slice_get, None, Some, Any, MatchOption};
 ghost use Rattle.std.specs.Str.{bytes_eq};
 ghost use Rattle.hls_core_laws.specs.Config.{is_name_byte, IsName, IsRendition, IsRenditionAt, AreRenditions, IsEpoch};

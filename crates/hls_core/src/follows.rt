@@ -1,3 +1,5 @@
+//! Whether one snapshot follows another.
+
 ghost use Rattle.std.specs.Prelude.{◌≡◌, ◌↔◌, ℕ, ◌-◌, ◌≤◌, IsTrue, List, Some, slice_get};
 ghost use Rattle.hls_core_laws.specs.Follows.{Follows, Continues, AreSame, SameHeld, SameUnits};
 ghost use Rattle.hls_core.specs.Sides.{lane_of, held_of};

@@ -1,3 +1,5 @@
+//! A run of events, stepped one after the other.
+
 ghost use Rattle.std.specs.Prelude.{◌≡◌, IfOk};
 ghost use Rattle.hls_core_laws.specs.Runs.{first_state, next_state, replayed, AreFitting};
 ghost use Rattle.hls_core_laws.specs.Moves.{IsFitting};

@@ -1,3 +1,5 @@
+//! One rendition of a snapshot.
+
 ghost use Rattle.std.specs.Prelude.{◌≡◌};
 
 use hls_record::Recording;

@@ -1,3 +1,5 @@
+//! A channel at one moment.
+
 ghost use Rattle.std.specs.Prelude.{◌≡◌, ℕ, ◌+◌, ◌<◌, ◌≤◌, [], ◌∷◌, ◌++◌, length, map, IfOk, IfSome, IfNone, None, slice_get, slice_set, nat_le};
 ghost use Rattle.std.specs.Option.{option_copied};
 ghost use Rattle.hls_core_laws.specs.Config.{IsConfig};

@@ -1,3 +1,5 @@
+//! The one step by which a channel changes.
+
 ghost use Rattle.std.specs.Prelude.{◌≡◌, length};
 ghost use Rattle.hls_media_laws.specs.Meaning.{IsInit};
 ghost use Rattle.hls_core_laws.specs.declared.event.Event.TheVariants.{Begin, Accept, Finish, Slide, Trim};

@@ -1,3 +1,5 @@
+//! What a step came to.
+
 use crate::snapshot::Snapshot;
 use std::sync::Arc;
 

@@ -1,3 +1,5 @@
+//! Why a channel refuses an event.
+
 ghost use Rattle.std.specs.Prelude.{◌≡◌};
 ghost use Rattle.hls_core_laws.specs.declared.refusal.Refusal.TheVariants.{Memory};
 

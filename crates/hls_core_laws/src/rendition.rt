@@ -1,3 +1,5 @@
+//! A rendition as it is configured.
+
 use bytes::Bytes;
 
 /// One rendition of a channel, as it is configured.

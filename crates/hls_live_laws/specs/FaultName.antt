@@ -1,3 +1,4 @@
+-- The names of the live line's faults.
 use Rattle.std.specs.Prelude.{ℕ, List, codes}
 use Rattle.hls_live_laws.specs.declared.line_fault.LineFault.{LineFault}
 use Rattle.hls_live_laws.specs.declared.line_fault.LineFault.TheVariants.{TooMany, TooShort, Ended, Memory}

@@ -1,3 +1,5 @@
+//! By what the live line is cut.
+
 /// What the live line is cut by.
 #[derive(Clone, Copy, Debug, PartialEq, Eq)]
 pub struct Aim {

@@ -1,3 +1,5 @@
+//! Laws of the live line.
+
 ghost use Rattle.hls_live_laws.specs.Ends.{FrontStands, SegmentsFew, FrontWithin};
 ghost use Rattle.hls_live_laws.specs.Origins.{SegmentsAgree, MarksAgree};
 ghost use Rattle.hls_live_laws.specs.Since.{LineSince, SegmentsSince, MarksSince};

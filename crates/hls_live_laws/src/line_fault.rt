@@ -1,3 +1,5 @@
+//! Why the live line doesn't go on, or doesn't slide.
+
 ghost use Rattle.std.specs.Prelude.{◌≡◌};
 ghost use Rattle.hls_live_laws.specs.FaultName.{line_fault_name};
 ghost use Rattle.hls_live_laws.specs.declared.line_fault.LineFault.TheVariants.{Memory};

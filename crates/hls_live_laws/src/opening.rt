@@ -1,3 +1,5 @@
+//! Where the live line goes on.
+
 ghost use Rattle.std.specs.Prelude.{◌≡◌, IfOk};
 
 use hls_places_laws::Place;

@@ -1,3 +1,5 @@
+//! A segment of the live line.
+
 use hls_places_laws::Place;
 
 /// A segment of the live line, in every rendition at once.

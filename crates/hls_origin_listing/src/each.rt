@@ -1,3 +1,5 @@
+//! `cut --each`: a segment from each place to the next.
+
 ghost use Rattle.std.specs.Prelude.{◌≡◌, ◌≤◌, length};
 ghost use Rattle.hls_blocks.specs.Numbered.{list_limit};
 ghost use Rattle.hls_m3u8.specs.Uri.{IsUri};

@@ -1,3 +1,5 @@
+//! Why a recorded stream isn't listed.
+
 ghost use Rattle.std.specs.Prelude.{◌≡◌};
 ghost use Rattle.hls_origin_listing.specs.FaultName.{name_of};
 ghost use Rattle.hls_origin_listing.specs.declared.fault.ListFault.TheVariants.{Memory};

@@ -1,3 +1,5 @@
+//! How a recorded stream is listed, and what is listed of it.
+
 use hls_check_laws::CostRule;
 
 /// How a recorded stream is listed.

@@ -1,3 +1,5 @@
+//! What `cut` prints of a recorded channel.
+
 ghost use Rattle.hls_m3u8.specs.Uri.{IsUri};
 ghost use Rattle.hls_origin_listing.specs.Lists.{CanList, IsSingle, Lists};
 

@@ -1,3 +1,5 @@
+//! `cut --preferred`: the playlist of a least plan, or its certificate.
+
 ghost use Rattle.std.specs.Prelude.{◌≡◌, ◌≤◌, length, IfOk};
 ghost use Rattle.hls_m3u8.specs.Uri.{IsUri};
 ghost use Rattle.hls_record.specs.Valid.{IsRecorded};

@@ -1,3 +1,5 @@
+//! The segments from each place to the next.
+
 ghost use Rattle.std.specs.Prelude.{◌≡◌, All, IfOk};
 ghost use Rattle.hls_check_laws.specs.Tables.{IsPlaceOf};
 ghost use Rattle.hls_places_laws.specs.Order.{spots_of};

@@ -1,3 +1,5 @@
+//! Whether each place reaches the next.
+
 ghost use Rattle.std.specs.Prelude.{◌≡◌, ◌≤◌, length, MatchOption};
 ghost use Rattle.hls_blocks.specs.Numbered.{list_limit};
 ghost use Rattle.hls_places_laws.specs.Order.{spots_of};

@@ -1,3 +1,5 @@
+//! The table of all places.
+
 ghost use Rattle.std.specs.Prelude.{◌≡◌, ◌≤◌, length, IfOk};
 ghost use Rattle.hls_check_laws.specs.Tables.{IsGoal, IsTable, table_of, place_limit};
 ghost use Rattle.hls_places_laws.specs.Order.{spots_of, renditions_in, ArePlaces};

@@ -1,3 +1,5 @@
+//! The text of a list of VOD.
+
 ghost use Rattle.std.specs.Prelude.{length, IfOk};
 ghost use Rattle.hls_m3u8.specs.Forms.{vod_list};
 ghost use Rattle.hls_m3u8.specs.HasText.{HasText};

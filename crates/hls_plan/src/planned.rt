@@ -1,3 +1,5 @@
+//! What a planner found, and its certificate.
+
 ghost use Rattle.std.specs.Prelude.{◌≡◌};
 ghost use Rattle.hls_check_laws.specs.Certificates.{IsGood};
 ghost use Rattle.hls_plan.specs.Planned.{CanBeShown, certificate_of};

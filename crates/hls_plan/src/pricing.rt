@@ -1,3 +1,5 @@
+//! The least cost of each place, place by place.
+
 ghost use Rattle.std.specs.Prelude.{◌≡◌, ℕ, ◌+◌, ◌-◌, ◌*◌, ◌/◌, ◌^◌, ◌<◌, ◌≤◌, length, slice_set, IfOk, IsTrue, Option, Some, if◌then◌else◌};
 ghost use Rattle.hls_check_laws.specs.Tables.{IsTable};
 ghost use Rattle.hls_check_laws.specs.Certificates.{price_at};
