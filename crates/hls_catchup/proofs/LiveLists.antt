@@ -9,7 +9,7 @@ use Rattle.hls_live_laws.specs.Live.{Live, segments_of, has_ended}
 use Rattle.hls_m3u8.specs.declared.playlist.Segment.{Segment}
 use Rattle.hls_m3u8.specs.Playlist.{Playlist}
 use Rattle.hls_m3u8.specs.Forms.{live_list}
-use Rattle.hls_catchup_laws.specs.Segments.{Cutting}
+use Rattle.hls_lists_laws.specs.Segments.{Cutting}
 use Rattle.hls_core_laws.specs.Channel.{Lane}
 use Rattle.hls_core_laws.specs.State.{State, Held, no_held, channel}
 use Rattle.hls_core_laws.specs.IsState.{IsState}
@@ -17,8 +17,8 @@ use Rattle.hls_core_laws.specs.Outcome.{held}
 use Rattle.hls_core_laws.specs.Line.{line}
 use Rattle.hls_core_laws.proofs.Lists.{at_beside, at_or}
 use Rattle.hls_core.specs.Reads.{recorded_from, recorded_at, recording_of}
-use Rattle.hls_live_lists_laws.specs.Lists.{live_uri, listed, list_over, has_closed, list_in, live_list_of}
-use Rattle.hls_live_lists_laws.proofs.Texts.{closed-some, has-begun}
+use Rattle.hls_lists_laws.specs.Live.{live_uri, listed, list_over, has_closed, list_in, live_list_of}
+use Rattle.hls_lists_laws.proofs.Texts.{closed-some, has-begun}
 use Rattle.hls_catchup.specs.Lists.{cutting}
 
 -- no segment was closed

@@ -6,7 +6,7 @@ use Rattle.std.proofs.Math.Seq.{take-add}
 use Rattle.hls_media_laws.specs.declared.facts.Facts.{Facts}
 use Rattle.hls_record.specs.Recorded.{Recorded, offset_at}
 use Rattle.hls_media_laws.specs.FactLists.{len_of}
-use Rattle.hls_catchup_laws.specs.Jobs.{bytes_between}
+use Rattle.hls_lists_laws.specs.Jobs.{bytes_between}
 
 -- up to a later unit there are the bytes up to the earlier one, and those between
 pub up_to : (facts : List Facts) (a d : ℕ) → sum_by len_of (take (a + d) facts) ≡ sum_by len_of (take a facts) + sum_by len_of (take d (drop a facts))

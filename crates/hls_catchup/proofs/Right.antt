@@ -14,10 +14,10 @@ use Rattle.hls_plan.specs.Planned.{certificate_of, IsBest}
 use Rattle.hls_m3u8.specs.Playlist.{Playlist}
 use Rattle.hls_core_laws.specs.Config.{IsEpoch}
 use Rattle.hls_m3u8.proofs.Building.{vod_has_text}
-use Rattle.hls_catchup_laws.specs.Segments.{Cutting, segments_of}
-use Rattle.hls_catchup_laws.specs.Laws.{AreUnits, first_fragment}
-use Rattle.hls_catchup_laws.proofs.Joined.{media_are_the_units}
-use Rattle.hls_catchup_laws.proofs.Good.{segments_are_good}
+use Rattle.hls_lists_laws.specs.Segments.{Cutting, segments_of}
+use Rattle.hls_lists_laws.specs.SegmentLaws.{AreUnits, first_fragment}
+use Rattle.hls_lists_laws.proofs.JoinedMedia.{media_are_the_units}
+use Rattle.hls_lists_laws.proofs.Good.{segments_are_good}
 use Rattle.hls_catchup.specs.Lists.{cutting, job_uri, job_list, job_lists}
 use Rattle.hls_catchup.specs.Answers.{IsCovered, AreCovered, IsRightList, AreRightLists, ShowsCut, ShowsNoCut, IsGoodFor}
 use Rattle.hls_catchup.specs.Accepted.{IsAccepted}

@@ -9,8 +9,8 @@ use Rattle.std.proofs.Math.Seq.{drop-append-add}
 use Rattle.hls_record.specs.Recorded.{Recorded, offset_at, total_of, unit_at}
 use Rattle.hls_record.specs.Search.{Stands}
 use Rattle.hls_record.specs.Valid.{IsRecorded}
-use Rattle.hls_catchup_laws.specs.Jobs.{bytes_between, units_between}
-use Rattle.hls_catchup_laws.proofs.Ranges.{bytes_are}
+use Rattle.hls_lists_laws.specs.Jobs.{bytes_between, units_between}
+use Rattle.hls_lists_laws.proofs.Ranges.{bytes_are}
 use Rattle.hls_catchup.specs.Resources.{IsPlaceOf, FindsPlace}
 use Rattle.hls_catchup.proofs.Offsets.{bytes_are_offsets, offsets_add}
 use Rattle.hls_catchup.proofs.Pieces.{have_lengths}

@@ -9,8 +9,8 @@ use Rattle.hls_core_laws.specs.Outcome.{held}
 use Rattle.hls_core.specs.Reads.{recorded_at, recording_of}
 use Rattle.hls_check_laws.specs.Certificates.{Printed}
 use Rattle.hls_m3u8.specs.declared.playlist.MediaPlaylist.{MediaPlaylist}
-use Rattle.hls_catchup_laws.specs.Jobs.{units_between}
-use Rattle.hls_catchup_laws.specs.Laws.{first_fragment, end_fragment}
+use Rattle.hls_lists_laws.specs.Jobs.{units_between}
+use Rattle.hls_lists_laws.specs.SegmentLaws.{first_fragment, end_fragment}
 use Rattle.hls_catchup.specs.declared.cutout.Cutout.TheVariants.{Cut}
 use Rattle.hls_catchup.specs.declared.span.Span.{Span}
 use Rattle.hls_catchup.specs.Answers.{IsRightCutout}

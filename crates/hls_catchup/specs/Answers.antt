@@ -7,9 +7,9 @@ use Rattle.hls_check_laws.specs.Plans.{IsLeast, HasNoPlan}
 use Rattle.hls_check_laws.specs.Certificates.{Shown, CutShown, NoneShown, Printed, IsGood}
 use Rattle.hls_m3u8.specs.Playlist.{Playlist, playlist_of}
 use Rattle.hls_m3u8.specs.HasText.{HasText}
-use Rattle.hls_catchup_laws.specs.Media.{joined_media}
-use Rattle.hls_catchup_laws.specs.Jobs.{units_between, resource_of}
-use Rattle.hls_catchup_laws.specs.Laws.{first_fragment, end_fragment, SegmentFits}
+use Rattle.hls_lists_laws.specs.Media.{joined_media}
+use Rattle.hls_lists_laws.specs.Jobs.{units_between, resource_of}
+use Rattle.hls_lists_laws.specs.SegmentLaws.{first_fragment, end_fragment, SegmentFits}
 use Rattle.hls_catchup.specs.declared.cutout.Cutout.{Cutout}
 use Rattle.hls_catchup.specs.declared.cutout.Cutout.TheVariants.{Cut, NoCut}
 use Rattle.hls_catchup.specs.Lists.{job_list}

@@ -5,8 +5,8 @@ use Rattle.hls_record.specs.Recorded.{Recorded}
 use Rattle.hls_check_laws.specs.Tables.{Table}
 use Rattle.hls_m3u8.specs.Playlist.{Playlist}
 use Rattle.hls_m3u8.specs.Forms.{vod_list}
-use Rattle.hls_catchup_laws.specs.Segments.{Cutting, segments_of}
-use Rattle.hls_catchup_laws.specs.Laws.{first_fragment}
+use Rattle.hls_lists_laws.specs.Segments.{Cutting, segments_of}
+use Rattle.hls_lists_laws.specs.SegmentLaws.{first_fragment}
 
 -- where the segments of a rendition come from: a resource that has the recording's init section and then the units from
 -- number `first` on

@@ -1,6 +1,6 @@
 -- For the proofs of this crate; no public clause cites it. Where a reply's units stand in their recording.
 use Rattle.std.specs.Prelude.{◌≡◌, ℕ, ◌≤◌, ◌∷◌, Some}
-use Rattle.hls_catchup_laws.specs.Jobs.{units_between}
+use Rattle.hls_lists_laws.specs.Jobs.{units_between}
 use Rattle.hls_catchup.specs.declared.span.Span.{Span}
 use Rattle.hls_catchup.specs.Replies.{ReplyData}
 use Rattle.hls_catchup.specs.Resources.{parts_in}

@@ -7,7 +7,7 @@ ghost use Rattle.hls_live_laws.specs.Live.{segments_of};
 ghost use Rattle.hls_m3u8.specs.Playlist.{playlist_of};
 ghost use Rattle.hls_core_laws.specs.Config.{IsEpoch};
 ghost use Rattle.hls_core_laws.specs.IsState.{IsState};
-ghost use Rattle.hls_live_lists_laws.specs.Lists.{live_uri, listed, live_list_of};
+ghost use Rattle.hls_lists_laws.specs.Live.{live_uri, listed, live_list_of};
 ghost use Rattle.hls_catchup.specs.Lists.{cutting};
 
 use crate::segments::segment_between;

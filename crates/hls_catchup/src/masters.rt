@@ -5,7 +5,7 @@ ghost use Rattle.std.specs.List.{list_any};
 ghost use Rattle.hls_core_laws.specs.Config.{IsName};
 ghost use Rattle.hls_m3u8.specs.Masters.{master_of};
 ghost use Rattle.hls_catchup.specs.Named.{IsNamed};
-ghost use Rattle.hls_catchup_laws.specs.Masters.{is_video, list_uri, audio_at, variant_at, audio_from, videos_from, variants_from, master_below, live_master, job_master};
+ghost use Rattle.hls_lists_laws.specs.Masters.{is_video, list_uri, audio_at, variant_at, audio_from, videos_from, variants_from, master_below, live_master, job_master};
 
 use crate::reply::Reply;
 use bytes::ByteStr;

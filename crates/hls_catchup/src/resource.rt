@@ -3,7 +3,7 @@
 ghost use Rattle.std.specs.Prelude.{◌≡◌, [], ◌∷◌, ◌<◌, ◌≤◌, ◌^◌, get_or, length};
 ghost use Rattle.std.specs.Option.{option_copied};
 ghost use Rattle.hls_record.specs.Recorded.{unit_piece};
-ghost use Rattle.hls_catchup_laws.specs.Jobs.{units_between, resource_of};
+ghost use Rattle.hls_lists_laws.specs.Jobs.{units_between, resource_of};
 ghost use Rattle.hls_catchup.specs.Resources.{FindsPlace};
 
 use crate::segments::bytes_between;

@@ -6,7 +6,7 @@ use Rattle.hls_m3u8.specs.Playlist.{playlist_of}
 use Rattle.hls_m3u8.specs.Lines.{media_text}
 use Rattle.hls_m3u8.specs.Masters.{master_text}
 use Rattle.hls_core_laws.specs.State.{State}
-use Rattle.hls_catchup_laws.specs.Masters.{job_master}
+use Rattle.hls_lists_laws.specs.Masters.{job_master}
 use Rattle.hls_catchup.specs.declared.cutout.Cutout.{Cutout}
 use Rattle.hls_catchup.specs.declared.cutout.Cutout.TheVariants.{Cut, NoCut}
 use Rattle.hls_catchup.specs.Replies.{ReplyData}

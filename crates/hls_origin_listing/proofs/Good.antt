@@ -16,11 +16,11 @@ use Rattle.hls_m3u8.specs.HasText.{IsSegment, HasText}
 use Rattle.hls_m3u8.specs.Forms.{vod_list}
 use Rattle.hls_m3u8.proofs.Building.{vod_has_text}
 use Rattle.hls_media_laws.specs.FactLists.{len_of}
-use Rattle.hls_catchup_laws.specs.Jobs.{bytes_between}
-use Rattle.hls_catchup_laws.specs.Segments.{Cutting, is_break, date_at, segment_between, segments_from, segments_of}
-use Rattle.hls_catchup_laws.specs.Laws.{AreUnits, end_fragment}
-use Rattle.hls_catchup_laws.proofs.Dates.{places_small, date_good}
-use Rattle.hls_catchup_laws.proofs.Good.{some_bytes, few_bytes, segments_are_good}
+use Rattle.hls_lists_laws.specs.Jobs.{bytes_between}
+use Rattle.hls_lists_laws.specs.Segments.{Cutting, is_break, date_at, segment_between, segments_from, segments_of}
+use Rattle.hls_lists_laws.specs.SegmentLaws.{AreUnits, end_fragment}
+use Rattle.hls_lists_laws.proofs.Dates.{places_small, date_good}
+use Rattle.hls_lists_laws.proofs.Good.{some_bytes, few_bytes, segments_are_good}
 use Rattle.hls_catchup.specs.Lists.{cutting}
 use Rattle.hls_origin_listing.specs.Each.{each_place, AllReach}
 

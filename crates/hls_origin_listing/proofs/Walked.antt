@@ -9,7 +9,7 @@ use Rattle.hls_check_laws.specs.declared.spot.Spot.{Spot}
 use Rattle.hls_m3u8.specs.declared.playlist.Segment.{Segment}
 use Rattle.hls_places_laws.specs.Order.{spots_of}
 use Rattle.hls_places_laws.specs.declared.place.Place.{Place}
-use Rattle.hls_catchup_laws.specs.Segments.{Cutting, is_break, segment_between, segments_from, segments_of}
+use Rattle.hls_lists_laws.specs.Segments.{Cutting, is_break, segment_between, segments_from, segments_of}
 use Rattle.hls_origin_listing.specs.Each.{each_place, ReachesNext}
 
 -- the segments from a place to the first of the rest, and from each of the rest to the next

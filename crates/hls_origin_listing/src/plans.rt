@@ -9,7 +9,7 @@ ghost use Rattle.hls_check_laws.specs.Certificates.{IsGood};
 ghost use Rattle.hls_places_laws.specs.Order.{spots_of};
 ghost use Rattle.hls_core_laws.specs.Config.{IsEpoch};
 ghost use Rattle.hls_plan.specs.Planned.{IsBest, CanBeShown, certificate_of};
-ghost use Rattle.hls_catchup_laws.specs.Laws.{end_fragment};
+ghost use Rattle.hls_lists_laws.specs.SegmentLaws.{end_fragment};
 ghost use Rattle.hls_m3u8.specs.Written.{IsWritten};
 ghost use Rattle.hls_origin_listing.specs.Each.{list_by};
 ghost use Rattle.hls_origin_listing.specs.Plans.{ListsPlanned, IsCertified, IsPlayed};

@@ -6,7 +6,7 @@ use Rattle.std.proofs.lemmas.Bool.{cases_lt}
 use Rattle.hls_record.specs.Recorded.{Recorded, offset_at, total_of}
 use Rattle.hls_record.specs.Valid.{IsRecorded}
 use Rattle.hls_output.specs.Slices.{part_at, rest_at}
-use Rattle.hls_catchup_laws.specs.Jobs.{units_between}
+use Rattle.hls_lists_laws.specs.Jobs.{units_between}
 use Rattle.hls_catchup.specs.Resources.{FindsPlace}
 use Rattle.hls_replies.specs.Contents.{FitsBy, kept_at, kept_slices, part_by}
 use Rattle.hls_replies.proofs.Parts.{early-at, late-at, part-gone, part-kept, part-placed, part-size}

@@ -10,7 +10,7 @@ use Rattle.hls_record.specs.Valid.{IsRecorded}
 use Rattle.hls_record.proofs.Pieces.{bytes_length}
 use Rattle.hls_record.proofs.Ranges.{gone_range}
 use Rattle.hls_output.specs.Slices.{part_at, rest_at}
-use Rattle.hls_catchup_laws.specs.Jobs.{units_between}
+use Rattle.hls_lists_laws.specs.Jobs.{units_between}
 use Rattle.hls_catchup.specs.Resources.{FindsPlace}
 use Rattle.hls_serve_laws.specs.Replies.{media_bytes, whole}
 use Rattle.hls_replies.specs.Contents.{kept_at, kept_slices}

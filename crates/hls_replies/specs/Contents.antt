@@ -3,7 +3,7 @@ use Rattle.std.specs.Prelude.{ℕ, ◌-◌, ◌≤◌, nat_lt, cond, List, [], �
 use Rattle.hls_record.specs.Recorded.{Recorded, offset_at, total_of}
 use Rattle.hls_core.specs.Reads.{recording_of}
 use Rattle.hls_http_laws.specs.Reply.{extra_line}
-use Rattle.hls_catchup_laws.specs.Jobs.{units_between}
+use Rattle.hls_lists_laws.specs.Jobs.{units_between}
 use Rattle.hls_catchup.specs.Replies.{ReplyData}
 use Rattle.hls_catchup.specs.Resources.{slices_in}
 use Rattle.hls_jobs.specs.declared.job.Job.{Job}

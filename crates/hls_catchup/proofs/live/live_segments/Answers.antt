@@ -3,8 +3,8 @@ use Rattle.std.proofs.lemmas.List.Elements.{All-tail}
 use Rattle.hls_check_laws.specs.Tables.{spot_in}
 use Rattle.hls_live_laws.specs.declared.segment.Segment as live_line
 use Rattle.hls_m3u8.specs.declared.playlist.Segment.{Segment}
-use Rattle.hls_catchup_laws.specs.Segments.{Cutting}
-use Rattle.hls_live_lists_laws.specs.Lists.{listed}
+use Rattle.hls_lists_laws.specs.Segments.{Cutting}
+use Rattle.hls_lists_laws.specs.Live.{listed}
 use Rattle.hls_catchup.specs.Lists.{cutting}
 use Rattle.hls_catchup.proofs.LiveLists.{one_listed_more}
 use Rattle.hls_catchup.proofs.live.live_segments.Goals as goal

@@ -1,5 +1,5 @@
 use Rattle.std.proofs.Common.{◌≡◌, ◌++◌, drop}
-use Rattle.hls_catchup_laws.specs.Masters.{videos_from}
+use Rattle.hls_lists_laws.specs.Masters.{videos_from}
 use Rattle.hls_catchup.proofs.masters.videos.Given as goal
 
 -- with those of the renditions that are left they are all

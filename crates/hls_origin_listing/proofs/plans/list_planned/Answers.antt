@@ -1,6 +1,6 @@
 use Rattle.std.proofs.Common.{◌≤◌, length, subst, sym}
 use Rattle.hls_check_laws.specs.Tables.{Table}
-use Rattle.hls_catchup_laws.specs.Laws.{end_fragment}
+use Rattle.hls_lists_laws.specs.SegmentLaws.{end_fragment}
 use Rattle.hls_origin_listing.proofs.Whole.{end_within}
 use Rattle.hls_origin_listing.proofs.plans.list_planned.Goals as goal
 

@@ -1,5 +1,0 @@
-use Rattle.hls_catchup_laws.proofs.Dates.{segments_are_undated}
-use Rattle.hls_catchup_laws.proofs.laws.segments_are_undated.Goals as goal
-
-pub returns : goal.returns
-returns c = segments_are_undated

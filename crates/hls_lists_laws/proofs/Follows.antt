@@ -1,0 +1,187 @@
+-- A live list of a state and one of a state that follows.
+use Rattle.std.proofs.Common.{◌≡◌, ℕ, ◌+◌, ◌-◌, ◌<◌, ◌≤◌, ℤ, true, List, [], ◌∷◌, ◌++◌, length, map, take, drop, Option, Some, arith, refl, sym, ap, subst, inl, inr, ◌∙◌, All, length-append, length-drop}
+use Rattle.std.specs.Prelude.{slice_get}
+use Rattle.std.specs.List.{count_by}
+use Rattle.std.proofs.lemmas.Bool.{cases_lt, lt-ltb, cond-true}
+use Rattle.std.proofs.lemmas.List.{length-map, length-take-le, map-append, drop-append-le, take-append-drop, drop-drop}
+use Rattle.std.proofs.lemmas.List.Elements.{All-drop}
+use Rattle.hls_media_laws.specs.declared.facts.Facts.{Facts}
+use Rattle.hls_places_laws.specs.Sources.{Source}
+use Rattle.hls_places_laws.specs.Places.{places_of}
+use Rattle.hls_live_laws.specs.declared.segment.Segment as live_line
+use Rattle.hls_live_laws.specs.Lengths.{marks_in, is_marked as is_break}
+use Rattle.hls_live_laws.specs.Told.{Told}
+use Rattle.hls_live_laws.specs.Live.{whole_of, is_closing, has_ended, segments_of}
+use Rattle.hls_live_laws.proofs.Lives.{marks-append, marks-add}
+use Rattle.hls_m3u8.specs.declared.playlist.Segment.{Segment}
+use Rattle.hls_m3u8.specs.Playlist.{Playlist}
+use Rattle.hls_m3u8.specs.Written.{init_at}
+use Rattle.hls_lists_laws.specs.Segments.{Cutting}
+use Rattle.hls_core_laws.specs.declared.event.Entry.{Entry}
+use Rattle.hls_core_laws.specs.declared.event.Logged.{Logged}
+use Rattle.hls_core_laws.specs.declared.event.Logged.TheVariants.{Begun, Accepted, Finished, Slid, Trimmed}
+use Rattle.hls_core_laws.specs.Config.{ConfigData}
+use Rattle.hls_core_laws.specs.Channel.{Channel, Lane, after, channel_from}
+use Rattle.hls_core_laws.specs.State.{State, channel}
+use Rattle.hls_core_laws.specs.IsState.{IsState}
+use Rattle.hls_core_laws.specs.Follows.{Follows}
+use Rattle.hls_core_laws.specs.Places.{places}
+use Rattle.hls_core_laws.specs.Line.{aim_of, line}
+use Rattle.hls_core_laws.proofs.Lists.{at_below}
+use Rattle.hls_core_laws.proofs.Lanes.{sources_count}
+use Rattle.hls_core_laws.proofs.Follows.{continues_of, state_of, rest_channel, lane_grown}
+use Rattle.hls_lists_laws.specs.Live.{live_uri, live_cutting, listed, list_over, has_closed, list_in, live_list_of}
+use Rattle.hls_lists_laws.specs.Later.{IsLater}
+use Rattle.hls_lists_laws.proofs.Told.{whole, closed, removed-few, ended-stays, closed-follow}
+use Rattle.hls_lists_laws.proofs.Listed.{IsCutOn, StandsAmong, all-stay, marks-listed, lengths-listed}
+use Rattle.hls_lists_laws.proofs.Slid.{stays-long}
+use Rattle.hls_lists_laws.proofs.Texts.{is-listed, closed-among, has-begun}
+
+-- along a log removed segments are only added to
+after-rises : (e : Logged) (ch : Channel) → ch.removed ≤ (after e ch).removed
+after-rises (Begun r init len) ch = omega arith
+after-rises (Accepted r f) ch = omega arith
+after-rises (Finished r) ch = omega arith
+after-rises (Slid n) ch = omega arith
+after-rises (Trimmed r floor) ch = omega arith
+
+rises-from : (ch : Channel) (log : List Entry) → ch.removed ≤ (channel_from ch log).removed
+unfolding channel_from
+rises-from ch [] = omega arith
+rises-from ch (e ∷ es) = omega (arith, after-rises e.event ch, rises-from (after e.event ch) es)
+
+pub removed-rises : (a b : State) → Follows a b → (channel a).removed ≤ (channel b).removed
+removed-rises a b follows =
+    let c = continues_of a b follows in
+    omega (arith, rises-from (channel a) c.rest, ap (λ (ch : Channel). ch.removed) (rest_channel a b c))
+
+-- a rendition that has begun, with more units
+pub cut-on : (early late : Option ℤ) (r : ℕ) (l m : Lane) (more : List Facts) → late ≡ early → m.size ≡ l.size → m.facts ≡ l.facts ++ more →
+    IsCutOn (live_cutting early r l) (live_cutting late r m)
+cut-on early late r l m more epoch size facts =
+    record { rendition = refl; uri = refl; init_length = size; begun = refl; first = refl; more = more; facts = facts; epoch = epoch }
+
+pub stands-among : (s : State) → IsState s → (r : ℕ) (l : Lane) → slice_get (channel s).lanes r ≡ Some l → All (StandsAmong r l.facts) (closed s)
+stands-among s state r l at k d h =
+    let among = closed-among s state r l at k d h in
+    record { from = omega (arith, among.rises, among.within); to = among.within }
+
+-- what a list loses in front and gains at its end
+gone : State → State → List live_line.Segment
+gone a b = take ((channel b).removed - (channel a).removed) (drop (channel a).removed (closed b))
+
+goes-on : (a b : State) → IsState a → Follows a b → (came : List live_line.Segment) → closed b ≡ closed a ++ came →
+    segments_of (line a) ++ came ≡ gone a b ++ segments_of (line b)
+unfolding gone
+goes-on a b state follows came is =
+    let ra : ℕ = (channel a).removed in
+    let rb : ℕ = (channel b).removed in
+    let number : ra + (rb - ra) ≡ rb = omega (arith, removed-rises a b follows) in
+    sym (drop-append-le ra (closed a) came (removed-few a state))
+    ∙ (ap (drop ra) (sym is)
+    ∙ (sym (take-append-drop (rb - ra) (drop ra (closed b)))
+    ∙ ap (λ (xs : List live_line.Segment). gone a b ++ xs) (drop-drop (rb - ra) ra (closed b) ∙ ap (λ (n : ℕ). drop n (closed b)) number)))
+
+gone-count : (a b : State) → IsState b → Follows a b → length (gone a b) ≡ (channel b).removed - (channel a).removed
+unfolding gone
+gone-count a b state follows =
+    let ra : ℕ = (channel a).removed in
+    let rb : ℕ = (channel b).removed in
+    length-take-le (rb - ra) (drop ra (closed b)) (omega (arith, removed-few b state, length-drop ra (closed b)))
+
+marks-gone : (a b : State) → IsState a → Follows a b → (came : List live_line.Segment) → closed b ≡ closed a ++ came →
+    marks_in (channel b).removed (closed b) ≡ marks_in (channel a).removed (closed a) + count_by is_break (gone a b)
+unfolding gone
+marks-gone a b state follows came is =
+    let ra : ℕ = (channel a).removed in
+    let rb : ℕ = (channel b).removed in
+    let number : rb ≡ ra + (rb - ra) = omega (arith, removed-rises a b follows) in
+    ap (λ (n : ℕ). marks_in n (closed b)) number
+    ∙ (marks-add ra (rb - ra) (closed b)
+    ∙ ap (λ (n : ℕ). n + count_by is_break (take (rb - ra) (drop ra (closed b))))
+    (ap (marks_in ra) is ∙ marks-append ra (closed a) came (removed-few a state)))
+
+none-of : {A : Type 0} (xs : List A) → length xs ≡ 0 → xs ≡ []
+none-of [] is = refl
+none-of (x ∷ xs) is = absurd (omega (arith, is))
+
+-- all that was told stays once the line has ended
+whole-stays : (a b : State) → IsState a → Follows a b → has_ended (line a) ≡ true → whole b ≡ whole a
+whole-stays a b state follows over =
+    ap (λ (c : ConfigData). whole_of (aim_of c) (places b)) (continues_of a b follows).config
+    ∙ ap (λ (xs : List Source). whole_of (aim_of a.config) (places_of xs)) (ended-stays a b state follows over)
+
+-- the list of the same rendition in the state that follows
+later-over : (a b : State) (r : ℕ) (l m : Lane) → IsState a → Follows a b → slice_get (channel a).lanes r ≡ Some l → slice_get (channel b).lanes r ≡ Some m →
+    m.size ≡ l.size → (more : List Facts) → m.facts ≡ l.facts ++ more → IsLater (list_over a.config.epoch r l (line a)) (list_over b.config.epoch r m (line b))
+later-over a b r l m state follows at there size more facts =
+    let state_b : IsState b = state_of a b follows state in
+    let config : b.config ≡ a.config = (continues_of a b follows).config in
+    let on = closed-follow a b follows in
+    let now : Cutting = live_cutting b.config.epoch r m in
+    let was : Cutting = live_cutting a.config.epoch r l in
+    let came : List Segment = map (listed now) on.came in
+    let kept_stays : map (listed now) (segments_of (line a)) ≡ map (listed was) (segments_of (line a)) =
+    all-stay was now (segments_of (line a)) (cut-on a.config.epoch b.config.epoch r l m more (ap (λ (c : ConfigData). c.epoch) config) size facts)
+    (All-drop (StandsAmong r l.facts) (channel a).removed (closed a) (stands-among a state r l at)) in
+    let count : length (map (listed now) (gone a b)) ≡ (channel b).removed - (channel a).removed =
+    length-map (gone a b) (listed now) ∙ gone-count a b state_b follows in
+    record {
+      version = refl;
+      target = ap (λ (c : ConfigData). c.target) config;
+      map = ap (λ (n : ℕ). Some (init_at (live_uri r) n)) size;
+      went = map (listed now) (gone a b);
+      came = came;
+      segments = ap (λ (xs : List Segment). xs ++ came) (sym kept_stays)
+          ∙ (sym (map-append (listed now) (segments_of (line a)) on.came)
+          ∙ (ap (map (listed now)) (goes-on a b state follows on.came on.is)
+          ∙ map-append (listed now) (gone a b) (segments_of (line b))));
+      media_sequence = omega (arith, removed-rises a b follows, count);
+      discontinuity_sequence = marks-gone a b state follows on.came on.is
+          ∙ ap (λ (n : ℕ). marks_in (channel a).removed (closed a) + n) (sym (marks-listed now (gone a b)));
+      ended = λ over.
+          let same = whole-stays a b state follows over in
+          let none : on.came ≡ [] =
+          none-of on.came (omega (
+            arith,
+            ap (λ (t : Told). length t.line.segments) same,
+            ap length on.is,
+            length-append (closed a) on.came,
+          )) in
+          (ap (λ (t : Told). is_closing t.line.open_at) same ∙ over, ap (map (listed now)) none);
+      long = λ some goes_on.
+          elim (cases_lt 0 (channel b).removed) [
+            | inl any ↦
+                let left = (stays-long b state_b any goes_on).each r (omega (arith, sources_count b, at_below (channel b).lanes r m there)) in
+                omega (arith, left, lengths-listed now (segments_of (line b)))
+            | inr none ↦ absurd (some (none-of (map (listed now) (gone a b)) (omega (arith, count, none))))
+          ];
+    }
+
+closed-later : (a b : State) → IsState b → Follows a b → 0 < length (closed a) → has_closed (line b) ≡ true
+closed-later a b state follows some =
+    let on = closed-follow a b follows in
+    lt-ltb 0 ((channel b).removed + length (segments_of (line b)))
+    (omega (
+      arith,
+      some,
+      ap length on.is,
+      length-append (closed a) on.came,
+      removed-few b state,
+      length-drop (channel b).removed (closed b),
+    ))
+
+pub live-lists-follow : (a b : State) (r : ℕ) (earlier : Playlist) → IsState a → Follows a b → live_list_of a r ≡ Some earlier →
+    (later : Playlist) × (live_list_of b r ≡ Some later) × IsLater earlier later
+live-lists-follow a b r earlier state follows is =
+    let state_b : IsState b = state_of a b follows state in
+    let on = is-listed a state r earlier is in
+    let begun = has-begun a state r on.lane on.at on.some in
+    let grown = lane_grown a b state_b (continues_of a b follows) r on.lane on.at in
+    let m : Lane = grown.lane in
+    let later : IsLater (list_over a.config.epoch r on.lane (line a)) (list_over b.config.epoch r m (line b)) =
+    later-over a b r on.lane m state follows on.at grown.at (grown.grows.init begun.init begun.is).1 grown.grows.more grown.grows.facts in
+    let there : live_list_of b r ≡ Some (list_over b.config.epoch r m (line b)) =
+    ap (λ (o : Option Lane). list_in b.config.epoch r o (line b)) grown.at
+    ∙ cond-true (has_closed (line b)) _ _ (closed-later a b state_b follows on.some) in
+    (list_over b.config.epoch r m (line b), there, subst (λ (x : Playlist). IsLater x (list_over b.config.epoch r m (line b))) on.is later)

@@ -1,5 +1,0 @@
-use Rattle.hls_live_lists_laws.proofs.Texts.{live-lists-have-texts}
-use Rattle.hls_live_lists_laws.proofs.laws.live_lists_have_texts.Goals as goal
-
-pub returns : goal.returns
-returns c = live-lists-have-texts

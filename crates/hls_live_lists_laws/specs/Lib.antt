@@ -1,6 +1,0 @@
-pub mod Lists
-pub mod Later
-pub mod Laws
-pub mod Origins
-pub mod Handovers
-pub mod Joined
