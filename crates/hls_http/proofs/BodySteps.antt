@@ -185,6 +185,7 @@ last_alone b middle next input rest r alone = λ over. all b (runs_leave b middl
   where
     same : (n m : ℕ) → Length n ≡ Length m → n ≡ m
     same n m is = cc
+
     all : (b : Body) → Leaves b 0 middle → middle ≡ Length 1 → b ≡ Length 1
     all (Length n) l is = ap Length (omega (arith, same l.0 1 (sym l.1 ∙ is), l.2))
     all Size l is = absurd (l 0 is)

@@ -1,7 +1,8 @@
 //! Whole sessions with a small server: each refusal by HTTP, and a stream cut at every byte.
 
 use crate::echo::serve;
-use crate::fakes::{Drips, Halves, Page};
+use crate::fakes::Halves;
+use hls_fakes::{Drips, Page};
 use hls_http::{Session, SessionEnd};
 use std::alloc::{AllocError, Global};
 use std::test::Fail;
@@ -13,7 +14,7 @@ fn answers(
     replies: &[u8],
     wanted: SessionEnd,
 ) -> Result<bool, AllocError> {
-    let mut session = Session::new(alloc, Drips::new(requests, 4096, 0), Page::new(0))?;
+    let mut session = Session::new(alloc, Drips::new(requests, 4096, 0), Page::new())?;
     let end = serve(alloc, &mut session);
     Ok(end == wanted && session.writer.into_inner().says(replies))
 }
@@ -150,7 +151,7 @@ const STREAM_REPLIES: &[u8] =
 #[test]
 fn a_stream_cut_at_every_byte(rt: HostRuntime) -> Result<(), Fail> {
     for len in 1..STREAM.len() {
-        let mut session = Session::new(rt.alloc(), Halves::new(STREAM, len), Page::new(0))?;
+        let mut session = Session::new(rt.alloc(), Halves::new(STREAM, len), Page::new())?;
         assert_eq!(rt; serve(rt.alloc(), &mut session), SessionEnd::Closed);
         assert!(rt; session.writer.into_inner().says(STREAM_REPLIES));
     }
@@ -163,7 +164,7 @@ fn every_beginning_of_a_stream(rt: HostRuntime) -> Result<(), Fail> {
         let Some(front) = STREAM.get(..len) else {
             continue;
         };
-        let mut session = Session::new(rt.alloc(), Drips::new(front, 4096, 0), Page::new(0))?;
+        let mut session = Session::new(rt.alloc(), Drips::new(front, 4096, 0), Page::new())?;
         let end = serve(rt.alloc(), &mut session);
         let wanted = if len == FIRST_LEN {
             SessionEnd::Closed
@@ -177,9 +178,9 @@ fn every_beginning_of_a_stream(rt: HostRuntime) -> Result<(), Fail> {
 
 #[test]
 fn failed_calls_end_a_session(rt: HostRuntime) -> Result<(), Fail> {
-    let mut session = Session::new(rt.alloc(), Drips::new(STREAM, 60, 2), Page::new(0))?;
+    let mut session = Session::new(rt.alloc(), Drips::new(STREAM, 60, 2), Page::new())?;
     assert_eq!(rt; serve(rt.alloc(), &mut session), SessionEnd::ReadFailed);
-    let mut session = Session::new(rt.alloc(), Drips::new(STREAM, 60, 0), Page::new(1))?;
+    let mut session = Session::new(rt.alloc(), Drips::new(STREAM, 60, 0), Page::failing_at(1))?;
     assert_eq!(rt; serve(rt.alloc(), &mut session), SessionEnd::WriteFailed);
     Ok(())
 }

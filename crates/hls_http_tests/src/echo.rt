@@ -1,7 +1,7 @@
 //! A small server over a session: PUT gives back its body, GET gives ten digits, and everything is refused as the
 //! order of refusals has it.
 
-use crate::fakes::Page;
+use hls_fakes::Page;
 use hls_http::{
     Body, BodyEnd, DropEnd, Given, Head, HeadEnd, HttpFault, Method, Plan, Session, SessionEnd,
     continues, part, plan, refusal_body, says_close,

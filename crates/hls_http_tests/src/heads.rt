@@ -1,6 +1,6 @@
 //! Requests read in any pieces, and whole replies, over memory.
 
-use crate::fakes::Drips;
+use hls_fakes::Drips;
 use hls_http::{
     BodyEnd, DropEnd, Given, HeadEnd, HttpFault, Method, Source, drop_body, next_head, read_body,
     split_target, value_of,

@@ -1,7 +1,7 @@
 //! Sessions with any one request for memory refused: each ends with the fixed 503, or as with ample memory.
 
 use crate::echo::serve;
-use crate::fakes::{Drips, Page};
+use hls_fakes::{Drips, Page};
 use hls_http::{Session, SessionEnd, value_of};
 use hls_http_laws::reply::{no_memory_head_text, no_memory_text};
 use std::alloc::Global;
@@ -16,7 +16,7 @@ enum Answer {
 }
 
 fn serve_once(alloc: Global, request: &[u8], reply: &[u8], no_memory: &[u8]) -> Answer {
-    let Ok(mut session) = Session::new(alloc, Drips::new(request, 70, 0), Page::new(0)) else {
+    let Ok(mut session) = Session::new(alloc, Drips::new(request, 70, 0), Page::new()) else {
         return Answer::Memory;
     };
     let end = serve(alloc, &mut session);

@@ -1,7 +1,7 @@
 //! Whole replies: their texts, and in how many writes they go out.
 
 use crate::digits::first_digits;
-use crate::fakes::Page;
+use hls_fakes::Page;
 use hls_http::{HttpFault, ReplyEnd, head_bytes, refusal_body, write_media, write_reply};
 use hls_http_laws::reply::{Extra, Kind, ReplyHead, Status};
 use hls_io::Counted;
@@ -118,11 +118,11 @@ const OPENING: &[u8] =
 fn a_small_reply_in_one_write(rt: HostRuntime) -> Result<(), Fail> {
     let opening = head(Status::Done, Extra::Nothing, false);
     let body = b"version 0\nplaces 0\nsegments 0\nremoved 0\njobs 0\n";
-    let mut output = Counted::new(Page::new(0));
+    let mut output = Counted::new(Page::new());
     assert!(rt; write_reply(rt.alloc(), &mut output, &opening, body, false).is_ok());
     let page = output.into_inner();
     assert!(rt; page.says(OPENING) && page.calls() == 1);
-    let mut output = Counted::new(Page::new(0));
+    let mut output = Counted::new(Page::new());
     assert!(rt; write_reply(rt.alloc(), &mut output, &opening, body, true).is_ok());
     assert_eq!(rt; output.into_inner().len(), OPENING.len().saturating_sub(47));
     Ok(())
@@ -131,12 +131,12 @@ fn a_small_reply_in_one_write(rt: HostRuntime) -> Result<(), Fail> {
 #[test]
 fn a_large_reply_from_its_own_bytes(rt: HostRuntime) -> Result<(), Fail> {
     let opening = head(Status::Done, Extra::Nothing, false);
-    let mut output = Counted::new(Page::new(0));
+    let mut output = Counted::new(Page::new());
     assert!(rt; write_reply(rt.alloc(), &mut output, &opening, &[65; 16385], false).is_ok());
     let page = output.into_inner();
     assert_eq!(rt; page.len(), 16453);
     assert_eq!(rt; page.calls(), 2);
-    let mut output = Counted::new(Page::new(2));
+    let mut output = Counted::new(Page::failing_at(2));
     assert_eq!(rt;
         write_reply(rt.alloc(), &mut output, &opening, &[65; 16385], false),
         Err(ReplyEnd::WriteFailed)
@@ -148,7 +148,7 @@ fn a_large_reply_from_its_own_bytes(rt: HostRuntime) -> Result<(), Fail> {
 fn media_from_their_slices(rt: HostRuntime) -> Result<(), Fail> {
     let mut partial = head(Status::PartialContent, Extra::Range(2, 6, 10), false);
     partial.kind = Kind::Media;
-    let mut output = Counted::new(Page::new(0));
+    let mut output = Counted::new(Page::new());
     let mut media = first_digits(7);
     media.advance(2);
     assert!(rt; write_media(rt.alloc(), &mut output, &partial, media).is_ok());

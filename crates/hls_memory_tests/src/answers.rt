@@ -1,8 +1,8 @@
 //! Answers about jobs and queries, sent: of one that wanted memory the fixed reply goes out, or nothing where there wasn't even
 //! an answer to send.
 
-use crate::page::Page;
 use crate::told::Told;
+use hls_fakes::Page;
 use hls_http::{Session, SessionEnd};
 use hls_http_laws::reply::no_memory_text;
 use hls_jobs::JobFault;

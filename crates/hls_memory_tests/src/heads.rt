@@ -1,7 +1,7 @@
 //! Heads of replies and small replies, written: of one that wanted memory nothing is, or the fixed reply where a session says it.
 
-use crate::page::Page;
 use crate::told::Told;
+use hls_fakes::Page;
 use hls_http::{
     ReplyEnd, Session, SessionEnd, Source, head_bytes, refusal_body, write_head, write_reply,
 };

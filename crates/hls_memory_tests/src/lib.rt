@@ -22,7 +22,6 @@ mod listings;
 #[cfg(test)]
 mod lists;
 #[cfg(test)]
-mod page;
 #[cfg(test)]
 mod places;
 #[cfg(test)]

@@ -1,7 +1,7 @@
 //! Words that are read: those after `serve` and `cut`, the name of a refusal, the numbers of a line.
 
-use crate::page::Page;
 use crate::told::Told;
+use hls_fakes::Page;
 use hls_io::Counted;
 use hls_refusals::{ExplainEnd, run_explain};
 use hls_settings::{OptionsFault, Settings, SettingsFault, read_options, read_settings};

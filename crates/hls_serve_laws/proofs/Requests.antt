@@ -128,6 +128,7 @@ taken request r body x y text success f = by_result f.result f.ingests.comes f.f
       content = f.ingests.content;
       goes = subst (λ (b : Body). Goes body x.input f.ingests.content b y.held y.left) over f.ingests.goes;
     }
+
     by_result : (result : Result (Unit {0}) Intake) → BodyComes r x.known body f.ingests.content f.last y.held y.left f.progress f.early result
         → IsFed request.head request.plan f.early f.progress (Reply text false success) result → Ends body x.input y.held y.left
     by_result (Ok done) comes fed = at comes.over

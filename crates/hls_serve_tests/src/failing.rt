@@ -5,12 +5,12 @@ ghost use Rattle.std.specs.Prelude.{◌≤◌, ◌<◌, ◌^◌, IfOk, length};
 
 use crate::asking::answered;
 use crate::channels::opened;
-use crate::faults::{Drips, NEVER, Sink};
 use crate::script::{
     EVENTS, FILE_NAMES, Files, GONE, delete, encoder, encoder_replies, get_files, joined,
     media_reply, with_job,
 };
 use crate::streams::unit;
+use hls_fakes::{Drips, NEVER, Sink};
 use hls_http::{Session, SessionEnd};
 use hls_serve::alone::Alone;
 use hls_serve::news::Unobserved;

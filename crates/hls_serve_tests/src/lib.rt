@@ -13,7 +13,6 @@ mod failing;
 #[cfg(test)]
 mod fakes;
 #[cfg(test)]
-mod faults;
 #[cfg(test)]
 mod jobs;
 #[cfg(test)]

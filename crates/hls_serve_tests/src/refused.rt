@@ -6,11 +6,11 @@
 ghost use Rattle.std.specs.Prelude.{◌≤◌};
 
 use crate::channels::{opening, owned, run_all};
-use crate::faults::Page;
 use crate::script::{
     EVENTS, FILE_NAMES, Files, GONE, delete, encoder, encoder_replies, get_file, get_files,
 };
 use crate::went::{Went, judged, status_of};
+use hls_fakes::Page;
 use hls_http::Session;
 use hls_jobs::Job;
 use hls_serve::alone::Alone;

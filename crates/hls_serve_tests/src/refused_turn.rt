@@ -2,11 +2,11 @@
 //! turn's state is in its place again, since a session of another pass goes on.
 
 use crate::channels::opening;
-use crate::faults::Page;
 use crate::script::{
     EVENTS, FILE_NAMES, Files, GONE, delete, encoder, encoder_replies, get_file, get_files,
 };
 use crate::went::{Went, judged, status_of};
+use hls_fakes::Page;
 use hls_http::Session;
 use hls_jobs::{Gate, Job, Jobs, work_loop};
 use hls_serve::channel::Channel;

@@ -1,8 +1,8 @@
-//! Readers and writers over memory.
+//! A reader that is held in the middle of a text.
 
 ghost use Rattle.std.specs.Prelude.{◌≤◌, length};
 
-use std::io::{self, ErrorKind, Read, Write};
+use std::io::{self, ErrorKind, Read};
 use std::sync::atomic::{AtomicBool, Ordering};
 use std::thread;
 
@@ -48,48 +48,5 @@ impl<'a> Read for Held<'a> {
             return Err(ErrorKind::TimedOut.into());
         }
         Ok(give(&mut self.then, buf))
-    }
-}
-
-/// How many bytes a page takes.
-const PAGE_LEN: usize = 1024;
-
-/// A writer that takes a page of bytes.
-#[derive(Drop)]
-pub struct Page {
-    bytes: [u8; PAGE_LEN],
-    len: usize,
-}
-
-impl Page {
-    pub fn new() -> Page {
-        Page {
-            bytes: [0; PAGE_LEN],
-            len: 0,
-        }
-    }
-
-    /// Whether just this text was written.
-    pub fn says(&self, text: &[u8]) -> bool {
-        match self.bytes.get(..self.len) {
-            Some(written) => written == text,
-            None => false,
-        }
-    }
-}
-
-impl Write for Page {
-    fn write(&mut self, buf: &[u8]) -> io::Result<usize> {
-        let Some(room) = self.bytes.get_mut(self.len..) else {
-            return Ok(0);
-        };
-        let len = buf.len().min(room.len());
-        room[..len].copy_from_slice(&buf[..len]);
-        self.len = self.len.wrapping_add(len);
-        Ok(len)
-    }
-
-    fn flush(&mut self) -> io::Result<()> {
-        Ok(())
     }
 }

@@ -3,12 +3,13 @@
 ghost use Rattle.std.specs.Prelude.{◌≡◌, All};
 ghost use denote.Param.Send.{IsSync};
 
-use crate::fakes::{Held, Page};
+use crate::fakes::Held;
 use bytes::Bytes;
 use hls_core::config::Config;
 use hls_core::snapshot::Snapshot;
 use hls_core_laws::event::Logged;
 use hls_core_laws::rendition::Rendition;
+use hls_fakes::Page;
 use hls_http::Session;
 use hls_jobs::Jobs;
 use hls_samples::{init_bytes, unit_bytes};

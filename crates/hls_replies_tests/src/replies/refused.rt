@@ -3,6 +3,7 @@
 
 use hls_core::snapshot::Snapshot;
 use hls_core_laws::refusal::Refusal;
+use hls_fakes::Page;
 use hls_feed::StreamFault;
 use hls_http::{Session, SessionEnd};
 use hls_http_laws::fault::HttpFault;
@@ -18,48 +19,7 @@ use hls_serve_laws::query::{Moment, Query};
 use hls_serve_laws::route::Route;
 use hls_turn::Done;
 use std::alloc::{AllocError, Global};
-use std::io::{self, Write};
 use std::sync::Arc;
-
-/// How many bytes a page takes.
-const PAGE_LEN: usize = 4096;
-
-/// A writer that takes a page of bytes, and no memory.
-#[derive(Drop)]
-struct Page {
-    bytes: [u8; PAGE_LEN],
-    len: usize,
-}
-
-impl Page {
-    fn new() -> Page {
-        Page {
-            bytes: [0; PAGE_LEN],
-            len: 0,
-        }
-    }
-
-    /// What was written.
-    fn written(&self) -> &[u8] {
-        self.bytes.get(..self.len).unwrap_or(b"")
-    }
-}
-
-impl Write for Page {
-    fn write(&mut self, buf: &[u8]) -> io::Result<usize> {
-        let Some(room) = self.bytes.get_mut(self.len..) else {
-            return Ok(0);
-        };
-        let len = buf.len().min(room.len());
-        room[..len].copy_from_slice(&buf[..len]);
-        self.len = self.len.wrapping_add(len);
-        Ok(len)
-    }
-
-    fn flush(&mut self) -> io::Result<()> {
-        Ok(())
-    }
-}
 
 /// Two units, of which more may come: one live segment.
 pub fn recorded(alloc: Global) -> Option<Arc<Snapshot>> {

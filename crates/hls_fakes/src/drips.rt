@@ -1,0 +1,53 @@
+//! A reader in small steps.
+
+use std::io::{self, ErrorKind, Read};
+
+/// A reader that gives at most `step` bytes a call, and fails at the call of one number, from 1; behind it the rest comes. A
+/// call of an even number fails as interrupted, one of an odd number as reset.
+#[derive(Drop)]
+pub struct Drips<'a> {
+    rest: &'a [u8],
+    step: usize,
+    calls: usize,
+    fails_at: usize,
+}
+
+impl<'a> Drips<'a> {
+    /// A reader of the text.
+    pub fn new(text: &'a [u8], step: usize, fails_at: usize) -> Drips<'a> {
+        Drips {
+            rest: text,
+            step,
+            calls: 0,
+            fails_at,
+        }
+    }
+
+    /// How many bytes weren't given.
+    pub fn rest_len(&self) -> usize {
+        self.rest.len()
+    }
+
+    /// How many calls there were.
+    pub fn calls(&self) -> usize {
+        self.calls
+    }
+}
+
+impl<'a> Read for Drips<'a> {
+    fn read(&mut self, buf: &mut [u8]) -> io::Result<usize> {
+        self.calls = self.calls.wrapping_add(1);
+        if self.calls == self.fails_at {
+            let kind = if self.fails_at % 2 == 0 {
+                ErrorKind::Interrupted
+            } else {
+                ErrorKind::ConnectionReset
+            };
+            return Err(kind.into());
+        }
+        let len = self.rest.len().min(self.step).min(buf.len());
+        buf[..len].copy_from_slice(&self.rest[..len]);
+        self.rest = &self.rest[len..];
+        Ok(len)
+    }
+}

@@ -1,0 +1,13 @@
+//! Readers and writers over memory for tests: in small steps, with one call that fails, without memory of their own.
+#![tactic(auto)]
+
+mod drips;
+mod page;
+mod sink;
+
+pub use drips::Drips;
+pub use page::Page;
+pub use sink::Sink;
+
+/// The call that never comes.
+pub const NEVER: usize = 0;
