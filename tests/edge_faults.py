@@ -12,7 +12,7 @@ RAW = re.compile(r"\$(?:uri|document_uri|request_uri|args|query_string|http_\w+|
 # Where that is as it should be: HTTP keeps line feeds out of these two, and the first goes back to who sent it.
 RAW_ALLOWED = {("return", "https://$host$request_uri"), ("proxy_pass", "http://$hls_process/catchup$is_args$args"), ("proxy_set_header", "$http_range")}
 # Where a request may go: variables that maps make of known channels.
-TARGETS = {"hls_inner$hls_asked", "$hls_process", "$hls_process$hls_path", "$in_origins", "$in_process", "$in_range_of"}
+TARGETS = {"hls_inner", "hls_inner$in_path", "$hls_process", "$hls_process$hls_path", "$in_origins", "$in_process", "$in_range_of"}
 # What a location that has a field of its own mustn't lose of those around it.
 SECURITY = {"x-content-type-options", "strict-transport-security", "referrer-policy", "content-security-policy", "cache-control", "x-frame-options"}
 

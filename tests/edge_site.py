@@ -93,7 +93,7 @@ class Edge:
             ("edge.example.org;", "localhost 127.0.0.1 \"\";"), ("/var/www/acme", f"{self.folder}/acme"),
             ("/etc/nginx/edge.crt", self.certificate), ("/etc/nginx/edge.key", f"{self.folder}/edge.key"), *site_changes])
         for name in os.listdir(os.path.join(ROOT, "edge")):
-            if re.fullmatch(r"hls_(server|viewers|lists|segments|operators|pages)\.conf", name):
+            if re.fullmatch(r"hls_(server|viewers|lists|kept_lists|segments|operators|pages)\.conf", name):
                 self.copy("snippets", name)
         write(os.path.join(self.folder, "sites-enabled", "other"), more)
         self.conf = os.path.join(self.folder, "nginx.conf")
