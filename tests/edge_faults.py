@@ -1,4 +1,6 @@
-"""Looks through nginx's configuration for the faults that such files often have: what gixy knows, which Debian 12 doesn't have.
+"""Looks through nginx's configuration for the faults that such files often have: what each of gixy's checks finds (requests that go
+where a client says, split replies, fields that a location loses or that have two lines, a forged Host, origins and referers by a part of
+them, aliases out of their folder), and some more. Debian 12 has no gixy.
 
 No script of its own: tests/edge asks it of the files of edge/, and first of texts that have each fault.
 """
@@ -88,6 +90,13 @@ def faults_of(words, here, inner):
                 yield f"{here}: {group[0]} may be anything"
     if name == "location" and rest[0] not in ("=", "~") and inner and any(line[0] == "alias" for line, _ in inner) and not rest[-1].endswith("/"):
         yield f"{here}: an alias out of its folder"
+    if name in ("if", "map") and any(re.search(r"\$http_(?:origin|referer)\b", word) for word in rest):
+        keys = [line[0] for line, _ in inner or []] if name == "map" else ["~" + rest[at + 1].rstrip(")") for at, word in enumerate(rest) if word.lstrip("!") in ("~", "~*")]
+        for key in keys:
+            if key.startswith("~") and not re.fullmatch(r"~\*?\^(?:[^.\\]|\\.)*(?:\$|\\z)", key):
+                yield f"{here}: a part of an origin is enough for {key}"
+    if name == "map" and not any(line[0] == "default" for line, _ in inner):
+        yield f"{here}: no default"
     if name == "if" and any(line[0] not in ("return", "add_header") for line, _ in inner or []):
         yield f"{here}: if does more than to return"
     for fault, holds in (("slashes aren't merged", name == "merge_slashes" and rest == ["off"]), ("folders are listed", name == "autoindex" and rest == ["on"]),
@@ -113,6 +122,9 @@ SAMPLES = [
     (r'location ~ "^/(?<a>(?:x|\s)+)\z" { }', "may be anything"),
     ("location /a { alias /b/; }", "out of its folder"),
     ("location / { if ($a) { set $b c; } }", "more than to return"),
+    ('if ($http_origin !~ "a.example") { return 403; }', "part of an origin"), ("if ($http_referer ~* ^https://a\\.example) { return 200; }", "part of an origin"),
+    (r'map "$host $http_origin" $a { default 1; "~^https://a.example$" ""; }', "part of an origin"), (r"map $http_origin $a { default 1; ~a\.example$ 2; }", "part of an origin"),
+    ("map $a $b { 1 2; }", "no default"),
     ("merge_slashes off;", "merged"), ("autoindex on;", "listed"), ("server_tokens on;", "version"), ("ssl_protocols TLSv1 TLSv1.2;", "old TLS"),
     ("valid_referers none;", "referer"), ('add_header A "b\n c";', "two lines"),
 ]
