@@ -138,6 +138,10 @@ function listen() {
     });
     $("audios").addEventListener("change", ({ target }) => player.tracks[1].choose(Number(target.value)));
     video.addEventListener("click", actions.play);
+    // a tab that sleeps is stopped by the browser, and isn't begun by it again
+    let played = false;
+    document.addEventListener("freeze", () => { played = !video.paused; });
+    document.addEventListener("resume", () => { if (played) play(); });
 }
 
 // A recording's certificate, which stands beside its list: checked here, when somebody wants to know.
