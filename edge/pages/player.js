@@ -258,6 +258,8 @@ export class Player {
         URL.revokeObjectURL(this.video.src);
         // all buffers are there before the first takes anything
         for (const track of this.tracks) track.open(source);
+        // and the length is said before anything is, since later one of them is always busy at first
+        this.show();
         this.goal = this.isLive ? this.line.live : from;
         for (const work of [...this.tracks.map((track) => track.feed()), this.follow()]) work.catch((fault) => this.fail(fault));
         this.timer = setInterval(() => this.tick(), 250);
