@@ -6,7 +6,7 @@ _hls_origin() {
         mapfile -t COMPREPLY < <(compgen -W "cut check lint explain serve help --help --version" -- "$word")
     elif [ "$command" = explain ]; then
         mapfile -t COMPREPLY < <(compgen -W "$(hls_origin explain)" -- "$word")
-    elif [[ $word == -* ]]; then
+    elif [[ $word == -* && $command =~ ^(cut|check|lint|serve)$ ]]; then
         # the options that stand under the command in the help
         mapfile -t COMPREPLY < <(compgen -W "$(hls_origin --help |
             sed -n "/^$command:/,/^[a-zE]/{/^  --/s/^  \(--[a-z]*\).*/\1/p}; /^$command:/,/^[a-zE]/d" |
