@@ -87,9 +87,12 @@ class Channel:
         atexit.register(self.origin.kill)
         self.tell()
 
-    def tell(self):
-        with open(os.path.join(self.site.words, f"{self.name}.conf"), "w", encoding="utf-8") as file:
-            file.write(f'# {self.name}\nOPTIONS="{" ".join(self.options)}"\nADDRESS="127.0.0.1:{self.origin.port}"\nRENDITIONS="{" ".join(self.specs)}"\n')
+    def tell(self, name=None, port=None):
+        """Writes its words; or those of a process of its own name and port."""
+        with open(os.path.join(self.site.words, f"{name or self.name}.conf"), "w", encoding="utf-8") as file:
+            file.write(f'# {self.name}\nOPTIONS="{" ".join(self.options)}"\nADDRESS="127.0.0.1:{port or self.origin.port}"\nRENDITIONS="{" ".join(self.specs)}"\n')
+        if name:
+            return
         # the control group of its unit, as the kernel's folder has it, of its real process
         folder = os.path.join(self.site.cgroups, "hls_origin.slice", f"hls_origin@{self.name}.service")
         os.makedirs(folder, exist_ok=True)

@@ -45,6 +45,12 @@ HONEST = {"POST /catchup": (202, {}, b"job 7 version 3\n"), "GET /job/7": (200, 
           "/job/7/0.m3u8": (200, {}, LIST.encode()), "/job/7/0.mp4": media(1600)}
 
 
+def by_turns(*bodies):
+    """A reply that is another each time, and then the last."""
+    left = list(bodies)
+    return 200, {}, lambda _: (200, {}, left.pop(0) if len(left) > 1 else left[0])
+
+
 def strangers(_, folder):
     """A tool that is pointed at something else writes nothing, ends by itself, and deletes what it was told it has."""
     text = lambda body: (200, {}, body.encode())
@@ -73,6 +79,10 @@ def strangers(_, folder):
         "a job that waits for ever": ({"GET /job/7": (200, {}, b"waiting\n")}, 1),
         "a refusal with control characters": ({"GET /job/7": (200, {}, b"refused \x1b[2J version 3\n")}, 3),
         "a strange state": ({"GET /job/7": (200, {}, b"\x1b[2J\n")}, 1),
+        "another certificate at last": ({"/job/7/certificate.txt": by_turns(CERTIFICATE.encode(), CERTIFICATE.replace("4000000 4000000", "5000000 5000000").encode())}, 1),
+        "somebody else's job of that number": ({"GET /job/7": (200, {}, b"cut 0 version 4\n")}, 1),
+        "somebody else's, at last": ({"GET /job/7": by_turns(b"cut 0 version 3\n", b"cut 0 version 4\n")}, 1),
+        "somebody else's, refused at last": ({"GET /job/7": by_turns(b"cut 0 version 3\n", b"refused NotYet version 9\n")}, 1),
     }
     for number, (name, (changed, wanted)) in enumerate(lies.items()):
         false, spool = False_({**HONEST, **changed}), os.path.join(folder, f"false{number}")
@@ -82,7 +92,7 @@ def strangers(_, folder):
         left = os.listdir(spool)
         check(f"{name}: status {wanted}", status == wanted and (left == ["show"] if wanted == 0 else left == []), (status, out, err, left))
         check(f"{name}: in time, in a clean line", time.time() - begun < 20 and "\x1b" not in err and "Traceback" not in err and len(err) < 2000, (time.time() - begun, err))
-        known = "job ../7" not in str(changed) and "POST /catchup" not in changed
+        known = "job ../7" not in str(changed) and "POST /catchup" not in changed and "somebody else" not in name
         check(f"{name}: the job is deleted", ("DELETE /job/7" in false.asked) == known, false.asked)
         false.server.shutdown()
     status, _, err = run("hls_programme", url(encoders.free_port()), "--from", 0, "--to", 1, "-o", os.path.join(folder, "none"))
