@@ -61,9 +61,12 @@ class Broken:
         self.channel.seen(what)
         return said
 
-    def state(self):
-        with open(os.path.join(self.site.edge.files, "state/news.json"), encoding="utf-8") as file:
-            return json.load(file)
+    def settled(self):
+        """Behind a process that died: names of its segments fail until they are gone from the lists; all else is a fault."""
+        time.sleep(2)
+        for viewer in self.channel.viewers:
+            viewer.faults = [fault for fault in viewer.faults if "of ../seg" not in fault and "of the list" not in fault]
+
 
 
 def edge_that_fails(one):
@@ -149,8 +152,7 @@ def dies_while_it_drains(one):
     status, said = one.handover()
     check("the new one died, and the tool before it: the old one has the channel again", status == 1 and "serves" in said and site.serving() == (old, run + 2), (status, said, site.serving()))
     check("and is alive", ask(site.ports[old], "GET", "/status")[0] == 200)
-    for viewer in one.channel.viewers:
-        viewer.faults = [fault for fault in viewer.faults if "of ../seg" not in fault and "of the list" not in fault]
+    one.settled()
     one.channel.seen("the new one died while nobody looked")
     one.through("and the next one")
 
@@ -167,8 +169,7 @@ def one_that_does_not_end(one):
     with contextlib.suppress(OSError, ValueError):
         site.kill(old, signal.SIGCONT)
     check("an old one that stands still is ended all the same", status == 0 and site.serving()[0] != old, (status, said))
-    for viewer in one.channel.viewers:
-        viewer.faults = [fault for fault in viewer.faults if "of ../seg" not in fault and "of the list" not in fault]
+    one.settled()
     one.channel.seen("an old one that stands still")
 
 
