@@ -219,6 +219,7 @@ def lies(elsewhere):
         "forty lists": ({"/live/master.m3u8": body_of("".join(f"/live/{n}.m3u8\n" for n in range(40)))}, 1),
         "a master of list 7": ({"/live/master.m3u8": body_of("/live/7.m3u8\n")}, 1), "a master of nothing": ({"/live/master.m3u8": body_of("")}, 1),
         **{f"{path} is elsewhere": ({path: other(302, {"Location": f"http://{elsewhere}{path}"})}, 1) for path in ("/status", "/live/master.m3u8", LIST, "/media/0.mp4")},
+        "a past that was trimmed": ({"/media/0.mp4": media(lambda status, fields, body: (410, {}, b""))}, 1),
         "another range": ({"/media/0.mp4": media(lambda status, fields, body: (status, {"Content-Range": fields["Content-Range"].replace("bytes ", "bytes 1")}, body))}, 1),
         "a shorter range than it says": ({"/media/0.mp4": media(lambda status, fields, body: (status, fields, body[:-1]))}, 1),
         "a longer one than was asked for": ({"/media/0.mp4": media(lambda status, fields, body: (status, fields, body + bytes(9 << 20)))}, 1),
@@ -256,6 +257,8 @@ def run_strangers(_program):
     refusals()
     began_anew()
     ends_late()
+    slow_link()
+    b_dies()
     files()
     addresses()
 
@@ -302,6 +305,60 @@ def ends_late():
     status, said, *_ = follow(a.name, b.name)
     sent = b"".join(b.units)
     check("the last unit comes before the end", status == 0 and b.ended and sent.endswith(a.units[-1]), (status, said, b.ended, b.asked[-4:]))
+
+
+class Link(threading.Thread):
+    """What stands between, and passes so many bytes a second."""
+
+    def __init__(self, to, speed):
+        super().__init__(daemon=True)
+        self.to, self.speed, self.listener = to, speed, socket.create_server(("127.0.0.1", 0))
+        self.name_of = f"127.0.0.1:{self.listener.getsockname()[1]}"
+        self.start()
+
+    def run(self):
+        while True:
+            one = self.listener.accept()[0]
+            host, _, port = self.to.partition(":")
+            other = socket.create_connection((host, int(port)))
+            for source, target in ((one, other), (other, one)):
+                threading.Thread(target=self.carry, args=(source, target), daemon=True).start()
+
+    def carry(self, source, target):
+        with contextlib.suppress(OSError):
+            while piece := source.recv(4096):
+                time.sleep(len(piece) / self.speed)
+                target.sendall(piece)
+            target.shutdown(socket.SHUT_WR)
+
+
+def slow_link():
+    """Half a megabyte over sixty kilobytes a second, longer than an origin may be silent."""
+    big = [unit(n * GROUP, GROUP, 60_000, n) for n in range(COUNT)]
+    b = Sham()
+    status, said, took, *_ = follow(Link(Sham(big).name, 60_000).name_of, b.name)
+    check("over a slow link it gets there", status == 0 and took > 7, (status, said, took))
+
+
+def b_dies():
+    a, b = Sham(units(COUNT)), Sham()
+    process = subprocess.Popen([FOLLOW, "--from", a.name, "--to", b.name], stdout=subprocess.DEVNULL, stderr=subprocess.PIPE, text=True)
+    for _ in range(100):
+        if b.units:
+            break
+        time.sleep(0.05)
+    time.sleep(1)
+    b.units = []
+    said = process.communicate(timeout=20)[1]
+    check("B that began anew ends it", process.returncode == 1 and f"{b.name} began anew" in said, said)
+    b = Sham()
+    process = subprocess.Popen([FOLLOW, "--from", a.name, "--to", b.name], stdout=subprocess.DEVNULL, stderr=subprocess.PIPE, text=True)
+    time.sleep(1)
+    b.server.shutdown()
+    b.server.socket.close()
+    b.lies = {path: lambda reply, handler: setattr(handler, "close_connection", True) for path in ("/status", LIST, "/media/0.mp4")}
+    said = process.communicate(timeout=30)[1]
+    check("and one that doesn't answer any more too", process.returncode == 3 and f"{b.name} doesn't answer" in said, said)
 
 
 def files():
