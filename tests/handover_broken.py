@@ -51,6 +51,11 @@ class Broken:
         status, said = self.handover("--turn", "false")
         check("where encoders can't be turned it stops", status == 1 and "false" in said, (status, said))
 
+    def sent_to(self, *instances):
+        """Where encoders send from now on, whoever said so."""
+        with open(os.path.join(self.site.words, "news.origins"), "w", encoding="utf-8") as file:
+            file.write(" ".join(f"http://127.0.0.1:{self.site.ports[name]}" for name in instances))
+
     def through(self, what, *words, to=None):
         """Run again it is through, and viewers saw nothing."""
         to = to or self.at_rest()
@@ -121,19 +126,18 @@ def processes_that_die(one):
     # encoders are told to send to both, and the new one is started again: they fill it before this does
     one.filled()
     new = one.at_rest()
-    with open(os.path.join(site.words, "news.origins"), "w", encoding="utf-8") as file:
-        file.write(" ".join(f"http://127.0.0.1:{port}" for port in site.ports.values()))
+    one.sent_to(*site.ports)
     site.kill(new)
     time.sleep(0.3)
     site.command("start", new)
     time.sleep(3)
     one.through("encoders filled the new one before it was", "begins again")
-    with open(os.path.join(site.words, "news.origins"), "w", encoding="utf-8") as file:
-        file.write(" ".join(f"http://127.0.0.1:{port}" for port in site.ports.values()))
+    one.sent_to(*site.ports)
     one.through("encoders are told to send to both before it is begun")
-    # the past that it lacks is trimmed meanwhile
+    # the past that it lacks is trimmed meanwhile: forty seconds of a channel four times as fast, and the housekeeper's rest
     one.filled()
-    time.sleep(28)                  # forty seconds of a channel four times as fast, and the housekeeper's rest
+    one.sent_to(site.serving()[0])
+    time.sleep(28)
     one.through("what the new one lacks was trimmed", "trimmed", "begins again")
 
 
