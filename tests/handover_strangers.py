@@ -11,6 +11,7 @@ import re
 import resource
 import socket
 import subprocess
+import tempfile
 import threading
 import time
 
@@ -261,6 +262,33 @@ def run_strangers(_program):
     b_dies()
     files()
     addresses()
+    died_meanwhile()
+
+
+def died_meanwhile():
+    """A handover that was broken off while the old one drained; the new one has died since. The one that is ended isn't the one that lives."""
+    with tempfile.TemporaryDirectory() as folder:
+        for name in ("words", "state", "edge/state", "edge/masters"):
+            os.makedirs(os.path.join(folder, name))
+        old, new = Sham(units(COUNT)), f"127.0.0.1:{free_port()}"
+        before = {"run": 1, "runs": {"1": {"origins": [old.name]}}}
+        files = {"edge/channels": f"news /news {old.name}\n", "words/news.conf": "", "words/news-b.conf": "",
+                 "edge/state/news.json": json.dumps({"run": 2, "runs": {**before["runs"], "2": {"origins": [new], "media_sequence": 4, "earlier": [{"run": 1, "until": 20, "shift": [100]}]}}}),
+                 "state/news.json": json.dumps({"old": old.name, "new": new, "old_instance": "news", "new_instance": "news-b", "step": "drain", "run": 1, "until": 20, "before": before}),
+                 "state/news.follow": json.dumps({"from": old.name, "to": new, "segments": 4, "marks": 0, "marked": False, "bytes": [100]}),
+                 "nginx": "#!/bin/sh\nexit 0\n", "stop": f'#!/bin/sh\necho "$1" >> {folder}/stopped\n'}
+        for name, text in files.items():
+            with open(os.path.join(folder, name), "w", encoding="utf-8") as file:
+                file.write(text)
+            os.chmod(file.name, 0o755)
+        done = subprocess.run([os.path.join(os.path.dirname(FOLLOW), "hls_handover"), "news", "--start", "true", "--stop", f"{folder}/stop I", "--turn", "true", "--words", f"{folder}/words",
+                               "--state", f"{folder}/state", "--folder", f"{folder}/edge", "--nginx", f"{folder}/nginx", "--inner", old.name], capture_output=True, text=True)
+        with open(os.path.join(folder, "stopped"), encoding="utf-8") as file:
+            stopped = file.read().split()
+        with open(os.path.join(folder, "edge/state/news.json"), encoding="utf-8") as file:
+            state = json.load(file)
+        check("the one that lives has the channel, and isn't ended", done.returncode == 1 and stopped == ["news-b"] and state["runs"][str(state["run"])]["origins"] == [old.name],
+              (done.returncode, done.stderr, stopped, state))
 
 
 def refusals():
@@ -363,7 +391,6 @@ def b_dies():
 
 def files():
     """Files of its state that are odd, and a disk that takes no more."""
-    import tempfile
     a = Sham(units(COUNT))
     with tempfile.TemporaryDirectory() as folder:
         path = os.path.join(folder, "state")
