@@ -179,13 +179,13 @@ pub fn send<R: Wait>(station: &mut Station<'_, R>, rendition: usize, right: &Ato
 }
 
 /// One encoder for each station, all at once: how many were answered rightly.
-fn send_all<'a, R: Threads + Wait + Sync>(rt: &R, stations: &mut [Station<'a, R>]) -> u64 {
+fn send_all<R: Threads + Wait + Sync>(rt: &R, stations: &mut [Station<'_, R>]) -> u64 {
     let right = AtomicU64::new(0);
     thread::for_each_mut(
         rt,
         stations,
         ENCODERS,
-        &|i, station: &mut Station<'a, R>| -> ()
+        &|i, station: &mut Station<'_, R>| -> ()
             requires { IsSync R.row }
         { send(station, i, &right) },
     );
@@ -203,13 +203,13 @@ fn look<R: Wait>(station: &mut Station<'_, R>, right: &AtomicU64) {
 }
 
 /// How many of the stations, one after the other, see all events.
-fn look_with_all<'a, R: Threads + Wait + Sync>(rt: &R, stations: &mut [Station<'a, R>]) -> u64 {
+fn look_with_all<R: Threads + Wait + Sync>(rt: &R, stations: &mut [Station<'_, R>]) -> u64 {
     let right = AtomicU64::new(0);
     thread::for_each_mut(
         rt,
         stations,
         1,
-        &|_i, station: &mut Station<'a, R>| -> ()
+        &|_i, station: &mut Station<'_, R>| -> ()
             requires { IsSync R.row }
         { look(station, &right) },
     );
