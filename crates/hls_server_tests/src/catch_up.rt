@@ -96,40 +96,31 @@ impl<'a> Gate for HoldsFirst<'a> {
 fn plan_by_two<R: Threads + Wait + Sync>(
     rt: &R,
     alloc: Global,
-    channel: &Channel<'_>,
-    pass: Pass,
-) -> (bool, bool)
-    requires { pass.turn ≡ channel.now.turn.now }
-{
+    jobs: &Jobs,
+    station: &mut Station<'_, R>,
+) -> (bool, bool) {
     let open = AtomicBool::new(false);
     let gate = HoldsFirst { open: &open };
     let gate = &gate;
     let open = &open;
-    thread::scope(
-        thread::scope_env(),
-        rt,
-        move |scope| -> (bool, bool)
-            requires { pass.turn ≡ channel.now.turn.now }
-        {
-            let mut station = Station::new(rt, alloc, channel, pass);
-            let one = scope.spawn(move || work_loop(rt, alloc, channel.jobs, gate));
-            let two = scope.spawn(move || work_loop(rt, alloc, channel.jobs, gate));
-            let second = one.is_ok()
-                && two.is_ok()
-                && becomes(&mut station, SECOND, CUT)
-                && ends_with(&mut station, FIRST, b"\r\n\r\nrunning\n");
-            open.store(true, Ordering::SeqCst);
-            let first = second && becomes(&mut station, FIRST, CUT);
-            channel.jobs.close(rt);
-            (first, second)
-        },
-    )
+    thread::scope(thread::scope_env(), rt, move |scope| {
+        let one = scope.spawn(move || work_loop(rt, alloc, jobs, gate));
+        let two = scope.spawn(move || work_loop(rt, alloc, jobs, gate));
+        let second = one.is_ok()
+            && two.is_ok()
+            && becomes(station, SECOND, CUT)
+            && ends_with(station, FIRST, b"\r\n\r\nrunning\n");
+        open.store(true, Ordering::SeqCst);
+        let first = second && becomes(station, FIRST, CUT);
+        jobs.close(rt);
+        (first, second)
+    })
 }
 
 #[test]
 fn a_held_job_holds_no_other(rt: HostRuntime) -> Result<(), Fail> {
     let alloc = rt.alloc();
-    let (turn, mut passes) = Turn::new(&rt, alloc, opening(alloc)?, 2)?;
+    let (turn, mut passes) = Turn::new(&rt, alloc, opening(alloc)?, 1)?;
     let jobs = Jobs::new(alloc)?;
     let channel = Channel {
         turn: &turn,
@@ -138,16 +129,13 @@ fn a_held_job_holds_no_other(rt: HostRuntime) -> Result<(), Fail> {
     let Some(pass) = passes.pop() else {
         return Err(Fail::from("no pass"));
     };
-    let Some(other) = passes.pop() else {
-        return Err(Fail::from("no pass"));
-    };
     let mut station = Station::new(&rt, alloc, &channel, pass);
     let mut text = encoders(alloc)?;
     text.extend_from_slice(ASK)?;
     text.extend_from_slice(ASK)?;
     let added = b"\r\nLocation: /job/2\r\n\r\njob 2 version 12\n";
     assert!(rt; ends_with(&mut station, &text, added));
-    assert_eq!(rt; plan_by_two(&rt, alloc, &channel, other), (true, true));
+    assert_eq!(rt; plan_by_two(&rt, alloc, &jobs, &mut station), (true, true));
     Ok(())
 }
 
@@ -193,11 +181,10 @@ fn read_while_others_ask<R: Threads + Wait + Sync>(
     alloc: Global,
     channel: &Channel<'_>,
     asker: Pass,
-    reader: Pass,
+    reader: &mut Station<'_, R>,
     media: &[u8],
 ) -> (bool, u64)
-    requires asker { asker.turn ≡ channel.now.turn.now }
-    requires reader { reader.turn ≡ channel.now.turn.now }
+    requires { asker.turn ≡ channel.now.turn.now }
 {
     let added = AtomicU64::new(0);
     let is_full = AtomicBool::new(false);
@@ -207,10 +194,8 @@ fn read_while_others_ask<R: Threads + Wait + Sync>(
         thread::scope_env(),
         rt,
         move |scope| -> bool
-            requires asker { asker.turn ≡ channel.now.turn.now }
-            requires reader { reader.turn ≡ channel.now.turn.now }
+            requires { asker.turn ≡ channel.now.turn.now }
         {
-            let mut reader = Station::new(rt, alloc, channel, reader);
             let one = scope.spawn(move || work_loop(rt, alloc, channel.jobs, &Open));
             let two = scope.spawn(move || work_loop(rt, alloc, channel.jobs, &Open));
             let asks = scope.spawn(
@@ -225,8 +210,8 @@ fn read_while_others_ask<R: Threads + Wait + Sync>(
             let is_right = one.is_ok()
                 && two.is_ok()
                 && asks.is_ok()
-                && becomes(&mut reader, FIRST, CUT)
-                && reads_on(&mut reader, media, is_full);
+                && becomes(reader, FIRST, CUT)
+                && reads_on(reader, media, is_full);
             channel.jobs.close(rt);
             is_right
         },
@@ -237,16 +222,13 @@ fn read_while_others_ask<R: Threads + Wait + Sync>(
 #[test]
 fn a_jobs_media_while_others_are_asked_for(rt: HostRuntime) -> Result<(), Fail> {
     let alloc = rt.alloc();
-    let (turn, mut passes) = Turn::new(&rt, alloc, opening(alloc)?, 3)?;
+    let (turn, mut passes) = Turn::new(&rt, alloc, opening(alloc)?, 2)?;
     let jobs = Jobs::new(alloc)?;
     let channel = Channel {
         turn: &turn,
         jobs: &jobs,
     };
     let Some(asker) = passes.pop() else {
-        return Err(Fail::from("no pass"));
-    };
-    let Some(reader) = passes.pop() else {
         return Err(Fail::from("no pass"));
     };
     let Some(pass) = passes.pop() else {
@@ -258,7 +240,7 @@ fn a_jobs_media_while_others_are_asked_for(rt: HostRuntime) -> Result<(), Fail> 
     let added = b"\r\nLocation: /job/1\r\n\r\njob 1 version 12\n";
     assert!(rt; ends_with(&mut station, &text, added));
     let media = stream(alloc, 1)?;
-    let ended = read_while_others_ask(&rt, alloc, &channel, asker, reader, &media);
+    let ended = read_while_others_ask(&rt, alloc, &channel, asker, &mut station, &media);
     assert_eq!(rt; ended, (true, 63));
     Ok(())
 }

@@ -216,6 +216,24 @@ fn look_with_all<R: Threads + Wait + Sync>(rt: &R, stations: &mut [Station<'_, R
     right.load(Ordering::SeqCst)
 }
 
+/// One encoder for each pass: how many were answered rightly, and how many then see all events.
+fn brought_by_all<'x, R: Threads + Wait + Sync>(
+    rt: &'x R,
+    alloc: Global,
+    channel: &Channel<'x>,
+    passes: Vec<Pass>,
+) -> Result<(u64, u64), AllocError>
+    requires { All (λ p. p.turn ≡ channel.now.turn.now) passes.items }
+{
+    let mut stations = Vec::with_capacity(alloc, ENCODERS)?;
+    for pass in passes {
+        stations.push(Station::new(rt, alloc, channel, pass))?;
+    }
+    let stations = stations.as_mut_slice();
+    let sent = send_all(rt, stations);
+    Ok((sent, look_with_all(rt, stations)))
+}
+
 /// Whether an event is number `n` of an encoder's: its init section, and then each unit in turn.
 fn is_event(event: &Logged, worker: u16, n: u64) -> bool {
     match event {
@@ -249,7 +267,8 @@ fn are_in_order(state: &Snapshot, worker: u16) -> bool {
 #[test]
 fn four_encoders_end_in_one_log(rt: HostRuntime) -> Result<(), Fail> {
     let alloc = rt.alloc();
-    let (turn, mut passes) = Turn::new(&rt, alloc, opening(alloc)?, 6)?;
+    let (turn, passes) = Turn::new(&rt, alloc, opening(alloc)?, 6)?;
+    let mut passes = passes;
     let Some(last) = passes.pop() else {
         return Err(Fail::from("no pass"));
     };
@@ -261,13 +280,7 @@ fn four_encoders_end_in_one_log(rt: HostRuntime) -> Result<(), Fail> {
         turn: &turn,
         jobs: &jobs,
     };
-    let mut stations = Vec::with_capacity(alloc, ENCODERS)?;
-    for pass in passes {
-        stations.push(Station::new(&rt, alloc, &channel, pass))?;
-    }
-    let stations = stations.as_mut_slice();
-    assert_eq!(rt; send_all(&rt, stations), 4);
-    assert_eq!(rt; look_with_all(&rt, stations), 4);
+    assert_eq!(rt; brought_by_all(&rt, alloc, &channel, passes)?, (4, 4));
     let met = turn.meet(&rt, alloc, &mut [other, last])?;
     assert_eq!(rt; met.version(), EVENTS);
     for worker in 0..4 {
