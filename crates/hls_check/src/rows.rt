@@ -10,6 +10,7 @@ ghost use Rattle.hls_check.specs.Rows.{prices_shown, KeepsTo, ColumnKeeps, IsFir
 use crate::prices::price_of;
 use crate::steps::is_step;
 use hls_check_laws::{Claim, PrintedTable};
+use std::ops::Range;
 
 /// How many rows are looked at together: their places are to stay in a processor's nearest memory.
 pub const BLOCK: usize = 32;
@@ -128,22 +129,22 @@ fn column_fault(
     table: &PrintedTable,
     claim: &Claim,
     floor: Floor,
-    first: usize,
-    end: usize,
+    places: Range<usize>,
     q: usize,
     rows: &mut [usize; BLOCK],
 ) -> Option<usize>
     requires valid { IsTable table.now }
-    requires in_block { end ≤ first + 32 }
+    requires in_block { places.end ≤ places.start + 32 }
     requires in_range { q < length table.now.places }
     requires one_each { length (prices_shown (shown_by claim.now)) ≡ length table.now.places }
-    requires floor { IsFloor table.now (shown_by claim.now) first end floor.price floor.start }
-    ensures { MatchOption result (ColumnKeeps table.now (shown_by claim.now) first end q) (IsFirstOfColumn table.now (shown_by claim.now) first end q) }
+    requires floor { IsFloor table.now (shown_by claim.now) places.start places.end floor.price floor.start }
+    ensures { MatchOption result (ColumnKeeps table.now (shown_by claim.now) places.start places.end q)
+        (IsFirstOfColumn table.now (shown_by claim.now) places.start places.end q) }
 {
     if is_low(table, claim, floor, q) {
         return None;
     }
-    first_of_column(table, claim, first, end.min(q), q, rows)
+    first_of_column(table, claim, places.start, places.end.min(q), q, rows)
 }
 
 /// The first step that doesn't keep to the prices, of those from a block of places. Once one is found, the rows
@@ -159,7 +160,7 @@ pub fn first_of_block(table: &PrintedTable, claim: &Claim, first: usize) -> Opti
     let mut rows = [0; BLOCK];
     let mut found = None;
     for q in first + 1..count {
-        let Some(p) = column_fault(table, claim, floor, first, end, q, &mut rows) else {
+        let Some(p) = column_fault(table, claim, floor, first..end, q, &mut rows) else {
             continue;
         };
         end = p;

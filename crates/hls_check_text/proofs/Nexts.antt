@@ -78,19 +78,33 @@ counts_same r n r' n' r_small n_small r'_small n'_small a b a' b' xs ys e =
       rest,
     )
 
+-- tables that begin alike have one rule, and as many renditions and places; what stands behind their rules is alike, too
+pub record AreAlike (t u : Table) (tail xs : List (List ℕ)) : Type 0 where
+  pub rule : t.goal.rule ≡ u.goal.rule
+  pub behind : behind_rule t tail ≡ behind_rule u xs
+  pub renditions : t.renditions ≡ u.renditions
+  pub count : length t.places ≡ length u.places
+  pub places : map place_line t.places ++ tail ≡ map place_line u.places ++ xs
+
+pub tables_alike : (t u : Table) (tail xs : List (List ℕ)) → IsTable t → IsTable u →
+    table_lines t ++ tail ≡ table_lines u ++ xs → AreAlike t u tail xs
+tables_alike t u tail xs t_good u_good e =
+    let told : (t.goal.rule ≡ u.goal.rule) × (behind_rule t tail ≡ behind_rule u xs) =
+    rules_same t.goal.rule u.goal.rule (behind_rule t tail) (behind_rule u xs) t_good.goal.charge u_good.goal.charge
+    (sym (rule_first t tail) ∙ e ∙ rule_first u xs) in
+    let counts : (t.renditions ≡ u.renditions) × (length t.places ≡ length u.places) × (map place_line t.places ++ tail ≡ map place_line u.places ++ xs) =
+    counts_same t.renditions (length t.places) u.renditions (length u.places)
+    t_good.renditions.1 t_good.count.1 u_good.renditions.1 u_good.count.1
+    (target_line t.goal.target) (preferred_line t.goal.preferred) (target_line u.goal.target) (preferred_line u.goal.preferred)
+    (map place_line t.places ++ tail) (map place_line u.places ++ xs) told.1 in
+    record { rule = told.0; behind = told.1; renditions = counts.0; count = counts.1; places = counts.2 }
+
 -- what stands behind a table, told by a table that begins alike
 pub table_passed : (t u : Table) (tail xs : List (List ℕ)) → IsTable t → IsTable u →
     table_lines t ++ tail ≡ table_lines u ++ xs → (length t.places ≡ length u.places) × (tail ≡ xs)
 table_passed t u tail xs t_good u_good e =
-    let behind : (t.goal.rule ≡ u.goal.rule) × (behind_rule t tail ≡ behind_rule u xs) =
-    rules_same t.goal.rule u.goal.rule (behind_rule t tail) (behind_rule u xs) t_good.goal.charge u_good.goal.charge
-    (sym (rule_first t tail) ∙ e ∙ rule_first u xs) in
-    let told : (t.renditions ≡ u.renditions) × (length t.places ≡ length u.places) × (map place_line t.places ++ tail ≡ map place_line u.places ++ xs) =
-    counts_same t.renditions (length t.places) u.renditions (length u.places)
-    t_good.renditions.1 t_good.count.1 u_good.renditions.1 u_good.count.1
-    (target_line t.goal.target) (preferred_line t.goal.preferred) (target_line u.goal.target) (preferred_line u.goal.preferred)
-    (map place_line t.places ++ tail) (map place_line u.places ++ xs) behind.1 in
-    (told.1, places_passed t.places u.places tail xs told.1 told.2)
+    let alike = tables_alike t u tail xs t_good u_good e in
+    (alike.count, places_passed t.places u.places tail xs alike.count alike.places)
 
 -- one more price, or the end
 pub price_next : (k count : ℕ) (ps qs : List Priced) (xs : List (List ℕ)) → count ≤ 16384 →

@@ -9,10 +9,10 @@ use Rattle.hls_check_laws.specs.Tables.{Table, IsTable, IsPlaceOf, goal_of, tabl
 use Rattle.hls_check_laws.specs.Certificates.{Printed, Shown, CutShown, NoneShown, IsForm, IsCertificate}
 use Rattle.hls_text.specs.Numbers.{words, ArePrintable}
 use Rattle.hls_text.proofs.Words.{IsSmall}
-use Rattle.hls_check_text.specs.Text.{target_line, preferred_line, cut_line, none_line, end_line, price_line, closed_line, place_line, place_numbers, table_lines, shown_lines, lines, Priced, priced, priced_from, members_from}
+use Rattle.hls_check_text.specs.Text.{cut_line, none_line, end_line, price_line, closed_line, place_line, place_numbers, table_lines, shown_lines, lines, Priced, priced, priced_from, members_from}
 use Rattle.hls_check_text.specs.Stages.{printed}
 use Rattle.hls_check_text.proofs.Spellings.{words_same, number_same, other_first, numbers_printable, place_same, RisesFrom, ClimbsFrom, priced_rises, members_climb, priced_line_same}
-use Rattle.hls_check_text.proofs.Nexts.{behind_rule, rules_same, rule_first, counts_same, places_passed}
+use Rattle.hls_check_text.proofs.Nexts.{tables_alike, places_passed}
 
 pub words_all : (ms ns : List ℕ) → ArePrintable ms → ArePrintable ns → 0 < length ms → 0 < length ns →
     words ms ≡ words ns → ms ≡ ns
@@ -57,27 +57,20 @@ table_made g r ps g' r' ps' a b c = rw (a, b, c) refl
 table_same : (t u : Table) (tail xs : List (List ℕ)) → IsTable t → IsTable u →
     table_lines t ++ tail ≡ table_lines u ++ xs → (t ≡ u) × (tail ≡ xs)
 table_same t u tail xs t_good u_good e =
-    let behind : (t.goal.rule ≡ u.goal.rule) × (behind_rule t tail ≡ behind_rule u xs) =
-    rules_same t.goal.rule u.goal.rule (behind_rule t tail) (behind_rule u xs) t_good.goal.charge u_good.goal.charge
-    (sym (rule_first t tail) ∙ e ∙ rule_first u xs) in
-    let told : (t.renditions ≡ u.renditions) × (length t.places ≡ length u.places) × (map place_line t.places ++ tail ≡ map place_line u.places ++ xs) =
-    counts_same t.renditions (length t.places) u.renditions (length u.places)
-    t_good.renditions.1 t_good.count.1 u_good.renditions.1 u_good.count.1
-    (target_line t.goal.target) (preferred_line t.goal.preferred) (target_line u.goal.target) (preferred_line u.goal.preferred)
-    (map place_line t.places ++ tail) (map place_line u.places ++ xs) behind.1 in
+    let alike = tables_alike t u tail xs t_good u_good e in
     let t_target : t.goal.target ≤ 3600 = t_good.goal.target.1 in
     let u_target : u.goal.target ≤ 3600 = u_good.goal.target.1 in
     let t_preferred : t.goal.preferred ≤ 3600000000 = t_good.goal.preferred.1 in
     let u_preferred : u.goal.preferred ≤ 3600000000 = u_good.goal.preferred.1 in
     let goals : t.goal ≡ u.goal =
     goal_made t.goal.target t.goal.preferred t.goal.rule u.goal.target u.goal.preferred u.goal.rule
-    (number_same (codes "target ") t.goal.target u.goal.target (omega arith) (omega arith) (ap (λ (ls : List (List ℕ)). get_or ls 0 []) behind.1))
-    (number_same (codes "preferred ") t.goal.preferred u.goal.preferred (omega arith) (omega arith) (ap (λ (ls : List (List ℕ)). get_or ls 1 []) behind.1))
-    behind.0 in
+    (number_same (codes "target ") t.goal.target u.goal.target (omega arith) (omega arith) (ap (λ (ls : List (List ℕ)). get_or ls 0 []) alike.behind))
+    (number_same (codes "preferred ") t.goal.preferred u.goal.preferred (omega arith) (omega arith) (ap (λ (ls : List (List ℕ)). get_or ls 1 []) alike.behind))
+    alike.rule in
     let P : ℕ → Type 0 = λ r. All (IsPlaceOf r) t.places in (
-      table_made t.goal t.renditions t.places u.goal u.renditions u.places goals told.0
-          (places_same u.renditions t.places u.places tail xs u_good.renditions.0 told.1 (subst P told.0 t_good.places) u_good.places told.2),
-      places_passed t.places u.places tail xs told.1 told.2,
+      table_made t.goal t.renditions t.places u.goal u.renditions u.places goals alike.renditions
+          (places_same u.renditions t.places u.places tail xs u_good.renditions.0 alike.count (subst P alike.renditions t_good.places) u_good.places alike.places),
+      places_passed t.places u.places tail xs alike.count alike.places,
     )
 
 priced_made : (a b a' b' : ℕ) → a ≡ a' → b ≡ b' → priced a b ≡ priced a' b'

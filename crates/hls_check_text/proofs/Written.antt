@@ -61,28 +61,33 @@ price_written old place price a b c d a_is b_is c_is d_is =
 dropped : {X : Type 0} (xs : List X) (i : ℕ) (d : X) → i < length xs → drop i xs ≡ get_or xs i d ∷ drop (i + 1) xs
 dropped xs i d small = drop-cons xs i d small ∙ ap (λ (j : ℕ). get_or xs i d ∷ drop j xs) (sym (add-one i))
 
+-- one more element of a list is written, whose text is that of each element behind the other
+pub each_more : {X : Type 0} (show : ℕ → List X → List ℕ) (d : X) → ((i : ℕ) (x : X) (xs : List X) → show i (x ∷ []) ++ show (i + 1) xs ≡ show i (x ∷ xs)) →
+    (xs : List X) (i : ℕ) (out new whole : List ℕ) → i < length xs →
+    new ≡ out ++ show i (get_or xs i d ∷ []) → out ++ show i (drop i xs) ≡ whole → new ++ show (i + 1) (drop (i + 1) xs) ≡ whole
+each_more show d cons xs i out new whole small new_is left =
+    ap (λ (ns : List ℕ). ns ++ show (i + 1) (drop (i + 1) xs)) new_is
+    ∙ append_assoc out (show i (get_or xs i d ∷ [])) (show (i + 1) (drop (i + 1) xs))
+    ∙ ap (λ (ns : List ℕ). out ++ ns) (cons i (get_or xs i d) (drop (i + 1) xs) ∙ ap (show i) (sym (dropped xs i d small)))
+    ∙ left
+
+-- all of them are
+pub each_done : {X : Type 0} (show : ℕ → List X → List ℕ) → ((i : ℕ) → show i [] ≡ []) →
+    (xs : List X) (i : ℕ) (out whole : List ℕ) → length xs ≤ i → out ++ show i (drop i xs) ≡ whole → out ≡ whole
+each_done show none xs i out whole all left =
+    sym (append-nil out) ∙ ap (λ (ns : List ℕ). out ++ ns) (sym (none i)) ∙ ap (λ ys. out ++ show i ys) (sym (drop_all i xs all)) ∙ left
+
 abbrev pub closed_text : ℕ → List Bool → List ℕ
 closed_text i closed = joined (map closed_line (members_from i closed))
 
-closed_cons : (i : ℕ) (b : Bool) (closed : List Bool) → closed_text i (b ∷ []) ++ closed_text (i + 1) closed ≡ closed_text i (b ∷ closed)
+pub closed_cons : (i : ℕ) (b : Bool) (closed : List Bool) → closed_text i (b ∷ []) ++ closed_text (i + 1) closed ≡ closed_text i (b ∷ closed)
 unfolding joined members_from
 closed_cons i false closed = refl
 closed_cons i true closed = append_assoc (closed_line i) (10 ∷ []) (closed_text (i + 1) closed)
 
-pub closed_more : (closed : List Bool) (i : ℕ) (out new whole : List ℕ) → i < length closed →
-    new ≡ out ++ closed_text i (get_or closed i false ∷ []) → out ++ closed_text i (drop i closed) ≡ whole →
-    new ++ closed_text (i + 1) (drop (i + 1) closed) ≡ whole
-closed_more closed i out new whole small new_is left =
-    ap (λ (xs : List ℕ). xs ++ closed_text (i + 1) (drop (i + 1) closed)) new_is
-    ∙ append_assoc out (closed_text i (get_or closed i false ∷ [])) (closed_text (i + 1) (drop (i + 1) closed))
-    ∙ ap (λ (xs : List ℕ). out ++ xs)
-    (closed_cons i (get_or closed i false) (drop (i + 1) closed) ∙ ap (closed_text i) (sym (dropped closed i false small)))
-    ∙ left
-
-pub closed_done : (closed : List Bool) (i : ℕ) (out whole : List ℕ) → length closed ≤ i → out ++ closed_text i (drop i closed) ≡ whole → out ≡ whole
+pub closed_nil : (i : ℕ) → closed_text i [] ≡ []
 unfolding joined members_from
-closed_done closed i out whole all left =
-    sym (append-nil out) ∙ ap (λ (xs : List Bool). out ++ closed_text i xs) (sym (drop_all i closed all)) ∙ left
+closed_nil i = refl
 
 pub not_member : (out : List ℕ) (i : ℕ) (b : Bool) → b ≡ false → out ≡ out ++ closed_text i (b ∷ [])
 unfolding joined members_from
@@ -95,25 +100,14 @@ a_member out new i b e is = rw e is
 abbrev pub prices_text : ℕ → List (Option ℕ) → List ℕ
 prices_text i prices = joined (map price_line (priced_from i prices))
 
-prices_cons : (i : ℕ) (b : Option ℕ) (prices : List (Option ℕ)) → prices_text i (b ∷ []) ++ prices_text (i + 1) prices ≡ prices_text i (b ∷ prices)
+pub prices_cons : (i : ℕ) (b : Option ℕ) (prices : List (Option ℕ)) → prices_text i (b ∷ []) ++ prices_text (i + 1) prices ≡ prices_text i (b ∷ prices)
 unfolding joined priced_from
 prices_cons i None prices = refl
 prices_cons i (Some v) prices = append_assoc (price_line (priced i v)) (10 ∷ []) (prices_text (i + 1) prices)
 
-pub prices_more : (prices : List (Option ℕ)) (i : ℕ) (out new whole : List ℕ) → i < length prices →
-    new ≡ out ++ prices_text i (get_or prices i None ∷ []) → out ++ prices_text i (drop i prices) ≡ whole →
-    new ++ prices_text (i + 1) (drop (i + 1) prices) ≡ whole
-prices_more prices i out new whole small new_is left =
-    ap (λ (xs : List ℕ). xs ++ prices_text (i + 1) (drop (i + 1) prices)) new_is
-    ∙ append_assoc out (prices_text i (get_or prices i None ∷ [])) (prices_text (i + 1) (drop (i + 1) prices))
-    ∙ ap (λ (xs : List ℕ). out ++ xs)
-    (prices_cons i (get_or prices i None) (drop (i + 1) prices) ∙ ap (prices_text i) (sym (dropped prices i None small)))
-    ∙ left
-
-pub prices_done : (prices : List (Option ℕ)) (i : ℕ) (out whole : List ℕ) → length prices ≤ i → out ++ prices_text i (drop i prices) ≡ whole → out ≡ whole
+pub prices_nil : (i : ℕ) → prices_text i [] ≡ []
 unfolding joined priced_from
-prices_done prices i out whole all left =
-    sym (append-nil out) ∙ ap (λ (xs : List (Option ℕ)). out ++ prices_text i xs) (sym (drop_all i prices all)) ∙ left
+prices_nil i = refl
 
 pub no_price_line : (out : List ℕ) (i : ℕ) (b : Option ℕ) → b ≡ None → out ≡ out ++ prices_text i (b ∷ [])
 unfolding joined priced_from
@@ -145,21 +139,16 @@ pub spots_more : (spots : List Spot) (i : ℕ) (d : Spot) (out new whole : List 
     new ++ spaced (place_numbers (drop (i + 1) spots)) ≡ whole
 unfolding spaced place_numbers
 spots_more spots i d out new whole small new_is left =
-    ap (λ (xs : List ℕ). xs ++ spaced (place_numbers (drop (i + 1) spots))) new_is
-    ∙ append_assoc out (spaced (place_numbers (get_or spots i d ∷ []))) (spaced (place_numbers (drop (i + 1) spots)))
-    ∙ ap (λ (xs : List ℕ). out ++ xs)
-    (spaced_spot (get_or spots i d) (drop (i + 1) spots) ∙ ap (λ (zs : List Spot). spaced (place_numbers zs)) (sym (dropped spots i d small)))
-    ∙ left
+    each_more (λ (k : ℕ) (zs : List Spot). spaced (place_numbers zs)) d (λ (k : ℕ). spaced_spot) spots i out new whole small new_is left
 
 pub spots_done : (spots : List Spot) (i : ℕ) (out whole : List ℕ) → length spots ≤ i → out ++ spaced (place_numbers (drop i spots)) ≡ whole → out ≡ whole
 unfolding spaced place_numbers
 spots_done spots i out whole all left =
-    sym (append-nil out) ∙ ap (λ (xs : List Spot). out ++ spaced (place_numbers xs)) (sym (drop_all i spots all)) ∙ left
+    each_done (λ (k : ℕ) (zs : List Spot). spaced (place_numbers zs)) (λ (k : ℕ). refl) spots i out whole all left
 
 pub plan_done : (plan : List ℕ) (i : ℕ) (out whole : List ℕ) → length plan ≤ i → out ++ spaced (drop i plan) ≡ whole → out ≡ whole
 unfolding spaced
-plan_done plan i out whole all left =
-    sym (append-nil out) ∙ ap (λ (xs : List ℕ). out ++ spaced xs) (sym (drop_all i plan all)) ∙ left
+plan_done plan i out whole all left = each_done (λ (k : ℕ). spaced) (λ (k : ℕ). refl) plan i out whole all left
 
 -- a plan's whole line
 pub plan_written : (old plan a b c d : List ℕ) → 0 < length plan → a ≡ old ++ codes "plan " → b ≡ a ++ decimal (get_or plan 0 0) →

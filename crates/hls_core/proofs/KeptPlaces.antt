@@ -10,7 +10,7 @@ use Rattle.hls_core_laws.specs.Channel.{Lane}
 use Rattle.hls_core_laws.specs.State.{State, channel}
 use Rattle.hls_core_laws.specs.IsState.{IsState}
 use Rattle.hls_core_laws.specs.Places.{places, floors, floor_of, kept_places}
-use Rattle.hls_core_laws.proofs.Lists.{at_below}
+use Rattle.std.proofs.lemmas.Option.{slice_get_within}
 use Rattle.hls_core_laws.proofs.KeptPlaces.{kept-parts, kept-of, kept-goes-on, times-rise}
 use Rattle.hls_core.specs.declared.kept.Asked.{Asked}
 use Rattle.hls_core.specs.declared.kept.Asked.TheVariants.{By, Trimmed}
@@ -40,14 +40,19 @@ kept-not s p r count within less = elim (is_kept (floors s) p) as (λ b. is_kept
   | false ↦ λ is. refl
 ] refl
 
-pub kept-more : (s : State) (p : Place) (r : ℕ) → KeptBefore s p r → slice_index (floors s) r ≤ (spot_in p.spots r).fragment → KeptBefore s p (r + 1)
-kept-more s p r before here k less =
+-- what holds below a number, and at it
+pub one-more : (P : ℕ → Type 0) (r : ℕ) → ((k : ℕ) → k < r → P k) → P r → (k : ℕ) → k < r + 1 → P k
+one-more P r before here k less =
     elim (cases_lt k r) [
       | inl earlier ↦ before k earlier
       | inr later ↦
           let same : k ≡ r = omega arith in
           rw same here
     ]
+
+pub kept-more : (s : State) (p : Place) (r : ℕ) → KeptBefore s p r → slice_index (floors s) r ≤ (spot_in p.spots r).fragment → KeptBefore s p (r + 1)
+kept-more s p r before here =
+    one-more (λ k. slice_index (floors s) k ≤ (spot_in p.spots k).fragment) r before here
 
 -- what is asked is true of a front of the places
 is-not : (b : Bool) → not b ≡ true → b ≡ false
@@ -93,7 +98,7 @@ unmet-more s state asked middle here there isnt k p more at = elim (meets s aske
 ] refl
 
 pub none-past : (s : State) (asked : Asked) (n : ℕ) → length (places s) ≤ n → NoneFrom s asked n
-none-past s asked n past k p more at = absurd (omega (arith, at_below (places s) k p at))
+none-past s asked n past k p more at = absurd (omega (arith, slice_get_within (places s) k p at))
 
 -- the places behind the trimmed ones are the kept ones
 behind : (above : List ℕ) (ps : List Place) (n : ℕ) → ((k : ℕ) (p : Place) → k < n → slice_get ps k ≡ Some p → not (is_kept above p) ≡ true) →

@@ -135,6 +135,28 @@ ahead i s entry r side config sides is kept take same_config same_sides =
     subst (λ (c : ConfigData). Ahead i c sides) (sym same_config)
     (subst (λ (xs : List Side). Ahead i i.config xs) (sym same_sides) (ahead_put i entry r side kept take_seen))
 
+-- parts with one more entry, and this side at number r
+seen_with : (i n : Inside) (entry : Entry) (r : ℕ) (side : Side) → n.config ≡ i.config → n.log ≡ record { first = i.log.first; items = i.log.items ++ entry ∷ [] } → sides_of n ≡ slice_set (sides_of i) r side → seen n ≡ with_side (seen i) entry r side
+seen_with i n entry r side config log_is sides =
+    let log : n.log.items ≡ i.log.items ++ entry ∷ [] = ap (λ l. l.items) log_is in
+    let bytes : map held_of (sides_of n) ≡ slice_set (map held_of (sides_of i)) r (held_of side) =
+    ap (map held_of) sides ∙ map-set held_of (sides_of i) r side in
+    λ k. record { config = config k; log = log k; bytes = bytes k }
+
+-- what they say of their lanes, and how many segments are gone, where the entry says so
+with_entry : (i n : Inside) (entry : Entry) (r : ℕ) (side : Side) → seen n ≡ with_side (seen i) entry r side → channel (seen n) ≡ after entry.event (channel (seen i))
+with_entry i n entry r side is = ap channel is ∙ channel_from-snoc (opening i.config) i.log.items entry
+
+lanes_with : (i n : Inside) (entry : Entry) (r : ℕ) (side : Side) → IsKept i → (after entry.event (channel (seen i))).lanes ≡ slice_set (channel (seen i)).lanes r (lane_of side) →
+    sides_of n ≡ slice_set (sides_of i) r side → seen n ≡ with_side (seen i) entry r side → map lane_of (sides_of n) ≡ (channel (seen n)).lanes
+lanes_with i n entry r side kept lanes sides is =
+    ap (map lane_of) sides ∙ map-set lane_of (sides_of i) r side ∙ ap (λ (ls : List Lane). slice_set ls r (lane_of side)) kept.lanes ∙ sym lanes
+    ∙ ap (λ (ch : Channel). ch.lanes) (sym (with_entry i n entry r side is))
+
+removed_with : (i n : Inside) (entry : Entry) (r : ℕ) (side : Side) → (after entry.event (channel (seen i))).removed ≡ (channel (seen i)).removed →
+    seen n ≡ with_side (seen i) entry r side → (channel (seen n)).removed ≡ (channel (seen i)).removed
+removed_with i n entry r side removed is = ap (λ (ch : Channel). ch.removed) (with_entry i n entry r side is) ∙ removed
+
 -- the parts n are the parts i with one more entry and this side at number r, and with the places moved on
 pub record Puts (i n : Inside) (entry : Entry) (r : ℕ) (side : Side) : Type 0 where
   pub config : n.config ≡ i.config
@@ -147,10 +169,7 @@ pub record Puts (i n : Inside) (entry : Entry) (r : ℕ) (side : Side) : Type 0 
 
 seen_puts : (i n : Inside) (entry : Entry) (r : ℕ) (side : Side) → Puts i n entry r side → seen n ≡ with_side (seen i) entry r side
 seen_puts i n entry r side p =
-    let log : n.log.items ≡ i.log.items ++ entry ∷ [] = ap (λ l. l.items) p.log in
-    let bytes : map held_of (sides_of n) ≡ slice_set (map held_of (sides_of i)) r (held_of side) =
-    ap (map held_of) p.sides ∙ map-set held_of (sides_of i) r side in
-    λ k. record { config = p.config k; log = log k; bytes = bytes k }
+    seen_with i n entry r side p.config p.log p.sides
 
 pub seen_put : (i n : Inside) (s : State) (entry : Entry) (r : ℕ) (side : Side) → seen i ≡ s → Puts i n entry r side → seen n ≡ with_side s entry r side
 seen_put i n s entry r side is p =
@@ -164,23 +183,12 @@ good_puts i n entry r side kept good sides q x at =
       | inr other ↦ kept.good q x other.1
     ]
 
-removed_put : (i n : Inside) (entry : Entry) (r : ℕ) (side : Side) → IsKept i → MayTake (seen i) entry r side → Puts i n entry r side → (channel (seen n)).removed ≡ (channel (seen i)).removed
-removed_put i n entry r side kept take p =
-    ap (λ (s : State). (channel s).removed) (seen_puts i n entry r side p)
-    ∙ ap (λ (ch : Channel). ch.removed) (channel_from-snoc (opening i.config) i.log.items entry) ∙ take.removed
-
 kept_puts : (i n : Inside) (entry : Entry) (r : ℕ) (side : Side) → IsKept i → MayTake (seen i) entry r side → Puts i n entry r side → IsKept n
 kept_puts i n entry r side kept take p =
     let is : seen n ≡ with_side (seen i) entry r side = seen_puts i n entry r side p in
-    let now : channel (with_side (seen i) entry r side) ≡ after entry.event (channel (seen i)) =
-    channel_from-snoc (opening i.config) i.log.items entry in
-    let lanes : map lane_of (sides_of n) ≡ slice_set (map lane_of (sides_of i)) r (lane_of side) =
-    ap (map lane_of) p.sides ∙ map-set lane_of (sides_of i) r side in
-    let lanes_now : map lane_of (sides_of n) ≡ (channel (seen n)).lanes =
-    lanes ∙ ap (λ (ls : List Lane). slice_set ls r (lane_of side)) kept.lanes ∙ sym take.lanes
-    ∙ ap (λ ch. ch.lanes) (sym now) ∙ ap (λ (s : State). (channel s).lanes) (sym is) in
+    let lanes : map lane_of (sides_of n) ≡ (channel (seen n)).lanes = lanes_with i n entry r side kept take.lanes p.sides is in
     let by : sources_by n.config (sides_of n) ≡ sources (seen n) =
-    ap (λ (ls : List Lane). sources_of (map facts_of ls) (map tolerance_of n.config.renditions) (map is_finished ls)) lanes_now in
+    ap (λ (ls : List Lane). sources_of (map facts_of ls) (map tolerance_of n.config.renditions) (map is_finished ls)) lanes in
     let on : PlacesContinue (sources (seen i)) (sources (seen n)) i.cursor.value =
     subst (λ (s : State). PlacesContinue (sources (seen i)) (sources s) i.cursor.value) (sym is) (moved i entry r side kept take) in
     let first : n.places.first ≡ 0 = ap (λ l. l.first) p.places ∙ ap (λ l. l.first) kept.places in
@@ -191,7 +199,7 @@ kept_puts i n entry r side kept take p =
     ∙ sym on.places in
     record {
       all = ap (λ l. l.first) p.log ∙ kept.all;
-      lanes = lanes_now;
+      lanes = lanes;
       valid = subst (λ (s : State). IsState s) (sym is) take.valid;
       good = good_puts i n entry r side kept take.good p.sides;
       places = λ k. record { first = first k; items = items k };
@@ -201,7 +209,7 @@ kept_puts i n entry r side kept take p =
           ∙ ap (λ (x : List Source). moved_by i.line.value (places_after x i.cursor.value.done)) by
           ∙ ap (λ (l : Live). moved_by l (places_after (sources (seen n)) i.cursor.value.done)) kept.line_is
           ∙ sym (line_goes_on (seen i) (seen n) (places_after (sources (seen n)) i.cursor.value.done) kept.valid p.config on.places
-          (removed_put i n entry r side kept take p));
+          (removed_with i n entry r side take.removed is));
     }
 
 pub kept_put : (i n : Inside) (s : State) (entry : Entry) (r : ℕ) (side : Side) → seen i ≡ s → IsKept i → MayTake s entry r side → Puts i n entry r side → IsKept n
@@ -283,36 +291,25 @@ pub record TrimPuts (i n : Inside) (entry : Entry) (r : ℕ) (side : Side) : Typ
 
 seen_trims : (i n : Inside) (entry : Entry) (r : ℕ) (side : Side) → TrimPuts i n entry r side → seen n ≡ with_side (seen i) entry r side
 seen_trims i n entry r side p =
-    let log : n.log.items ≡ i.log.items ++ entry ∷ [] = ap (λ l. l.items) p.log in
-    let bytes : map held_of (sides_of n) ≡ slice_set (map held_of (sides_of i)) r (held_of side) =
-    ap (map held_of) p.sides ∙ map-set held_of (sides_of i) r side in
-    λ k. record { config = p.config k; log = log k; bytes = bytes k }
+    seen_with i n entry r side p.config p.log p.sides
 
 kept_trims : (i n : Inside) (entry : Entry) (r : ℕ) (side : Side) → IsKept i → MayTrim (seen i) entry r side → TrimPuts i n entry r side → IsKept n
 kept_trims i n entry r side kept trim p =
     let is : seen n ≡ with_side (seen i) entry r side = seen_trims i n entry r side p in
-    let now : channel (with_side (seen i) entry r side) ≡ after entry.event (channel (seen i)) =
-    channel_from-snoc (opening i.config) i.log.items entry in
-    let lanes : map lane_of (sides_of n) ≡ slice_set (map lane_of (sides_of i)) r (lane_of side) =
-    ap (map lane_of) p.sides ∙ map-set lane_of (sides_of i) r side in
-    let lanes_now : map lane_of (sides_of n) ≡ (channel (seen n)).lanes =
-    lanes ∙ ap (λ (ls : List Lane). slice_set ls r (lane_of side)) kept.lanes ∙ sym trim.lanes
-    ∙ ap (λ ch. ch.lanes) (sym now) ∙ ap (λ (s : State). (channel s).lanes) (sym is) in
+    let lanes : map lane_of (sides_of n) ≡ (channel (seen n)).lanes = lanes_with i n entry r side kept trim.lanes p.sides is in
     let same : sources (seen n) ≡ sources (seen i) = ap sources is ∙ trim.same in
-    let removed : (channel (seen n)).removed ≡ (channel (seen i)).removed =
-    ap (λ (s : State). (channel s).removed) is ∙ ap (λ (ch : Channel). ch.removed) now ∙ trim.removed in
     let first : n.places.first ≡ 0 = ap (λ l. l.first) p.places ∙ ap (λ l. l.first) kept.places in
     let items : n.places.items ≡ places (seen n) =
     ap (λ l. l.items) p.places ∙ ap (λ l. l.items) kept.places ∙ ap places_of (sym same) in
     record {
       all = ap (λ l. l.first) p.log ∙ kept.all;
-      lanes = lanes_now;
+      lanes = lanes;
       valid = subst (λ (s : State). IsState s) (sym is) trim.valid;
       good = good_puts i n entry r side kept trim.good p.sides;
       places = λ k. record { first = first k; items = items k };
       cursor = subst (λ (x : Position). IsCursor x (sources (seen n))) (sym p.cursor) (subst (λ (x : List Source). IsCursor i.cursor.value x) (sym same) kept.cursor);
       through = subst (λ (x : Position). IsThrough x (sources (seen n))) (sym p.cursor) (subst (λ (x : List Source). IsThrough i.cursor.value x) (sym same) kept.through);
-      line_is = p.line_is ∙ kept.line_is ∙ sym (line_stays (seen i) (seen n) p.config same removed);
+      line_is = p.line_is ∙ kept.line_is ∙ sym (line_stays (seen i) (seen n) p.config same (removed_with i n entry r side trim.removed is));
     }
 
 pub kept_trim : (i n : Inside) (s : State) (entry : Entry) (r : ℕ) (side : Side) → seen i ≡ s → IsKept i → MayTrim s entry r side → TrimPuts i n entry r side → IsKept n

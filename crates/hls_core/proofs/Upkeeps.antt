@@ -24,6 +24,7 @@ use Rattle.hls_core_laws.proofs.KeptPlaces.{ordered, floors-count}
 use Rattle.hls_core.specs.Upkeeps.{watched, IsUpkeepOf}
 use Rattle.hls_core.specs.Cuts.{IsOldUntil, NoneOld, IsCutOf, NoCut, ReachedBefore, IsFirstBelow}
 use Rattle.hls_core.specs.KeptPlaces.{IsLastKeptBy, NoKeptBy}
+use Rattle.hls_core.proofs.KeptPlaces.{one-more}
 
 some-is : {A : Type 0} (x y : A) → Some x ≡ Some y → x ≡ y
 some-is x y is = cc
@@ -196,13 +197,8 @@ trim-taken s state window keep r floor is =
     trim-passed s r floor l.0 (front_of (line s)) raises.front l.1 raises.front_is (omega (arith, raises.rises, old)) raises.stays
 
 pub reached-more : (s : State) (p : Place) (r : ℕ) → ReachedBefore s p r → (spot_in p.spots r).fragment ≤ slice_index (floors s) r → ReachedBefore s p (r + 1)
-reached-more s p r before here k less =
-    elim (cases_lt k r) [
-      | inl earlier ↦ before k earlier
-      | inr later ↦
-          let same : k ≡ r = omega arith in
-          rw same here
-    ]
+reached-more s p r before here =
+    one-more (λ k. (spot_in p.spots k).fragment ≤ slice_index (floors s) k) r before here
 
 -- what a search for a rendition to be trimmed comes to
 pub trimmed-by : (s : State) (window keep : ℕ) (cut : Place) (found : Option Event) → has_ended (line s) ≡ false → IsMostSlide (line s) window 0 → IsCutOf s keep cut →

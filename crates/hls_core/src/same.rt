@@ -70,47 +70,42 @@ fn same_entry(a: &Entry, b: &Entry) -> bool
 fn same_logged(a: &Logged, b: &Logged) -> bool
     ensures { IsTrue result ↔ (a.now ≡ b.now) }
 {
-    match a {
-        Logged::Begun {
-            rendition: r,
-            init: x,
-            len: n,
-        } => match b {
+    match (a, b) {
+        (
+            Logged::Begun {
+                rendition: r,
+                init: x,
+                len: n,
+            },
             Logged::Begun {
                 rendition: s,
                 init: y,
                 len: m,
-            } => *r == *s && same_init(x, y) && *n == *m,
-            _ => false,
-        },
-        Logged::Accepted {
-            rendition: r,
-            facts: f,
-        } => match b {
+            },
+        ) => *r == *s && same_init(x, y) && *n == *m,
+        (
+            Logged::Accepted {
+                rendition: r,
+                facts: f,
+            },
             Logged::Accepted {
                 rendition: s,
                 facts: g,
-            } => *r == *s && *f == *g,
-            _ => false,
-        },
-        Logged::Finished { rendition: r } => match b {
-            Logged::Finished { rendition: s } => *r == *s,
-            _ => false,
-        },
-        Logged::Slid { count: n } => match b {
-            Logged::Slid { count: m } => *n == *m,
-            _ => false,
-        },
-        Logged::Trimmed {
-            rendition: r,
-            floor: n,
-        } => match b {
+            },
+        ) => *r == *s && *f == *g,
+        (Logged::Finished { rendition: r }, Logged::Finished { rendition: s }) => *r == *s,
+        (Logged::Slid { count: n }, Logged::Slid { count: m }) => *n == *m,
+        (
+            Logged::Trimmed {
+                rendition: r,
+                floor: n,
+            },
             Logged::Trimmed {
                 rendition: s,
                 floor: m,
-            } => *r == *s && *n == *m,
-            _ => false,
-        },
+            },
+        ) => *r == *s && *n == *m,
+        _ => false,
     }
 }
 

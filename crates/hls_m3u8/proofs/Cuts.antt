@@ -102,31 +102,28 @@ unsplit byte (b ∷ text) h =
 abbrev pub IsClean : ℕ → List ℕ → Type 0
 IsClean byte text = list_any (λ b. b == byte) text ≡ false
 
-pub split_clean : (byte : ℕ) (text : List ℕ) → IsClean byte text → split_at byte text ≡ record { front = text; behind = None }
-unfolding split_at
-split_clean byte [] h = refl
-split_clean byte (b ∷ text) h =
+pub clean_parts : (byte b : ℕ) (text : List ℕ) → IsClean byte (b ∷ text) → ((b == byte) ≡ false) × IsClean byte text
+clean_parts byte b text h =
     elim (cases_Bool (b == byte)) [
       | inl e ↦
           let no : true ≡ false = rw e at h in
           absurd cc
-      | inr e ↦
-          let rest : IsClean byte text = rw e at h in
-          rw (e, split_clean byte text rest) refl
+      | inr e ↦ (e, rw e at h)
     ]
+
+pub split_clean : (byte : ℕ) (text : List ℕ) → IsClean byte text → split_at byte text ≡ record { front = text; behind = None }
+unfolding split_at
+split_clean byte [] h = refl
+split_clean byte (b ∷ text) h =
+    let parts = clean_parts byte b text h in
+    rw (parts.0, split_clean byte text parts.1) refl
 
 pub split_seam : (byte : ℕ) (text rest : List ℕ) → IsClean byte text → split_at byte (text ++ byte ∷ rest) ≡ record { front = text; behind = Some rest }
 unfolding split_at
 split_seam byte [] rest h = rw (eq-eqb byte byte refl) refl
 split_seam byte (b ∷ text) rest h =
-    elim (cases_Bool (b == byte)) [
-      | inl e ↦
-          let no : true ≡ false = rw e at h in
-          absurd cc
-      | inr e ↦
-          let more : IsClean byte text = rw e at h in
-          rw (e, split_seam byte text rest more) refl
-    ]
+    let parts = clean_parts byte b text h in
+    rw (parts.0, split_seam byte text rest parts.1) refl
 
 at_place : (byte : ℕ) (text : List ℕ) (k : ℕ) → position (λ b. b == byte) text ≡ Some k → (k < length text) × ((get_or text k 0 == byte) ≡ true)
 at_place byte text k h =

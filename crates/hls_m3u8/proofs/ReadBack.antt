@@ -27,7 +27,7 @@ use Rattle.hls_m3u8.specs.NextLine.{IsNextLine}
 use Rattle.hls_m3u8.specs.Readable.{IsReadable}
 use Rattle.hls_m3u8.specs.Tags.{tag_of}
 use Rattle.hls_m3u8.specs.Reading.{in_milliseconds, date_value, after_tag, tag_step, uri_step, step, with_front, read_from, nothing_read, finished, has_order_mark, read_lines, reading_of}
-use Rattle.hls_m3u8.proofs.Cuts.{IsClean, split_seam, first_of_more, no_lines}
+use Rattle.hls_m3u8.proofs.Cuts.{IsClean, clean_parts, split_seam, first_of_more, no_lines}
 use Rattle.hls_m3u8.proofs.Texts.{written_has_text, written_is_text}
 use Rattle.hls_m3u8.proofs.Times.{digits_clean}
 use Rattle.hls_m3u8.proofs.Scanning.{with_none, with_two, reads_lines}
@@ -528,22 +528,8 @@ plain_end false = tt
 
 unbroken : (line : List ℕ) → IsClean 13 line → without_return line ≡ line
 unbroken [] clean = refl
-unbroken (b ∷ []) clean =
-    elim (cases_Bool (b == 13)) [
-      | inl e ↦
-          let no : true ≡ false = rw e at clean in
-          absurd cc
-      | inr e ↦ rw e refl
-    ]
-unbroken (b ∷ c ∷ line) clean =
-    elim (cases_Bool (b == 13)) [
-      | inl e ↦
-          let no : true ≡ false = rw e at clean in
-          absurd cc
-      | inr e ↦
-          let rest : IsClean 13 (c ∷ line) = rw e at clean in
-          ap (λ (xs : List ℕ). b ∷ xs) (unbroken (c ∷ line) rest)
-    ]
+unbroken (b ∷ []) clean = rw (clean_parts 13 b [] clean).0 refl
+unbroken (b ∷ c ∷ line) clean = ap (λ (xs : List ℕ). b ∷ xs) (unbroken (c ∷ line) (clean_parts 13 b (c ∷ line) clean).1)
 
 line_of_text : (line rest : List ℕ) → IsPlain line → text_lines (line ++ 10 ∷ rest) ≡ line ∷ text_lines rest
 line_of_text line rest is =

@@ -16,7 +16,7 @@ use Rattle.hls_m3u8.specs.TextLines.{split_at}
 use Rattle.hls_m3u8.specs.Values.{short, range_tag}
 use Rattle.hls_m3u8.specs.Attributes.{attribute_texts, map_from, no_parts, map_tag}
 use Rattle.hls_m3u8.specs.Reading.{length_value}
-use Rattle.hls_m3u8.proofs.Cuts.{IsClean, split_seam}
+use Rattle.hls_m3u8.proofs.Cuts.{IsClean, clean_parts, split_seam}
 use Rattle.hls_m3u8.proofs.Digits.{numerals}
 use Rattle.hls_m3u8.proofs.Times.{digits_clean, seconds_read}
 
@@ -37,14 +37,8 @@ clean_decimal byte n other few = digits_clean byte (decimal n) other (decimal_di
 pub clean-append : (byte : ℕ) (xs ys : List ℕ) → IsClean byte xs → IsClean byte ys → IsClean byte (xs ++ ys)
 clean-append byte [] ys first second = second
 clean-append byte (x ∷ xs) ys first second =
-    elim (cases_Bool (x == byte)) [
-      | inl e ↦
-          let no : true ≡ false = rw e at first in
-          absurd cc
-      | inr e ↦
-          let rest : IsClean byte xs = rw e at first in
-          rw e (clean-append byte xs ys rest second)
-    ]
+    let parts = clean_parts byte x xs first in
+    rw parts.0 (clean-append byte xs ys parts.1 second)
 
 -- Ranges
 
@@ -92,16 +86,10 @@ quoted_front : (xs rest : List ℕ) → IsClean 34 xs → attribute_texts true (
 unfolding attribute_texts
 quoted_front [] rest clean = refl
 quoted_front (x ∷ xs) rest clean =
-    elim (cases_Bool (x == 34)) [
-      | inl e ↦
-          let no : true ≡ false = rw e at clean in
-          absurd cc
-      | inr e ↦
-          let more : IsClean 34 xs = rw e at clean in
-          elim (cases_Bool (x == 44)) [
-            | inl f ↦ rw (f, e, quoted_front xs rest more) refl
-            | inr f ↦ rw (f, e, quoted_front xs rest more) refl
-          ]
+    let parts = clean_parts 34 x xs clean in
+    elim (cases_Bool (x == 44)) [
+      | inl f ↦ rw (f, parts.0, quoted_front xs rest parts.1) refl
+      | inr f ↦ rw (f, parts.0, quoted_front xs rest parts.1) refl
     ]
 
 onto_text : (xs text : List ℕ) (texts : List (List ℕ)) → onto_front xs (text ∷ texts) ≡ (xs ++ text) ∷ texts

@@ -1,7 +1,7 @@
 //! What one line does. What was read stands in one place and is changed there: a line costs what it says, and an
 //! empty one nothing. What a refusal leaves of it is no matter, since the text is refused.
 
-ghost use Rattle.std.specs.Prelude.{◌≡◌, ◌<◌, ℕ, List, Some, option_map};
+ghost use Rattle.std.specs.Prelude.{◌≡◌, ◌<◌, ℕ, List, Some, None, true, is_some, option_map, IfSome, IfNone};
 ghost use Rattle.hls_m3u8.specs.TextLines.{split_at};
 ghost use Rattle.hls_m3u8.specs.Tags.{tag_of};
 ghost use Rattle.std.specs.Borrow.{Bor};
@@ -25,26 +25,28 @@ fn number(value: Option<&str>) -> Option<u64>
     short(value?)
 }
 
+// Keeps what may be given once.
+fn give_once<T: Copy>(place: &mut Option<T>, value: T) -> Option<()>
+    ensures given { IfSome result (λ _. (place.old ≡ None) × (place.new ≡ Some value)) }
+    ensures again { IfNone result (is_some place.old ≡ true) }
+{
+    if place.is_some() {
+        return None;
+    }
+    *place = Some(value);
+    Some(())
+}
+
 fn with_version(reading: &mut Reading<'_>, number: Option<u64>) -> Option<()>
     ensures { taken result reading.new ≡ with_version reading.old number }
 {
-    let n = number?;
-    if reading.version.is_some() {
-        return None;
-    }
-    reading.version = Some(n);
-    Some(())
+    give_once(&mut reading.version, number?)
 }
 
 fn with_target(reading: &mut Reading<'_>, number: Option<u64>) -> Option<()>
     ensures { taken result reading.new ≡ with_target reading.old number }
 {
-    let n = number?;
-    if reading.target.is_some() {
-        return None;
-    }
-    reading.target = Some(n);
-    Some(())
+    give_once(&mut reading.target, number?)
 }
 
 fn with_media_sequence(reading: &mut Reading<'_>, number: Option<u64>) -> Option<()>
@@ -54,11 +56,7 @@ fn with_media_sequence(reading: &mut Reading<'_>, number: Option<u64>) -> Option
     if reading.count != 0 {
         return None;
     }
-    if reading.media_sequence.is_some() {
-        return None;
-    }
-    reading.media_sequence = Some(n);
-    Some(())
+    give_once(&mut reading.media_sequence, n)
 }
 
 fn with_discontinuity_sequence(reading: &mut Reading<'_>, number: Option<u64>) -> Option<()>
@@ -68,11 +66,7 @@ fn with_discontinuity_sequence(reading: &mut Reading<'_>, number: Option<u64>) -
     if reading.count != 0 {
         return None;
     }
-    if reading.discontinuity_sequence.is_some() {
-        return None;
-    }
-    reading.discontinuity_sequence = Some(n);
-    Some(())
+    give_once(&mut reading.discontinuity_sequence, n)
 }
 
 fn kind_value(value: Option<&str>) -> Option<Kind>
@@ -84,12 +78,7 @@ fn kind_value(value: Option<&str>) -> Option<Kind>
 fn with_kind(reading: &mut Reading<'_>, kind: Option<Kind>) -> Option<()>
     ensures { taken result reading.new ≡ with_kind reading.old kind }
 {
-    let given = kind?;
-    if reading.kind.is_some() {
-        return None;
-    }
-    reading.kind = Some(given);
-    Some(())
+    give_once(&mut reading.kind, kind?)
 }
 
 fn length_value(value: Option<&str>) -> Option<u64>
@@ -101,12 +90,7 @@ fn length_value(value: Option<&str>) -> Option<u64>
 fn with_length(reading: &mut Reading<'_>, length: Option<u64>) -> Option<()>
     ensures { taken result reading.new ≡ with_length reading.old length }
 {
-    let us = length?;
-    if reading.us.is_some() {
-        return None;
-    }
-    reading.us = Some(us);
-    Some(())
+    give_once(&mut reading.us, length?)
 }
 
 fn range_value(value: Option<&str>) -> Option<RangeTag>
@@ -118,12 +102,7 @@ fn range_value(value: Option<&str>) -> Option<RangeTag>
 fn with_range_tag(reading: &mut Reading<'_>, range: Option<RangeTag>) -> Option<()>
     ensures { taken result reading.new ≡ with_range_tag reading.old range }
 {
-    let tag = range?;
-    if reading.range.is_some() {
-        return None;
-    }
-    reading.range = Some(tag);
-    Some(())
+    give_once(&mut reading.range, range?)
 }
 
 fn map_value(value: Option<&str>) -> Option<Resource<'_>>
@@ -194,11 +173,7 @@ fn with_date(reading: &mut Reading<'_>, date: Option<i64>) -> Option<()>
     let Some(us) = date else {
         return Some(());
     };
-    if reading.date.is_some() {
-        return None;
-    }
-    reading.date = Some(us);
-    Some(())
+    give_once(&mut reading.date, us)
 }
 
 fn with_end(reading: &mut Reading<'_>, value: Option<&str>) -> Option<()>

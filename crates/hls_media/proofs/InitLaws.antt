@@ -4,8 +4,8 @@ use Rattle.hls_media_laws.specs.Kinds.{mdhd_type, hdlr_type, tkhd_type, mdia_typ
 use Rattle.hls_media_laws.specs.declared.track.Media.{Media}
 use Rattle.hls_media_laws.specs.Inits.{versioned_field, handler_field, media_from, media_of, track_from, track_at}
 use Rattle.hls_media.specs.Folds.{over}
-use Rattle.hls_media.specs.Firsts.{first_step, both, in_media, media_so_far, media_step, whole_media, in_track, track_so_far, track_step, whole_track}
-use Rattle.hls_media.proofs.Overs.{over-finish, over-seen}
+use Rattle.hls_media.specs.Firsts.{media_step, whole_media, track_step, whole_track}
+use Rattle.hls_media.proofs.Overs.{over-finish}
 use Rattle.hls_media.proofs.FirstLaws.{over-firsts}
 
 no_scale : (handler : Option ℕ) → media_from None handler ≡ None
@@ -22,16 +22,14 @@ no_media : (id : Option ℕ) → track_from id None ≡ None
 no_media None = refl
 no_media (Some i) = refl
 
-pub over-media_of : (content : List ℕ) → option_and_then whole_media (over media_step Some (record { scale = None; handler = None }) content) ≡ media_of content
+pub over-media_of : (content : List ℕ) → option_and_then whole_media (over media_step Some (None, None) content) ≡ media_of content
 unfolding media_of
 over-media_of content =
-    over-finish media_step whole_media (record { scale = None; handler = None }) content
-    ∙ over-seen in_media media_so_far (λ t. refl) (first_step versioned_field handler_field mdhd_type hdlr_type) (both media_from) (record { scale = None; handler = None }) content
+    over-finish media_step whole_media (None, None) content
     ∙ over-firsts versioned_field handler_field mdhd_type hdlr_type media_from refl no_scale no_handler content
 
-pub over-track_at : (content : List ℕ) → option_and_then whole_track (over track_step Some (record { id = None; media = None }) content) ≡ track_at content
+pub over-track_at : (content : List ℕ) → option_and_then whole_track (over track_step Some (None, None) content) ≡ track_at content
 unfolding track_at
 over-track_at content =
-    over-finish track_step whole_track (record { id = None; media = None }) content
-    ∙ over-seen in_track track_so_far (λ t. refl) (first_step versioned_field media_of tkhd_type mdia_type) (both track_from) (record { id = None; media = None }) content
+    over-finish track_step whole_track (None, None) content
     ∙ over-firsts versioned_field media_of tkhd_type mdia_type track_from refl no_id no_media content

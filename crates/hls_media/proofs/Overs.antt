@@ -52,26 +52,3 @@ finish_boxes step finish s (Some cs) = along-finish step finish cs s
 pub over-finish : {S R : Type 0} (step : S → ℕ → List ℕ → Option S) (finish : S → Option R) (s : S) (bytes : List ℕ) → option_and_then finish (over step Some s bytes) ≡ over step finish s bytes
 unfolding over
 over-finish step finish s bytes = finish_boxes step finish s (children bytes)
-
--- a walk that keeps the same in another form
-module _ {S T R : Type 0} (view : S → T) (back : T → S) (same : (t : T) → view (back t) ≡ t) (step : T → ℕ → List ℕ → Option T) (finish : T → Option R) where
-  abbrev seen : S → ℕ → List ℕ → Option S
-  seen s kind content = option_map back (step (view s) kind content)
-
-  seen_next : (cs : List Child) → ((s : S) → along seen (λ s. finish (view s)) s cs ≡ along step finish (view s) cs) → (next : Option T)
-      → option_and_then (λ s. along seen (λ s. finish (view s)) s cs) (option_map back next) ≡ option_and_then (λ t. along step finish t cs) next
-  seen_next cs ih None = refl
-  seen_next cs ih (Some t) = ih (back t) ∙ ap (λ t. along step finish t cs) (same t)
-
-  along-seen : (cs : List Child) (s : S) → along seen (λ s. finish (view s)) s cs ≡ along step finish (view s) cs
-  unfolding along
-  along-seen [] s = refl
-  along-seen (c ∷ cs) s = seen_next cs (along-seen cs) (step (view s) c.kind c.content)
-
-  seen_boxes : (s : S) (boxes : Option (List Child)) → option_and_then (along seen (λ s. finish (view s)) s) boxes ≡ option_and_then (along step finish (view s)) boxes
-  seen_boxes s None = refl
-  seen_boxes s (Some cs) = along-seen cs s
-
-  pub over-seen : (s : S) (bytes : List ℕ) → over seen (λ s. finish (view s)) s bytes ≡ over step finish (view s) bytes
-  unfolding over
-  over-seen s bytes = seen_boxes s (children bytes)

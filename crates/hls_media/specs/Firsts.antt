@@ -5,8 +5,6 @@ use Rattle.hls_media_laws.specs.Kinds.{mdhd_type, hdlr_type, tkhd_type, mdia_typ
 use Rattle.hls_media_laws.specs.declared.track.Media.{Media}
 use Rattle.hls_media_laws.specs.declared.track.Track.{Track}
 use Rattle.hls_media_laws.specs.Inits.{versioned_field, handler_field, media_from, media_of, track_from}
-use Rattle.hls_media.specs.declared.medias.MediaSoFar.{MediaSoFar}
-use Rattle.hls_media.specs.declared.medias.TrackSoFar.{TrackSoFar}
 
 -- what was kept of either
 abbrev pub Firsts : Type 0 → Type 0 → Type 0
@@ -26,33 +24,21 @@ abbrev pub weight : {X Y : Type 0} → ℕ → ℕ → Firsts X Y → ℕ
 weight a b s = (if is_some s.0 then a else 0) + (if is_some s.1 then b else 0)
 
 -- of an `mdia`: its timescale, and its handler
-abbrev pub in_media : MediaSoFar → Firsts ℕ ℕ
-in_media s = (s.scale, s.handler)
+abbrev pub media_step : Firsts ℕ ℕ → ℕ → List ℕ → Option (Firsts ℕ ℕ)
+media_step s kind content = first_step versioned_field handler_field mdhd_type hdlr_type s kind content
 
-abbrev pub media_so_far : Firsts ℕ ℕ → MediaSoFar
-media_so_far s = record { scale = s.0; handler = s.1 }
+abbrev pub whole_media : Firsts ℕ ℕ → Option Media
+whole_media s = both media_from s
 
-abbrev pub media_step : MediaSoFar → ℕ → List ℕ → Option MediaSoFar
-media_step s kind content = option_map media_so_far (first_step versioned_field handler_field mdhd_type hdlr_type (in_media s) kind content)
-
-abbrev pub whole_media : MediaSoFar → Option Media
-whole_media s = both media_from (in_media s)
-
-abbrev pub media_weight : MediaSoFar → ℕ
-media_weight s = weight 24 20 (in_media s)
+abbrev pub media_weight : Firsts ℕ ℕ → ℕ
+media_weight s = weight 24 20 s
 
 -- of a `trak`: its number, and its media
-abbrev pub in_track : TrackSoFar → Firsts ℕ Media
-in_track s = (s.id, s.media)
+abbrev pub track_step : Firsts ℕ Media → ℕ → List ℕ → Option (Firsts ℕ Media)
+track_step s kind content = first_step versioned_field media_of tkhd_type mdia_type s kind content
 
-abbrev pub track_so_far : Firsts ℕ Media → TrackSoFar
-track_so_far s = record { id = s.0; media = s.1 }
+abbrev pub whole_track : Firsts ℕ Media → Option Track
+whole_track s = both track_from s
 
-abbrev pub track_step : TrackSoFar → ℕ → List ℕ → Option TrackSoFar
-track_step s kind content = option_map track_so_far (first_step versioned_field media_of tkhd_type mdia_type (in_track s) kind content)
-
-abbrev pub whole_track : TrackSoFar → Option Track
-whole_track s = both track_from (in_track s)
-
-abbrev pub track_weight : TrackSoFar → ℕ
-track_weight s = weight 24 52 (in_track s)
+abbrev pub track_weight : Firsts ℕ Media → ℕ
+track_weight s = weight 24 52 s

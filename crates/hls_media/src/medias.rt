@@ -13,19 +13,11 @@ use hls_media_laws::kinds::{HDLR, MDHD, MDIA, TKHD};
 use hls_media_laws::track::{Media, Track};
 use hls_time::Ticks;
 
-/// What an `mdia` has shown so far.
-#[derive(Clone, Copy)]
-pub struct MediaSoFar {
-    pub scale: Option<u32>,
-    pub handler: Option<u32>,
-}
+/// The timescale and the handler that an `mdia` has shown so far.
+type MediaSoFar = (Option<u32>, Option<u32>);
 
-/// What a `trak` has shown so far.
-#[derive(Clone, Copy)]
-pub struct TrackSoFar {
-    pub id: Option<u32>,
-    pub media: Option<Media>,
-}
+/// The number and the media that a `trak` has shown so far.
+type TrackSoFar = (Option<u32>, Option<Media>);
 
 /// What is looked for in an `mdia`: its timescale, and its handler.
 #[derive(Clone, Copy)]
@@ -47,27 +39,10 @@ impl Gather for InMdia {
         content: &[u8],
         ticks: &mut Ticks,
     ) -> Option<MediaSoFar> {
+        let (scale, handler) = so_far;
         match kind {
-            MDHD => {
-                if so_far.scale.is_some() {
-                    return Some(so_far);
-                }
-                let scale = versioned_field(content)?;
-                Some(MediaSoFar {
-                    scale: Some(scale),
-                    handler: so_far.handler,
-                })
-            }
-            HDLR => {
-                if so_far.handler.is_some() {
-                    return Some(so_far);
-                }
-                let handler = handler_field(content)?;
-                Some(MediaSoFar {
-                    scale: so_far.scale,
-                    handler: Some(handler),
-                })
-            }
+            MDHD if scale.is_none() => Some((Some(versioned_field(content)?), handler)),
+            HDLR if handler.is_none() => Some((scale, Some(handler_field(content)?))),
             _ => Some(so_far),
         }
     }
@@ -82,8 +57,8 @@ fn media_from(so_far: MediaSoFar) -> Option<Media>
     ensures value { result ≡ whole_media so_far }
     ensures least { IfSome result (λ _. 44 ≤ media_weight so_far) }
 {
-    let scale = so_far.scale?;
-    let handler = so_far.handler?;
+    let scale = so_far.0?;
+    let handler = so_far.1?;
     Some(Media { scale, handler })
 }
 
@@ -95,11 +70,7 @@ fn media_of(content: &[u8], ticks: &mut Ticks) -> Option<Media>
     ensures least { IfSome result (λ _. 44 ≤ length content.now) }
     ensures counted { RisesBy (length content.now) ticks.old ticks.new }
 {
-    let nothing = MediaSoFar {
-        scale: None,
-        handler: None,
-    };
-    let found = over_boxes(&InMdia, nothing, content, ticks)?;
+    let found = over_boxes(&InMdia, (None, None), content, ticks)?;
     media_from(found)
 }
 
@@ -123,27 +94,10 @@ impl Gather for InTrak {
         content: &[u8],
         ticks: &mut Ticks,
     ) -> Option<TrackSoFar> {
+        let (id, media) = so_far;
         match kind {
-            TKHD => {
-                if so_far.id.is_some() {
-                    return Some(so_far);
-                }
-                let id = versioned_field(content)?;
-                Some(TrackSoFar {
-                    id: Some(id),
-                    media: so_far.media,
-                })
-            }
-            MDIA => {
-                if so_far.media.is_some() {
-                    return Some(so_far);
-                }
-                let media = media_of(content, ticks)?;
-                Some(TrackSoFar {
-                    id: so_far.id,
-                    media: Some(media),
-                })
-            }
+            TKHD if id.is_none() => Some((Some(versioned_field(content)?), media)),
+            MDIA if media.is_none() => Some((id, Some(media_of(content, ticks)?))),
             _ => Some(so_far),
         }
     }
@@ -158,8 +112,8 @@ fn track_from(so_far: TrackSoFar) -> Option<Track>
     ensures value { result ≡ whole_track so_far }
     ensures least { IfSome result (λ _. 76 ≤ track_weight so_far) }
 {
-    let id = so_far.id?;
-    let media = so_far.media?;
+    let id = so_far.0?;
+    let media = so_far.1?;
     Some(Track {
         id,
         scale: media.scale,
@@ -176,10 +130,6 @@ pub fn track_at(content: &[u8]) -> Option<Track>
     ensures value { result ≡ track_by_lists content.now }
     ensures least { IfSome result (λ _. 76 ≤ length content.now) }
 {
-    let nothing = TrackSoFar {
-        id: None,
-        media: None,
-    };
-    let found = over_boxes(&InTrak, nothing, content, &mut Ticks::new())?;
+    let found = over_boxes(&InTrak, (None, None), content, &mut Ticks::new())?;
     track_from(found)
 }

@@ -46,26 +46,15 @@ impl Gather for InTraf {
         ticks: &mut Ticks,
     ) -> Option<Noted> {
         match kind {
-            TFHD => {
-                if so_far.head.is_some() {
-                    return None;
-                }
-                let head = head_of(content, ticks)?;
-                Some(Noted {
-                    head: Some(head),
-                    time: so_far.time,
-                })
-            }
-            TFDT => {
-                if so_far.time.is_some() {
-                    return None;
-                }
-                let time = time_of(content, ticks)?;
-                Some(Noted {
-                    head: so_far.head,
-                    time: Some(time),
-                })
-            }
+            TFHD if so_far.head.is_none() => Some(Noted {
+                head: Some(head_of(content, ticks)?),
+                ..so_far
+            }),
+            TFDT if so_far.time.is_none() => Some(Noted {
+                time: Some(time_of(content, ticks)?),
+                ..so_far
+            }),
+            TFHD | TFDT => None,
             _ => Some(so_far),
         }
     }

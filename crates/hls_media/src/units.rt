@@ -79,10 +79,8 @@ fn shape_of(unit: &[u8], ticks: &mut Ticks) -> Option<Shape>
         let size = header.size as usize;
         match header.kind {
             MOOV => return None,
+            MOOF if met.is_some() => return None,
             MOOF => {
-                if met.is_some() {
-                    return None;
-                }
                 met = Some(Met {
                     begin: at,
                     from: at + header.head as usize,

@@ -1,5 +1,5 @@
 use Rattle.std.proofs.Common.{refl, sym, ◌∙◌, arith}
-use Rattle.hls_core_laws.proofs.Lists.{at_below}
+use Rattle.std.proofs.lemmas.Option.{slice_get_within}
 use Rattle.hls_core.proofs.Compared.{same_at, same_more}
 use Rattle.hls_core.proofs.follows.same_sides.Goals as goal
 
@@ -19,6 +19,6 @@ loop-rendition-preserved c =
 pub returns : goal.returns
 returns c = (
   λ yes r ha hb at_a at_b. c.loop-rendition.invariant r ha hb
-      (omega (arith, at_below c.args.a.now.bytes r ha at_a, at_below c.args.b.now.bytes r hb at_b)) at_a at_b,
+      (omega (arith, slice_get_within c.args.a.now.bytes r ha at_a, slice_get_within c.args.b.now.bytes r hb at_b)) at_a at_b,
   λ same. refl,
 )

@@ -17,13 +17,13 @@ returns-in-1836019574-clause-value c =
     let some : 0 < length c.boxes.rest.now = grind (arith, nat_tests) in
     sym (layout-short c.args.unit.now c.if-unit.false ∙ c.boxes.invariant.value ∙ come-moov c.args.unit.now c.boxes.met c.boxes.rest.now c.in-Some.header some (sym c.counted_header.ensures.value ∙ c.in-Some.is) c.in-1836019574.is)
 
-pub returns-then-is_some-clause-value : goal.returns-then-is_some-clause-value
-returns-then-is_some-clause-value c =
+pub returns-in-1836019558-clause-value : goal.returns-in-1836019558-clause-value
+returns-in-1836019558-clause-value c =
     let some : 0 < length c.boxes.rest.now = grind (arith, nat_tests) in
     sym (layout-short c.args.unit.now c.if-unit.false ∙ c.boxes.invariant.value ∙ come-moof-again c.args.unit.now c.boxes.met c.boxes.rest.now c.in-Some.header some (sym c.counted_header.ensures.value ∙ c.in-Some.is) c.in-1836019558.is (search rules))
 
-pub boxes-preserved-in-1836019558 : goal.boxes-preserved-in-1836019558
-boxes-preserved-in-1836019558 c =
+pub boxes-preserved-in-1836019558-2 : goal.boxes-preserved-in-1836019558-2
+boxes-preserved-in-1836019558-2 c =
     let some : 0 < length c.boxes.rest.now = grind (arith, nat_tests) in
     rw (take_rest c.boxes.rest.now c.in-Some.header.size)
     (record {
