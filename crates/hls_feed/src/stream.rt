@@ -19,6 +19,7 @@ fn drain<T: Taker>(
 ) -> Result<(), Untaken>
     requires { T.fits taker.now kept.old channel.old }
     ensures fits { T.fits taker.now kept.new channel.new }
+    ensures goes { T.goes kept.old channel.old kept.new channel.new }
     ensures drains { Drains (T.comes taker.now) reader.old reader.new (T.progress kept.old channel.old) (T.progress kept.new channel.new) result }
 {
     while let Some(part) = reader.take()? {
@@ -38,6 +39,7 @@ pub fn feed<T: Taker>(
 ) -> Result<(), Untaken>
     requires { T.fits taker.now kept.old channel.old }
     ensures fits { T.fits taker.now kept.new channel.new }
+    ensures goes { T.goes kept.old channel.old kept.new channel.new }
     ensures feeds { Feeds (T.comes taker.now) reader.old piece.now reader.new (T.progress kept.old channel.old) (T.progress kept.new channel.new) result }
 {
     let fault = match reader.feed(piece) {

@@ -26,6 +26,14 @@ pub trait Taker {
     /// What a part comes to: it is taken, or refused, or memory is wanted for it.
     ghost comes: { Self → Progress → PartData → Progress → Result (Unit {0}) UntakenBy → Type 0 };
 
+    /// What taking did to the channel.
+    ghost goes: { Self.Kept → Self.Channel → Self.Kept → Self.Channel → Type 0 };
+
+    ghost stays: { (kept : Self.Kept) (channel : Self.Channel) → goes kept channel kept channel };
+
+    ghost goes_on: { (kept : Self.Kept) (channel : Self.Channel) (later : Self.Kept) (now : Self.Channel) (last : Self.Kept) (then : Self.Channel)
+        → goes kept channel later now → goes later now last then → goes kept channel last then };
+
     /// Takes the next part.
     fn take(
         &self,
@@ -35,5 +43,6 @@ pub trait Taker {
     ) -> Result<(), Untaken>
         requires { fits self.now kept.old channel.old }
         ensures fits { fits self.now kept.new channel.new }
+        ensures goes { goes kept.old channel.old kept.new channel.new }
         ensures comes { comes self.now (progress kept.old channel.old) part (progress kept.new channel.new) result };
 }

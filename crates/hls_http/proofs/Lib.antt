@@ -1,7 +1,6 @@
 pub mod BodySteps
 mod Buffers
 mod Digits
-mod DropLaws
 pub mod HeadLaws
 mod QueryLaws
 pub mod ReplyLaws

@@ -1,18 +1,17 @@
 -- What is told of a source: what it holds, what was taken last, and the reader inside.
-use Rattle.std.specs.Prelude.{◌≡◌, ℕ, ◌+◌, ◌*◌, ◌-◌, ◌<◌, List, [], ◌++◌, length, take, drop, Option, Some}
+use Rattle.std.specs.Prelude.{◌≡◌, ℕ, ◌+◌, ◌*◌, ◌<◌, List, [], ◌++◌, length, Option, Some}
 use Rattle.hls_io.specs.Counted.{calls_left, failures_of, inside_of}
-use Rattle.hls_io.specs.Rose.{Rose}
 use Rattle.hls_http.specs.declared.source.Source.{Source}
-use Rattle.hls_http.specs.declared.source.Filled.{Filled}
-use Rattle.hls_http.specs.declared.source.Filled.TheVariants.{More, AtEnd, Failed}
+use Rattle.hls_http.specs.declared.input.Filled.{Filled}
+use Rattle.hls_http.specs.declared.input.Filled.TheVariants.{More, AtEnd, Failed}
 
 -- read, and not yet taken
 abbrev pub held_of : {R : Type 0} → Source R → List ℕ
-held_of source = take (source.end - source.start) (drop source.start source.buffer.items)
+held_of source = source.input.unread
 
 -- taken last
 abbrev pub taken_of : {R : Type 0} → Source R → List ℕ
-taken_of source = take (source.start - source.from) (drop source.from source.buffer.items)
+taken_of source = source.input.taken
 
 abbrev pub reader_of : {R : Type 0} → Source R → R
 reader_of source = inside_of source.reader
@@ -53,8 +52,3 @@ abbrev pub Fills : List ℕ → List ℕ → List ℕ → Option (List ℕ) → 
 Fills held rest now left More = Grows held rest now left
 Fills held rest now left AtEnd = (now ≡ held) × (rest ≡ []) × (left ≡ Some [])
 Fills held rest now left Failed = (now ≡ held) × (left ≡ Some rest)
-
-abbrev pub CountsFill : Filled → ℕ → ℕ → Type 0
-CountsFill More old new = new ≡ old
-CountsFill AtEnd old new = new ≡ old
-CountsFill Failed old new = Rose old new

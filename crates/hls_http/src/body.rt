@@ -5,7 +5,8 @@ ghost use Rattle.hls_http_laws.specs.Bodies.{after_line};
 ghost use Rattle.hls_http.specs.Bodies.{CountsBody, CountsWait, Moves, Passes, Waits, move_len};
 ghost use Rattle.hls_http.specs.Source.{FromSource, held_of, read_failures, taken_of, work_left};
 
-use crate::source::{Filled, Source};
+use crate::input::Filled;
+use crate::source::Source;
 use hls_http_laws::body::Body;
 use hls_http_laws::limits::{MOST_FIELDS, MOST_HEAD};
 use httparse::spans::{EMPTY_HEADER_SPAN, parse_headers};
@@ -23,7 +24,7 @@ pub enum Move {
 
 /// Why nothing of a body stands at the front.
 #[derive(Clone, Copy, Debug, PartialEq, Eq, Drop)]
-enum Lack {
+pub enum Lack {
     /// More bytes are needed.
     Wait,
     /// Nothing of the grammar stands here, whatever follows.
@@ -157,7 +158,8 @@ fn find_trailers(held: &[u8]) -> Result<Move, Lack>
     }
 }
 
-fn find_move(held: &[u8], body: Body) -> Result<Move, Lack>
+/// What stands at the front of the held bytes of a body that isn't over. No memory is taken.
+pub fn find_move(held: &[u8], body: Body) -> Result<Move, Lack>
     requires { body ≢ Body.Length 0 }
     ensures { Moves body held.now result }
 {
@@ -170,7 +172,7 @@ fn find_move(held: &[u8], body: Body) -> Result<Move, Lack>
 }
 
 /// Reads until a move stands at the front of what is held; nothing is taken.
-pub fn wait_move<R: Read>(source: &mut Source<R>, body: Body) -> Result<Move, BodyEnd>
+fn wait_move<R: Read>(source: &mut Source<R>, body: Body) -> Result<Move, BodyEnd>
     requires { body ≢ Body.Length 0 }
     ensures waits { FromSource R.remaining source.old source.new (Waits body) result }
     ensures counts { CountsWait result (read_failures source.old) (read_failures source.new) }

@@ -7,7 +7,8 @@ ghost use Rattle.hls_http.specs.Heads.{method_of, CountsHead, Finds, Hears, IsHe
 ghost use Rattle.hls_http.specs.Source.{FromSource, read_failures, taken_of};
 
 use crate::fields::{asked_range, body, closes_connection, waits_for_continue};
-use crate::source::{Filled, Source};
+use crate::input::Filled;
+use crate::source::Source;
 use hls_http_laws::body::Body;
 use hls_http_laws::fault::HttpFault;
 use hls_http_laws::limits::{MOST_FIELDS, MOST_HEAD};
@@ -71,7 +72,7 @@ pub struct Head {
 
 /// Why a text shows no head.
 #[derive(Clone, Copy, Debug, PartialEq, Eq, Drop)]
-enum Look {
+pub enum Look {
     /// More bytes are needed.
     Partial,
     /// No bytes can follow that make it a head.
@@ -112,8 +113,8 @@ fn kept(text: &[u8], headers: &[HeaderSpan], spans: &RequestSpans) -> Head
     }
 }
 
-/// The head at the front of a text, and its length.
-fn find_head(text: &[u8]) -> Result<(Head, usize), Look>
+/// The head at the front of a text, and its length with that of the empty lines before it. No memory is taken.
+pub fn find_head(text: &[u8]) -> Result<(Head, usize), Look>
     ensures { Finds text.now result }
 {
     let mut headers = [EMPTY_HEADER_SPAN; MOST_FIELDS];

@@ -67,7 +67,7 @@ fn plan_by(begins: Result<Body, HttpFault>, known: bool, feeds: bool) -> Plan
 
 /// What is done with a request, by whether its path is known, and whether the route takes its body part by part: the
 /// fields' fault comes first, then an unknown path, then a Content-Length past 65536 bytes of a body to be dropped. So
-/// a body to be dropped fits [`drop_body`](crate::drop_body).
+/// of a body to be dropped no more are [announced](crate::announced).
 pub fn plan(head: &Head, known: bool, feeds: bool) -> Plan
     ensures plan { (h : RequestHead) (text : List ℕ) → IsHead h head.now text → result ≡ spec.plan_by (begins h) known feeds }
     ensures by { result ≡ spec.plan_by head.now.body known feeds }

@@ -2,9 +2,10 @@
 
 ghost use Rattle.std.specs.Prelude.{◌≡◌, ◌++◌, IfOk};
 ghost use Rattle.std.specs.Fmt.{decimal};
-ghost use Rattle.hls_http_laws.specs.Reply.{close_line, content_lines, crlf, extra_line, head_text_of, refusal, status_line, type_line};
+ghost use Rattle.hls_http_laws.specs.Reply.{close_line, content_lines, crlf, extra_line, head_text_of, refusal, reply_text, status_line, type_line};
 
 use hls_http_laws::reply::{Extra, Kind, ReplyHead, Status};
+use hls_output::{MOST_GATHERED, Media, Output, Resource};
 use std::alloc::{AllocError, Global};
 
 /// Room for most heads, taken at once.
@@ -103,7 +104,7 @@ fn end_text(closing: bool) -> &'static [u8]
 }
 
 /// The text of a reply's head, as of [`head_bytes`], in memory that has room for so many bytes behind it.
-pub(crate) fn head_with_room(
+fn head_with_room(
     alloc: Global,
     head: &ReplyHead<'_>,
     len: u64,
@@ -125,6 +126,26 @@ pub fn head_bytes(alloc: Global, head: &ReplyHead<'_>, len: u64) -> Result<Vec<u
     ensures { IfOk result (λ v. v.items ≡ head_text_of head.now len) }
 {
     head_with_room(alloc, head, len, 0)
+}
+
+/// A reply whose content is a part of a resource, to be sent as the resource's own slices; to HEAD without it. Memory is taken
+/// for the head, and for as many bytes of small slices as go out at once.
+pub fn reply_output<M: Resource + Drop>(
+    alloc: Global,
+    head: &ReplyHead<'_>,
+    content: Media<M>,
+    to_head: bool,
+) -> Result<Output<M>, AllocError>
+    ensures { IfOk result (λ output. output ≡ reply_text head.now content to_head) }
+{
+    let len = content.len();
+    if to_head {
+        let text = head_bytes(alloc, head, len)?;
+        return Ok(Output::of_text(text));
+    }
+    let room = len.min(MOST_GATHERED as u64) as usize;
+    let text = head_with_room(alloc, head, len, room)?;
+    Ok(Output::of_media(text, content))
 }
 
 /// The body of a refusal: its name.

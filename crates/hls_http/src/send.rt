@@ -7,10 +7,10 @@ ghost use Rattle.hls_io.specs.Writing.{CountsWrite, Writes};
 ghost use Rattle.hls_http_laws.specs.Reply.{head_text_of, reply_text};
 ghost use Rattle.hls_http.specs.Replies.{CountsReply, Replies};
 
-use crate::reply::{head_bytes, head_with_room};
+use crate::reply::{head_bytes, reply_output};
 use hls_http_laws::reply::ReplyHead;
 use hls_io::{Counted, write_whole};
-use hls_output::{MOST_GATHERED, Media, Output, Resource, Text};
+use hls_output::{Media, Output, Resource, Text};
 use std::alloc::Global;
 use std::io::Write;
 
@@ -87,11 +87,10 @@ pub fn write_media<W: Write, M: Resource + Drop>(
     ensures writes { ToOutput W.contents writer.old writer.new (λ held. Replies held (reply_text head.now media false)) result }
     ensures counts { CountsReply result (failures_of writer.old) (failures_of writer.new) }
 {
-    let len = media.len();
-    let Ok(text) = head_with_room(alloc, head, len, len.min(MOST_GATHERED as u64) as usize) else {
+    let Ok(output) = reply_output(alloc, head, media, false) else {
         return Err(ReplyEnd::Memory);
     };
-    if !write_output(writer, Output::of_media(text, media)) {
+    if !write_output(writer, output) {
         return Err(ReplyEnd::WriteFailed);
     }
     Ok(())

@@ -1,21 +1,19 @@
 //! A session: the requests that come of a reader, and the replies that go to a writer.
 
-ghost use Rattle.std.specs.Prelude.{◌≡◌, ◌≤◌, ℕ, false, true};
+ghost use Rattle.std.specs.Prelude.{◌≡◌, ℕ, false, true};
 ghost use Rattle.hls_io.specs.Counted.{failures_of, inside_of};
 ghost use Rattle.hls_io.specs.Streams.{ToOutput};
 ghost use Rattle.hls_http_laws.specs.Reply.{head_text_of, no_memory_to};
 ghost use Rattle.hls_http.specs.Bodies.{CountsBody, Passes};
-ghost use Rattle.hls_http.specs.Drained.{announced_by, CountsDrop, Drops};
 ghost use Rattle.hls_http.specs.Heads.{CountsHead, Hears};
 ghost use Rattle.hls_http.specs.Replies.{Answers, AnswersMemory, AnswersSent, AnswersText, CountsAnswer, CountsEnding, CountsReply, EndsBy};
 ghost use Rattle.hls_http.specs.Source.{FromSource, read_failures, taken_of};
 
 use crate::body::{BodyEnd, Given, read_body};
-use crate::drain::DropEnd;
+use crate::head;
 use crate::head::{Head, HeadEnd};
 use crate::send::{ReplyEnd, write_head, write_media, write_reply};
 use crate::source::Source;
-use crate::{drain, head};
 use hls_http_laws::body::Body;
 use hls_http_laws::end::SessionEnd;
 use hls_http_laws::reply::{ReplyHead, no_memory_head_text, no_memory_text};
@@ -68,16 +66,6 @@ impl<R: Read, W> Session<R, W> {
         ensures writer { self.new.writer ≡ self.old.writer }
     {
         read_body(&mut self.source, body)
-    }
-
-    /// Takes a body of at most 65536 bytes to its end and drops it, as [`drop_body`](drain::drop_body) does.
-    pub fn drop_body(&mut self, body: &mut Body) -> Result<(), DropEnd>
-        requires { announced_by body.old ≤ 65536 }
-        ensures drops { FromSource R.remaining self.old.source self.new.source (λ input. Drops body.old input body.new) result }
-        ensures counts { CountsDrop result (read_failures self.old.source) (read_failures self.new.source) }
-        ensures writer { self.new.writer ≡ self.old.writer }
-    {
-        drain::drop_body(&mut self.source, body)
     }
 }
 

@@ -2,3 +2,4 @@ pub mod BodyLaws
 mod Examples
 pub mod Lists
 mod RequestLaws
+pub mod StayLaws

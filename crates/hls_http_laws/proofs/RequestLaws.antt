@@ -16,7 +16,7 @@ use Rattle.hls_http_laws.proofs.BodyLaws.{body_one, broken_body, run_left, size_
 same_begin : (x y : RequestHead) (b d : Body) → x ≡ y → begins x ≡ Ok b → begins y ≡ Ok d → d ≡ b
 same_begin x y b d same p q = cc (ap begins same)
 
-one_left : (text middle after : List ℕ) (r q : Request) → ReadsOne text r middle → ReadsOne text q after → (r ≡ q) × (middle ≡ after)
+pub one_left : (text middle after : List ℕ) (r q : Request) → ReadsOne text r middle → ReadsOne text q after → (r ≡ q) × (middle ≡ after)
 one_left text middle after r q x y =
     let heads = request_unique text r.head q.head x.middle y.middle x.head.reads y.head.reads in
     let bodies = same_begin r.head q.head x.body y.body heads.0 x.begins_is y.begins_is in
@@ -31,7 +31,7 @@ no_empty_request : (h : RequestHead) (rest : List ℕ) → [] ≡ print_request 
 unfolding print_request
 no_empty_request h rest e = absurd (omega (arith, ap length e, length-append {A = ℕ}))
 
-open_body : (b : Body) (later content rest : List ℕ) → IsOpen b later → IsBody b later content rest → ⊥
+pub open_body : (b : Body) (later content rest : List ℕ) → IsOpen b later → IsBody b later content rest → ⊥
 open_body (Length n) later content rest s h = absurd (omega (arith, ap length h.0, s.0, h.1, ap length s.1, length-append content rest))
 open_body Size later content rest s h =
     let w = size_first h.chunks h.last later h.after h.each h.last_line h.whole in s.1 w.step.1.line w.middle w.step.1.reads

@@ -10,3 +10,4 @@ pub mod Query
 pub mod Range
 pub mod Reply
 pub mod Requests
+pub mod Stays

@@ -2,6 +2,7 @@
 
 ghost use Rattle.std.specs.Prelude.{◌≡◌};
 ghost use Rattle.hls_http_laws.specs.Laws.{BodiesAreOne, BodiesByGrammar, RefusedBodies, StreamsAreOne};
+ghost use Rattle.hls_http_laws.specs.Stays.{BadFieldsStay, BadHeadsStay, BodiesStay, BrokenBodies, BrokenBodiesStay, HeadsAreOne, HeadsStay, LargeHeadsStay, OpenBodies, RequestsAreOne, RequestsStay, RunsJoin, RunsSplit, RunsStay, SizesCount, StreamsJoin, StreamsStay};
 ghost use Rattle.hls_http_laws.specs.Limits.{dropped_limit, field_limit, head_limit, length_digits, range_limit};
 
 use crate::limits::{MOST_DROPPED, MOST_FIELDS, MOST_HEAD, MOST_LENGTH_DIGITS, MOST_RANGE};
@@ -31,4 +32,52 @@ pub fn bodies_are_one()
 /// A stream has one list of requests, however it was read.
 pub fn streams_are_one()
     ensures { StreamsAreOne }
+{}
+
+/// What stands at the front of a text stands there whatever follows: a head, some of a body or all of it, a request, and
+/// requests one behind the other.
+pub fn fronts_stay()
+    ensures heads { HeadsStay }
+    ensures runs { RunsStay }
+    ensures bodies { BodiesStay }
+    ensures requests { RequestsStay }
+    ensures streams { StreamsStay }
+{}
+
+/// What is refused is refused whatever follows: what can't become a head, a head past the limits, a head whose Host or framing
+/// is bad, and a body that breaks the grammar.
+pub fn refusals_stay()
+    ensures heads { BadHeadsStay }
+    ensures sizes { LargeHeadsStay }
+    ensures fields { BadFieldsStay }
+    ensures bodies { BrokenBodiesStay }
+{}
+
+/// Some of a body and then some more of it is so much of it, and so are requests behind requests.
+pub fn fronts_join()
+    ensures runs { RunsJoin }
+    ensures streams { StreamsJoin }
+{}
+
+/// Of some of a body each front is some of it.
+pub fn runs_split()
+    ensures { RunsSplit }
+{}
+
+/// A text begins with at most one head, and with at most one request.
+pub fn requests_are_one()
+    ensures heads { HeadsAreOne }
+    ensures requests { RequestsAreOne }
+{}
+
+/// Behind some of a body that then breaks the grammar no body ends, whatever follows; and none where the text ends within it.
+pub fn no_body_ends()
+    ensures broken { BrokenBodies }
+    ensures within { OpenBodies }
+{}
+
+/// A body has at least as many bytes as were taken of it and its next size line announces, so one that announces too many is too
+/// large, whatever follows.
+pub fn sizes_count()
+    ensures { SizesCount }
 {}

@@ -97,8 +97,8 @@ may follow check or lint.
 
 An example: a channel of one rendition, one encoder, one player.
   hls_origin serve 127.0.0.1:8080 v720:video:3000000:0 &
-  ffmpeg -nostdin -re -f lavfi -i testsrc=s=1280x720:r=25 -c:v libx264 -g 50 -sc_threshold 0 -f mp4 \\
-         -movflags +cmaf+frag_keyframe -method PUT http://127.0.0.1:8080/ingest/0 &
+  ffmpeg -nostdin -re -f lavfi -i testsrc=s=1280x720:r=25 -c:v libx264 -pix_fmt yuv420p -g 50 \\
+         -sc_threshold 0 -f mp4 -movflags +cmaf+frag_keyframe -method PUT http://127.0.0.1:8080/ingest/0 &
   sleep 15; ffplay http://127.0.0.1:8080/live/master.m3u8
 ";
 

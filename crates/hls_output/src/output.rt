@@ -53,7 +53,28 @@ impl<R: Resource> Model for Output<R> {
     ghost invariant = { λ o. o.gone ≤ length (bytes_of o.text) };
 }
 
+impl<R: Resource + Drop> Output<R> {
+    /// Puts what is to be sent where all has gone.
+    pub fn put(&mut self, next: Output<R>)
+        requires { length self.old ≡ 0 }
+        ensures { self.new ≡ next }
+    {
+        *self = next;
+    }
+}
+
 impl<R: Resource> Output<R> {
+    /// Nothing.
+    pub fn new() -> Output<R>
+        ensures { result ≡ [] }
+    {
+        Output {
+            text: Words::Fixed(b""),
+            gone: 0,
+            media: None,
+        }
+    }
+
     /// A text that never changes.
     pub fn of_fixed(text: &'static [u8]) -> Output<R>
         ensures { result ≡ text.entry.now }

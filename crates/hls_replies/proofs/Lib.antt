@@ -1,5 +1,4 @@
 mod Wholes
 mod Parts
 mod Kept
-mod Sent
 mod Shown

@@ -1,5 +1,5 @@
 -- Parts of a resource: of a recording's, and where any begins in its slices.
-use Rattle.std.proofs.Common.{◌≡◌, ◌∙◌, ℕ, ◌+◌, ◌-◌, ◌<◌, ◌≤◌, inl, inr, List, [], ◌∷◌, ◌++◌, Option, Some, None, length, map, take, drop, replicate, min, max, refl, sym, ap, subst, arith, append_assoc, append-nil, length-append, length-take, length-drop}
+use Rattle.std.proofs.Common.{◌≡◌, ◌∙◌, ℕ, ◌+◌, ◌-◌, ◌<◌, ◌≤◌, inl, inr, List, ◌++◌, Option, Some, None, length, map, take, drop, replicate, min, max, refl, sym, ap, subst, arith, append_assoc, append-nil, length-append, length-take, length-drop}
 use Rattle.std.specs.Prelude.{unwrap_or}
 use Rattle.std.specs.List.{concat}
 use Rattle.std.proofs.lemmas.Bool.{cases_lt, lt-ltb, le-ltb}
@@ -10,7 +10,6 @@ use Rattle.hls_record.specs.Valid.{IsRecorded}
 use Rattle.hls_record.proofs.Pieces.{bytes_length}
 use Rattle.hls_record.proofs.Ranges.{gone_range}
 use Rattle.hls_output.specs.Slices.{part_at, rest_at}
-use Rattle.hls_lists_laws.specs.Jobs.{units_between}
 use Rattle.hls_catchup.specs.Resources.{FindsPlace}
 use Rattle.hls_serve_laws.specs.Replies.{media_bytes, whole}
 use Rattle.hls_replies.specs.Contents.{kept_at, kept_slices}

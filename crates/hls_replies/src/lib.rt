@@ -3,11 +3,12 @@
 #![tactic(auto)]
 
 pub use answer::Answer;
+pub use body::Body;
 pub use jobs::{added_answer, file_answer, query_answer, removed_answer, told_answer};
 pub use media::media_answer;
 pub use playlists::{list_answer, master_answer};
 pub use query::{read_query, request_for, wanted_of};
-pub use sending::send;
+pub use sending::output_of;
 pub use standing::status_answer;
 pub use texts::{fault_answer, finish_answer, method_answer, refused_answer, taken_answer};
 

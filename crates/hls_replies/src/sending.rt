@@ -1,35 +1,24 @@
-//! Answers sent.
+//! Answers as they are sent.
 
-ghost use Rattle.std.specs.Prelude.{◌≡◌};
-ghost use Rattle.hls_io.specs.Counted.{failures_of};
-ghost use Rattle.hls_io.specs.Streams.{ToOutput};
-ghost use Rattle.hls_http.specs.Replies.{CountsAnswer};
-ghost use Rattle.hls_replies.specs.Sends.{Sends};
+ghost use Rattle.std.specs.Prelude.{◌≡◌, IfOk};
+ghost use Rattle.hls_serve_laws.specs.Replies.{answer_text};
 
 use crate::answer::Answer;
-use hls_http::Session;
-use hls_http_laws::end::SessionEnd;
-use std::alloc::Global;
-use std::io::Write;
+use crate::body::Body;
+use hls_http::reply_output;
+use hls_output::Output;
+use std::alloc::{AllocError, Global};
 
-/// Sends an answer; to HEAD without its body. For want of memory the fixed 503 is sent instead. The session goes on unless
-/// a reply said `Connection: close` or wasn't written whole. A body goes out from where it stands: memory is taken for the
-/// head and the small slices that go out together.
-pub fn send<R, W: Write>(
+/// An answer's reply, to be sent part by part; to HEAD without its body. A body goes out from where it stands: memory is taken
+/// for the head and the small slices that go out together.
+pub fn output_of(
     alloc: Global,
-    session: &mut Session<R, W>,
     answer: Answer,
     closing: bool,
     to_head: bool,
-) -> Result<(), SessionEnd>
-    ensures sends { ToOutput W.contents session.old.writer session.new.writer (Sends answer closing to_head) result }
-    ensures counts { CountsAnswer result (failures_of session.old.writer) (failures_of session.new.writer) }
-    ensures source { session.new.source ≡ session.old.source }
+) -> Result<Output<Body>, AllocError>
+    ensures { IfOk result (λ output. output ≡ answer_text answer closing to_head) }
 {
     let head = answer.head(closing);
-    let body = answer.into_body();
-    if to_head {
-        return session.reply_head(alloc, &head, body.len());
-    }
-    session.reply_media(alloc, &head, body)
+    reply_output(alloc, &head, answer.into_body(), to_head)
 }

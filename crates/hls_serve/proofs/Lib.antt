@@ -1,4 +1,6 @@
-mod IngestLaws
+mod AnswerLaws
+mod HoldLaws
 mod PassLaws
-mod SessionLaws
+mod TalkLaws
 mod TurnLaws
+mod WithinLaws

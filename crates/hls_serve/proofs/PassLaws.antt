@@ -1,113 +1,178 @@
--- What a pass has seen, from one call to the next.
-use Rattle.std.proofs.Common.{◌≡◌, ℕ, Some, Result, Ok, Err, inl, inr, List, refl, sym, subst, ◌∙◌}
+-- What a keeper has seen, from one act to the next, and what its acts come to.
+use Rattle.std.proofs.Common.{◌≡◌, ℕ, Some, None, Option, slice_get, Result, Ok, Err, inl, inr, List, [], ◌∷◌, ◌++◌, map, refl, sym, subst, ap, ◌∙◌, append_assoc}
+use Rattle.std.proofs.lemmas.List.{map-append}
+use Rattle.std.proofs.lemmas.List.Elements.{All-cons, All-nil}
 use Rattle.hls_media_laws.specs.InitData.{InitData}
 use Rattle.hls_media_laws.specs.declared.facts.Facts.{Facts}
 use Rattle.hls_media_laws.specs.Meaning.{IsInit, IsUnit}
 use Rattle.hls_core_laws.specs.declared.event.Event.{Event}
 use Rattle.hls_core_laws.specs.declared.event.Event.TheVariants.{Begin, Accept}
-use Rattle.hls_core_laws.specs.declared.event.Logged.{Logged}
 use Rattle.hls_core_laws.specs.declared.refusal.Refusal.{Refusal}
 use Rattle.hls_core_laws.specs.declared.refusal.Refusal.TheVariants as refusals
-use Rattle.hls_core_laws.specs.State.{State}
+use Rattle.hls_record.specs.Recorded.{Recorded}
+use Rattle.hls_core.specs.Reads.{recorded_at, recorded_from, recording_of}
+use Rattle.hls_core_laws.specs.Channel.{Lane}
+use Rattle.hls_core_laws.specs.Outcome.{held}
+use Rattle.hls_core_laws.specs.State.{State, Held, channel}
 use Rattle.hls_core_laws.specs.IsState.{IsState}
-use Rattle.hls_core_laws.specs.Outcome.{Outcome, New, Repeated, Refused}
-use Rattle.hls_core_laws.specs.Moves.{Moves, IsFittingAsSeen}
+use Rattle.hls_core_laws.specs.Moves.{IsFittingAsSeen}
 use Rattle.hls_core_laws.specs.Follows.{Follows}
 use Rattle.hls_core_laws.proofs.Follows.{state_of}
 use Rattle.hls_core_laws.proofs.Theorems.{follows_itself, follows_through, inits_stay, moves_follow, seen_suffices}
 use Rattle.hls_turn.specs.declared.done.Done.{Done}
 use Rattle.hls_turn.specs.Passes.{Known}
-use Rattle.hls_turn.specs.Calls.{Answers, LookedOn, Submits}
+use Rattle.hls_turn.specs.Calls as calls
 use Rattle.hls_boxes_laws.specs.declared.part.Part.TheVariants as parts
 use Rattle.hls_feed.specs.declared.fault.StreamFault.{StreamFault}
 use Rattle.hls_feed.specs.declared.fault.Untaken.{Untaken}
 use Rattle.hls_feed.specs.declared.fault.Untaken.TheVariants as untaken
+use Rattle.hls_serve_laws.specs.Acts.{Act, Acted, ActsInVain, Chain, IsVain, Leads, Looked, LookedInVain, Looks, Submitted, Submits}
 use Rattle.hls_serve_laws.specs.Ingest.{Progress, FindsInit, PartComes, RefusesUnit}
+use Rattle.hls_serve.specs.declared.acts.Noted.{Noted}
+use Rattle.hls_serve.specs.Noted.{act_in}
 use Rattle.hls_serve.specs.Taken.{Finds, HasInit, IsUsable, told_as}
 
+-- ---- what acts lead to
+
 -- what was submitted was met by a state, and led to a state that follows it
-pub submitted_follows : (a b : Known) (event : Event) (answer : Result Done Refusal) → IsState a.seen → IsFittingAsSeen a.seen event → Submits a event answer b
+submitted_follows : (a b : Known) (event : Event) (answer : Result Done Refusal) → IsState a.seen → IsFittingAsSeen a.seen event → calls.Submits a event answer b
     → IsState b.seen × Follows a.seen b.seen
 submitted_follows a b event answer valid fits s =
     let met = state_of a.seen s.met s.follows valid in
     let moved = moves_follow s.met b.seen a.number event s.outcome met (seen_suffices a.seen s.met event fits s.follows) s.moves in
     (moved.0, follows_through a.seen s.met b.seen s.follows moved.1)
 
-pub has_still : (a b : State) (r : ℕ) (init : InitData) → Follows a b → HasInit a r init → HasInit b r init
+looked_follows : (a b : Known) → IsState a.seen → calls.LookedOn a b → IsState b.seen × Follows a.seen b.seen
+looked_follows a b valid looked = (state_of a.seen b.seen looked.follows valid, looked.follows)
+
+act_follows : (a b : Known) (act : Act) → IsState a.seen → Leads a act b → IsState b.seen × Follows a.seen b.seen
+act_follows a b (Looked s) valid leads = looked_follows a b valid leads.looked
+act_follows a b LookedInVain valid leads = looked_follows a b valid leads
+act_follows a b (Submitted event answer) valid leads = submitted_follows a b event answer valid leads.0 leads.1
+
+pub chain_follows : (acts : List Act) (a b : Known) → IsState a.seen → Chain a acts b → IsState b.seen × Follows a.seen b.seen
+chain_follows [] a b valid same =
+    subst (λ (k : Known). IsState k.seen × Follows a.seen k.seen) (sym same) (valid, follows_itself a.seen)
+chain_follows (act ∷ acts) a b valid (middle, leads, others) =
+    let first = act_follows a middle act valid leads in
+    let later = chain_follows acts middle b first.0 others in
+    (later.0, follows_through a.seen middle.seen b.seen first.1 later.1)
+
+has_still : (a b : State) (r : ℕ) (init : InitData) → Follows a b → HasInit a r init → HasInit b r init
 has_still a b r init follows has =
     let w = inits_stay a b follows r has.lane init has.at has.init_is in
     record { lane = w.0; at = w.1; init_is = w.2 }
 
--- and so the init section that was found is still there
-pub usable_after : (r : ℕ) (x y : Progress) → IsUsable r x → IsState y.known.seen → Follows x.known.seen y.known.seen → y.init ≡ x.init → IsUsable r y
-usable_after r x y usable valid follows same = record {
+-- the init section that was found is still there
+pub usable_after : (r : ℕ) (a b : Known) (found : Option InitData) → IsState b.seen → Follows a.seen b.seen → IsUsable r a found → IsUsable r b found
+usable_after r a b found valid follows usable = record {
   valid = valid;
-  has = λ init found. has_still x.known.seen y.known.seen r init follows (usable.has init (sym same ∙ found));
+  has = λ init is. has_still a.seen b.seen r init follows (usable.has init is);
 }
 
-pub usable_submitted : (r : ℕ) (x y : Progress) (event : Event) (answer : Result Done Refusal) → IsUsable r x → IsFittingAsSeen x.known.seen event
-    → Submits x.known event answer y.known → y.init ≡ x.init → IsUsable r y
-usable_submitted r x y event answer usable fits s same =
-    let w = submitted_follows x.known y.known event answer usable.valid fits s in usable_after r x y usable w.0 w.1 same
+pub usable_acted : (r : ℕ) (a b : Known) (before after : List Act) (found : Option InitData) → Acted a before b after → IsUsable r a found → IsUsable r b found
+usable_acted r a b before after found (acts, is, chain) usable =
+    let w = chain_follows acts a b usable.valid chain in usable_after r a b found w.0 w.1 usable
+
+-- one act
+pub acted_one : (a b : Known) (before after : List Act) (act : Act) → Leads a act b → after ≡ before ++ act ∷ [] → Acted a before b after
+acted_one a b before after act leads is = (act ∷ [], is, (b, leads, refl))
+
+-- ---- parts
 
 -- a unit's facts under the init section that was found
-pub fits_unit : (r : ℕ) (x : Progress) (init : InitData) (f : Facts) (bytes : List ℕ) → IsUsable r x → x.init ≡ Some init → IsUnit init bytes f → IsFittingAsSeen x.known.seen (Accept r f bytes)
-fits_unit r x init f bytes usable found is =
-    let has = usable.has init found in (has.lane, init, has.at, has.init_is, is)
+pub fits_unit : (r : ℕ) (known : Known) (found : Option InitData) (init : InitData) (f : Facts) (bytes : List ℕ) → IsUsable r known found → found ≡ Some init → IsUnit init bytes f
+    → IsFittingAsSeen known.seen (Accept r f bytes)
+fits_unit r known found init f bytes usable is unit = let has = usable.has init is in (has.lane, init, has.at, has.init_is, unit)
 
-refused_answers : (event : Event) (old new : List Logged) (b : State) (outcome : Outcome) (r : Refusal) → Answers event old new b outcome (Err r) → (outcome ≡ Refused r) × (new ≡ old)
-refused_answers event old new b New r h = absurd (no_ok h.0)
-  where
-    no_ok : {A B : Type 0} {a : A} {e : B} → Err e ≡ Ok a → ⊥
-    no_ok is = cc
-refused_answers event old new b Repeated r h = cc
-refused_answers event old new b (Refused q) r h = (cc, h.1)
+-- an event for which memory was wanted
+pub wanted : (before after : List Act) (event : Event) → Submits before event (Err refusals.Memory) after → ActsInVain before after
+wanted before after event s = record { acts = Submitted event (Err refusals.Memory) ∷ []; grown = s; each = All-cons IsVain (Submitted event (Err refusals.Memory)) [] tt (All-nil IsVain) }
 
--- an event that was refused for want of memory changed nothing but what the pass has seen
-pub wanted_looked : (a b : Known) (event : Event) (r : Refusal) → Submits a event (Err r) b → LookedOn a b
-wanted_looked a b event r s =
-    let w = refused_answers event a.mine b.mine b.seen s.outcome r s.answers in
-    let same = subst (λ (o : Outcome). Moves s.met a.number event o b.seen) w.0 s.moves in
-    record { number = s.number; follows = subst (λ (t : State). Follows a.seen t) (sym same.1) s.follows; mine = w.1 }
+-- .. behind a look
+wanted_behind : (before middle after : List Act) (s : State) (event : Event) → Looks before s middle → Submits middle event (Err refusals.Memory) after → ActsInVain before after
+wanted_behind before middle after s event looks submits = record {
+  acts = Looked s ∷ (Submitted event (Err refusals.Memory) ∷ []);
+  grown = submits ∙ ap (λ (acts : List Act). acts ++ Submitted event (Err refusals.Memory) ∷ []) looks ∙ append_assoc before (Looked s ∷ []) (Submitted event (Err refusals.Memory) ∷ []);
+  each = All-cons IsVain (Looked s) (Submitted event (Err refusals.Memory) ∷ []) tt (All-cons IsVain (Submitted event (Err refusals.Memory)) [] tt (All-nil IsVain));
+}
+
+-- a look that showed nothing
+pub looked_vainly : (before after : List Act) → after ≡ before ++ LookedInVain ∷ [] → ActsInVain before after
+looked_vainly before after is = record { acts = LookedInVain ∷ []; grown = is; each = All-cons IsVain LookedInVain [] tt (All-nil IsVain) }
+
+-- .. and one behind which memory was wanted
+pub looked_idly : (before after : List Act) (s : State) → Looks before s after → ActsInVain before after
+looked_idly before after s is = record { acts = Looked s ∷ []; grown = is; each = All-cons IsVain (Looked s) [] tt (All-nil IsVain) }
 
 -- a refused init section, and a refused unit
 pub init_refused : (r : ℕ) (x y : Progress) (bytes : List ℕ) (init : InitData) (q : Refusal) → IsInit bytes init → y.counts ≡ x.counts
-    → Submits x.known (Begin r init bytes) (Err q) y.known → PartComes r x (parts.Init bytes) y (Err (told_as q))
-init_refused r x y bytes init refusals.Memory is counts s = wanted_looked x.known y.known (Begin r init bytes) refusals.Memory s
+    → Submits x.acts (Begin r init bytes) (Err q) y.acts → PartComes r x (parts.Init bytes) y (Err (told_as q))
+init_refused r x y bytes init refusals.Memory is counts s = wanted x.acts y.acts (Begin r init bytes) s
 init_refused r x y bytes init q is counts s = (((λ e. cc), (init, is, s)), counts)
 
-looked_first : (r : ℕ) (x : Progress) (init : InitData) (z y : Known) → FindsInit r x init z → LookedOn z y → LookedOn x.known y
-looked_first r x init z y (inl same) looked = subst (λ (k : Known). LookedOn k y) same.1 looked
-looked_first r x init z y (inr found) looked = record {
-  number = looked.number ∙ found.looks.looked.number;
-  follows = follows_through x.known.seen z.seen y.seen found.looks.looked.follows looked.follows;
-  mine = looked.mine ∙ found.looks.looked.mine;
-}
+unit_wanted : (r : ℕ) (x : Progress) (init : InitData) (z y : List Act) (f : Facts) (bytes : List ℕ) → FindsInit r x init z → Submits z (Accept r f bytes) (Err refusals.Memory) y
+    → ActsInVain x.acts y
+unit_wanted r x init z y f bytes (inl same) s =
+    wanted x.acts y (Accept r f bytes) (subst (λ (acts : List Act). Submits acts (Accept r f bytes) (Err refusals.Memory) y) same.1 s)
+unit_wanted r x init z y f bytes (inr found) s = wanted_behind x.acts z y found.state (Accept r f bytes) found.looks s
 
-pub unit_refused : (r : ℕ) (x y : Progress) (bytes : List ℕ) (init : InitData) (z : Known) (f : Facts) (q : Refusal) → FindsInit r x init z → IsUnit init bytes f
-    → y.counts ≡ x.counts → Submits z (Accept r f bytes) (Err q) y.known → PartComes r x (parts.Unit bytes) y (Err (told_as q))
-unit_refused r x y bytes init z f refusals.Memory finds is counts s = looked_first r x init z y.known finds (wanted_looked z y.known (Accept r f bytes) refusals.Memory s)
+pub unit_refused : (r : ℕ) (x y : Progress) (bytes : List ℕ) (init : InitData) (z : List Act) (f : Facts) (q : Refusal) → FindsInit r x init z → IsUnit init bytes f
+    → y.counts ≡ x.counts → Submits z (Accept r f bytes) (Err q) y.acts → PartComes r x (parts.Unit bytes) y (Err (told_as q))
+unit_refused r x y bytes init z f refusals.Memory finds is counts s = unit_wanted r x init z y.acts f bytes finds s
 unit_refused r x y bytes init z f q finds is counts s =
     (inr (record { init = init; looked = z; finds = finds; facts = f; reads = is; told = λ e. cc; submits = s }), counts)
 
 -- what is no init section yet is no unit's
 pub unit_without_init : (r : ℕ) (x y : Progress) (bytes : List ℕ) (stops : Untaken) → Finds r x y (Err stops) → PartComes r x (parts.Unit bytes) y (Err stops)
 unit_without_init r x y bytes (untaken.Refused fault) h =
-    let P : StreamFault → Type 0 = λ e. RefusesUnit r x bytes e y.known × (y.counts ≡ x.counts) in
+    let P : StreamFault → Type 0 = λ e. RefusesUnit r x bytes e y.acts × (y.counts ≡ x.counts) in
     subst P (sym h.1) (inl h.2, h.0)
 unit_without_init r x y bytes untaken.Memory h = h
 
-pub looked_self : (k : Known) → LookedOn k k
-looked_self k = record { number = refl; follows = follows_itself k.seen; mine = refl }
-
-found_init : (r : ℕ) (x y : Progress) (init : InitData) → Finds r x y (Ok tt) → y.init ≡ Some init → FindsInit r x init y.known
+found_init : (r : ℕ) (x y : Progress) (init : InitData) → Finds r x y (Ok tt) → y.init ≡ Some init → FindsInit r x init y.acts
 found_init r x y init (counts, (i, is, finds)) there =
-    let same : i ≡ init = some_is i init (sym is ∙ there) in subst (λ (j : InitData). FindsInit r x j y.known) same finds
+    let same : i ≡ init = some_is i init (sym is ∙ there) in subst (λ (j : InitData). FindsInit r x j y.acts) same finds
   where
     some_is : (a b : InitData) → Some a ≡ Some b → a ≡ b
     some_is a b e = cc
 
 pub unit_refused_by : (r : ℕ) (x z y : Progress) (bytes : List ℕ) (init : InitData) (f : Facts) (q : Refusal) → Finds r x z (Ok tt) → z.init ≡ Some init → IsUnit init bytes f
-    → y.counts ≡ z.counts → Submits z.known (Accept r f bytes) (Err q) y.known → PartComes r x (parts.Unit bytes) y (Err (told_as q))
+    → y.counts ≡ z.counts → Submits z.acts (Accept r f bytes) (Err q) y.acts → PartComes r x (parts.Unit bytes) y (Err (told_as q))
 unit_refused_by r x z y bytes init f q found there is counts s =
-    unit_refused r x y bytes init z.known f q (found_init r x z init found there) is (counts ∙ found.0) s
+    unit_refused r x y bytes init z.acts f q (found_init r x z init found there) is (counts ∙ found.0) s
+
+-- ---- notes
+
+-- one more note
+pub noted_one : {B : Type 0} (old new : List (Noted × B)) (x : Noted × B) (seen : List Act) → new ≡ old ++ x ∷ [] → map act_in old ≡ seen → map act_in new ≡ seen ++ act_in x ∷ []
+noted_one old new x seen is was = ap (map act_in) is ∙ map-append act_in old (x ∷ []) ∙ ap (λ (acts : List Act). acts ++ act_in x ∷ []) was
+
+-- what was asked behind something else
+pub acted_behind : (front : List Act) (a b : Known) (before after : List Act) → Acted a before b after → Acted a (front ++ before) b (front ++ after)
+acted_behind front a b before after (acts, is, chain) =
+    (acts, ap (λ (t : List Act). front ++ t) is ∙ sym (append_assoc front before acts), chain)
+
+-- what was seen is still a state
+pub valid_acted : (a b : Known) (before after : List Act) → Acted a before b after → IsState a.seen → IsState b.seen
+valid_acted a b before after (acts, is, chain) valid = (chain_follows acts a b valid chain).0
+
+-- ---- the init section of a recording that was shown
+
+by_init : (s : State) (r : ℕ) (rec : Recorded) (l : Lane) (h : Held) (found : Option InitData) → slice_get (channel s).lanes r ≡ Some l → l.init ≡ found
+    → recorded_from found l h ≡ Some rec → HasInit s r rec.init
+by_init s r rec l h None at is same = absurd (cc)
+by_init s r rec l h (Some init) at is same = record { lane = l; at = at; init_is = is ∙ cc }
+
+by_lane : (s : State) (r : ℕ) (rec : Recorded) (h : Held) (found : Option Lane) → slice_get (channel s).lanes r ≡ found → recorded_at found h ≡ Some rec → HasInit s r rec.init
+by_lane s r rec h None at same = absurd (cc)
+by_lane s r rec h (Some l) at same = by_init s r rec l h l.init at refl same
+
+pub found_usable : (r : ℕ) (a b : Known) (before after : List Act) (s : State) (rec : Recorded) (init : InitData) → Acted a before b after → IsState a.seen → b.seen ≡ s
+    → recording_of s r ≡ Some rec → init ≡ rec.init → IsUsable r b (Some init)
+found_usable r a b before after s rec init acted valid seen shown is = record {
+  valid = valid_acted a b before after acted valid;
+  has = λ i same.
+      let of_rec : i ≡ rec.init = cc in
+      subst (λ (t : State). HasInit t r i) (sym seen) (subst (λ (j : InitData). HasInit s r j) (sym of_rec) (by_lane s r rec (held s r) (slice_get (channel s).lanes r) refl shown));
+}

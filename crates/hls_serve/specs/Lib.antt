@@ -1,7 +1,11 @@
-pub mod Answering
 pub mod Counted
+pub mod Endings
 pub mod Exchanges
+pub mod Machine
 pub mod Meanwhile
+pub mod Noted
 pub mod Owned
 pub mod Taken
+pub mod Talking
 pub mod Turns
+pub mod Within

@@ -1,24 +1,22 @@
 //! An encoder's body: its parts as events of the channel, one after the other.
 
-ghost use Rattle.std.specs.Prelude.{◌≡◌, None};
-ghost use Rattle.hls_http.specs.Source.{read_failures};
-ghost use Rattle.hls_serve_laws.specs.Ingest.{PartComes, begun, no_counts, with_init as after_init, with_unit as after_unit};
-ghost use Rattle.hls_serve.specs.Taken.{Finds, IsUsable, TakesBody, progress_of, told_as};
-ghost use Rattle.hls_serve.specs.Counted.{CountsIngest};
+ghost use Rattle.std.specs.Prelude.{◌≡◌};
+ghost use Rattle.hls_serve_laws.specs.Acts.{Acted};
+ghost use Rattle.hls_serve_laws.specs.Ingest.{PartComes, begun, with_init as after_init, with_unit as after_unit};
+ghost use Rattle.hls_serve.specs.Taken.{Finds, IsUsable, progress_of, told_as};
 
+use crate::acts::{Acts, look, submit};
 use crate::keeper::Keeper;
 use bytes::Bytes;
-use hls_boxes::{Part, UnitReader};
+use hls_boxes::Part;
 use hls_core_laws::event::Event;
 use hls_core_laws::refusal::Refusal;
-use hls_feed::{StreamFault, Taker, Untaken, end, feed};
-use hls_http::{Body, Given, Source, read_body};
+use hls_feed::{StreamFault, Taker, Untaken};
 use hls_media::{read_facts, read_init};
 use hls_media_laws::fault::MediaFault;
 use hls_media_laws::init::Init;
-use hls_serve_laws::ingest::{Counts, Intake};
+use hls_serve_laws::ingest::Counts;
 use hls_turn::Done;
-use std::io::Read;
 use std::marker::PhantomData;
 
 /// What was taken of a body, and the rendition's init section once it was looked for.
@@ -28,14 +26,17 @@ pub struct Taken {
     pub init: Option<Init>,
     /// How many parts were taken.
     pub counts: Counts,
+    /// What the keeper was asked for it.
+    pub acts: Acts,
 }
 
 impl Taken {
     /// Nothing was taken yet.
     pub fn none() -> Taken
-        ensures { result ≡ record { init = None; counts = no_counts } }
+        ensures { progress_of result ≡ begun }
     {
         Taken {
+            acts: Acts::none(),
             init: None,
             counts: Counts {
                 inits: 0,
@@ -99,12 +100,22 @@ pub struct Encoder<K> {
 }
 
 impl<K: Keeper> Encoder<K> {
+    /// Takes the parts of a rendition's encoder.
+    pub fn new(rendition: usize) -> Encoder<K>
+        ensures { result.rendition ≡ rendition }
+    {
+        Encoder {
+            rendition,
+            of: PhantomData,
+        }
+    }
+
     /// Takes an init section.
     fn take_init(&self, taken: &mut Taken, keeper: &mut K, bytes: Bytes) -> Result<(), Untaken>
-        requires usable { IsUsable self.now.rendition (progress_of (K.known keeper.old) taken.old) }
-        ensures usable { IsUsable self.now.rendition (progress_of (K.known keeper.new) taken.new) }
-        ensures comes { PartComes self.now.rendition (progress_of (K.known keeper.old) taken.old) (Part.Init bytes)
-            (progress_of (K.known keeper.new) taken.new) result }
+        requires usable { IsUsable self.now.rendition (K.known keeper.old) taken.old.init }
+        ensures usable { IsUsable self.now.rendition (K.known keeper.new) taken.new.init }
+        ensures leads { Acted (K.known keeper.old) taken.old.acts (K.known keeper.new) taken.new.acts }
+        ensures comes { PartComes self.now.rendition (progress_of taken.old) (Part.Init bytes) (progress_of taken.new) result }
     {
         let init = match read_init(keeper.alloc(), &bytes) {
             Ok(init) => init,
@@ -116,7 +127,7 @@ impl<K: Keeper> Encoder<K> {
             init,
             bytes,
         };
-        match keeper.submit(event) {
+        match submit(keeper, &mut taken.acts, event) {
             Ok(done) => {
                 taken.counts = with_init(taken.counts, done);
                 Ok(())
@@ -127,15 +138,15 @@ impl<K: Keeper> Encoder<K> {
 
     /// Finds the rendition's init section, by a look where it wasn't looked for yet.
     fn find_init(&self, taken: &mut Taken, keeper: &mut K) -> Result<(), Untaken>
-        requires usable { IsUsable self.now.rendition (progress_of (K.known keeper.old) taken.old) }
-        ensures usable { IsUsable self.now.rendition (progress_of (K.known keeper.new) taken.new) }
-        ensures finds { Finds self.now.rendition (progress_of (K.known keeper.old) taken.old)
-            (progress_of (K.known keeper.new) taken.new) result }
+        requires usable { IsUsable self.now.rendition (K.known keeper.old) taken.old.init }
+        ensures usable { IsUsable self.now.rendition (K.known keeper.new) taken.new.init }
+        ensures leads { Acted (K.known keeper.old) taken.old.acts (K.known keeper.new) taken.new.acts }
+        ensures finds { Finds self.now.rendition (progress_of taken.old) (progress_of taken.new) result }
     {
         if taken.init.is_some() {
             return Ok(());
         }
-        let Ok(state) = keeper.look() else {
+        let Ok(state) = look(keeper, &mut taken.acts) else {
             return Err(Untaken::Memory);
         };
         let Some(recording) = state.recording(self.rendition) else {
@@ -150,10 +161,10 @@ impl<K: Keeper> Encoder<K> {
 
     /// Takes a unit.
     fn take_unit(&self, taken: &mut Taken, keeper: &mut K, bytes: Bytes) -> Result<(), Untaken>
-        requires usable { IsUsable self.now.rendition (progress_of (K.known keeper.old) taken.old) }
-        ensures usable { IsUsable self.now.rendition (progress_of (K.known keeper.new) taken.new) }
-        ensures comes { PartComes self.now.rendition (progress_of (K.known keeper.old) taken.old) (Part.Unit bytes)
-            (progress_of (K.known keeper.new) taken.new) result }
+        requires usable { IsUsable self.now.rendition (K.known keeper.old) taken.old.init }
+        ensures usable { IsUsable self.now.rendition (K.known keeper.new) taken.new.init }
+        ensures leads { Acted (K.known keeper.old) taken.old.acts (K.known keeper.new) taken.new.acts }
+        ensures comes { PartComes self.now.rendition (progress_of taken.old) (Part.Unit bytes) (progress_of taken.new) result }
     {
         match self.find_init(taken, keeper) {
             Ok(()) => {}
@@ -171,7 +182,7 @@ impl<K: Keeper> Encoder<K> {
             facts,
             bytes,
         };
-        match keeper.submit(event) {
+        match submit(keeper, &mut taken.acts, event) {
             Ok(done) => {
                 taken.counts = with_unit(taken.counts, done);
                 Ok(())
@@ -182,6 +193,7 @@ impl<K: Keeper> Encoder<K> {
 }
 
 impl<K: Keeper> Taker for Encoder<K> {
+    ghost use Rattle.hls_serve_laws.proofs.Acting.{acted_none, acted_on};
     ghost use Rattle.hls_serve_laws.specs.Ingest.{Progress as ProgressOf};
 
     type Kept = Taken;
@@ -190,9 +202,15 @@ impl<K: Keeper> Taker for Encoder<K> {
 
     ghost Progress = { ProgressOf };
 
-    ghost progress = { λ taken keeper. progress_of (K.known keeper) taken };
+    ghost progress = { λ taken keeper. progress_of taken };
 
-    ghost fits = { λ encoder taken keeper. IsUsable encoder.rendition (progress_of (K.known keeper) taken) };
+    ghost fits = { λ encoder taken keeper. IsUsable encoder.rendition (K.known keeper) taken.init };
+
+    ghost goes = { λ taken keeper later now. Acted (K.known keeper) taken.acts (K.known now) later.acts };
+
+    ghost stays = { λ taken keeper. acted_none (K.known keeper) taken.acts };
+
+    ghost goes_on = { λ taken keeper later now last then. acted_on (K.known keeper) (K.known now) (K.known then) taken.acts later.acts last.acts };
 
     ghost comes = { λ encoder. PartComes encoder.rendition };
 
@@ -202,38 +220,4 @@ impl<K: Keeper> Taker for Encoder<K> {
             Part::Unit(bytes) => self.take_unit(taken, keeper, bytes),
         }
     }
-}
-
-/// Takes an encoder's body part by part: each whole part is submitted before more of the body is read. A loop is proved to end,
-/// so this one counts its pieces; of a body of 2^64 pieces no more is taken, as where memory is wanted.
-pub fn ingest<K: Keeper, R: Read>(
-    source: &mut Source<R>,
-    body: &mut Body,
-    keeper: &mut K,
-    rendition: usize,
-    taken: &mut Taken,
-) -> Result<(), Intake>
-    requires usable { IsUsable rendition (progress_of (K.known keeper.old) taken.old) }
-    requires none { progress_of (K.known keeper.old) taken.old ≡ begun (K.known keeper.old) }
-    ensures usable { IsUsable rendition (progress_of (K.known keeper.new) taken.new) }
-    ensures ingests { TakesBody R.remaining source.old source.new rendition (K.known keeper.old) body.old body.new
-        (progress_of (K.known keeper.new) taken.new) result }
-    ensures counts { CountsIngest result (read_failures source.old) (read_failures source.new) }
-{
-    let encoder: Encoder<K> = Encoder {
-        rendition,
-        of: PhantomData,
-    };
-    let mut reader = UnitReader::new(keeper.alloc());
-    for _ in 0..u64::MAX {
-        match read_body(source, body) {
-            Ok(Given::Piece) => feed(&mut reader, &encoder, taken, keeper, source.taken())?,
-            Ok(Given::Over) => match end(&reader) {
-                Ok(()) => return Ok(()),
-                Err(fault) => return Err(Intake::Refused(fault)),
-            },
-            Err(stop) => return Err(Intake::Stopped(stop)),
-        }
-    }
-    Err(Intake::Memory)
 }

@@ -5,15 +5,21 @@
 //! [`Alone`](alone::Alone) on one thread, by a [`Station`](station::Station) on each of many.
 #![tactic(auto)]
 
+pub mod acts;
 pub mod alone;
+mod answers;
 mod call;
 pub mod channel;
+mod dropping;
+mod ending;
+mod feeding;
 pub mod ingest;
 pub mod keeper;
+mod machine;
 pub mod news;
+mod next;
 pub mod path;
 mod reply;
-mod request;
 mod respond;
 pub mod route;
 pub mod session;

@@ -1,25 +1,30 @@
-//! Replies of a request.
+//! Replies that are made: what is to be handed out, and how the connection goes on behind it.
 
-ghost use Rattle.std.specs.Prelude.{◌≡◌, ℕ, List, Err};
-ghost use Rattle.hls_io.specs.Counted.{failures_of};
-ghost use Rattle.hls_io.specs.Streams.{ToOutput};
-ghost use Rattle.hls_http.specs.Bodies.{CountsEnd};
-ghost use Rattle.hls_http.specs.Heads.{CountsHead};
-ghost use Rattle.hls_http.specs.Replies.{CountsAnswer};
-ghost use Rattle.hls_serve_laws.specs.Heard.{IsDue, IsDueAtStop, IsDueWithoutHead};
+ghost use Rattle.std.specs.Prelude.{◌≡◌, ℕ, List, [], true, false};
+ghost use Rattle.httparse.specs.Grammar.{RequestHead};
+ghost use Rattle.hls_http_laws.specs.declared.plan.Plan.{Plan as PlanOf};
+ghost use Rattle.hls_http_laws.specs.Reply.{no_memory_to};
+ghost use Rattle.hls_http_laws.specs.Order.{says_close as closes_by};
+ghost use Rattle.hls_serve_laws.specs.Heard.{IsDue, IsDueWithoutHead, first_of, to_head as is_for_head};
 ghost use Rattle.hls_serve_laws.specs.Replies as replies;
-ghost use Rattle.hls_serve.specs.Answering.{RepliesMade, RepliesTo, SettlesBehind};
-ghost use Rattle.hls_serve.specs.Counted.{CountsBehind};
-ghost use Rattle.hls_serve.specs.Turns.{IsMade, IsRefusedHead, Settles};
+ghost use Rattle.hls_serve.specs.Turns.{IsCall, IsMade, Replies, end_by};
 
 use crate::call::Call;
+use crate::ending::Ending;
 use crate::news::{News, Observer};
 use crate::route::is_to_head;
-use hls_http::{BodyEnd, HeadEnd, HttpFault, Method, Session, SessionEnd, says_close};
-use hls_http_laws::reply::Status;
-use hls_replies::{Answer, fault_answer, send};
+use hls_http::{HttpFault, Method, says_close};
+use hls_http_laws::reply::{Status, no_memory_head_text, no_memory_text};
+use hls_output::Output;
+use hls_replies::{Answer, Body, fault_answer, output_of};
 use std::alloc::{AllocError, Global};
-use std::io::Write;
+
+/// A reply that is to be handed out, and how the connection ends behind it, where it does.
+#[derive(Drop)]
+pub(crate) struct Reply {
+    pub output: Output<Body>,
+    pub end: Option<Ending>,
+}
 
 /// The status of what was made; want of memory is 503.
 fn status_of(made: &Result<Answer, AllocError>) -> Status {
@@ -29,36 +34,63 @@ fn status_of(made: &Result<Answer, AllocError>) -> Status {
     }
 }
 
-/// Sends what was made; where memory was wanted for it, the fixed reply.
-fn send_made<R, W: Write>(
-    alloc: Global,
-    session: &mut Session<R, W>,
-    made: Result<Answer, AllocError>,
-    closing: bool,
-    to_head: bool,
-) -> Result<(), SessionEnd>
-    ensures sends { (first : List ℕ) → SettlesBehind W.contents session.old session.new first (IsMade first made closing to_head) result }
-    ensures counts { CountsAnswer result (failures_of session.old.writer) (failures_of session.new.writer) }
-    ensures source { session.new.source ≡ session.old.source }
+/// The fixed reply to want of memory, which takes none; to HEAD without its body.
+fn no_memory(to_head: bool) -> Reply
+    ensures text { result.output ≡ no_memory_to to_head }
+    ensures end { result.end ≡ end_by true false }
 {
-    match made {
-        Ok(answer) => send(alloc, session, answer, closing, to_head),
-        Err(_) => Err(session.reply_no_memory(to_head)),
+    let text = if to_head {
+        no_memory_head_text()
+    } else {
+        no_memory_text()
+    };
+    Reply {
+        output: Output::of_fixed(text),
+        end: Some(Ending::Refused),
+    }
+}
+
+/// How a connection ends behind a reply, where it does.
+fn end_behind(closing: bool, success: bool) -> Option<Ending>
+    ensures { result ≡ end_by closing success }
+{
+    if !closing {
+        return None;
+    }
+    if success {
+        Some(Ending::Closed)
+    } else {
+        Some(Ending::Refused)
+    }
+}
+
+/// The reply of what was made; where memory was wanted for it, the fixed one.
+fn reply_of(alloc: Global, made: Result<Answer, AllocError>, closing: bool, to_head: bool) -> Reply
+    ensures { (first : List ℕ) → Replies (IsMade first made closing to_head) result.output result.end first }
+{
+    let Ok(answer) = made else {
+        return no_memory(to_head);
+    };
+    let success = answer.status().is_success();
+    match output_of(alloc, answer, closing, to_head) {
+        Ok(output) => Reply {
+            output,
+            end: end_behind(closing, success),
+        },
+        Err(_) => no_memory(to_head),
     }
 }
 
 /// Replies to a request; `early` is said of a reply before the body's end.
-pub fn reply<O: Observer, R, W: Write>(
+pub(crate) fn reply_with<O: Observer>(
     alloc: Global,
-    session: &mut Session<R, W>,
     observer: &O,
     call: &Call,
     made: Result<Answer, AllocError>,
     early: bool,
-) -> Result<(), SessionEnd>
-    ensures sends { RepliesMade W.contents call.now made early session.old session.new result }
-    ensures counts { CountsAnswer result (failures_of session.old.writer) (failures_of session.new.writer) }
-    ensures source { session.new.source ≡ session.old.source }
+) -> Reply
+    ensures { (count : ℕ) (h : RequestHead) (first : List ℕ) → IsCall count h call.now
+        → Replies (IsMade first made (closes_by h early) (is_for_head h)) result.output result.end first }
 {
     let news = News::Replied {
         method: call.head.method,
@@ -68,57 +100,27 @@ pub fn reply<O: Observer, R, W: Write>(
     observer.tell(&news);
     let closing = says_close(&call.head, early);
     let to_head = is_to_head(call.head.method);
-    send_made(alloc, session, made, closing, to_head)
+    reply_of(alloc, made, closing, to_head)
 }
 
 /// Refuses a request.
-pub fn refuse<O: Observer, R, W: Write>(
+pub(crate) fn refuse<O: Observer>(
     alloc: Global,
-    session: &mut Session<R, W>,
     observer: &O,
     call: &Call,
     fault: HttpFault,
     early: bool,
-) -> Result<(), SessionEnd>
-    ensures sends { RepliesTo W.contents call.now session.old session.new (λ h plan. IsDue h plan (replies.fault_answer fault) early) result }
-    ensures counts { CountsAnswer result (failures_of session.old.writer) (failures_of session.new.writer) }
-    ensures source { session.new.source ≡ session.old.source }
+) -> Reply
+    ensures { (count : ℕ) (h : RequestHead) (plan : PlanOf) → IsCall count h call.now
+        → Replies (IsDue h plan (replies.fault_answer fault) early) result.output result.end (first_of h plan) }
 {
     let made = fault_answer(alloc, fault);
-    reply(alloc, session, observer, call, made, early)
+    reply_with(alloc, observer, call, made, early)
 }
 
-/// What is replied where no more of a body comes.
-pub fn stopped<O: Observer, R, W: Write>(
-    alloc: Global,
-    session: &mut Session<R, W>,
-    observer: &O,
-    call: &Call,
-    end: BodyEnd,
-) -> Result<(), SessionEnd>
-    ensures sends { RepliesTo W.contents call.now session.old session.new (λ h plan. IsDueAtStop h plan end) result }
-    ensures counts { CountsBehind (CountsEnd end) session.old session.new result }
-    ensures source { session.new.source ≡ session.old.source }
-{
-    match end {
-        BodyEnd::BadFraming => {
-            refuse(alloc, session, observer, call, HttpFault::BadFraming, true)
-        }
-        BodyEnd::CutShort => Err(SessionEnd::CutShort),
-        BodyEnd::ReadFailed => Err(SessionEnd::ReadFailed),
-    }
-}
-
-/// Refuses what is no head.
-fn refuse_head<O: Observer, R, W: Write>(
-    alloc: Global,
-    session: &mut Session<R, W>,
-    observer: &O,
-    fault: HttpFault,
-) -> Result<(), SessionEnd>
-    ensures sends { ToOutput W.contents session.old.writer session.new.writer (Settles (IsRefusedHead fault)) result }
-    ensures counts { CountsAnswer result (failures_of session.old.writer) (failures_of session.new.writer) }
-    ensures source { session.new.source ≡ session.old.source }
+/// Refuses what can't become a head.
+pub(crate) fn refuse_head<O: Observer>(alloc: Global, observer: &O, fault: HttpFault) -> Reply
+    ensures { Replies (IsDueWithoutHead fault) result.output result.end [] }
 {
     let made = fault_answer(alloc, fault);
     let news = News::Replied {
@@ -127,25 +129,5 @@ fn refuse_head<O: Observer, R, W: Write>(
         status: status_of(&made),
     };
     observer.tell(&news);
-    send_made(alloc, session, made, true, false)
-}
-
-/// What is replied where no head comes.
-pub fn without_head<O: Observer, R, W: Write>(
-    alloc: Global,
-    session: &mut Session<R, W>,
-    observer: &O,
-    end: HeadEnd,
-) -> Result<(), SessionEnd>
-    ensures sends { ToOutput W.contents session.old.writer session.new.writer (Settles (IsDueWithoutHead end)) result }
-    ensures counts { CountsBehind (CountsHead (Err end)) session.old session.new result }
-    ensures source { session.new.source ≡ session.old.source }
-{
-    match end {
-        HeadEnd::Closed => Err(SessionEnd::Closed),
-        HeadEnd::CutShort => Err(SessionEnd::CutShort),
-        HeadEnd::BadHead => refuse_head(alloc, session, observer, HttpFault::BadHead),
-        HeadEnd::HeadTooLarge => refuse_head(alloc, session, observer, HttpFault::HeadTooLarge),
-        HeadEnd::ReadFailed => Err(SessionEnd::ReadFailed),
-    }
+    reply_of(alloc, made, true, false)
 }

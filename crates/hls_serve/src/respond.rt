@@ -9,9 +9,10 @@ ghost use Rattle.hls_serve_laws.specs.Playlists.{live_master_text, live_text};
 ghost use Rattle.hls_serve_laws.specs.Replies.{playlist_answer};
 ghost use Rattle.hls_serve_laws.specs.Routes as spec;
 ghost use Rattle.hls_serve_laws.specs.Heard as heard;
-ghost use Rattle.hls_serve.specs.Answering.{MakesBy, OfCall, OfCallTo, OfQuery};
-ghost use Rattle.hls_serve.specs.Turns.{IsResponse, Makes};
+ghost use Rattle.hls_serve_laws.specs.Acts.{Acted};
+ghost use Rattle.hls_serve.specs.Turns.{IsResponse, Makes, MakesBy, OfCall, OfCallTo, OfQuery};
 
+use crate::acts::{Acts, look, submit};
 use crate::call::Call;
 use crate::keeper::Keeper;
 use crate::route::{allows, is_to_head, job_at, removes};
@@ -32,46 +33,60 @@ use hls_serve_laws::wanted::Wanted;
 use std::alloc::{AllocError, Global};
 use std::sync::Arc;
 
-fn show_master<K: Keeper>(keeper: &mut K) -> Result<Answer, AllocError>
-    ensures { MakesBy (λ a b. ShowsState a b (λ s. playlist_answer (live_master_text s))) (K.known keeper.old) (K.known keeper.new) result }
+fn show_master<K: Keeper>(keeper: &mut K, acts: &mut Acts) -> Result<Answer, AllocError>
+    ensures leads { Acted (K.known keeper.old) acts.old (K.known keeper.new) acts.new }
+    ensures answers { MakesBy (λ a b. ShowsState a b (λ s. playlist_answer (live_master_text s))) acts.old acts.new result }
 {
-    let state = keeper.look()?;
+    let state = look(keeper, acts)?;
     master_answer(keeper.alloc(), &state)
 }
 
-fn show_list<K: Keeper>(keeper: &mut K, rendition: usize) -> Result<Answer, AllocError>
-    ensures { MakesBy (λ a b. ShowsState a b (λ s. replies.list_answer (live_text s rendition)))
-        (K.known keeper.old) (K.known keeper.new) result }
+fn show_list<K: Keeper>(
+    keeper: &mut K,
+    acts: &mut Acts,
+    rendition: usize,
+) -> Result<Answer, AllocError>
+    ensures leads { Acted (K.known keeper.old) acts.old (K.known keeper.new) acts.new }
+    ensures answers { MakesBy (λ a b. ShowsState a b (λ s. replies.list_answer (live_text s rendition)))
+        acts.old acts.new result }
 {
-    let state = keeper.look()?;
+    let state = look(keeper, acts)?;
     list_answer(keeper.alloc(), &state, rendition)
 }
 
 fn show_media<K: Keeper>(
     keeper: &mut K,
+    acts: &mut Acts,
     rendition: usize,
     asked: Asked,
 ) -> Result<Answer, AllocError>
-    ensures { MakesBy (λ a b. ShowsState a b (λ s. replies.media_answer s rendition asked))
-        (K.known keeper.old) (K.known keeper.new) result }
+    ensures leads { Acted (K.known keeper.old) acts.old (K.known keeper.new) acts.new }
+    ensures answers { MakesBy (λ a b. ShowsState a b (λ s. replies.media_answer s rendition asked))
+        acts.old acts.new result }
 {
-    let state = keeper.look()?;
+    let state = look(keeper, acts)?;
     media_answer(keeper.alloc(), state, rendition, asked)
 }
 
-fn show_status<K: Keeper>(keeper: &mut K) -> Result<Answer, AllocError>
-    ensures { MakesBy ShowsStatus (K.known keeper.old) (K.known keeper.new) result }
+fn show_status<K: Keeper>(keeper: &mut K, acts: &mut Acts) -> Result<Answer, AllocError>
+    ensures leads { Acted (K.known keeper.old) acts.old (K.known keeper.new) acts.new }
+    ensures answers { MakesBy ShowsStatus acts.old acts.new result }
 {
-    let state = keeper.look()?;
+    let state = look(keeper, acts)?;
     let jobs = keeper.jobs();
     status_answer(keeper.alloc(), &state, jobs)
 }
 
 /// The end of a rendition.
-fn finish<K: Keeper>(keeper: &mut K, rendition: usize) -> Result<Answer, AllocError>
-    ensures { MakesBy (λ a b. Finishes a rendition b) (K.known keeper.old) (K.known keeper.new) result }
+fn finish<K: Keeper>(
+    keeper: &mut K,
+    acts: &mut Acts,
+    rendition: usize,
+) -> Result<Answer, AllocError>
+    ensures leads { Acted (K.known keeper.old) acts.old (K.known keeper.new) acts.new }
+    ensures answers { MakesBy (λ a b. Finishes a rendition b) acts.old acts.new result }
 {
-    match keeper.submit(Event::Finish { rendition }) {
+    match submit(keeper, acts, Event::Finish { rendition }) {
         Ok(done) => finish_answer(keeper.alloc(), Ok(done)),
         Err(Refusal::Memory) => Err(AllocError),
         Err(refusal) => finish_answer(keeper.alloc(), Err(refusal)),
@@ -105,10 +120,15 @@ fn add_job<K: Keeper>(
 }
 
 /// Adds the job that a query asks the current state for; or replies why it asks for nothing.
-fn add_wanted<K: Keeper>(keeper: &mut K, query: Query) -> Result<Answer, AllocError>
-    ensures { Makes (AsksFor query (K.known keeper.old) (K.known keeper.new)) (K.known keeper.old) (K.known keeper.new) result }
+fn add_wanted<K: Keeper>(
+    keeper: &mut K,
+    acts: &mut Acts,
+    query: Query,
+) -> Result<Answer, AllocError>
+    ensures leads { Acted (K.known keeper.old) acts.old (K.known keeper.new) acts.new }
+    ensures answers { Makes (AsksFor query acts.old acts.new) acts.old acts.new result }
 {
-    let state = keeper.look()?;
+    let state = look(keeper, acts)?;
     match wanted_of(state.config().epoch(), query) {
         Ok(wanted) => add_job(keeper, state, wanted),
         Err(fault) => query_answer(keeper.alloc(), fault),
@@ -118,12 +138,14 @@ fn add_wanted<K: Keeper>(keeper: &mut K, query: Query) -> Result<Answer, AllocEr
 /// A catch-up recording is asked for, by a query that was read before.
 fn catch_up<K: Keeper>(
     keeper: &mut K,
+    acts: &mut Acts,
     query: Result<Option<Query>, AllocError>,
 ) -> Result<Answer, AllocError>
-    ensures { OfQuery query (λ asked. MakesBy (CatchesUp asked) (K.known keeper.old) (K.known keeper.new) result) }
+    ensures leads { Acted (K.known keeper.old) acts.old (K.known keeper.new) acts.new }
+    ensures answers { OfQuery query (λ asked. MakesBy (CatchesUp asked) acts.old acts.new result) }
 {
     match query {
-        Ok(Some(query)) => add_wanted(keeper, query),
+        Ok(Some(query)) => add_wanted(keeper, acts, query),
         Ok(None) => query_answer(keeper.alloc(), QueryFault::BadQuery),
         Err(error) => Err(error),
     }
@@ -189,20 +211,26 @@ fn serve_job<K: Keeper>(
 }
 
 /// By the route, which is no job's, and whose method is one of its own.
-fn serve<K: Keeper>(keeper: &mut K, call: &Call, route: Route) -> Result<Answer, AllocError>
+fn serve<K: Keeper>(
+    keeper: &mut K,
+    acts: &mut Acts,
+    call: &Call,
+    route: Route,
+) -> Result<Answer, AllocError>
     requires of_none { heard.job_at route ≡ None }
     requires dropped { spec.feeds (Some route) call.now.head.method ≡ false }
     requires allowed { spec.allows route call.now.head.method ≡ true }
-    ensures { OfCallTo route call.now
-        (λ h q. MakesBy (λ a b answer. Serves q route a answer b) (K.known keeper.old) (K.known keeper.new) result) }
+    ensures leads { Acted (K.known keeper.old) acts.old (K.known keeper.new) acts.new }
+    ensures answers { OfCallTo route call.now
+        (λ h q. MakesBy (λ a b answer. Serves q route a answer b) acts.old acts.new result) }
 {
     match route {
-        Route::Finish(rendition) => finish(keeper, rendition),
-        Route::LiveMaster => show_master(keeper),
-        Route::LiveList(rendition) => show_list(keeper, rendition),
-        Route::Media(rendition) => show_media(keeper, rendition, range_of(call)),
-        Route::CatchUp => catch_up(keeper, call.query),
-        Route::Status => show_status(keeper),
+        Route::Finish(rendition) => finish(keeper, acts, rendition),
+        Route::LiveMaster => show_master(keeper, acts),
+        Route::LiveList(rendition) => show_list(keeper, acts, rendition),
+        Route::Media(rendition) => show_media(keeper, acts, rendition, range_of(call)),
+        Route::CatchUp => catch_up(keeper, acts, call.query),
+        Route::Status => show_status(keeper, acts),
         Route::Ingest(_) => unreachable!(),
         Route::Job(_) => unreachable!(),
         Route::JobFile(_, _) => unreachable!(),
@@ -211,10 +239,16 @@ fn serve<K: Keeper>(keeper: &mut K, call: &Call, route: Route) -> Result<Answer,
 
 /// The answer to a request whose body was dropped, or want of memory for it: an unknown job comes first, then a method that
 /// the route hasn't.
-pub fn respond<K: Keeper>(keeper: &mut K, call: &Call, route: Route) -> Result<Answer, AllocError>
+pub fn respond<K: Keeper>(
+    keeper: &mut K,
+    acts: &mut Acts,
+    call: &Call,
+    route: Route,
+) -> Result<Answer, AllocError>
     requires { spec.feeds (Some route) call.now.head.method ≡ false }
-    ensures { OfCallTo route call.now
-        (λ h q. MakesBy (IsResponse q route) (K.known keeper.old) (K.known keeper.new) result) }
+    ensures leads { Acted (K.known keeper.old) acts.old (K.known keeper.new) acts.new }
+    ensures answers { OfCallTo route call.now
+        (λ h q. MakesBy (IsResponse q route) acts.old acts.new result) }
 {
     if let Some(id) = job_at(route) {
         return serve_job(keeper, call, route, id);
@@ -222,5 +256,5 @@ pub fn respond<K: Keeper>(keeper: &mut K, call: &Call, route: Route) -> Result<A
     if !allows(route, call.head.method) {
         return method_answer(keeper.alloc(), route);
     }
-    serve(keeper, call, route)
+    serve(keeper, acts, call, route)
 }

@@ -2,9 +2,8 @@
 
 ghost use Rattle.std.specs.Prelude.{◌≡◌};
 ghost use Rattle.hls_core_laws.specs.Follows.{Follows};
-ghost use Rattle.hls_serve_laws.specs.Sessions as spec;
 ghost use Rattle.hls_serve.specs.Counted.{SessionCounts};
-ghost use Rattle.hls_serve.specs.Exchanges.{Exchanges, streams, visit};
+ghost use Rattle.hls_serve.specs.Exchanges.{Exchanges};
 
 use crate::channel::Channel;
 use crate::keeper::Keeper;
@@ -97,8 +96,7 @@ pub fn serve_session<T: Wait, R: Read, W: Write>(
     session: &mut Session<R, W>,
     station: &mut Station<'_, T>,
 ) -> SessionEnd
-    ensures session { Exchanges (streams R.remaining W.contents) (visit station.old.pass.known session.old)
-        (visit station.new.pass.known session.new) spec.Session result }
+    ensures session { Exchanges R.remaining W.contents session.old session.new station.old.pass.known station.new.pass.known result }
     ensures counts { SessionCounts session.old session.new result }
 {
     session_on(station.rt, session, station, &Unobserved)

@@ -29,7 +29,6 @@ use Rattle.hls_serve_laws.specs.JobReplies.{added_answer, file_answer, query_ans
 use Rattle.hls_serve_laws.specs.Queries.{wanted_in, wanted_of}
 use Rattle.hls_serve_laws.specs.Replies.{answer_text, fault_answer, finish_answer, method_answer, status_row, text_answer, whole}
 use Rattle.hls_serve_laws.specs.Routes.{allows, path_of, route_of}
-use Rattle.hls_turn.specs.Passes.{no_state}
 
 -- ---- paths
 
@@ -83,7 +82,7 @@ repeated = refl
 
 -- an encoder's body: 29 bytes
 progress : ℕ → ℕ → ℕ → Progress
-progress inits units repeats = record { known = record { number = 0; seen = no_state; mine = [] }; init = None; counts = record { inits = inits; units = units; repeats = repeats } }
+progress inits units repeats = record { acts = []; init = None; counts = record { inits = inits; units = units; repeats = repeats } }
 
 taken : answer_text (taken_answer (progress 1 1 0)) false false
     ≡ codes "HTTP/1.1 200 OK\r\nContent-Type: text/plain\r\nContent-Length: 29\r\n\r\ninit 1 accepted 1 repeated 0\n"

@@ -1,3 +1,4 @@
+pub mod Acting
 mod Allowed
 mod Examples
 mod Jobs

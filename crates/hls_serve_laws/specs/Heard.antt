@@ -1,8 +1,7 @@
--- What one request comes to: the acts on the channel and on the table of jobs that it leads to, and the bytes that are due.
-use Rattle.std.specs.Prelude.{◌≡◌, ◌≢◌, ◌⊎◌, ℕ, Bool, true, false, cond, List, [], ◌∷◌, ◌++◌, length, Option, Some, None, Result, Ok, Err, codes}
+-- What one request comes to: what the keeper is asked for it and tells, what is done with the table of jobs, and the reply that is due.
+use Rattle.std.specs.Prelude.{◌≡◌, ◌≢◌, ◌⊎◌, ◌<◌, ◌≤◌, ◌+◌, ℕ, Bool, true, false, cond, List, [], ◌∷◌, ◌++◌, length, Option, Some, None, Result, Ok, Err, codes}
 use Rattle.std.specs.Option.{is_some}
-use Rattle.std.specs.Io.KnownBytes.{prepend_known}
-use Rattle.httparse.specs.Grammar.{RequestHead}
+use Rattle.httparse.specs.Grammar.{RequestHead, NeverHasRequest}
 use Rattle.hls_core_laws.specs.declared.event.Event.TheVariants.{Finish}
 use Rattle.hls_core_laws.specs.declared.refusal.Refusal.{Refusal}
 use Rattle.hls_core_laws.specs.declared.refusal.Refusal.TheVariants.{Memory}
@@ -10,11 +9,8 @@ use Rattle.hls_core_laws.specs.State.{State}
 use Rattle.hls_feed.specs.declared.fault.StreamFault.{StreamFault}
 use Rattle.hls_feed.specs.Names.{name_of}
 use Rattle.hls_turn.specs.declared.done.Done.{Done}
-use Rattle.hls_turn.specs.Passes.{Known}
-use Rattle.hls_turn.specs.Calls.{LookedOn, Looks, Submits}
 use Rattle.hls_http_laws.specs.declared.body.Body.{Body}
-use Rattle.hls_http_laws.specs.declared.end.SessionEnd.{SessionEnd}
-use Rattle.hls_http_laws.specs.declared.end.SessionEnd.TheVariants as ends
+use Rattle.hls_http_laws.specs.declared.body.Body.TheVariants.{Length, Size}
 use Rattle.hls_http_laws.specs.declared.fault.HttpFault.{HttpFault}
 use Rattle.hls_http_laws.specs.declared.fault.HttpFault.TheVariants as http
 use Rattle.hls_http_laws.specs.declared.plan.Plan.{Plan}
@@ -22,21 +18,21 @@ use Rattle.hls_http_laws.specs.declared.plan.Plan.TheVariants.{Refuse, Feed, Ski
 use Rattle.hls_http_laws.specs.declared.range.Asked.{Asked}
 use Rattle.hls_http_laws.specs.declared.range.Asked.TheVariants as asks
 use Rattle.hls_http_laws.specs.declared.reply.Status.TheVariants as statuses
-use Rattle.hls_http_laws.specs.Heads.{ReadsSmall}
+use Rattle.hls_http_laws.specs.Heads.{ReadsSmall, IsTooLarge}
+use Rattle.hls_http_laws.specs.Bodies.{Runs, ReadsLine}
+use Rattle.hls_http_laws.specs.Limits.{dropped_limit}
 use Rattle.hls_http_laws.specs.Fields.{values}
 use Rattle.hls_http_laws.specs.Range.{asked_of}
 use Rattle.hls_http_laws.specs.Requests.{begins, fields_of}
 use Rattle.hls_http_laws.specs.Order.{plan_by, continues, says_close}
 use Rattle.hls_http_laws.specs.Reply.{continue_text, is_success, no_memory_to}
 use Rattle.hls_http.specs.declared.head.Method.{Method}
-use Rattle.hls_http.specs.declared.head.HeadEnd.{HeadEnd}
-use Rattle.hls_http.specs.declared.head.HeadEnd.TheVariants as heads
 use Rattle.hls_http.specs.declared.body.BodyEnd.{BodyEnd}
 use Rattle.hls_http.specs.declared.body.BodyEnd.TheVariants as bodies
 use Rattle.hls_http.specs.declared.drain.DropEnd.{DropEnd}
 use Rattle.hls_http.specs.declared.drain.DropEnd.TheVariants as drops
-use Rattle.hls_http.specs.Heads.{method_of, Hears}
-use Rattle.hls_http.specs.Drained.{Drops}
+use Rattle.hls_http.specs.Heads.{method_of}
+use Rattle.hls_http.specs.Drained.{announced_by}
 use Rattle.hls_jobs.specs.declared.fault.JobFault.{JobFault}
 use Rattle.hls_jobs.specs.declared.fault.JobFault.TheVariants.{UnknownJob}
 use Rattle.hls_jobs.specs.declared.job.Job.{Job}
@@ -50,7 +46,8 @@ use Rattle.hls_serve_laws.specs.declared.route.Route.TheVariants as routes
 use Rattle.hls_serve_laws.specs.declared.wanted.Wanted.{Wanted}
 use Rattle.hls_jobs.specs.Shared.{HasCounted, HasRemoved}
 use Rattle.hls_serve_laws.specs.Faults.{status_of}
-use Rattle.hls_serve_laws.specs.Ingest.{Ingests, Progress, counts_text}
+use Rattle.hls_serve_laws.specs.Acts.{Act, ActsInVain, Looks, Submits}
+use Rattle.hls_serve_laws.specs.Ingest.{BodyComes, Progress, Stops, counts_text}
 use Rattle.hls_serve_laws.specs.JobTable.{IsAdded, IsTold}
 use Rattle.hls_serve_laws.specs.Playlists.{live_master_text, live_text}
 use Rattle.hls_serve_laws.specs.JobReplies.{added_answer, query_answer, file_answer, removed_answer, told_answer}
@@ -79,33 +76,23 @@ pub record Request : Type 0 where
   pub asks : Asks
   pub plan : Plan
 
--- what is known before a request, and the input that is still to come
-pub record Before : Type 0 where
-  pub known : Known
-  pub input : List ℕ
-
--- what is known behind it, what is held of the input, and what is left of the reader
-pub record After : Type 0 where
-  pub known : Known
-  pub held : List ℕ
-  pub left : Option (List ℕ)
-
 -- HEAD is answered as GET without Range (RFC 9110, sections 9.3.2 and 14.2)
 abbrev pub range_for : Bool → Asked → Asked
 range_for to_head range = cond to_head asks.All range
 
--- ---- acts on the channel: at most one look or one event for each request that isn't an encoder's body
+-- ---- acts on the channel: at most one look or one event for each request that isn't an encoder's body. `a` is what was asked before
+-- it, and `b` what was asked up to its end
 
 -- the state that is seen is replied
-abbrev pub ShowsState : Known → Known → (State → Answer) → Answer → Type 0
+abbrev pub ShowsState : List Act → List Act → (State → Answer) → Answer → Type 0
 ShowsState a b shown answer = (s : State) × Looks a s b × (answer ≡ shown s)
 
 -- .. with the number of jobs
-abbrev pub ShowsStatus : Known → Known → Answer → Type 0
+abbrev pub ShowsStatus : List Act → List Act → Answer → Type 0
 ShowsStatus a b answer = (jobs : ℕ) × HasCounted jobs × ShowsState a b (λ s. status_answer s jobs) answer
 
 -- the event's outcome is replied
-abbrev pub Finishes : Known → ℕ → Known → Answer → Type 0
+abbrev pub Finishes : List Act → ℕ → List Act → Answer → Type 0
 Finishes a r b answer = (done : Result Done Refusal) × Submits a (Finish r) done b × (done ≢ Err Memory) × (answer ≡ finish_answer done)
 
 -- ---- acts on the table of jobs: one for each request
@@ -122,13 +109,13 @@ AddsWanted s (Err fault) answer = answer ≡ query_answer fault
 AddsWanted s (Ok wanted) answer = AddsJob s wanted answer
 
 -- by the epoch of the state that is seen, which is every state's of the channel
-pub record AsksFor (query : Query) (a b : Known) (answer : Answer) : Type 0 where
+pub record AsksFor (query : Query) (a b : List Act) (answer : Answer) : Type 0 where
   pub state : State
   pub looks : Looks a state b
   pub adds : AddsWanted state (wanted_of state.config.epoch query) answer
 
 -- what isn't a query in any channel needs no look
-abbrev pub CatchesUp : Option Query → Known → Known → Answer → Type 0
+abbrev pub CatchesUp : Option Query → List Act → List Act → Answer → Type 0
 CatchesUp None a b answer = (b ≡ a) × (answer ≡ query_answer BadQuery)
 CatchesUp (Some query) a b answer = AsksFor query a b answer
 
@@ -162,7 +149,7 @@ ServesJob q route id answer false = ShowsJob id (shown_if q route (allows route 
 -- ---- by the route
 
 -- where the method is one of its own
-abbrev pub Serves : Asks → Route → Known → Answer → Known → Type 0
+abbrev pub Serves : Asks → Route → List Act → Answer → List Act → Type 0
 Serves q (routes.Ingest r) a answer b = ⊥
 Serves q (routes.Finish r) a answer b = Finishes a r b answer
 Serves q routes.LiveMaster a answer b = ShowsState a b (λ s. playlist_answer (live_master_text s)) answer
@@ -173,7 +160,7 @@ Serves q (routes.Job id) a answer b = ⊥
 Serves q (routes.JobFile id file) a answer b = ⊥
 Serves q routes.Status a answer b = ShowsStatus a b answer
 
-abbrev pub ServesAllowed : Asks → Route → Known → Answer → Known → Bool → Type 0
+abbrev pub ServesAllowed : Asks → Route → List Act → Answer → List Act → Bool → Type 0
 ServesAllowed q route a answer b true = Serves q route a answer b
 ServesAllowed q route a answer b false = (b ≡ a) × (answer ≡ method_answer route)
 
@@ -184,22 +171,22 @@ job_at (routes.JobFile id file) = Some id
 job_at route = None
 
 -- an unknown job comes before a method that the route hasn't
-abbrev pub ServesBy : Asks → Route → Known → Answer → Known → Option ℕ → Type 0
+abbrev pub ServesBy : Asks → Route → List Act → Answer → List Act → Option ℕ → Type 0
 ServesBy q route a answer b (Some id) = (b ≡ a) × ServesJob q route id answer (removes route q.method)
 ServesBy q route a answer b None = ServesAllowed q route a answer b (allows route q.method)
 
 -- the answer to a request, or want of memory for one
-abbrev pub Responds : Asks → Route → Known → Option Answer → Known → Type 0
+abbrev pub Responds : Asks → Route → List Act → Option Answer → List Act → Type 0
 Responds q route a (Some answer) b = ServesBy q route a answer b (job_at route)
-Responds q route a None b = LookedOn a b
+Responds q route a None b = ActsInVain a b
 
 -- ---- what is due
 
--- a whole text; whether it says that the connection closes, and whether it gives what was asked for. Or, behind a first
--- text, nothing more, since the session ends so
-pub data Due : Type 0 where
-  Reply : (text : List ℕ) (closing : Bool) (success : Bool) → Due
-  Silence : (first : List ℕ) (end : SessionEnd) → Due
+-- a reply's whole text; whether it says that the connection closes, and whether it gives what was asked for
+pub record Due : Type 0 where
+  pub text : List ℕ
+  pub closing : Bool
+  pub success : Bool
 
 -- 100 Continue, where it is waited for and the body will be read
 abbrev pub first_of : RequestHead → Plan → List ℕ
@@ -209,12 +196,15 @@ abbrev pub to_head : RequestHead → Bool
 to_head h = is_to_head (method_of h.method)
 
 abbrev pub due_for : RequestHead → Plan → Answer → Bool → Due
-due_for h plan answer early =
-    Reply (first_of h plan ++ answer_text answer (says_close h early) (to_head h)) (says_close h early) (is_success answer.status)
+due_for h plan answer early = record {
+  text = first_of h plan ++ answer_text answer (says_close h early) (to_head h);
+  closing = says_close h early;
+  success = is_success answer.status;
+}
 
 -- want of memory has one reply
 abbrev pub due_for_memory : RequestHead → Plan → Due
-due_for_memory h plan = Reply (first_of h plan ++ no_memory_to (to_head h)) true false
+due_for_memory h plan = record { text = first_of h plan ++ no_memory_to (to_head h); closing = true; success = false }
 
 abbrev pub due_for_maybe : RequestHead → Plan → Option Answer → Bool → Due
 due_for_maybe h plan None early = due_for_memory h plan
@@ -224,26 +214,41 @@ due_for_maybe h plan (Some answer) early = due_for h plan answer early
 abbrev pub IsDue : RequestHead → Plan → Answer → Bool → Due → Type 0
 IsDue h plan answer early due = (due ≡ due_for h plan answer early) ⊎ (due ≡ due_for_memory h plan)
 
--- why no more of a body comes
+-- where no more of a body comes: only bad framing is replied to
 abbrev pub IsDueAtStop : RequestHead → Plan → BodyEnd → Due → Type 0
 IsDueAtStop h plan bodies.BadFraming due = IsDue h plan (fault_answer http.BadFraming) true due
-IsDueAtStop h plan bodies.CutShort due = due ≡ Silence (first_of h plan) ends.CutShort
-IsDueAtStop h plan bodies.ReadFailed due = due ≡ Silence (first_of h plan) ends.ReadFailed
+IsDueAtStop h plan bodies.CutShort due = ⊥
+IsDueAtStop h plan bodies.ReadFailed due = ⊥
 
 -- ---- bodies that are dropped
 
-abbrev pub IsSkipped : Request → Route → Known → Known → Due → Result (Unit {0}) DropEnd → Type 0
-IsSkipped request route a b due (Ok done) =
-    (answer : Option Answer) × Responds request.asks route a answer b
-    × ((due ≡ due_for_maybe request.head request.plan answer false) ⊎ (due ≡ due_for_memory request.head request.plan))
-IsSkipped request route a b due (Err drops.TooLarge) = (b ≡ a) × IsDue request.head request.plan (fault_answer http.TooLarge) true due
-IsSkipped request route a b due (Err (drops.Stopped end)) = (b ≡ a) × IsDueAtStop request.head request.plan end due
+-- a size line of a chunk that would pass the limit
+pub record IsPastLimit (content unread : List ℕ) : Type 0 where
+  pub size : ℕ
+  pub rest : List ℕ
+  pub line : ReadsLine unread size rest
+  pub many : dropped_limit < length content + size
 
-pub record Skips (request : Request) (route : Route) (body : Body) (x : Before) (due : Due) (y : After) : Type 0 where
+-- so much of the content was dropped; and this is unread
+abbrev pub Drops : List ℕ → Body → List ℕ → Result (Unit {0}) DropEnd → Type 0
+Drops content last unread (Ok done) = (last ≡ Length 0) × (length content ≤ dropped_limit)
+Drops content last unread (Err drops.TooLarge) = (last ≡ Size) × IsPastLimit content unread
+Drops content last unread (Err (drops.Stopped end)) = (length content + announced_by last ≤ dropped_limit) × Stops last unread end
+
+abbrev pub IsSkipped : Request → Route → List Act → Due → Result (Unit {0}) DropEnd → Type 0
+IsSkipped request route acts due (Ok done) =
+    (answer : Option Answer) × Responds request.asks route [] answer acts
+    × ((due ≡ due_for_maybe request.head request.plan answer false) ⊎ (due ≡ due_for_memory request.head request.plan))
+IsSkipped request route acts due (Err drops.TooLarge) = (acts ≡ []) × IsDue request.head request.plan (fault_answer http.TooLarge) true due
+IsSkipped request route acts due (Err (drops.Stopped end)) = (acts ≡ []) × IsDueAtStop request.head request.plan end due
+
+pub record Skips (request : Request) (route : Route) (body : Body) (stream : List ℕ) (acts : List Act) (due : Due) (unread : List ℕ) : Type 0 where
+  pub content : List ℕ
   pub last : Body
+  pub runs : Runs body stream content last unread
   pub result : Result (Unit {0}) DropEnd
-  pub drops : Drops body x.input last y.held y.left result
-  pub skipped : IsSkipped request route x.known y.known due result
+  pub drops : Drops content last unread result
+  pub skipped : IsSkipped request route acts due result
 
 -- ---- encoders' bodies
 
@@ -261,35 +266,37 @@ IsFed h plan early y due (Err (came.Refused fault)) = IsDue h plan (refused_answ
 IsFed h plan early y due (Err came.Memory) = due ≡ due_for_memory h plan
 IsFed h plan early y due (Err (came.Stopped end)) = IsDueAtStop h plan end due
 
-pub record Feeds (request : Request) (r : ℕ) (body : Body) (x : Before) (due : Due) (y : After) : Type 0 where
+pub record Feeds (request : Request) (r : ℕ) (body : Body) (stream : List ℕ) (acts : List Act) (due : Due) (unread : List ℕ) : Type 0 where
+  pub content : List ℕ
   pub last : Body
+  pub runs : Runs body stream content last unread
   pub progress : Progress
+  pub asked : acts ≡ progress.acts
   pub early : Bool
   pub result : Result (Unit {0}) Intake
-  pub ingests : Ingests r x.known body x.input last y.held y.left progress early result
-  pub known : y.known ≡ progress.known
+  pub comes : BodyComes r body content last unread progress early result
   pub fed : IsFed request.head request.plan early progress due result
 
--- ---- a request
+-- ---- a request: from behind its head, where its body begins, to what is unread when its reply is given
 
 -- the rendition that an encoder's body is for
-abbrev pub FeedsBy : Option Route → Request → Body → Before → Due → After → Type 0
-FeedsBy (Some (routes.Ingest r)) request body x due y = Feeds request r body x due y
-FeedsBy route request body x due y = ⊥
+abbrev pub FeedsBy : Option Route → Request → Body → List ℕ → List Act → Due → List ℕ → Type 0
+FeedsBy (Some (routes.Ingest r)) request body stream acts due unread = Feeds request r body stream acts due unread
+FeedsBy route request body stream acts due unread = ⊥
 
-abbrev pub SkipsBy : Option Route → Request → Body → Before → Due → After → Type 0
-SkipsBy None request body x due y = ⊥
-SkipsBy (Some route) request body x due y = Skips request route body x due y
+abbrev pub SkipsBy : Option Route → Request → Body → List ℕ → List Act → Due → List ℕ → Type 0
+SkipsBy None request body stream acts due unread = ⊥
+SkipsBy (Some route) request body stream acts due unread = Skips request route body stream acts due unread
 
 -- by what is done with it: refused before its body, its body taken part by part, or its body dropped
-abbrev pub FollowsBy : Plan → Request → Before → Due → After → Type 0
-FollowsBy (Refuse fault closing) request x due y =
-    (y.known ≡ x.known) × (prepend_known y.held y.left ≡ Some x.input) × IsDue request.head request.plan (fault_answer fault) closing due
-FollowsBy (Feed body) request x due y = FeedsBy request.asks.route request body x due y
-FollowsBy (Skip body) request x due y = SkipsBy request.asks.route request body x due y
+abbrev pub FollowsBy : Plan → Request → List ℕ → List Act → Due → List ℕ → Type 0
+FollowsBy (Refuse fault closing) request stream acts due unread =
+    (acts ≡ []) × (unread ≡ stream) × IsDue request.head request.plan (fault_answer fault) closing due
+FollowsBy (Feed body) request stream acts due unread = FeedsBy request.asks.route request body stream acts due unread
+FollowsBy (Skip body) request stream acts due unread = SkipsBy request.asks.route request body stream acts due unread
 
-abbrev pub Follows : Request → Before → Due → After → Type 0
-Follows request x due y = FollowsBy request.plan request x due y
+abbrev pub Follows : Request → List ℕ → List Act → Due → List ℕ → Type 0
+Follows request stream acts due unread = FollowsBy request.plan request stream acts due unread
 
 abbrev pub plan_for : RequestHead → Asks → Plan
 plan_for h q = plan_by (begins h) (is_some q.route) (feeds q.route q.method)
@@ -298,41 +305,21 @@ plan_for h q = plan_by (begins h) (is_some q.route) (feeds q.route q.method)
 abbrev pub request_of : ℕ → RequestHead → Request
 request_of count h = record { head = h; asks = asks_of count h; plan = plan_for h (asks_of count h) }
 
--- 100 Continue couldn't be written: nothing more is done
-pub record IsUnheard (request : Request) (a : Known) (due : Due) (b : Known) : Type 0 where
-  pub same : b ≡ a
-  pub waited : continues request.head request.plan ≡ true
-  pub due_is : due ≡ Silence continue_text ends.WriteFailed
-
--- a request whose head was read
-abbrev pub IsHeard : Request → Before → Due → After → Type 0
-IsHeard request x due y = Follows request x due y ⊎ IsUnheard request x.known due y.known
-
--- a request whose head stands at the front of the input
-pub record HearsHead (x : Before) (due : Due) (y : After) : Type 0 where
+-- a request stands at the front of the stream; for it the keeper was asked this, and this reply is due, given when this is unread
+pub record Heard (count : ℕ) (stream : List ℕ) (acts : List Act) (due : Due) (unread : List ℕ) : Type 0 where
   pub head : RequestHead
   pub behind : List ℕ
-  pub reads : ReadsSmall x.input head behind
-  pub heard : IsHeard (request_of (length x.known.seen.config.renditions) head) (record { known = x.known; input = behind }) due y
+  pub reads : ReadsSmall stream head behind
+  pub follows : Follows (request_of count head) behind acts due unread
 
--- what is due where no head comes
+-- ---- where no head can come
+
 abbrev pub refused_head : HttpFault → Due
-refused_head fault = Reply (answer_text (fault_answer fault) true false) true false
+refused_head fault = record { text = answer_text (fault_answer fault) true false; closing = true; success = false }
 
-abbrev pub IsDueWithoutHead : HeadEnd → Due → Type 0
-IsDueWithoutHead heads.Closed due = due ≡ Silence [] ends.Closed
-IsDueWithoutHead heads.CutShort due = due ≡ Silence [] ends.CutShort
-IsDueWithoutHead heads.BadHead due = (due ≡ refused_head http.BadHead) ⊎ (due ≡ Reply (no_memory_to false) true false)
-IsDueWithoutHead heads.HeadTooLarge due = (due ≡ refused_head http.HeadTooLarge) ⊎ (due ≡ Reply (no_memory_to false) true false)
-IsDueWithoutHead heads.ReadFailed due = due ≡ Silence [] ends.ReadFailed
+abbrev pub IsDueWithoutHead : HttpFault → Due → Type 0
+IsDueWithoutHead fault due = (due ≡ refused_head fault) ⊎ (due ≡ record { text = no_memory_to false; closing = true; success = false })
 
-pub record HearsNone (x : Before) (due : Due) (y : After) : Type 0 where
-  pub same : y.known ≡ x.known
-  pub taken : List ℕ
-  pub end : HeadEnd
-  pub hears : Hears x.input taken y.held y.left (Err end)
-  pub due_is : IsDueWithoutHead end due
-
--- what stands at the front of the input comes to this: what is due, what the keeper then knows, and what is still to be read
-abbrev pub Heard : Before → Due → After → Type 0
-Heard x due y = HearsHead x due y ⊎ HearsNone x due y
+abbrev pub RefusesHead : List ℕ → Due → Type 0
+RefusesHead unread due =
+    (NeverHasRequest unread × IsDueWithoutHead http.BadHead due) ⊎ (IsTooLarge unread × IsDueWithoutHead http.HeadTooLarge due)

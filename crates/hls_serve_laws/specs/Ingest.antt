@@ -21,15 +21,15 @@ use Rattle.hls_core_laws.specs.State.{State}
 use Rattle.hls_core.specs.Reads.{recording_of}
 use Rattle.hls_turn.specs.declared.done.Done.{Done}
 use Rattle.hls_turn.specs.declared.done.Done.TheVariants as done
-use Rattle.hls_turn.specs.Passes.{Known}
-use Rattle.hls_turn.specs.Calls.{LookedOn, Looks, Submits}
 use Rattle.hls_http_laws.specs.declared.body.Body.{Body}
 use Rattle.hls_http_laws.specs.declared.body.Body.TheVariants.{Length, Size, Data, Trailers}
-use Rattle.hls_http_laws.specs.Bodies.{Goes}
-use Rattle.hls_http.specs.Bodies.{Stops}
+use Rattle.hls_http_laws.specs.Bodies.{IsBroken, IsOpen}
+use Rattle.hls_http.specs.declared.body.BodyEnd.{BodyEnd}
+use Rattle.hls_http.specs.declared.body.BodyEnd.TheVariants as bodies
 use Rattle.hls_serve_laws.specs.declared.ingest.Counts.{Counts}
 use Rattle.hls_serve_laws.specs.declared.ingest.Intake.{Intake}
 use Rattle.hls_serve_laws.specs.declared.ingest.Intake.TheVariants as came
+use Rattle.hls_serve_laws.specs.Acts.{Act, ActsInVain, Looks, Submits}
 
 -- ---- counts
 
@@ -55,47 +55,47 @@ counts_text c =
 
 -- ---- parts
 
--- how far a body has come: what the pass knows, the rendition's init section once it was looked for, and the counts
+-- how far a body has come: what the keeper was asked for it, the rendition's init section once it was looked for, and the counts
 pub record Progress : Type 0 where
-  pub known : Known
+  pub acts : List Act
   pub init : Option InitData
   pub counts : Counts
 
-abbrev pub begun : Known → Progress
-begun known = record { known = known; init = None; counts = no_counts }
+abbrev pub begun : Progress
+begun = record { acts = []; init = None; counts = no_counts }
 
 -- the init section of a rendition in a state
 abbrev pub init_in : State → ℕ → Option InitData
 init_in s r = option_map (λ rec. rec.init) (recording_of s r)
 
 -- at a body's first unit the state is looked at, once, for the init section under which its units are read
-pub record LooksFor (r : ℕ) (x : Progress) (found : Option InitData) (z : Known) : Type 0 where
+pub record LooksFor (r : ℕ) (x : Progress) (found : Option InitData) (z : List Act) : Type 0 where
   pub first : x.init ≡ None
   pub state : State
-  pub looks : Looks x.known state z
+  pub looks : Looks x.acts state z
   pub found_is : found ≡ init_in state r
 
-abbrev pub FindsInit : ℕ → Progress → InitData → Known → Type 0
-FindsInit r x init z = ((x.init ≡ Some init) × (z ≡ x.known)) ⊎ LooksFor r x (Some init) z
+abbrev pub FindsInit : ℕ → Progress → InitData → List Act → Type 0
+FindsInit r x init z = ((x.init ≡ Some init) × (z ≡ x.acts)) ⊎ LooksFor r x (Some init) z
 
 -- an init section that is new, or the rendition's own once more
 pub record TakesInit (r : ℕ) (x : Progress) (bytes : List ℕ) (y : Progress) : Type 0 where
   pub init : InitData
   pub reads : IsInit bytes init
   pub done : Done
-  pub submits : Submits x.known (Begin r init bytes) (Ok done) y.known
+  pub submits : Submits x.acts (Begin r init bytes) (Ok done) y.acts
   pub kept : y.init ≡ x.init
   pub counts : y.counts ≡ with_init done x.counts
 
 -- a unit that is new, or one of the rendition's own once more
 pub record TakesUnit (r : ℕ) (x : Progress) (bytes : List ℕ) (y : Progress) : Type 0 where
   pub init : InitData
-  pub looked : Known
+  pub looked : List Act
   pub finds : FindsInit r x init looked
   pub facts : Facts
   pub reads : IsUnit init bytes facts
   pub done : Done
-  pub submits : Submits looked (Accept r facts bytes) (Ok done) y.known
+  pub submits : Submits looked (Accept r facts bytes) (Ok done) y.acts
   pub kept : y.init ≡ Some init
   pub counts : y.counts ≡ with_unit done x.counts
 
@@ -106,41 +106,41 @@ Takes r x (parts.Unit bytes) y = TakesUnit r x bytes y
 -- ---- refusals
 
 -- an init section that isn't good, or that the channel refuses
-abbrev pub RefusesInit : ℕ → Known → List ℕ → StreamFault → Known → Type 0
-RefusesInit r known bytes (Boxes fault) z = ⊥
-RefusesInit r known bytes (Media fault) z = (init_of bytes ≡ Err fault) × (z ≡ known)
-RefusesInit r known bytes (Core refusal) z =
-    (refusal ≢ Memory) × ((init : InitData) × IsInit bytes init × Submits known (Begin r init bytes) (Err refusal) z)
+abbrev pub RefusesInit : ℕ → List Act → List ℕ → StreamFault → List Act → Type 0
+RefusesInit r before bytes (Boxes fault) z = ⊥
+RefusesInit r before bytes (Media fault) z = (init_of bytes ≡ Err fault) × (z ≡ before)
+RefusesInit r before bytes (Core refusal) z =
+    (refusal ≢ Memory) × ((init : InitData) × IsInit bytes init × Submits before (Begin r init bytes) (Err refusal) z)
 
 -- a unit before any init section
-pub record IsTooEarly (r : ℕ) (x : Progress) (refusal : Refusal) (z : Known) : Type 0 where
+pub record IsTooEarly (r : ℕ) (x : Progress) (refusal : Refusal) (z : List Act) : Type 0 where
   pub looked : LooksFor r x None z
   pub refusal_is : refusal ≡ NoInit
 
 -- a unit that the channel refuses
-pub record RefusesUnitAt (r : ℕ) (x : Progress) (bytes : List ℕ) (refusal : Refusal) (z : Known) : Type 0 where
+pub record RefusesUnitAt (r : ℕ) (x : Progress) (bytes : List ℕ) (refusal : Refusal) (z : List Act) : Type 0 where
   pub init : InitData
-  pub looked : Known
+  pub looked : List Act
   pub finds : FindsInit r x init looked
   pub facts : Facts
   pub reads : IsUnit init bytes facts
   pub told : refusal ≢ Memory
   pub submits : Submits looked (Accept r facts bytes) (Err refusal) z
 
-abbrev pub RefusesUnit : ℕ → Progress → List ℕ → StreamFault → Known → Type 0
+abbrev pub RefusesUnit : ℕ → Progress → List ℕ → StreamFault → List Act → Type 0
 RefusesUnit r x bytes (Boxes fault) z = ⊥
 RefusesUnit r x bytes (Media fault) z = (init : InitData) × FindsInit r x init z × (facts init bytes ≡ Err fault)
 RefusesUnit r x bytes (Core refusal) z = IsTooEarly r x refusal z ⊎ RefusesUnitAt r x bytes refusal z
 
-abbrev pub Refuses : ℕ → Progress → Part → StreamFault → Known → Type 0
-Refuses r x (parts.Init bytes) fault z = RefusesInit r x.known bytes fault z
+abbrev pub Refuses : ℕ → Progress → Part → StreamFault → List Act → Type 0
+Refuses r x (parts.Init bytes) fault z = RefusesInit r x.acts bytes fault z
 Refuses r x (parts.Unit bytes) fault z = RefusesUnit r x bytes fault z
 
--- what one part comes to: it is taken, or refused; want of memory leaves what the pass knows but for a later state seen
+-- what one part comes to: it is taken, or refused; where memory is wanted nothing comes of it
 abbrev pub PartComes : ℕ → Progress → Part → Progress → Result (Unit {0}) Untaken → Type 0
 PartComes r x part y (Ok taken) = Takes r x part y
-PartComes r x part y (Err (untaken.Refused fault)) = Refuses r x part fault y.known × (y.counts ≡ x.counts)
-PartComes r x part y (Err untaken.Memory) = LookedOn x.known y.known
+PartComes r x part y (Err (untaken.Refused fault)) = Refuses r x part fault y.acts × (y.counts ≡ x.counts)
+PartComes r x part y (Err untaken.Memory) = ActsInVain x.acts y.acts
 
 -- ---- a body, by the whole of its content
 
@@ -158,30 +158,29 @@ ends_at (Data n) size = false
 ends_at Trailers size = false
 
 -- all of the content came, and its parts are taken: it is whole, or ends inside a part
-pub record IsEnded (r : ℕ) (start : Known) (content : List ℕ) (last : Body) (y : Progress) (result : Result (Unit {0}) StreamFault) : Type 0 where
+pub record IsEnded (r : ℕ) (content : List ℕ) (last : Body) (y : Progress) (result : Result (Unit {0}) StreamFault) : Type 0 where
   pub over : last ≡ Length 0
-  pub taken : IsTaken (PartComes r) (begun start) content y
+  pub taken : IsTaken (PartComes r) begun content y
   pub ends : EndsSo content result
 
--- the first `size` bytes of the content, and no fewer, show a refusal: what stands behind them is never looked at. Less came of it than
--- a source's buffer holds
-pub record IsRefusedAt (size : ℕ) (r : ℕ) (start : Known) (content : List ℕ) (fault : StreamFault) (y : Progress) : Type 0 where
-  pub refuses : RefusesAt (PartComes r) (begun start) content size fault y
+-- the first `size` bytes of the content, and no fewer, show a refusal: what stands behind them is never looked at. Less than 65536
+-- bytes came behind them
+pub record IsRefusedAt (size : ℕ) (r : ℕ) (content : List ℕ) (fault : StreamFault) (y : Progress) : Type 0 where
+  pub refuses : RefusesAt (PartComes r) begun content size fault y
   pub few : length content < size + 65536
 
--- what the body comes to, of which so much content came, and whether more of it is still to come behind what is refused: Truncated
--- stands at the body's end, and every other refusal where it shows. Where no more of the body comes, all that came was taken
-abbrev pub BodyComes : ℕ → Known → Body → List ℕ → Body → List ℕ → Option (List ℕ) → Progress → Bool → Result (Unit {0}) Intake → Type 0
-BodyComes r start body content last held left y early (Ok done) = IsEnded r start content last y (Ok done)
-BodyComes r start body content last held left y early (Err (came.Refused fault)) =
-    (IsEnded r start content last y (Err fault) × (early ≡ false))
-    ⊎ ((size : ℕ) × IsRefusedAt size r start content fault y × (early ≡ not (ends_at body size)))
-BodyComes r start body content last held left y early (Err came.Memory) = Wants (PartComes r) (begun start) content y
-BodyComes r start body content last held left y early (Err (came.Stopped end)) = IsTaken (PartComes r) (begun start) content y × Stops last held left end
+-- why no more of a body comes that stands so, where this is unread
+abbrev pub Stops : Body → List ℕ → BodyEnd → Type 0
+Stops last unread bodies.BadFraming = IsBroken last unread
+Stops last unread bodies.CutShort = IsOpen last unread
+Stops last unread bodies.ReadFailed = IsOpen last unread
 
--- a body whose parts are taken as they come, from where its head ended
-pub record Ingests (r : ℕ) (start : Known) (body : Body) (input : List ℕ) (last : Body) (held : List ℕ) (left : Option (List ℕ))
-    (y : Progress) (early : Bool) (result : Result (Unit {0}) Intake) : Type 0 where
-  pub content : List ℕ
-  pub goes : Goes body input content last held left
-  pub comes : BodyComes r start body content last held left y early result
+-- what the body comes to, of which so much content came, and whether the reply is given before its end: Truncated stands at the body's
+-- end, and every other refusal where it shows. Where no more of the body comes, all that came was taken
+abbrev pub BodyComes : ℕ → Body → List ℕ → Body → List ℕ → Progress → Bool → Result (Unit {0}) Intake → Type 0
+BodyComes r body content last unread y early (Ok done) = IsEnded r content last y (Ok done) × (early ≡ false)
+BodyComes r body content last unread y early (Err (came.Refused fault)) =
+    (IsEnded r content last y (Err fault) × (early ≡ false))
+    ⊎ ((size : ℕ) × IsRefusedAt size r content fault y × (early ≡ not (ends_at body size)))
+BodyComes r body content last unread y early (Err came.Memory) = Wants (PartComes r) begun content y
+BodyComes r body content last unread y early (Err (came.Stopped end)) = IsTaken (PartComes r) begun content y × Stops last unread end

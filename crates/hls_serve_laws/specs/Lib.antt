@@ -1,3 +1,5 @@
+pub mod Acts
+pub mod Connections
 pub mod Faults
 pub mod Heard
 pub mod Ingest

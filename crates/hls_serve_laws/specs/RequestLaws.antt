@@ -1,8 +1,7 @@
--- What a session answered, as requests of the standard's grammar.
+-- What a connection answered, as requests of the standard's grammar.
 use Rattle.std.specs.Prelude.{◌≡◌, ℕ, List, length}
 use Rattle.hls_http_laws.specs.Requests.{Request, Cuts}
-use Rattle.hls_turn.specs.Passes.{Known}
-use Rattle.hls_serve_laws.specs.Sessions.{RunsIn}
+use Rattle.hls_serve_laws.specs.Connections.{Exchange, Serves}
 
 -- the text begins with so many requests, each a head and its whole body, and then the rest
 pub record BeginsWith (count : ℕ) (text rest : List ℕ) : Type 0 where
@@ -10,6 +9,6 @@ pub record BeginsWith (count : ℕ) (text rest : List ℕ) : Type 0 where
   pub so_many : length requests ≡ count
   pub cuts : Cuts text requests rest
 
--- the requests behind whose replies a session went on are the first ones of its input, and what is to come stands right behind them
+-- the requests behind whose replies a connection goes on are the first ones of its stream, and what is to come stands right behind them
 abbrev pub RequestsAreRead : Type 0
-RequestsAreRead = (count : ℕ) (a b : Known) (input text rest : List ℕ) → RunsIn count a input text b rest → BeginsWith count input rest
+RequestsAreRead = (count : ℕ) (stream rest : List ℕ) (over : List Exchange) → Serves count stream over rest → BeginsWith (length over) stream rest

@@ -21,8 +21,8 @@ pub fn allow_names_methods()
     ensures { AllowNamesMethods }
 {}
 
-/// The requests behind whose replies a session went on are the first ones of its input by the standard's grammar (RFC 9112), each
-/// a head and its whole body, and what the session hears next stands right behind them.
+/// The requests behind whose replies a connection went on are the first ones of its stream by the standard's grammar (RFC 9112),
+/// each a head and its whole body, and what is to come stands right behind them.
 pub fn requests_are_read()
     ensures { RequestsAreRead }
 {}

@@ -3,7 +3,8 @@
 //!
 //! The definitions stand in `specs/`: [`Routes`](../specs/Routes.antt) reads a path, [`Replies`](../specs/Replies.antt)
 //! says what a state is replied as, [`Ingest`](../specs/Ingest.antt) what the parts of a body come to,
-//! [`Heard`](../specs/Heard.antt) what one request comes to, and [`Sessions`](../specs/Sessions.antt) a session.
+//! [`Acts`](../specs/Acts.antt) what a keeper is asked and what that does, [`Heard`](../specs/Heard.antt) what one request comes
+//! to, [`Connections`](../specs/Connections.antt) what came of a connection, and [`Sessions`](../specs/Sessions.antt) a session.
 #![tactic(auto)]
 
 pub mod fault;

@@ -164,6 +164,12 @@ impl Taker for Recording {
 
     ghost comes = { λ recording. PartComes };
 
+    ghost goes = { λ kept recorder later now. Unit {0} };
+
+    ghost stays = { λ kept recorder. tt };
+
+    ghost goes_on = { λ kept recorder later now last then first second. tt };
+
     fn take(&self, _kept: &mut (), recorder: &mut Recorder, part: Part) -> Result<(), Untaken> {
         match part {
             Part::Init(bytes) => recorder.accept_init(self.alloc, bytes),

@@ -19,6 +19,8 @@ loop-part-preserved g c =
     let y = g.T.Taker.progress c.loop-part.kept c.loop-part.channel in
     let z = g.T.Taker.progress c.take-in-Some.new.kept c.take-in-Some.new.channel in record {
       fits = c.take-in-Some.ensures.fits;
+      goes = g.T.Taker.goes_on c.args.kept.now c.args.channel.now c.loop-part.kept c.loop-part.channel c.take-in-Some.new.kept c.take-in-Some.new.channel
+          c.loop-part.invariant.goes c.take-in-Some.ensures.goes;
       taken = taken_part (g.T.Taker.comes c.args.taker.now) x y z c.args.reader.now c.loop-part.reader c.take.new.self c.in-Some.part c.loop-part.invariant.taken first c.in_ok-take.ensures.comes;
       fault = sym (ap (λ (cut : Cut). fault_left cut.left) first.now) ∙ c.loop-part.invariant.fault;
     }

@@ -19,6 +19,7 @@ returns-in_err-drain-in_default g c =
     let x = g.T.Taker.progress c.args.kept.now c.args.channel.now in
     let y = g.T.Taker.progress c.drain-in_default.new.kept c.drain-in_default.new.channel in record {
       fits = c.drain-in_default.ensures.fits;
+      goes = c.drain-in_default.ensures.goes;
       feeds = λ start content reached.
           let fed = refusal_is c.in-Err.fault c.args.reader.now c.args.piece.now c.feed.new.self (fault_before content c.args.reader.now reached.left reached.taken.no_fault) c.in_default.not-Memory c.in-Err.ensures.err in
           rw is
@@ -31,6 +32,7 @@ returns-in_ok-drain-in_default g c =
     let x = g.T.Taker.progress c.args.kept.now c.args.channel.now in
     let y = g.T.Taker.progress c.drain-in_default.new.kept c.drain-in_default.new.channel in record {
       fits = c.drain-in_default.ensures.fits;
+      goes = c.drain-in_default.ensures.goes;
       feeds = λ start content reached.
           let fed = refusal_is c.in-Err.fault c.args.reader.now c.args.piece.now c.feed.new.self (fault_before content c.args.reader.now reached.left reached.taken.no_fault) c.in_default.not-Memory c.in-Err.ensures.err in
           broken_behind (g.T.Taker.comes c.args.taker.now) start x y content c.args.reader.now c.args.piece.now c.drain-in_default.new.reader c.in-Err.fault reached

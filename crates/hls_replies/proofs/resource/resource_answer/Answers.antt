@@ -1,8 +1,8 @@
-use Rattle.std.proofs.Common.{◌≡◌, ◌∙◌, List, ℕ, IfOk, ap, arith, drop, subst, sym, take}
+use Rattle.std.proofs.Common.{◌≡◌, ◌∙◌, List, ℕ, IfOk, ap, drop, subst, take}
 use Rattle.hls_jobs.specs.Standing.{files_of}
 use Rattle.hls_serve_laws.specs.Replies.{Answer}
 use Rattle.hls_replies.specs.Contents.{resource_in}
-use Rattle.hls_replies.proofs.Shown.{job-fits, job-slice-shown, job-whole-shown, joined-slices, part-fits}
+use Rattle.hls_replies.proofs.Shown.{job-slice-shown, job-whole-shown, joined-slices}
 use Rattle.hls_replies.proofs.resource.resource_answer.Goals as goal
 
 pub returns-in-Whole : goal.returns-in-Whole

@@ -1,0 +1,7 @@
+use Rattle.hls_http.proofs.Buffers.{takes}
+use Rattle.hls_http.proofs.input.Input.take.Goals as goal
+
+pub returns : goal.returns
+returns c =
+    let s = c.self.inside in
+    takes s.buffer.items s.from s.start s.end c.args.len c.args.self.now c.self.invariant.1 c.self.view_is c.requires

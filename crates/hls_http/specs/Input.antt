@@ -1,0 +1,24 @@
+-- What one read brings.
+use Rattle.std.specs.Prelude.{◌≡◌, ℕ, ◌<◌, List, [], ◌++◌, length, Option}
+use Rattle.std.specs.Io.KnownBytes.{Consumes, IsAtEnd}
+use Rattle.hls_io.specs.Rose.{Rose}
+use Rattle.hls_http.specs.declared.input.Filled.{Filled}
+use Rattle.hls_http.specs.declared.input.Filled.TheVariants.{More, AtEnd, Failed}
+
+-- some bytes; or none, at the end of the input or for a failure
+abbrev pub Brings : Filled → List ℕ → Option (List ℕ) → Type 0
+Brings More bytes left = 0 < length bytes
+Brings AtEnd bytes left = (bytes ≡ []) × IsAtEnd left
+Brings Failed bytes left = bytes ≡ []
+
+-- these bytes came of the reader, and stand behind those that were unread
+pub record Reads (old new : List ℕ) (before left : Option (List ℕ)) (filled : Filled) : Type 0 where
+  pub bytes : List ℕ
+  pub behind : new ≡ old ++ bytes
+  pub consumes : Consumes before left bytes
+  pub brings : Brings filled bytes left
+
+abbrev pub CountsFill : Filled → ℕ → ℕ → Type 0
+CountsFill More old new = new ≡ old
+CountsFill AtEnd old new = new ≡ old
+CountsFill Failed old new = Rose old new

@@ -1,0 +1,5 @@
+use Rattle.hls_http_laws.proofs.StayLaws.{heads_one, requests_one}
+use Rattle.hls_http_laws.proofs.laws.requests_are_one.Goals as goal
+
+pub returns : goal.returns
+returns c = record { heads = heads_one; requests = requests_one }

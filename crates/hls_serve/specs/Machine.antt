@@ -1,0 +1,119 @@
+-- For the proofs of this crate; no public clause cites it.
+-- A connection but for its input, in the middle of its stream.
+use Rattle.std.specs.Prelude.{◌≡◌, ◌⊎◌, ℕ, ◌<◌, Bool, true, false, List, [], ◌++◌, length, flat_map, Option, Some, None, IsFalse}
+use Rattle.httparse.specs.Grammar.{RequestHead}
+use Rattle.hls_core_laws.specs.IsState.{IsState}
+use Rattle.hls_http_laws.specs.Heads.{ReadsSmall}
+use Rattle.hls_turn.specs.Passes.{Known}
+use Rattle.hls_serve_laws.specs.Acts.{Act}
+use Rattle.hls_serve_laws.specs.Connections.{Exchange, Serves, Stage, Between, Within, Over, IsBetween, Stands, acts_of, text_of}
+use Rattle.hls_serve.specs.declared.call.Call.{Call}
+use Rattle.hls_serve.specs.declared.ending.Ending.{Ending}
+use Rattle.hls_serve.specs.declared.ending.Ending.TheVariants as own
+use Rattle.hls_serve.specs.declared.machine.Machine.{Machine}
+use Rattle.hls_serve.specs.declared.machine.State.{State}
+use Rattle.hls_serve.specs.declared.machine.State.TheVariants as states
+use Rattle.hls_serve.specs.Endings.{end_of}
+use Rattle.hls_serve.specs.Taken.{IsUsable}
+use Rattle.hls_serve.specs.Turns.{IsCall}
+use Rattle.hls_serve.specs.Within.{DropsBody, IsDropping, IsFeeding}
+
+-- what was asked for the requests that are over
+abbrev pub asked_in : Machine → List Act
+asked_in m = flat_map (λ acts. acts.0) m.asked.items
+
+-- what was asked for the body that is being read
+abbrev pub asked_now : State → List Act
+asked_now states.Head = []
+asked_now (states.Drop d) = []
+asked_now (states.Feed f) = f.taken.acts
+asked_now (states.Over end) = []
+
+-- all that was asked
+abbrev pub total : Machine → List Act
+total m = asked_in m ++ asked_now m.state
+
+-- where a machine stands, in the words of connections
+abbrev pub stage_of : State → Stage
+stage_of states.Head = Between
+stage_of (states.Drop d) = Within
+stage_of (states.Feed f) = Within
+stage_of (states.Over end) = Over (end_of end)
+
+-- what the state says of the stream behind the requests that were answered
+abbrev pub StandsIn : State → ℕ → Bool → List ℕ → List Act → List ℕ → List ℕ → Type 0
+StandsIn states.Head count ended stream acts text unread = IsBetween stream acts text unread
+StandsIn (states.Drop d) count ended stream acts text unread = IsDropping count stream text d unread × (acts ≡ [])
+StandsIn (states.Feed f) count ended stream acts text unread = IsFeeding count stream text f unread × (acts ≡ [])
+StandsIn (states.Over end) count ended stream acts text unread = Stands (Over (end_of end)) count ended stream acts text unread
+
+-- it holds of what was received and handed out, what was asked for the requests that are over, what waits and what is unread
+pub record Holds (count : ℕ) (received : List ℕ) (ended : Bool) (sent : List ℕ) (state : State) (asked : List Act) (pending unread : List ℕ) : Type 0 where
+  pub over : List Exchange
+  pub rest : List ℕ
+  pub serves : (later : List ℕ) → Serves count (received ++ later) over (rest ++ later)
+  pub acts : List Act
+  pub asked_is : asked ≡ acts_of over ++ acts
+  pub text : List ℕ
+  pub written : sent ++ pending ≡ text_of over ++ text
+  pub stands : StandsIn state count ended rest acts text unread
+
+-- .. of a machine
+abbrev pub HoldsAt : List ℕ → Bool → List ℕ → Machine → List ℕ → Type 0
+HoldsAt received ended sent m unread = Holds m.renditions received ended sent m.state (asked_in m) m.output unread
+
+-- whatever was received and handed out before
+abbrev pub Goes : Bool → Machine → List ℕ → Machine → List ℕ → Type 0
+Goes ended old before new after = (received sent : List ℕ) → HoldsAt received ended sent old before → HoldsAt received ended sent new after
+
+-- .. from a state that was taken out of the machine
+abbrev pub GoesFrom : State → Bool → Machine → List ℕ → Machine → List ℕ → Type 0
+GoesFrom state ended old before new after =
+    (received sent : List ℕ) → Holds old.renditions received ended sent state (asked_in old) old.output before → HoldsAt received ended sent new after
+
+-- a head was just taken, of which this was kept
+pub record AtHead (count : ℕ) (received sent : List ℕ) (asked : List Act) (call : Call) (unread : List ℕ) : Type 0 where
+  pub over : List Exchange
+  pub rest : List ℕ
+  pub serves : (later : List ℕ) → Serves count (received ++ later) over (rest ++ later)
+  pub asked_is : asked ≡ acts_of over
+  pub written : sent ≡ text_of over
+  pub head : RequestHead
+  pub reads : (later : List ℕ) → ReadsSmall (rest ++ later) head (unread ++ later)
+  pub is_call : IsCall count head call
+
+abbrev pub GoesBehind : Call → Bool → Machine → Machine → List ℕ → Type 0
+GoesBehind call ended old new unread =
+    (received sent : List ℕ) → AtHead old.renditions received sent (asked_in old) call unread → HoldsAt received ended sent new unread
+
+-- the keeper suits the machine: it has seen a state, with the init section under which a body is read
+abbrev pub SuitsIn : Known → State → Type 0
+SuitsIn known (states.Drop d) = DropsBody d
+SuitsIn known (states.Feed f) = IsUsable f.rendition known f.taken.init
+SuitsIn known state = Unit {0}
+
+abbrev pub Suits : Known → Machine → Type 0
+Suits known m = IsState known.seen × SuitsIn known m.state
+
+-- ---- where nothing more can be done
+
+abbrev pub state_behind : Option Ending → State
+state_behind None = states.Head
+state_behind (Some end) = states.Over end
+
+abbrev pub waited_head : Bool → Bool → State
+waited_head empty false = states.Head
+waited_head true true = states.Over own.Closed
+waited_head false true = states.Over own.CutShort
+
+abbrev pub IsOver : State → Type 0
+IsOver (states.Over end) = Unit {0}
+IsOver state = ⊥
+
+abbrev pub GoesOnIn : State → Type 0
+GoesOnIn (states.Over end) = ⊥
+GoesOnIn state = Unit {0}
+
+-- something waits to be handed out, or all is over, or more is to be read and there is room for it
+abbrev pub Rests : Bool → Machine → List ℕ → Type 0
+Rests ended m unread = (0 < length m.output) ⊎ (IsOver m.state ⊎ (IsFalse ended × (length unread < 16384)))

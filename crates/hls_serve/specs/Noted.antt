@@ -1,0 +1,32 @@
+-- For the proofs of this crate; no public clause cites it but by a list of acts.
+-- What was noted of a keeper's acts.
+use Rattle.std.specs.Prelude.{◌≡◌, List, [], ◌∷◌, ◌++◌, Result, Ok, Err}
+use Rattle.hls_core_laws.specs.declared.event.Event.{Event}
+use Rattle.hls_core_laws.specs.declared.refusal.Refusal.{Refusal}
+use Rattle.std.specs.declared.sync.Arc.{Arc}
+use Rattle.hls_core_laws.specs.State.{State}
+use Rattle.hls_turn.specs.declared.done.Done.{Done}
+use Rattle.hls_serve_laws.specs.Acts.{Act, Looked, LookedInVain, Submitted, Looks}
+use Rattle.hls_serve.specs.declared.acts.Noted.{Noted}
+use Rattle.hls_serve.specs.declared.acts.Noted.TheVariants as noted
+
+abbrev pub act_of_look : {A B : Type 0} → List (Arc State A × B) → Act
+act_of_look [] = LookedInVain
+act_of_look ((s, n) ∷ others) = Looked s.value
+
+abbrev pub act_of_event : {B : Type 0} → List (Event × B) → Result Done Refusal → Act
+act_of_event [] answer = LookedInVain
+act_of_event ((event, n) ∷ others) answer = Submitted event answer
+
+abbrev pub act_of : Noted → Act
+act_of (noted.Looked note) = act_of_look note.items
+act_of noted.LookedInVain = LookedInVain
+act_of (noted.Submitted note answer) = act_of_event note.items answer
+
+abbrev pub act_in : {B : Type 0} → Noted × B → Act
+act_in note = act_of note.0
+
+-- a state is shown, or none
+abbrev pub LookedSo : {A E : Type 0} → List Act → Result (Arc State A) E → List Act → Type 0
+LookedSo before (Ok s) after = Looks before s.value after
+LookedSo before (Err e) after = after ≡ before ++ LookedInVain ∷ []

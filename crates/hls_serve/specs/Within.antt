@@ -1,0 +1,106 @@
+-- For the proofs of this crate; no public clause cites it.
+-- A request whose body is being read, and what comes next of it.
+use Rattle.std.specs.Prelude.{◌≡◌, ℕ, ◌+◌, ◌<◌, false, not, List, ◌++◌, length, Option, Some, Result, Ok, Err}
+use Rattle.httparse.specs.Grammar.{RequestHead}
+use Rattle.hls_feed.specs.Streams.{Reached}
+use Rattle.hls_http_laws.specs.declared.body.Body.{Body}
+use Rattle.hls_http_laws.specs.declared.plan.Plan.{Plan}
+use Rattle.hls_http_laws.specs.declared.plan.Plan.TheVariants.{Feed, Skip}
+use Rattle.hls_http_laws.specs.Bodies.{Runs, IsOpen}
+use Rattle.hls_http_laws.specs.Heads.{ReadsSmall}
+use Rattle.hls_http_laws.specs.Order.{is_over}
+use Rattle.hls_http.specs.declared.body.BodyEnd.TheVariants as bodies
+use Rattle.hls_http.specs.declared.drain.DropEnd.{DropEnd}
+use Rattle.hls_http.specs.declared.drain.DropEnd.TheVariants as drops
+use Rattle.hls_http.specs.Drained.{announced_by}
+use Rattle.hls_serve_laws.specs.declared.ingest.Intake.{Intake}
+use Rattle.hls_serve_laws.specs.declared.ingest.Intake.TheVariants as came
+use Rattle.hls_serve_laws.specs.declared.route.Route.TheVariants as routes
+use Rattle.hls_serve_laws.specs.Acts.{Act}
+use Rattle.hls_serve_laws.specs.Heard.{Drops, Heard, first_of, request_of}
+use Rattle.hls_serve_laws.specs.Ingest.{BodyComes, PartComes, begun}
+use Rattle.hls_serve_laws.specs.Routes.{feeds}
+use Rattle.hls_serve.specs.declared.call.Call.{Call}
+use Rattle.hls_serve.specs.declared.dropping.Dropping.{Dropping}
+use Rattle.hls_serve.specs.declared.ending.Ending.{Ending}
+use Rattle.hls_serve.specs.declared.feeding.Feeding.{Feeding}
+use Rattle.hls_serve.specs.declared.next.Next.{Next}
+use Rattle.hls_serve.specs.declared.next.Next.TheVariants.{More, Wait, Over}
+use Rattle.hls_serve.specs.Taken.{progress_of}
+use Rattle.hls_serve.specs.Turns.{IsCall, Replies}
+
+-- at the front of the stream, whatever follows it, stand a head, of which this was kept, and some of a body, which now stands so; this
+-- was written for it first
+pub record HasBody (count : ℕ) (stream first : List ℕ) (call : Call) (plan : Body → Plan) (last : Body) (unread : List ℕ) : Type 0 where
+  pub head : RequestHead
+  pub behind : List ℕ
+  pub reads : (later : List ℕ) → ReadsSmall (stream ++ later) head (behind ++ later)
+  pub is_call : IsCall count head call
+  pub body : Body
+  pub plan_is : (request_of count head).plan ≡ plan body
+  pub content : List ℕ
+  pub runs : (later : List ℕ) → Runs body (behind ++ later) content last (unread ++ later)
+  pub first_is : first ≡ first_of head (request_of count head).plan
+
+-- a reply to such a request, for which the keeper was asked this, whatever follows
+abbrev pub RepliesTo : ℕ → List ℕ → List ℕ → List Act → List ℕ → List ℕ → Option Ending → Type 0
+RepliesTo count stream first acts unread text end =
+    Replies (λ due. (later : List ℕ) → Heard count (stream ++ later) acts due (unread ++ later)) text end first
+
+-- ---- a body that is dropped
+
+pub record IsDropping (count : ℕ) (stream first : List ℕ) (d : Dropping) (unread : List ℕ) : Type 0 where
+  pub at : HasBody count stream first d.call Skip d.body unread
+  pub route : d.call.route ≡ Some d.route
+  pub all : (d.room + length at.content) + announced_by d.body ≡ 65536
+
+-- its route and method are no encoder's
+abbrev pub DropsBody : Dropping → Type 0
+DropsBody d = feeds (Some d.route) d.call.head.method ≡ false
+
+-- a body of which no more comes is replied to where its framing is bad
+abbrev pub IsToDrop : Result (Unit {0}) DropEnd → Type 0
+IsToDrop (Ok done) = Unit {0}
+IsToDrop (Err drops.TooLarge) = Unit {0}
+IsToDrop (Err (drops.Stopped end)) = end ≡ bodies.BadFraming
+
+pub record IsDropped (count : ℕ) (stream first : List ℕ) (d : Dropping) (unread : List ℕ) (result : Result (Unit {0}) DropEnd) : Type 0 where
+  pub at : HasBody count stream first d.call Skip d.body unread
+  pub route : d.call.route ≡ Some d.route
+  pub dropped : Drops at.content d.body unread result
+  pub replied : IsToDrop result
+
+abbrev pub DropsOn : ℕ → List ℕ → List ℕ → Dropping → List ℕ → Next DropEnd → Type 0
+DropsOn count stream first d unread More = IsDropping count stream first d unread
+DropsOn count stream first d unread Wait = IsDropping count stream first d unread × (length unread < 16384) × IsOpen d.body unread
+DropsOn count stream first d unread (Over result) = IsDropped count stream first d unread result
+
+-- .. where no more of it is read
+abbrev pub IsToReply : {E : Type 0} → (Result (Unit {0}) E → Type 0) → Next E → Type 0
+IsToReply Is More = Unit {0}
+IsToReply Is Wait = Unit {0}
+IsToReply Is (Over result) = Is result
+
+-- ---- an encoder's body
+
+pub record IsFeeding (count : ℕ) (stream first : List ℕ) (f : Feeding) (unread : List ℕ) : Type 0 where
+  pub at : HasBody count stream first f.call Feed f.body unread
+  pub route : f.call.route ≡ Some (routes.Ingest f.rendition)
+  pub reached : Reached (PartComes f.rendition) begun at.content f.reader (progress_of f.taken)
+
+abbrev pub IsToFeed : Result (Unit {0}) Intake → Type 0
+IsToFeed (Ok done) = Unit {0}
+IsToFeed (Err (came.Refused fault)) = Unit {0}
+IsToFeed (Err came.Memory) = Unit {0}
+IsToFeed (Err (came.Stopped end)) = end ≡ bodies.BadFraming
+
+pub record IsFedUp (count : ℕ) (stream first : List ℕ) (f : Feeding) (unread : List ℕ) (result : Result (Unit {0}) Intake) : Type 0 where
+  pub at : HasBody count stream first f.call Feed f.body unread
+  pub route : f.call.route ≡ Some (routes.Ingest f.rendition)
+  pub comes : BodyComes f.rendition at.body at.content f.body unread (progress_of f.taken) (not (is_over f.body)) result
+  pub replied : IsToFeed result
+
+abbrev pub FeedsOn : ℕ → List ℕ → List ℕ → Feeding → List ℕ → Next Intake → Type 0
+FeedsOn count stream first f unread More = IsFeeding count stream first f unread
+FeedsOn count stream first f unread Wait = IsFeeding count stream first f unread × (length unread < 16384) × IsOpen f.body unread
+FeedsOn count stream first f unread (Over result) = IsFedUp count stream first f unread result

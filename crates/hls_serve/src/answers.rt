@@ -1,0 +1,80 @@
+//! What is replied to a request once no more of its body is read.
+
+ghost use Rattle.std.specs.Prelude.{◌≡◌, ℕ, List, []};
+ghost use Rattle.hls_serve_laws.specs.Acts.{Acted};
+ghost use Rattle.hls_serve.specs.Within.{DropsBody, IsDropped, IsFedUp, IsToDrop, IsToFeed, RepliesTo};
+
+use crate::acts::Acts;
+use crate::dropping::Dropping;
+use crate::feeding::Feeding;
+use crate::keeper::Keeper;
+use crate::news::{Ingested, News, Observer};
+use crate::reply::{Reply, refuse, reply_with};
+use crate::respond::respond;
+use hls_http::{DropEnd, HttpFault, is_over};
+use hls_replies::{refused_answer, taken_answer};
+use hls_serve_laws::ingest::Intake;
+use std::alloc::{AllocError, Global};
+
+/// To one whose body was dropped, or couldn't be.
+pub(crate) fn answer_dropped<K: Keeper, O: Observer>(
+    dropping: &Dropping,
+    dropped: Result<(), DropEnd>,
+    keeper: &mut K,
+    acts: &mut Acts,
+    observer: &O,
+) -> Reply
+    requires replied { IsToDrop dropped }
+    requires dropped { DropsBody dropping.now }
+    requires none { acts.old ≡ [] }
+    ensures replies { (count : ℕ) (stream first unread : List ℕ) → IsDropped count stream first dropping.now unread dropped
+        → RepliesTo count stream first acts.new unread result.output result.end }
+    ensures leads { Acted (K.known keeper.old) [] (K.known keeper.new) acts.new }
+{
+    let alloc = keeper.alloc();
+    let call = &dropping.call;
+    match dropped {
+        Ok(()) => {
+            let made = respond(keeper, acts, call, dropping.route);
+            reply_with(alloc, observer, call, made, false)
+        }
+        Err(DropEnd::TooLarge) => refuse(alloc, observer, call, HttpFault::TooLarge, true),
+        Err(DropEnd::Stopped(_)) => refuse(alloc, observer, call, HttpFault::BadFraming, true),
+    }
+}
+
+/// Tells how an encoder's body ended, or why no more of it is taken.
+pub(crate) fn tell_ingested<O: Observer>(feeding: &Feeding, fed: Result<(), Intake>, observer: &O) {
+    observer.tell(&News::Ingested(Ingested {
+        rendition: feeding.rendition,
+        counts: feeding.taken.counts,
+        result: fed,
+    }));
+}
+
+/// To one whose body is an encoder's, which ended, or of which no more is taken.
+pub(crate) fn answer_fed<O: Observer>(
+    alloc: Global,
+    feeding: &Feeding,
+    fed: Result<(), Intake>,
+    observer: &O,
+) -> Reply
+    requires replied { IsToFeed fed }
+    ensures { (count : ℕ) (stream first unread : List ℕ) → IsFedUp count stream first feeding.now unread fed
+        → RepliesTo count stream first feeding.now.taken.acts unread result.output result.end }
+{
+    tell_ingested(feeding, fed, observer);
+    let call = &feeding.call;
+    match fed {
+        Ok(()) => {
+            let made = taken_answer(alloc, feeding.taken.counts);
+            reply_with(alloc, observer, call, made, false)
+        }
+        Err(Intake::Refused(fault)) => {
+            let made = refused_answer(alloc, fault, feeding.taken.counts);
+            reply_with(alloc, observer, call, made, !is_over(feeding.body))
+        }
+        Err(Intake::Memory) => reply_with(alloc, observer, call, Err(AllocError), true),
+        Err(Intake::Stopped(_)) => refuse(alloc, observer, call, HttpFault::BadFraming, true),
+    }
+}

@@ -1,0 +1,63 @@
+//! A body that is dropped.
+
+ghost use Rattle.std.specs.Prelude.{◌≡◌, ◌≢◌, ◌<◌, ℕ, List, length};
+ghost use Rattle.hls_serve.specs.declared.next.Next.TheVariants as nexts;
+ghost use Rattle.hls_serve.specs.Within.{DropsOn, IsDropping, IsToDrop, IsToReply};
+
+use crate::call::Call;
+use crate::next::Next;
+use hls_http::{Body, BodyEnd, DropEnd, Input, Lack, Move, announced, find_move};
+use hls_serve_laws::route::Route;
+
+/// A request whose body is dropped, and how many bytes of it may still be announced.
+#[derive(Drop)]
+pub(crate) struct Dropping {
+    pub call: Call,
+    pub route: Route,
+    pub body: Body,
+    pub room: u64,
+}
+
+impl Dropping {
+    /// The body's end.
+    fn over(&self) -> Next<DropEnd>
+        requires over { self.now.body ≡ Body.Length 0 }
+        ensures ends { result ≢ nexts.Wait }
+        ensures replied { IsToReply IsToDrop result }
+        ensures drops { (count : ℕ) (stream first unread : List ℕ) → IsDropping count stream first self.now unread → DropsOn count stream first self.now unread result }
+    {
+        Next::Over(Ok(()))
+    }
+
+    /// Drops what stands at the input's front.
+    pub fn step(&mut self, input: &mut Input) -> Next<DropEnd>
+        ensures drops { (count : ℕ) (stream first : List ℕ) → IsDropping count stream first self.old input.old.unread → DropsOn count stream first self.new input.new.unread result }
+        ensures replied { IsToReply IsToDrop result }
+        ensures waits { result ≡ nexts.Wait → length input.new.unread < 16384 }
+        ensures call { self.new.call ≡ self.old.call }
+        ensures route { self.new.route ≡ self.old.route }
+    {
+        if self.body == Body::Length(0) {
+            return self.over();
+        }
+        match find_move(input.unread(), self.body) {
+            Ok(Move::Piece(len, next)) => {
+                input.take(len);
+                self.body = next;
+                Next::More
+            }
+            Ok(Move::Frame(len, next)) => {
+                let size = announced(next);
+                if size > self.room {
+                    return Next::Over(Err(DropEnd::TooLarge));
+                }
+                self.room -= size;
+                input.take(len);
+                self.body = next;
+                Next::More
+            }
+            Err(Lack::Wait) => Next::Wait,
+            Err(Lack::Bad) => Next::Over(Err(DropEnd::Stopped(BodyEnd::BadFraming))),
+        }
+    }
+}

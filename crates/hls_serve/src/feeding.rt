@@ -1,0 +1,101 @@
+//! An encoder's body, taken part by part as it comes.
+
+ghost use Rattle.std.specs.Prelude.{◌≡◌, ◌≢◌, ◌<◌, ◌≤◌, ℕ, List, length, take, drop};
+ghost use Rattle.hls_http_laws.specs.Bodies.{Steps};
+ghost use Rattle.hls_http.specs.Bodies.{IsLastAlone};
+ghost use Rattle.hls_serve_laws.specs.Acts.{Acted};
+ghost use Rattle.hls_serve.specs.Taken.{IsUsable};
+ghost use Rattle.hls_serve.specs.declared.next.Next.TheVariants as nexts;
+ghost use Rattle.hls_serve.specs.Within.{FeedsOn, IsFeeding, IsToFeed, IsToReply};
+
+use crate::call::Call;
+use crate::ingest::{Encoder, Taken};
+use crate::keeper::Keeper;
+use crate::next::Next;
+use hls_boxes::UnitReader;
+use hls_feed::{end, feed};
+use hls_http::{Body, BodyEnd, Input, Lack, Move, find_move};
+use hls_serve_laws::ingest::Intake;
+
+/// A request whose body is an encoder's: what was taken of it, and what was read and not yet taken.
+#[derive(Drop)]
+pub(crate) struct Feeding {
+    pub call: Call,
+    pub rendition: usize,
+    pub body: Body,
+    pub reader: UnitReader,
+    pub taken: Taken,
+}
+
+impl Feeding {
+    /// The body's end.
+    fn over(&self) -> Next<Intake>
+        requires over { self.now.body ≡ Body.Length 0 }
+        ensures ends { result ≢ nexts.Wait }
+        ensures replied { IsToReply IsToFeed result }
+        ensures feeds { (count : ℕ) (stream first unread : List ℕ) → IsFeeding count stream first self.now unread → FeedsOn count stream first self.now unread result }
+    {
+        match end(&self.reader) {
+            Ok(()) => Next::Over(Ok(())),
+            Err(fault) => Next::Over(Err(Intake::Refused(fault))),
+        }
+    }
+
+    /// Takes the next bytes of the content: each part that is whole is submitted before anything behind it is looked at.
+    fn piece<K: Keeper>(
+        &mut self,
+        input: &mut Input,
+        keeper: &mut K,
+        len: usize,
+        next: Body,
+    ) -> Next<Intake>
+        requires usable { IsUsable self.old.rendition (K.known keeper.old) self.old.taken.init }
+        requires within { len ≤ length input.old.unread }
+        requires some { 0 < len }
+        requires steps { Steps self.old.body input.old.unread (take len input.old.unread) next (drop len input.old.unread) }
+        requires alone { IsLastAlone self.old.body next }
+        ensures usable { IsUsable self.new.rendition (K.known keeper.new) self.new.taken.init }
+        ensures replied { IsToReply IsToFeed result }
+        ensures waits { result ≡ nexts.Wait → length input.new.unread < 16384 }
+        ensures leads { Acted (K.known keeper.old) self.old.taken.acts (K.known keeper.new) self.new.taken.acts }
+        ensures feeds { (count : ℕ) (stream first : List ℕ) → IsFeeding count stream first self.old input.old.unread → FeedsOn count stream first self.new input.new.unread result }
+        ensures call { self.new.call ≡ self.old.call }
+        ensures rendition { self.new.rendition ≡ self.old.rendition }
+    {
+        let encoder: Encoder<K> = Encoder::new(self.rendition);
+        let piece = &input.unread()[..len];
+        let fed = feed(&mut self.reader, &encoder, &mut self.taken, keeper, piece);
+        input.take(len);
+        self.body = next;
+        match fed {
+            Ok(()) => Next::More,
+            Err(untaken) => Next::Over(Err(Intake::from(untaken))),
+        }
+    }
+
+    /// Takes what stands at the input's front.
+    pub fn step<K: Keeper>(&mut self, input: &mut Input, keeper: &mut K) -> Next<Intake>
+        requires usable { IsUsable self.old.rendition (K.known keeper.old) self.old.taken.init }
+        ensures usable { IsUsable self.new.rendition (K.known keeper.new) self.new.taken.init }
+        ensures replied { IsToReply IsToFeed result }
+        ensures waits { result ≡ nexts.Wait → length input.new.unread < 16384 }
+        ensures leads { Acted (K.known keeper.old) self.old.taken.acts (K.known keeper.new) self.new.taken.acts }
+        ensures feeds { (count : ℕ) (stream first : List ℕ) → IsFeeding count stream first self.old input.old.unread → FeedsOn count stream first self.new input.new.unread result }
+        ensures call { self.new.call ≡ self.old.call }
+        ensures rendition { self.new.rendition ≡ self.old.rendition }
+    {
+        if self.body == Body::Length(0) {
+            return self.over();
+        }
+        match find_move(input.unread(), self.body) {
+            Ok(Move::Piece(len, next)) => self.piece(input, keeper, len, next),
+            Ok(Move::Frame(len, next)) => {
+                input.take(len);
+                self.body = next;
+                Next::More
+            }
+            Err(Lack::Wait) => Next::Wait,
+            Err(Lack::Bad) => Next::Over(Err(Intake::Stopped(BodyEnd::BadFraming))),
+        }
+    }
+}

@@ -1,0 +1,347 @@
+//! The steps of a connection, each from one place in its stream to the next. No system call is made, and nobody is waited for but
+//! the keeper.
+
+ghost use Rattle.std.specs.Prelude.{◌≡◌, ◌++◌, ℕ, List, [], length, Bool, IsFalse};
+ghost use Rattle.hls_core_laws.specs.IsState.{IsState};
+ghost use Rattle.hls_turn.specs.Passes.{Known};
+ghost use Rattle.hls_serve_laws.specs.Acts.{Acted};
+ghost use Rattle.hls_serve.specs.declared.machine.State.TheVariants as states;
+ghost use Rattle.hls_serve.specs.Machine.{Goes, GoesBehind, GoesFrom, Rests, Suits, SuitsIn, asked_in, asked_now, state_behind, total, waited_head};
+ghost use Rattle.httparse.specs.Grammar.{RequestHead};
+ghost use Rattle.hls_serve_laws.specs.Heard.{first_of};
+ghost use Rattle.hls_serve.specs.Taken.{IsUsable};
+ghost use Rattle.hls_serve.specs.Turns.{IsCall};
+ghost use Rattle.hls_serve.specs.Within.{DropsBody};
+
+use crate::acts::Acts;
+use crate::answers::{answer_dropped, answer_fed, tell_ingested};
+use crate::call::{Call, plan_of, read_call};
+use crate::dropping::Dropping;
+use crate::ending::Ending;
+use crate::feeding::Feeding;
+use crate::ingest::Taken;
+use crate::keeper::Keeper;
+use crate::news::{News, Observer};
+use crate::next::Next;
+use crate::reply::{Reply, refuse, refuse_head};
+use hls_boxes::UnitReader;
+use hls_http::{BodyEnd, HttpFault, Input, Look, Plan, announced, continues, find_head};
+use hls_http_laws::limits::MOST_DROPPED;
+use hls_http_laws::reply::continue_text;
+use hls_output::Output;
+use hls_replies::Body;
+use hls_serve_laws::ingest::Intake;
+use hls_serve_laws::route::Route;
+use http_server::Log;
+use std::alloc::Global;
+use std::mem;
+
+/// Where a connection stands.
+#[derive(Drop)]
+pub(crate) enum State {
+    /// Between two requests.
+    Head,
+    /// Within a body that is dropped.
+    Drop(Dropping),
+    /// Within an encoder's body.
+    Feed(Feeding),
+    /// At its end.
+    Over(Ending),
+}
+
+/// A connection but for its input: where it stands, what waits to be handed out, and what the keeper was asked for the requests
+/// that are over, which is noted for proofs alone.
+#[derive(Drop)]
+pub(crate) struct Machine {
+    pub renditions: usize,
+    pub state: State,
+    pub output: Output<Body>,
+    pub asked: Log<Acts, ()>,
+}
+
+/// Puts what waits in the place of nothing.
+fn put(output: &mut Output<Body>, other: Output<Body>)
+    ensures { output.new ≡ other }
+{
+    *output = other;
+}
+
+impl Machine {
+    /// A connection to a channel of so many renditions, at its beginning.
+    pub fn new(renditions: usize) -> Machine
+        ensures state { result.state ≡ State.Head }
+        ensures output { result.output ≡ [] }
+        ensures asked { asked_in result ≡ [] }
+        ensures renditions { result.renditions ≡ renditions }
+    {
+        Machine {
+            renditions,
+            state: State::Head,
+            output: Output::of_fixed(b""),
+            asked: Log::new(),
+        }
+    }
+
+    /// Goes on behind a reply: it is handed out, and then the next request is looked for, or the connection is over.
+    fn answer(&mut self, made: Reply)
+        ensures output { self.new.output ≡ made.output }
+        ensures state { self.new.state ≡ state_behind made.end }
+        ensures asked { self.new.asked ≡ self.old.asked }
+        ensures renditions { self.new.renditions ≡ self.old.renditions }
+    {
+        put(&mut self.output, made.output);
+        self.state = match made.end {
+            None => State::Head,
+            Some(end) => State::Over(end),
+        };
+    }
+
+    /// No head stands at the front yet: waits for more, or ends with the input.
+    fn wait_head(&mut self, empty: bool, ended: bool) -> bool
+        requires head { self.old.state ≡ State.Head }
+        ensures state { self.new.state ≡ waited_head empty ended }
+        ensures output { self.new.output ≡ self.old.output }
+        ensures asked { self.new.asked ≡ self.old.asked }
+        ensures renditions { self.new.renditions ≡ self.old.renditions }
+        ensures stops { IsFalse result }
+    {
+        if ended {
+            self.state = State::Over(if empty {
+                Ending::Closed
+            } else {
+                Ending::CutShort
+            });
+        }
+        false
+    }
+
+    /// Hands out 100 Continue, where it is waited for and the body will be read.
+    fn write_first(&mut self, call: &Call, plan: Plan)
+        requires sent { length self.old.output ≡ 0 }
+        ensures first { (count : ℕ) (h : RequestHead) → IsCall count h call.now → self.new.output ≡ first_of h plan }
+        ensures state { self.new.state ≡ self.old.state }
+        ensures asked { self.new.asked ≡ self.old.asked }
+        ensures renditions { self.new.renditions ≡ self.old.renditions }
+    {
+        if continues(&call.head, plan) {
+            put(&mut self.output, Output::of_fixed(continue_text()));
+        }
+    }
+
+    /// Goes on behind a head as its plan says.
+    fn follow<O: Observer>(&mut self, alloc: Global, observer: &O, call: Call)
+        requires sent { length self.old.output ≡ 0 }
+        ensures goes { (ended : Bool) (unread : List ℕ) → GoesBehind call ended self.old self.new unread }
+        ensures asked { self.new.asked ≡ self.old.asked }
+        ensures renditions { self.new.renditions ≡ self.old.renditions }
+        ensures fresh { asked_now self.new.state ≡ [] }
+        ensures usable { (known : Known) → IsState known.seen → SuitsIn known self.new.state }
+    {
+        let plan = plan_of(&call);
+        match plan {
+            Plan::Refuse { fault, closing } => {
+                let made = refuse(alloc, observer, &call, fault, closing);
+                self.answer(made);
+            }
+            Plan::Feed(body) => match call.route {
+                Some(Route::Ingest(rendition)) => {
+                    self.write_first(&call, plan);
+                    self.state = State::Feed(Feeding {
+                        call,
+                        rendition,
+                        body,
+                        reader: UnitReader::new(alloc),
+                        taken: Taken::none(),
+                    });
+                }
+                _ => unreachable!(),
+            },
+            Plan::Skip(body) => match call.route {
+                Some(route) => {
+                    self.write_first(&call, plan);
+                    self.state = State::Drop(Dropping {
+                        call,
+                        route,
+                        body,
+                        room: MOST_DROPPED - announced(body),
+                    });
+                }
+                None => unreachable!(),
+            },
+        }
+    }
+
+    /// Looks for the next head.
+    fn head<O: Observer>(
+        &mut self,
+        input: &mut Input,
+        ended: bool,
+        alloc: Global,
+        observer: &O,
+    ) -> bool
+        requires head { self.old.state ≡ State.Head }
+        requires sent { length self.old.output ≡ 0 }
+        ensures goes { Goes ended self.old input.old.unread self.new input.new.unread }
+        ensures asked { self.new.asked ≡ self.old.asked }
+        ensures renditions { self.new.renditions ≡ self.old.renditions }
+        ensures fresh { asked_now self.new.state ≡ [] }
+        ensures usable { (known : Known) → IsState known.seen → SuitsIn known self.new.state }
+        ensures rests { IsFalse result → Rests ended self.new input.new.unread }
+    {
+        match find_head(input.unread()) {
+            Ok((head, len)) => {
+                input.take(len);
+                let call = read_call(alloc, input.taken(), self.renditions, head);
+                observer.tell(&News::Begun {
+                    method: call.head.method,
+                    route: call.route,
+                });
+                self.follow(alloc, observer, call);
+                true
+            }
+            Err(Look::Hopeless) => {
+                let made = refuse_head(alloc, observer, HttpFault::BadHead);
+                self.answer(made);
+                true
+            }
+            Err(Look::TooLarge) => {
+                let made = refuse_head(alloc, observer, HttpFault::HeadTooLarge);
+                self.answer(made);
+                true
+            }
+            Err(Look::Partial) => {
+                let empty = input.unread().is_empty();
+                self.wait_head(empty, ended)
+            }
+        }
+    }
+
+    /// Hands out a reply, for which the keeper was asked this.
+    fn close(&mut self, made: Reply, acts: &Acts)
+        ensures output { self.new.output ≡ made.output }
+        ensures state { self.new.state ≡ state_behind made.end }
+        ensures asked { asked_in self.new ≡ asked_in self.old ++ acts.now }
+        ensures renditions { self.new.renditions ≡ self.old.renditions }
+    {
+        self.asked = self.asked.and(acts, &());
+        self.answer(made);
+    }
+
+    /// Goes on with a body that is dropped.
+    fn drop_on<K: Keeper, O: Observer>(
+        &mut self,
+        dropping: Dropping,
+        input: &mut Input,
+        ended: bool,
+        keeper: &mut K,
+        observer: &O,
+    ) -> bool
+        requires sent { length self.old.output ≡ 0 }
+        requires valid { IsState (K.known keeper.old).seen }
+        requires dropped { DropsBody dropping }
+        ensures goes { GoesFrom (states.Drop dropping) ended self.old input.old.unread self.new input.new.unread }
+        ensures leads { Acted (K.known keeper.old) (asked_in self.old) (K.known keeper.new) (total self.new) }
+        ensures renditions { self.new.renditions ≡ self.old.renditions }
+        ensures suits { Suits (K.known keeper.new) self.new }
+        ensures rests { IsFalse result → Rests ended self.new input.new.unread }
+    {
+        let mut dropping = dropping;
+        match dropping.step(input) {
+            Next::More => {
+                self.state = State::Drop(dropping);
+                true
+            }
+            Next::Wait => {
+                if ended {
+                    self.state = State::Over(Ending::CutShort);
+                    return false;
+                }
+                self.state = State::Drop(dropping);
+                false
+            }
+            Next::Over(result) => {
+                let mut acts = Acts::none();
+                let made = answer_dropped(&dropping, result, keeper, &mut acts, observer);
+                self.close(made, &acts);
+                true
+            }
+        }
+    }
+
+    /// Goes on with an encoder's body.
+    fn feed_on<K: Keeper, O: Observer>(
+        &mut self,
+        feeding: Feeding,
+        input: &mut Input,
+        ended: bool,
+        keeper: &mut K,
+        observer: &O,
+    ) -> bool
+        requires sent { length self.old.output ≡ 0 }
+        requires usable { IsUsable feeding.rendition (K.known keeper.old) feeding.taken.init }
+        ensures goes { GoesFrom (states.Feed feeding) ended self.old input.old.unread self.new input.new.unread }
+        ensures leads { Acted (K.known keeper.old) (asked_in self.old ++ feeding.taken.acts) (K.known keeper.new) (total self.new) }
+        ensures renditions { self.new.renditions ≡ self.old.renditions }
+        ensures suits { Suits (K.known keeper.new) self.new }
+        ensures rests { IsFalse result → Rests ended self.new input.new.unread }
+    {
+        let mut feeding = feeding;
+        match feeding.step(input, keeper) {
+            Next::More => {
+                self.state = State::Feed(feeding);
+                true
+            }
+            Next::Wait => {
+                if ended {
+                    tell_ingested(&feeding, Err(Intake::Stopped(BodyEnd::CutShort)), observer);
+                    self.asked = self.asked.and(&feeding.taken.acts, &());
+                    self.state = State::Over(Ending::CutShort);
+                    return false;
+                }
+                self.state = State::Feed(feeding);
+                false
+            }
+            Next::Over(result) => {
+                let made = answer_fed(keeper.alloc(), &feeding, result, observer);
+                self.close(made, &feeding.taken.acts);
+                true
+            }
+        }
+    }
+
+    /// One step, where nothing waits to be handed out. Whether there may be more to do at once.
+    pub fn step<K: Keeper, O: Observer>(
+        &mut self,
+        input: &mut Input,
+        ended: bool,
+        keeper: &mut K,
+        observer: &O,
+    ) -> bool
+        requires suits { Suits (K.known keeper.old) self.old }
+        ensures goes { Goes ended self.old input.old.unread self.new input.new.unread }
+        ensures leads { Acted (K.known keeper.old) (total self.old) (K.known keeper.new) (total self.new) }
+        ensures renditions { self.new.renditions ≡ self.old.renditions }
+        ensures suits { Suits (K.known keeper.new) self.new }
+        ensures rests { IsFalse result → Rests ended self.new input.new.unread }
+    {
+        if !self.output.is_empty() {
+            return false;
+        }
+        match mem::replace(&mut self.state, State::Head) {
+            State::Head => self.head(input, ended, keeper.alloc(), observer),
+            State::Drop(dropping) => self.drop_on(dropping, input, ended, keeper, observer),
+            State::Feed(feeding) => self.feed_on(feeding, input, ended, keeper, observer),
+            State::Over(end) => {
+                self.state = State::Over(end);
+                false
+            }
+        }
+    }
+
+    /// Tells that no more of an encoder's body comes, since a read failed.
+    pub fn fail<O: Observer>(&self, observer: &O) {
+        if let State::Feed(feeding) = &self.state {
+            tell_ingested(feeding, Err(Intake::Stopped(BodyEnd::ReadFailed)), observer);
+        }
+    }
+}

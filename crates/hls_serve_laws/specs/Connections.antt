@@ -1,0 +1,118 @@
+-- A connection, by all that it received and handed out: requests answered one after the other, and how far the next one has come.
+use Rattle.std.specs.Prelude.{◌≡◌, ◌⊎◌, ◌<◌, ℕ, Bool, true, false, List, [], ◌∷◌, ◌++◌, length, flat_map, Some, IsTrue}
+use Rattle.httparse.specs.Grammar.{RequestHead}
+use Rattle.hls_feed.specs.Streams.{IsTaken}
+use Rattle.hls_http_laws.specs.declared.body.Body.{Body}
+use Rattle.hls_http_laws.specs.declared.end.SessionEnd.{SessionEnd}
+use Rattle.hls_http_laws.specs.declared.end.SessionEnd.TheVariants as ends
+use Rattle.hls_http_laws.specs.declared.plan.Plan.{Plan}
+use Rattle.hls_http_laws.specs.declared.plan.Plan.TheVariants.{Refuse, Feed, Skip}
+use Rattle.hls_http_laws.specs.Bodies.{Runs, IsOpen}
+use Rattle.hls_http_laws.specs.Heads.{ReadsSmall, IsUnfinished}
+use Rattle.hls_serve_laws.specs.declared.route.Route.TheVariants as routes
+use Rattle.hls_serve_laws.specs.Acts.{Act}
+use Rattle.hls_serve_laws.specs.Heard.{Due, Heard, RefusesHead, first_of, request_of}
+use Rattle.hls_serve_laws.specs.Ingest.{PartComes, Progress, begun}
+
+-- ---- requests that were answered
+
+-- one behind whose reply the connection goes on: what the keeper was asked for it, and the reply
+pub record Exchange : Type 0 where
+  pub acts : List Act
+  pub reply : List ℕ
+  pub success : Bool
+
+abbrev pub due_in : Exchange → Due
+due_in x = record { text = x.reply; closing = false; success = x.success }
+
+-- such requests are the first ones of the stream, in a channel of so many renditions; and then the rest
+abbrev pub Serves : ℕ → List ℕ → List Exchange → List ℕ → Type 0
+Serves count stream [] rest = rest ≡ stream
+Serves count stream (x ∷ xs) rest = (middle : List ℕ) × Heard count stream x.acts (due_in x) middle × Serves count middle xs rest
+
+abbrev pub acts_of : List Exchange → List Act
+acts_of xs = flat_map (λ x. x.acts) xs
+
+abbrev pub text_of : List Exchange → List ℕ
+text_of xs = flat_map (λ x. x.reply) xs
+
+-- ---- what came of a connection
+
+-- all that was received and whether the input's end was, what of it is unread, what the keeper was asked, all that was handed out, and
+-- what waits to be
+pub record History : Type 0 where
+  pub received : List ℕ
+  pub ended : Bool
+  pub unread : List ℕ
+  pub acts : List Act
+  pub sent : List ℕ
+  pub pending : List ℕ
+
+abbrev pub output : History → List ℕ
+output h = h.sent ++ h.pending
+
+-- where it stands: between two requests, within the body of one, or at its end
+pub data Stage : Type 0 where
+  Between : Stage
+  Within : Stage
+  Over : (end : SessionEnd) → Stage
+
+-- what was asked for a body of which so much content came: nothing where it is dropped
+abbrev pub IsAsked : ℕ → RequestHead → Body → List ℕ → List Act → Type 0
+IsAsked count h body content acts =
+    (((request_of count h).plan ≡ Skip body) × (acts ≡ []))
+    ⊎ (((request_of count h).plan ≡ Feed body)
+    × ((r : ℕ) × ((request_of count h).asks.route ≡ Some (routes.Ingest r)) × ((y : Progress) × IsTaken (PartComes r) begun content y × (acts ≡ y.acts))))
+
+-- a request whose body is being read
+pub record IsWithin (count : ℕ) (stream : List ℕ) (acts : List Act) (text unread : List ℕ) : Type 0 where
+  pub head : RequestHead
+  pub behind : List ℕ
+  pub reads : ReadsSmall stream head behind
+  pub body : Body
+  pub content : List ℕ
+  pub last : Body
+  pub runs : Runs body behind content last unread
+  pub asked : IsAsked count head body content acts
+  pub text_is : text ≡ first_of head (request_of count head).plan
+
+-- .. of which no more comes
+pub record IsCutShort (count : ℕ) (stream : List ℕ) (acts : List Act) (text unread : List ℕ) : Type 0 where
+  pub within : IsWithin count stream acts text unread
+  pub unfinished : IsOpen within.last unread
+
+-- the reply that ends the connection, to a request or to what can't become a head
+pub record EndsByReply (count : ℕ) (success : Bool) (stream : List ℕ) (acts : List Act) (text unread : List ℕ) : Type 0 where
+  pub due : Due
+  pub closing : due.closing ≡ true
+  pub success_is : due.success ≡ success
+  pub text_is : text ≡ due.text
+  pub heard : Heard count stream acts due unread ⊎ (RefusesHead stream due × (acts ≡ []) × (unread ≡ stream))
+
+-- of the stream behind the requests that were answered nothing was taken
+abbrev pub IsBetween : List ℕ → List Act → List ℕ → List ℕ → Type 0
+IsBetween stream acts text unread = (unread ≡ stream) × (acts ≡ []) × (text ≡ [])
+
+-- what came of the stream behind the requests that were answered: what the keeper was asked, what was written, and what is unread
+abbrev pub Stands : Stage → ℕ → Bool → List ℕ → List Act → List ℕ → List ℕ → Type 0
+Stands Between count ended stream acts text unread = IsBetween stream acts text unread
+Stands Within count ended stream acts text unread = IsWithin count stream acts text unread
+Stands (Over ends.Closed) count ended stream acts text unread =
+    (IsTrue ended × (stream ≡ []) × IsBetween stream acts text unread) ⊎ EndsByReply count true stream acts text unread
+Stands (Over ends.Refused) count ended stream acts text unread = EndsByReply count false stream acts text unread
+Stands (Over ends.CutShort) count ended stream acts text unread =
+    IsTrue ended × ((IsUnfinished stream × (0 < length stream) × IsBetween stream acts text unread) ⊎ IsCutShort count stream acts text unread)
+Stands (Over ends.ReadFailed) count ended stream acts text unread = ⊥
+Stands (Over ends.WriteFailed) count ended stream acts text unread = ⊥
+
+-- The first requests of what was received, whatever follows it, are answered in order: what the keeper was asked is what was asked for
+-- each of them, and what was handed out and what waits are their replies. Then comes what the stage says.
+pub record IsServed (count : ℕ) (stage : Stage) (h : History) : Type 0 where
+  pub over : List Exchange
+  pub rest : List ℕ
+  pub serves : (later : List ℕ) → Serves count (h.received ++ later) over (rest ++ later)
+  pub acts : List Act
+  pub asked : h.acts ≡ acts_of over ++ acts
+  pub text : List ℕ
+  pub written : output h ≡ text_of over ++ text
+  pub stands : Stands stage count h.ended rest acts text h.unread
