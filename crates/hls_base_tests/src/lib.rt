@@ -4,20 +4,4 @@
 #![tactic(auto)]
 
 #[cfg(test)]
-mod boxes;
-#[cfg(test)]
-mod instants;
-#[cfg(test)]
-mod io;
-#[cfg(test)]
-mod options;
-#[cfg(test)]
-mod pace;
-#[cfg(test)]
-mod samples;
-#[cfg(test)]
-mod settings;
-#[cfg(test)]
-mod text;
-#[cfg(test)]
-mod time;
+mod tests;

@@ -2,12 +2,4 @@
 #![tactic(auto)]
 
 #[cfg(test)]
-mod places;
-#[cfg(test)]
-mod recordings;
-#[cfg(test)]
-mod samples;
-#[cfg(test)]
-mod steps;
-#[cfg(test)]
-mod turns;
+mod tests;

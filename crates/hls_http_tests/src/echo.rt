@@ -4,7 +4,7 @@
 use hls_fakes::Page;
 use hls_http::{
     Body, BodyEnd, DropEnd, Given, Head, HeadEnd, HttpFault, Method, Plan, Session, SessionEnd,
-    continues, part, plan, refusal_body, says_close,
+    announced, continues, part, plan, refusal_body, says_close,
 };
 use hls_http_laws::range::Part;
 use hls_http_laws::reply::{Extra, Kind, ReplyHead, Status, continue_text};
@@ -146,6 +146,29 @@ fn answer<R: Read>(
     }
 }
 
+/// Reads a body to its end, where no more than 65536 bytes of it come or are announced.
+fn drop_body<R: Read>(session: &mut Session<R, Page>, body: Body) -> Result<(), DropEnd> {
+    let mut body = body;
+    let mut room = 65536u64;
+    for _ in 0..1000u16 {
+        let given = session.body(&mut body);
+        let taken = match given {
+            Ok(Given::Piece) => session.source.taken().len() as u64,
+            _ => 0,
+        };
+        if taken.saturating_add(announced(body)) > room {
+            return Err(DropEnd::TooLarge);
+        }
+        room = room.saturating_sub(taken);
+        match given {
+            Ok(Given::Piece) => {}
+            Ok(Given::Over) => return Ok(()),
+            Err(end) => return Err(DropEnd::Stopped(end)),
+        }
+    }
+    Err(DropEnd::TooLarge)
+}
+
 /// Drops a body, and then answers.
 fn skip<R: Read>(
     alloc: Global,
@@ -153,18 +176,8 @@ fn skip<R: Read>(
     head: &Head,
     body: Body,
 ) -> Result<(), SessionEnd> {
-    match body {
-        Body::Length(len) => {
-            if len > 65536 {
-                return Err(SessionEnd::Refused);
-            }
-        }
-        Body::Size => {}
-        _ => return Err(SessionEnd::Refused),
-    }
-    let mut body = body;
     let to_head = head.method == Method::Head;
-    match session.drop_body(&mut body) {
+    match drop_body(session, body) {
         Ok(()) => answer(alloc, session, head),
         Err(DropEnd::TooLarge) => {
             let fault = HttpFault::TooLarge;

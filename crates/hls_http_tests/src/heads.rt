@@ -2,8 +2,8 @@
 
 use hls_fakes::Drips;
 use hls_http::{
-    BodyEnd, DropEnd, Given, HeadEnd, HttpFault, Method, Source, drop_body, next_head, read_body,
-    split_target, value_of,
+    BodyEnd, Given, HeadEnd, HttpFault, Method, Source, next_head, read_body, split_target,
+    value_of,
 };
 use hls_http_laws::body::Body;
 use hls_http_laws::range::Asked;
@@ -111,15 +111,6 @@ fn bodies_that_stop(rt: HostRuntime) -> Result<(), Fail> {
     let (bytes, end) = content(rt.alloc(), &mut cut, Body::Size)?;
     assert_eq!(rt; bytes.as_slice(), b"ab".as_slice());
     assert_eq!(rt; end, Some(BodyEnd::CutShort));
-    let mut body = Body::Size;
-    let mut large = source(rt.alloc(), b"1\r\na\r\n10000\r\n", 5)?;
-    assert_eq!(rt; drop_body(&mut large, &mut body), Err(DropEnd::TooLarge));
-    let mut body = Body::Size;
-    let mut small = source(rt.alloc(), b"1\r\na\r\nffff;x\r\n", 5)?;
-    assert_eq!(rt;
-        drop_body(&mut small, &mut body),
-        Err(DropEnd::Stopped(BodyEnd::CutShort))
-    );
     Ok(())
 }
 

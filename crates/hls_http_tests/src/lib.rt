@@ -14,6 +14,8 @@ mod gathered;
 #[cfg(test)]
 mod heads;
 #[cfg(test)]
+mod inputs;
+#[cfg(test)]
 mod outputs;
 #[cfg(test)]
 mod refused;

@@ -3,6 +3,8 @@
 ghost use Rattle.std.specs.Prelude.{◌<◌, ◌^◌, length, IfOk};
 
 use crate::digits::{Digits, first_digits};
+use hls_http::reply_output;
+use hls_http_laws::reply::{Extra, Kind, ReplyHead, Status};
 use hls_output::{Output, Resource};
 use std::alloc::{AllocError, Global};
 use std::test::Fail;
@@ -71,5 +73,43 @@ fn fixed_text_taken(rt: HostRuntime) -> Result<(), Fail> {
     let own: Output<Digits> = Output::of_text(Vec::from_slice(alloc, b"refused")?);
     let rest = taken(alloc, own, 3)?;
     assert!(rt; rest.as_slice() == b"refused".as_slice());
+    Ok(())
+}
+
+const PARTIAL_HEAD: &[u8] =
+    b"HTTP/1.1 206 Partial Content\r\nContent-Type: video/mp4\r\nContent-Length: 7\r\nContent-Range: bytes 0-6/10\r\n\r\n";
+
+const PARTIAL: &[u8] =
+    b"HTTP/1.1 206 Partial Content\r\nContent-Type: video/mp4\r\nContent-Length: 7\r\nContent-Range: bytes 0-6/10\r\n\r\n0123456";
+
+#[test]
+fn replies_taken_by_any_counts(rt: HostRuntime) -> Result<(), Fail> {
+    let alloc = rt.alloc();
+    let head = ReplyHead {
+        status: Status::PartialContent,
+        kind: Kind::Media,
+        extra: Extra::Range(0, 6, 10),
+        closing: false,
+    };
+    for most in 1..5usize {
+        let whole = reply_output(alloc, &head, first_digits(7), false)?;
+        let all = taken(alloc, whole, most)?;
+        assert!(rt; all.as_slice() == PARTIAL, "{most}");
+        let alone = reply_output(alloc, &head, first_digits(7), true)?;
+        let all = taken(alloc, alone, most)?;
+        assert!(rt; all.as_slice() == PARTIAL_HEAD, "{most}");
+    }
+    Ok(())
+}
+
+#[test]
+fn a_text_put_where_all_has_gone(rt: HostRuntime) -> Result<(), Fail> {
+    let alloc = rt.alloc();
+    let mut output: Output<Digits> = Output::new();
+    assert!(rt; output.is_empty());
+    let text = Vec::from_slice(alloc, b"refused")?;
+    output.put(Output::of_text(text));
+    let all = taken(alloc, output, 3)?;
+    assert!(rt; all.as_slice() == b"refused".as_slice());
     Ok(())
 }

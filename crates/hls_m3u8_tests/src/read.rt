@@ -1,22 +1,10 @@
 //! Texts of this writer, of other makers and of strangers, read.
 
+use super::texts::{LIVE, ONE_UNIT, head};
 use hls_m3u8::{ByteRange, Kind, ListFault, MediaPlaylist, read_media};
 use std::alloc::Global;
 use std::process::Abort;
 use std::test::Fail;
-
-const ONE_UNIT: &str = "#EXTM3U
-#EXT-X-VERSION:6
-#EXT-X-TARGETDURATION:6
-#EXT-X-MEDIA-SEQUENCE:0
-#EXT-X-DISCONTINUITY-SEQUENCE:0
-#EXT-X-PLAYLIST-TYPE:VOD
-#EXT-X-MAP:URI=\"media.mp4\",BYTERANGE=\"600@0\"
-#EXTINF:4.000000,
-#EXT-X-BYTERANGE:1000@600
-media.mp4
-#EXT-X-ENDLIST
-";
 
 fn kind_name(kind: Option<Kind>) -> &'static str {
     match kind {
@@ -80,30 +68,18 @@ fn answer(alloc: Global, text: &[u8]) -> Result<String, Fail> {
     }
 }
 
-fn reads(rt: &impl Abort, alloc: Global, text: &str, want: &str) -> Result<(), Fail> {
+/// The pieces of a text, one after the other, are read as that.
+fn reads(rt: &impl Abort, alloc: Global, pieces: &[&str], want: &str) -> Result<(), Fail> {
+    let mut text = String::new(alloc);
+    for piece in pieces {
+        text.push_str(piece)?;
+    }
     let got = answer(alloc, text.as_bytes())?;
     assert_eq!(rt; got.as_str(), want, "of {text}");
     Ok(())
 }
 
-// The bytes of texts, one after the other.
-fn joined(alloc: Global, texts: &[&str]) -> Result<String, Fail> {
-    let mut out = String::new(alloc);
-    for text in texts {
-        out.push_str(text)?;
-    }
-    Ok(out)
-}
-
-const HEAD: &str = "#EXTM3U
-#EXT-X-VERSION:6
-#EXT-X-TARGETDURATION:6
-#EXT-X-MEDIA-SEQUENCE:0
-#EXT-X-DISCONTINUITY-SEQUENCE:0
-#EXT-X-PLAYLIST-TYPE:VOD
-#EXT-X-MAP:URI=\"media.mp4\",BYTERANGE=\"600@0\"
-";
-
+/// The segment of one unit's list.
 const SEGMENT: &str = "#EXTINF:4.000000,
 #EXT-X-BYTERANGE:1000@600
 media.mp4
@@ -111,9 +87,12 @@ media.mp4
 
 const READ: &str = "6 6 0 0 vod true media.mp4 600@0\n4000000 media.mp4 1000@600";
 
+/// The tags of a list without segments.
+const TAGS: &str = "#EXTM3U\n#EXT-X-TARGETDURATION:6\n";
+
 #[test]
 fn one_unit(rt: HostRuntime) -> Result<(), Fail> {
-    reads(&rt, rt.alloc(), ONE_UNIT, READ)
+    reads(&rt, rt.alloc(), &[ONE_UNIT], READ)
 }
 
 #[test]
@@ -123,78 +102,61 @@ fn crlf_comments_and_unknown_tags(rt: HostRuntime) -> Result<(), Fail> {
 #EXT-X-MEDIA-SEQUENCE:0\r\n#EXT-X-DISCONTINUITY-SEQUENCE:0\r\n#EXT-X-PLAYLIST-TYPE:VOD\r\n\
 #EXT-X-MAP:URI=\"media.mp4\",BYTERANGE=\"600@0\"\r\n#EXTINF:4.000000,\r\n#EXT-X-BYTERANGE:1000@600\r\n\
 media.mp4\r\n#EXT-X-ENDLIST\r\n";
-    reads(&rt, rt.alloc(), text, READ)
+    reads(&rt, rt.alloc(), &[text], READ)
 }
 
 #[test]
 fn no_target_duration(rt: HostRuntime) -> Result<(), Fail> {
     let text = "#EXTM3U\n#EXT-X-VERSION:6\n#EXTINF:4.000000,\nmedia.mp4\n#EXT-X-ENDLIST\n";
-    reads(&rt, rt.alloc(), text, "MissingTag")?;
-    reads(&rt, rt.alloc(), "#EXTM3U\n", "MissingTag")
+    reads(&rt, rt.alloc(), &[text], "MissingTag")?;
+    reads(&rt, rt.alloc(), &["#EXTM3U\n"], "MissingTag")
 }
 
 #[test]
 fn empty_line_first(rt: HostRuntime) -> Result<(), Fail> {
-    let text = joined(rt.alloc(), &["\n", ONE_UNIT])?;
-    reads(&rt, rt.alloc(), text.as_str(), "NotM3u")?;
-    reads(&rt, rt.alloc(), "", "NotM3u")?;
-    reads(&rt, rt.alloc(), "#EXTM3U\r", "NotM3u")
+    reads(&rt, rt.alloc(), &["\n", ONE_UNIT], "NotM3u")?;
+    reads(&rt, rt.alloc(), &[""], "NotM3u")?;
+    reads(&rt, rt.alloc(), &["#EXTM3U\r"], "NotM3u")
 }
 
 #[test]
 fn length_twice(rt: HostRuntime) -> Result<(), Fail> {
-    let text = joined(
+    reads(
+        &rt,
         rt.alloc(),
-        &[HEAD, "#EXTINF:4.000000,\n", SEGMENT, "#EXT-X-ENDLIST\n"],
-    )?;
-    reads(&rt, rt.alloc(), text.as_str(), "BadTag 9")
+        &[head(), "#EXTINF:4.000000,\n", SEGMENT, "#EXT-X-ENDLIST\n"],
+        "BadTag 9",
+    )
 }
 
 #[test]
 fn seventh_digit(rt: HostRuntime) -> Result<(), Fail> {
-    let text = joined(
-        rt.alloc(),
-        &[
-            HEAD,
-            "#EXTINF:4.0000009\n#EXT-X-BYTERANGE:1000@600\nmedia.mp4\n#EXT-X-ENDLIST",
-        ],
-    )?;
-    reads(&rt, rt.alloc(), text.as_str(), READ)
+    let segment = "#EXTINF:4.0000009\n#EXT-X-BYTERANGE:1000@600\nmedia.mp4\n#EXT-X-ENDLIST";
+    reads(&rt, rt.alloc(), &[head(), segment], READ)
 }
 
 #[test]
 fn range_behind_the_last(rt: HostRuntime) -> Result<(), Fail> {
     let more = "#EXTINF:2,\n#EXT-X-BYTERANGE:500\nmedia.mp4\n";
-    let text = joined(rt.alloc(), &[HEAD, SEGMENT, more, "#EXT-X-ENDLIST\n"])?;
     reads(
         &rt,
         rt.alloc(),
-        text.as_str(),
+        &[head(), SEGMENT, more, "#EXT-X-ENDLIST\n"],
         "6 6 0 0 vod true media.mp4 600@0\n4000000 media.mp4 1000@600\n2000000 media.mp4 500@1600",
     )?;
-    let other = joined(
-        rt.alloc(),
-        &[
-            HEAD,
-            SEGMENT,
-            "#EXTINF:2,\n#EXT-X-BYTERANGE:500\nother.mp4\n",
-        ],
-    )?;
-    reads(&rt, rt.alloc(), other.as_str(), "BadTag 13")?;
-    let first = joined(rt.alloc(), &[HEAD, more])?;
-    reads(&rt, rt.alloc(), first.as_str(), "BadTag 10")?;
+    let other = "#EXTINF:2,\n#EXT-X-BYTERANGE:500\nother.mp4\n";
+    reads(&rt, rt.alloc(), &[head(), SEGMENT, other], "BadTag 13")?;
+    reads(&rt, rt.alloc(), &[head(), more], "BadTag 10")?;
     let far =
         "#EXTINF:1\n#EXT-X-BYTERANGE:1@999999999999999\na\n#EXTINF:1\n#EXT-X-BYTERANGE:1\na\n";
-    let past = joined(rt.alloc(), &[HEAD, far])?;
-    reads(&rt, rt.alloc(), past.as_str(), "BadTag 13")
+    reads(&rt, rt.alloc(), &[head(), far], "BadTag 13")
 }
 
 #[test]
 fn length_without_uri(rt: HostRuntime) -> Result<(), Fail> {
-    let text = joined(rt.alloc(), &[ONE_UNIT, "#EXTINF:1,"])?;
-    reads(&rt, rt.alloc(), text.as_str(), "MissingTag")?;
-    let range = joined(rt.alloc(), &[HEAD, "#EXT-X-BYTERANGE:1@0\nmedia.mp4\n"])?;
-    reads(&rt, rt.alloc(), range.as_str(), "MissingTag")
+    reads(&rt, rt.alloc(), &[ONE_UNIT, "#EXTINF:1,"], "MissingTag")?;
+    let range = "#EXT-X-BYTERANGE:1@0\nmedia.mp4\n";
+    reads(&rt, rt.alloc(), &[head(), range], "MissingTag")
 }
 
 #[test]
@@ -202,20 +164,8 @@ fn live_after_slide(rt: HostRuntime) -> Result<(), Fail> {
     reads(
         &rt,
         rt.alloc(),
-        "#EXTM3U
-#EXT-X-VERSION:6
-#EXT-X-TARGETDURATION:6
-#EXT-X-MEDIA-SEQUENCE:1
-#EXT-X-DISCONTINUITY-SEQUENCE:0
-#EXT-X-MAP:URI=\"/media/0.mp4\",BYTERANGE=\"600@0\"
-#EXTINF:4.000000,
-#EXT-X-BYTERANGE:1000@1600
-/media/0.mp4
-#EXTINF:5.000000,
-#EXT-X-BYTERANGE:1000@2600
-/media/0.mp4
-",
-        "6 6 1 0 live false /media/0.mp4 600@0\n4000000 /media/0.mp4 1000@1600\n5000000 /media/0.mp4 1000@2600",
+        &[LIVE],
+        "6 6 1 0 live false /media/0.mp4 600@0\n4000000 /media/0.mp4 1000@1600\n5000000 /media/0.mp4 1000@2600\n5000000 /media/0.mp4 1000@3600\n4000000 /media/0.mp4 1000@4600",
     )
 }
 
@@ -250,11 +200,7 @@ fn values_of_tags(rt: HostRuntime) -> Result<(), Fail> {
         ("#EXT-X-MAP:URI=\"a\",=b", "BadTag 3"),
         ("#EXT-X-MAP:URI=\"a\"b", "BadTag 3"),
     ] {
-        let text = joined(
-            rt.alloc(),
-            &["#EXTM3U\n#EXT-X-TARGETDURATION:6\n", line, "\n"],
-        )?;
-        reads(&rt, rt.alloc(), text.as_str(), want)?;
+        reads(&rt, rt.alloc(), &[TAGS, line, "\n"], want)?;
     }
     Ok(())
 }
@@ -269,72 +215,61 @@ fn tags_behind_a_segment(rt: HostRuntime) -> Result<(), Fail> {
         ("b", "MissingTag"),
         ("#EXT-X-DISCONTINUITY\n#EXT-X-DISCONTINUITY", "BadTag 6"),
     ] {
-        let text = joined(
-            rt.alloc(),
-            &["#EXTM3U\n#EXT-X-TARGETDURATION:6\n#EXTINF:1\na\n", line],
-        )?;
-        reads(&rt, rt.alloc(), text.as_str(), want)?;
+        reads(&rt, rt.alloc(), &[TAGS, "#EXTINF:1\na\n", line], want)?;
     }
     Ok(())
 }
 
+/// Lines before a segment, and how what is read of it begins.
+const DATES: [(&str, &str); 13] = [
+    (
+        "#EXT-X-PROGRAM-DATE-TIME:2024-01-01T00:00:00.000Z\n",
+        "at 1704067200000000 ",
+    ),
+    (
+        "#EXT-X-PROGRAM-DATE-TIME:2024-01-01T01:00:00.123456789+01:00\n",
+        "at 1704067200123000 ",
+    ),
+    (
+        "#EXT-X-DISCONTINUITY\n#EXT-X-PROGRAM-DATE-TIME:2024-01-01T00:00:00Z\n",
+        "mark at 1704067200000000 ",
+    ),
+    (
+        "#EXT-X-PROGRAM-DATE-TIME:2024-01-01T00:00:00Z\n#EXT-X-DISCONTINUITY\n",
+        "mark at 1704067200000000 ",
+    ),
+    // below 1970 too a date is rounded down
+    (
+        "#EXT-X-PROGRAM-DATE-TIME:1969-12-31T23:59:59.9999Z\n",
+        "at -1000 ",
+    ),
+    (
+        "#EXT-X-PROGRAM-DATE-TIME:0000-01-01T00:00:00.0009+23:59\n",
+        "at -62167305540000000 ",
+    ),
+    (
+        "#EXT-X-PROGRAM-DATE-TIME:1970-01-01T00:00:00.0009Z\n",
+        "at 0 ",
+    ),
+    // what is no instant is skipped
+    ("#EXT-X-PROGRAM-DATE-TIME:2024-01-01T00:00:00\n", ""),
+    ("#EXT-X-PROGRAM-DATE-TIME:2024-01-01T24:00:00Z\n", ""),
+    ("#EXT-X-PROGRAM-DATE-TIME:\n", ""),
+    ("#EXT-X-PROGRAM-DATE-TIME\n", ""),
+    ("#EXT-X-PROGRAM-DATE-TIME: 2024-01-01T00:00:00Z\n", ""),
+    (
+        "#EXT-X-PROGRAM-DATE-TIME:now\n#EXT-X-PROGRAM-DATE-TIME:1970-01-01T00:00:01Z\n#EXT-X-PROGRAM-DATE-TIME:then\n",
+        "at 1000000 ",
+    ),
+];
+
 #[test]
 fn dates(rt: HostRuntime) -> Result<(), Fail> {
-    for (lines, want) in [
-        (
-            "#EXT-X-PROGRAM-DATE-TIME:2024-01-01T00:00:00.000Z\n",
-            "at 1704067200000000 ",
-        ),
-        (
-            "#EXT-X-PROGRAM-DATE-TIME:2024-01-01T01:00:00.123456789+01:00\n",
-            "at 1704067200123000 ",
-        ),
-        (
-            "#EXT-X-DISCONTINUITY\n#EXT-X-PROGRAM-DATE-TIME:2024-01-01T00:00:00Z\n",
-            "mark at 1704067200000000 ",
-        ),
-        (
-            "#EXT-X-PROGRAM-DATE-TIME:2024-01-01T00:00:00Z\n#EXT-X-DISCONTINUITY\n",
-            "mark at 1704067200000000 ",
-        ),
-        // below 1970 too a date is rounded down
-        (
-            "#EXT-X-PROGRAM-DATE-TIME:1969-12-31T23:59:59.9999Z\n",
-            "at -1000 ",
-        ),
-        (
-            "#EXT-X-PROGRAM-DATE-TIME:0000-01-01T00:00:00.0009+23:59\n",
-            "at -62167305540000000 ",
-        ),
-        (
-            "#EXT-X-PROGRAM-DATE-TIME:1970-01-01T00:00:00.0009Z\n",
-            "at 0 ",
-        ),
-        // what is no instant is skipped
-        ("#EXT-X-PROGRAM-DATE-TIME:2024-01-01T00:00:00\n", ""),
-        ("#EXT-X-PROGRAM-DATE-TIME:2024-01-01T24:00:00Z\n", ""),
-        ("#EXT-X-PROGRAM-DATE-TIME:\n", ""),
-        ("#EXT-X-PROGRAM-DATE-TIME\n", ""),
-        ("#EXT-X-PROGRAM-DATE-TIME: 2024-01-01T00:00:00Z\n", ""),
-        (
-            "#EXT-X-PROGRAM-DATE-TIME:now\n#EXT-X-PROGRAM-DATE-TIME:1970-01-01T00:00:01Z\n#EXT-X-PROGRAM-DATE-TIME:then\n",
-            "at 1000000 ",
-        ),
-    ] {
-        let text = joined(
-            rt.alloc(),
-            &[
-                "#EXTM3U\n#EXT-X-TARGETDURATION:6\n",
-                lines,
-                "#EXTINF:1\na\n#EXTINF:1\nb\n",
-            ],
-        )?;
+    for (lines, want) in DATES {
         // the next segment has none
-        let whole = joined(
-            rt.alloc(),
-            &["1 6 0 0 live false\n", want, "1000000 a\n1000000 b"],
-        )?;
-        reads(&rt, rt.alloc(), text.as_str(), whole.as_str())?;
+        let whole = format!(in rt.alloc(); "1 6 0 0 live false\n{want}1000000 a\n1000000 b")?;
+        let segments = "#EXTINF:1\na\n#EXTINF:1\nb\n";
+        reads(&rt, rt.alloc(), &[TAGS, lines, segments], whole.as_str())?;
     }
     Ok(())
 }
@@ -342,25 +277,24 @@ fn dates(rt: HostRuntime) -> Result<(), Fail> {
 #[test]
 fn date_twice(rt: HostRuntime) -> Result<(), Fail> {
     let date = "#EXT-X-PROGRAM-DATE-TIME:2024-01-01T00:00:00Z\n";
-    let head = "#EXTM3U\n#EXT-X-TARGETDURATION:6\n";
-    let twice = joined(rt.alloc(), &[head, date, "#EXTINF:1\n", date, "a\n"])?;
-    reads(&rt, rt.alloc(), twice.as_str(), "BadTag 5")?;
-    let each = joined(
-        rt.alloc(),
-        &[head, date, "#EXTINF:1\na\n", date, "#EXTINF:1\nb\n"],
+    let alloc = rt.alloc();
+    reads(
+        &rt,
+        alloc,
+        &[TAGS, date, "#EXTINF:1\n", date, "a\n"],
+        "BadTag 5",
     )?;
     reads(
         &rt,
-        rt.alloc(),
-        each.as_str(),
+        alloc,
+        &[TAGS, date, "#EXTINF:1\na\n", date, "#EXTINF:1\nb\n"],
         "1 6 0 0 live false\nat 1704067200000000 1000000 a\nat 1704067200000000 1000000 b",
     )?;
     // one with no URI behind it is dropped
-    let last = joined(rt.alloc(), &[head, "#EXTINF:1\na\n", date])?;
     reads(
         &rt,
-        rt.alloc(),
-        last.as_str(),
+        alloc,
+        &[TAGS, "#EXTINF:1\na\n", date],
         "1 6 0 0 live false\n1000000 a",
     )
 }
@@ -374,12 +308,10 @@ fn bytes_that_are_no_text(rt: HostRuntime) -> Result<(), Fail> {
     Ok(())
 }
 
-#[test]
-fn lists_of_other_makers(rt: HostRuntime) -> Result<(), Fail> {
+/// Lists as others write them, and what is read.
+const OF_OTHER_MAKERS: [(&str, &str); 4] = [
     // ffmpeg -f hls with fragmented MP4
-    reads(
-        &rt,
-        rt.alloc(),
+    (
         "#EXTM3U
 #EXT-X-VERSION:7
 #EXT-X-TARGETDURATION:2
@@ -393,11 +325,9 @@ live1.m4s
 #EXT-X-ENDLIST
 ",
         "7 2 0 0 event true init.mp4\n2000000 live0.m4s\n1920000 live1.m4s",
-    )?;
+    ),
     // GStreamer's hlssink: a comma in the title's place, and an unknown tag
-    reads(
-        &rt,
-        rt.alloc(),
+    (
         "#EXTM3U
 #EXT-X-VERSION:3
 #EXT-X-ALLOW-CACHE:NO
@@ -408,11 +338,9 @@ live1.m4s
 segment00004.ts
 ",
         "3 15 4 0 live false\n14999999 segment00004.ts",
-    )?;
+    ),
     // nginx-rtmp: a mark before a segment
-    reads(
-        &rt,
-        rt.alloc(),
+    (
         "#EXTM3U
 #EXT-X-VERSION:3
 #EXT-X-MEDIA-SEQUENCE:12
@@ -424,11 +352,9 @@ stream-12.ts
 stream-13.ts
 ",
         "3 5 12 0 live false\nmark 4967000 stream-12.ts\n5000000 stream-13.ts",
-    )?;
+    ),
     // ffmpeg with encryption
-    reads(
-        &rt,
-        rt.alloc(),
+    (
         "#EXTM3U
 #EXT-X-VERSION:3
 #EXT-X-TARGETDURATION:2
@@ -437,7 +363,15 @@ stream-13.ts
 a.ts
 ",
         "BadTag 4",
-    )
+    ),
+];
+
+#[test]
+fn lists_of_other_makers(rt: HostRuntime) -> Result<(), Fail> {
+    for (text, want) in OF_OTHER_MAKERS {
+        reads(&rt, rt.alloc(), &[text], want)?;
+    }
+    Ok(())
 }
 
 // Reads again where memory was refused.

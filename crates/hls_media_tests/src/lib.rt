@@ -2,14 +2,4 @@
 #![tactic(auto)]
 
 #[cfg(test)]
-mod built;
-#[cfg(test)]
-mod counts;
-#[cfg(test)]
-mod inits;
-#[cfg(test)]
-mod real;
-#[cfg(test)]
-mod refused;
-#[cfg(test)]
-mod units;
+mod tests;

@@ -1,12 +1,9 @@
-//! Answers about jobs and queries, sent: of one that wanted memory the fixed reply goes out, or nothing where there wasn't even
-//! an answer to send.
+//! Answers about jobs and queries, and the replies that go out for them: where memory was wanted there is none.
 
 use crate::told::Told;
-use hls_fakes::Page;
-use hls_http::{Session, SessionEnd};
-use hls_http_laws::reply::no_memory_text;
 use hls_jobs::JobFault;
-use hls_replies::{Answer, added_answer, query_answer, removed_answer, send};
+use hls_output::Output;
+use hls_replies::{Answer, Body, added_answer, output_of, query_answer, removed_answer};
 use hls_serve_laws::query::QueryFault;
 use std::alloc::{AllocError, Global};
 
@@ -50,21 +47,31 @@ fn answer(alloc: Global, act: Act) -> Result<Answer, AllocError> {
     }
 }
 
+/// Whether just these bytes go out.
+fn says(output: Output<Body>, text: &[u8]) -> bool {
+    let mut output = output;
+    let mut rest = text;
+    while !output.is_empty() {
+        let chunk = output.chunk();
+        let count = chunk.len();
+        let Some(behind) = rest.strip_prefix(chunk) else {
+            return false;
+        };
+        rest = behind;
+        output.advance(count);
+    }
+    rest.is_empty()
+}
+
 /// How an answer goes out that is to be these bytes.
 fn told(alloc: Global, act: Act, reply: &[u8]) -> Told {
     let Ok(answer) = answer(alloc, act) else {
         return Told::Wanted;
     };
-    let Ok(mut session) = Session::new(alloc, b"".as_slice(), Page::new()) else {
+    let Ok(output) = output_of(alloc, answer, false, false) else {
         return Told::Wanted;
     };
-    let end = send(alloc, &mut session, answer, false, false);
-    let page = session.writer.into_inner();
-    match end {
-        Ok(()) => Told::answer(page.says(reply)),
-        Err(SessionEnd::Refused) => Told::wanted(page.says(no_memory_text())),
-        Err(_) => Told::Astray,
-    }
+    Told::answer(says(output, reply))
 }
 
 #[test]

@@ -3,10 +3,12 @@
 use crate::told::Told;
 use hls_fakes::Page;
 use hls_http::{
-    ReplyEnd, Session, SessionEnd, Source, head_bytes, refusal_body, write_head, write_reply,
+    Input, ReplyEnd, Session, SessionEnd, Source, head_bytes, refusal_body, reply_output, write_head,
+    write_reply,
 };
 use hls_http_laws::reply::{Extra, Kind, ReplyHead, Status, no_memory_head_text};
 use hls_io::Counted;
+use hls_output::Text;
 use std::alloc::Global;
 
 const HEAD: &[u8] =
@@ -29,15 +31,19 @@ enum Act {
     Bytes,
     Refusal,
     Source,
+    Input,
+    Output,
     Head,
     Reply,
     Session,
 }
 
-const ACTS: [Act; 6] = [
+const ACTS: [Act; 8] = [
     Act::Bytes,
     Act::Refusal,
     Act::Source,
+    Act::Input,
+    Act::Output,
     Act::Head,
     Act::Reply,
     Act::Session,
@@ -79,6 +85,14 @@ fn told(alloc: Global, act: Act) -> Told {
         },
         Act::Source => match Source::new(alloc, b"abc".as_slice()) {
             Ok(source) => Told::answer(source.held().is_empty()),
+            Err(_) => Told::Wanted,
+        },
+        Act::Input => match Input::new(alloc) {
+            Ok(input) => Told::answer(input.unread().is_empty()),
+            Err(_) => Told::Wanted,
+        },
+        Act::Output => match reply_output(alloc, &head(), Text::media(b"abc"), false) {
+            Ok(output) => Told::answer(output.chunk() == REPLY),
             Err(_) => Told::Wanted,
         },
         Act::Head => {

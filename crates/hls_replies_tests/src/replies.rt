@@ -11,10 +11,9 @@ mod sound;
 
 use hls_core::snapshot::Snapshot;
 use hls_core_laws::event::Event;
-use hls_http::Session;
 use hls_http_laws::fault::HttpFault;
 use hls_http_laws::range::Asked;
-use hls_replies::{Answer, fault_answer, list_answer, media_answer, send};
+use hls_replies::{Answer, fault_answer, list_answer, media_answer, output_of};
 use hls_sample_channels::{SampleFault, opened, stepped, with_units};
 use std::alloc::{AllocError, Global};
 use std::sync::Arc;
@@ -57,9 +56,13 @@ fn sent(alloc: Global, answer: Answer, closing: bool, to_head: bool) -> Result<V
     ensures { IfOk result (λ bytes. length bytes.items < 2 ^ 64) }
 {
     let mut out = Vec::with_capacity(alloc, 8192)?;
-    let mut session = Session::new(alloc, b"".as_slice(), &mut out)?;
-    let _ = send(alloc, &mut session, answer, closing, to_head);
-    drop(session);
+    let mut output = output_of(alloc, answer, closing, to_head)?;
+    while !output.is_empty() {
+        let chunk = output.chunk();
+        let count = chunk.len();
+        out.extend_from_slice(chunk)?;
+        output.advance(count);
+    }
     Ok(out)
 }
 

@@ -1,17 +1,15 @@
-//! Answers that were refused memory: the state stays as it was, and the same answer again is the one that is wanted; where it
-//! is the reply's head that finds no memory, the fixed reply is sent in its place.
+//! Answers that were refused memory: the state stays as it was, and the same answer again is the one that is wanted, as is its
+//! reply where it is the reply's head that finds no memory.
 
 use hls_core::snapshot::Snapshot;
 use hls_core_laws::refusal::Refusal;
-use hls_fakes::Page;
 use hls_feed::StreamFault;
-use hls_http::{Session, SessionEnd};
 use hls_http_laws::fault::HttpFault;
 use hls_http_laws::range::Asked;
-use hls_http_laws::reply::{no_memory_head_text, no_memory_text};
+use hls_output::Output;
 use hls_replies::{
-    Answer, fault_answer, finish_answer, list_answer, master_answer, media_answer, method_answer,
-    read_query, refused_answer, send, status_answer, taken_answer,
+    Answer, Body, fault_answer, finish_answer, list_answer, master_answer, media_answer,
+    method_answer, output_of, read_query, refused_answer, status_answer, taken_answer,
 };
 use hls_sample_channels::{opened, with_units};
 use hls_serve_laws::ingest::Counts;
@@ -80,35 +78,40 @@ fn answer(alloc: Global, snapshot: &Arc<Snapshot>, act: Act) -> Result<Answer, A
 /// What became of an answer.
 #[derive(Clone, Copy, PartialEq, Eq)]
 enum Came {
-    /// There was no memory to make it, or for the session.
+    /// There was no memory to make it, or for its reply's head.
     Nowhere,
-    /// The fixed reply was sent in its place.
-    Short,
-    /// It was sent.
+    /// Its reply is the one that is wanted.
     Far,
-    /// Something else was sent.
+    /// Its reply is another.
     Astray,
 }
 
-/// Sends an answer, to HEAD or to GET, whose reply is wanted to be this one.
+/// Whether these are the bytes that go out.
+fn is_text(output: Output<Body>, text: &[u8]) -> bool {
+    let mut output = output;
+    let mut rest = text;
+    while !output.is_empty() {
+        let chunk = output.chunk();
+        let count = chunk.len();
+        let Some(behind) = rest.strip_prefix(chunk) else {
+            return false;
+        };
+        rest = behind;
+        output.advance(count);
+    }
+    rest.is_empty()
+}
+
+/// Makes an answer's reply, to HEAD or to GET, which is wanted to be this one.
 fn give(alloc: Global, snapshot: &Arc<Snapshot>, act: Act, reply: &[u8], to_head: bool) -> Came {
     let Ok(answer) = answer(alloc, snapshot, act) else {
         return Came::Nowhere;
     };
-    let Ok(mut session) = Session::new(alloc, b"".as_slice(), Page::new()) else {
+    let Ok(output) = output_of(alloc, answer, false, to_head) else {
         return Came::Nowhere;
     };
-    let sent = send(alloc, &mut session, answer, false, to_head);
-    let page = session.writer.into_inner();
-    let no_memory = if to_head {
-        no_memory_head_text()
-    } else {
-        no_memory_text()
-    };
-    if sent == Ok(()) && page.written() == reply {
+    if is_text(output, reply) {
         Came::Far
-    } else if sent == Err(SessionEnd::Refused) && page.written() == no_memory {
-        Came::Short
     } else {
         Came::Astray
     }
@@ -125,7 +128,7 @@ fn gives_at_last(
     match give(alloc, snapshot, act, reply, to_head) {
         Came::Far => true,
         Came::Astray => false,
-        Came::Nowhere | Came::Short => give(alloc, snapshot, act, reply, to_head) == Came::Far,
+        Came::Nowhere => give(alloc, snapshot, act, reply, to_head) == Came::Far,
     }
 }
 

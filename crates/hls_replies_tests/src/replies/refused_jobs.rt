@@ -1,11 +1,10 @@
-//! Where memory is refused a job's replies are as ever, or those of want of memory. A channel of two units of 4 s.
+//! Where memory is refused a job's replies are as ever, or there are none. A channel of two units of 4 s.
 
 use super::refused::recorded;
-use hls_http::Session;
 use hls_http_laws::range::Asked;
 use hls_jobs::{Job, JobTable, run_job};
 use hls_replies::{
-    Answer, added_answer, file_answer, read_query, request_for, send, told_answer, wanted_of,
+    Answer, added_answer, file_answer, output_of, read_query, request_for, told_answer, wanted_of,
 };
 use hls_serve_laws::route::JobFile;
 use std::alloc::Global;
@@ -33,12 +32,16 @@ fn run_again(alloc: Global) -> Option<Job> {
     }
 }
 
-/// The bytes that go out for an answer; none where there is no room for them.
+/// The bytes that go out for an answer; none where there is no memory for its head, or no room for them.
 fn sent(alloc: Global, answer: Answer) -> Option<Vec<u8>> {
     let mut out = Vec::with_capacity(alloc, 8192).ok()?;
-    let mut session = Session::new(alloc, b"".as_slice(), &mut out).ok()?;
-    let _ = send(alloc, &mut session, answer, false, false);
-    drop(session);
+    let mut output = output_of(alloc, answer, false, false).ok()?;
+    while !output.is_empty() {
+        let chunk = output.chunk();
+        let count = chunk.len();
+        out.extend_from_slice(chunk).ok()?;
+        output.advance(count);
+    }
     Some(out)
 }
 
@@ -56,16 +59,13 @@ const LINE: &[u8] =
 const MEDIA_HEAD: &[u8] =
     b"HTTP/1.1 200 OK\r\nContent-Type: video/mp4\r\nContent-Length: 1600\r\n\r\n";
 
-const NO_MEMORY: &[u8] = b"\r\nConnection: close\r\n\r\nrefused Memory\n";
-
 #[test]
-fn refused_memory_gives_the_reply_or_the_fixed_one(rt: HostRuntime) {
+fn refused_memory_gives_the_reply_or_none(rt: HostRuntime) {
     let alloc = rt.alloc();
     let (line, media) = match replies(alloc) {
         Some(both) => both,
         None => replies(alloc).expect(&rt, "replies"),
     };
-    assert!(rt; line.as_slice() == LINE || line.ends_with(NO_MEMORY));
-    let whole = media.starts_with(MEDIA_HEAD) && media.len() == MEDIA_HEAD.len() + 1600;
-    assert!(rt; whole || media.ends_with(NO_MEMORY));
+    assert!(rt; line.as_slice() == LINE);
+    assert!(rt; media.starts_with(MEDIA_HEAD) && media.len() == MEDIA_HEAD.len() + 1600);
 }

@@ -1,0 +1,64 @@
+//! Where memory is refused: an answer leaves the snapshot as it was, a job failed alone, and the same request again is answered.
+
+use super::channels::{recorded, request};
+use hls_catchup::{CatchFault, Reply, answer, reply_total};
+use hls_core::snapshot::Snapshot;
+use hls_jobs::{Job, JobTable, run_job};
+use hls_sample_channels::SECOND;
+use std::alloc::Global;
+use std::sync::Arc;
+
+/// Two units, recorded once more where memory was refused.
+fn two_units(alloc: Global) -> Option<Arc<Snapshot>> {
+    match recorded(alloc, None, &[(0, 4), (4, 8)]) {
+        Ok(snapshot) => Some(snapshot),
+        Err(_) => recorded(alloc, None, &[(0, 4), (4, 8)]).ok(),
+    }
+}
+
+/// Whether the reply has the first unit behind the init section.
+fn is_whole(reply: &Reply) -> bool {
+    reply_total(reply, 0) == Some(1600) && reply.snapshot().version() == 3
+}
+
+#[test]
+fn refused_memory_changes_no_answer(rt: HostRuntime) {
+    let alloc = rt.alloc();
+    let snapshot = two_units(alloc).expect(&rt, "a snapshot with two units");
+    let asked = request(0, 4 * SECOND);
+    let reply = match answer(alloc, &snapshot, asked) {
+        Err(CatchFault::Memory) => answer(alloc, &snapshot, asked),
+        first => first,
+    };
+    assert!(rt; reply.is_ok_and(|reply| is_whole(&reply)));
+}
+
+/// Adds a job and runs it: how far it is then.
+fn run(alloc: Global, jobs: &mut JobTable, snapshot: &Arc<Snapshot>) -> Option<Job> {
+    let id = jobs
+        .add(Arc::try_clone(snapshot).ok()?, request(0, 4 * SECOND))
+        .ok()?;
+    let work = jobs.take_work()?;
+    jobs.finish(run_job(alloc, work)).ok()?;
+    jobs.get(id).ok()
+}
+
+fn is_answered(job: &Option<Job>) -> bool {
+    match job {
+        Some(Job::Finished(answered)) => answered.result().is_ok(),
+        _ => false,
+    }
+}
+
+#[test]
+fn refused_memory_fails_one_job_alone(rt: HostRuntime) {
+    let alloc = rt.alloc();
+    let snapshot = two_units(alloc).expect(&rt, "a snapshot with two units");
+    let mut jobs = match JobTable::new(alloc) {
+        Ok(jobs) => jobs,
+        Err(_) => JobTable::new(alloc).expect(&rt, "a table"),
+    };
+    let first = run(alloc, &mut jobs, &snapshot);
+    assert!(rt; is_answered(&first) || matches!(first, Some(Job::Failed)));
+    assert!(rt; is_answered(&first) || is_answered(&run(alloc, &mut jobs, &snapshot)));
+}

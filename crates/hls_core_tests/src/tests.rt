@@ -1,0 +1,7 @@
+//! The tests, and what they share.
+
+mod places;
+mod recordings;
+mod samples;
+mod steps;
+mod turns;
