@@ -10,9 +10,10 @@ import re
 # Directives whose words reach a client's head, an origin's request or a file's name.
 TOLD = {"return", "rewrite", "add_header", "proxy_pass", "proxy_set_header", "proxy_redirect", "alias", "root", "set"}
 # What a client says, as he says it: a line feed or a slash in it would make two of one.
-RAW = re.compile(r"\$(?:uri|document_uri|request_uri|args|query_string|http_\w+|arg_\w+|cookie_\w+|request|request_body)\b")
-# Where that is as it should be: HTTP keeps line feeds out of these two, and the first goes back to who sent it.
-RAW_ALLOWED = {("return", "https://$host$request_uri"), ("proxy_pass", "http://$hls_process/catchup$is_args$args"), ("proxy_set_header", "$http_range")}
+RAW = re.compile(r"\$(?:uri|hls_said|document_uri|request_uri|args|query_string|http_\w+|arg_\w+|cookie_\w+|request|request_body)\b")
+# Where that is as it should be: HTTP keeps line feeds out of these, the first goes back to who sent it, and the last is the log's.
+RAW_ALLOWED = {("return", "https://$host$request_uri"), ("proxy_pass", "http://$hls_process/catchup$is_args$args"), ("proxy_set_header", "$http_range"),
+               ("set", "$hls_said $uri")}
 # Where a request may go: variables that maps make of known channels.
 TARGETS = {"hls_inner", "hls_inner$in_path", "$hls_process", "$hls_process$hls_path", "$in_origins", "$in_process", "$in_range_of"}
 # What a location that has a field of its own mustn't lose of those around it.
@@ -72,7 +73,7 @@ def faults_in(block, where, inherited):
 
 def faults_of(words, here, inner):
     name, rest = words[0], words[1:]
-    if name in TOLD:
+    if name in TOLD and (name, " ".join(rest)) not in RAW_ALLOWED:
         for word in rest:
             if RAW.search(word) and (name, word) not in RAW_ALLOWED:
                 yield f"{here}: {word} is what a client says, unread"
@@ -113,7 +114,7 @@ SAMPLES = [
     ("location / { proxy_pass http://$http_host; }", "unread"),
     ("location / { add_header A $arg_a; }", "unread"),
     ("location / { proxy_pass http://$host; }", "goes to"),
-    ("location / { proxy_pass http://$in_origins$uri; }", "unread"),
+    ("location / { proxy_pass http://$in_origins$uri; }", "unread"), ("location / { set $a $uri; }", "unread"), ("location / { proxy_pass http://hls_inner$hls_said; }", "unread"),
     ("location / { proxy_set_header Host $host; }", "a client chooses"),
     (r'location ~ "/live/(?<a>[0-9]+)\z" { }', "part of a path"),
     (r'location ~ "^/live/(?<a>[0-9]+)" { }', "part of a path"),
