@@ -163,19 +163,23 @@ class Site:
 def divided(text, by):
     """The rules with every duration that they wait and look back divided."""
     second = {"s": 1000, "m": 60000, "h": 3600000, "d": 86400000}
-    return re.sub(r"(\[|for: )(\d+)([smhd])", lambda found: f"{found[1]}{round(int(found[2]) * second[found[3]] / by)}ms", text)
+    return re.sub(r"(\[|for: |offset )(\d+)([smhd])", lambda found: f"{found[1]}{round(int(found[2]) * second[found[3]] / by)}ms", text)
 
 
 class Prometheus:
     """Debian's, with the rules and the scrapes of deploy/prometheus, at so many times their pace."""
 
-    def __init__(self, site, by):
+    def __init__(self, site, by, status=None):
+        """With a port as `status`, what prometheus.yml has for a house without hls_metrics is there too: that origin's own numbers."""
         self.folder, self.port = os.path.join(site.folder, "prometheus"), free_port()
         os.makedirs(self.folder)
         with open(RULES, encoding="utf-8") as rules, open(os.path.join(self.folder, "hls_rules.yml"), "w", encoding="utf-8") as file:
             file.write(divided(rules.read(), by))
         with open(os.path.join(ROOT, "deploy", "prometheus", "prometheus.yml"), encoding="utf-8") as file:
             config = file.read().replace("15s", f"{round(15000 / by)}ms")
+        if status:
+            shown, hidden = config.split("  # - job_name: hls_origin\n")
+            config = shown + "  - job_name: hls_origin\n" + hidden.replace("  # ", "  ").replace("10.0.0.1:8080", f"127.0.0.1:{status}")
         for shipped, here in (("127.0.0.1:9815", site.metrics_port), ("127.0.0.1:8078", site.catchupd_port)):
             config = config.replace(shipped, f"127.0.0.1:{here}")
         if not site.edge:

@@ -51,11 +51,6 @@ class Broken:
         status, said = self.handover("--turn", "false")
         check("where encoders can't be turned it stops", status == 1 and "false" in said, (status, said))
 
-    def sent_to(self, *instances):
-        """Where encoders send from now on, whoever said so."""
-        with open(os.path.join(self.site.words, "news.origins"), "w", encoding="utf-8") as file:
-            file.write(" ".join(f"http://127.0.0.1:{self.site.ports[name]}" for name in instances))
-
     def through(self, what, *words, to=None):
         """Run again it is through, and viewers saw nothing."""
         to = to or self.at_rest()
@@ -126,17 +121,17 @@ def processes_that_die(one):
     # encoders are told to send to both, and the new one is started again: they fill it before this does
     one.filled()
     new = one.at_rest()
-    one.sent_to(*site.ports)
+    one.site.send_to(*site.ports)
     site.kill(new)
     time.sleep(0.3)
     site.command("start", new)
     time.sleep(3)
     one.through("encoders filled the new one before it was", "begins again")
-    one.sent_to(*site.ports)
+    one.site.send_to(*site.ports)
     one.through("encoders are told to send to both before it is begun")
     # the past that it lacks is trimmed meanwhile: forty seconds of a channel four times as fast, and the housekeeper's rest
     one.filled()
-    one.sent_to(site.serving()[0])
+    one.site.send_to(site.serving()[0])
     time.sleep(28)
     one.through("what the new one lacks was trimmed", "trimmed", "begins again")
 
@@ -177,6 +172,26 @@ def one_that_does_not_end(one):
     one.channel.seen("an old one that stands still")
 
 
+def encoders_turned_late(one):
+    """Encoders of one's own, which are turned by hand, half a minute after the edge: what they send the old one is brought until then."""
+    site = one.site
+    old, run = site.serving()
+    site.origins = lambda: [site.ports[old]]
+    process = site.handover("--drain", "1")
+    while site.serving()[1] == run and process.poll() is None:
+        time.sleep(0.05)
+    time.sleep(24)
+    before = [viewer.segments for viewer in one.channel.viewers]
+    time.sleep(6)
+    came = [viewer.segments - had for viewer, had in zip(one.channel.viewers, before)]
+    check("encoders aren't turned yet: the old process goes on", process.poll() is None and ask(site.ports[old], "GET", "/status")[0] == 200, process.poll())
+    check("and nobody sees anything of the wait", min(came) > 12, came)
+    del site.origins
+    status, said = one.done(process)
+    check("once they are it is through", status == 0 and site.serving()[0] != old, (status, said))
+    one.channel.seen("encoders that were turned late")
+
+
 def at_once(one):
     """Three at the same moment."""
     ended = [one.done(process) for process in [one.site.handover("--drain", "1") for _ in range(3)]]
@@ -197,6 +212,46 @@ def moved_on(one):
     check("it goes on from the run that is served", status == 0, (status, said))
 
 
+def started_again(one):
+    """The machine is started again in the middle, before and behind the edge's turn: both processes begin anew, each tells the edge as its
+    service does, and encoders send to both. What serves has the channel alone, and the next handover is one of any other day."""
+    site = one.site
+    for viewer in one.channel.viewers:
+        viewer.over = True
+    for moment in ("before", "behind"):
+        old, run = site.serving()
+        if moment == "before":
+            one.filled()
+        else:
+            process = site.handover("--drain", "60")
+            while site.serving()[1] == run and process.poll() is None:
+                time.sleep(0.05)
+            process.kill()
+            process.wait()
+        serves, run = site.serving()
+        rest = one.at_rest()
+        check(f"started again {moment} the edge's turn", (serves == old) == (moment == "before"), (old, serves))
+        one.site.send_to(*site.ports)
+        for name in site.ports:
+            site.kill(name)
+        time.sleep(0.3)
+        said = []
+        for name in site.ports:
+            said.append(site.edge.tool("hls_run", "next", name, f"127.0.0.1:{site.ports[name]}").stdout)
+            site.command("start", name)
+            wait_for(site.ports[name])
+        check(f"started again {moment}: the edge is told of the one that serves alone", site.serving() == (serves, run + 1) and sum("begins" in text for text in said) == 1, (site.serving(), run, said))
+        time.sleep(4)
+        status, said = one.handover()
+        check(f"started again {moment}: both began anew, and it says so", status == 1 and "both began anew" in said, (status, said))
+        with open(f"/proc/net/tcp", encoding="ascii") as file:
+            listens = [int(line.split()[1].rpartition(":")[2], 16) for line in file.read().splitlines()[1:] if line.split()[3] == "0A"]
+        check(f"started again {moment}: what serves goes on, alone", site.serving()[0] == serves and site.origins() == [site.ports[serves]] and site.ports[serves] in listens and site.ports[rest] not in listens,
+              (site.serving(), site.origins()))
+        status, said = one.handover()
+        check(f"started again {moment}: the next handover is through", status == 0 and site.serving() == (rest, run + 2), (status, said, site.serving()))
+
+
 def words_that_are_none(one):
     for name in ("../news", "news-b", "a b", "", "-b", "news/x", "news\n", "\x1b[2J", "n" * 5000):
         done = subprocess.run(one.site.handover_words()[:1] + [name], capture_output=True, text=True)
@@ -208,7 +263,7 @@ def words_that_are_none(one):
 
 def run_broken(program, channel_of, loose, done):
     import tempfile
-    for parts, more in (([words_that_are_none, edge_that_fails], {}), ([at_once, processes_that_die], {}), ([dies_while_it_drains, one_that_does_not_end, moved_on], {"window": 60, "viewer": loose})):
+    for parts, more in (([words_that_are_none, edge_that_fails], {}), ([at_once, processes_that_die], {}), ([dies_while_it_drains, one_that_does_not_end, encoders_turned_late, moved_on, started_again], {"window": 60, "viewer": loose})):
         with tempfile.TemporaryDirectory() as folder, channel_of(folder, program, 4, **more) as channel:
             one = Broken(channel, done)
             for part in parts:
