@@ -19,12 +19,16 @@ bench_program() {
     mkdir -p "$bench_work/crates/bench_$name/src" "$bench_work/crates/bench_$name/specs"
     for crate in $crates; do
         mkdir "$bench_work/crates/$crate"
-        # The must-fail edits aren't needed; what earlier checks kept in out/ saves time.
-        for part in src specs proofs out; do
+        # The must-fail edits aren't needed; what earlier checks kept in out/ saves time, by links where the file system has them.
+        for part in src specs proofs; do
             if [ -e "$bench_root/crates/$crate/$part" ]; then
                 cp -a "$bench_root/crates/$crate/$part" "$bench_work/crates/$crate/"
             fi
         done
+        if [ -e "$bench_root/crates/$crate/out" ] && ! cp -al "$bench_root/crates/$crate/out" "$bench_work/crates/$crate/" 2> /dev/null; then
+            rm -rf "$bench_work/crates/$crate/out"
+            cp -a "$bench_root/crates/$crate/out" "$bench_work/crates/$crate/"
+        fi
         grep "^$crate:" "$bench_root/crates.txt" >> "$bench_work/crates.txt"
     done
     echo "bench_$name: $crates $libraries" >> "$bench_work/crates.txt"
