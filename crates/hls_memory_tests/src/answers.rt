@@ -1,9 +1,9 @@
 //! Answers about jobs and queries, and the replies that go out for them: where memory was wanted there is none.
 
 use crate::told::Told;
+use hls_fakes::goes_out;
 use hls_jobs::JobFault;
-use hls_output::Output;
-use hls_replies::{Answer, Body, added_answer, output_of, query_answer, removed_answer};
+use hls_replies::{Answer, added_answer, output_of, query_answer, removed_answer};
 use hls_serve_laws::query::QueryFault;
 use std::alloc::{AllocError, Global};
 
@@ -47,22 +47,6 @@ fn answer(alloc: Global, act: Act) -> Result<Answer, AllocError> {
     }
 }
 
-/// Whether just these bytes go out.
-fn says(output: Output<Body>, text: &[u8]) -> bool {
-    let mut output = output;
-    let mut rest = text;
-    while !output.is_empty() {
-        let chunk = output.chunk();
-        let count = chunk.len();
-        let Some(behind) = rest.strip_prefix(chunk) else {
-            return false;
-        };
-        rest = behind;
-        output.advance(count);
-    }
-    rest.is_empty()
-}
-
 /// How an answer goes out that is to be these bytes.
 fn told(alloc: Global, act: Act, reply: &[u8]) -> Told {
     let Ok(answer) = answer(alloc, act) else {
@@ -71,7 +55,7 @@ fn told(alloc: Global, act: Act, reply: &[u8]) -> Told {
     let Ok(output) = output_of(alloc, answer, false, false) else {
         return Told::Wanted;
     };
-    Told::answer(says(output, reply))
+    Told::answer(goes_out(output, reply))
 }
 
 #[test]

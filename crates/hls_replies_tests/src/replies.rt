@@ -11,6 +11,7 @@ mod sound;
 
 use hls_core::snapshot::Snapshot;
 use hls_core_laws::event::Event;
+use hls_fakes::sent_of;
 use hls_http_laws::fault::HttpFault;
 use hls_http_laws::range::Asked;
 use hls_replies::{Answer, fault_answer, list_answer, media_answer, output_of};
@@ -55,15 +56,7 @@ fn trimmed(alloc: Global, snapshot: &Snapshot) -> Result<Arc<Snapshot>, SampleFa
 fn sent(alloc: Global, answer: Answer, closing: bool, to_head: bool) -> Result<Vec<u8>, AllocError>
     ensures { IfOk result (λ bytes. length bytes.items < 2 ^ 64) }
 {
-    let mut out = Vec::with_capacity(alloc, 8192)?;
-    let mut output = output_of(alloc, answer, closing, to_head)?;
-    while !output.is_empty() {
-        let chunk = output.chunk();
-        let count = chunk.len();
-        out.extend_from_slice(chunk)?;
-        output.advance(count);
-    }
-    Ok(out)
+    sent_of(alloc, output_of(alloc, answer, closing, to_head)?)
 }
 
 /// What goes out for a GET of a part of the rendition's resource.

@@ -3,12 +3,12 @@
 
 use hls_core::snapshot::Snapshot;
 use hls_core_laws::refusal::Refusal;
+use hls_fakes::goes_out;
 use hls_feed::StreamFault;
 use hls_http_laws::fault::HttpFault;
 use hls_http_laws::range::Asked;
-use hls_output::Output;
 use hls_replies::{
-    Answer, Body, fault_answer, finish_answer, list_answer, master_answer, media_answer,
+    Answer, fault_answer, finish_answer, list_answer, master_answer, media_answer,
     method_answer, output_of, read_query, refused_answer, status_answer, taken_answer,
 };
 use hls_sample_channels::{opened, with_units};
@@ -86,22 +86,6 @@ enum Came {
     Astray,
 }
 
-/// Whether these are the bytes that go out.
-fn is_text(output: Output<Body>, text: &[u8]) -> bool {
-    let mut output = output;
-    let mut rest = text;
-    while !output.is_empty() {
-        let chunk = output.chunk();
-        let count = chunk.len();
-        let Some(behind) = rest.strip_prefix(chunk) else {
-            return false;
-        };
-        rest = behind;
-        output.advance(count);
-    }
-    rest.is_empty()
-}
-
 /// Makes an answer's reply, to HEAD or to GET, which is wanted to be this one.
 fn give(alloc: Global, snapshot: &Arc<Snapshot>, act: Act, reply: &[u8], to_head: bool) -> Came {
     let Ok(answer) = answer(alloc, snapshot, act) else {
@@ -110,7 +94,7 @@ fn give(alloc: Global, snapshot: &Arc<Snapshot>, act: Act, reply: &[u8], to_head
     let Ok(output) = output_of(alloc, answer, false, to_head) else {
         return Came::Nowhere;
     };
-    if is_text(output, reply) {
+    if goes_out(output, reply) {
         Came::Far
     } else {
         Came::Astray

@@ -1,6 +1,7 @@
 //! Where memory is refused a job's replies are as ever, or there are none. A channel of two units of 4 s.
 
 use super::refused::recorded;
+use hls_fakes::sent_of;
 use hls_http_laws::range::Asked;
 use hls_jobs::{Job, JobTable, run_job};
 use hls_replies::{
@@ -32,17 +33,10 @@ fn run_again(alloc: Global) -> Option<Job> {
     }
 }
 
-/// The bytes that go out for an answer; none where there is no memory for its head, or no room for them.
+/// The bytes that go out for an answer; none where there is no memory for its head or for them.
 fn sent(alloc: Global, answer: Answer) -> Option<Vec<u8>> {
-    let mut out = Vec::with_capacity(alloc, 8192).ok()?;
-    let mut output = output_of(alloc, answer, false, false).ok()?;
-    while !output.is_empty() {
-        let chunk = output.chunk();
-        let count = chunk.len();
-        out.extend_from_slice(chunk).ok()?;
-        output.advance(count);
-    }
-    Some(out)
+    let output = output_of(alloc, answer, false, false).ok()?;
+    sent_of(alloc, output).ok()
 }
 
 /// What goes out for the line of a job, and for its media.

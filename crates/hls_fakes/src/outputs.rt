@@ -1,0 +1,37 @@
+//! What waits to be sent, taken to its end.
+
+ghost use Rattle.std.specs.Prelude.{◌<◌, ◌^◌, length, IfOk};
+
+use hls_output::{Output, Resource};
+use std::alloc::{AllocError, Global};
+
+/// Whether just these bytes go out.
+pub fn goes_out<R: Resource + Drop>(output: Output<R>, text: &[u8]) -> bool {
+    let mut output = output;
+    let mut rest = text;
+    while !output.is_empty() {
+        let chunk = output.chunk();
+        let count = chunk.len();
+        let Some(behind) = rest.strip_prefix(chunk) else {
+            return false;
+        };
+        rest = behind;
+        output.advance(count);
+    }
+    rest.is_empty()
+}
+
+/// All that goes out.
+pub fn sent_of<R: Resource + Drop>(alloc: Global, output: Output<R>) -> Result<Vec<u8>, AllocError>
+    ensures { IfOk result (λ bytes. length bytes.items < 2 ^ 64) }
+{
+    let mut sent = Vec::with_capacity(alloc, 8192)?;
+    let mut output = output;
+    while !output.is_empty() {
+        let chunk = output.chunk();
+        let count = chunk.len();
+        sent.extend_from_slice(chunk)?;
+        output.advance(count);
+    }
+    Ok(sent)
+}
