@@ -4,4 +4,4 @@
 pub const VERSION: &str = "0.2.0";
 
 /// The toolchain that proves it, as it names itself.
-pub const TOOLCHAIN: &str = "rattle-kit-13b logic dac8208d650f15bf";
+pub const TOOLCHAIN: &str = "rattle-kit-13f logic dac8208d650f15bf";
