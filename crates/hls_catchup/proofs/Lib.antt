@@ -1,16 +1,17 @@
 mod Offsets
 mod Places
 mod Pieces
-mod Uris
 mod ListLoop
-pub mod Walks
+mod Walks
 mod Right
-pub mod States
+mod States
 mod Tables
-pub mod Bounded
+mod Bounded
 mod Covered
 mod Slices
 mod Spans
-pub mod Plays
+mod Plays
 mod Names
 mod LiveLists
+mod JobLemmas
+pub mod Callers

@@ -4,8 +4,8 @@ use Rattle.std.specs.Prelude.{slice_get}
 use Rattle.std.proofs.lemmas.Bool.{cases_Bool, lt-ltb, ltb-true, cond-true, cond-false}
 use Rattle.hls_media_laws.specs.InitData.{InitData}
 use Rattle.hls_record.specs.Recorded.{Recorded}
-use Rattle.hls_live_laws.specs.declared.segment.Segment as live_line
-use Rattle.hls_live_laws.specs.Live.{Live, segments_of, has_ended}
+use Rattle.hls_places_laws.specs.declared.line.segment.Segment as live_line
+use Rattle.hls_places_laws.specs.Line.Live.{Live, segments_of, has_ended}
 use Rattle.hls_m3u8.specs.declared.playlist.Segment.{Segment}
 use Rattle.hls_m3u8.specs.Playlist.{Playlist}
 use Rattle.hls_m3u8.specs.Forms.{live_list}
@@ -15,10 +15,10 @@ use Rattle.hls_core_laws.specs.State.{State, Held, no_held, channel}
 use Rattle.hls_core_laws.specs.IsState.{IsState}
 use Rattle.hls_core_laws.specs.Outcome.{held}
 use Rattle.hls_core_laws.specs.Line.{line}
-use Rattle.hls_core_laws.proofs.Lists.{at_beside, at_or}
+use Rattle.hls_core_laws.proofs.Callers.{at_beside, at_or}
 use Rattle.hls_core.specs.Reads.{recorded_from, recorded_at, recording_of}
 use Rattle.hls_lists_laws.specs.Live.{live_uri, listed, list_over, has_closed, list_in, live_list_of}
-use Rattle.hls_lists_laws.proofs.Texts.{closed-some, has-begun}
+use Rattle.hls_lists_laws.proofs.Callers.{closed-some, has-begun}
 use Rattle.hls_catchup.specs.Lists.{cutting}
 
 -- no segment was closed

@@ -11,7 +11,7 @@ use Rattle.hls_media_laws.proofs.Lists.{at_drop}
 use Rattle.hls_record.proofs.Pieces.{no_piece}
 use Rattle.hls_media_laws.specs.FactLists.{len_of}
 use Rattle.hls_lists_laws.specs.Jobs.{bytes_between, units_between, resource_of, HaveLengths}
-use Rattle.hls_lists_laws.proofs.Ranges.{bytes_are}
+use Rattle.hls_lists_laws.proofs.Callers.{bytes_are}
 use Rattle.hls_catchup.proofs.Offsets.{offsets_add}
 
 -- lengths side by side

@@ -2,7 +2,7 @@
 use Rattle.std.proofs.Common.{◌≡◌, ℕ, ◌^◌, ◌<◌, [], length}
 use Rattle.std.proofs.lemmas.List.Elements.{All-get_or}
 use Rattle.hls_check_laws.specs.Tables.{Table, IsTable, IsPlaceOf, spot_in, place_at}
-use Rattle.hls_lists_laws.proofs.Dates as dates
+use Rattle.hls_lists_laws.proofs.Callers as dates
 
 -- each has a spot for each rendition
 pub place_long : (t : Table) (p : ℕ) → IsTable t → p < length t.places → length (place_at t.places p) ≡ t.renditions

@@ -16,13 +16,11 @@ use Rattle.hls_core_laws.specs.Config.{IsEpoch}
 use Rattle.hls_m3u8.proofs.Building.{vod_has_text}
 use Rattle.hls_lists_laws.specs.Segments.{Cutting, segments_of}
 use Rattle.hls_lists_laws.specs.SegmentLaws.{AreUnits, first_fragment}
-use Rattle.hls_lists_laws.proofs.JoinedMedia.{media_are_the_units}
-use Rattle.hls_lists_laws.proofs.Good.{segments_are_good}
+use Rattle.hls_lists_laws.proofs.Callers.{media_are_the_units, segments_are_good, number_uri}
 use Rattle.hls_catchup.specs.Lists.{cutting, job_uri, job_list, job_lists}
 use Rattle.hls_catchup.specs.Answers.{IsCovered, AreCovered, IsRightList, AreRightLists, ShowsCut, ShowsNoCut, IsGoodFor}
 use Rattle.hls_catchup.specs.Accepted.{IsAccepted}
 use Rattle.hls_catchup.proofs.Pieces.{have_lengths}
-use Rattle.hls_catchup.proofs.Uris.{job_uri_good}
 
 -- what holds of the element at each place holds of all
 all_from_each : {A : Type 0} (P : A → Type 0) (xs : List A) → ((k : ℕ) (x : A) → slice_get xs k ≡ Some x → P x) → All P xs
@@ -51,7 +49,7 @@ right_list epoch recorded r t plan known valid table is_plan within covered =
     record {
       is = refl;
       has_text = vod_has_text t.goal.target uri (length recorded.head) (segments_of cut t.places plan)
-          (omega arith) (job_uri_good r (omega arith)) some (omega arith) good.1;
+          (omega arith) (number_uri r (omega arith)) some (omega arith) good.1;
       fits = good.0;
       media = media_are_the_units t plan cut recorded.head recorded.floor recorded.units is_plan within refl refl covered.kept (have_lengths recorded valid);
     }

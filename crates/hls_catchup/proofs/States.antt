@@ -12,10 +12,9 @@ use Rattle.hls_core_laws.specs.State.{State, Held, channel}
 use Rattle.hls_core_laws.specs.IsState.{IsState}
 use Rattle.hls_core_laws.specs.Outcome.{held}
 use Rattle.hls_core_laws.specs.Places.{facts_of, is_finished, floor_of, sources, places, floors}
-use Rattle.hls_core_laws.proofs.Sources.{lanes_count, sources_count, source_of}
-use Rattle.hls_core_laws.proofs.Lists.{at_map, at_or}
+use Rattle.hls_core_laws.proofs.Callers.{lanes_count, sources_count, source_of, at_map, at_or}
 use Rattle.hls_places_laws.specs.Sources.{source_at}
-use Rattle.hls_places_laws.proofs.Growths.{after-without}
+use Rattle.hls_places_laws.proofs.Callers.{after-without}
 use Rattle.hls_core.specs.Reads.{recorded_from, recorded_at, recording_of, finished_at}
 use Rattle.hls_places_laws.specs.declared.place.Place.{Place}
 use Rattle.hls_catchup.specs.Kept.{kept_in}

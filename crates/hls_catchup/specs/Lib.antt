@@ -10,3 +10,4 @@ pub mod Plays
 pub mod Resources
 pub mod Spans
 pub mod Named
+pub mod Jobs

@@ -1,10 +1,21 @@
-//! Catch-up answers: a programme of one channel, cut from what one snapshot recorded, as a playlist and a resource for each
-//! rendition, with a certificate that no other plan costs less.
+//! Catch-up: a programme of one channel, cut from what one snapshot recorded, as a playlist and a resource for each rendition, with a
+//! certificate that no other plan costs less; and the jobs by which that is done beside everything else.
 #![tactic(auto)]
 
 pub use actions::{Action, play};
 pub use cutout::{Cutout, cut};
 pub use hls_check_laws::CostRule;
+pub use jobs::answered::Answered;
+pub use jobs::fault::JobFault;
+pub use jobs::files::{certificate_text, master_text, playlist_text};
+pub use jobs::finished::{Ending, Finished, run_job};
+pub use jobs::gate::{Gate, work_loop};
+pub use jobs::job::Job;
+pub use jobs::line::job_line;
+pub use jobs::shared::Jobs;
+pub use jobs::standing::{Withheld, reply_in};
+pub use jobs::table::JobTable;
+pub use jobs::work::Work;
 pub use laws::good_is_accepted;
 pub use lists::job_lists;
 pub use live::live_playlist;
@@ -19,6 +30,7 @@ pub use table::table_of;
 mod actions;
 mod cutout;
 mod floors;
+mod jobs;
 mod kept;
 mod laws;
 mod lists;

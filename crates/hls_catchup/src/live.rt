@@ -3,7 +3,7 @@
 ghost use Rattle.std.specs.Prelude.{◌≡◌, ◌<◌, ◌^◌, map, All, IfOk};
 ghost use Rattle.std.specs.Option.{option_map};
 ghost use Rattle.hls_check_laws.specs.Tables.{spot_in};
-ghost use Rattle.hls_live_laws.specs.Live.{segments_of};
+ghost use Rattle.hls_places_laws.specs.Line.Live.{segments_of};
 ghost use Rattle.hls_m3u8.specs.Playlist.{playlist_of};
 ghost use Rattle.hls_core_laws.specs.Config.{IsEpoch};
 ghost use Rattle.hls_core_laws.specs.IsState.{IsState};

@@ -9,8 +9,8 @@ use Rattle.hls_core_laws.specs.Channel.{Lane, no_lane, lane}
 use Rattle.hls_core_laws.specs.State.{State, Held, channel}
 use Rattle.hls_core_laws.specs.Follows.{Continues, AreSame, SameHeld}
 use Rattle.hls_core_laws.specs.Workers.{events_by}
-use Rattle.hls_core_laws.proofs.Lists as lists
-use Rattle.hls_core_laws.proofs.Workers.{events_by-append}
+use Rattle.hls_core_laws.proofs.Callers.{events_by-append}
+use Rattle.hls_core_laws.proofs.Callers as lists
 use Rattle.hls_core.specs.declared.side.Side.{Side}
 use Rattle.hls_core.specs.Sides.{lane_of, held_of, IsAt}
 

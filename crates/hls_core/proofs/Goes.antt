@@ -11,18 +11,14 @@ use Rattle.hls_core_laws.specs.declared.event.Event.{Event}
 use Rattle.hls_core_laws.specs.declared.event.Event.TheVariants.{Begin, Accept, Finish, Trim}
 use Rattle.hls_core_laws.specs.Channel.{Lane, no_lane, lane, after, begun_with, with_facts, finish_of, with_floor}
 use Rattle.hls_core_laws.specs.State.{State, Held, no_held, channel, log_limit}
-use Rattle.hls_live_laws.specs.Live.{front_of}
+use Rattle.hls_places_laws.specs.Line.Live.{front_of}
 use Rattle.hls_core_laws.specs.Places.{sources}
 use Rattle.hls_core_laws.specs.Line.{line}
-use Rattle.hls_core_laws.proofs.Moved.{front_within}
-use Rattle.hls_core_laws.proofs.Removed.{sources_trim}
+use Rattle.hls_core_laws.proofs.Callers.{front_within, sources_trim, at_or, set_same, units_are_logged, advanced_state, advanced_continues, sources_count, source_of}
+use Rattle.std.proofs.lemmas.Option.{slice_get_within}
 use Rattle.hls_core_laws.specs.IsState.{IsState}
 use Rattle.hls_core_laws.specs.Outcome.{New, outcome_of, held, accept, accept_beside, accept_later, trim_limit}
 use Rattle.hls_core_laws.specs.Moves.{logged, entry_of, advanced, more_bytes, less_bytes, IsFitting}
-use Rattle.hls_core_laws.proofs.Lists.{at_or, at_below, set_same}
-use Rattle.hls_core_laws.proofs.Theorems.{units_are_logged}
-use Rattle.hls_core_laws.proofs.Advance.{advanced_state, advanced_continues}
-use Rattle.hls_core_laws.proofs.Sources.{sources_count, source_of}
 use Rattle.hls_record.specs.Valid.{IsRecorded}
 use Rattle.hls_core_laws.specs.Follows.{Continues}
 use Rattle.hls_core.specs.declared.side.Side.{Side}
@@ -61,7 +57,7 @@ may_take s by event r old side state fits new is lanes removed at open_ended goo
   continues = subst (λ (x : State). Continues s x) (sym is) (advanced_continues s by event state fits new);
   live = record {
     rendition = r;
-    within = omega (arith, sources_count s, at_below (channel s).lanes r (lane_of old) at.lane);
+    within = omega (arith, sources_count s, slice_get_within (channel s).lanes r (lane_of old) at.lane);
     goes_on = (source_of s r (lane_of old) at.lane).finished ∙ lane_finished old.recording old.finished ∙ open_ended;
   };
   good = good;
@@ -82,7 +78,7 @@ pub room_of : (s : State) (full : Bool) → full ≡ nat_le 4194304 (length s.lo
 room_of s full is isnt = leb-false 4194304 (length s.log) (sym is ∙ isnt)
 
 pub within : (s : State) (r : ℕ) (side : Side) → IsAt s r side → r < length s.bytes
-within s r side at = at_below s.bytes r (held_of side) at.held
+within s r side at = slice_get_within s.bytes r (held_of side) at.held
 
 -- a recording has room for one more unit where the log isn't full
 pub units_few : (s : State) (r : ℕ) (side : Side) (rec : Recorded) → IsState s → IsAt s r side → side.recording ≡ Some rec → length rec.facts ≤ length s.log

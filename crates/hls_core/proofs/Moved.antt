@@ -9,21 +9,19 @@ use Rattle.hls_places_laws.specs.declared.place.Place.{Place}
 use Rattle.hls_places_laws.specs.Sources.{Source, source_at, sources_of, first_facts}
 use Rattle.hls_places_laws.specs.Places.{places_after}
 use Rattle.hls_places_laws.specs.Positions.{Position, IsCursor, IsThrough}
-use Rattle.hls_places_laws.proofs.Sides.{side-at, length-sources_of}
-use Rattle.hls_places_laws.proofs.Growths.{after-without, found-without}
+use Rattle.hls_places_laws.proofs.Callers.{side-at, length-sources_of, after-without, found-without, told-none, told-more, advanced-few_more}
 use Rattle.hls_places.proofs.Gathered.{next-side}
 use Rattle.hls_places.specs.declared.cursor.Advance.{Advance}
 use Rattle.hls_places.specs.Advances.{IsAdvance}
 use Rattle.hls_core_laws.specs.Config.{ConfigData}
 use Rattle.hls_core_laws.specs.declared.rendition.Rendition.{Rendition}
 use Rattle.hls_core_laws.specs.Places.{facts_of, is_finished, tolerance_of}
-use Rattle.hls_core_laws.proofs.Lists.{at_map, at_or, at_below}
+use Rattle.hls_core_laws.proofs.Callers.{at_map, at_or}
+use Rattle.std.proofs.lemmas.Option.{slice_get_within}
 use Rattle.hls_core.specs.declared.placed.Placed.{Placed}
 use Rattle.hls_core.specs.declared.side.Side.{Side}
 use Rattle.hls_core.specs.Gathers.{Lacks}
-use Rattle.hls_live_laws.specs.Live.{Live, moved, moved_by}
-use Rattle.hls_live_laws.proofs.Lines.{told-none, told-more}
-use Rattle.hls_live_laws.proofs.Ends.{advanced-few_more}
+use Rattle.hls_places_laws.specs.Line.Live.{Live, moved, moved_by}
 use Rattle.hls_core.specs.Placed.{IsPlaced, CanBeTold}
 use Rattle.hls_core.specs.Sides.{lane_of, lane_from, sources_by}
 
@@ -94,7 +92,7 @@ bare config sides count l =
     let side = side-at (map facts_of (map lane_of sides)) (map tolerance_of config.renditions) (map is_finished (map lane_of sides)) tolerances finished l.number in
     let at : slice_get (map facts_of (map lane_of sides)) l.number ≡ Some (lane_of l.side).facts =
     at_map facts_of (map lane_of sides) l.number (lane_of l.side) (at_map lane_of sides l.number l.side l.at) in (
-      omega (arith, whole, lanes, at_below sides l.number l.side l.at),
+      omega (arith, whole, lanes, slice_get_within sides l.number l.side l.at),
       side.facts_are ∙ at_or (map facts_of (map lane_of sides)) l.number [] (lane_of l.side).facts at ∙ lane_bare l.side.recording l.side.finished l.none,
     )
 

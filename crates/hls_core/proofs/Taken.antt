@@ -7,23 +7,20 @@ use Rattle.hls_places_laws.specs.declared.place.Place.{Place}
 use Rattle.hls_places_laws.specs.Sources.{Source, source_at, sources_of, first_facts}
 use Rattle.hls_places_laws.specs.Places.{places_of, places_after, common_at, closing_of, has_ended, end_in}
 use Rattle.hls_places_laws.specs.Order.{no_place}
-use Rattle.hls_places_laws.proofs.Ordered.{places-ordered}
+use Rattle.hls_places_laws.proofs.Callers.{places-ordered, continues, after-without, found-without}
 use Rattle.std.proofs.lemmas.Option.{slice_get-get_or}
-use Rattle.hls_live_laws.specs.Live.{Live, fresh as fresh_line, live_of, moved_by, slid}
-use Rattle.hls_live_laws.specs.Told.{told}
+use Rattle.hls_places_laws.specs.Line.Live.{Live, fresh as fresh_line, live_of, moved_by, slid}
+use Rattle.hls_places_laws.specs.Line.Told.{told}
 use Rattle.hls_core_laws.specs.declared.event.Event.TheVariants.{Slide}
 use Rattle.hls_core_laws.specs.Line.{aim_of, line}
 use Rattle.hls_core_laws.specs.Outcome.{New, outcome_of}
 use Rattle.hls_core_laws.specs.Moves.{entry_of, advanced}
-use Rattle.hls_core_laws.proofs.Advance.{channel_advanced, advanced_state}
-use Rattle.hls_core_laws.proofs.Removed.{line_few, line_goes_on, line_slides, line_stays, sources_slide}
+use Rattle.hls_core_laws.proofs.Callers.{channel_advanced, advanced_state, line_few, line_goes_on, line_slides, line_stays, sources_slide, sources_grow, sources_count, source_of, lanes_count, at_map, at_set, at_some, mapped_at, length_set, channel_from-snoc, units_are_logged, states_are_timed, first_is_state}
+use Rattle.std.proofs.lemmas.Option.{slice_get_within}
 use Rattle.hls_places_laws.specs.Positions.{Position, first_position, IsCursor, IsThrough}
 use Rattle.hls_places_laws.specs.Growth.{Continues as PlacesContinue}
-use Rattle.hls_places_laws.proofs.Appends.{continues}
-use Rattle.hls_places_laws.proofs.Growths.{after-without, found-without}
 use Rattle.hls_places.proofs.Walks.{first-cursor}
 use Rattle.hls_core_laws.specs.Places.{facts_of, is_finished, tolerance_of, sources, places}
-use Rattle.hls_core_laws.proofs.Sources.{sources_grow, sources_count, source_of, lanes_count}
 use Rattle.std.proofs.lemmas.List.{map-set, length-map}
 use Rattle.hls_core_laws.specs.declared.event.Entry.{Entry}
 use Rattle.hls_core_laws.specs.declared.rendition.Rendition.{Rendition}
@@ -32,10 +29,6 @@ use Rattle.hls_core_laws.specs.Channel.{Channel, Lane, no_lane, fresh, after, op
 use Rattle.hls_core_laws.specs.State.{State, no_held, channel}
 use Rattle.hls_core_laws.specs.IsState.{IsState}
 use Rattle.hls_core_laws.specs.Runs.{first_state, nothing_held}
-use Rattle.hls_core_laws.proofs.Lists.{at_map, at_set, at_some, at_below, mapped_at, length_set}
-use Rattle.hls_core_laws.proofs.Logs.{channel_from-snoc}
-use Rattle.hls_core_laws.proofs.Theorems.{units_are_logged, states_are_timed}
-use Rattle.hls_core_laws.proofs.Runs.{first_is_state}
 use Rattle.hls_core.specs.declared.side.Side.{Side}
 use Rattle.hls_core.specs.declared.snapshot.Snapshot.TheInside.{Inside}
 use Rattle.hls_core.specs.Sides.{lane_of, held_of, fresh_side, sources_by, IsAt, IsGood, with_side, MayTake, MayTrim}
@@ -67,7 +60,7 @@ places_few s state =
 some_spots : (s : State) → IsState s → (k : ℕ) (p : Place) → slice_get (places s) k ≡ Some p → 0 < length p.spots
 some_spots s state k p at =
     let are = states_are_timed s state in
-    let below = at_below (places s) k p at in
+    let below = slice_get_within (places s) k p at in
     let here = (places-ordered (sources s) are).each k no_place below in
     let same : get_or (places s) k no_place ≡ p = let there = slice_get-get_or (places s) k no_place below in cc in
     omega (arith, are.some, here.place.count, ap (λ (q : Place). length q.spots) same)
@@ -248,7 +241,7 @@ opening_source config good =
     let s : State = first_state config in
     let first = at_some config.renditions 0 (omega (arith, good.renditions.some)) in
     let lane_at : slice_get (channel s).lanes 0 ≡ Some no_lane = at_map fresh config.renditions 0 first.0 first.1 in
-    (omega (arith, sources_count s, at_below (channel s).lanes 0 no_lane lane_at), (source_of s 0 no_lane lane_at).facts)
+    (omega (arith, sources_count s, slice_get_within (channel s).lanes 0 no_lane lane_at), (source_of s 0 no_lane lane_at).facts)
 
 pub kept_first : (n : Inside) (config : ConfigData) → IsConfig config → n.config ≡ config → n.log ≡ record { first = 0; items = [] } → sides_of n ≡ map fresh_side config.renditions → n.places ≡ record { first = 0; items = [] } → n.cursor.value ≡ first_position (length config.renditions) → n.line.value ≡ fresh_line (aim_of config) → IsKept n
 unfolding channel_from told

@@ -6,10 +6,9 @@ use Rattle.hls_check_laws.specs.Tables.{spot_in}
 use Rattle.hls_places_laws.specs.declared.place.Place.{Place}
 use Rattle.hls_places_laws.specs.Order.{time_of}
 use Rattle.hls_places_laws.specs.Programmes.{is_kept}
-use Rattle.hls_live_laws.specs.Live.{front_of, has_ended}
-use Rattle.hls_live_laws.specs.Upkeep.{IsMostSlide, Channel, is_old, IsCut, IsSlide, IsTrim, Idle, Trims}
-use Rattle.hls_live_laws.proofs.Ends.{front-stands}
-use Rattle.hls_live_laws.proofs.Upkeeps.{upkeep-slides, upkeep-trims}
+use Rattle.hls_places_laws.specs.Line.Live.{front_of, has_ended}
+use Rattle.hls_places_laws.specs.Line.Upkeep.{IsMostSlide, Channel, is_old, IsCut, IsSlide, IsTrim, Idle, Trims}
+use Rattle.hls_places_laws.proofs.Callers.{front-stands, upkeep-slides, upkeep-trims}
 use Rattle.hls_core_laws.specs.declared.event.Event.{Event}
 use Rattle.hls_core_laws.specs.declared.event.Event.TheVariants.{Slide, Trim}
 use Rattle.hls_core_laws.specs.Channel.{Lane}
@@ -18,9 +17,7 @@ use Rattle.hls_core_laws.specs.IsState.{IsState}
 use Rattle.hls_core_laws.specs.Places.{sources, places, floors, floor_of}
 use Rattle.hls_core_laws.specs.Line.{aim_of, line}
 use Rattle.hls_core_laws.specs.Outcome.{logged_by, slide, trim, trim_limit, outcome_of}
-use Rattle.hls_core_laws.proofs.Lists.{at_some, at_map, at_or}
-use Rattle.hls_core_laws.proofs.Lanes.{sources_count}
-use Rattle.hls_core_laws.proofs.KeptPlaces.{ordered, floors-count}
+use Rattle.hls_core_laws.proofs.Callers.{at_some, at_map, at_or, sources_count, ordered, floors-count}
 use Rattle.hls_core.specs.Upkeeps.{watched, IsUpkeepOf}
 use Rattle.hls_core.specs.Cuts.{IsOldUntil, NoneOld, IsCutOf, NoCut, ReachedBefore, IsFirstBelow}
 use Rattle.hls_core.specs.KeptPlaces.{IsLastKeptBy, NoKeptBy}

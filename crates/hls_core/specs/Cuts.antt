@@ -3,8 +3,8 @@ use Rattle.std.specs.Prelude.{◌≡◌, ℕ, ◌<◌, ◌≤◌, true, length, 
 use Rattle.hls_check_laws.specs.Tables.{spot_in}
 use Rattle.hls_places_laws.specs.declared.place.Place.{Place}
 use Rattle.hls_places_laws.specs.Order.{time_of}
-use Rattle.hls_live_laws.specs.Live.{front_of}
-use Rattle.hls_live_laws.specs.Upkeep.{is_old, IsCut}
+use Rattle.hls_places_laws.specs.Line.Live.{front_of}
+use Rattle.hls_places_laws.specs.Line.Upkeep.{is_old, IsCut}
 use Rattle.hls_core_laws.specs.declared.event.Event.{Event}
 use Rattle.hls_core_laws.specs.declared.event.Event.TheVariants.{Trim}
 use Rattle.hls_core_laws.specs.State.{State}

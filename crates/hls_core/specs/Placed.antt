@@ -5,7 +5,7 @@ use Rattle.hls_places_laws.specs.Sources.{Source}
 use Rattle.hls_places_laws.specs.Places.{places_after}
 use Rattle.hls_places_laws.specs.Positions.{IsCursor, IsThrough}
 use Rattle.hls_blocks.specs.Numbered.{Numbered, list_limit}
-use Rattle.hls_live_laws.specs.Live.{Live, moved_by}
+use Rattle.hls_places_laws.specs.Line.Live.{Live, moved_by}
 use Rattle.hls_core.specs.declared.placed.Placed.{Placed}
 
 -- what was told, and then all that is told from number `done` on, to the line too

@@ -1,6 +1,6 @@
 -- The upkeep of a state, and the event that does it.
 use Rattle.std.specs.Prelude.{◌≡◌, ℕ, Option, Some, None}
-use Rattle.hls_live_laws.specs.Upkeep.{Channel, Upkeep, Idle, Slides, Trims, IsUpkeep}
+use Rattle.hls_places_laws.specs.Line.Upkeep.{Channel, Upkeep, Idle, Slides, Trims, IsUpkeep}
 use Rattle.hls_core_laws.specs.declared.event.Event.{Event}
 use Rattle.hls_core_laws.specs.declared.event.Event.TheVariants.{Slide, Trim}
 use Rattle.hls_core_laws.specs.State.{State}

@@ -4,7 +4,7 @@ ghost use Rattle.std.specs.Prelude.{◌≡◌, ℕ, ◌+◌, ◌<◌, ◌≤◌,
 ghost use Rattle.hls_blocks.specs.Numbered.{Numbered, next_of, list_limit};
 ghost use Rattle.hls_places_laws.specs.Places.{places_after};
 ghost use Rattle.hls_places_laws.specs.Positions.{IsCursor};
-ghost use Rattle.hls_live_laws.specs.Live.{moved_by};
+ghost use Rattle.hls_places_laws.specs.Line.Live.{moved_by};
 ghost use Rattle.hls_core.specs.Gathers.{Lacks};
 ghost use Rattle.hls_core.specs.Placed.{CanBeTold};
 ghost use Rattle.hls_core.specs.Sides.{sources_by};

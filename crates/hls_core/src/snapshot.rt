@@ -8,7 +8,7 @@ ghost use Rattle.hls_core_laws.specs.IsState.{IsState};
 ghost use Rattle.hls_places_laws.specs.Sources.{AreSources};
 ghost use Rattle.hls_core_laws.specs.Places.{sources, places};
 ghost use Rattle.hls_check_laws.specs.Tables.{spot_in};
-ghost use Rattle.hls_live_laws.specs.Live.{front_of, slid};
+ghost use Rattle.hls_places_laws.specs.Line.Live.{front_of, slid};
 ghost use Rattle.hls_core_laws.specs.declared.event.Event.TheVariants.{Slide};
 ghost use Rattle.hls_core_laws.specs.Line.{line};
 ghost use Rattle.hls_core_laws.specs.Outcome.{New, outcome_of, trim_limit};

@@ -8,7 +8,7 @@ use Rattle.hls_media_laws.specs.InitData.{InitData}
 use Rattle.hls_media_laws.specs.declared.facts.Facts.{Facts}
 use Rattle.hls_media_laws.specs.FactLists.{last_end, twin_in, WereUnits, InOrder}
 use Rattle.hls_media_laws.proofs.Timelines.{no_twin, in_order_grown, were_grown}
-use Rattle.hls_live_laws.specs.Live.{front_of, may_slide}
+use Rattle.hls_places_laws.specs.Line.Live.{front_of, may_slide}
 use Rattle.hls_core_laws.specs.Line.{line}
 use Rattle.hls_core_laws.specs.declared.event.Entry.{Entry}
 use Rattle.hls_core_laws.specs.declared.event.Event.{Event}
@@ -23,7 +23,7 @@ use Rattle.hls_core_laws.specs.Moves.{logged, entry_of, advanced, IsFitting}
 use Rattle.hls_core_laws.specs.Runs.{first_state, moved_by, next_state, replayed, AreFitting}
 use Rattle.hls_core_laws.specs.Legal.{IsLegal}
 use Rattle.hls_core_laws.proofs.Additions.{MayAdd, LegalFrom}
-use Rattle.hls_core_laws.proofs.Lists.{at_or, at_set, mapped_at}
+use Rattle.hls_core_laws.proofs.Lists.{at_or, each_set, mapped_at}
 use Rattle.hls_core_laws.proofs.Logs.{legal_snoc}
 use Rattle.hls_core_laws.proofs.Causes.{begins, accepts, finishes, trims, slides, accepts_beside}
 
@@ -108,10 +108,7 @@ AllTimed lanes = (r : ℕ) (l : Lane) → slice_get lanes r ≡ Some l → Timed
 
 timed_set : (lanes : List Lane) (q : ℕ) (new : Lane) → AllTimed lanes → Timed new → AllTimed (slice_set lanes q new)
 unfolding AllTimed
-timed_set lanes q new all timed r l at = elim (at_set lanes q new r l at) [
-  | inl here ↦ subst (λ (x : Lane). Timed x) here.1 timed
-  | inr other ↦ all r l other.1
-]
+timed_set = each_set Timed
 
 bare_timed : (facts : List Facts) → facts ≡ [] → (init : InitData) → WereUnits init facts
 bare_timed facts none init k f at = let never : slice_get facts k ≡ None = ap (λ fs. slice_get fs k) none in cc

@@ -6,8 +6,8 @@ use Rattle.std.proofs.lemmas.Bool.{ltb-false, leb-false}
 use Rattle.hls_media_laws.specs.InitData.{InitData}
 use Rattle.hls_media_laws.specs.declared.facts.Facts.{Facts}
 use Rattle.hls_media_laws.specs.FactLists.{last_end, twin_in}
-use Rattle.hls_live_laws.specs.declared.line_fault.LineFault.{LineFault}
-use Rattle.hls_live_laws.specs.declared.line_fault.LineFault.TheVariants.{TooMany, TooShort, Ended, Memory}
+use Rattle.hls_places_laws.specs.declared.line.line_fault.LineFault.{LineFault}
+use Rattle.hls_places_laws.specs.declared.line.line_fault.LineFault.TheVariants.{TooMany, TooShort, Ended, Memory}
 use Rattle.hls_core_laws.specs.declared.refusal.Refusal.{Refusal}
 use Rattle.hls_core_laws.specs.declared.refusal.Refusal.TheVariants.{InitChanged, Overlap, Finished, TrimTooFar, LedgerFull, RecordingFull}
 use Rattle.hls_core_laws.specs.Channel.{Lane, lane_len}

@@ -9,7 +9,8 @@ use Rattle.hls_core_laws.proofs.Added.{entries_of}
 use Rattle.hls_core_laws.specs.State.{State, Held, channel}
 use Rattle.hls_core_laws.specs.IsState.{IsState, Fits}
 use Rattle.hls_core_laws.specs.Follows.{SameHeld, Continues, Follows}
-use Rattle.hls_core_laws.proofs.Lists.{at_or, at_some, at_below, at_beside}
+use Rattle.hls_core_laws.proofs.Lists.{at_or, at_some, at_beside}
+use Rattle.std.proofs.lemmas.Option.{slice_get_within}
 use Rattle.hls_core_laws.proofs.Logs.{LaneGrows, Grown, lane_grows, channel_from-append, legal_rest}
 
 same_held : (l : Lane) (h : Held) → SameHeld l l h h
@@ -37,7 +38,7 @@ through : (la lb lc : Lane) (ha hb hc : Held) → LaneGrows la lb → LaneGrows 
 through la lb lc ha hb hc ab bc fits_a fits_b same_ab same_bc = record {
   head = λ i begun. same_bc.head i ((ab.init i begun).0) ∙ same_ab.head i begun;
   units = λ n x y from_a from_c at_x at_y.
-      let below : n - la.floor < length ha.units = at_below ha.units (n - la.floor) x at_x in
+      let below : n - la.floor < length ha.units = slice_get_within ha.units (n - la.floor) x at_x in
       let counted : length lb.facts ≡ length la.facts + length ab.more = ap length ab.facts ∙ length-append la.facts ab.more in
       let kept : n - lb.floor < length hb.units = omega (arith, fits_a.kept, fits_b.kept, bc.floor) in
       let middle = at_some hb.units (n - lb.floor) kept in

@@ -1,6 +1,7 @@
 -- Elements of lists by their numbers.
-use Rattle.std.proofs.Common.{◌≡◌, ◌≢◌, ◌⊎◌, ℕ, zero, suc, ◌+◌, ◌<◌, ◌≤◌, List, [], ◌∷◌, ◌++◌, Some, None, length, map, take, drop, refl, ap, inl, inr, arith, zero-add}
+use Rattle.std.proofs.Common.{◌≡◌, ◌≢◌, ◌⊎◌, ℕ, zero, suc, ◌+◌, ◌<◌, ◌≤◌, List, [], ◌∷◌, ◌++◌, Some, None, length, map, take, drop, refl, ap, subst, inl, inr, arith, zero-add}
 use Rattle.std.specs.Prelude.{slice_get, slice_index_or, slice_set}
+use Rattle.std.proofs.lemmas.Option.{slice_get_within}
 
 module _ {A : Type 0} where
   pub at_front : (xs ys : List A) (k : ℕ) (x : A) → slice_get xs k ≡ Some x → slice_get (xs ++ ys) k ≡ Some x
@@ -19,11 +20,6 @@ module _ {A : Type 0} where
   at_snoc (z ∷ xs) y (suc k) x at =
       elim (at_snoc xs y k x at) [ inl h ↦ inl h | inr h ↦ inr (ap suc h.0, h.1) ]
 
-  pub at_below : (xs : List A) (k : ℕ) (x : A) → slice_get xs k ≡ Some x → k < length xs
-  at_below [] k x at = cc
-  at_below (z ∷ xs) zero x at = omega arith
-  at_below (z ∷ xs) (suc k) x at = omega (arith, at_below xs k x at)
-
   pub at_some : (xs : List A) (k : ℕ) → k < length xs → (x : A) × (slice_get xs k ≡ Some x)
   at_some [] k h = absurd (omega arith)
   at_some (z ∷ xs) zero h = (z, refl)
@@ -41,11 +37,6 @@ module _ {A : Type 0} where
   take_at (z ∷ xs) (suc k) x at =
       let step : suc k + 1 ≡ suc (k + 1) = omega arith in
       rw step (ap (λ ys. z ∷ ys) (take_at xs k x at))
-
-  pub past_end : (xs : List A) (k : ℕ) → length xs ≤ k → slice_get xs k ≡ None
-  past_end [] k past = refl
-  past_end (z ∷ xs) zero past = absurd (omega arith)
-  past_end (z ∷ xs) (suc k) past = past_end xs k (omega arith)
 
   -- what `xs[k]` reads
   pub at_read : (xs : List A) (k : ℕ) (x : A) → k < length xs → x ≡ slice_index_or xs k x → slice_get xs k ≡ Some x
@@ -66,6 +57,14 @@ module _ {A : Type 0} where
   at_set (z ∷ xs) (suc r) y zero x at = inr (λ h. omega arith, at)
   at_set (z ∷ xs) (suc r) y (suc k) x at =
       elim (at_set xs r y k x at) [ inl h ↦ inl (ap suc h.0, h.1) | inr h ↦ inr (λ e. h.0 (omega arith), h.1) ]
+
+  -- what holds of each element of a list and of another holds of each once that one is set
+  pub each_set : (P : A → Type 0) (xs : List A) (r : ℕ) (y : A) → ((k : ℕ) (x : A) → slice_get xs k ≡ Some x → P x) → P y
+      → (k : ℕ) (x : A) → slice_get (slice_set xs r y) k ≡ Some x → P x
+  each_set P xs r y all set k x at = elim (at_set xs r y k x at) [
+    | inl here ↦ subst (λ (z : A). P z) here.1 set
+    | inr other ↦ all k x other.1
+  ]
 
   pub set_else : (xs : List A) (r : ℕ) (y : A) (k : ℕ) → k ≢ r → slice_get (slice_set xs r y) k ≡ slice_get xs k
   set_else [] r y k h = refl
@@ -112,4 +111,4 @@ module _ {A B : Type 0} where
   -- lists of one length have elements at the same numbers
   pub at_beside : (xs : List A) (ys : List B) (k : ℕ) (x : A) → length ys ≡ length xs → slice_get xs k ≡ Some x → (y : B) × (slice_get ys k ≡ Some y)
   at_beside xs ys k x same at =
-      let below : k < length ys = rw same (at_below xs k x at) in at_some ys k below
+      let below : k < length ys = rw same (slice_get_within xs k x at) in at_some ys k below

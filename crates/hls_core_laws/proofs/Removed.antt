@@ -7,13 +7,12 @@ use Rattle.std.proofs.lemmas.List.{map-set}
 use Rattle.hls_places_laws.specs.declared.place.Place.{Place}
 use Rattle.hls_places_laws.specs.Sources.{Source, sources_of}
 use Rattle.hls_places_laws.specs.Places.{places_of}
-use Rattle.hls_live_laws.specs.declared.aim.Aim.{Aim}
-use Rattle.hls_live_laws.specs.declared.segment.Segment.{Segment}
-use Rattle.hls_live_laws.specs.declared.line_fault.LineFault.TheVariants.{TooMany, TooShort}
-use Rattle.hls_live_laws.specs.Cuts.{line_of}
-use Rattle.hls_live_laws.specs.Live.{Live, live_of, moved_by, slid, stays_long, may_slide}
-use Rattle.hls_live_laws.proofs.Kept.{segments-stay}
-use Rattle.hls_live_laws.proofs.Lives.{live-moves, live-slides}
+use Rattle.hls_places_laws.specs.declared.line.aim.Aim.{Aim}
+use Rattle.hls_places_laws.specs.declared.line.segment.Segment.{Segment}
+use Rattle.hls_places_laws.specs.declared.line.line_fault.LineFault.TheVariants.{TooMany, TooShort}
+use Rattle.hls_places_laws.specs.Line.Cuts.{line_of}
+use Rattle.hls_places_laws.specs.Line.Live.{Live, live_of, moved_by, slid, stays_long, may_slide}
+use Rattle.hls_places_laws.proofs.Callers.{segments-stay, live-moves, live-slides, segments-few}
 use Rattle.hls_core_laws.specs.declared.event.Event.{Event}
 use Rattle.hls_core_laws.specs.declared.event.Event.TheVariants.{Begin, Accept, Finish, Slide, Trim}
 use Rattle.hls_core_laws.specs.Config.{ConfigData}
@@ -22,16 +21,14 @@ use Rattle.hls_core_laws.specs.State.{State, channel}
 use Rattle.hls_core_laws.specs.IsState.{IsState}
 use Rattle.hls_core_laws.specs.Places.{facts_of, is_finished, tolerance_of, sources_from, sources, places}
 use Rattle.hls_core_laws.specs.Line.{aim_of, line}
-use Rattle.hls_core_laws.specs.Outcome.{Outcome, New, Repeated, Refused, outcome_of}
+use Rattle.hls_core_laws.specs.Outcome.{New, outcome_of}
 use Rattle.hls_core_laws.specs.Moves.{logged, advanced, IsFitting}
-use Rattle.hls_core_laws.specs.Runs.{first_state, moved_by as stepped_by, next_state, replayed, AreFitting}
+use Rattle.hls_core_laws.specs.Runs.{first_state}
 use Rattle.hls_core_laws.proofs.Lists.{at_or, at_map, set_same}
 use Rattle.hls_core_laws.proofs.Causes.{slides}
-use Rattle.hls_core_laws.proofs.Added.{config_stays}
 use Rattle.hls_core_laws.proofs.Advance.{channel_advanced, advanced_follows}
 use Rattle.hls_core_laws.proofs.Sources.{places_follow}
-use Rattle.hls_core_laws.proofs.Runs.{first_is_state, next_is_state}
-use Rattle.hls_live_laws.proofs.Ends.{segments-few}
+use Rattle.hls_core_laws.proofs.EveryState.{every_state}
 
 -- the whole line of a list of places
 closed_of : State → List Segment
@@ -72,32 +69,12 @@ within_advanced s by event state fits new within =
       length-append (closed_of s) longer.0,
     )
 
-within_by : (s : State) (by : ℕ) (event : Event) (o : Outcome) → outcome_of s event ≡ o → IsState s → IsFitting s event → IsWithin s → IsWithin (stepped_by o (advanced s by event) s)
-within_by s by event New is state fits within = within_advanced s by event state fits is within
-within_by s by event Repeated is state fits within = within
-within_by s by event (Refused r) is state fits within = within
-
-within_run : (s : State) (events : List (ℕ × Event)) → IsState s → AreFitting s events → IsWithin s → IsWithin (replayed s events)
-within_run s [] state fits within = within
-within_run s (e ∷ es) state fits within =
-    within_run (next_state s e.0 e.1) es (next_is_state s e.0 e.1 state fits.0) fits.1
-    (within_by s e.0 e.1 (outcome_of s e.1) refl state fits.0 within)
-
 within_first : (config : ConfigData) → IsWithin (first_state config)
 unfolding IsWithin closed_of channel_from
 within_first config = omega arith
 
 within_state : (s : State) → IsState s → IsWithin s
-unfolding IsWithin closed_of
-within_state s state =
-    let legal = state.legal in
-    let t : State = replayed (first_state s.config) legal.events in
-    let config : t.config ≡ s.config = config_stays (first_state s.config) legal.events in
-    let log : t.log ≡ s.log = legal.is in
-    let is : t ≡ record { config = s.config; log = s.log; bytes = t.bytes } =
-    λ k. record { config = config k; log = log k; bytes = t.bytes } in
-    let there : IsWithin t = within_run (first_state s.config) legal.events (first_is_state s.config state.configured) legal.fitting (within_first s.config) in
-    subst (λ (x : State). IsWithin x) is there
+within_state = every_state IsWithin within_first within_advanced
 
 -- of a state's live line no more segments are removed than were closed
 pub removed_within : (s : State) → IsState s → (channel s).removed ≤ length (line_of (aim_of s.config) (places s)).segments

@@ -5,7 +5,7 @@ use Rattle.hls_media_laws.specs.InitData.{InitData}
 use Rattle.hls_media_laws.proofs.Timelines.{units_are_timed}
 use Rattle.hls_places_laws.specs.Sources.{Source, source_at, AreSources, IsTimeline}
 use Rattle.hls_places_laws.specs.Appended.{IsAppended}
-use Rattle.hls_places_laws.proofs.Undecided.{places-appended}
+use Rattle.hls_places_laws.proofs.Callers.{places-appended}
 use Rattle.hls_places_laws.specs.Growth.{SourceGrows, Grows}
 use Rattle.hls_core_laws.specs.Config.{ConfigData}
 use Rattle.hls_core_laws.specs.Channel.{Lane}
@@ -15,21 +15,20 @@ use Rattle.hls_core_laws.specs.Follows.{Continues, Follows}
 use Rattle.hls_core_laws.specs.Places.{tolerance_of, sources, places}
 use Rattle.hls_core_laws.proofs.Lists.{at_map, at_or, at_some}
 pub use Rattle.hls_core_laws.proofs.Lanes.{IsOf, lanes_count, sources_count, source_of}
-use Rattle.hls_core_laws.proofs.Logs.{LaneGrows}
 use Rattle.hls_core_laws.proofs.Follows.{lane_grown}
 use Rattle.hls_core_laws.proofs.Added.{Timed, lanes_timed}
 
-source_grows : (s t : Source) (a b : Lane) (tolerance : ℕ) → IsOf s a tolerance → IsOf t b tolerance → LaneGrows a b → SourceGrows s t
-source_grows s t a b tolerance is_a is_b grows =
-    let facts : t.facts ≡ s.facts ++ grows.more =
-    is_b.facts ∙ grows.facts ∙ ap (λ (fs : List Facts). fs ++ grows.more) (sym is_a.facts) in
+-- a rendition has grown by more units, and by none where it was finished
+pub source_grown : (s t : Source) (a b : Lane) (tolerance : ℕ) → IsOf s a tolerance → IsOf t b tolerance → (more : List Facts)
+    → b.facts ≡ a.facts ++ more → (a.finished ≡ true → (b.finished ≡ true) × (more ≡ [])) → SourceGrows s t
+source_grown s t a b tolerance is_a is_b more on over_still =
+    let facts : t.facts ≡ s.facts ++ more = is_b.facts ∙ on ∙ ap (λ (fs : List Facts). fs ++ more) (sym is_a.facts) in
     record {
-      more = grows.more;
+      more = more;
       facts = facts;
       tolerance = is_b.tolerance_is ∙ sym is_a.tolerance_is;
       stays = λ over.
-          let was : a.finished ≡ true = sym is_a.finished ∙ over in
-          let still = grows.finished was in
+          let still = over_still (sym is_a.finished ∙ over) in
           let same_facts : t.facts ≡ s.facts = facts ∙ ap (λ (fs : List Facts). s.facts ++ fs) still.1 ∙ append-nil s.facts in
           let same_tolerance : t.tolerance ≡ s.tolerance = is_b.tolerance_is ∙ sym is_a.tolerance_is in
           let same_end : t.finished ≡ s.finished = is_b.finished ∙ still.0 ∙ sym over in
@@ -49,7 +48,8 @@ sources_grow a b later c = record {
       let is_b : IsOf (source_at (sources b) r) grown.lane (get_or (map tolerance_of a.config.renditions) r 0) =
       subst (λ (config : ConfigData). IsOf (source_at (sources b) r) grown.lane (get_or (map tolerance_of config.renditions) r 0)) c.config
       (source_of b r grown.lane grown.at) in
-      source_grows (source_at (sources a) r) (source_at (sources b) r) lane_a.0 grown.lane (get_or (map tolerance_of a.config.renditions) r 0) is_a is_b grown.grows;
+      source_grown (source_at (sources a) r) (source_at (sources b) r) lane_a.0 grown.lane (get_or (map tolerance_of a.config.renditions) r 0) is_a is_b
+      grown.grows.more grown.grows.facts grown.grows.finished;
 }
 
 no_timeline : IsTimeline []

@@ -5,8 +5,8 @@ use Rattle.std.specs.Str.{bytes_eq}
 use Rattle.hls_media_laws.specs.InitData.{InitData}
 use Rattle.hls_media_laws.specs.declared.facts.Facts.{Facts}
 use Rattle.hls_media_laws.specs.FactLists.{recording_limit, last_end, twin_in}
-use Rattle.hls_live_laws.specs.declared.line_fault.LineFault.TheVariants.{TooMany, TooShort}
-use Rattle.hls_live_laws.specs.Live.{front_of, stays_long}
+use Rattle.hls_places_laws.specs.declared.line.line_fault.LineFault.TheVariants.{TooMany, TooShort}
+use Rattle.hls_places_laws.specs.Line.Live.{front_of, stays_long}
 use Rattle.hls_core_laws.specs.declared.event.Event.{Event}
 use Rattle.hls_core_laws.specs.declared.event.Event.TheVariants.{Begin, Accept, Finish, Slide, Trim}
 use Rattle.hls_core_laws.specs.declared.refusal.Refusal.TheVariants.{NoInit, InitChanged, Overlap, Finished, SlideTooShort, SlideTooMany, TrimTooFar, LedgerFull, RecordingFull}

@@ -6,9 +6,9 @@ use Rattle.hls_media_laws.specs.declared.facts.Facts.{Facts}
 use Rattle.hls_media_laws.specs.FactLists.{recording_limit, last_end, twin_in}
 use Rattle.hls_check_laws.specs.Tables.{spot_in}
 use Rattle.hls_places_laws.specs.declared.place.Place.{Place}
-use Rattle.hls_live_laws.specs.declared.line_fault.LineFault.{LineFault}
-use Rattle.hls_live_laws.specs.declared.line_fault.LineFault.TheVariants.{TooMany}
-use Rattle.hls_live_laws.specs.Live.{front_of, may_slide}
+use Rattle.hls_places_laws.specs.declared.line.line_fault.LineFault.{LineFault}
+use Rattle.hls_places_laws.specs.declared.line.line_fault.LineFault.TheVariants.{TooMany}
+use Rattle.hls_places_laws.specs.Line.Live.{front_of, may_slide}
 use Rattle.hls_core_laws.specs.declared.event.Event.{Event}
 use Rattle.hls_core_laws.specs.declared.event.Event.TheVariants.{Begin, Accept, Finish, Slide, Trim}
 use Rattle.hls_core_laws.specs.declared.refusal.Refusal.{Refusal}

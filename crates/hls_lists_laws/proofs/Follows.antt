@@ -8,11 +8,11 @@ use Rattle.std.proofs.lemmas.List.Elements.{All-drop}
 use Rattle.hls_media_laws.specs.declared.facts.Facts.{Facts}
 use Rattle.hls_places_laws.specs.Sources.{Source}
 use Rattle.hls_places_laws.specs.Places.{places_of}
-use Rattle.hls_live_laws.specs.declared.segment.Segment as live_line
-use Rattle.hls_live_laws.specs.Lengths.{marks_in, is_marked as is_break}
-use Rattle.hls_live_laws.specs.Told.{Told}
-use Rattle.hls_live_laws.specs.Live.{whole_of, is_closing, has_ended, segments_of}
-use Rattle.hls_live_laws.proofs.Lives.{marks-append, marks-add}
+use Rattle.hls_places_laws.specs.declared.line.segment.Segment as live_line
+use Rattle.hls_places_laws.specs.Line.Lengths.{marks_in, is_marked as is_break}
+use Rattle.hls_places_laws.specs.Line.Told.{Told}
+use Rattle.hls_places_laws.specs.Line.Live.{whole_of, is_closing, has_ended, segments_of}
+use Rattle.hls_places_laws.proofs.Callers.{marks-append, marks-add}
 use Rattle.hls_m3u8.specs.declared.playlist.Segment.{Segment}
 use Rattle.hls_m3u8.specs.Playlist.{Playlist}
 use Rattle.hls_m3u8.specs.Written.{init_at}
@@ -27,9 +27,8 @@ use Rattle.hls_core_laws.specs.IsState.{IsState}
 use Rattle.hls_core_laws.specs.Follows.{Follows}
 use Rattle.hls_core_laws.specs.Places.{places}
 use Rattle.hls_core_laws.specs.Line.{aim_of, line}
-use Rattle.hls_core_laws.proofs.Lists.{at_below}
-use Rattle.hls_core_laws.proofs.Lanes.{sources_count}
-use Rattle.hls_core_laws.proofs.Follows.{continues_of, state_of, rest_channel, lane_grown}
+use Rattle.hls_core_laws.proofs.Callers.{sources_count, continues_of, state_of, rest_channel, lane_grown}
+use Rattle.std.proofs.lemmas.Option.{slice_get_within}
 use Rattle.hls_lists_laws.specs.Live.{live_uri, live_cutting, listed, list_over, has_closed, list_in, live_list_of}
 use Rattle.hls_lists_laws.specs.Later.{IsLater}
 use Rattle.hls_lists_laws.proofs.Told.{whole, closed, removed-few, ended-stays, closed-follow}
@@ -152,7 +151,7 @@ later-over a b r l m state follows at there size more facts =
       long = λ some goes_on.
           elim (cases_lt 0 (channel b).removed) [
             | inl any ↦
-                let left = (stays-long b state_b any goes_on).each r (omega (arith, sources_count b, at_below (channel b).lanes r m there)) in
+                let left = (stays-long b state_b any goes_on).each r (omega (arith, sources_count b, slice_get_within (channel b).lanes r m there)) in
                 omega (arith, left, lengths-listed now (segments_of (line b)))
             | inr none ↦ absurd (some (none-of (map (listed now) (gone a b)) (omega (arith, count, none))))
           ];

@@ -14,14 +14,11 @@ use Rattle.hls_places_laws.specs.declared.place.Place.{Place}
 use Rattle.hls_places_laws.specs.Sources.{Source, source_at}
 use Rattle.hls_places_laws.specs.Order.{no_place}
 use Rattle.hls_places_laws.specs.Since.{spot_since, place_since, source_since}
-use Rattle.hls_places_laws.proofs.Ordered.{places-ordered}
-use Rattle.hls_places_laws.proofs.Since.{since_at, since_long, from_at, spot_since_at}
-use Rattle.hls_live_laws.specs.declared.segment.Segment as live_line
-use Rattle.hls_live_laws.specs.Cuts.{line_of}
-use Rattle.hls_live_laws.specs.Lengths.{marks_in}
-use Rattle.hls_live_laws.specs.Since.{IsBegunAt, counted_from, IsSameFrom, IsCutOf}
-use Rattle.hls_live_laws.proofs.Ends.{front-stands}
-use Rattle.hls_live_laws.proofs.Begun.{segments-since, marks-since}
+use Rattle.hls_places_laws.proofs.Callers.{places-ordered, since_at, since_long, from_at, spot_since_at, front-stands, segments-since, marks-since}
+use Rattle.hls_places_laws.specs.declared.line.segment.Segment as live_line
+use Rattle.hls_places_laws.specs.Line.Cuts.{line_of}
+use Rattle.hls_places_laws.specs.Line.Lengths.{marks_in}
+use Rattle.hls_places_laws.specs.Line.Since.{IsBegunAt, counted_from, IsSameFrom, IsCutOf}
 use Rattle.hls_m3u8.specs.declared.playlist.ByteRange.{ByteRange}
 use Rattle.hls_m3u8.specs.declared.playlist.Segment.{Segment}
 use Rattle.hls_m3u8.specs.Playlist.{Playlist}
@@ -32,9 +29,8 @@ use Rattle.hls_core_laws.specs.State.{State, channel}
 use Rattle.hls_core_laws.specs.IsState.{IsState}
 use Rattle.hls_core_laws.specs.Places.{tolerance_of, sources, places}
 use Rattle.hls_core_laws.specs.Line.{aim_of, line}
-use Rattle.hls_core_laws.proofs.Lists.{at_below, at_some}
-use Rattle.hls_core_laws.proofs.Lanes.{IsOf, sources_count, source_of}
-use Rattle.hls_core_laws.proofs.Sources.{states_are_timed}
+use Rattle.hls_core_laws.proofs.Callers.{at_some, IsOf, sources_count, source_of, states_are_timed}
+use Rattle.std.proofs.lemmas.Option.{slice_get_within}
 use Rattle.hls_lists_laws.specs.Jobs.{bytes_between}
 use Rattle.hls_lists_laws.specs.Segments.{date_at}
 use Rattle.hls_lists_laws.specs.Live.{live_uri, live_cutting, listed, list_over, live_list_of}
@@ -51,7 +47,7 @@ cut-long a state n cut is_cut =
     let stands = front-stands (aim_of a.config) (places a) n cut is_cut.front in
     let ordered = places-ordered (sources a) (states_are_timed a state) in
     let same : get_or (places a) stands.number no_place ≡ cut = get_or_from_slice_get (places a) stands.number cut no_place stands.there in
-    let count = (ordered.each stands.number no_place (at_below (places a) stands.number cut stands.there)).place.count in
+    let count = (ordered.each stands.number no_place (slice_get_within (places a) stands.number cut stands.there)).place.count in
     ap (λ (p : Place). length p.spots) (sym same) ∙ count
 
 -- renditions from the cut on, as the search for common places sees them
@@ -209,7 +205,7 @@ on-over a b n cut r l m state_a state_b over at also =
     let either = over.each r l m at also in
     let begun = begun-at a b state_a n cut over in
     let long = cut-long a state_a n cut over.is_cut in
-    let inside : r < length cut.spots = omega (arith, long, sources_count a, at_below (channel a).lanes r l at) in
+    let inside : r < length cut.spots = omega (arith, long, sources_count a, slice_get_within (channel a).lanes r l at) in
     record {
       target = ap (λ (c : ConfigData). c.target) over.config;
       map = ap (λ (k : ℕ). Some (init_at (live_uri r) k)) (same-size (unit_at cut r) l m either);
@@ -224,7 +220,7 @@ on-over a b n cut r l m state_a state_b over at also =
           (closed-at b a.config ((channel b).removed + k) v.0 over.config v.1) in
           let among : IsAmong a.config.target r l u.0 =
           subst (IsAmong a.config.target r l) (get_or_from_slice_get (closed a) ((channel a).removed + j) u.0 u.0 u.1)
-          (closed-among a state_a r l at ((channel a).removed + j) u.0 (at_below (closed a) ((channel a).removed + j) u.0 u.1)) in
+          (closed-among a state_a r l at ((channel a).removed + j) u.0 (slice_get_within (closed a) ((channel a).removed + j) u.0 u.1)) in
           let moved = is-moved a.config.epoch b.config.epoch cut r l m u.0 v.0 a.config.target (ap (λ (c : ConfigData). c.epoch) over.config) either
           (same-in cut r ((channel b).removed + k) u.0 v.0 inside same) among
           (stands-at b state_b r m ((channel b).removed + k) v.0 also v.1) in

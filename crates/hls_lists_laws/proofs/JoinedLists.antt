@@ -6,13 +6,13 @@ use Rattle.std.proofs.lemmas.List.{length-map, length-take-le, take-append-drop,
 use Rattle.std.proofs.lemmas.List.Sums.{sum_by-cons}
 use Rattle.std.proofs.lemmas.Option.{same_Some}
 use Rattle.hls_places_laws.specs.declared.place.Place.{Place}
-use Rattle.hls_live_laws.specs.declared.aim.Aim.{Aim}
-use Rattle.hls_live_laws.specs.declared.opening.Opening.{Opening}
-use Rattle.hls_live_laws.specs.declared.segment.Segment as live_line
-use Rattle.hls_live_laws.specs.Cuts.{Ahead, Nothing, Enough, TooFar, Line, line_by, line_within, line_of, ahead_of, resumed, begun_anew}
-use Rattle.hls_live_laws.specs.Lengths.{marks_in, is_marked as is_break}
-use Rattle.hls_live_laws.specs.Origins.{segments_over}
-use Rattle.hls_live_laws.proofs.Lives.{marks-add}
+use Rattle.hls_places_laws.specs.declared.line.aim.Aim.{Aim}
+use Rattle.hls_places_laws.specs.declared.line.opening.Opening.{Opening}
+use Rattle.hls_places_laws.specs.declared.line.segment.Segment as live_line
+use Rattle.hls_places_laws.specs.Line.Cuts.{Ahead, Nothing, Enough, TooFar, Line, line_by, line_within, line_of, ahead_of, resumed, begun_anew}
+use Rattle.hls_places_laws.specs.Line.Lengths.{marks_in, is_marked as is_break}
+use Rattle.hls_places_laws.specs.Line.Origins.{segments_over}
+use Rattle.hls_places_laws.proofs.Callers.{marks-add}
 use Rattle.hls_m3u8.specs.declared.playlist.Segment.{Segment}
 use Rattle.hls_m3u8.specs.Playlist.{Playlist}
 use Rattle.hls_core_laws.specs.Channel.{Lane}
@@ -21,7 +21,7 @@ use Rattle.hls_core_laws.specs.IsState.{IsState}
 use Rattle.hls_core_laws.specs.Follows.{Follows}
 use Rattle.hls_core_laws.specs.Places.{sources, places}
 use Rattle.hls_core_laws.specs.Line.{aim_of, line}
-use Rattle.hls_core_laws.proofs.Lists.{at_drop}
+use Rattle.hls_core_laws.proofs.Callers.{at_drop}
 use Rattle.hls_lists_laws.specs.Live.{live_cutting, listed, list_over, live_list_of}
 use Rattle.hls_lists_laws.specs.Later.{IsLater, is_marked, us_of}
 use Rattle.hls_lists_laws.specs.Handovers.{IsHandedOver, marks_to, range_behind, IsMoved}

@@ -1,15 +1,17 @@
-pub mod Ranges
-pub mod JoinedMedia
-pub mod Dates
-pub mod Good
+mod Ranges
+mod JoinedMedia
+mod Dates
+mod Good
 mod Examples
 mod Reached
 mod Told
 mod Listed
 mod Slid
 mod Totals
-pub mod Texts
+mod Uris
+mod Texts
 mod Follows
 mod Origins
 mod Handovers
 mod JoinedLists
+pub mod Callers

@@ -6,10 +6,10 @@ use Rattle.hls_media_laws.specs.declared.facts.Facts.{Facts}
 use Rattle.hls_places_laws.specs.Sources.{Source, source_at}
 use Rattle.hls_places_laws.specs.Growth.{SourceGrows}
 use Rattle.hls_places_laws.specs.Appended.{AreAlike}
-use Rattle.hls_live_laws.specs.declared.segment.Segment as live_line
-use Rattle.hls_live_laws.specs.Cuts.{line_of}
-use Rattle.hls_live_laws.specs.Lengths.{marks_in}
-use Rattle.hls_live_laws.proofs.Origins.{segments-agree, marks-agree}
+use Rattle.hls_places_laws.specs.declared.line.segment.Segment as live_line
+use Rattle.hls_places_laws.specs.Line.Cuts.{line_of}
+use Rattle.hls_places_laws.specs.Line.Lengths.{marks_in}
+use Rattle.hls_places_laws.proofs.Callers.{segments-agree, marks-agree}
 use Rattle.hls_m3u8.specs.declared.playlist.Segment.{Segment}
 use Rattle.hls_m3u8.specs.Playlist.{Playlist}
 use Rattle.hls_m3u8.specs.Written.{init_at}
@@ -19,9 +19,8 @@ use Rattle.hls_core_laws.specs.State.{State, channel}
 use Rattle.hls_core_laws.specs.IsState.{IsState}
 use Rattle.hls_core_laws.specs.Places.{tolerance_of, sources, places}
 use Rattle.hls_core_laws.specs.Line.{aim_of, line}
-use Rattle.hls_core_laws.proofs.Lists.{at_below, at_drop, at_some, mapped_at}
-use Rattle.hls_core_laws.proofs.Lanes.{IsOf, lanes_count, sources_count, source_of}
-use Rattle.hls_core_laws.proofs.Sources.{states_are_timed}
+use Rattle.hls_core_laws.proofs.Callers.{source_grown, at_drop, at_some, mapped_at, IsOf, lanes_count, sources_count, source_of, states_are_timed}
+use Rattle.std.proofs.lemmas.Option.{slice_get_within}
 use Rattle.hls_lists_laws.specs.Segments.{Cutting}
 use Rattle.hls_lists_laws.specs.Live.{live_uri, live_cutting, listed, list_over, live_list_of}
 use Rattle.hls_lists_laws.specs.Origins.{LaneBegins, AreFedAlike, Agree}
@@ -32,20 +31,7 @@ use Rattle.hls_lists_laws.proofs.Follows.{cut-on, stands-among}
 
 -- renditions as the search for common places sees them
 pub source-begins : (s t : Source) (l m : Lane) (tolerance : ℕ) → IsOf s l tolerance → IsOf t m tolerance → LaneBegins l m → SourceGrows s t
-source-begins s t l m tolerance is_l is_m begins =
-    let facts : t.facts ≡ s.facts ++ begins.more =
-    is_m.facts ∙ begins.facts ∙ ap (λ (fs : List Facts). fs ++ begins.more) (sym is_l.facts) in
-    record {
-      more = begins.more;
-      facts = facts;
-      tolerance = is_m.tolerance_is ∙ sym is_l.tolerance_is;
-      stays = λ over.
-          let still = begins.over (sym is_l.finished ∙ over) in
-          let same_facts : t.facts ≡ s.facts = facts ∙ ap (λ (fs : List Facts). s.facts ++ fs) still.1 ∙ append-nil s.facts in
-          let same_tolerance : t.tolerance ≡ s.tolerance = is_m.tolerance_is ∙ sym is_l.tolerance_is in
-          let same_end : t.finished ≡ s.finished = is_m.finished ∙ still.0 ∙ sym over in
-          λ i. record { facts = same_facts i; tolerance = same_tolerance i; finished = same_end i };
-    }
+source-begins s t l m tolerance is_l is_m begins = source_grown s t l m tolerance is_l is_m begins.more begins.facts begins.over
 
 alike-at : (a b : State) (r : ℕ) (l m : Lane) → b.config ≡ a.config → slice_get (channel a).lanes r ≡ Some l → slice_get (channel b).lanes r ≡ Some m →
     LaneBegins l m ⊎ LaneBegins m l →
@@ -83,7 +69,7 @@ pub stands-at : (s : State) → IsState s → (r : ℕ) (l : Lane) (n : ℕ) (x 
     slice_get (closed s) n ≡ Some x → StandsAmong r l.facts x
 stands-at s state r l n x at there =
     subst (StandsAmong r l.facts) (get_or_from_slice_get (closed s) n x x there)
-    (stands-among s state r l at n x (at_below (closed s) n x there))
+    (stands-among s state r l at n x (slice_get_within (closed s) n x there))
 
 listed-alike : (a b : State) → IsState a → IsState b → b.config.epoch ≡ a.config.epoch → (r : ℕ) (l m : Lane) (i j : ℕ) (x : live_line.Segment) →
     slice_get (channel a).lanes r ≡ Some l → slice_get (channel b).lanes r ≡ Some m → LaneBegins l m ⊎ LaneBegins m l →

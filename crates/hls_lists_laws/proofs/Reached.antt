@@ -3,16 +3,14 @@ use Rattle.std.proofs.Common.{◌≡◌, ℕ, ◌<◌, true, List, [], ◌∷◌
 use Rattle.std.proofs.lemmas.Bool.{cond_both}
 use Rattle.std.proofs.lemmas.List.Elements.{All-nil, All-head, All-tail}
 use Rattle.hls_places_laws.specs.declared.place.Place.{Place}
-use Rattle.hls_places_laws.proofs.Sorted.{all-snoc}
-use Rattle.hls_live_laws.specs.declared.aim.Aim.{Aim}
-use Rattle.hls_live_laws.specs.declared.segment.Segment.{Segment}
-use Rattle.hls_live_laws.specs.declared.opening.Opening.{Opening}
-use Rattle.hls_live_laws.specs.Steps.{is_past, is_allowed, is_enough}
-use Rattle.hls_live_laws.specs.Cuts.{resumed, begun_anew, segment_to, line_of}
-use Rattle.hls_live_laws.specs.Told.{Told, untold, told_with, has_earlier, closed_with, tried, stopped_by, advanced_from, advanced, told}
-use Rattle.hls_live_laws.specs.Live.{whole_of}
-use Rattle.hls_live_laws.proofs.Lines.{told-none, told-more}
-use Rattle.hls_live_laws.proofs.Lives.{whole-is_told}
+use Rattle.hls_places_laws.proofs.Callers.{all-snoc, told-none, told-more, whole-is_told}
+use Rattle.hls_places_laws.specs.declared.line.aim.Aim.{Aim}
+use Rattle.hls_places_laws.specs.declared.line.segment.Segment.{Segment}
+use Rattle.hls_places_laws.specs.declared.line.opening.Opening.{Opening}
+use Rattle.hls_places_laws.specs.Line.Steps.{is_past, is_allowed, is_enough}
+use Rattle.hls_places_laws.specs.Line.Cuts.{resumed, begun_anew, segment_to, line_of}
+use Rattle.hls_places_laws.specs.Line.Told.{Told, untold, told_with, has_earlier, closed_with, tried, stopped_by, advanced_from, advanced, told}
+use Rattle.hls_places_laws.specs.Line.Live.{whole_of}
 
 -- what is known of each place is known of both ends
 pub record IsReached (P : Place → Type 0) (aim : Aim) (x : Segment) : Type 0 where

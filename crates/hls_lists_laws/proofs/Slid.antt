@@ -5,12 +5,12 @@ use Rattle.std.specs.List.{sum_by}
 use Rattle.std.proofs.lemmas.Bool.{cases_Bool, cases_eq, and_parts, leb-true, ltb-false, or_parts}
 use Rattle.std.proofs.lemmas.List.{drop-append-le}
 use Rattle.std.proofs.lemmas.List.Sums.{sum_by-append}
-use Rattle.hls_live_laws.specs.declared.aim.Aim.{Aim}
-use Rattle.hls_live_laws.specs.declared.segment.Segment.{Segment}
-use Rattle.hls_live_laws.specs.declared.line_fault.LineFault.{LineFault}
-use Rattle.hls_live_laws.specs.declared.line_fault.LineFault.TheVariants.{TooMany, TooShort}
-use Rattle.hls_live_laws.specs.Lengths.{length_in, left_in, three_targets, each_below, is_long, renditions_of}
-use Rattle.hls_live_laws.specs.Live.{Live, slid, has_ended, stays_long, may_slide, segments_of}
+use Rattle.hls_places_laws.specs.declared.line.aim.Aim.{Aim}
+use Rattle.hls_places_laws.specs.declared.line.segment.Segment.{Segment}
+use Rattle.hls_places_laws.specs.declared.line.line_fault.LineFault.{LineFault}
+use Rattle.hls_places_laws.specs.declared.line.line_fault.LineFault.TheVariants.{TooMany, TooShort}
+use Rattle.hls_places_laws.specs.Line.Lengths.{length_in, left_in, three_targets, each_below, is_long, renditions_of}
+use Rattle.hls_places_laws.specs.Line.Live.{Live, slid, has_ended, stays_long, may_slide, segments_of}
 use Rattle.hls_core_laws.specs.declared.event.Event.{Event}
 use Rattle.hls_core_laws.specs.declared.event.Event.TheVariants.{Begin, Accept, Finish, Slide, Trim}
 use Rattle.hls_core_laws.specs.Config.{ConfigData}
@@ -20,16 +20,10 @@ use Rattle.hls_core_laws.specs.IsState.{IsState}
 use Rattle.hls_core_laws.specs.Follows.{Follows}
 use Rattle.hls_core_laws.specs.Places.{sources, places}
 use Rattle.hls_core_laws.specs.Line.{aim_of, line}
-use Rattle.hls_core_laws.specs.Outcome.{Outcome, New, Repeated, Refused, outcome_of}
+use Rattle.hls_core_laws.specs.Outcome.{New, outcome_of}
 use Rattle.hls_core_laws.specs.Moves.{advanced, IsFitting}
-use Rattle.hls_core_laws.specs.Runs.{first_state, moved_by, next_state, replayed, AreFitting}
-use Rattle.hls_core_laws.proofs.Causes.{slides}
-use Rattle.hls_core_laws.proofs.Added.{config_stays}
-use Rattle.hls_core_laws.proofs.Advance.{channel_advanced, advanced_follows}
-use Rattle.hls_core_laws.proofs.Sources.{sources_grow}
-use Rattle.hls_core_laws.proofs.Follows.{continues_of}
-use Rattle.hls_core_laws.proofs.Removed.{line_slides, line_stays, sources_slide}
-use Rattle.hls_core_laws.proofs.Runs.{first_is_state, next_is_state}
+use Rattle.hls_core_laws.specs.Runs.{first_state}
+use Rattle.hls_core_laws.proofs.Callers.{every_state, slides, channel_advanced, advanced_follows, sources_grow, continues_of, line_slides, line_stays, sources_slide}
 use Rattle.hls_lists_laws.proofs.Reached.{line-open}
 use Rattle.hls_lists_laws.proofs.Told.{whole, closed, closed-reached, removed-few, ended-stays, closed-follow}
 
@@ -152,29 +146,10 @@ stays-new s by (Trim r floor) state fits new stays =
     let event : Event = Trim r floor in
     stays-follow s (advanced s by event) state (advanced_follows s by event state fits new) (ap (λ (ch : Channel). ch.removed) (channel_advanced s by event)) stays
 
-stays-by : (s : State) (by : ℕ) (event : Event) (o : Outcome) → outcome_of s event ≡ o → IsState s → IsFitting s event → StaysLong s → StaysLong (moved_by o (advanced s by event) s)
-stays-by s by event New is state fits stays = stays-new s by event state fits is stays
-stays-by s by event Repeated is state fits stays = stays
-stays-by s by event (Refused r) is state fits stays = stays
-
-stays-run : (s : State) (events : List (ℕ × Event)) → IsState s → AreFitting s events → StaysLong s → StaysLong (replayed s events)
-stays-run s [] state fits stays = stays
-stays-run s (e ∷ es) state fits stays =
-    stays-run (next_state s e.0 e.1) es (next_is_state s e.0 e.1 state fits.0) fits.1
-    (stays-by s e.0 e.1 (outcome_of s e.1) refl state fits.0 stays)
-
 stays-first : (config : ConfigData) → StaysLong (first_state config)
 unfolding channel_from
 stays-first config some goes_on = absurd (omega (arith, some))
 
 -- so of every state
 pub stays-long : (s : State) → IsState s → StaysLong s
-stays-long s state =
-    let legal = state.legal in
-    let t : State = replayed (first_state s.config) legal.events in
-    let config : t.config ≡ s.config = config_stays (first_state s.config) legal.events in
-    let log : t.log ≡ s.log = legal.is in
-    let is : t ≡ record { config = s.config; log = s.log; bytes = t.bytes } =
-    λ k. record { config = config k; log = log k; bytes = t.bytes } in
-    let there : StaysLong t = stays-run (first_state s.config) legal.events (first_is_state s.config state.configured) legal.fitting (stays-first s.config) in
-    subst (λ (x : State). StaysLong x) is there
+stays-long = every_state StaysLong stays-first stays-new

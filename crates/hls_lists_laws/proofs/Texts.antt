@@ -1,11 +1,8 @@
 -- The live list of a state can be written.
 use Rattle.std.proofs.Common.{◌≡◌, ℕ, zero, suc, ◌+◌, ◌-◌, ◌*◌, ◌^◌, ◌<◌, ◌≤◌, true, ◌++◌, length, map, take, get_or, Option, Some, None, arith, refl, sym, ap, subst, inl, inr, ◌∙◌, All, length-drop}
-use Rattle.std.specs.Prelude.{slice_get, IsTrue, IsAscii, codes}
-use Rattle.std.specs.Fmt.{decimal, digits}
+use Rattle.std.specs.Prelude.{slice_get}
 use Rattle.std.proofs.lemmas.Option.{slice_get-get_or}
 use Rattle.std.proofs.lemmas.Bool.{cases_Bool, ltb-true, cond-true, cond-false}
-use Rattle.std.proofs.lemmas.Fmt.{IsAscii-decimal}
-use Rattle.std.proofs.lemmas.Str.{IsAscii-append}
 use Rattle.std.proofs.lemmas.List.Elements.{All-map, All-drop}
 use Rattle.std.proofs.lemmas.List.Sums.{count_by-le-length}
 use Rattle.std.proofs.lemmas.List.{length-take-le}
@@ -14,14 +11,13 @@ use Rattle.hls_media_laws.specs.declared.facts.Facts.{Facts}
 use Rattle.hls_media_laws.specs.FactLists.{bytes_in}
 use Rattle.hls_media_laws.proofs.Bounds.{units_are_bounded, inits_are_bounded}
 use Rattle.hls_check_laws.specs.Tables.{spot_in}
-use Rattle.hls_live_laws.specs.declared.segment.Segment as live_line
-use Rattle.hls_live_laws.specs.Lengths.{marks_in, is_marked}
-use Rattle.hls_live_laws.specs.Live.{segments_of, has_ended as ends}
-use Rattle.hls_live_laws.proofs.Tests.{step-from_allowed}
+use Rattle.hls_places_laws.specs.declared.line.segment.Segment as live_line
+use Rattle.hls_places_laws.specs.Line.Lengths.{marks_in, is_marked}
+use Rattle.hls_places_laws.specs.Line.Live.{segments_of, has_ended as ends}
+use Rattle.hls_places_laws.proofs.Callers.{step-from_allowed}
 use Rattle.hls_m3u8.specs.Playlist.{Playlist}
-use Rattle.hls_m3u8.specs.Uri.{is_uri_text, IsUri}
 use Rattle.hls_m3u8.specs.HasText.{HasText, IsSegment}
-use Rattle.hls_m3u8.proofs.Building.{ascii_uri, live_has_text}
+use Rattle.hls_m3u8.proofs.Building.{live_has_text}
 use Rattle.hls_lists_laws.specs.Jobs.{bytes_between}
 use Rattle.hls_lists_laws.specs.Segments.{Cutting}
 use Rattle.hls_lists_laws.proofs.Dates.{spots_small, date_good}
@@ -32,44 +28,12 @@ use Rattle.hls_core_laws.specs.State.{State, channel}
 use Rattle.hls_core_laws.specs.IsState.{IsState}
 use Rattle.hls_core_laws.specs.Places.{sources}
 use Rattle.hls_core_laws.specs.Line.{aim_of, line}
-use Rattle.hls_core_laws.proofs.Lists.{at_below, at_beside, at_some}
-use Rattle.hls_core_laws.proofs.Lanes.{lanes_count, sources_count, source_of}
-use Rattle.hls_core_laws.proofs.Added.{lanes_timed}
-use Rattle.hls_core_laws.proofs.Removed.{line_few}
+use Rattle.hls_core_laws.proofs.Callers.{at_beside, at_some, lanes_count, sources_count, source_of, lanes_timed, line_few}
+use Rattle.std.proofs.lemmas.Option.{slice_get_within}
 use Rattle.hls_lists_laws.specs.Live.{live_uri, live_cutting, listed, list_over, has_closed, list_in, live_list_of}
 use Rattle.hls_lists_laws.proofs.Told.{closed, closed-reached, removed-few, places-few}
 use Rattle.hls_lists_laws.proofs.Totals.{lane-small}
-
-spelled : (r : ℕ) → r < 16 → IsTrue (is_uri_text (live_uri r))
-unfolding digits
-spelled zero few = refl
-spelled (suc zero) few = refl
-spelled (suc (suc zero)) few = refl
-spelled (suc (suc (suc zero))) few = refl
-spelled (suc (suc (suc (suc zero)))) few = refl
-spelled (suc (suc (suc (suc (suc zero))))) few = refl
-spelled (suc (suc (suc (suc (suc (suc zero)))))) few = refl
-spelled (suc (suc (suc (suc (suc (suc (suc zero))))))) few = refl
-spelled (suc (suc (suc (suc (suc (suc (suc (suc zero)))))))) few = refl
-spelled (suc (suc (suc (suc (suc (suc (suc (suc (suc zero))))))))) few = refl
-spelled (suc (suc (suc (suc (suc (suc (suc (suc (suc (suc zero)))))))))) few = refl
-spelled (suc (suc (suc (suc (suc (suc (suc (suc (suc (suc (suc zero))))))))))) few = refl
-spelled (suc (suc (suc (suc (suc (suc (suc (suc (suc (suc (suc (suc zero)))))))))))) few = refl
-spelled (suc (suc (suc (suc (suc (suc (suc (suc (suc (suc (suc (suc (suc zero))))))))))))) few = refl
-spelled (suc (suc (suc (suc (suc (suc (suc (suc (suc (suc (suc (suc (suc (suc zero)))))))))))))) few = refl
-spelled (suc (suc (suc (suc (suc (suc (suc (suc (suc (suc (suc (suc (suc (suc (suc zero))))))))))))))) few = refl
-spelled (suc (suc (suc (suc (suc (suc (suc (suc (suc (suc (suc (suc (suc (suc (suc (suc r)))))))))))))))) few = absurd (omega arith)
-
-front : IsAscii (codes "/media/")
-front = search arith
-
-back : IsAscii (codes ".mp4")
-back = search arith
-
-uri-good : (r : ℕ) → r < 16 → IsUri (live_uri r)
-uri-good r few =
-    ascii_uri (live_uri r) (spelled r few)
-    (IsAscii-append (codes "/media/") (decimal r ++ codes ".mp4") front (IsAscii-append (decimal r) (codes ".mp4") (IsAscii-decimal r (omega arith)) back))
+use Rattle.hls_lists_laws.proofs.Uris.{media_uri}
 
 -- where a state has a live list of a rendition
 pub record IsListed (s : State) (r : ℕ) (list : Playlist) : Type 0 where
@@ -111,7 +75,7 @@ closed-among s state r l at k d h =
     let x : live_line.Segment = get_or (closed s) k d in
     let reached = (closed-reached s state).segments k d h in
     let step = step-from_allowed (aim_of s.config) x.from x.to reached.allowed in
-    let below : r < length (sources s) = omega (arith, sources_count s, at_below (channel s).lanes r l at) in
+    let below : r < length (sources s) = omega (arith, sources_count s, slice_get_within (channel s).lanes r l at) in
     let here = step.step r (omega (arith, below, reached.from.count)) in
     record {
       rises = here.later;
@@ -193,7 +157,7 @@ live-lists-have-texts s r list state is =
       count_by-le-length is_marked (take (channel s).removed (closed s)),
       length-take-le (channel s).removed (closed s) (removed-few s state),
     ) in
-    let few : r < 16 = omega (arith, at_below (channel s).lanes r l on.at, lanes_count s.config s.log, state.configured.renditions.few) in
+    let few : r < 16 = omega (arith, slice_get_within (channel s).lanes r l on.at, lanes_count s.config s.log, state.configured.renditions.few) in
     let cut : Cutting = live_cutting s.config.epoch r l in
     let good : All (λ x. IsSegment (live_uri r) (listed cut x)) (closed s) =
     λ k d h. good-segment s r l (get_or (closed s) k d) state.configured begun total (among k d h) in
@@ -203,4 +167,4 @@ live-lists-have-texts s r list state is =
     subst HasText on.is
     (live_has_text s.config.target (channel s).removed (marks_in (channel s).removed (closed s)) (live_uri r) l.size
     (map (listed cut) (segments_of (line s))) (ends (line s))
-    (omega (arith, target)) (omega (arith, removed)) (omega (arith, removed, marks)) (uri-good r few) begun.some (omega (arith, begun.few)) segments)
+    (omega (arith, target)) (omega (arith, removed)) (omega (arith, removed, marks)) (media_uri r few) begun.some (omega (arith, begun.few)) segments)

@@ -8,29 +8,21 @@ use Rattle.hls_check_laws.specs.Tables.{IsSpotInRange, spot_in}
 use Rattle.hls_places_laws.specs.declared.place.Place.{Place}
 use Rattle.hls_places_laws.specs.Sources.{Source, source_at, first_facts, no_facts}
 use Rattle.hls_places_laws.specs.Places.{spots, place_of, common_at, has_ended as is_over, closing_of, places_of}
-use Rattle.hls_places_laws.proofs.Sorted
-use Rattle.hls_places_laws.proofs.Ordered.{closing_place, places-ordered}
-use Rattle.hls_places_laws.proofs.Within.{places-within}
-use Rattle.hls_places_laws.proofs.Undecided.{over-stays}
-use Rattle.hls_live_laws.specs.declared.aim.Aim.{Aim}
-use Rattle.hls_live_laws.specs.declared.segment.Segment.{Segment}
-use Rattle.hls_live_laws.specs.declared.opening.Opening.{Opening}
-use Rattle.hls_live_laws.specs.Cuts.{line_of}
-use Rattle.hls_live_laws.specs.Told.{Told}
-use Rattle.hls_live_laws.specs.Live.{whole_of, is_closing, has_ended}
-use Rattle.hls_live_laws.proofs.Kept.{segments-stay}
+use Rattle.hls_places_laws.proofs.Callers.{closing_place, places-ordered, places-within, over-stays, segments-stay}
+use Rattle.hls_places_laws.proofs.Callers as Sorted
+use Rattle.hls_places_laws.specs.declared.line.aim.Aim.{Aim}
+use Rattle.hls_places_laws.specs.declared.line.segment.Segment.{Segment}
+use Rattle.hls_places_laws.specs.declared.line.opening.Opening.{Opening}
+use Rattle.hls_places_laws.specs.Line.Cuts.{line_of}
+use Rattle.hls_places_laws.specs.Line.Told.{Told}
+use Rattle.hls_places_laws.specs.Line.Live.{whole_of, is_closing, has_ended}
 use Rattle.hls_core_laws.specs.Config.{ConfigData}
 use Rattle.hls_core_laws.specs.State.{State, channel}
 use Rattle.hls_core_laws.specs.IsState.{IsState}
 use Rattle.hls_core_laws.specs.Follows.{Follows}
 use Rattle.hls_core_laws.specs.Places.{sources, places}
 use Rattle.hls_core_laws.specs.Line.{aim_of, line}
-use Rattle.hls_core_laws.proofs.Sources.{states_are_timed, sources_grow, places_follow}
-use Rattle.hls_core_laws.proofs.Follows.{continues_of}
-use Rattle.hls_core_laws.proofs.Removed.{removed_within}
-use Rattle.hls_core_laws.proofs.Lists.{at_some}
-use Rattle.hls_core_laws.proofs.Lanes.{lanes_count, source_of}
-use Rattle.hls_core_laws.proofs.Theorems.{units_are_logged}
+use Rattle.hls_core_laws.proofs.Callers.{states_are_timed, sources_grow, places_follow, continues_of, removed_within, at_some, lanes_count, source_of, units_are_logged}
 use Rattle.hls_lists_laws.proofs.Reached.{AreReached, line-reached}
 
 -- a common place stands among the units of each rendition, at small times; the closing one comes once all are over

@@ -11,9 +11,7 @@ use Rattle.hls_core_laws.specs.Config.{ConfigData}
 use Rattle.hls_core_laws.specs.Channel.{Channel, Lane, no_lane, fresh, lane, begun_with, with_facts, finish_of, with_floor, after, channel_from, opening, lane_len}
 use Rattle.hls_core_laws.specs.State.{State, channel}
 use Rattle.hls_core_laws.specs.IsState.{IsState}
-use Rattle.hls_core_laws.proofs.Additions.{MayAdd, LegalFrom}
-use Rattle.hls_core_laws.proofs.Lists.{at_or, at_set, mapped_at}
-use Rattle.hls_core_laws.proofs.Added.{entries_of}
+use Rattle.hls_core_laws.proofs.Callers.{MayAdd, LegalFrom, at_or, each_set, mapped_at, entries_of}
 
 -- so much, and nothing before the init section
 record IsSmall (l : Lane) : Type 0 where
@@ -25,10 +23,7 @@ AllSmall lanes = (r : ℕ) (l : Lane) → slice_get lanes r ≡ Some l → IsSma
 
 small-set : (lanes : List Lane) (q : ℕ) (new : Lane) → AllSmall lanes → IsSmall new → AllSmall (slice_set lanes q new)
 unfolding AllSmall
-small-set lanes q new small newly r l at = elim (at_set lanes q new r l at) [
-  | inl here ↦ subst (λ (x : Lane). IsSmall x) here.1 newly
-  | inr there ↦ small r l there.1
-]
+small-set = each_set IsSmall
 
 small-after : (config : ConfigData) (ch : Channel) (e : Logged) → MayAdd config ch e → AllSmall ch.lanes → AllSmall (after e ch).lanes
 unfolding AllSmall

@@ -9,13 +9,13 @@ use Rattle.hls_blocks.specs.Numbered.{Numbered, with_item, from_number, list_lim
 use Rattle.hls_check_laws.specs.Tables.{spot_in, no_spot, target_limit}
 use Rattle.hls_check_laws.specs.declared.spot.Spot.{Spot}
 use Rattle.hls_places_laws.specs.declared.place.Place.{Place}
-use Rattle.hls_live_laws.specs.declared.aim.Aim.{Aim}
-use Rattle.hls_live_laws.specs.declared.segment.Segment.{Segment}
-use Rattle.hls_live_laws.specs.declared.opening.Opening.{Opening}
-use Rattle.hls_live_laws.specs.Steps.{is_allowed}
-use Rattle.hls_live_laws.specs.Cuts.{resumed}
-use Rattle.hls_live_laws.specs.Lengths.{length_in, left_in, marks_in, renditions_of, each_below}
-use Rattle.hls_live_laws.proofs.Tests.{step-from_allowed}
+use Rattle.hls_places_laws.specs.declared.line.aim.Aim.{Aim}
+use Rattle.hls_places_laws.specs.declared.line.segment.Segment.{Segment}
+use Rattle.hls_places_laws.specs.declared.line.opening.Opening.{Opening}
+use Rattle.hls_places_laws.specs.Line.Steps.{is_allowed}
+use Rattle.hls_places_laws.specs.Line.Cuts.{resumed}
+use Rattle.hls_places_laws.specs.Line.Lengths.{length_in, left_in, marks_in, renditions_of, each_below}
+use Rattle.hls_places_laws.proofs.Callers.{step-from_allowed}
 use Rattle.hls_live.specs.declared.sums.Sums.{Sums}
 use Rattle.hls_live.specs.declared.line.LiveLine.TheInside.{Inside}
 use Rattle.hls_live.specs.Sums.{AreSums, last_of, lengths_of, marks_of, IsNext}

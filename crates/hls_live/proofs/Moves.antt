@@ -3,14 +3,14 @@ use Rattle.std.proofs.Common.{◌≡◌, ℕ, Bool, true, false, not, List, Opti
 use Rattle.std.specs.Prelude.{◌&&◌}
 use Rattle.std.proofs.lemmas.Bool.{cases_Bool, cond-true, cond-false}
 use Rattle.hls_places_laws.specs.declared.place.Place.{Place}
-use Rattle.hls_live_laws.specs.declared.aim.Aim.{Aim}
-use Rattle.hls_live_laws.specs.declared.segment.Segment.{Segment}
-use Rattle.hls_live_laws.specs.declared.opening.Opening.{Opening}
-use Rattle.hls_live_laws.specs.Steps.{is_past, is_allowed, is_enough}
-use Rattle.hls_live_laws.specs.Cuts.{resumed, begun_anew}
-use Rattle.hls_live_laws.specs.Told.{Told, told_with, closed_with, tried, stopped_by, advanced_from}
-use Rattle.hls_live_laws.specs.Live.{Live, moved}
-use Rattle.hls_live_laws.proofs.Lines.{tried-skipped, tried-far, tried-enough, tried-further, stopped-anew, advanced-first}
+use Rattle.hls_places_laws.specs.declared.line.aim.Aim.{Aim}
+use Rattle.hls_places_laws.specs.declared.line.segment.Segment.{Segment}
+use Rattle.hls_places_laws.specs.declared.line.opening.Opening.{Opening}
+use Rattle.hls_places_laws.specs.Line.Steps.{is_past, is_allowed, is_enough}
+use Rattle.hls_places_laws.specs.Line.Cuts.{resumed, begun_anew}
+use Rattle.hls_places_laws.specs.Line.Told.{Told, told_with, closed_with, tried, stopped_by, advanced_from}
+use Rattle.hls_places_laws.specs.Line.Live.{Live, moved}
+use Rattle.hls_places_laws.proofs.Callers.{tried-skipped, tried-far, tried-enough, tried-further, stopped-anew, advanced-first}
 use Rattle.hls_live.specs.declared.reach.Reach.{Reach}
 use Rattle.hls_live.specs.declared.reach.Reach.TheVariants.{Skipped, TooFar, Further, Enough}
 use Rattle.hls_live.specs.Reaches.{reach_of}

@@ -1,10 +1,10 @@
 -- What a live line's parts are seen as, and what holds of them. For the proofs of this crate; no public clause cites it.
 use Rattle.std.specs.Prelude.{◌≡◌, ◌<◌, ◌≤◌, true, [], length, None, Some}
 use Rattle.hls_places_laws.specs.declared.place.Place.{Place}
-use Rattle.hls_live_laws.specs.declared.opening.Opening.{Opening}
-use Rattle.hls_live_laws.specs.Steps.{is_allowed}
-use Rattle.hls_live_laws.specs.Live.{Live}
-use Rattle.hls_live_laws.specs.Lengths.{renditions_of}
+use Rattle.hls_places_laws.specs.declared.line.opening.Opening.{Opening}
+use Rattle.hls_places_laws.specs.Line.Steps.{is_allowed}
+use Rattle.hls_places_laws.specs.Line.Live.{Live}
+use Rattle.hls_places_laws.specs.Line.Lengths.{renditions_of}
 use Rattle.hls_live.specs.declared.line.LiveLine.TheInside.{Inside}
 use Rattle.hls_live.specs.Sums.{AreSums}
 use Rattle.hls_check_laws.specs.Tables.{target_limit}

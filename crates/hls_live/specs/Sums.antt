@@ -1,7 +1,7 @@
 -- Sums over the segments of a line, kept beside each of them. For the proofs of this crate; no public clause cites it.
 use Rattle.std.specs.Prelude.{◌≡◌, ℕ, suc, ◌+◌, ◌-◌, ◌*◌, ◌<◌, ◌≤◌, if◌then◌else◌, List, [], length, slice_index, slice_get, Option, None, Some}
-use Rattle.hls_live_laws.specs.declared.segment.Segment.{Segment}
-use Rattle.hls_live_laws.specs.Lengths.{length_in, left_in, marks_in}
+use Rattle.hls_places_laws.specs.declared.line.segment.Segment.{Segment}
+use Rattle.hls_places_laws.specs.Line.Lengths.{length_in, left_in, marks_in}
 use Rattle.hls_live.specs.declared.sums.Sums.{Sums}
 use Rattle.hls_check_laws.specs.Steps.{cost_limit}
 

@@ -1,12 +1,12 @@
 -- One place told to a line whose best place isn't looked back to. For the proofs of this crate; no public clause cites it.
 use Rattle.std.specs.Prelude.{ℕ, List, Option, None, Some}
 use Rattle.hls_places_laws.specs.declared.place.Place.{Place}
-use Rattle.hls_live_laws.specs.declared.aim.Aim.{Aim}
-use Rattle.hls_live_laws.specs.declared.segment.Segment.{Segment}
-use Rattle.hls_live_laws.specs.declared.opening.Opening.{Opening}
-use Rattle.hls_live_laws.specs.Cuts.{resumed, begun_anew}
-use Rattle.hls_live_laws.specs.Told.{Told, closed_with, told_with, tried}
-use Rattle.hls_live_laws.specs.Live.{Live}
+use Rattle.hls_places_laws.specs.declared.line.aim.Aim.{Aim}
+use Rattle.hls_places_laws.specs.declared.line.segment.Segment.{Segment}
+use Rattle.hls_places_laws.specs.declared.line.opening.Opening.{Opening}
+use Rattle.hls_places_laws.specs.Line.Cuts.{resumed, begun_anew}
+use Rattle.hls_places_laws.specs.Line.Told.{Told, closed_with, told_with, tried}
+use Rattle.hls_places_laws.specs.Line.Live.{Live}
 
 -- a place out of reach begins the line anew
 abbrev pub told_by : Aim → ℕ → List Segment → Option Opening → Option Place → Place → Told

@@ -3,13 +3,13 @@ ghost use Rattle.std.specs.Prelude.{◌≡◌, ◌↔◌, ℕ, ◌+◌, ◌-◌,
 ghost use Rattle.std.specs.Option.{option_copied};
 ghost use Rattle.hls_blocks.specs.Numbered.{next_of, list_limit};
 ghost use Rattle.hls_places_laws.specs.declared.place.Place.{Place};
-ghost use Rattle.hls_live_laws.specs.Steps.{is_allowed};
-ghost use Rattle.hls_live_laws.specs.Cuts.{segment_to};
-ghost use Rattle.hls_live_laws.specs.Told.{told_with, has_earlier};
-ghost use Rattle.hls_live_laws.specs.Lengths.{length_in, left_in, is_long, renditions_of};
-ghost use Rattle.hls_live_laws.specs.Live.{fresh, front_of, has_ended, moved, goes_on, slid, slides, may_slide};
-ghost use Rattle.hls_live_laws.specs.Answers.{IsAnswer};
-ghost use Rattle.hls_live_laws.specs.Upkeep.{LineLeaves, IsMostSlide};
+ghost use Rattle.hls_places_laws.specs.Line.Steps.{is_allowed};
+ghost use Rattle.hls_places_laws.specs.Line.Cuts.{segment_to};
+ghost use Rattle.hls_places_laws.specs.Line.Told.{told_with, has_earlier};
+ghost use Rattle.hls_places_laws.specs.Line.Lengths.{length_in, left_in, is_long, renditions_of};
+ghost use Rattle.hls_places_laws.specs.Line.Live.{fresh, front_of, has_ended, moved, goes_on, slid, slides, may_slide};
+ghost use Rattle.hls_places_laws.specs.Line.Answers.{IsAnswer};
+ghost use Rattle.hls_places_laws.specs.Line.Upkeep.{LineLeaves, IsMostSlide};
 ghost use Rattle.hls_live.specs.Sums.{last_of, lengths_of, marks_of, IsNext};
 ghost use Rattle.hls_live.specs.Tries.{told_once, with_closed, with_told};
 ghost use Rattle.hls_check_laws.specs.Tables.{target_limit};
@@ -18,7 +18,7 @@ ghost use Rattle.hls_check_laws.specs.Steps.{cost_limit};
 use crate::reach::{Reach, is_at_gap, is_too_far, reached};
 use crate::sums::{Sums, longer};
 use hls_blocks::Shared;
-use hls_live_laws::{Aim, LineFault, Opening, Segment};
+use hls_places_laws::{Aim, LineFault, Opening, Segment};
 use hls_places_laws::Place;
 use std::alloc::{AllocError, Global};
 use std::marker::Model;
@@ -38,7 +38,7 @@ pub struct LiveLine {
 }
 
 impl Model for LiveLine {
-    ghost use Rattle.hls_live_laws.specs.Live.{Live};
+    ghost use Rattle.hls_places_laws.specs.Line.Live.{Live};
 
     ghost Value = { Live };
 

@@ -1,11 +1,11 @@
 //! How a place stands to the open one of the line.
 ghost use Rattle.std.specs.Prelude.{◌≡◌, ◌-◌, ◌&&◌, not};
 ghost use Rattle.hls_check_laws.specs.Tables.{spot_in};
-ghost use Rattle.hls_live_laws.specs.Steps.{is_past, is_allowed, is_enough, is_at_gap};
+ghost use Rattle.hls_places_laws.specs.Line.Steps.{is_past, is_allowed, is_enough, is_at_gap};
 ghost use Rattle.hls_live.specs.Reaches.{reach_of};
 
-use hls_live_laws::Aim;
-use hls_places::pair_allowed;
+use hls_check_laws::pair_allowed;
+use hls_places_laws::Aim;
 use hls_places_laws::Place;
 
 #[derive(Clone, Copy, Debug, PartialEq, Eq)]
@@ -54,7 +54,7 @@ fn is_past(from: &Place, place: &Place) -> bool
 fn is_allowed(aim: Aim, from: &Place, place: &Place) -> bool
     ensures { result ≡ is_allowed aim from.now place.now }
 {
-    pair_allowed(aim.target, from, place)
+    pair_allowed(aim.target, &from.spots, &place.spots)
 }
 
 /// Whether a segment that may end here needs to go no further.

@@ -1,10 +1,10 @@
 //! What the segments up to one are long in each rendition, and how many of them have a mark.
 ghost use Rattle.std.specs.Prelude.{◌≡◌, ℕ, ◌+◌, ◌^◌, ◌<◌, length, slice_index, IfOk};
-ghost use Rattle.hls_live_laws.specs.Lengths.{length_in};
+ghost use Rattle.hls_places_laws.specs.Line.Lengths.{length_in};
 ghost use Rattle.hls_live.specs.Sums.{IsLonger};
 
 use crate::reach::length_between;
-use hls_live_laws::Segment;
+use hls_places_laws::Segment;
 use std::alloc::{AllocError, Global};
 
 #[derive(Debug, Drop)]

@@ -1,8 +1,8 @@
 //! Answers about jobs and queries, and the replies that go out for them: where memory was wanted there is none.
 
 use crate::told::Told;
+use hls_catchup::JobFault;
 use hls_fakes::goes_out;
-use hls_jobs::JobFault;
 use hls_replies::{Answer, added_answer, output_of, query_answer, removed_answer};
 use hls_serve_laws::query::QueryFault;
 use std::alloc::{AllocError, Global};

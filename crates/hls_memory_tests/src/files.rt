@@ -2,12 +2,12 @@
 
 use crate::channel::{SECOND, finished_at_last};
 use crate::told::Told;
-use hls_catchup::{Reply, Request};
+use hls_catchup::{
+    Job, JobTable, Reply, Request, certificate_text, job_line, master_text, playlist_text,
+    reply_in, run_job,
+};
 use hls_check_laws::CostRule;
 use hls_core::snapshot::Snapshot;
-use hls_jobs::{
-    Job, JobTable, certificate_text, job_line, master_text, playlist_text, reply_in, run_job,
-};
 use std::alloc::Global;
 use std::sync::Arc;
 

@@ -2,10 +2,9 @@
 
 use crate::channel::{SECOND, finished_at_last};
 use crate::told::Told;
-use hls_catchup::Request;
+use hls_catchup::{Answered, Gate, Job, JobTable, Jobs, Request, work_loop};
 use hls_check_laws::CostRule;
 use hls_core::snapshot::Snapshot;
-use hls_jobs::{Answered, Gate, Job, JobTable, Jobs, work_loop};
 use std::alloc::Global;
 use std::sync::{Arc, Wait};
 

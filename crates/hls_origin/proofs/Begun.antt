@@ -8,10 +8,7 @@ use Rattle.hls_core_laws.specs.Channel.{Channel, Lane}
 use Rattle.hls_core_laws.specs.State.{Held, State, channel}
 use Rattle.hls_core_laws.specs.Outcome.{Outcome, New, Repeated, Refused, finish, finish_begun, held, outcome_of}
 use Rattle.hls_core_laws.specs.Moves.{advanced}
-use Rattle.hls_core_laws.proofs.Added.{may_add}
-use Rattle.hls_core_laws.proofs.Advance.{channel_advanced}
-use Rattle.hls_core_laws.proofs.Causes.{Finishes, finishes}
-use Rattle.hls_core_laws.proofs.Logs.{lane_after}
+use Rattle.hls_core_laws.proofs.Callers.{may_add, channel_advanced, Finishes, finishes, lane_after}
 use Rattle.hls_core.specs.Reads.{recorded_at, recorded_from, recording_of}
 use Rattle.hls_origin_listing.specs.declared.fault.ListFault.{ListFault}
 use Rattle.hls_origin_listing.specs.declared.forms.Listed.{Listed}

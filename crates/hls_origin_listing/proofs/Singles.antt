@@ -10,15 +10,14 @@ use Rattle.hls_check_laws.specs.Tables.{spot_in}
 use Rattle.hls_places_laws.specs.declared.place.Place.{Place}
 use Rattle.hls_places_laws.specs.Sources.{Source, source_at, AreSources}
 use Rattle.hls_places_laws.specs.Order.{no_place, AreOrdered}
-use Rattle.hls_places_laws.proofs.Ordered.{places-ordered, ordered-places, table-place}
+use Rattle.hls_places_laws.proofs.Callers.{places-ordered, ordered-places, table-place}
 use Rattle.hls_core_laws.specs.Channel.{Lane}
 use Rattle.hls_core_laws.specs.State.{State, Held, channel}
 use Rattle.hls_core_laws.specs.Outcome.{held}
 use Rattle.hls_core_laws.specs.Places.{sources, places}
-use Rattle.hls_core_laws.proofs.Lists.{at_some}
-use Rattle.hls_core_laws.proofs.Sources.{lanes_count, sources_count, source_of}
+use Rattle.hls_core_laws.proofs.Callers.{at_some, lanes_count, sources_count, source_of}
 use Rattle.hls_core.specs.Reads.{recorded_from, recorded_at, recording_of}
-use Rattle.hls_catchup.proofs.Bounded.{Bounded, places-bounded}
+use Rattle.hls_catchup.proofs.Callers.{Bounded, places-bounded}
 use Rattle.hls_origin_listing.specs.Places.{ArePlacesOf}
 
 -- a recording has the facts of its lane

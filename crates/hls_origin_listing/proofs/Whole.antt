@@ -10,7 +10,7 @@ use Rattle.hls_check_laws.specs.Tables.{IsGoal, IsTable, IsPlaceOf, spot_in, goa
 use Rattle.hls_check_laws.specs.Orders.{IsOrderly}
 use Rattle.hls_places_laws.specs.declared.place.Place.{Place}
 use Rattle.hls_places_laws.specs.Order.{no_place, spots_of, renditions_in, ArePlaces}
-use Rattle.hls_places_laws.proofs.Ordered.{table-place}
+use Rattle.hls_places_laws.proofs.Callers.{table-place}
 use Rattle.hls_lists_laws.specs.SegmentLaws.{end_fragment}
 use Rattle.hls_origin_listing.specs.Places.{ArePlacesOf}
 use Rattle.hls_origin_listing.proofs.Good.{NonePast}

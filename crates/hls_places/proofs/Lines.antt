@@ -7,8 +7,7 @@ use Rattle.hls_record.proofs.Stays.{units_are_in_time}
 use Rattle.hls_places_laws.specs.Sources.{Source, IsTimeline, sources_of}
 use Rattle.hls_places_laws.specs.Places.{places_of}
 use Rattle.hls_places_laws.specs.Order.{ArePlaces}
-use Rattle.hls_places_laws.proofs.Sides.{length-sides, side-of}
-use Rattle.hls_places_laws.proofs.Ordered.{places-ordered, ordered-places}
+use Rattle.hls_places_laws.proofs.Callers.{length-sides, side-of, places-ordered, ordered-places}
 use Rattle.hls_places.specs.Searches.{AreInOrder}
 use Rattle.hls_check_laws.specs.Tables.{rendition_limit}
 

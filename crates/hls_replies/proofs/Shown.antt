@@ -14,7 +14,7 @@ use Rattle.hls_serve_laws.specs.JobReplies.{bytes_in, resource_answer}
 use Rattle.hls_serve_laws.specs.Replies.{media_by, media_bytes, media_given, part_answer}
 use Rattle.hls_catchup.specs.Replies.{ReplyData}
 use Rattle.hls_catchup.specs.Resources.{parts_in}
-use Rattle.hls_jobs.specs.declared.standing.Withheld.{Withheld}
+use Rattle.hls_catchup.specs.declared.jobs.standing.Withheld.{Withheld}
 use Rattle.hls_replies.specs.Contents.{FitsBy, part_by, resource_by, slices_by}
 
 slice-fits : (total a n from len : ℕ) → slice_from total a n ≡ parts.Slice from len → from + len ≤ total

@@ -6,9 +6,9 @@ use Rattle.hls_http_laws.specs.Reply.{extra_line}
 use Rattle.hls_lists_laws.specs.Jobs.{units_between}
 use Rattle.hls_catchup.specs.Replies.{ReplyData}
 use Rattle.hls_catchup.specs.Resources.{slices_in}
-use Rattle.hls_jobs.specs.declared.job.Job.{Job}
-use Rattle.hls_jobs.specs.declared.standing.Withheld.{Withheld}
-use Rattle.hls_jobs.specs.Standing.{files_of}
+use Rattle.hls_catchup.specs.declared.jobs.job.Job.{Job}
+use Rattle.hls_catchup.specs.declared.jobs.standing.Withheld.{Withheld}
+use Rattle.hls_catchup.specs.Jobs.Standing.{files_of}
 use Rattle.hls_serve_laws.specs.JobReplies.{resource_of}
 use Rattle.hls_serve_laws.specs.Replies.{Answer, media_bytes}
 use Rattle.hls_replies.specs.declared.media.Recorded.{Recorded as Kept}

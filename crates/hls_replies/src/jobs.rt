@@ -8,12 +8,12 @@ use crate::answer::Answer;
 use crate::playlists::playlist_or_none;
 use crate::resource::resource_answer;
 use crate::texts::{fault_answer, refusal_answer, text_answer};
+use hls_catchup::{
+    Job, JobFault, Withheld, certificate_text, job_line, master_text, playlist_text, reply_in,
+};
 use hls_http_laws::fault::HttpFault;
 use hls_http_laws::range::Asked;
 use hls_http_laws::reply::{Extra, Kind, Status};
-use hls_jobs::{
-    Job, JobFault, Withheld, certificate_text, job_line, master_text, playlist_text, reply_in,
-};
 use hls_serve_laws::query::QueryFault;
 use hls_serve_laws::route::JobFile;
 use std::alloc::{AllocError, Global};

@@ -10,12 +10,11 @@ use crate::answer::Answer;
 use crate::body::Body;
 use crate::media::{given_answer, outside_answer};
 use crate::texts::fault_answer;
-use hls_catchup::{reply_place, reply_slice, reply_total};
+use hls_catchup::{Job, reply_in, reply_place, reply_slice, reply_total};
 use hls_http::part;
 use hls_http_laws::fault::HttpFault;
 use hls_http_laws::range::{Asked, Part};
 use hls_http_laws::reply::{Extra, Status};
-use hls_jobs::{Job, reply_in};
 use hls_output::{Media, Resource};
 use std::alloc::{AllocError, Global};
 

@@ -1,7 +1,7 @@
 //! How far a channel is, as a few numbers.
 
 ghost use Rattle.std.specs.Prelude.{◌≡◌, ◌++◌, IfOk, length};
-ghost use Rattle.hls_live_laws.specs.Live.{segments_of};
+ghost use Rattle.hls_places_laws.specs.Line.Live.{segments_of};
 ghost use Rattle.hls_serve_laws.specs.Replies as spec;
 ghost use Rattle.hls_serve_laws.specs.Replies.{status_row, status_text};
 

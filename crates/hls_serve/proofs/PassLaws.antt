@@ -17,8 +17,7 @@ use Rattle.hls_core_laws.specs.State.{State, Held, channel}
 use Rattle.hls_core_laws.specs.IsState.{IsState}
 use Rattle.hls_core_laws.specs.Moves.{IsFittingAsSeen}
 use Rattle.hls_core_laws.specs.Follows.{Follows}
-use Rattle.hls_core_laws.proofs.Follows.{state_of}
-use Rattle.hls_core_laws.proofs.Theorems.{follows_itself, follows_through, inits_stay, moves_follow, seen_suffices}
+use Rattle.hls_core_laws.proofs.Callers.{state_of, follows_itself, follows_through, inits_stay, moves_follow, seen_suffices}
 use Rattle.hls_turn.specs.declared.done.Done.{Done}
 use Rattle.hls_turn.specs.Passes.{Known}
 use Rattle.hls_turn.specs.Calls as calls

@@ -7,13 +7,12 @@ ghost use Rattle.hls_serve.specs.Meanwhile.{Met};
 ghost use Rattle.hls_serve.specs.Owned.{known_of};
 
 use crate::keeper::Keeper;
-use hls_catchup::Request;
+use hls_catchup::{Job, JobFault, JobTable, Request};
 use hls_core::snapshot::Snapshot;
 use hls_core::step::step;
 use hls_core::stepped::Stepped;
 use hls_core_laws::event::Event;
 use hls_core_laws::refusal::Refusal;
-use hls_jobs::{Job, JobFault, JobTable};
 use hls_turn::Done;
 use std::alloc::{AllocError, Global};
 use std::sync::Arc;

@@ -1,6 +1,6 @@
 //! A channel that many threads share.
 
-use hls_jobs::Jobs;
+use hls_catchup::Jobs;
 use hls_turn::Turn;
 
 /// A channel that many threads share: its turn and its jobs.

@@ -16,12 +16,12 @@ use crate::acts::{Acts, look, submit};
 use crate::call::Call;
 use crate::keeper::Keeper;
 use crate::route::{allows, is_to_head, job_at, removes};
+use hls_catchup::{Job, JobFault};
 use hls_core::snapshot::Snapshot;
 use hls_core_laws::event::Event;
 use hls_core_laws::refusal::Refusal;
 use hls_http::HttpFault;
 use hls_http_laws::range::Asked;
-use hls_jobs::{Job, JobFault};
 use hls_replies::{
     Answer, added_answer, fault_answer, file_answer, finish_answer, list_answer, master_answer,
     media_answer, method_answer, query_answer, removed_answer, request_for, status_answer,

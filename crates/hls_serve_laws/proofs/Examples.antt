@@ -15,8 +15,8 @@ use Rattle.hls_http_laws.specs.declared.reply.Status.TheVariants as statuses
 use Rattle.hls_text.specs.Digits.{number_of}
 use Rattle.hls_http_laws.specs.Query.{first_of}
 use Rattle.hls_http.specs.declared.head.Method.TheVariants as methods
-use Rattle.hls_jobs.specs.declared.fault.JobFault.TheVariants as jobs
-use Rattle.hls_jobs.specs.declared.job.Job.TheVariants as told
+use Rattle.hls_catchup.specs.declared.jobs.fault.JobFault.TheVariants as jobs
+use Rattle.hls_catchup.specs.declared.jobs.job.Job.TheVariants as told
 use Rattle.hls_turn.specs.declared.done.Done.TheVariants as moved
 use Rattle.hls_serve_laws.specs.declared.query.Moment.TheVariants.{Instant}
 use Rattle.hls_serve_laws.specs.declared.query.Query.{Query}

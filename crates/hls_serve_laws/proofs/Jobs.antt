@@ -7,12 +7,12 @@ use Rattle.hls_catchup.specs.declared.request.Request.{Request}
 use Rattle.hls_catchup.specs.declared.request.CatchFault.{CatchFault}
 use Rattle.hls_catchup.specs.Plays.{IsAnswered}
 use Rattle.hls_catchup.specs.Replies.{ReplyData}
-use Rattle.hls_jobs.specs.declared.fault.JobFault.{JobFault}
-use Rattle.hls_jobs.specs.declared.fault.JobFault.TheVariants.{TableFull, UnknownJob, Stray, Memory}
-use Rattle.hls_jobs.specs.declared.job.Job.{Job}
-use Rattle.hls_jobs.specs.declared.job.Job.TheVariants.{Waiting, Running, Finished, Failed}
-use Rattle.hls_jobs.specs.Phases.{IsRightJob}
-use Rattle.hls_jobs.specs.Standing.{answer_files}
+use Rattle.hls_catchup.specs.declared.jobs.fault.JobFault.{JobFault}
+use Rattle.hls_catchup.specs.declared.jobs.fault.JobFault.TheVariants.{TableFull, UnknownJob, Stray, Memory}
+use Rattle.hls_catchup.specs.declared.jobs.job.Job.{Job}
+use Rattle.hls_catchup.specs.declared.jobs.job.Job.TheVariants.{Waiting, Running, Finished, Failed}
+use Rattle.hls_catchup.specs.Jobs.Phases.{IsRightJob}
+use Rattle.hls_catchup.specs.Jobs.Standing.{answer_files}
 use Rattle.hls_serve_laws.specs.declared.route.JobFile.{JobFile}
 use Rattle.hls_serve_laws.specs.Heard.{IsOfJob}
 use Rattle.hls_serve_laws.specs.JobLaws.{FilesAreRight, LinesAreRight, IsOfRightReply, IsOfUnfinished, IsOfRightAnswer}

@@ -33,9 +33,9 @@ use Rattle.hls_http.specs.declared.drain.DropEnd.{DropEnd}
 use Rattle.hls_http.specs.declared.drain.DropEnd.TheVariants as drops
 use Rattle.hls_http.specs.Heads.{method_of}
 use Rattle.hls_http.specs.Drained.{announced_by}
-use Rattle.hls_jobs.specs.declared.fault.JobFault.{JobFault}
-use Rattle.hls_jobs.specs.declared.fault.JobFault.TheVariants.{UnknownJob}
-use Rattle.hls_jobs.specs.declared.job.Job.{Job}
+use Rattle.hls_catchup.specs.declared.jobs.fault.JobFault.{JobFault}
+use Rattle.hls_catchup.specs.declared.jobs.fault.JobFault.TheVariants.{UnknownJob}
+use Rattle.hls_catchup.specs.declared.jobs.job.Job.{Job}
 use Rattle.hls_serve_laws.specs.declared.ingest.Intake.{Intake}
 use Rattle.hls_serve_laws.specs.declared.ingest.Intake.TheVariants as came
 use Rattle.hls_serve_laws.specs.declared.query.Query.{Query}
@@ -44,7 +44,7 @@ use Rattle.hls_serve_laws.specs.declared.query.QueryFault.TheVariants.{BadQuery}
 use Rattle.hls_serve_laws.specs.declared.route.Route.{Route}
 use Rattle.hls_serve_laws.specs.declared.route.Route.TheVariants as routes
 use Rattle.hls_serve_laws.specs.declared.wanted.Wanted.{Wanted}
-use Rattle.hls_jobs.specs.Shared.{HasCounted, HasRemoved}
+use Rattle.hls_catchup.specs.Jobs.Shared.{HasCounted, HasRemoved}
 use Rattle.hls_serve_laws.specs.Faults.{status_of}
 use Rattle.hls_serve_laws.specs.Acts.{Act, ActsInVain, Looks, Submits}
 use Rattle.hls_serve_laws.specs.Ingest.{BodyComes, Progress, Stops, counts_text}

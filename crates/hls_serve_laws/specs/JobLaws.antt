@@ -8,7 +8,7 @@ use Rattle.hls_catchup.specs.declared.request.Request.{Request}
 use Rattle.hls_catchup.specs.declared.request.CatchFault.{CatchFault}
 use Rattle.hls_catchup.specs.Replies.{ReplyData, IsRightReply}
 use Rattle.hls_catchup.specs.Plays.{IsAnswered}
-use Rattle.hls_jobs.specs.Line.{result_line}
+use Rattle.hls_catchup.specs.Jobs.Line.{result_line}
 use Rattle.hls_serve_laws.specs.declared.route.JobFile.{JobFile}
 use Rattle.hls_serve_laws.specs.Heard.{ShowsJob}
 use Rattle.hls_serve_laws.specs.JobReplies.{file_answer, reply_answer, told_answer}

@@ -11,14 +11,14 @@ use Rattle.hls_http_laws.specs.Range.{part_of}
 use Rattle.hls_http_laws.specs.Reply.{extra_line, refusal}
 use Rattle.hls_catchup.specs.Replies.{ReplyData}
 use Rattle.hls_catchup.specs.Resources.{parts_in}
-use Rattle.hls_jobs.specs.declared.fault.JobFault.{JobFault}
-use Rattle.hls_jobs.specs.declared.job.Job.{Job}
-use Rattle.hls_jobs.specs.FaultName.{job_fault_name}
-use Rattle.hls_jobs.specs.declared.standing.Withheld.{Withheld}
-use Rattle.hls_jobs.specs.declared.standing.Withheld.TheVariants as withheld
-use Rattle.hls_jobs.specs.Files.{certificate_file, master_file, playlist_file}
-use Rattle.hls_jobs.specs.Line.{job_line, version_end}
-use Rattle.hls_jobs.specs.Standing.{files_of}
+use Rattle.hls_catchup.specs.declared.jobs.fault.JobFault.{JobFault}
+use Rattle.hls_catchup.specs.declared.jobs.job.Job.{Job}
+use Rattle.hls_catchup.specs.Jobs.FaultName.{job_fault_name}
+use Rattle.hls_catchup.specs.declared.jobs.standing.Withheld.{Withheld}
+use Rattle.hls_catchup.specs.declared.jobs.standing.Withheld.TheVariants as withheld
+use Rattle.hls_catchup.specs.Jobs.Files.{certificate_file, master_file, playlist_file}
+use Rattle.hls_catchup.specs.Jobs.Line.{job_line, version_end}
+use Rattle.hls_catchup.specs.Jobs.Standing.{files_of}
 use Rattle.hls_serve_laws.specs.declared.query.QueryFault.{QueryFault}
 use Rattle.hls_serve_laws.specs.declared.route.JobFile.{JobFile}
 use Rattle.hls_serve_laws.specs.declared.route.JobFile.TheVariants as files

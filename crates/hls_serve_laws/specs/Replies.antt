@@ -15,7 +15,7 @@ use Rattle.hls_http_laws.specs.declared.reply.Extra.TheVariants.{Nothing, Range,
 use Rattle.hls_http_laws.specs.Range.{part_of}
 use Rattle.hls_http_laws.specs.Reply.{fault_name, fault_status, status_line, content_lines, extra_line, close_line, crlf, refusal}
 use Rattle.hls_record.specs.Recorded.{Recorded, total_of, range_of}
-use Rattle.hls_live_laws.specs.Live.{segments_of}
+use Rattle.hls_places_laws.specs.Line.Live.{segments_of}
 use Rattle.hls_core_laws.specs.declared.refusal.Refusal.{Refusal}
 use Rattle.hls_core_laws.specs.RefusalName as core_names
 use Rattle.hls_core_laws.specs.State.{State}

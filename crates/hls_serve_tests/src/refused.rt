@@ -10,9 +10,9 @@ use crate::script::{
     EVENTS, FILE_NAMES, Files, GONE, delete, encoder, encoder_replies, get_file, get_files,
 };
 use crate::went::{Went, judged, status_of};
+use hls_catchup::Job;
 use hls_fakes::Page;
 use hls_http::Session;
-use hls_jobs::Job;
 use hls_serve::alone::Alone;
 use hls_serve::news::Unobserved;
 use hls_serve::session::session_on;

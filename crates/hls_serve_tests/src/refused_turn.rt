@@ -6,9 +6,9 @@ use crate::script::{
     EVENTS, FILE_NAMES, Files, GONE, delete, encoder, encoder_replies, get_file, get_files,
 };
 use crate::went::{Went, judged, status_of};
+use hls_catchup::{Gate, Job, Jobs, work_loop};
 use hls_fakes::Page;
 use hls_http::Session;
-use hls_jobs::{Gate, Job, Jobs, work_loop};
 use hls_serve::channel::Channel;
 use hls_serve::keeper::Keeper;
 use hls_serve::station::{Station, serve_session};

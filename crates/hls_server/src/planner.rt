@@ -2,7 +2,7 @@
 
 ghost use Rattle.std.specs.Prelude.{◌≡◌, true};
 
-use hls_jobs::{Gate, Jobs, work_loop};
+use hls_catchup::{Gate, Jobs, work_loop};
 use std::alloc::Global;
 use std::sync::Wait;
 

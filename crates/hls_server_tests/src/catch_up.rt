@@ -3,8 +3,8 @@
 ghost use Rattle.std.specs.Prelude.{◌≡◌};
 
 use crate::sessions::{head, opening, stream};
+use hls_catchup::{Gate, Jobs, work_loop};
 use hls_http::Session;
-use hls_jobs::{Gate, Jobs, work_loop};
 use hls_serve::channel::Channel;
 use hls_serve::station::{Station, serve_session};
 use hls_turn::{Pass, Turn};

@@ -1,7 +1,7 @@
 //! The housekeeper, over a channel that was told before the server closed.
 
 use crate::sessions::{opening, send};
-use hls_jobs::Jobs;
+use hls_catchup::Jobs;
 use hls_serve::channel::Channel;
 use hls_serve::station::Station;
 use hls_server::keep_house;

@@ -5,13 +5,13 @@ ghost use denote.Param.Send.{IsSync};
 
 use crate::fakes::Held;
 use bytes::Bytes;
+use hls_catchup::Jobs;
 use hls_core::config::Config;
 use hls_core::snapshot::Snapshot;
 use hls_core_laws::event::Logged;
 use hls_core_laws::rendition::Rendition;
 use hls_fakes::Page;
 use hls_http::Session;
-use hls_jobs::Jobs;
 use hls_samples::{init_bytes, unit_bytes};
 use hls_serve::channel::Channel;
 use hls_serve::keeper::Keeper;

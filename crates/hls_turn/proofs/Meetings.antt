@@ -7,7 +7,7 @@ use Rattle.atomic_table.specs.Seated.{TableId}
 use Rattle.hls_core_laws.specs.State.{State}
 use Rattle.hls_core_laws.specs.Follows.{Follows}
 use Rattle.hls_core_laws.specs.Workers.{events_by}
-use Rattle.hls_core_laws.proofs.Theorems.{follows_itself, follows_through, workers_settled}
+use Rattle.hls_core_laws.proofs.Callers.{follows_itself, follows_through, workers_settled}
 use Rattle.hls_turn.specs.Passes.{PassData}
 use Rattle.hls_turn.specs.Calls.{Looked, LooksAt, MeetsAt, SettledAt, last_seen}
 

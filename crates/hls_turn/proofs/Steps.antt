@@ -10,7 +10,7 @@ use Rattle.hls_core_laws.specs.State.{State}
 use Rattle.hls_core_laws.specs.Outcome.{New}
 use Rattle.hls_core_laws.specs.Follows.{Follows}
 use Rattle.hls_core_laws.specs.Workers.{events_by}
-use Rattle.hls_core_laws.proofs.Theorems.{follows_itself, follows_through, moves_follow, workers_apart}
+use Rattle.hls_core_laws.proofs.Callers.{follows_itself, follows_through, moves_follow, workers_apart}
 use Rattle.hls_turn.specs.declared.view.View.{View}
 use Rattle.hls_turn.specs.Rule.{newcomer, after_take, after_put, with_one_more, beside, log_seen, Takes, FollowsSeen, Advances, MayPut, Each, Knows, Unmade, IsFree, IsFreeBut, Lies, IsHeld, Runs, Opens, Keeps}
 

@@ -9,8 +9,7 @@ use Rattle.hls_core_laws.specs.Moves.{Moves, IsFitting, IsFittingAsSeen, logged}
 use Rattle.hls_core_laws.specs.Follows.{Follows}
 use Rattle.hls_core_laws.specs.Workers.{events_by}
 use Rattle.hls_core_laws.specs.Config.{ConfigData}
-use Rattle.hls_core_laws.proofs.Follows.{state_of, continues_of}
-use Rattle.hls_core_laws.proofs.Theorems.{follows_itself, moves_follow, seen_suffices, workers_apart}
+use Rattle.hls_core_laws.proofs.Callers.{state_of, continues_of, follows_itself, moves_follow, seen_suffices, workers_apart}
 use Rattle.hls_turn.specs.declared.view.View.{View}
 use Rattle.hls_turn.specs.declared.done.Done.{Done}
 use Rattle.hls_turn.specs.Rule.{Takes, FollowsSeen, after_put, MayPut}

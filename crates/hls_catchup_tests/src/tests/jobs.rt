@@ -1,7 +1,7 @@
 //! Jobs: the order in which they are taken, which results are taken, and work loops that run side by side.
 
 use super::channels::request;
-use hls_jobs::{Gate, Job, JobFault, JobTable, Jobs, Work, run_job, work_loop};
+use hls_catchup::{Gate, Job, JobFault, JobTable, Jobs, Work, run_job, work_loop};
 use hls_sample_channels::{SECOND, opened};
 use std::alloc::Global;
 use std::sync::atomic::{AtomicU64, Ordering};

@@ -5,10 +5,9 @@ ghost use Rattle.std.specs.Prelude.{◌<◌, ◌^◌, length, IfOk};
 ghost use Rattle.hls_origin_listing.specs.Lists.{CanList};
 
 use super::channels::{EPOCH, recorded, request};
-use hls_catchup::{CostRule, Reply, answer};
+use hls_catchup::{CostRule, Reply, answer, master_text, playlist_text};
 use hls_core::config::LAST_EPOCH;
 use hls_core::snapshot::Snapshot;
-use hls_jobs::{master_text, playlist_text};
 use hls_m3u8::is_uri;
 use hls_origin_listing::{ListFault, Listed, Listing, list};
 use hls_sample_channels::{

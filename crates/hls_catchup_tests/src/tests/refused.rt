@@ -1,9 +1,8 @@
 //! Where memory is refused: an answer leaves the snapshot as it was, a job failed alone, and the same request again is answered.
 
 use super::channels::{recorded, request};
-use hls_catchup::{CatchFault, Reply, answer, reply_total};
+use hls_catchup::{CatchFault, Job, JobTable, Reply, answer, reply_total, run_job};
 use hls_core::snapshot::Snapshot;
-use hls_jobs::{Job, JobTable, run_job};
 use hls_sample_channels::SECOND;
 use std::alloc::Global;
 use std::sync::Arc;

@@ -3,9 +3,9 @@
 ghost use Rattle.std.specs.Prelude.{◌<◌, ◌^◌, length, IfOk};
 
 use super::{TEN_UNITS, part, recorded, sent, trimmed};
+use hls_catchup::{Job, JobTable, run_job};
 use hls_core::snapshot::Snapshot;
 use hls_http_laws::range::Asked;
-use hls_jobs::{Job, JobTable, run_job};
 use hls_replies::{
     Answer, added_answer, file_answer, query_answer, read_query, removed_answer, request_for,
     status_answer, told_answer, wanted_of,

@@ -1,9 +1,9 @@
 //! Where memory is refused a job's replies are as ever, or there are none. A channel of two units of 4 s.
 
 use super::refused::recorded;
+use hls_catchup::{Job, JobTable, run_job};
 use hls_fakes::sent_of;
 use hls_http_laws::range::Asked;
-use hls_jobs::{Job, JobTable, run_job};
 use hls_replies::{
     Answer, added_answer, file_answer, output_of, read_query, request_for, told_answer, wanted_of,
 };

@@ -2,7 +2,7 @@ use Rattle.std.proofs.Common.{◌≡◌, ◌≤◌, ◌∷◌, ◌++◌, [], ℕ
 use Rattle.std.proofs.lemmas.List.{length-map, length-set, take_more, take_more_set, take_all}
 use Rattle.hls_core_laws.specs.State.{channel}
 use Rattle.hls_core_laws.specs.Places.{floor_of, floors}
-use Rattle.hls_core_laws.proofs.Sources.{lanes_count}
+use Rattle.hls_core_laws.proofs.Callers.{lanes_count}
 use Rattle.hls_catchup.proofs.floors.floors_of.Goals as goal
 use Rattle.hls_check_laws.specs.Tables.{rendition_limit}
 

@@ -4,10 +4,10 @@ use Rattle.hls_core.specs.Reads.{recording_of}
 use Rattle.hls_core_laws.specs.Config.{ConfigData}
 use Rattle.hls_core_laws.specs.Line.{line}
 use Rattle.hls_check_laws.specs.Tables.{spot_in}
-use Rattle.hls_live_laws.specs.declared.segment.Segment as live_line
-use Rattle.hls_live_laws.specs.Live.{Live, segments_of}
+use Rattle.hls_places_laws.specs.declared.line.segment.Segment as live_line
+use Rattle.hls_places_laws.specs.Line.Live.{Live, segments_of}
 use Rattle.hls_m3u8.specs.Playlist.{Playlist}
-use Rattle.hls_lists_laws.proofs.Texts.{starts-small}
+use Rattle.hls_lists_laws.proofs.Callers.{starts-small}
 use Rattle.hls_catchup.proofs.LiveLists.{unbegun, listed-by, list-made}
 use Rattle.hls_catchup.proofs.live.live_playlist.Goals as goal
 

@@ -1,7 +1,7 @@
 use Rattle.std.proofs.Common.{◌≡◌, ℕ, ◌<◌, ◌^◌, ◌∷◌, List, All, ap, subst, ◌∙◌}
 use Rattle.std.proofs.lemmas.List.Elements.{All-tail}
 use Rattle.hls_check_laws.specs.Tables.{spot_in}
-use Rattle.hls_live_laws.specs.declared.segment.Segment as live_line
+use Rattle.hls_places_laws.specs.declared.line.segment.Segment as live_line
 use Rattle.hls_m3u8.specs.declared.playlist.Segment.{Segment}
 use Rattle.hls_lists_laws.specs.Segments.{Cutting}
 use Rattle.hls_lists_laws.specs.Live.{listed}

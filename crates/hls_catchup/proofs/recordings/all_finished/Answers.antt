@@ -3,7 +3,7 @@ use Rattle.std.specs.List.{list_all}
 use Rattle.std.proofs.lemmas.List.{at_drop_all}
 use Rattle.hls_core_laws.specs.State.{channel}
 use Rattle.hls_core_laws.specs.Places.{is_finished}
-use Rattle.hls_core_laws.proofs.Sources.{lanes_count}
+use Rattle.hls_core_laws.proofs.Callers.{lanes_count}
 use Rattle.hls_catchup.proofs.States.{all_finished_from}
 use Rattle.hls_catchup.proofs.recordings.all_finished.Goals as goal
 

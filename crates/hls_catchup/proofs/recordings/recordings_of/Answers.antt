@@ -1,6 +1,6 @@
 use Rattle.std.proofs.Common.{◌≡◌, ◌∷◌, [], length, arith, ap, sym, ◌∙◌, length-append}
 use Rattle.hls_core.specs.Reads.{recording_of}
-use Rattle.hls_core_laws.proofs.Sources.{lanes_count}
+use Rattle.hls_core_laws.proofs.Callers.{lanes_count}
 use Rattle.hls_catchup.proofs.States.{no_places, one_recording_more, are_recordings}
 use Rattle.hls_catchup.proofs.recordings.recordings_of.Goals as goal
 

@@ -1,6 +1,7 @@
 use Rattle.std.proofs.Common.{◌∙◌, sym, inl, inr, arith}
 use Rattle.std.proofs.lemmas.Bool.{eqb-false}
-use Rattle.hls_core_laws.proofs.Lists.{at_below, at_read}
+use Rattle.hls_core_laws.proofs.Callers.{at_read}
+use Rattle.std.proofs.lemmas.Option.{slice_get_within}
 use Rattle.hls_core.proofs.Names.{good_more}
 use Rattle.hls_core.proofs.config.first_bad.Goals as goal
 
@@ -33,5 +34,5 @@ pub returns : goal.returns
 returns c = record {
   some = omega (arith, eqb-false _ 0 (sym c.is_empty.ensures ∙ c.if-is_empty.false));
   few = omega (arith, c.loop-n.invariant.few);
-  each = λ n r at. c.loop-n.invariant.good n r (omega (arith, at_below c.args.renditions.now n r at)) at;
+  each = λ n r at. c.loop-n.invariant.good n r (omega (arith, slice_get_within c.args.renditions.now n r at)) at;
 }

@@ -1,6 +1,6 @@
 use Rattle.std.proofs.Common.{◌≡◌, ℕ, false, arith, refl, sym, ap, subst, ◌∙◌}
-use Rattle.hls_live_laws.specs.Live.{Live, has_ended}
-use Rattle.hls_live_laws.specs.Upkeep.{IsMostSlide, Slides}
+use Rattle.hls_places_laws.specs.Line.Live.{Live, has_ended}
+use Rattle.hls_places_laws.specs.Line.Upkeep.{IsMostSlide, Slides}
 use Rattle.hls_core_laws.specs.Line.{line}
 use Rattle.hls_core.proofs.Upkeeps.{slides-on, uncut-idle, trimmed-by, taken-by}
 use Rattle.hls_core.proofs.upkeep.upkeep.Goals as goal

@@ -1,7 +1,7 @@
 use Rattle.std.proofs.Common.{ℕ, Bool, leb, sym, ap, ◌∙◌}
 use Rattle.std.proofs.lemmas.Bool.{le-leb, lt-leb}
 use Rattle.std.specs.Prelude.{◌||◌}
-use Rattle.hls_live_laws.specs.Steps.{is_enough}
+use Rattle.hls_places_laws.specs.Line.Steps.{is_enough}
 use Rattle.hls_live.proofs.reach.is_enough.Goals as goal
 
 pub returns-then-aim-length_between : goal.returns-then-aim-length_between

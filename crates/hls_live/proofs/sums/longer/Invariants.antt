@@ -1,5 +1,5 @@
 use Rattle.std.proofs.Common.{◌≡◌, ℕ, ◌+◌, ◌<◌, length, get_or}
-use Rattle.hls_live_laws.specs.Lengths.{length_in}
+use Rattle.hls_places_laws.specs.Line.Lengths.{length_in}
 use Rattle.hls_live.proofs.sums.longer.Given as goal
 
 abbrev pub invariant-loop-r : goal.invariant-loop-r

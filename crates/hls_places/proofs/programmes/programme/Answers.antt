@@ -7,8 +7,7 @@ use Rattle.hls_places_laws.specs.declared.programme_fault.ProgrammeFault.{Progra
 use Rattle.hls_places_laws.specs.declared.programme_fault.ProgrammeFault.TheVariants.{Memory}
 use Rattle.hls_places_laws.specs.Firsts.{first_after, first_from}
 use Rattle.hls_places_laws.specs.Programmes.{StopsLate, cut_out, IsProgramme}
-use Rattle.hls_places_laws.proofs.Tables.{start-before_stop}
-use Rattle.hls_places_laws.proofs.Found.{none-by, stops-late, programme-fits, programme-too_long}
+use Rattle.hls_places_laws.proofs.Callers.{start-before_stop, none-by, stops-late, programme-fits, programme-too_long}
 use Rattle.hls_places.proofs.programmes.programme.Goals as goal
 use Rattle.hls_places.proofs.programmes.programme.Goals.{then-finished, else-finished}
 

@@ -1,7 +1,7 @@
 use Rattle.std.proofs.Common.{Result, subst}
 use Rattle.hls_catchup.specs.Replies.{ReplyData}
 use Rattle.hls_catchup.specs.Resources.{FindsPlace}
-use Rattle.hls_jobs.specs.declared.standing.Withheld.{Withheld}
+use Rattle.hls_catchup.specs.declared.jobs.standing.Withheld.{Withheld}
 use Rattle.hls_replies.specs.Contents.{slices_by}
 use Rattle.hls_replies.proofs.resource.place_in.Goals as goal
 

@@ -1,5 +1,5 @@
 use Rattle.std.proofs.Common.{◌≡◌, ◌∙◌, List, ℕ, IfOk, ap, drop, subst, take}
-use Rattle.hls_jobs.specs.Standing.{files_of}
+use Rattle.hls_catchup.specs.Jobs.Standing.{files_of}
 use Rattle.hls_serve_laws.specs.Replies.{Answer}
 use Rattle.hls_replies.specs.Contents.{resource_in}
 use Rattle.hls_replies.proofs.Shown.{job-slice-shown, job-whole-shown, joined-slices}

@@ -2,7 +2,7 @@ use Rattle.std.proofs.Common.{◌≡◌, Some, sym, ap, ◌∙◌}
 use Rattle.std.specs.Option.{option_map}
 use Rattle.hls_m3u8.specs.Playlist.{playlist_of}
 use Rattle.hls_lists_laws.specs.Live.{live_list_of}
-use Rattle.hls_lists_laws.proofs.Texts.{live-lists-have-texts}
+use Rattle.hls_lists_laws.proofs.Callers.{live-lists-have-texts}
 use Rattle.hls_catchup_tests.proofs.tests.live.text_of.Goals as goal
 
 pub write_media-requires : goal.write_media-requires

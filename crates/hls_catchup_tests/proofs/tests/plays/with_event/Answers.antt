@@ -1,4 +1,4 @@
-use Rattle.hls_catchup.proofs.Plays.{run_with_event}
+use Rattle.hls_catchup.proofs.Callers.{run_with_event}
 use Rattle.hls_catchup_tests.proofs.tests.plays.with_event.Goals as goal
 
 pub returns : goal.returns

@@ -1,9 +1,9 @@
 use Rattle.std.proofs.Common.{◌≡◌, true, Some, length, arith, sym, ap, subst, ◌∙◌}
 use Rattle.hls_check_laws.specs.Tables.{spot_in}
 use Rattle.hls_places_laws.specs.declared.place.Place.{Place}
-use Rattle.hls_live_laws.specs.Steps.{is_allowed}
-use Rattle.hls_live_laws.specs.Cuts.{resumed}
-use Rattle.hls_live_laws.specs.Live.{Live}
+use Rattle.hls_places_laws.specs.Line.Steps.{is_allowed}
+use Rattle.hls_places_laws.specs.Line.Cuts.{resumed}
+use Rattle.hls_places_laws.specs.Line.Live.{Live}
 use Rattle.hls_live.proofs.Keeps.{allowed-short, closed-sound, last-few, last-small}
 use Rattle.hls_live.proofs.line.LiveLine.closed.Goals as goal
 

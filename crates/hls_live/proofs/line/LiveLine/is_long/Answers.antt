@@ -1,7 +1,7 @@
 use Rattle.std.proofs.Common.{◌≡◌, ℕ, ◌<◌, ◌≤◌, true, leb, arith, refl, sym, ap, subst}
 use Rattle.std.proofs.lemmas.Bool.{le-leb, lt-leb}
-use Rattle.hls_live_laws.specs.Lengths.{left_in, three_targets, each_below, renditions_of}
-use Rattle.hls_live_laws.specs.Live.{Live}
+use Rattle.hls_places_laws.specs.Line.Lengths.{left_in, three_targets, each_below, renditions_of}
+use Rattle.hls_places_laws.specs.Line.Live.{Live}
 use Rattle.hls_live.proofs.Keeps.{each-more, each-fails}
 use Rattle.hls_live.proofs.line.LiveLine.is_long.Goals as goal
 

@@ -1,5 +1,5 @@
 use Rattle.std.proofs.Common.{◌≡◌, true, leb}
-use Rattle.hls_live_laws.specs.Lengths.{left_in, three_targets, each_below}
+use Rattle.hls_places_laws.specs.Line.Lengths.{left_in, three_targets, each_below}
 use Rattle.hls_live.proofs.line.LiveLine.is_long.Given as goal
 
 abbrev pub invariant-loop-r : goal.invariant-loop-r

@@ -1,7 +1,7 @@
 use Rattle.std.proofs.Common.{ℕ, zero, suc, ◌<◌, length, arith, ap, subst, ◌∙◌}
 use Rattle.std.proofs.lemmas.List.{get_or_default}
-use Rattle.hls_live_laws.specs.Lengths.{left_in, renditions_of}
-use Rattle.hls_live_laws.specs.Live.{Live}
+use Rattle.hls_places_laws.specs.Line.Lengths.{left_in, renditions_of}
+use Rattle.hls_places_laws.specs.Line.Live.{Live}
 use Rattle.hls_live.proofs.Keeps.{left-told, renditions-some}
 use Rattle.hls_live.proofs.line.LiveLine.left.Goals as goal
 

@@ -1,8 +1,8 @@
 use Rattle.std.proofs.Common.{◌≡◌, ◌<◌, true, Some, length, sym, subst}
 use Rattle.hls_places_laws.specs.declared.place.Place.{Place}
-use Rattle.hls_live_laws.specs.Steps.{is_allowed}
-use Rattle.hls_live_laws.specs.Lengths.{renditions_of}
-use Rattle.hls_live_laws.specs.Live.{Live}
+use Rattle.hls_places_laws.specs.Line.Steps.{is_allowed}
+use Rattle.hls_places_laws.specs.Line.Lengths.{renditions_of}
+use Rattle.hls_places_laws.specs.Line.Live.{Live}
 use Rattle.hls_live.proofs.Keeps.{opened-sound}
 use Rattle.hls_live.proofs.line.LiveLine.open_again.Goals as goal
 

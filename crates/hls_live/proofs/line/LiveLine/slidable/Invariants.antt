@@ -1,5 +1,5 @@
 use Rattle.std.proofs.Common.{ℕ, ◌+◌, ◌-◌, ◌<◌, ◌≤◌, length}
-use Rattle.hls_live_laws.specs.Upkeep.{LineLeaves}
+use Rattle.hls_places_laws.specs.Line.Upkeep.{LineLeaves}
 use Rattle.hls_live.proofs.line.LiveLine.slidable.Given as goal
 
 abbrev pub invariant-loop-high : goal.invariant-loop-high

@@ -1,7 +1,7 @@
 use Rattle.std.proofs.Common.{◌≡◌, IfOk, true, false, not, None, Some, sym, ap, subst, ◌∙◌}
 use Rattle.std.specs.Prelude.{◌&&◌}
-use Rattle.hls_live_laws.specs.Steps.{is_past, is_allowed}
-use Rattle.hls_live_laws.specs.Live.{Live}
+use Rattle.hls_places_laws.specs.Line.Steps.{is_past, is_allowed}
+use Rattle.hls_places_laws.specs.Line.Live.{Live}
 use Rattle.hls_live.specs.Tries.{told_once, with_told}
 use Rattle.hls_live.proofs.Moves.{moved-first, moved-unbested, moved-near, moved-twice}
 use Rattle.hls_live.proofs.line.LiveLine.told.Goals as goal

@@ -1,10 +1,10 @@
 use Rattle.std.proofs.Common.{◌≡◌, IfOk, None, Some, length, sym, ap, subst, ◌∙◌}
 use Rattle.hls_places_laws.specs.declared.place.Place.{Place}
-use Rattle.hls_live_laws.specs.declared.opening.Opening.{Opening}
-use Rattle.hls_live_laws.specs.Told.{told_with}
-use Rattle.hls_live_laws.specs.Lengths.{renditions_of}
-use Rattle.hls_live_laws.specs.Live.{Live}
-use Rattle.hls_live_laws.proofs.Tests.{past-count}
+use Rattle.hls_places_laws.specs.declared.line.opening.Opening.{Opening}
+use Rattle.hls_places_laws.specs.Line.Told.{told_with}
+use Rattle.hls_places_laws.specs.Line.Lengths.{renditions_of}
+use Rattle.hls_places_laws.specs.Line.Live.{Live}
+use Rattle.hls_places_laws.proofs.Callers.{past-count}
 use Rattle.hls_live.specs.declared.reach.Reach.TheVariants.{Skipped, TooFar, Further, Enough}
 use Rattle.hls_live.specs.Reaches.{reach_of}
 use Rattle.hls_live.specs.Tries.{with_told}

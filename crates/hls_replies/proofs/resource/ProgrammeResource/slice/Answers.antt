@@ -1,6 +1,6 @@
 use Rattle.std.proofs.Common.{◌≡◌, ◌<◌, ◌^◌, [], get_or, length, Result, subst}
 use Rattle.hls_catchup.specs.Replies.{ReplyData}
-use Rattle.hls_jobs.specs.declared.standing.Withheld.{Withheld}
+use Rattle.hls_catchup.specs.declared.jobs.standing.Withheld.{Withheld}
 use Rattle.hls_replies.specs.Contents.{slices_by}
 use Rattle.hls_replies.proofs.resource.ProgrammeResource.slice.Goals as goal
 

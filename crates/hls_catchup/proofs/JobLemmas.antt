@@ -1,0 +1,6 @@
+-- Lemmas on jobs.
+pub mod ByIds
+pub mod Valid
+pub mod Calls
+pub mod Keeps
+pub mod Lists

@@ -1,0 +1,48 @@
+-- What is known of an answer that came from a table under a lock: it is that of some table, in which each finished job is right.
+use Rattle.std.specs.Prelude.{◌≡◌, ℕ, length, Option, Result, ⊤}
+use Rattle.std.specs.Global.{Global}
+use Rattle.std.specs.declared.sync.Arc.{Arc}
+use Rattle.hls_core_laws.specs.State.{State}
+use Rattle.hls_catchup.specs.declared.request.Request.{Request}
+use Rattle.hls_catchup.specs.declared.jobs.fault.JobFault.{JobFault}
+use Rattle.hls_catchup.specs.declared.jobs.job.Job.{Job}
+use Rattle.hls_catchup.specs.declared.jobs.work.Work.{Work}
+use Rattle.hls_catchup.specs.Jobs.Finishes.{FinishedData}
+use Rattle.hls_catchup.specs.Jobs.Tables.{TableData, IsTable}
+use Rattle.hls_catchup.specs.Jobs.Changes.{Adds, Takes, Finishes, Gets, Removes}
+
+-- some table was met, and another left, as the call on a lent table says
+pub record HasAdded (snapshot : Arc State Global) (request : Request) (result : Result ℕ JobFault) : Type 0 where
+  pub met : TableData
+  pub left : TableData
+  pub valid : IsTable met
+  pub adds : Adds met snapshot request result left
+
+pub record HasRemoved (id : ℕ) {A : Type 0} (result : Result A JobFault) : Type 0 where
+  pub met : TableData
+  pub left : TableData
+  pub valid : IsTable met
+  pub removes : Removes met id result left
+
+pub record HasTaken (work : Option Work) : Type 0 where
+  pub met : TableData
+  pub left : TableData
+  pub valid : IsTable met
+  pub takes : Takes met work left
+
+pub record HasFinished (f : FinishedData) (result : Result ⊤ JobFault) : Type 0 where
+  pub met : TableData
+  pub left : TableData
+  pub valid : IsTable met
+  pub finishes : Finishes met f result left
+
+-- some table was met, and told this; what it told of an answer is right
+pub record HasGot (id : ℕ) (result : Result Job JobFault) : Type 0 where
+  pub met : TableData
+  pub valid : IsTable met
+  pub gets : Gets met id result
+
+pub record HasCounted (count : ℕ) : Type 0 where
+  pub met : TableData
+  pub valid : IsTable met
+  pub counts : count ≡ length met.rows

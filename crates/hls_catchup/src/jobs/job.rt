@@ -1,0 +1,16 @@
+//! How far a job is, as it is told to whom asks.
+
+use crate::jobs::answered::Answered;
+
+/// How far a job is.
+#[derive(Drop)]
+pub enum Job {
+    /// Nobody has begun it.
+    Waiting,
+    /// It is worked on.
+    Running,
+    /// It has an answer, shared with the table.
+    Finished(Answered),
+    /// Memory ran out while it was worked on.
+    Failed,
+}

@@ -1,0 +1,140 @@
+//! The job table under a lock, and a bell for those who wait for work.
+
+ghost use Rattle.std.specs.Prelude.{IfOk, IfSome};
+ghost use Rattle.hls_catchup.specs.Jobs.Changes.{told};
+ghost use Rattle.hls_catchup.specs.Jobs.Phases.{IsRightJob};
+ghost use Rattle.hls_catchup.specs.Jobs.Shared.{HasAdded, HasCounted, HasFinished, HasGot, HasRemoved, HasTaken};
+
+use crate::jobs::fault::{JobFault, Refused};
+use crate::jobs::finished::Finished;
+use crate::jobs::job::Job;
+use crate::jobs::row::Row;
+use crate::jobs::table::JobTable;
+use crate::jobs::work::Work;
+use crate::request::Request;
+use hls_core::snapshot::Snapshot;
+use std::alloc::{AllocError, Global};
+use std::sync::{Arc, Condvar, Mutex, Wait};
+
+/// What lies under the lock.
+#[derive(Drop)]
+struct Desk {
+    table: JobTable,
+    closed: bool,
+}
+
+/// A job table that threads share. Each call takes the lock for as long as it works on the table: nothing is planned, written
+/// or let go of under it.
+#[derive(Drop)]
+pub struct Jobs {
+    desk: Mutex<Desk>,
+    bell: Condvar,
+}
+
+impl Jobs {
+    /// A table of no job. Want of memory is the only fault.
+    pub fn new(alloc: Global) -> Result<Jobs, AllocError> {
+        let table = JobTable::new(alloc)?;
+        Ok(Jobs {
+            desk: Mutex::new(Desk {
+                table,
+                closed: false,
+            }),
+            bell: Condvar::new(),
+        })
+    }
+
+    /// Adds a job, and wakes a loop that waits for work. `TableFull` is the only fault; a snapshot that found no room is let go
+    /// of outside the lock. May wait.
+    pub fn add<R: Wait>(
+        &self,
+        rt: &R,
+        snapshot: Arc<Snapshot>,
+        request: Request,
+    ) -> Result<u64, JobFault>
+        ensures { HasAdded snapshot request result }
+    {
+        let added = self.take_in(rt, snapshot, request);
+        self.bell.notify_one();
+        match added {
+            Ok(id) => Ok(id),
+            Err(refused) => Err(refused.fault),
+        }
+    }
+
+    fn take_in<R: Wait>(
+        &self,
+        rt: &R,
+        snapshot: Arc<Snapshot>,
+        request: Request,
+    ) -> Result<u64, Refused<Arc<Snapshot>>>
+        ensures { HasAdded snapshot request (told result) }
+    {
+        self.desk.lock(rt).table.take_in(snapshot, request)
+    }
+
+    /// How far a job is; an answer is shared out of the lock, not copied. May wait.
+    pub fn get<R: Wait>(&self, rt: &R, id: u64) -> Result<Job, JobFault>
+        ensures gets { HasGot id result }
+        ensures right { IfOk result IsRightJob }
+    {
+        self.desk.lock(rt).table.get(id)
+    }
+
+    /// Takes a job away. What it held is let go of outside the lock. May wait.
+    pub fn remove<R: Wait>(&self, rt: &R, id: u64) -> Result<(), JobFault>
+        ensures { HasRemoved id result }
+    {
+        match self.take_out(rt, id) {
+            Ok(_) => Ok(()),
+            Err(fault) => Err(fault),
+        }
+    }
+
+    fn take_out<R: Wait>(&self, rt: &R, id: u64) -> Result<Row, JobFault>
+        ensures { HasRemoved id result }
+    {
+        self.desk.lock(rt).table.take_out(id)
+    }
+
+    /// How many jobs there are, in any phase. May wait.
+    pub fn len<R: Wait>(&self, rt: &R) -> usize
+        ensures { HasCounted result }
+    {
+        self.desk.lock(rt).table.len()
+    }
+
+    /// Ends each loop that finds no waiting job, and wakes those that wait for one. May wait.
+    pub fn close<R: Wait>(&self, rt: &R) {
+        self.desk.lock(rt).closed = true;
+        self.bell.notify_all();
+    }
+
+    /// The next job, once there is one; none where there is none and the table was closed. May wait.
+    pub(crate) fn wait_work<R: Wait>(&self, rt: &R) -> Option<Work>
+        ensures { HasTaken result }
+    {
+        self.bell
+            .wait_while(rt, self.desk.lock(rt), |desk| {
+                !desk.closed && !desk.table.has_work()
+            })
+            .table
+            .take_work()
+    }
+
+    /// Ends a job. The result of one that was removed meanwhile is let go of outside the lock. May wait.
+    pub(crate) fn finish<R: Wait>(&self, rt: &R, finished: Finished) -> Result<(), JobFault>
+        ensures { HasFinished finished result }
+    {
+        match self.end(rt, finished) {
+            Ok(()) => Ok(()),
+            Err(refused) => Err(refused.fault),
+        }
+    }
+
+    fn end<R: Wait>(&self, rt: &R, finished: Finished) -> Result<(), Refused<Finished>>
+        ensures { HasFinished finished (told result) }
+    {
+        self.desk.lock(rt).table.end(finished)
+    }
+}

@@ -1,5 +1,0 @@
-mod ByIds
-mod Valid
-mod Calls
-mod Keeps
-mod Lists
