@@ -1,6 +1,6 @@
 -- The live line along the log: it slides, it goes on as places come, and a trim leaves it; no more segments were removed than
 -- were closed.
-use Rattle.std.proofs.Common.{◌≡◌, ℕ, ◌+◌, ◌*◌, ◌≤◌, true, false, List, [], ◌∷◌, ◌++◌, length, map, Some, Ok, Err, arith, refl, ap, subst, ◌∙◌, length-append, length-drop}
+use Rattle.std.proofs.Common.{◌≡◌, ℕ, ◌+◌, ◌*◌, ◌≤◌, true, false, List, ◌++◌, length, map, Some, Ok, Err, arith, refl, ap, ◌∙◌, length-append, length-drop}
 use Rattle.std.specs.Prelude.{slice_get, slice_set, nat_lt, ◌==◌, ◌||◌, if◌then◌else◌}
 use Rattle.std.proofs.lemmas.Bool.{ltb-false, or_parts}
 use Rattle.std.proofs.lemmas.List.{map-set}
@@ -17,7 +17,7 @@ use Rattle.hls_core_laws.specs.declared.event.Event.{Event}
 use Rattle.hls_core_laws.specs.declared.event.Event.TheVariants.{Begin, Accept, Finish, Slide, Trim}
 use Rattle.hls_core_laws.specs.Config.{ConfigData}
 use Rattle.hls_core_laws.specs.Channel.{Channel, Lane, no_lane, lane, with_floor, after, channel_from}
-use Rattle.hls_core_laws.specs.State.{State, channel}
+use Rattle.hls_core_laws.specs.State.{State, Held, channel}
 use Rattle.hls_core_laws.specs.IsState.{IsState}
 use Rattle.hls_core_laws.specs.Places.{facts_of, is_finished, tolerance_of, sources_from, sources, places}
 use Rattle.hls_core_laws.specs.Line.{aim_of, line}
@@ -73,8 +73,12 @@ within_first : (config : ConfigData) → IsWithin (first_state config)
 unfolding IsWithin closed_of channel_from
 within_first config = omega arith
 
+within_same : (s : State) (bytes : List Held) → IsWithin (record { config = s.config; log = s.log; bytes = bytes }) → IsWithin s
+unfolding IsWithin closed_of
+within_same s bytes within = within
+
 within_state : (s : State) → IsState s → IsWithin s
-within_state = every_state IsWithin within_first within_advanced
+within_state = every_state IsWithin within_same within_first within_advanced
 
 -- of a state's live line no more segments are removed than were closed
 pub removed_within : (s : State) → IsState s → (channel s).removed ≤ length (line_of (aim_of s.config) (places s)).segments

@@ -15,7 +15,7 @@ use Rattle.hls_core_laws.specs.declared.event.Event.{Event}
 use Rattle.hls_core_laws.specs.declared.event.Event.TheVariants.{Begin, Accept, Finish, Slide, Trim}
 use Rattle.hls_core_laws.specs.Config.{ConfigData}
 use Rattle.hls_core_laws.specs.Channel.{Channel, channel_from}
-use Rattle.hls_core_laws.specs.State.{State, channel}
+use Rattle.hls_core_laws.specs.State.{State, Held, channel}
 use Rattle.hls_core_laws.specs.IsState.{IsState}
 use Rattle.hls_core_laws.specs.Follows.{Follows}
 use Rattle.hls_core_laws.specs.Places.{sources, places}
@@ -150,6 +150,9 @@ stays-first : (config : ConfigData) → StaysLong (first_state config)
 unfolding channel_from
 stays-first config some goes_on = absurd (omega (arith, some))
 
+stays-same : (s : State) (bytes : List Held) → StaysLong (record { config = s.config; log = s.log; bytes = bytes }) → StaysLong s
+stays-same s bytes stays = stays
+
 -- so of every state
 pub stays-long : (s : State) → IsState s → StaysLong s
-stays-long = every_state StaysLong stays-first stays-new
+stays-long = every_state StaysLong stays-same stays-first stays-new
