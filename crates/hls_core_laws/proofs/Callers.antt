@@ -1,6 +1,7 @@
 -- The lemmas that other crates cite, passed on from one place. Declares nothing.
 pub use Rattle.hls_core_laws.proofs.Lists.{at_beside, at_drop, at_map, at_or, at_read, at_set, at_some, each_set, length_set, mapped_at, set_same, take_at}
-pub use Rattle.hls_core_laws.proofs.Additions.{LegalFrom, MayAdd}
+unfoldable pub use Rattle.hls_core_laws.proofs.Additions.{LegalFrom}
+pub use Rattle.hls_core_laws.proofs.Additions.{MayAdd}
 pub use Rattle.hls_core_laws.proofs.Logs.{channel_from-snoc, lane_after}
 pub use Rattle.hls_core_laws.proofs.Follows.{continues_of, follows_of, lane_grown, rest_channel, state_of}
 pub use Rattle.hls_core_laws.proofs.Causes.{Finishes, finishes, slides}

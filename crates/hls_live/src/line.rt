@@ -18,8 +18,7 @@ ghost use Rattle.hls_check_laws.specs.Steps.{cost_limit};
 use crate::reach::{Reach, is_at_gap, is_too_far, reached};
 use crate::sums::{Sums, longer};
 use hls_blocks::Shared;
-use hls_places_laws::{Aim, LineFault, Opening, Segment};
-use hls_places_laws::Place;
+use hls_places_laws::{Aim, LineFault, Opening, Place, Segment};
 use std::alloc::{AllocError, Global};
 use std::marker::Model;
 

@@ -5,8 +5,7 @@ ghost use Rattle.hls_places_laws.specs.Line.Steps.{is_past, is_allowed, is_enoug
 ghost use Rattle.hls_live.specs.Reaches.{reach_of};
 
 use hls_check_laws::pair_allowed;
-use hls_places_laws::Aim;
-use hls_places_laws::Place;
+use hls_places_laws::{Aim, Place};
 
 #[derive(Clone, Copy, Debug, PartialEq, Eq)]
 pub enum Reach {

@@ -3,8 +3,8 @@
 use crate::told::Told;
 use hls_fakes::Page;
 use hls_http::{
-    Input, ReplyEnd, Session, SessionEnd, Source, head_bytes, refusal_body, reply_output, write_head,
-    write_reply,
+    Input, ReplyEnd, Session, SessionEnd, Source, head_bytes, refusal_body, reply_output,
+    write_head, write_reply,
 };
 use hls_http_laws::reply::{Extra, Kind, ReplyHead, Status, no_memory_head_text};
 use hls_io::Counted;

@@ -8,8 +8,8 @@ use hls_feed::StreamFault;
 use hls_http_laws::fault::HttpFault;
 use hls_http_laws::range::Asked;
 use hls_replies::{
-    Answer, fault_answer, finish_answer, list_answer, master_answer, media_answer,
-    method_answer, output_of, read_query, refused_answer, status_answer, taken_answer,
+    Answer, fault_answer, finish_answer, list_answer, master_answer, media_answer, method_answer,
+    output_of, read_query, refused_answer, status_answer, taken_answer,
 };
 use hls_sample_channels::{opened, with_units};
 use hls_serve_laws::ingest::Counts;
