@@ -1,5 +1,5 @@
 -- Steps of a body in what is held, and in what follows.
-use Rattle.std.proofs.Common.{◌≡◌, ◌∙◌, ℕ, zero, suc, ◌+◌, ◌≤◌, ◌<◌, List, [], ◌∷◌, ◌++◌, ◌⊎◌, inl, inr, Option, Some, length, take, drop, refl, sym, ap, subst, arith, append_assoc, append-nil, length-append, length-take}
+use Rattle.std.proofs.Common.{◌≡◌, ◌∙◌, ℕ, zero, suc, ◌+◌, ◌≤◌, ◌<◌, List, [], ◌∷◌, ◌++◌, ◌⊎◌, inl, inr, Option, Some, length, take, drop, refl, sym, ap, subst, arith, append-nil, length-append, length-take}
 use Rattle.std.specs.Io.KnownBytes.{prepend_known}
 use Rattle.std.proofs.lemmas.List.{length-map}
 use Rattle.httparse.specs.declared.spans.HeaderSpan.{HeaderSpan}
@@ -11,10 +11,11 @@ use Rattle.std.specs.List.{flat_map}
 use Rattle.hls_http_laws.specs.declared.body.Body.{Body}
 use Rattle.hls_http_laws.specs.declared.body.Body.TheVariants.{Length, Size, Data, Trailers}
 use Rattle.hls_http_laws.specs.Bodies.{after_line, TakesData, EndsData, Steps, RunsIn, Runs, HasNoStep, Goes}
+use Rattle.hls_http_laws.specs.Stays.{RunsStay, RunsJoin}
+use Rattle.hls_http.specs.declared.input.Filled.{Filled}
 use Rattle.hls_http.specs.Bodies.{IsLastAlone}
-use Rattle.hls_http_laws.proofs.Lists.{cut}
-use Rattle.hls_http_laws.proofs.BodyLaws.{runs_none, runs_step}
-use Rattle.hls_http.proofs.HeadLaws.{known_left}
+use Rattle.hls_http.specs.Source.{Fills}
+use Rattle.hls_http.proofs.HeadLaws.{filled_there, front, known_left}
 
 pub long_line : (held : List ℕ) (len size : ℕ) (l : ChunkLine) → IsChunkLineAt held len size l → 16384 < len → HasNoStep Size held
 long_line held len size l at past = λ more piece next rest s.
@@ -35,8 +36,7 @@ line_frame held len size l next at small is = (
 
 pub no_line : (held : List ℕ) → HasNoChunkLine held → 16384 ≤ length held → HasNoStep Size held
 no_line held never past = λ more piece next rest s.
-    let w = cut (print_chunk_line s.1.line) rest held more (sym s.1.reads.1) (omega (arith, s.1.small)) in
-    never s.1.line w.0 (s.1.reads.0, w.1)
+    never s.1.line _ (s.1.reads.0, front (print_chunk_line s.1.line) rest held more s.1.reads.1 (omega (arith, s.1.small)))
 
 pub long_trailers : (held : List ℕ) (headers : List HeaderSpan) (len count : ℕ) (fields : List Field) (last : LineEnd) → IsSectionAt held 0 headers len count fields last → 16384 < len → HasNoStep Trailers held
 long_trailers held headers len count fields last at past = λ more piece next rest s.
@@ -70,62 +70,32 @@ trailers_frame held headers len count fields last at room small within = (
 
 pub no_trailers : (held : List ℕ) → HasNoSection held → 16384 ≤ length held → HasNoStep Trailers held
 no_trailers held never past = λ more piece next rest s.
-    let w = cut (print_section s.0.fields s.0.last) rest held more (sym s.0.reads.1) (omega (arith, s.0.small)) in
-    never s.0.fields s.0.last w.0 (s.0.reads.0, w.1)
+    never s.0.fields s.0.last _ (s.0.reads.0, front (print_section s.0.fields s.0.last) rest held more s.0.reads.1 (omega (arith, s.0.small)))
 
--- ---- a step of what is held is a step of the input
-
-data_more : (n : ℕ) (held piece rest more : List ℕ) (next : Body) → TakesData n held piece next rest ⊎ EndsData n held piece next rest → TakesData n (held ++ more) piece next (rest ++ more) ⊎ EndsData n (held ++ more) piece next (rest ++ more)
-data_more n held piece rest more next (inl s) =
-    inl (s.0, record { whole = ap (λ xs. xs ++ more) s.1.whole ∙ append_assoc piece rest more; some = s.1.some; count = s.1.count }, s.2)
-data_more n held piece rest more next (inr s) = inr (s.0, ap (λ xs. xs ++ more) s.1, s.2, s.3)
-
-pub steps_more : (b next : Body) (held piece rest more : List ℕ) → Steps b held piece next rest → Steps b (held ++ more) piece next (rest ++ more)
-steps_more (Length n) next held piece rest more s =
-    (s.0, record { whole = ap (λ xs. xs ++ more) s.1.whole ∙ append_assoc piece rest more; some = s.1.some; count = s.1.count }, s.2)
-steps_more Size next held piece rest more s =
-    (s.0, record { line = s.1.line; reads = ReadsChunkLine-append held s.1.line rest more s.1.reads; small = s.1.small; size_is = s.1.size_is }, s.2, s.3)
-steps_more (Data n) next held piece rest more s = data_more n held piece rest more next s
-steps_more Trailers next held piece rest more s =
-    (record { fields = s.0.fields; last = s.0.last; reads = ReadsSection-append held s.0.fields s.0.last rest more s.0.reads; small = s.0.small; few = s.0.few }, s.1, s.2)
-
--- a step more at the end of a run
-run_then : (k : ℕ) (b middle last : Body) (input got later piece rest : List ℕ) → RunsIn k b input got middle later → Steps middle later piece last rest → Runs b input (got ++ piece) last rest
-run_then zero b middle last input got later piece rest r s =
-    let first = subst (λ (x : Body). Steps x later piece last rest) r.0 s in
-    let here = subst (λ (xs : List ℕ). Steps b xs piece last rest) r.1 first in
-    subst (λ (c : List ℕ). Runs b input c last rest) (append-nil piece ∙ ap (λ xs. xs ++ piece) (sym r.2)) (runs_step b last last input piece rest [] rest here (runs_none last rest))
-run_then (suc k) b middle last input got later piece rest r s =
-    let more = run_then k r.1 middle last r.2 r.3 later piece rest r.5 s in
-    subst (λ (c : List ℕ). Runs b input c last rest) (sym (append_assoc r.0 r.3 piece) ∙ ap (λ xs. xs ++ piece) (sym r.6)) (runs_step b r.1 last input r.0 r.2 (r.3 ++ piece) rest r.4 more)
-
-pub runs_then : (b middle last : Body) (input got later piece rest : List ℕ) → Runs b input got middle later → Steps middle later piece last rest → Runs b input (got ++ piece) last rest
-runs_then b middle last input got later piece rest r s = run_then r.steps b middle last input got later piece rest r.run s
+-- ---- steps of what is held, in the input
 
 pub goes_none : (b : Body) (held rest : List ℕ) (left : Option (List ℕ)) → left ≡ Some rest → Goes b (held ++ rest) [] b held left
-goes_none b held rest left is = record { later = held ++ rest; runs = runs_none b (held ++ rest); known = ap (λ o. prepend_known held o) is }
+goes_none b held rest left is =
+    record { later = held ++ rest; runs = record { steps = 0; run = (refl, refl, refl) }; known = ap (λ o. prepend_known held o) is }
 
-pub goes_then : (b middle last : Body) (input got held now piece rest : List ℕ) (old left : Option (List ℕ)) → Goes b input got middle held old → Steps middle held piece last rest
+pub goes_then : RunsStay → RunsJoin → (b middle last : Body) (input got held now piece rest : List ℕ) (old left : Option (List ℕ)) → Goes b input got middle held old → Steps middle held piece last rest
     → now ≡ rest → left ≡ old → Goes b input (got ++ piece) last now left
-goes_then b middle last input got held now piece rest old left g s now_is left_is =
+goes_then stays joins b middle last input got held now piece rest old left g s now_is left_is =
     let w = known_left held old g.later g.known in
-    let step = subst (λ (xs : List ℕ). Steps middle xs piece last (rest ++ w.rest)) (sym w.input_is) (steps_more middle last held piece rest w.rest s) in
+    let step : Runs middle held piece last rest = record { steps = 1; run = (piece, last, rest, [], s, (refl, refl, refl), sym (append-nil piece)) } in
+    let here = subst (λ (xs : List ℕ). Runs middle xs piece last (rest ++ w.rest)) (sym w.input_is) (stays middle held piece last rest w.rest step) in
     record {
       later = rest ++ w.rest;
-      runs = runs_then b middle last input got g.later piece (rest ++ w.rest) g.runs step;
+      runs = joins b middle last input got g.later piece (rest ++ w.rest) g.runs here;
       known = ap (λ o. prepend_known now o) (left_is ∙ w.left_is) ∙ ap (λ xs. Some (xs ++ w.rest)) now_is;
     }
 
-pub goes_same : (b last : Body) (input got held now : List ℕ) (old left : Option (List ℕ)) (g : Goes b input got last held old) → prepend_known now left ≡ Some g.later → Goes b input got last now left
-goes_same b last input got held now old left g known = record { later = g.later; runs = g.runs; known = known }
-
--- what more was read changes nothing of what is to come
-pub goes_waited : {X : Type 0} (b middle : Body) (input got held now : List ℕ) (old left : Option (List ℕ)) → Goes b input got middle held old
-    → ((rest : List ℕ) → old ≡ Some rest → (prepend_known now left ≡ Some (held ++ rest)) × X) → Goes b input got middle now left × X
-goes_waited b middle input got held now old left g waits =
-    let w = known_left held old g.later g.known in
-    let e = waits w.rest w.left_is in
-    (record { later = g.later; runs = g.runs; known = e.0 ∙ ap Some (sym w.input_is) }, e.1)
+-- what was read behind what was held changes nothing of what is to come
+pub goes_filled : (b middle : Body) (input got held now : List ℕ) (old left : Option (List ℕ)) (filled : Filled) → Goes b input got middle held old
+    → ((rest : List ℕ) → old ≡ Some rest → Fills held rest now left filled) → Goes b input got middle now left × (rest : List ℕ) × Fills held rest now left filled
+goes_filled b middle input got held now old left filled g fills =
+    let w = filled_there g.later held now old left filled g.known fills in
+    (record { later = g.later; runs = g.runs; known = w.0 }, w.1, w.2)
 
 -- ---- what a run leaves of a body
 

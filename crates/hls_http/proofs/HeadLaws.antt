@@ -1,16 +1,25 @@
 -- Heads within the limits, in what is held and in the input.
-use Rattle.std.proofs.Common.{◌≡◌, ◌∙◌, ℕ, ◌≤◌, ◌<◌, List, [], ◌++◌, inl, Option, Some, None, length, take, drop, refl, sym, ap, subst, arith, append-nil, length-take}
+use Rattle.std.proofs.Common.{◌≡◌, ◌∙◌, ℕ, ◌≤◌, ◌<◌, List, [], ◌++◌, inl, Option, Some, None, length, take, drop, refl, sym, ap, subst, arith, append_assoc, append-nil, length-take}
+use Rattle.std.proofs.Math.Seq.{take-append_seam}
 use Rattle.std.specs.Io.KnownBytes.{prepend_known}
-use Rattle.std.proofs.lemmas.List.{length-map}
+use Rattle.std.proofs.lemmas.List.{length-map, take-append-drop, take-append-le}
 use Rattle.httparse.specs.declared.spans.HeaderSpan.{HeaderSpan}
 use Rattle.httparse.specs.declared.spans.RequestSpans.{RequestSpans}
 use Rattle.httparse.specs.Grammar.{RequestHead, print_request, ReadsRequest, HasNoRequest}
 use Rattle.httparse.specs.Spans.{IsRequestAt, IsRequestWithin, header_bytes, name_and_value}
 use Rattle.httparse.proofs.GrammarLemmas.{ReadsRequest-append, request_prefix_free}
 use Rattle.hls_http_laws.specs.Heads.{IsTooLarge}
-use Rattle.hls_http_laws.proofs.Lists.{cut}
 use Rattle.hls_http.specs.declared.head.Head.{Head}
+use Rattle.hls_http.specs.declared.input.Filled.{Filled}
+use Rattle.hls_http.specs.declared.input.Filled.TheVariants.{More, AtEnd, Failed}
 use Rattle.hls_http.specs.Heads.{IsHead, FoundHead, Heard}
+use Rattle.hls_http.specs.Source.{Fills}
+
+-- of two ways to cut a text, the shorter front begins the longer
+pub front : (a b c d : List ℕ) → c ++ d ≡ a ++ b → length a ≤ length c → c ≡ a ++ drop (length a) c
+front a b c d same few =
+    sym (take-append-drop (length a) c) ∙ ap (λ xs. xs ++ drop (length a) c)
+    (sym (take-append-le (length a) c d few) ∙ ap (λ xs. take (length a) xs) same ∙ take-append_seam a b)
 
 pub head_past : (text : List ℕ) (headers : List HeaderSpan) (spans : RequestSpans) (h : RequestHead) → IsRequestWithin text headers spans → IsRequestAt text headers spans h → 16384 < spans.len → IsTooLarge text
 head_past text headers spans h within at past = record {
@@ -35,8 +44,7 @@ found_head text headers spans h head at is few small = record {
 pub partial_past : (text : List ℕ) → HasNoRequest text → 16384 ≤ length text → IsTooLarge text
 partial_past text never past = record {
   none = λ more h rest r.
-      let w = cut (print_request h) rest text more (sym r.reads.1) (omega (arith, r.small.bytes)) in
-      never h w.0 (r.reads.0, w.1);
+      never h _ (r.reads.0, front (print_request h) rest text more r.reads.1 (omega (arith, r.small.bytes)));
   past = inl past;
 }
 
@@ -66,17 +74,26 @@ heard_ok input held now taken old left head len known found now_is taken_is left
       known = ap (λ o. prepend_known now o) (left_is ∙ w.left_is) ∙ ap (λ xs. Some (xs ++ w.rest)) now_is;
     }
 
-pub at_end : (input held now : List ℕ) (old left : Option (List ℕ)) → prepend_known held old ≡ Some input → ((rest : List ℕ) → old ≡ Some rest → (now ≡ held) × (rest ≡ []) × (left ≡ Some []))
+-- .. when more of it was read
+pub filled_known : (held rest now : List ℕ) (left : Option (List ℕ)) (filled : Filled) → Fills held rest now left filled → prepend_known now left ≡ Some (held ++ rest)
+filled_known held rest now left More f =
+    ap (λ o. prepend_known now o) f.left_is
+    ∙ ap Some (ap (λ xs. xs ++ f.later) f.now_is ∙ append_assoc held f.bytes f.later ∙ ap (λ xs. held ++ xs) (sym f.split))
+filled_known held rest now left AtEnd f = ap (λ o. prepend_known now o) f.2 ∙ ap Some (ap (λ xs. xs ++ []) f.0 ∙ ap (λ xs. held ++ xs) (sym f.1))
+filled_known held rest now left Failed f = ap (λ o. prepend_known now o) f.1 ∙ ap (λ xs. Some (xs ++ rest)) f.0
+
+-- .. what one read brought, where something of it was known
+pub filled_there : (input held now : List ℕ) (old left : Option (List ℕ)) (filled : Filled) → prepend_known held old ≡ Some input
+    → ((rest : List ℕ) → old ≡ Some rest → Fills held rest now left filled) → (prepend_known now left ≡ Some input) × (rest : List ℕ) × Fills held rest now left filled
+filled_there input held now old left filled known fills =
+    let w = known_left held old input known in
+    let f = fills w.rest w.left_is in
+    (filled_known held w.rest now left filled f ∙ ap Some (sym w.input_is), w.rest, f)
+
+-- .. all of it, at the input's end
+pub at_end : (input held now : List ℕ) (old left : Option (List ℕ)) → prepend_known held old ≡ Some input → ((rest : List ℕ) → old ≡ Some rest → Fills held rest now left AtEnd)
     → (held ≡ input) × (now ≡ input) × (prepend_known now left ≡ Some input) × (left ≡ Some [])
 at_end input held now old left known ends =
-    let w = known_left held old input known in
-    let e = ends w.rest w.left_is in
-    let all : input ≡ held = w.input_is ∙ ap (λ xs. held ++ xs) e.1 ∙ append-nil held in
-    let same : now ≡ input = e.0 ∙ sym all in
-    (sym all, same, ap (λ o. prepend_known now o) e.2 ∙ ap Some (append-nil now ∙ same), e.2)
-
-pub still_known : (input held now : List ℕ) (old left : Option (List ℕ)) → prepend_known held old ≡ Some input → ((rest : List ℕ) → old ≡ Some rest → (now ≡ held) × (left ≡ Some rest)) → (now ≡ held) × (prepend_known now left ≡ Some input)
-still_known input held now old left known keeps =
-    let w = known_left held old input known in
-    let e = keeps w.rest w.left_is in
-    (e.0, ap (λ o. prepend_known now o) e.1 ∙ ap (λ xs. Some (xs ++ w.rest)) e.0 ∙ ap Some (sym w.input_is))
+    let e = filled_there input held now old left AtEnd known ends in
+    let all : now ≡ input = sym (append-nil now) ∙ cc (ap (λ o. prepend_known now o) (sym e.2.2) ∙ e.0) in
+    (sym e.2.0 ∙ all, all, e.0, e.2.2)

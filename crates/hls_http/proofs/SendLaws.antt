@@ -2,10 +2,9 @@
 use Rattle.std.proofs.Common.{◌≡◌, ◌∙◌, ℕ, List, [], ◌++◌, Option, Some, Bool, true, false, length, drop, refl, sym, ap, subst, append_assoc, append-nil}
 use Rattle.std.specs.Prelude.{◌==◌}
 use Rattle.std.proofs.lemmas.Bool.{eqb-true}
-use Rattle.std.proofs.lemmas.List.{take-append-drop}
+use Rattle.std.proofs.lemmas.List.{nil_from_length, take-append-drop}
 use Rattle.bytes.specs.Unread.{IsChunkOf}
 use Rattle.hls_io.specs.Writing.{Writes}
-use Rattle.hls_http_laws.proofs.Lists.{none_of_length}
 use Rattle.hls_http.proofs.ReplyLaws.{writes_whole}
 
 -- of the text the front was written behind what was held, and the rest waits
@@ -46,7 +45,7 @@ all_sent held text waiting contents none s = record {
   left = waiting;
   split = s.split;
   contents_are = s.contents_are;
-  whole = λ done. none_of_length waiting (eqb-true (length waiting) 0 (sym none));
+  whole = λ done. nil_from_length waiting (eqb-true (length waiting) 0 (sym none));
 }
 
 pub writes_same : (held text other : List ℕ) (contents : Option (List ℕ)) (done : Bool) → text ≡ other → Writes held text contents done → Writes held other contents done

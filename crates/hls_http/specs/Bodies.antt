@@ -1,6 +1,5 @@
 -- What stands at the front of a body's held bytes, and what a reader passes on of a body.
 use Rattle.std.specs.Prelude.{◌≡◌, ℕ, ◌<◌, ◌≤◌, List, [], length, take, drop, Option, Some, Result, Ok, Err}
-use Rattle.std.specs.Io.KnownBytes.{prepend_known}
 use Rattle.hls_io.specs.Rose.{Rose}
 use Rattle.hls_http_laws.specs.declared.body.Body.{Body}
 use Rattle.hls_http_laws.specs.declared.body.Body.TheVariants.{Length}
@@ -29,29 +28,11 @@ Moves b held (Ok found) = StepsTo b held found
 Moves b held (Err Wait) = (length held < 16384) × IsOpen b held
 Moves b held (Err Bad) = IsBroken b held
 
-abbrev pub move_len : Move → ℕ
-move_len (moves.Piece len next) = len
-move_len (moves.Frame len next) = len
-
 -- why nothing more of a body comes
 abbrev pub Stops : Body → List ℕ → Option (List ℕ) → BodyEnd → Type 0
 Stops last held left BadFraming = IsBroken last held
 Stops last held left CutShort = (left ≡ Some []) × IsOpen last held
 Stops last held left ReadFailed = IsOpen last held
-
--- nothing was taken of the input
-abbrev pub Waits : Body → List ℕ → List ℕ → Option (List ℕ) → Result Move BodyEnd → Type 0
-Waits b input held left (Ok found) = (prepend_known held left ≡ Some input) × StepsTo b held found
-Waits b input held left (Err end) = (prepend_known held left ≡ Some input) × Stops b held left end
-
-abbrev pub CountsEnd : BodyEnd → ℕ → ℕ → Type 0
-CountsEnd BadFraming old new = new ≡ old
-CountsEnd CutShort old new = new ≡ old
-CountsEnd ReadFailed old new = Rose old new
-
-abbrev pub CountsWait : Result Move BodyEnd → ℕ → ℕ → Type 0
-CountsWait (Ok found) old new = new ≡ old
-CountsWait (Err end) old new = CountsEnd end old new
 
 -- a piece that isn't empty; or the end of the body; or why there is none
 abbrev pub Passes : Body → List ℕ → Body → List ℕ → List ℕ → Option (List ℕ) → Result Given BodyEnd → Type 0
@@ -61,4 +42,6 @@ Passes b input last taken held left (Err end) = Goes b input [] last held left �
 
 abbrev pub CountsBody : Result Given BodyEnd → ℕ → ℕ → Type 0
 CountsBody (Ok given) old new = new ≡ old
-CountsBody (Err end) old new = CountsEnd end old new
+CountsBody (Err BadFraming) old new = new ≡ old
+CountsBody (Err CutShort) old new = new ≡ old
+CountsBody (Err ReadFailed) old new = Rose old new

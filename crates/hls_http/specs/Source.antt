@@ -1,5 +1,5 @@
 -- What is told of a source: what it holds, what was taken last, and the reader inside.
-use Rattle.std.specs.Prelude.{◌≡◌, ℕ, ◌+◌, ◌*◌, ◌<◌, List, [], ◌++◌, length, Option, Some}
+use Rattle.std.specs.Prelude.{◌≡◌, ℕ, ◌<◌, List, [], ◌++◌, length, Option, Some}
 use Rattle.hls_io.specs.Counted.{calls_left, failures_of, inside_of}
 use Rattle.hls_http.specs.declared.source.Source.{Source}
 use Rattle.hls_http.specs.declared.input.Filled.{Filled}
@@ -21,10 +21,6 @@ read_failures source = failures_of source.reader
 
 abbrev pub reads_left : {R : Type 0} → Source R → ℕ
 reads_left source = calls_left source.reader
-
--- what falls with each read, and with each byte taken
-abbrev pub work_left : {R : Type 0} → Source R → ℕ
-work_left source = reads_left source * 131072 + length (held_of source)
 
 -- the input that was still to come of a source, where it is known, and what is held and left of it now, are such
 abbrev pub FromSource : {R E : Type 0} → (R → Option (List ℕ)) → Source R → Source R → (List ℕ → List ℕ → Option (List ℕ) → E → Type 0) → E

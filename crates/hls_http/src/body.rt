@@ -1,13 +1,14 @@
 //! Bodies of requests, by length and in chunks.
 
-ghost use Rattle.std.specs.Prelude.{◌≡◌, ◌≢◌, ◌<◌, ◌≤◌, IfOk, length, min};
+ghost use Rattle.std.specs.Prelude.{◌≡◌, ◌≢◌, ◌<◌, ◌≤◌, length, min};
 ghost use Rattle.hls_http_laws.specs.Bodies.{after_line};
-ghost use Rattle.hls_http.specs.Bodies.{CountsBody, CountsWait, Moves, Passes, Waits, move_len};
-ghost use Rattle.hls_http.specs.Source.{FromSource, held_of, read_failures, taken_of, work_left};
+ghost use Rattle.hls_http.specs.Bodies.{CountsBody, Moves, Passes};
+ghost use Rattle.hls_http.specs.Source.{FromSource, read_failures, taken_of};
 
 use crate::input::Filled;
 use crate::source::Source;
 use hls_http_laws::body::Body;
+use hls_http_laws::laws::{fronts_join, fronts_stay};
 use hls_http_laws::limits::{MOST_FIELDS, MOST_HEAD};
 use httparse::spans::{EMPTY_HEADER_SPAN, parse_headers};
 use httparse::{Status, parse_chunk_size};
@@ -171,27 +172,6 @@ pub fn find_move(held: &[u8], body: Body) -> Result<Move, Lack>
     }
 }
 
-/// Reads until a move stands at the front of what is held; nothing is taken.
-fn wait_move<R: Read>(source: &mut Source<R>, body: Body) -> Result<Move, BodyEnd>
-    requires { body ≢ Body.Length 0 }
-    ensures waits { FromSource R.remaining source.old source.new (Waits body) result }
-    ensures counts { CountsWait result (read_failures source.old) (read_failures source.new) }
-    ensures work { IfOk result (λ found. work_left source.new ≤ work_left source.old) }
-    ensures fits { IfOk result (λ found. (0 < move_len found) × (move_len found ≤ length (held_of source.new))) }
-{
-    loop {
-        match find_move(source.held(), body) {
-            Ok(found) => return Ok(found),
-            Err(Lack::Wait) => match source.fill() {
-                Filled::More => {}
-                Filled::AtEnd => return Err(BodyEnd::CutShort),
-                Filled::Failed => return Err(BodyEnd::ReadFailed),
-            },
-            Err(Lack::Bad) => return Err(BodyEnd::BadFraming),
-        }
-    }
-}
-
 /// Takes the next piece of a body, reading as much as it needs; the body says where it goes on. Where it is over,
 /// what follows it is held. The last byte of a body by length is a piece of its own, so what an earlier piece shows
 /// stands before the body's end. No memory is taken.
@@ -199,11 +179,13 @@ pub fn read_body<R: Read>(source: &mut Source<R>, body: &mut Body) -> Result<Giv
     ensures passes { FromSource R.remaining source.old source.new (λ input. Passes body.old input body.new (taken_of source.new)) result }
     ensures counts { CountsBody result (read_failures source.old) (read_failures source.new) }
 {
+    fronts_stay();
+    fronts_join();
     loop {
         if *body == Body::Length(0) {
             return Ok(Given::Over);
         }
-        match wait_move(source, *body) {
+        match find_move(source.held(), *body) {
             Ok(Move::Piece(len, next)) => {
                 source.take(len);
                 *body = next;
@@ -213,7 +195,12 @@ pub fn read_body<R: Read>(source: &mut Source<R>, body: &mut Body) -> Result<Giv
                 source.take(len);
                 *body = next;
             }
-            Err(end) => return Err(end),
+            Err(Lack::Wait) => match source.fill() {
+                Filled::More => {}
+                Filled::AtEnd => return Err(BodyEnd::CutShort),
+                Filled::Failed => return Err(BodyEnd::ReadFailed),
+            },
+            Err(Lack::Bad) => return Err(BodyEnd::BadFraming),
         }
     }
 }

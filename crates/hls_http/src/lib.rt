@@ -18,9 +18,9 @@ mod send;
 mod session;
 mod source;
 
-pub use body::{BodyEnd, Given, Lack, Move, find_move, read_body};
+pub use body::{BodyEnd, Given, Lack, Move, find_move};
 pub use drain::{DropEnd, announced};
-pub use head::{Head, HeadEnd, Look, Method, find_head, next_head};
+pub use head::{Head, HeadEnd, Look, Method, find_head};
 pub use hls_http_laws::body::Body;
 pub use hls_http_laws::end::SessionEnd;
 pub use hls_http_laws::fault::HttpFault;
@@ -31,6 +31,5 @@ pub use order::{continues, is_over, plan, says_close};
 pub use query::{split_target, value_of};
 pub use range::part;
 pub use reply::{head_bytes, refusal_body, reply_output};
-pub use send::{ReplyEnd, write_head, write_media, write_reply};
 pub use session::Session;
 pub use source::Source;

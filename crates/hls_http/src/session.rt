@@ -1,24 +1,25 @@
 //! A session: the requests that come of a reader, and the replies that go to a writer.
 
-ghost use Rattle.std.specs.Prelude.{◌≡◌, ℕ, false, true};
-ghost use Rattle.hls_io.specs.Counted.{failures_of, inside_of};
+ghost use Rattle.std.specs.Prelude.{◌≡◌};
+ghost use Rattle.hls_io.specs.Counted.{failures_of};
 ghost use Rattle.hls_io.specs.Streams.{ToOutput};
-ghost use Rattle.hls_http_laws.specs.Reply.{head_text_of, no_memory_to};
+ghost use Rattle.hls_http_laws.specs.Reply.{no_memory_to};
 ghost use Rattle.hls_http.specs.Bodies.{CountsBody, Passes};
 ghost use Rattle.hls_http.specs.Heads.{CountsHead, Hears};
-ghost use Rattle.hls_http.specs.Replies.{Answers, AnswersMemory, AnswersSent, AnswersText, CountsAnswer, CountsEnding, CountsReply, EndsBy};
+ghost use Rattle.hls_http.specs.Replies.{Answers, CountsAnswer};
 ghost use Rattle.hls_http.specs.Source.{FromSource, read_failures, taken_of};
 
 use crate::body::{BodyEnd, Given, read_body};
 use crate::head;
 use crate::head::{Head, HeadEnd};
-use crate::send::{ReplyEnd, write_head, write_media, write_reply};
+use crate::reply::reply_output;
+use crate::send::write_output;
 use crate::source::Source;
 use hls_http_laws::body::Body;
 use hls_http_laws::end::SessionEnd;
 use hls_http_laws::reply::{ReplyHead, no_memory_head_text, no_memory_text};
 use hls_io::{Counted, write_whole};
-use hls_output::{Media, Resource};
+use hls_output::Text;
 use std::alloc::{AllocError, Global};
 use std::io::{Read, Write};
 
@@ -69,6 +70,7 @@ impl<R: Read, W> Session<R, W> {
     }
 }
 
+/// The fixed reply to want of memory, which takes none; to HEAD without its body.
 fn no_memory_for(to_head: bool) -> &'static [u8]
     ensures { result.now ≡ no_memory_to to_head }
 {
@@ -76,49 +78,6 @@ fn no_memory_for(to_head: bool) -> &'static [u8]
         no_memory_head_text()
     } else {
         no_memory_text()
-    }
-}
-
-/// Writes the fixed reply to want of memory, which takes none; to HEAD without its body.
-fn write_no_memory<W: Write>(output: &mut Counted<W>, to_head: bool) -> SessionEnd
-    ensures answers { ToOutput W.contents output.old output.new (AnswersMemory to_head) result }
-    ensures counts { CountsEnding result (failures_of output.old) (failures_of output.new) }
-{
-    if write_whole(output, no_memory_for(to_head)) {
-        SessionEnd::Refused
-    } else {
-        SessionEnd::WriteFailed
-    }
-}
-
-/// How a session goes on after a reply of this head was written.
-fn after_reply(head: &ReplyHead<'_>) -> Result<(), SessionEnd>
-    ensures { EndsBy head.now result }
-{
-    if !head.closing {
-        return Ok(());
-    }
-    if head.status.is_success() {
-        Err(SessionEnd::Closed)
-    } else {
-        Err(SessionEnd::Refused)
-    }
-}
-
-/// How a session goes on after a reply was sent or not; for want of memory the fixed reply is written.
-fn finish<W: Write>(
-    output: &mut Counted<W>,
-    sent: Result<(), ReplyEnd>,
-    head: &ReplyHead<'_>,
-    to_head: bool,
-) -> Result<(), SessionEnd>
-    ensures answers { AnswersSent head.now to_head (W.contents (inside_of output.old)) sent (W.contents (inside_of output.new)) result }
-    ensures counts { (before : ℕ) → CountsReply sent before (failures_of output.old) → CountsAnswer result before (failures_of output.new) }
-{
-    match sent {
-        Ok(()) => after_reply(head),
-        Err(ReplyEnd::Memory) => Err(write_no_memory(output, to_head)),
-        Err(ReplyEnd::WriteFailed) => Err(SessionEnd::WriteFailed),
     }
 }
 
@@ -132,50 +91,27 @@ impl<R, W: Write> Session<R, W> {
         body: &[u8],
         to_head: bool,
     ) -> Result<(), SessionEnd>
-        ensures answers { ToOutput W.contents self.old.writer self.new.writer (AnswersText head.now to_head body.now) result }
+        ensures answers { ToOutput W.contents self.old.writer self.new.writer (Answers head.now body.now to_head) result }
         ensures counts { CountsAnswer result (failures_of self.old.writer) (failures_of self.new.writer) }
         ensures reader { self.new.source ≡ self.old.source }
     {
-        let sent = write_reply(alloc, &mut self.writer, head, body, to_head);
-        finish(&mut self.writer, sent, head, to_head)
-    }
-
-    /// Replies to HEAD where the content of a GET would have so many bytes.
-    pub fn reply_head(
-        &mut self,
-        alloc: Global,
-        head: &ReplyHead<'_>,
-        len: u64,
-    ) -> Result<(), SessionEnd>
-        ensures answers { ToOutput W.contents self.old.writer self.new.writer (λ held. Answers head.now true held (head_text_of head.now len)) result }
-        ensures counts { CountsAnswer result (failures_of self.old.writer) (failures_of self.new.writer) }
-        ensures reader { self.new.source ≡ self.old.source }
-    {
-        let sent = write_head(alloc, &mut self.writer, head, len);
-        finish(&mut self.writer, sent, head, true)
-    }
-
-    /// Replies with a part of a resource, from the resource's own slices.
-    pub fn reply_media<M: Resource + Drop>(
-        &mut self,
-        alloc: Global,
-        head: &ReplyHead<'_>,
-        media: Media<M>,
-    ) -> Result<(), SessionEnd>
-        ensures answers { ToOutput W.contents self.old.writer self.new.writer (AnswersText head.now false media) result }
-        ensures counts { CountsAnswer result (failures_of self.old.writer) (failures_of self.new.writer) }
-        ensures reader { self.new.source ≡ self.old.source }
-    {
-        let sent = write_media(alloc, &mut self.writer, head, media);
-        finish(&mut self.writer, sent, head, false)
-    }
-
-    /// Replies to want of memory by its fixed bytes, which takes none; to HEAD without its body. The session ends.
-    pub fn reply_no_memory(&mut self, to_head: bool) -> SessionEnd
-        ensures answers { ToOutput W.contents self.old.writer self.new.writer (AnswersMemory to_head) result }
-        ensures counts { CountsEnding result (failures_of self.old.writer) (failures_of self.new.writer) }
-        ensures reader { self.new.source ≡ self.old.source }
-    {
-        write_no_memory(&mut self.writer, to_head)
+        let Ok(output) = reply_output(alloc, head, Text::media(body), to_head) else {
+            return Err(if write_whole(&mut self.writer, no_memory_for(to_head)) {
+                SessionEnd::Refused
+            } else {
+                SessionEnd::WriteFailed
+            });
+        };
+        if !write_output(&mut self.writer, output) {
+            return Err(SessionEnd::WriteFailed);
+        }
+        if !head.closing {
+            return Ok(());
+        }
+        Err(if head.status.is_success() {
+            SessionEnd::Closed
+        } else {
+            SessionEnd::Refused
+        })
     }
 }

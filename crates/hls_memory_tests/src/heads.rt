@@ -1,13 +1,9 @@
-//! Heads of replies and small replies, written: of one that wanted memory nothing is, or the fixed reply where a session says it.
+//! Heads of replies and small replies: of one that wanted memory there is none, or the fixed reply where a session says it.
 
 use crate::told::Told;
 use hls_fakes::Page;
-use hls_http::{
-    Input, ReplyEnd, Session, SessionEnd, Source, head_bytes, refusal_body, reply_output,
-    write_head, write_reply,
-};
+use hls_http::{Input, Session, SessionEnd, Source, head_bytes, refusal_body, reply_output};
 use hls_http_laws::reply::{Extra, Kind, ReplyHead, Status, no_memory_head_text};
-use hls_io::Counted;
 use hls_output::Text;
 use std::alloc::Global;
 
@@ -33,37 +29,24 @@ enum Act {
     Source,
     Input,
     Output,
-    Head,
-    Reply,
     Session,
 }
 
-const ACTS: [Act; 8] = [
+const ACTS: [Act; 6] = [
     Act::Bytes,
     Act::Refusal,
     Act::Source,
     Act::Input,
     Act::Output,
-    Act::Head,
-    Act::Reply,
     Act::Session,
 ];
-
-/// How a reply came out that is to be these bytes.
-fn told_written(page: &Page, end: Result<(), ReplyEnd>, wanted: &[u8]) -> Told {
-    match end {
-        Ok(()) => Told::answer(page.says(wanted)),
-        Err(ReplyEnd::Memory) => Told::wanted(page.says(b"")),
-        Err(ReplyEnd::WriteFailed) => Told::Astray,
-    }
-}
 
 /// How a session replies to HEAD.
 fn told_session(alloc: Global) -> Told {
     let Ok(mut session) = Session::new(alloc, b"".as_slice(), Page::new()) else {
         return Told::Wanted;
     };
-    let end = session.reply_head(alloc, &head(), 3);
+    let end = session.reply(alloc, &head(), b"abc", true);
     let page = session.writer.into_inner();
     match end {
         Ok(()) => Told::answer(page.says(HEAD)),
@@ -73,7 +56,6 @@ fn told_session(alloc: Global) -> Told {
 }
 
 fn told(alloc: Global, act: Act) -> Told {
-    let mut output = Counted::new(Page::new());
     match act {
         Act::Bytes => match head_bytes(alloc, &head(), 3) {
             Ok(bytes) => Told::answer(bytes.as_slice() == HEAD),
@@ -95,14 +77,6 @@ fn told(alloc: Global, act: Act) -> Told {
             Ok(output) => Told::answer(output.chunk() == REPLY),
             Err(_) => Told::Wanted,
         },
-        Act::Head => {
-            let end = write_head(alloc, &mut output, &head(), 3);
-            told_written(&output.into_inner(), end, HEAD)
-        }
-        Act::Reply => {
-            let end = write_reply(alloc, &mut output, &head(), b"abc", false);
-            told_written(&output.into_inner(), end, REPLY)
-        }
         Act::Session => told_session(alloc),
     }
 }

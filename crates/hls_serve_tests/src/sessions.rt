@@ -98,3 +98,28 @@ fn a_head_that_is_too_large(rt: HostRuntime) -> Result<(), Fail> {
     assert!(rt; out.as_slice() == want.as_slice());
     Ok(())
 }
+
+/// Requests whose bodies are dropped, or aren't read, with all that goes out for them.
+const DROPPED: [(&str, &str); 3] = [
+    (
+        "POST /finish/0 HTTP/1.1\r\nHost: a\r\nTransfer-Encoding: chunked\r\n\r\n1\r\na\r\n10000\r\n",
+        "HTTP/1.1 413 Content Too Large\r\nContent-Type: text/plain\r\nContent-Length: 17\r\nConnection: close\r\n\r\nrefused TooLarge\n",
+    ),
+    (
+        "POST /status HTTP/1.1\r\nHost: a\r\nContent-Length: 2\r\nExpect: 100-continue\r\n\r\nab",
+        "HTTP/1.1 100 Continue\r\n\r\nHTTP/1.1 405 Method Not Allowed\r\nContent-Type: text/plain\r\nContent-Length: 18\r\nAllow: GET, HEAD\r\n\r\nrefused BadMethod\n",
+    ),
+    (
+        "PUT /x HTTP/1.1\r\nHost: a\r\nContent-Length: 1\r\nExpect: 100-continue\r\n\r\n",
+        "HTTP/1.1 404 Not Found\r\nContent-Type: text/plain\r\nContent-Length: 17\r\nConnection: close\r\n\r\nrefused NotFound\n",
+    ),
+];
+
+#[test]
+fn bodies_that_are_dropped(rt: HostRuntime) -> Result<(), Fail> {
+    for (text, replies) in DROPPED {
+        let out = first_replies(&rt, rt.alloc(), text.as_bytes())?;
+        assert!(rt; out.as_slice() == replies.as_bytes(), "{text}");
+    }
+    Ok(())
+}

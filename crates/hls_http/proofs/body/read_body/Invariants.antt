@@ -1,6 +1,6 @@
-use Rattle.std.proofs.Common.{◌≡◌, ◌++◌, List, [], ℕ, Some}
+use Rattle.std.proofs.Common.{◌≡◌, ◌+◌, ◌*◌, ◌++◌, List, [], ℕ, Some, length}
 use Rattle.hls_http_laws.specs.Bodies.{Goes}
-use Rattle.hls_http.specs.Source.{held_of, read_failures, reader_of, work_left}
+use Rattle.hls_http.specs.Source.{held_of, read_failures, reader_of, reads_left}
 use Rattle.hls_http.proofs.body.read_body.Given as goal
 
 abbrev pub invariant-loop-source : goal.invariant-loop-source
@@ -11,4 +11,4 @@ invariant-loop-source g l = record {
 }
 
 abbrev pub decreases-loop-source : goal.decreases-loop-source
-decreases-loop-source g l = work_left l.source
+decreases-loop-source g l = reads_left l.source * 131072 + length (held_of l.source)
