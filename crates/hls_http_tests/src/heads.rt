@@ -1,35 +1,20 @@
-//! Requests read in any pieces, and whole replies, over memory.
+//! Requests read in any pieces.
 
-use hls_fakes::Drips;
-use hls_http::{
-    BodyEnd, Given, HeadEnd, HttpFault, Method, Source, next_head, read_body, split_target,
-    value_of,
-};
+use crate::echo::content;
+use hls_fakes::{Drips, Page};
+use hls_http::{BodyEnd, HeadEnd, HttpFault, Method, Session, split_target, value_of};
 use hls_http_laws::body::Body;
 use hls_http_laws::range::Asked;
 use std::alloc::{AllocError, Global};
 use std::test::Fail;
 
-fn source<'a>(alloc: Global, text: &'a [u8], step: usize) -> Result<Source<Drips<'a>>, AllocError> {
-    Source::new(alloc, Drips::new(text, step, 0))
-}
-
-/// The content of a body, and how it ended.
-fn content(
+/// A session that reads a text by so many bytes at once.
+fn reading<'a>(
     alloc: Global,
-    source: &mut Source<Drips<'_>>,
-    body: Body,
-) -> Result<(Vec<u8>, Option<BodyEnd>), AllocError> {
-    let mut body = body;
-    let mut all = Vec::new(alloc);
-    for _ in 0..100u8 {
-        match read_body(source, &mut body) {
-            Ok(Given::Piece) => all.extend_from_slice(source.taken())?,
-            Ok(Given::Over) => return Ok((all, None)),
-            Err(end) => return Ok((all, Some(end))),
-        }
-    }
-    Ok((all, None))
+    text: &'a [u8],
+    step: usize,
+) -> Result<Session<Drips<'a>, Page>, AllocError> {
+    Session::new(alloc, Drips::new(text, step, 0), Page::new())
 }
 
 const THREE: &[u8] =
@@ -41,73 +26,72 @@ GET /media/0.mp4 HTTP/1.0\r\nRange: bytes=600-1599\r\n\r\n";
 #[test]
 fn three_requests_in_any_pieces(rt: HostRuntime) -> Result<(), Fail> {
     for step in [1, 7, 10000] {
-        let mut source = source(rt.alloc(), THREE, step)?;
-        let put = next_head(&mut source)?;
+        let mut session = reading(rt.alloc(), THREE, step)?;
+        let put = session.next_head()?;
         assert_eq!(rt; put.method, Method::Put);
         assert_eq!(rt; put.body, Ok(Body::Length(5)));
         assert!(rt; put.expects && !put.closes);
-        let (bytes, end) = content(rt.alloc(), &mut source, Body::Length(5))?;
+        let (bytes, end) = content(rt.alloc(), &mut session, Body::Length(5))?;
         assert_eq!(rt; bytes.as_slice(), b"hello".as_slice());
         assert_eq!(rt; end, None);
-        let post = next_head(&mut source)?;
+        let post = session.next_head()?;
         assert_eq!(rt; post.method, Method::Post);
         assert_eq!(rt; post.body, Ok(Body::Size));
         assert!(rt; post.closes && !post.expects);
-        let (bytes, end) = content(rt.alloc(), &mut source, Body::Size)?;
+        let (bytes, end) = content(rt.alloc(), &mut session, Body::Size)?;
         assert_eq!(rt; bytes.as_slice(), b"abcdefg".as_slice());
         assert_eq!(rt; end, None);
-        let get = next_head(&mut source)?;
+        let get = session.next_head()?;
         assert_eq!(rt; get.method, Method::Get);
         assert_eq!(rt; get.range, Asked::Between(600, 1599));
         assert!(rt; get.closes);
-        assert!(rt; matches!(next_head(&mut source), Err(HeadEnd::Closed)));
+        assert!(rt; matches!(session.next_head(), Err(HeadEnd::Closed)));
     }
     Ok(())
 }
 
 /// Why no head comes of a text, or why its fields are refused.
 fn refusal(alloc: Global, text: &[u8]) -> Result<(Option<HeadEnd>, Option<HttpFault>), AllocError> {
-    let mut source = source(alloc, text, 4096)?;
-    Ok(match next_head(&mut source) {
+    let mut session = reading(alloc, text, 4096)?;
+    Ok(match session.next_head() {
         Ok(head) => (None, head.body.err()),
         Err(end) => (Some(end), None),
     })
 }
 
+/// Texts with their refusals.
+const REFUSED: [(&[u8], (Option<HeadEnd>, Option<HttpFault>)); 4] = [
+    (b"GET /\r\n", (Some(HeadEnd::BadHead), None)),
+    (
+        b"GET / HTTP/1.1\r\nHost: a\r\n",
+        (Some(HeadEnd::CutShort), None),
+    ),
+    (b"GET / HTTP/1.1\r\n\r\n", (None, Some(HttpFault::BadHead))),
+    (
+        b"PUT / HTTP/1.1\r\nHost: a\r\nContent-Length: 5\r\nTransfer-Encoding: chunked\r\n\r\n",
+        (None, Some(HttpFault::BadFraming)),
+    ),
+];
+
 #[test]
 fn heads_that_are_refused(rt: HostRuntime) -> Result<(), Fail> {
-    assert_eq!(rt;
-        refusal(rt.alloc(), b"GET /\r\n")?,
-        (Some(HeadEnd::BadHead), None)
-    );
-    assert_eq!(rt;
-        refusal(rt.alloc(), b"GET / HTTP/1.1\r\nHost: a\r\n")?,
-        (Some(HeadEnd::CutShort), None)
-    );
+    for (text, wanted) in REFUSED {
+        assert_eq!(rt; refusal(rt.alloc(), text)?, wanted);
+    }
     assert_eq!(rt;
         refusal(rt.alloc(), &[b'\n'; 16384])?,
         (Some(HeadEnd::HeadTooLarge), None)
-    );
-    assert_eq!(rt;
-        refusal(rt.alloc(), b"GET / HTTP/1.1\r\n\r\n")?,
-        (None, Some(HttpFault::BadHead))
-    );
-    let both =
-        b"PUT / HTTP/1.1\r\nHost: a\r\nContent-Length: 5\r\nTransfer-Encoding: chunked\r\n\r\n";
-    assert_eq!(rt;
-        refusal(rt.alloc(), both)?,
-        (None, Some(HttpFault::BadFraming))
     );
     Ok(())
 }
 
 #[test]
 fn bodies_that_stop(rt: HostRuntime) -> Result<(), Fail> {
-    let mut bad = source(rt.alloc(), b"3\r\nabc\r\ng\r\n", 5)?;
+    let mut bad = reading(rt.alloc(), b"3\r\nabc\r\ng\r\n", 5)?;
     let (bytes, end) = content(rt.alloc(), &mut bad, Body::Size)?;
     assert_eq!(rt; bytes.as_slice(), b"abc".as_slice());
     assert_eq!(rt; end, Some(BodyEnd::BadFraming));
-    let mut cut = source(rt.alloc(), b"3\r\nab", 5)?;
+    let mut cut = reading(rt.alloc(), b"3\r\nab", 5)?;
     let (bytes, end) = content(rt.alloc(), &mut cut, Body::Size)?;
     assert_eq!(rt; bytes.as_slice(), b"ab".as_slice());
     assert_eq!(rt; end, Some(BodyEnd::CutShort));

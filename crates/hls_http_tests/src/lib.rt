@@ -10,8 +10,6 @@ mod echo;
 #[cfg(test)]
 mod fakes;
 #[cfg(test)]
-mod gathered;
-#[cfg(test)]
 mod heads;
 #[cfg(test)]
 mod inputs;
