@@ -43,13 +43,16 @@ held_none old new start end h front = held_same old new start end h front ∙ sy
 fits : (buffer : List ℕ) (start end len : ℕ) → start ≤ end → len ≤ length (slice_range buffer start end) → start + len ≤ end
 fits buffer start end len h few = omega (arith, length-take (end - start) (drop start buffer), few)
 
-pub takes : (buffer : List ℕ) (from start end len : ℕ) (texts : Texts) → start ≤ end
-    → record { taken = slice_range buffer from start; unread = slice_range buffer start end } ≡ texts → len ≤ length texts.unread
-    → record { taken = slice_range buffer start (start + len); unread = slice_range buffer (start + len) end } ≡ after_take texts len
-takes buffer from start end len texts ordered are few =
+pub takes : (buffer : List ℕ) (from start end len room : ℕ) (texts : Texts) → start ≤ end
+    → record { taken = slice_range buffer from start; unread = slice_range buffer start end; room = room } ≡ texts → len ≤ length texts.unread
+    → record { taken = slice_range buffer start (start + len); unread = slice_range buffer (start + len) end; room = room } ≡ after_take texts len
+takes buffer from start end len room texts ordered are few =
     let within = fits buffer start end len ordered (subst (λ (t : Texts). len ≤ length t.unread) (sym are) few) in
-    (λ i. record { taken = held_take buffer start end len within i; unread = held_drop buffer start end len within i })
+    (λ i. record { taken = held_take buffer start end len within i; unread = held_drop buffer start end len within i; room = room })
     ∙ ap (λ t. after_take t len) are
+
+pub count_of : (read : ℕ) (behind : List ℕ) → read ≤ length behind → length (take read behind) ≡ read
+count_of read behind fits = omega (arith, length-take read behind)
 
 pub some_bytes : (read : ℕ) (behind : List ℕ) → (read ≡ 0 → ⊥) → read ≤ length behind → 0 < length (take read behind)
 some_bytes read behind some fits = omega (arith, length-take read behind, some)

@@ -1,6 +1,6 @@
 -- What one read brings.
-use Rattle.std.specs.Prelude.{◌≡◌, ℕ, ◌<◌, List, [], ◌++◌, length, Option}
-use Rattle.std.specs.Io.KnownBytes.{Consumes, IsAtEnd}
+use Rattle.std.specs.Prelude.{◌≡◌, ℕ, ◌<◌, List, [], ◌++◌, length, Option, Result, Ok, Err}
+use Rattle.std.specs.Io.KnownBytes.{Consumes, IsAtEnd, Keeps}
 use Rattle.hls_io.specs.Rose.{Rose}
 use Rattle.hls_http.specs.declared.input.Filled.{Filled}
 use Rattle.hls_http.specs.declared.input.Filled.TheVariants.{More, AtEnd, Failed}
@@ -22,3 +22,9 @@ abbrev pub CountsFill : Filled → ℕ → ℕ → Type 0
 CountsFill More old new = new ≡ old
 CountsFill AtEnd old new = new ≡ old
 CountsFill Failed old new = Rose old new
+
+-- so many bytes came of the reader, and stand behind those that were unread, none only at its end; or nothing has changed
+abbrev pub Came : {E : Type 0} → List ℕ → List ℕ → Option (List ℕ) → Option (List ℕ) → Result ℕ E → Type 0
+Came old new before left (Ok n) =
+    (bytes : List ℕ) × (length bytes ≡ n) × (new ≡ old ++ bytes) × Consumes before left bytes × (n ≡ 0 → IsAtEnd left)
+Came old new before left (Err e) = (new ≡ old) × Keeps before left

@@ -1,18 +1,22 @@
 //! What was read of a connection and not yet taken.
 
-ghost use Rattle.std.specs.Prelude.{◌≡◌, ◌≢◌, ◌<◌, ◌≤◌, ◌==◌, length, take, drop, slice_range, IsSome, IfSome, IfNone, IfOk};
+ghost use Rattle.std.specs.Prelude.{◌≡◌, ◌≢◌, ◌<◌, ◌≤◌, ◌==◌, length, take, drop, slice_range, IsSome, IfSome, IfNone, IfOk, OnOk, OnErr};
 ghost use Rattle.std.specs.Io.KnownBytes.{Consumes, IsAtEnd, Keeps};
 ghost use Rattle.hls_io.specs.Counted.{calls_left, failures_of, inside_of};
 ghost use Rattle.hls_io.specs.Rose.{Rose};
-ghost use Rattle.hls_http.specs.Input.{CountsFill, Reads};
+ghost use Rattle.hls_http.specs.Input.{Came, CountsFill, Reads};
 
 use hls_io::Counted;
 use std::alloc::{AllocError, Global};
+use std::io;
 use std::io::Read;
 use std::marker::Model;
 
-/// The size of an input's buffer, above every limit of what must be held as a whole.
+/// The most that an input's buffer holds, above every limit of what must be held as a whole.
 pub const BUFFER: usize = 65536;
+
+/// What a buffer holds that is made for a first read.
+const FIRST: usize = 1024;
 
 /// What one read brought.
 #[derive(Clone, Copy, Debug, PartialEq, Eq, Drop)]
@@ -25,9 +29,10 @@ pub enum Filled {
     Failed,
 }
 
-/// What was read and not yet taken, and what was taken last. A clause sees these two texts.
+/// What was read and not yet taken, and what was taken last. A clause sees these two texts, and for how many bytes there is room.
 ///
-/// They stand in one buffer of 65536 bytes, which is taken once; so reading and taking want no memory.
+/// They stand in one buffer. It may hold 65536 bytes from the beginning on, so that no read wants memory; or it is made where more
+/// is to be read, grows as it is full, and is given back where nothing is unread.
 #[derive(Drop)]
 pub struct Input {
     buffer: Vec<u8>,
@@ -45,9 +50,13 @@ impl Model for Input {
 
     ghost Value = { Texts };
 
-    ghost view = { λ i. record { taken = slice_range i.buffer.items i.from i.start; unread = slice_range i.buffer.items i.start i.end } };
+    ghost view = { λ i. record {
+      taken = slice_range i.buffer.items i.from i.start;
+      unread = slice_range i.buffer.items i.start i.end;
+      room = vec_len i.buffer;
+    } };
 
-    ghost invariant = { λ i. (i.from ≤ i.start) × (i.start ≤ i.end) × (i.end ≤ 65536) × (vec_len i.buffer ≡ 65536) };
+    ghost invariant = { λ i. (i.from ≤ i.start) × (i.start ≤ i.end) × (i.end ≤ vec_len i.buffer) × (vec_len i.buffer ≤ 65536) };
 }
 
 /// Makes room behind what stands from one place of the buffer to another, and says where it then stands. It is moved to the
@@ -82,6 +91,40 @@ fn read_behind<R: Read>(reader: &mut Counted<R>, buffer: &mut [u8], end: usize) 
     reader.read(&mut buffer[end..])
 }
 
+/// Reads behind the first `end` bytes, and passes on what the reader says.
+fn read_plainly<R: Read>(reader: &mut R, buffer: &mut [u8], end: usize) -> io::Result<usize>
+    requires { end < length buffer.old }
+    ensures front { take end buffer.new ≡ take end buffer.old }
+    ensures bound { IfOk result (λ n. n ≤ length (drop end buffer.new)) }
+    ensures bytes { IfOk result (λ n. Consumes (R.remaining reader.old) (R.remaining reader.new) (take n (drop end buffer.new))) }
+    ensures end { IfOk result (λ n. n ≡ 0 → IsAtEnd (R.remaining reader.new)) }
+    ensures kept { OnErr result (Keeps (R.remaining reader.old) (R.remaining reader.new)) }
+{
+    reader.read(&mut buffer[end..])
+}
+
+/// Reads once behind what stands from one place of the buffer to another, passes on what the reader says, and says where all of it
+/// then stands.
+fn read_some_on<R: Read>(
+    reader: &mut R,
+    buffer: &mut [u8],
+    start: usize,
+    end: usize,
+) -> (io::Result<usize>, usize, usize)
+    requires ordered { start ≤ end }
+    requires within { end ≤ length buffer.old }
+    requires few { length (slice_range buffer.old start end) < length buffer.old }
+    ensures came { Came (slice_range buffer.old start end) (slice_range buffer.new result.1 result.2) (R.remaining reader.old) (R.remaining reader.new) result.0 }
+    ensures ordered { result.1 ≤ result.2 }
+    ensures within { result.2 ≤ length buffer.new }
+{
+    let (start, end) = make_room(buffer, start, end);
+    match read_plainly(reader, buffer, end) {
+        Ok(read) => (Ok(read), start, end + read),
+        Err(error) => (Err(error), start, end),
+    }
+}
+
 /// Reads once behind what stands from one place of the buffer to another, and says where that and what came then stand.
 fn read_on<R: Read>(
     reader: &mut Counted<R>,
@@ -110,9 +153,9 @@ fn read_on<R: Read>(
 impl Input {
     ghost use Rattle.hls_http.specs.Texts.{after_take, no_texts};
 
-    /// Nothing yet. Memory is taken for the buffer, and never again.
+    /// Nothing yet. Memory is taken for the whole buffer, and never again.
     pub fn new(alloc: Global) -> Result<Input, AllocError>
-        ensures { IfOk result (λ input. input ≡ no_texts) }
+        ensures { IfOk result (λ input. input ≡ no_texts 65536) }
     {
         let buffer = vec![in alloc; 0u8; BUFFER]?;
         Ok(Input {
@@ -121,6 +164,49 @@ impl Input {
             start: 0,
             end: 0,
         })
+    }
+
+    /// Nothing yet, and no room. No memory is taken before it is asked for.
+    pub fn empty(alloc: Global) -> Input
+        ensures { result ≡ no_texts 0 }
+    {
+        Input {
+            buffer: Vec::new(alloc),
+            from: 0,
+            start: 0,
+            end: 0,
+        }
+    }
+
+    /// Makes room for a read where there is none: the buffer is made, or grows to four times as much, up to 65536 bytes. Where
+    /// memory is wanted, nothing has changed.
+    pub fn reserve(&mut self) -> Result<(), AllocError>
+        requires { length self.old.unread < 65536 }
+        ensures unread { self.new.unread ≡ self.old.unread }
+        ensures room { OnOk result (length self.new.unread < self.new.room) }
+        ensures err { OnErr result (self.new ≡ self.old) }
+    {
+        let len = self.buffer.len();
+        if self.end - self.start < len {
+            return Ok(());
+        }
+        let room = (len * 4).clamp(FIRST, BUFFER);
+        self.buffer.resize(room, 0)
+    }
+
+    /// Gives the buffer back where nothing is unread.
+    pub fn release(&mut self)
+        ensures unread { self.new.unread ≡ self.old.unread }
+        ensures empty { length self.old.unread ≡ 0 → self.new ≡ no_texts 0 }
+    {
+        if self.start < self.end {
+            return;
+        }
+        self.from = 0;
+        self.start = 0;
+        self.end = 0;
+        self.buffer.clear();
+        self.buffer.shrink_to_fit();
     }
 
     /// The bytes that were read and not yet taken.
@@ -155,9 +241,23 @@ impl Input {
         self.start += len;
     }
 
+    /// Reads once, behind the unread bytes, and passes on what the reader says: none is the end; after an error nothing has changed.
+    pub fn read_some<R: Read>(&mut self, reader: &mut R) -> io::Result<usize>
+        requires { length self.old.unread < self.old.room }
+        ensures came { Came self.old.unread self.new.unread (R.remaining reader.old) (R.remaining reader.new) result }
+        ensures room { self.new.room ≡ self.old.room }
+    {
+        let (read, start, end) = read_some_on(reader, &mut self.buffer, self.start, self.end);
+        self.from = start;
+        self.start = start;
+        self.end = end;
+        read
+    }
+
     /// Reads once, behind the unread bytes.
     pub fn read_from<R: Read>(&mut self, reader: &mut Counted<R>) -> Filled
-        requires { length self.old.unread < 65536 }
+        requires { length self.old.unread < self.old.room }
+        ensures room { self.new.room ≡ self.old.room }
         ensures reads { Reads self.old.unread self.new.unread (R.remaining (inside_of reader.old)) (R.remaining (inside_of reader.new)) result }
         ensures few { length self.new.unread ≤ 65536 }
         ensures counts { CountsFill result (failures_of reader.old) (failures_of reader.new) }

@@ -14,6 +14,7 @@ pub struct Source<R> {
     reader: Counted<R>,
     /// What was read of it and not yet taken, and what was taken last.
     pub input: Input,
+    ghost whole: { input.room ≡ 65536 },
 }
 
 impl<R: Drop> Source<R> {
@@ -62,12 +63,13 @@ impl<R> Source<R> {
 
 impl<R: Read> Source<R> {
     ghost use Rattle.hls_io.specs.Streams.{FromInput};
-    ghost use Rattle.hls_http.specs.Input.{CountsFill};
-    ghost use Rattle.hls_http.specs.Source.{held_of, read_failures, reads_left, Fills};
+    ghost use Rattle.hls_http.specs.Input.{CountsFill, Reads};
+    ghost use Rattle.hls_http.specs.Source.{held_of, read_failures, reader_of, reads_left, Fills};
 
     /// Reads once, behind the held bytes.
     pub fn fill(&mut self) -> Filled
         requires { length (held_of self.old) < 65536 }
+        ensures reads { Reads (held_of self.old) (held_of self.new) (R.remaining (reader_of self.old)) (R.remaining (reader_of self.new)) result }
         ensures fills { FromInput R.remaining self.old.reader self.new.reader (λ rest. Fills (held_of self.old) rest (held_of self.new)) result }
         ensures few { length (held_of self.new) ≤ 65536 }
         ensures counts { CountsFill result (read_failures self.old) (read_failures self.new) }

@@ -6,20 +6,23 @@ use hls_io::Counted;
 use std::alloc::{AllocError, Global};
 use std::test::Fail;
 
-/// The bytes of a text that is read by at most `step` bytes a call, and of which at most `most` are taken behind each.
+/// The bytes of a text that is read by at most `step` bytes a call, and of which at most `most` are taken behind each. The buffer is
+/// given back whenever nothing is unread.
 fn taken(
     alloc: Global,
+    input: Input,
     text: &[u8],
     step: usize,
     most: usize,
 ) -> Result<Option<Vec<u8>>, AllocError> {
-    let mut input = Input::new(alloc)?;
+    let mut input = input;
     let mut reader = Counted::new(Drips::new(text, step, 0));
     let mut all = Vec::new(alloc);
     for _ in 0..70000u32 {
         if input.is_full() {
             return Ok(None);
         }
+        input.reserve()?;
         match input.read_from(&mut reader) {
             Filled::More => {}
             Filled::AtEnd => {
@@ -31,6 +34,7 @@ fn taken(
         let count = input.unread().len().min(most);
         input.take(count);
         all.extend_from_slice(input.taken())?;
+        input.release();
     }
     Ok(None)
 }
@@ -41,11 +45,13 @@ fn read_and_taken_by_any_counts(rt: HostRuntime) -> Result<(), Fail> {
     let text = b"GET / HTTP/1.1\r\n\r\n".as_slice();
     for step in 1..8usize {
         for most in 0..8usize {
-            let all = taken(alloc, text, step, most)?;
-            assert!(rt;
-                all.is_some_and(|all| all.as_slice() == text),
-                "{step} {most}"
-            );
+            for input in [Input::new(alloc)?, Input::empty(alloc)] {
+                let all = taken(alloc, input, text, step, most)?;
+                assert!(rt;
+                    all.is_some_and(|all| all.as_slice() == text),
+                    "{step} {most}"
+                );
+            }
         }
     }
     Ok(())
@@ -55,8 +61,11 @@ fn read_and_taken_by_any_counts(rt: HostRuntime) -> Result<(), Fail> {
 fn more_than_the_buffer_holds(rt: HostRuntime) -> Result<(), Fail> {
     let alloc = rt.alloc();
     let text = vec![in alloc; 7u8; 100000]?;
-    let all = taken(alloc, &text, 5000, 4999)?;
-    assert!(rt; all.is_some_and(|all| all.len() == 100000));
-    assert!(rt; taken(alloc, &text, 5000, 0)?.is_none());
+    for input in [Input::new(alloc)?, Input::empty(alloc)] {
+        let all = taken(alloc, input, &text, 5000, 4999)?;
+        assert!(rt; all.is_some_and(|all| all.len() == 100000));
+    }
+    let input = Input::empty(alloc);
+    assert!(rt; taken(alloc, input, &text, 5000, 0)?.is_none());
     Ok(())
 }

@@ -36,7 +36,7 @@ use Rattle.http_server.specs.declared.log.Log.{Log}
 use Rattle.hls_serve.specs.declared.machine.Machine.{Machine}
 use Rattle.hls_serve.specs.declared.machine.State.{State}
 use Rattle.hls_serve.specs.declared.machine.State.TheVariants as states
-use Rattle.hls_serve.specs.Machine.{AtHead, GoesOnIn, Holds, HoldsAt, StandsIn, SuitsIn, asked_in, asked_now, stage_of, state_behind, total, waited_head}
+use Rattle.hls_serve.specs.Machine.{AtHead, GoesOnIn, Holds, HoldsAt, StandsIn, SuitsIn, asked_in, asked_now, history_by, stage_of, state_behind, total, waited_head}
 use Rattle.hls_serve.specs.Taken.{progress_of}
 use Rattle.hls_serve.specs.Turns.{IsCall, Replies, end_by}
 use Rattle.hls_serve.specs.Within.{HasBody, IsDropping, IsFeeding, RepliesTo}
@@ -78,7 +78,7 @@ module _ (count : ℕ) (received sent : List ℕ) (ended : Bool) (asked acts : L
 
   -- the connection goes on
   goes_on : (due : Due) → due.closing ≡ false → due.text ≡ first ++ text → ((later : List ℕ) → Heard count (rest ++ later) acts due (unread ++ later))
-      → Holds count received ended sent states.Head (asked ++ acts) text unread
+      → Holds count states.Head (history_by received ended unread (asked ++ acts) sent text)
   goes_on due stays is heard =
       let x : Exchange = record { acts = acts; reply = due.text; success = due.success } in
       let same : due ≡ due_in x = ap (λ (c : Bool). record { text = due.text; closing = c; success = due.success }) stays in
@@ -96,13 +96,13 @@ module _ (count : ℕ) (received sent : List ℕ) (ended : Bool) (asked acts : L
 
   -- the connection is over
   ends_by : (due : Due) → due.closing ≡ true → due.text ≡ first ++ text → Heard count rest acts due unread ⊎ (RefusesHead rest due × (acts ≡ []) × (unread ≡ rest))
-      → Holds count received ended sent (state_behind (end_by true due.success)) (asked ++ acts) text unread
+      → Holds count (state_behind (end_by true due.success)) (history_by received ended unread (asked ++ acts) sent text)
   ends_by due closing is heard = by due.success refl
     where
       at : (success : Bool) → due.success ≡ success → EndsByReply count success rest acts due.text unread
       at success same = record { due = due; closing = closing; success_is = same; text_is = refl; heard = heard }
 
-      by : (success : Bool) → due.success ≡ success → Holds count received ended sent (state_behind (end_by true success)) (asked ++ acts) text unread
+      by : (success : Bool) → due.success ≡ success → Holds count (state_behind (end_by true success)) (history_by received ended unread (asked ++ acts) sent text)
       by true same = record {
         over = over;
         rest = rest;
@@ -125,23 +125,23 @@ module _ (count : ℕ) (received sent : List ℕ) (ended : Bool) (asked acts : L
       }
 
   pub replied : Replies (λ due. (later : List ℕ) → Heard count (rest ++ later) acts due (unread ++ later)) text end first
-      → Holds count received ended sent (state_behind end) (asked ++ acts) text unread
+      → Holds count (state_behind end) (history_by received ended unread (asked ++ acts) sent text)
   replied r = by r.due.closing refl
     where
-      by : (closing : Bool) → r.due.closing ≡ closing → Holds count received ended sent (state_behind end) (asked ++ acts) text unread
+      by : (closing : Bool) → r.due.closing ≡ closing → Holds count (state_behind end) (history_by received ended unread (asked ++ acts) sent text)
       by false stays =
           let goes : end ≡ None = r.ends ∙ ap (λ (c : Bool). end_by c r.due.success) stays in
-          subst (λ (e : Option Ending). Holds count received ended sent (state_behind e) (asked ++ acts) text unread) (sym goes) (goes_on r.due stays r.text_is r.is)
+          subst (λ (e : Option Ending). Holds count (state_behind e) (history_by received ended unread (asked ++ acts) sent text)) (sym goes) (goes_on r.due stays r.text_is r.is)
       by true closing =
           let stops : end ≡ end_by true r.due.success = r.ends ∙ ap (λ (c : Bool). end_by c r.due.success) closing in
-          subst (λ (e : Option Ending). Holds count received ended sent (state_behind e) (asked ++ acts) text unread) (sym stops)
+          subst (λ (e : Option Ending). Holds count (state_behind e) (history_by received ended unread (asked ++ acts) sent text)) (sym stops)
           (ends_by r.due closing r.text_is (inl (plainly (λ a b. Heard count a acts r.due b) rest unread r.is)))
 
 -- what can't become a head is refused
 pub head_refused : (count : ℕ) (received sent : List ℕ) (ended : Bool) (asked : List Act) (pending text unread : List ℕ) (end : Option Ending) (fault : HttpFault)
-    → length pending ≡ 0 → Holds count received ended sent states.Head asked pending unread
+    → length pending ≡ 0 → Holds count states.Head (history_by received ended unread asked sent pending)
     → ((due : Due) → IsDueWithoutHead fault due → RefusesHead unread due) → Replies (IsDueWithoutHead fault) text end []
-    → Holds count received ended sent (state_behind end) asked text unread
+    → Holds count (state_behind end) (history_by received ended unread asked sent text)
 head_refused count received sent ended asked pending text unread end fault empty h refuses r =
     let closing : r.due.closing ≡ true = closes r.due r.is in
     let stops : end ≡ end_by true r.due.success = r.ends ∙ ap (λ (c : Bool). end_by c r.due.success) closing in
@@ -150,8 +150,8 @@ head_refused count received sent ended asked pending text unread end fault empty
     let written : sent ≡ text_of h.over ++ [] = all_sent sent pending _ empty h.written ∙ ap (λ (t : List ℕ). text_of h.over ++ t) between.2 in
     let refused : RefusesHead h.rest r.due = subst (λ (t : List ℕ). RefusesHead t r.due) between.0 (refuses r.due r.is) in
     let all = ends_by count received sent ended asked [] text unread end h.over h.rest [] h.serves asked_is written r.due closing r.text_is (inr (refused, refl, between.0)) in
-    subst (λ (e : Option Ending). Holds count received ended sent (state_behind e) asked text unread) (sym stops)
-    (subst (λ (t : List Act). Holds count received ended sent (state_behind (end_by true r.due.success)) t text unread) (append-nil asked) all)
+    subst (λ (e : Option Ending). Holds count (state_behind e) (history_by received ended unread asked sent text)) (sym stops)
+    (subst (λ (t : List Act). Holds count (state_behind (end_by true r.due.success)) (history_by received ended unread t sent text)) (append-nil asked) all)
   where
     closes : (due : Due) → IsDueWithoutHead fault due → due.closing ≡ true
     closes due (inl is) = ap (λ (d : Due). d.closing) is
@@ -161,8 +161,8 @@ head_refused count received sent ended asked pending text unread end fault empty
 
 -- none stands there yet
 pub head_waits : (count : ℕ) (received sent : List ℕ) (asked : List Act) (pending unread : List ℕ) (empty : Bool) → length pending ≡ 0
-    → Holds count received true sent states.Head asked pending unread → IsUnfinished unread → (IsTrue empty → unread ≡ []) → (empty ≡ false → 0 < length unread)
-    → Holds count received true sent (waited_head empty true) asked pending unread
+    → Holds count states.Head (history_by received true unread asked sent pending) → IsUnfinished unread → (IsTrue empty → unread ≡ []) → (empty ≡ false → 0 < length unread)
+    → Holds count (waited_head empty true) (history_by received true unread asked sent pending)
 head_waits count received sent asked pending unread true nothing h unfinished is_empty some = record {
   over = h.over;
   rest = h.rest;
@@ -185,7 +185,7 @@ head_waits count received sent asked pending unread false nothing h unfinished i
 }
 
 pub head_found : (count : ℕ) (received sent : List ℕ) (ended : Bool) (asked : List Act) (pending unread rest : List ℕ) (call : Call) (h : RequestHead) → length pending ≡ 0
-    → Holds count received ended sent states.Head asked pending unread → ReadsSmall unread h rest → IsCall count h call → AtHead count received sent asked call rest
+    → Holds count states.Head (history_by received ended unread asked sent pending) → ReadsSmall unread h rest → IsCall count h call → AtHead count received sent asked call rest
 head_found count received sent ended asked pending unread rest call h empty x reads is_call = record {
   over = x.over;
   rest = x.rest;
@@ -218,7 +218,7 @@ module _ (count : ℕ) (received sent : List ℕ) (ended : Bool) (asked : List A
     runs = λ later. record { steps = zero; run = (refl, refl, refl) };
   }
 
-  begun_with : (state : State) (text : List ℕ) → StandsIn state count ended x.rest [] text unread → Holds count received ended sent state asked text unread
+  begun_with : (state : State) (text : List ℕ) → StandsIn state count ended x.rest [] text unread → Holds count state (history_by received ended unread asked sent text)
   begun_with state text stands = record {
     over = x.over;
     rest = x.rest;
@@ -232,14 +232,14 @@ module _ (count : ℕ) (received sent : List ℕ) (ended : Bool) (asked : List A
 
   pub begins_drop : (route : Route) (body : Body) (room : ℕ) (text : List ℕ) → (request_of count x.head).plan ≡ Skip body → call.route ≡ Some route
       → room + announced_by body ≡ 65536 → text ≡ first_of x.head (request_of count x.head).plan
-      → Holds count received ended sent (states.Drop (record { call = call; route = route; body = body; room = room })) asked text unread
+      → Holds count (states.Drop (record { call = call; route = route; body = body; room = room })) (history_by received ended unread asked sent text)
   begins_drop route body room text plan there all is =
       begun_with (states.Drop (record { call = call; route = route; body = body; room = room })) text
       (record { at = has_body Skip body text plan is; route = there; all = omega (arith, all) }, refl)
 
   pub begins_feed : (rendition : ℕ) (body : Body) (reader : List ℕ) (taken : Taken) (text : List ℕ) → (request_of count x.head).plan ≡ Feed body → call.route ≡ Some (routes.Ingest rendition)
       → reader ≡ [] → progress_of taken ≡ begun → text ≡ first_of x.head (request_of count x.head).plan
-      → Holds count received ended sent (states.Feed (record { call = call; rendition = rendition; body = body; reader = reader; taken = taken })) asked text unread
+      → Holds count (states.Feed (record { call = call; rendition = rendition; body = body; reader = reader; taken = taken })) (history_by received ended unread asked sent text)
   begins_feed rendition body reader taken text plan there empty fresh is =
       let none = reached_none (PartComes rendition) begun in
       let held = subst (λ (held : List ℕ). Reached (PartComes rendition) begun [] held begun) (sym empty) none in
@@ -254,7 +254,7 @@ module _ (count : ℕ) (received sent : List ℕ) (ended : Bool) (asked : List A
 
   pub refuses : (fault : HttpFault) (closing : Bool) (text : List ℕ) (end : Option Ending) → (request_of count x.head).plan ≡ Refuse fault closing
       → Replies (IsDue x.head (Refuse fault closing) (fault_answer fault) closing) text end (first_of x.head (Refuse fault closing))
-      → Holds count received ended sent (state_behind end) asked text unread
+      → Holds count (state_behind end) (history_by received ended unread asked sent text)
   refuses fault closing text end plan r =
       let first : List ℕ = first_of x.head (Refuse fault closing) in
       let nothing : first ≡ [] = no_first x.head fault closing in
@@ -262,7 +262,7 @@ module _ (count : ℕ) (received sent : List ℕ) (ended : Bool) (asked : List A
       let replies = replies_as (IsDue x.head (Refuse fault closing) (fault_answer fault) closing)
       (λ due. (later : List ℕ) → Heard count (x.rest ++ later) [] due (unread ++ later)) text end first heard r in
       let written : sent ≡ text_of x.over ++ first = x.written ∙ sym (append-nil (text_of x.over)) ∙ ap (λ (t : List ℕ). text_of x.over ++ t) (sym nothing) in
-      subst (λ (t : List Act). Holds count received ended sent (state_behind end) t text unread) (append-nil asked)
+      subst (λ (t : List Act). Holds count (state_behind end) (history_by received ended unread t sent text)) (append-nil asked)
       (replied count received sent ended asked [] text unread end x.over x.rest first x.serves x.asked_is written replies)
     where
       heard_refused : (due : Due) → IsDue x.head (Refuse fault closing) (fault_answer fault) closing due → (later : List ℕ) → Heard count (x.rest ++ later) [] due (unread ++ later)
@@ -311,26 +311,26 @@ only_over asked over acts is empty = is ∙ ap (λ (t : List Act). acts_of over 
 module _ {count : ℕ} {received sent : List ℕ} {ended : Bool} {asked : List Act} {pending : List ℕ} where
   -- the body goes on
   pub drop_goes : {d g : Dropping} {unread rest : List ℕ} → ((stream first : List ℕ) → IsDropping count stream first d unread → IsDropping count stream first g rest)
-      → Holds count received ended sent (states.Drop d) asked pending unread → Holds count received ended sent (states.Drop g) asked pending rest
+      → Holds count (states.Drop d) (history_by received ended unread asked sent pending) → Holds count (states.Drop g) (history_by received ended rest asked sent pending)
   drop_goes goes h =
       record { over = h.over; rest = h.rest; serves = h.serves; acts = h.acts; asked_is = h.asked_is; text = h.text; written = h.written; stands = (goes h.rest h.text h.stands.0, h.stands.1) }
 
   pub feed_goes : {f g : Feeding} {unread rest : List ℕ} → ((stream first : List ℕ) → IsFeeding count stream first f unread → IsFeeding count stream first g rest)
-      → Holds count received ended sent (states.Feed f) asked pending unread → Holds count received ended sent (states.Feed g) asked pending rest
+      → Holds count (states.Feed f) (history_by received ended unread asked sent pending) → Holds count (states.Feed g) (history_by received ended rest asked sent pending)
   feed_goes goes h =
       record { over = h.over; rest = h.rest; serves = h.serves; acts = h.acts; asked_is = h.asked_is; text = h.text; written = h.written; stands = (goes h.rest h.text h.stands.0, h.stands.1) }
 
   -- the reply to it
   pub drop_replied : {d : Dropping} {unread rest text : List ℕ} {acts : List Act} {end : Option Ending} → length pending ≡ 0
       → ((stream first : List ℕ) → IsDropping count stream first d unread → RepliesTo count stream first acts rest text end)
-      → Holds count received ended sent (states.Drop d) asked pending unread → Holds count received ended sent (state_behind end) (asked ++ acts) text rest
+      → Holds count (states.Drop d) (history_by received ended unread asked sent pending) → Holds count (state_behind end) (history_by received ended rest (asked ++ acts) sent text)
   drop_replied {d} {unread} {rest} {text} {acts} {end} empty replies h =
       replied count received sent ended asked acts text rest end h.over h.rest h.text h.serves (only_over asked h.over h.acts h.asked_is h.stands.1)
       (all_sent sent pending _ empty h.written) (replies h.rest h.text h.stands.0)
 
   pub feed_replied : {f : Feeding} {unread rest text : List ℕ} {acts : List Act} {end : Option Ending} → length pending ≡ 0
       → ((stream first : List ℕ) → IsFeeding count stream first f unread → RepliesTo count stream first acts rest text end)
-      → Holds count received ended sent (states.Feed f) asked pending unread → Holds count received ended sent (state_behind end) (asked ++ acts) text rest
+      → Holds count (states.Feed f) (history_by received ended unread asked sent pending) → Holds count (state_behind end) (history_by received ended rest (asked ++ acts) sent text)
   feed_replied {f} {unread} {rest} {text} {acts} {end} empty replies h =
       replied count received sent ended asked acts text rest end h.over h.rest h.text h.serves (only_over asked h.over h.acts h.asked_is h.stands.1)
       (all_sent sent pending _ empty h.written) (replies h.rest h.text h.stands.0)
@@ -338,7 +338,7 @@ module _ {count : ℕ} {received sent : List ℕ} {ended : Bool} {asked : List A
 -- the input's end cuts a body short
 module _ {count : ℕ} {received sent : List ℕ} {asked : List Act} {pending : List ℕ} where
   pub drop_cut : {d g : Dropping} {unread rest : List ℕ} → ((stream first : List ℕ) → IsDropping count stream first d unread → IsDropping count stream first g rest × IsOpen g.body rest)
-      → Holds count received true sent (states.Drop d) asked pending unread → Holds count received true sent (states.Over own.CutShort) asked pending rest
+      → Holds count (states.Drop d) (history_by received true unread asked sent pending) → Holds count (states.Over own.CutShort) (history_by received true rest asked sent pending)
   drop_cut {d} {g} {unread} {rest} waits h =
       let w = waits h.rest h.text h.stands.0 in
       let within = within_drop count h.rest h.text g rest w.0 in
@@ -347,7 +347,7 @@ module _ {count : ℕ} {received sent : List ℕ} {asked : List Act} {pending : 
       record { over = h.over; rest = h.rest; serves = h.serves; acts = h.acts; asked_is = h.asked_is; text = h.text; written = h.written; stands = stands }
 
   pub feed_cut : {f g : Feeding} {unread rest : List ℕ} → ((stream first : List ℕ) → IsFeeding count stream first f unread → IsFeeding count stream first g rest × IsOpen g.body rest)
-      → Holds count received true sent (states.Feed f) asked pending unread → Holds count received true sent (states.Over own.CutShort) (asked ++ g.taken.acts) pending rest
+      → Holds count (states.Feed f) (history_by received true unread asked sent pending) → Holds count (states.Over own.CutShort) (history_by received true rest (asked ++ g.taken.acts) sent pending)
   feed_cut {f} {g} {unread} {rest} waits h =
       let w = waits h.rest h.text h.stands.0 in
       let within = within_feed count h.rest h.text g rest w.0 in
@@ -365,7 +365,7 @@ module _ {count : ℕ} {received sent : List ℕ} {asked : List Act} {pending : 
 
 -- ---- what holds, in the words of connections
 
-pub served_of : (count : ℕ) (received sent : List ℕ) (ended : Bool) (state : State) (asked : List Act) (pending unread : List ℕ) → Holds count received ended sent state asked pending unread
+pub served_of : (count : ℕ) (received sent : List ℕ) (ended : Bool) (state : State) (asked : List Act) (pending unread : List ℕ) → Holds count state (history_by received ended unread asked sent pending)
     → IsServed count (stage_of state) (record { received = received; ended = ended; unread = unread; acts = asked ++ asked_now state; sent = sent; pending = pending })
 served_of count received sent ended states.Head asked pending unread h = record {
   over = h.over;
@@ -436,7 +436,7 @@ stands_more (states.Feed f) count stream acts text unread more going s =
 stands_more (states.Over end) count stream acts text unread more going s = absurd going
 
 pub holds_more : {count : ℕ} {received sent : List ℕ} {state : State} {asked : List Act} {pending unread : List ℕ} (more : List ℕ) → GoesOnIn state
-    → Holds count received false sent state asked pending unread → Holds count (received ++ more) false sent state asked pending (unread ++ more)
+    → Holds count state (history_by received false unread asked sent pending) → Holds count state (history_by (received ++ more) false (unread ++ more) asked sent pending)
 holds_more {count} {received} {sent} {state} {asked} {pending} {unread} more going h = record {
   over = h.over;
   rest = h.rest ++ more;
@@ -458,7 +458,7 @@ stands_ended (states.Feed f) count stream acts text unread going s = s
 stands_ended (states.Over end) count stream acts text unread going s = absurd going
 
 pub holds_ended : {count : ℕ} {received sent : List ℕ} {state : State} {asked : List Act} {pending unread : List ℕ} → GoesOnIn state
-    → Holds count received false sent state asked pending unread → Holds count received true sent state asked pending unread
+    → Holds count state (history_by received false unread asked sent pending) → Holds count state (history_by received true unread asked sent pending)
 holds_ended {count} {received} {sent} {state} {asked} {pending} {unread} going h = record {
   over = h.over;
   rest = h.rest;
@@ -472,7 +472,7 @@ holds_ended {count} {received} {sent} {state} {asked} {pending} {unread} going h
 
 -- so much of what waits was handed out
 pub holds_sent : {count : ℕ} {received sent : List ℕ} {ended : Bool} {state : State} {asked : List Act} {pending unread : List ℕ} (gone waits : List ℕ) → pending ≡ gone ++ waits
-    → Holds count received ended sent state asked pending unread → Holds count received ended (sent ++ gone) state asked waits unread
+    → Holds count state (history_by received ended unread asked sent pending) → Holds count state (history_by received ended unread asked (sent ++ gone) waits)
 holds_sent {count} {received} {sent} {ended} {state} {asked} {pending} {unread} gone waits is h = record {
   over = h.over;
   rest = h.rest;
@@ -487,12 +487,12 @@ holds_sent {count} {received} {sent} {ended} {state} {asked} {pending} {unread} 
 -- ---- a machine by its fields
 
 pub holds_at : {count : ℕ} {received sent : List ℕ} {ended : Bool} {state : State} {asked : List Act} {pending unread : List ℕ} (m : Machine) → m.renditions ≡ count → m.state ≡ state
-    → asked_in m ≡ asked → m.output ≡ pending → Holds count received ended sent state asked pending unread → HoldsAt received ended sent m unread
+    → asked_in m ≡ asked → m.output ≡ pending → Holds count state (history_by received ended unread asked sent pending) → HoldsAt received ended sent m unread
 holds_at {count} {received} {sent} {ended} {state} {asked} {pending} {unread} m c s a p h =
-    let of_count = subst (λ (k : ℕ). Holds k received ended sent state asked pending unread) (sym c) h in
-    let of_state = subst (λ (t : State). Holds m.renditions received ended sent t asked pending unread) (sym s) of_count in
-    let of_asked = subst (λ (acts : List Act). Holds m.renditions received ended sent m.state acts pending unread) (sym a) of_state in
-    subst (λ (xs : List ℕ). Holds m.renditions received ended sent m.state (asked_in m) xs unread) (sym p) of_asked
+    let of_count = subst (λ (k : ℕ). Holds k state (history_by received ended unread asked sent pending)) (sym c) h in
+    let of_state = subst (λ (t : State). Holds m.renditions t (history_by received ended unread asked sent pending)) (sym s) of_count in
+    let of_asked = subst (λ (acts : List Act). Holds m.renditions m.state (history_by received ended unread acts sent pending)) (sym a) of_state in
+    subst (λ (xs : List ℕ). Holds m.renditions m.state (history_by received ended unread (asked_in m) sent xs)) (sym p) of_asked
 
 pub asked_same : (m n : Machine) → n.asked ≡ m.asked → asked_in n ≡ asked_in m
 asked_same m n is = ap (λ (log : Log (List Act) (Unit {0})). flat_map (λ acts. acts.0) log.items) is

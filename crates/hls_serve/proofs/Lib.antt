@@ -1,6 +1,7 @@
 mod AnswerLaws
 mod HoldLaws
 mod PassLaws
-mod TalkLaws
+mod SessionLaws
+pub mod TalkLaws
 mod TurnLaws
 mod WithinLaws

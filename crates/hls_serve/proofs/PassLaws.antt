@@ -1,5 +1,5 @@
 -- What a keeper has seen, from one act to the next, and what its acts come to.
-use Rattle.std.proofs.Common.{◌≡◌, ℕ, Some, None, Option, slice_get, Result, Ok, Err, inl, inr, List, [], ◌∷◌, ◌++◌, map, refl, sym, subst, ap, ◌∙◌, append_assoc}
+use Rattle.std.proofs.Common.{◌≡◌, ℕ, Some, None, Option, slice_get, Ok, Err, inl, inr, List, [], ◌∷◌, ◌++◌, map, refl, sym, subst, ap, ◌∙◌, append_assoc}
 use Rattle.std.proofs.lemmas.List.{map-append}
 use Rattle.std.proofs.lemmas.List.Elements.{All-cons, All-nil}
 use Rattle.hls_media_laws.specs.InitData.{InitData}
@@ -17,45 +17,20 @@ use Rattle.hls_core_laws.specs.State.{State, Held, channel}
 use Rattle.hls_core_laws.specs.IsState.{IsState}
 use Rattle.hls_core_laws.specs.Moves.{IsFittingAsSeen}
 use Rattle.hls_core_laws.specs.Follows.{Follows}
-use Rattle.hls_core_laws.proofs.Callers.{state_of, follows_itself, follows_through, inits_stay, moves_follow, seen_suffices}
-use Rattle.hls_turn.specs.declared.done.Done.{Done}
+use Rattle.hls_core_laws.proofs.Callers.{inits_stay}
 use Rattle.hls_turn.specs.Passes.{Known}
-use Rattle.hls_turn.specs.Calls as calls
 use Rattle.hls_boxes_laws.specs.declared.part.Part.TheVariants as parts
 use Rattle.hls_feed.specs.declared.fault.StreamFault.{StreamFault}
 use Rattle.hls_feed.specs.declared.fault.Untaken.{Untaken}
 use Rattle.hls_feed.specs.declared.fault.Untaken.TheVariants as untaken
-use Rattle.hls_serve_laws.specs.Acts.{Act, Acted, ActsInVain, Chain, IsVain, Leads, Looked, LookedInVain, Looks, Submitted, Submits}
+use Rattle.hls_serve_laws.specs.Acts.{Act, Acted, ActsInVain, IsVain, Leads, Looked, LookedInVain, Looks, Submitted, Submits}
 use Rattle.hls_serve_laws.specs.Ingest.{Progress, FindsInit, PartComes, RefusesUnit}
+use Rattle.hls_serve_laws.proofs.Linking.{acted_follows}
 use Rattle.hls_serve.specs.declared.acts.Noted.{Noted}
 use Rattle.hls_serve.specs.Noted.{act_in}
 use Rattle.hls_serve.specs.Taken.{Finds, HasInit, IsUsable, told_as}
 
 -- ---- what acts lead to
-
--- what was submitted was met by a state, and led to a state that follows it
-submitted_follows : (a b : Known) (event : Event) (answer : Result Done Refusal) → IsState a.seen → IsFittingAsSeen a.seen event → calls.Submits a event answer b
-    → IsState b.seen × Follows a.seen b.seen
-submitted_follows a b event answer valid fits s =
-    let met = state_of a.seen s.met s.follows valid in
-    let moved = moves_follow s.met b.seen a.number event s.outcome met (seen_suffices a.seen s.met event fits s.follows) s.moves in
-    (moved.0, follows_through a.seen s.met b.seen s.follows moved.1)
-
-looked_follows : (a b : Known) → IsState a.seen → calls.LookedOn a b → IsState b.seen × Follows a.seen b.seen
-looked_follows a b valid looked = (state_of a.seen b.seen looked.follows valid, looked.follows)
-
-act_follows : (a b : Known) (act : Act) → IsState a.seen → Leads a act b → IsState b.seen × Follows a.seen b.seen
-act_follows a b (Looked s) valid leads = looked_follows a b valid leads.looked
-act_follows a b LookedInVain valid leads = looked_follows a b valid leads
-act_follows a b (Submitted event answer) valid leads = submitted_follows a b event answer valid leads.0 leads.1
-
-pub chain_follows : (acts : List Act) (a b : Known) → IsState a.seen → Chain a acts b → IsState b.seen × Follows a.seen b.seen
-chain_follows [] a b valid same =
-    subst (λ (k : Known). IsState k.seen × Follows a.seen k.seen) (sym same) (valid, follows_itself a.seen)
-chain_follows (act ∷ acts) a b valid (middle, leads, others) =
-    let first = act_follows a middle act valid leads in
-    let later = chain_follows acts middle b first.0 others in
-    (later.0, follows_through a.seen middle.seen b.seen first.1 later.1)
 
 has_still : (a b : State) (r : ℕ) (init : InitData) → Follows a b → HasInit a r init → HasInit b r init
 has_still a b r init follows has =
@@ -70,8 +45,8 @@ usable_after r a b found valid follows usable = record {
 }
 
 pub usable_acted : (r : ℕ) (a b : Known) (before after : List Act) (found : Option InitData) → Acted a before b after → IsUsable r a found → IsUsable r b found
-usable_acted r a b before after found (acts, is, chain) usable =
-    let w = chain_follows acts a b usable.valid chain in usable_after r a b found w.0 w.1 usable
+usable_acted r a b before after found acted usable =
+    let w = acted_follows a b before after usable.valid acted in usable_after r a b found w.0 w.1.follows usable
 
 -- one act
 pub acted_one : (a b : Known) (before after : List Act) (act : Act) → Leads a act b → after ≡ before ++ act ∷ [] → Acted a before b after
@@ -154,7 +129,7 @@ acted_behind front a b before after (acts, is, chain) =
 
 -- what was seen is still a state
 pub valid_acted : (a b : Known) (before after : List Act) → Acted a before b after → IsState a.seen → IsState b.seen
-valid_acted a b before after (acts, is, chain) valid = (chain_follows acts a b valid chain).0
+valid_acted a b before after acted valid = (acted_follows a b before after valid acted).0
 
 -- ---- the init section of a recording that was shown
 

@@ -1,11 +1,14 @@
 pub mod Counted
 pub mod Endings
 pub mod Exchanges
+pub mod Histories
 pub mod Machine
 pub mod Meanwhile
 pub mod Noted
 pub mod Owned
 pub mod Taken
+pub mod Talks
 pub mod Talking
 pub mod Turns
+pub mod Visits
 pub mod Within

@@ -6,7 +6,7 @@ use Rattle.hls_core_laws.specs.IsState.{IsState}
 use Rattle.hls_http_laws.specs.Heads.{ReadsSmall}
 use Rattle.hls_turn.specs.Passes.{Known}
 use Rattle.hls_serve_laws.specs.Acts.{Act}
-use Rattle.hls_serve_laws.specs.Connections.{Exchange, Serves, Stage, Between, Within, Over, IsBetween, Stands, acts_of, text_of}
+use Rattle.hls_serve_laws.specs.Connections.{Exchange, History, Serves, Stage, Between, Within, Over, IsBetween, Stands, acts_of, output, text_of}
 use Rattle.hls_serve.specs.declared.call.Call.{Call}
 use Rattle.hls_serve.specs.declared.ending.Ending.{Ending}
 use Rattle.hls_serve.specs.declared.ending.Ending.TheVariants as own
@@ -47,20 +47,25 @@ StandsIn (states.Drop d) count ended stream acts text unread = IsDropping count 
 StandsIn (states.Feed f) count ended stream acts text unread = IsFeeding count stream text f unread × (acts ≡ [])
 StandsIn (states.Over end) count ended stream acts text unread = Stands (Over (end_of end)) count ended stream acts text unread
 
--- it holds of what was received and handed out, what was asked for the requests that are over, what waits and what is unread
-pub record Holds (count : ℕ) (received : List ℕ) (ended : Bool) (sent : List ℕ) (state : State) (asked : List Act) (pending unread : List ℕ) : Type 0 where
+-- what was received and handed out, and what was asked for the requests that are over
+abbrev pub history_by : List ℕ → Bool → List ℕ → List Act → List ℕ → List ℕ → History
+history_by received ended unread asked sent pending =
+    record { received = received; ended = ended; unread = unread; acts = asked; sent = sent; pending = pending }
+
+-- it holds of such a history, in such a state
+pub record Holds (count : ℕ) (state : State) (h : History) : Type 0 where
   pub over : List Exchange
   pub rest : List ℕ
-  pub serves : (later : List ℕ) → Serves count (received ++ later) over (rest ++ later)
+  pub serves : (later : List ℕ) → Serves count (h.received ++ later) over (rest ++ later)
   pub acts : List Act
-  pub asked_is : asked ≡ acts_of over ++ acts
+  pub asked_is : h.acts ≡ acts_of over ++ acts
   pub text : List ℕ
-  pub written : sent ++ pending ≡ text_of over ++ text
-  pub stands : StandsIn state count ended rest acts text unread
+  pub written : output h ≡ text_of over ++ text
+  pub stands : StandsIn state count h.ended rest acts text h.unread
 
 -- .. of a machine
 abbrev pub HoldsAt : List ℕ → Bool → List ℕ → Machine → List ℕ → Type 0
-HoldsAt received ended sent m unread = Holds m.renditions received ended sent m.state (asked_in m) m.output unread
+HoldsAt received ended sent m unread = Holds m.renditions m.state (history_by received ended unread (asked_in m) sent m.output)
 
 -- whatever was received and handed out before
 abbrev pub Goes : Bool → Machine → List ℕ → Machine → List ℕ → Type 0
@@ -69,7 +74,7 @@ Goes ended old before new after = (received sent : List ℕ) → HoldsAt receive
 -- .. from a state that was taken out of the machine
 abbrev pub GoesFrom : State → Bool → Machine → List ℕ → Machine → List ℕ → Type 0
 GoesFrom state ended old before new after =
-    (received sent : List ℕ) → Holds old.renditions received ended sent state (asked_in old) old.output before → HoldsAt received ended sent new after
+    (received sent : List ℕ) → Holds old.renditions state (history_by received ended before (asked_in old) sent old.output) → HoldsAt received ended sent new after
 
 -- a head was just taken, of which this was kept
 pub record AtHead (count : ℕ) (received sent : List ℕ) (asked : List Act) (call : Call) (unread : List ℕ) : Type 0 where

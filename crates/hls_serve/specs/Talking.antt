@@ -1,42 +1,48 @@
 -- For the proofs of this crate; no public clause cites it.
--- A session in the middle: what was read and written so far, and where its connection stands.
-use Rattle.std.specs.Prelude.{◌≡◌, ℕ, Bool, List, [], ◌++◌, length, Option, Some, None, IsTrue}
-use Rattle.hls_io.specs.Counted.{failures_of, inside_of}
+-- A session in the middle: what was read and written between two points of it.
+use Rattle.std.specs.Prelude.{◌≡◌, ◌⊎◌, ℕ, List, [], ◌++◌, Option, Some, None, IsTrue}
+use Rattle.std.specs.Io.KnownBytes.{Appends, Consumes, IsAtEnd}
+use Rattle.hls_io.specs.Counted.{failures_of}
 use Rattle.hls_http_laws.specs.declared.end.SessionEnd.{SessionEnd}
 use Rattle.hls_http_laws.specs.declared.end.SessionEnd.TheVariants as ends
 use Rattle.hls_http.specs.declared.session.Session.{Session}
-use Rattle.hls_http.specs.Source.{held_of, read_failures, reader_of}
-use Rattle.hls_turn.specs.Passes.{Known}
-use Rattle.hls_serve_laws.specs.Acts.{Acted}
-use Rattle.hls_serve_laws.specs.Sessions as spec
+use Rattle.hls_http.specs.Source.{read_failures}
+use Rattle.hls_serve_laws.specs.Sessions.{EndsSo}
 use Rattle.hls_serve.specs.declared.machine.Machine.{Machine}
+use Rattle.hls_serve.specs.declared.talk.Talk.{Talk}
 use Rattle.hls_serve.specs.Counted.{CountsSession}
-use Rattle.hls_serve.specs.Machine.{HoldsAt, total}
+use Rattle.hls_serve.specs.Machine.{stage_of}
+use Rattle.hls_serve.specs.Talks.{received_in, sent_in}
 
--- so much of the input was received, and so much was handed out behind what the writer held
-pub record Talking (a : Known) (input out : List ℕ) (b : Known) (machine : Machine) (ended : Bool) (held : List ℕ) (left contents : Option (List ℕ)) : Type 0 where
-  pub count : machine.renditions ≡ length a.seen.config.renditions
-  pub received : List ℕ
-  pub later : List ℕ
-  pub came : input ≡ received ++ later
-  pub left_is : left ≡ Some later
-  pub at_end : IsTrue ended → later ≡ []
-  pub sent : List ℕ
-  pub written : contents ≡ Some (out ++ sent)
-  pub leads : Acted a [] b (total machine)
-  pub holds : HoldsAt received ended sent machine held
+-- so much was read, and the input's end only where nothing is left
+pub record HasRead (old new : Talk) (before left : Option (List ℕ)) : Type 0 where
+  pub bytes : List ℕ
+  pub received : received_in new ≡ received_in old ++ bytes
+  pub consumes : Consumes before left bytes
+  pub at_end : (IsTrue old.ended → IsAtEnd before) → IsTrue new.ended → IsAtEnd left
 
--- it goes on, or was a session
-abbrev pub Turned : Known → List ℕ → List ℕ → Known → Machine → Bool → List ℕ → Option (List ℕ) → Option (List ℕ) → Option SessionEnd → Type 0
-Turned a input out b machine ended held left contents None = Talking a input out b machine ended held left contents
-Turned a input out b machine ended held left contents (Some end) = spec.Session a input out contents b end
+-- what was handed out was written; where a write fails, perhaps some more of what waits
+pub record HasWritten (old new : Talk) (before contents : Option (List ℕ)) (result : Option SessionEnd) : Type 0 where
+  pub gone : List ℕ
+  pub sent : sent_in new ≡ sent_in old ++ gone
+  pub more : List ℕ
+  pub waits : List ℕ
+  pub pending : new.machine.output ≡ more ++ waits
+  pub appends : Appends before contents (gone ++ more)
+  pub whole : (result ≡ Some ends.WriteFailed) ⊎ (more ≡ [])
 
--- whatever led here
-abbrev pub Turns : {R W : Type 0} → (R → Option (List ℕ)) → (W → Option (List ℕ)) → Known → Machine → Bool → Session R W → Known → Machine → Bool → Session R W
-    → Option SessionEnd → Type 0
-Turns remaining contents old before ended from new after over to result =
-    (a : Known) (input out : List ℕ) → Talking a input out old before ended (held_of from.source) (remaining (reader_of from.source)) (contents (inside_of from.writer))
-    → Turned a input out new after over (held_of to.source) (remaining (reader_of to.source)) (contents (inside_of to.writer)) result
+-- all but what waits and was handed out stays
+pub record StaysBut (old new : Talk) : Type 0 where
+  pub came : new.came ≡ old.came
+  pub ended : new.ended ≡ old.ended
+  pub renditions : new.machine.renditions ≡ old.machine.renditions
+  pub state : new.machine.state ≡ old.machine.state
+  pub asked : new.machine.asked ≡ old.machine.asked
+
+-- it goes on, or ends so
+abbrev pub EndsIn : Option SessionEnd → Machine → Type 0
+EndsIn None m = Unit {0}
+EndsIn (Some end) m = EndsSo end (stage_of m.state) m.output
 
 -- a failure is told only where one was counted
 abbrev pub CountsTurn : Option SessionEnd → ℕ → ℕ → ℕ → ℕ → Type 0
@@ -46,21 +52,3 @@ CountsTurn (Some end) old_reads reads old_writes writes = CountsSession end old_
 abbrev pub TurnCounts : {R W : Type 0} → Session R W → Session R W → Option SessionEnd → Type 0
 TurnCounts old new result =
     CountsTurn result (read_failures old.source) (read_failures new.source) (failures_of old.writer) (failures_of new.writer)
-
--- all of a machine but what waits stays
-pub record StaysBut (old new : Machine) : Type 0 where
-  pub renditions : new.renditions ≡ old.renditions
-  pub state : new.state ≡ old.state
-  pub asked : new.asked ≡ old.asked
-
--- the front of what waits was written behind what was held
-pub record Hands (pending waits held : List ℕ) (contents : Option (List ℕ)) : Type 0 where
-  pub gone : List ℕ
-  pub split : pending ≡ gone ++ waits
-  pub written : contents ≡ Some (held ++ gone)
-
--- .. and goes; or some of it was, and then a write failed
-abbrev pub HandsOut : Machine → Machine → Option (List ℕ) → Option (List ℕ) → Option SessionEnd → Type 0
-HandsOut old new before contents None = StaysBut old new × ((held : List ℕ) → before ≡ Some held → Hands old.output new.output held contents)
-HandsOut old new before contents (Some end) =
-    StaysBut old new × (end ≡ ends.WriteFailed) × ((held : List ℕ) → before ≡ Some held → (waits : List ℕ) × Hands old.output waits held contents)

@@ -34,6 +34,7 @@ impl Dropping {
         ensures drops { (count : ℕ) (stream first : List ℕ) → IsDropping count stream first self.old input.old.unread → DropsOn count stream first self.new input.new.unread result }
         ensures replied { IsToReply IsToDrop result }
         ensures waits { result ≡ nexts.Wait → length input.new.unread < 16384 }
+        ensures room { input.new.room ≡ input.old.room }
         ensures call { self.new.call ≡ self.old.call }
         ensures route { self.new.route ≡ self.old.route }
     {

@@ -59,6 +59,7 @@ impl Feeding {
         ensures waits { result ≡ nexts.Wait → length input.new.unread < 16384 }
         ensures leads { Acted (K.known keeper.old) self.old.taken.acts (K.known keeper.new) self.new.taken.acts }
         ensures feeds { (count : ℕ) (stream first : List ℕ) → IsFeeding count stream first self.old input.old.unread → FeedsOn count stream first self.new input.new.unread result }
+        ensures room { input.new.room ≡ input.old.room }
         ensures call { self.new.call ≡ self.old.call }
         ensures rendition { self.new.rendition ≡ self.old.rendition }
     {
@@ -81,6 +82,7 @@ impl Feeding {
         ensures waits { result ≡ nexts.Wait → length input.new.unread < 16384 }
         ensures leads { Acted (K.known keeper.old) self.old.taken.acts (K.known keeper.new) self.new.taken.acts }
         ensures feeds { (count : ℕ) (stream first : List ℕ) → IsFeeding count stream first self.old input.old.unread → FeedsOn count stream first self.new input.new.unread result }
+        ensures room { input.new.room ≡ input.old.room }
         ensures call { self.new.call ≡ self.old.call }
         ensures rendition { self.new.rendition ≡ self.old.rendition }
     {

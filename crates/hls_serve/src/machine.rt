@@ -1,12 +1,12 @@
 //! The steps of a connection, each from one place in its stream to the next. No system call is made, and nobody is waited for but
 //! the keeper.
 
-ghost use Rattle.std.specs.Prelude.{◌≡◌, ◌++◌, ℕ, List, [], length, Bool, IsFalse};
+ghost use Rattle.std.specs.Prelude.{◌≡◌, ◌↔◌, ◌++◌, ℕ, List, [], length, Bool, IsFalse};
 ghost use Rattle.hls_core_laws.specs.IsState.{IsState};
 ghost use Rattle.hls_turn.specs.Passes.{Known};
 ghost use Rattle.hls_serve_laws.specs.Acts.{Acted};
 ghost use Rattle.hls_serve.specs.declared.machine.State.TheVariants as states;
-ghost use Rattle.hls_serve.specs.Machine.{Goes, GoesBehind, GoesFrom, Rests, Suits, SuitsIn, asked_in, asked_now, state_behind, total, waited_head};
+ghost use Rattle.hls_serve.specs.Machine.{Goes, GoesBehind, GoesFrom, GoesOnIn, Rests, Suits, SuitsIn, asked_in, asked_now, state_behind, total, waited_head};
 ghost use Rattle.httparse.specs.Grammar.{RequestHead};
 ghost use Rattle.hls_serve_laws.specs.Heard.{first_of};
 ghost use Rattle.hls_serve.specs.Taken.{IsUsable};
@@ -182,6 +182,7 @@ impl Machine {
         requires head { self.old.state ≡ State.Head }
         requires sent { length self.old.output ≡ 0 }
         ensures goes { Goes ended self.old input.old.unread self.new input.new.unread }
+        ensures room { input.new.room ≡ input.old.room }
         ensures asked { self.new.asked ≡ self.old.asked }
         ensures renditions { self.new.renditions ≡ self.old.renditions }
         ensures fresh { asked_now self.new.state ≡ [] }
@@ -240,6 +241,7 @@ impl Machine {
         requires valid { IsState (K.known keeper.old).seen }
         requires dropped { DropsBody dropping }
         ensures goes { GoesFrom (states.Drop dropping) ended self.old input.old.unread self.new input.new.unread }
+        ensures room { input.new.room ≡ input.old.room }
         ensures leads { Acted (K.known keeper.old) (asked_in self.old) (K.known keeper.new) (total self.new) }
         ensures renditions { self.new.renditions ≡ self.old.renditions }
         ensures suits { Suits (K.known keeper.new) self.new }
@@ -280,6 +282,7 @@ impl Machine {
         requires sent { length self.old.output ≡ 0 }
         requires usable { IsUsable feeding.rendition (K.known keeper.old) feeding.taken.init }
         ensures goes { GoesFrom (states.Feed feeding) ended self.old input.old.unread self.new input.new.unread }
+        ensures room { input.new.room ≡ input.old.room }
         ensures leads { Acted (K.known keeper.old) (asked_in self.old ++ feeding.taken.acts) (K.known keeper.new) (total self.new) }
         ensures renditions { self.new.renditions ≡ self.old.renditions }
         ensures suits { Suits (K.known keeper.new) self.new }
@@ -319,6 +322,7 @@ impl Machine {
     ) -> bool
         requires suits { Suits (K.known keeper.old) self.old }
         ensures goes { Goes ended self.old input.old.unread self.new input.new.unread }
+        ensures room { input.new.room ≡ input.old.room }
         ensures leads { Acted (K.known keeper.old) (total self.old) (K.known keeper.new) (total self.new) }
         ensures renditions { self.new.renditions ≡ self.old.renditions }
         ensures suits { Suits (K.known keeper.new) self.new }
@@ -336,6 +340,13 @@ impl Machine {
                 false
             }
         }
+    }
+
+    /// Whether all is over.
+    pub fn is_over(&self) -> bool
+        ensures { IsFalse result ↔ GoesOnIn self.now.state }
+    {
+        matches!(self.state, State::Over(_))
     }
 
     /// Tells that no more of an encoder's body comes, since a read failed.

@@ -2,4 +2,5 @@ pub mod Acting
 mod Allowed
 mod Examples
 mod Jobs
+pub mod Linking
 mod Requests

@@ -6,6 +6,7 @@ pub mod Ingest
 pub mod JobLaws
 pub mod JobReplies
 pub mod JobTable
+pub mod Linked
 pub mod Playlists
 pub mod Queries
 pub mod Replies

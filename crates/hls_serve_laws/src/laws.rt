@@ -1,6 +1,7 @@
 //! Theorems about the definitions. Each function has no body: its contract is the law.
 
 ghost use Rattle.hls_serve_laws.specs.JobLaws.{FilesAreRight, LinesAreRight};
+ghost use Rattle.hls_serve_laws.specs.Linked.{ActsAreLater, ActsLink, LinksFollow, LinksStay};
 ghost use Rattle.hls_serve_laws.specs.RequestLaws.{RequestsAreRead};
 ghost use Rattle.hls_serve_laws.specs.RouteLaws.{AllowNamesMethods};
 
@@ -25,4 +26,16 @@ pub fn allow_names_methods()
 /// each a head and its whole body, and what is to come stands right behind them.
 pub fn requests_are_read()
     ensures { RequestsAreRead }
+{}
+
+/// Acts that lead on from one another link to those of the same connection before, whatever others did between.
+pub fn acts_link()
+    ensures link { ActsLink }
+    ensures stay { LinksStay }
+{}
+
+/// Linked acts lead from a state to one that follows it; so does each act of another's.
+pub fn links_follow()
+    ensures follow { LinksFollow }
+    ensures acts { ActsAreLater }
 {}

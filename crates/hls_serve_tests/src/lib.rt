@@ -34,4 +34,6 @@ mod smuggling;
 #[cfg(test)]
 mod streams;
 #[cfg(test)]
+mod visits;
+#[cfg(test)]
 mod went;

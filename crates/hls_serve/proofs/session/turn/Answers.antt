@@ -1,41 +1,84 @@
-use Rattle.std.proofs.Common.{Bool, length, refl, sym, subst}
+use Rattle.std.proofs.Common.{◌∙◌, List, length, Some, ap, sym, subst, arith}
 use Rattle.std.proofs.lemmas.Bool.{eqb-true}
 use Rattle.hls_io.specs.Counted.{failures_of, inside_of}
 use Rattle.hls_http_laws.specs.declared.end.SessionEnd.{SessionEnd}
-use Rattle.hls_http.specs.Source.{held_of, read_failures, reader_of}
-use Rattle.hls_serve_laws.specs.Sessions.{Session}
+use Rattle.hls_http.specs.Source.{read_failures, reader_of}
+use Rattle.hls_serve_laws.specs.Acts.{Act, Acted}
+use Rattle.hls_serve.specs.declared.machine.Machine.{Machine}
 use Rattle.hls_serve.specs.Counted.{CountsSession}
-use Rattle.hls_serve.specs.Talking.{Talking}
-use Rattle.hls_serve.proofs.TalkLaws.{counts_own, goes_on, rests_open, talk_ends, talk_fails, talk_hands, talk_reads, talk_steps, talk_stops}
+use Rattle.hls_serve.specs.Machine.{asked_in, total}
+use Rattle.hls_serve.specs.Talking.{EndsIn}
+use Rattle.hls_serve.proofs.HoldLaws.{asked_same}
+use Rattle.hls_serve.proofs.SessionLaws.{counts_own, ends_itself, goes_on, read_none, read_quiet, rests_open, written_none, written_quiet}
+use Rattle.hls_serve.proofs.TalkLaws.{received_same, sent_same, suited_same, total_same}
 use Rattle.hls_serve.proofs.session.turn.Goals as goal
 
-pub returns-then-step-clause-turns : goal.returns-then-step-clause-turns
-returns-then-step-clause-turns g c = λ a input out t.
-    let old = c.args.session.now in
-    talk_steps a input out (g.K.Keeper.known c.args.keeper.now) (g.K.Keeper.known c.step.new.keeper) c.args.machine.now c.step.new.self c.args.ended.now (held_of old.source) c.step.new.input.unread
-    (g.R.Read.remaining (reader_of old.source)) (g.W.Write.contents (inside_of old.writer)) t c.step.ensures.goes c.step.ensures.renditions c.step.ensures.leads
+-- ---- the connection goes on
 
-pub returns-then-not-is_empty-clause-turns : goal.returns-then-not-is_empty-clause-turns
-returns-then-not-is_empty-clause-turns g c = λ a input out t.
-    let old = c.args.session.now in
-    let b = g.K.Keeper.known c.step.new.keeper in
-    let left = g.R.Read.remaining (reader_of old.source) in
-    let contents = g.W.Write.contents (inside_of old.writer) in
-    let s = talk_steps a input out (g.K.Keeper.known c.args.keeper.now) b c.args.machine.now c.step.new.self c.args.ended.now (held_of old.source) c.step.new.input.unread
-    left contents t c.step.ensures.goes c.step.ensures.renditions c.step.ensures.leads in
-    talk_hands a input out c.hand_out.result b c.step.new.self c.hand_out.new.machine c.args.ended.now c.step.new.input.unread left contents _ s c.hand_out.ensures.output
+pub returns-then-advance-clause-reads : goal.returns-then-advance-clause-reads
+returns-then-advance-clause-reads g c =
+    let t = c.args.talk.now in
+    let n = c.advance.new.self in
+    read_none t n (g.R.Read.remaining (reader_of c.args.session.now.source)) (received_same t n c.advance.ensures.quiet.came) c.advance.ensures.quiet.ended
 
-pub returns-in-Over-clause-turns : goal.returns-in-Over-clause-turns
-returns-in-Over-clause-turns g c = λ a input out t.
-    let old = c.args.session.now in
-    let b = g.K.Keeper.known c.step.new.keeper in
-    let left = g.R.Read.remaining (reader_of old.source) in
-    let contents = g.W.Write.contents (inside_of old.writer) in
-    let s = talk_steps a input out (g.K.Keeper.known c.args.keeper.now) b c.args.machine.now c.step.new.self c.args.ended.now (held_of old.source) c.step.new.input.unread
-    left contents t c.step.ensures.goes c.step.ensures.renditions c.step.ensures.leads in
-    let empty = eqb-true (length c.step.new.self.output) 0 (sym c.if-not-is_empty.ensures) in
-    subst (λ (e : SessionEnd). Session a input out contents b e) (sym c.end.ensures)
-    (talk_stops a input out b c.step.new.self c.args.ended.now c.step.new.input.unread left contents c.in-Over.end s c.in-Over.is empty)
+pub returns-then-advance-clause-written : goal.returns-then-advance-clause-written
+returns-then-advance-clause-written g c =
+    let t = c.args.talk.now in
+    let n = c.advance.new.self in
+    written_none t n (g.W.Write.contents (inside_of c.args.session.now.writer)) _ (sent_same t n c.advance.ensures.quiet.gone)
+
+-- ---- what waits is handed out
+
+pub returns-then-not-is_empty-clause-suits : goal.returns-then-not-is_empty-clause-suits
+returns-then-not-is_empty-clause-suits g c =
+    let t = c.advance.new.self in
+    let n = c.hand_out.new.talk in
+    let stays = c.hand_out.ensures.stays in
+    suited_same (g.K.Keeper.known c.advance.new.keeper) t n stays.renditions stays.state (asked_same t.machine n.machine stays.asked) c.advance.ensures.suits
+
+pub returns-then-not-is_empty-clause-acted : goal.returns-then-not-is_empty-clause-acted
+returns-then-not-is_empty-clause-acted g c =
+    let t = c.advance.new.self in
+    let n = c.hand_out.new.talk in
+    let stays = c.hand_out.ensures.stays in
+    subst (λ (acts : List Act). Acted (g.K.Keeper.known c.args.keeper.now) (total c.args.talk.now.machine) (g.K.Keeper.known c.advance.new.keeper) acts)
+    (sym (total_same t n stays.state (asked_same t.machine n.machine stays.asked))) c.advance.ensures.acted
+
+pub returns-then-not-is_empty-clause-holds : goal.returns-then-not-is_empty-clause-holds
+returns-then-not-is_empty-clause-holds g c = λ h. c.hand_out.ensures.holds c.advance.new.input.unread (c.advance.ensures.holds h)
+
+pub returns-then-not-is_empty-clause-reads : goal.returns-then-not-is_empty-clause-reads
+returns-then-not-is_empty-clause-reads g c =
+    let t = c.args.talk.now in
+    let n = c.hand_out.new.talk in
+    let stays = c.hand_out.ensures.stays in
+    let quiet = c.advance.ensures.quiet in
+    read_none t n (g.R.Read.remaining (reader_of c.args.session.now.source)) (received_same t n (stays.came ∙ quiet.came)) (stays.ended ∙ quiet.ended)
+
+pub returns-then-not-is_empty-clause-written : goal.returns-then-not-is_empty-clause-written
+returns-then-not-is_empty-clause-written g c =
+    let t = c.args.talk.now in
+    let u = c.advance.new.self in
+    written_quiet t u c.hand_out.new.talk (g.W.Write.contents (inside_of c.args.session.now.writer)) _ c.hand_out.result (sent_same t u c.advance.ensures.quiet.gone) c.hand_out.ensures.written
+
+-- ---- all is over
+
+pub returns-in-Over-clause-reads : goal.returns-in-Over-clause-reads
+returns-in-Over-clause-reads g c =
+    let t = c.args.talk.now in
+    let n = c.advance.new.self in
+    read_none t n (g.R.Read.remaining (reader_of c.args.session.now.source)) (received_same t n c.advance.ensures.quiet.came) c.advance.ensures.quiet.ended
+
+pub returns-in-Over-clause-written : goal.returns-in-Over-clause-written
+returns-in-Over-clause-written g c =
+    let t = c.args.talk.now in
+    let n = c.advance.new.self in
+    written_none t n (g.W.Write.contents (inside_of c.args.session.now.writer)) _ (sent_same t n c.advance.ensures.quiet.gone)
+
+pub returns-in-Over-clause-ends : goal.returns-in-Over-clause-ends
+returns-in-Over-clause-ends g c =
+    let m = c.advance.new.self.machine in
+    subst (λ (e : SessionEnd). EndsIn (Some e) m) (sym c.end.ensures) (ends_itself m c.in-Over.end c.in-Over.is (eqb-true (length m.output) 0 (sym c.if-not-is_empty.ensures)))
 
 pub returns-in-Over-clause-counts : goal.returns-in-Over-clause-counts
 returns-in-Over-clause-counts g c =
@@ -43,57 +86,43 @@ returns-in-Over-clause-counts g c =
     subst (λ (e : SessionEnd). CountsSession e (read_failures old.source) (read_failures old.source) (failures_of old.writer) (failures_of old.writer)) (sym c.end.ensures)
     (counts_own c.in-Over.end (read_failures old.source) (failures_of old.writer))
 
-pub returns-in-More : goal.returns-in-More
-returns-in-More g c = record {
-  suits = c.step.ensures.suits;
-  turns = λ a input out t.
-      let old = c.args.session.now in
-      let b = g.K.Keeper.known c.step.new.keeper in
-      let m = c.step.new.self in
-      let left = g.R.Read.remaining (reader_of old.source) in
-      let contents = g.W.Write.contents (inside_of old.writer) in
-      let s = talk_steps a input out (g.K.Keeper.known c.args.keeper.now) b c.args.machine.now m c.args.ended.now (held_of old.source) c.step.new.input.unread
-      left contents t c.step.ensures.goes c.step.ensures.renditions c.step.ensures.leads in
-      let going = goes_on m.state c.in_default.not-Over in
-      let empty = eqb-true (length m.output) 0 (sym c.if-not-is_empty.ensures) in
-      let waits = rests_open c.args.ended.now m c.step.new.input.unread empty going (c.step.ensures.rests c.if-step.false) in
-      let at = subst (λ (e : Bool). Talking a input out b m e c.step.new.input.unread left contents) waits s in
-      subst (λ (e : Bool). Talking a input out b m e (held_of c.fill.new.self) (g.R.Read.remaining (reader_of c.fill.new.self)) contents) (sym waits)
-      (talk_reads a input out b m c.step.new.input.unread (held_of c.fill.new.self) left _ contents at going c.in-More.ensures.fills);
-  counts = (c.in-More.ensures.counts, refl);
-}
+-- ---- more is read
 
-pub returns-in-AtEnd : goal.returns-in-AtEnd
-returns-in-AtEnd g c = record {
-  suits = c.step.ensures.suits;
-  turns = λ a input out t.
-      let old = c.args.session.now in
-      let b = g.K.Keeper.known c.step.new.keeper in
-      let m = c.step.new.self in
-      let left = g.R.Read.remaining (reader_of old.source) in
-      let contents = g.W.Write.contents (inside_of old.writer) in
-      let s = talk_steps a input out (g.K.Keeper.known c.args.keeper.now) b c.args.machine.now m c.args.ended.now (held_of old.source) c.step.new.input.unread
-      left contents t c.step.ensures.goes c.step.ensures.renditions c.step.ensures.leads in
-      let going = goes_on m.state c.in_default.not-Over in
-      let empty = eqb-true (length m.output) 0 (sym c.if-not-is_empty.ensures) in
-      let waits = rests_open c.args.ended.now m c.step.new.input.unread empty going (c.step.ensures.rests c.if-step.false) in
-      let at = subst (λ (e : Bool). Talking a input out b m e c.step.new.input.unread left contents) waits s in
-      talk_ends a input out b m c.step.new.input.unread (held_of c.fill.new.self) left _ contents at going c.in-AtEnd.ensures.fills;
-  counts = (c.in-AtEnd.ensures.counts, refl);
-}
+pub take_more-requires : goal.take_more-requires
+take_more-requires g c =
+    let n = c.advance.new.self in
+    let empty = eqb-true (length n.machine.output) 0 (sym c.if-not-is_empty.ensures) in
+    let going = goes_on n.machine.state c.in_default.not-Over in
+    let rests = rests_open n.ended n.machine c.advance.new.input.unread empty going (c.advance.ensures.rests c.if-advance.false) in
+    record { few = omega (arith, rests.1); sent = empty; unended = rests.0; goes_on = going }
 
-pub returns-in-Failed : goal.returns-in-Failed
-returns-in-Failed g c = record {
-  suits = c.step.ensures.suits;
-  turns = λ a input out t.
-      let old = c.args.session.now in
-      let b = g.K.Keeper.known c.step.new.keeper in
-      let m = c.step.new.self in
-      let left = g.R.Read.remaining (reader_of old.source) in
-      let contents = g.W.Write.contents (inside_of old.writer) in
-      let s = talk_steps a input out (g.K.Keeper.known c.args.keeper.now) b c.args.machine.now m c.args.ended.now (held_of old.source) c.step.new.input.unread
-      left contents t c.step.ensures.goes c.step.ensures.renditions c.step.ensures.leads in
-      let empty = eqb-true (length m.output) 0 (sym c.if-not-is_empty.ensures) in
-      talk_fails a input out b m c.args.ended.now c.step.new.input.unread left contents s (goes_on m.state c.in_default.not-Over) empty;
-  counts = (c.in-Failed.ensures.counts, refl);
-}
+pub returns-clause-suits : goal.returns-clause-suits
+returns-clause-suits g c =
+    let t = c.advance.new.self in
+    let n = c.take_more.new.talk in
+    let m = c.take_more.ensures.machine in
+    suited_same (g.K.Keeper.known c.advance.new.keeper) t n (ap (λ (k : Machine). k.renditions) m) (ap (λ (k : Machine). k.state) m) (ap asked_in m) c.advance.ensures.suits
+
+pub returns-clause-acted : goal.returns-clause-acted
+returns-clause-acted g c =
+    subst (λ (m : Machine). Acted (g.K.Keeper.known c.args.keeper.now) (total c.args.talk.now.machine) (g.K.Keeper.known c.advance.new.keeper) (total m)) (sym c.take_more.ensures.machine)
+    c.advance.ensures.acted
+
+pub returns-clause-holds : goal.returns-clause-holds
+returns-clause-holds g c = λ h. c.take_more.ensures.holds (c.advance.ensures.holds h)
+
+pub returns-clause-reads : goal.returns-clause-reads
+returns-clause-reads g c =
+    let t = c.args.talk.now in
+    let u = c.advance.new.self in
+    let quiet = c.advance.ensures.quiet in
+    read_quiet t u c.take_more.new.talk (g.R.Read.remaining (reader_of c.args.session.now.source)) _ (received_same t u quiet.came) quiet.ended c.take_more.ensures.reads
+
+pub returns-clause-written : goal.returns-clause-written
+returns-clause-written g c =
+    let t = c.args.talk.now in
+    let n = c.take_more.new.talk in
+    written_none t n (g.W.Write.contents (inside_of c.args.session.now.writer)) _ (sent_same t n (c.take_more.ensures.gone ∙ c.advance.ensures.quiet.gone))
+
+pub returns-clause-renditions : goal.returns-clause-renditions
+returns-clause-renditions g c = ap (λ (k : Machine). k.renditions) c.take_more.ensures.machine ∙ c.advance.ensures.quiet.renditions

@@ -1,7 +1,7 @@
 use Rattle.std.proofs.Common.{Bool, inr, rules, subst, sym, []}
 use Rattle.hls_serve.specs.declared.ending.Ending.TheVariants as own
 use Rattle.hls_serve.specs.declared.machine.State.TheVariants as states
-use Rattle.hls_serve.specs.Machine.{Holds, asked_in}
+use Rattle.hls_serve.specs.Machine.{Holds, asked_in, history_by}
 use Rattle.hls_serve.proofs.HoldLaws.{drop_cut, drop_goes, drop_replied, holds_at, suits_behind}
 use Rattle.hls_serve.proofs.PassLaws.{valid_acted}
 use Rattle.hls_serve.proofs.machine.Machine.drop_on.Goals as goal
@@ -13,8 +13,8 @@ pub returns-then-ended-clause-goes : goal.returns-then-ended-clause-goes
 returns-then-ended-clause-goes g c = λ received sent h.
     let m = c.args.self.now in
     let yes = c.if-ended.true in
-    let at = subst (λ (e : Bool). Holds m.renditions received e sent (states.Drop c.args.dropping) (asked_in m) m.output c.args.input.now.unread) yes h in
-    subst (λ (e : Bool). Holds m.renditions received e sent (states.Over own.CutShort) (asked_in m) m.output c.step.new.input.unread) (sym yes)
+    let at = subst (λ (e : Bool). Holds m.renditions (states.Drop c.args.dropping) (history_by received e c.args.input.now.unread (asked_in m) sent m.output)) yes h in
+    subst (λ (e : Bool). Holds m.renditions (states.Over own.CutShort) (history_by received e c.step.new.input.unread (asked_in m) sent m.output)) (sym yes)
     (drop_cut (λ stream first x. let w = c.in-Wait.ensures.drops m.renditions stream first x in (w.0, w.2)) at)
 
 pub returns-else-ended-clause-goes : goal.returns-else-ended-clause-goes

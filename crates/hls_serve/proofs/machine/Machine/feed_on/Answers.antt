@@ -2,7 +2,7 @@ use Rattle.std.proofs.Common.{◌++◌, Bool, List, inr, refl, rules, subst, sym
 use Rattle.hls_serve_laws.specs.Acts.{Act, Acted}
 use Rattle.hls_serve.specs.declared.ending.Ending.TheVariants as own
 use Rattle.hls_serve.specs.declared.machine.State.TheVariants as states
-use Rattle.hls_serve.specs.Machine.{Holds, asked_in}
+use Rattle.hls_serve.specs.Machine.{Holds, asked_in, history_by}
 use Rattle.hls_serve.proofs.HoldLaws.{asked_more, feed_cut, feed_goes, feed_replied, holds_at, total_behind}
 use Rattle.hls_serve.proofs.PassLaws.{acted_behind}
 use Rattle.hls_serve.proofs.machine.Machine.feed_on.Goals as goal
@@ -14,10 +14,10 @@ pub returns-then-ended-clause-goes : goal.returns-then-ended-clause-goes
 returns-then-ended-clause-goes g c = λ received sent h.
     let m = c.args.self.now in
     let yes = c.if-ended.true in
-    let at = subst (λ (e : Bool). Holds m.renditions received e sent (states.Feed c.args.feeding) (asked_in m) m.output c.args.input.now.unread) yes h in
+    let at = subst (λ (e : Bool). Holds m.renditions (states.Feed c.args.feeding) (history_by received e c.args.input.now.unread (asked_in m) sent m.output)) yes h in
     let cut = feed_cut (λ stream first x. let w = c.in-Wait.ensures.feeds m.renditions stream first x in (w.0, w.2)) at in
     holds_at (record m { state = states.Over own.CutShort; asked = c.and-self.result }) refl refl (asked_more m.asked.items c.and-self.result.items _ _ c.and-self.ensures) refl
-    (subst (λ (e : Bool). Holds m.renditions received e sent (states.Over own.CutShort) (asked_in m ++ c.step.new.self.taken.acts) m.output c.step.new.input.unread) (sym yes) cut)
+    (subst (λ (e : Bool). Holds m.renditions (states.Over own.CutShort) (history_by received e c.step.new.input.unread (asked_in m ++ c.step.new.self.taken.acts) sent m.output)) (sym yes) cut)
 
 pub returns-else-ended-clause-goes : goal.returns-else-ended-clause-goes
 returns-else-ended-clause-goes g c = λ received sent h. feed_goes (λ stream first x. (c.in-Wait.ensures.feeds c.args.self.now.renditions stream first x).0) h

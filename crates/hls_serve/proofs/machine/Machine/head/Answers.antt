@@ -4,7 +4,7 @@ use Rattle.hls_http_laws.specs.Heads.{ReadsSmall}
 use Rattle.hls_http.specs.Heads.{IsHead}
 use Rattle.hls_http.specs.Texts.{Texts}
 use Rattle.hls_serve.specs.declared.machine.State.{State}
-use Rattle.hls_serve.specs.Machine.{Holds, asked_in}
+use Rattle.hls_serve.specs.Machine.{Holds, asked_in, history_by}
 use Rattle.hls_serve.proofs.HoldLaws.{asked_same, head_found, head_refused, holds_at}
 use Rattle.hls_serve.proofs.machine.Machine.head.Goals as goal
 
@@ -13,7 +13,7 @@ returns-in-Ok-clause-goes g c = λ received sent h.
     let m = c.args.self.now in
     let unread = c.args.input.now.unread in
     let found = rw c.unread.ensures.unread at c.in-Ok.ensures in
-    let at = subst (λ (s : State). Holds m.renditions received c.args.ended sent s (asked_in m) m.output unread) c.requires.head h in
+    let at = subst (λ (s : State). Holds m.renditions s (history_by received c.args.ended unread (asked_in m) sent m.output)) c.requires.head h in
     let gone = ap (λ (t : Texts). t.unread) c.take.ensures in
     let kept = c.taken.ensures.taken ∙ ap (λ (t : Texts). t.taken) c.take.ensures in
     let call = c.read_call-call.ensures found.1.tree (subst (λ (t : List ℕ). IsHead found.1.tree c.in-Ok.head t) (sym kept) found.1.is) in
@@ -26,7 +26,7 @@ returns-in-Err-Hopeless-clause-goes g c = λ received sent h.
     let m = c.args.self.now in
     let unread = c.args.input.now.unread in
     let never = rw (c.in-Err-Hopeless.field-0-is, c.unread.ensures.unread) at c.in-Err-Hopeless.ensures in
-    let at = subst (λ (s : State). Holds m.renditions received c.args.ended sent s (asked_in m) m.output unread) c.requires.head h in
+    let at = subst (λ (s : State). Holds m.renditions s (history_by received c.args.ended unread (asked_in m) sent m.output)) c.requires.head h in
     holds_at c.answer.new.self c.answer.ensures.renditions c.answer.ensures.state (asked_same m c.answer.new.self c.answer.ensures.asked) c.answer.ensures.output
     (head_refused m.renditions received sent c.args.ended (asked_in m) m.output c.refuse_head-made.result.output unread c.refuse_head-made.result.end http.BadHead c.requires.sent at
     (λ due is. inl (never, is)) c.refuse_head-made.ensures)
@@ -36,7 +36,7 @@ returns-in-Err-TooLarge-clause-goes g c = λ received sent h.
     let m = c.args.self.now in
     let unread = c.args.input.now.unread in
     let large = rw (c.in-Err-TooLarge.field-0-is, c.unread.ensures.unread) at c.in-Err-TooLarge.ensures in
-    let at = subst (λ (s : State). Holds m.renditions received c.args.ended sent s (asked_in m) m.output unread) c.requires.head h in
+    let at = subst (λ (s : State). Holds m.renditions s (history_by received c.args.ended unread (asked_in m) sent m.output)) c.requires.head h in
     holds_at c.answer-in-Err-TooLarge.new.self c.answer-in-Err-TooLarge.ensures.renditions c.answer-in-Err-TooLarge.ensures.state
     (asked_same m c.answer-in-Err-TooLarge.new.self c.answer-in-Err-TooLarge.ensures.asked) c.answer-in-Err-TooLarge.ensures.output
     (head_refused m.renditions received sent c.args.ended (asked_in m) m.output c.refuse_head-made-in-Err-TooLarge.result.output unread c.refuse_head-made-in-Err-TooLarge.result.end http.HeadTooLarge c.requires.sent at

@@ -1,0 +1,27 @@
+use Rattle.std.proofs.Common.{◌∙◌, ◌++◌, ℕ, List, [], take, drop, ap, append-nil}
+use Rattle.hls_http.proofs.Buffers.{count_of, held_more, held_none}
+use Rattle.hls_http.proofs.input.read_some_on.Goals as goal
+
+pub returns-in-Ok-clause-came : goal.returns-in-Ok-clause-came
+returns-in-Ok-clause-came g c =
+    let moved : List ℕ = c.make_room-start.new.buffer in
+    let items : List ℕ = c.read_plainly.new.buffer in
+    let start : ℕ = c.make_room-start.result.0 in
+    let end : ℕ = c.make_room-start.result.1 in
+    let read : ℕ = c.in-Ok.read in (
+      take read (drop end items),
+      count_of read (drop end items) c.in-Ok.ensures.bound,
+      held_more moved items start end read c.make_room-start.ensures.ordered c.read_plainly.ensures.front ∙ ap (λ xs. xs ++ take read (drop end items)) c.make_room-start.ensures.same,
+      c.in-Ok.ensures.bytes,
+      c.in-Ok.ensures.end,
+    )
+
+pub returns-in-Err-clause-came : goal.returns-in-Err-clause-came
+returns-in-Err-clause-came g c =
+    let moved : List ℕ = c.make_room-start.new.buffer in
+    let items : List ℕ = c.read_plainly.new.buffer in
+    let start : ℕ = c.make_room-start.result.0 in
+    let end : ℕ = c.make_room-start.result.1 in (
+      held_none moved items start end c.make_room-start.ensures.ordered c.read_plainly.ensures.front ∙ append-nil _ ∙ c.make_room-start.ensures.same,
+      c.in-Err.ensures.kept,
+    )

@@ -1,0 +1,184 @@
+//! A connection as a value, which makes no call of the system and waits for nobody but its keeper.
+
+ghost use Rattle.std.specs.Prelude.{◌≡◌, ◌≤◌, ◌<◌, ◌↔◌, ℕ, List, length, IsTrue, IsFalse, IfOk, IfSome, IfNone, OnErr};
+ghost use Rattle.std.specs.Io.KnownBytes.{Consumes, IsAtEnd, Keeps};
+ghost use Rattle.bytes.specs.Unread.{IsChunkOf};
+ghost use Rattle.hls_turn.specs.Passes.{Known};
+ghost use Rattle.hls_serve_laws.specs.Acts.{Acted};
+ghost use Rattle.hls_serve_laws.specs.Connections.{IsServed, Over};
+ghost use Rattle.hls_serve_laws.specs.Linked.{Later};
+ghost use Rattle.hls_serve_laws.specs.Sessions.{GoesOn};
+ghost use Rattle.hls_serve.specs.Histories.{StaysQuiet, after_read, after_sent, new_history};
+ghost use Rattle.hls_serve.specs.Talks.{HoldsOf};
+
+use crate::keeper::Keeper;
+use crate::machine::State;
+use crate::news::Observer;
+use crate::talk::Talk;
+use hls_http::{Input, SessionEnd};
+use std::io;
+use std::io::Read;
+
+/// How many bytes are unread at most.
+const MOST_UNREAD: usize = 65536;
+
+/// What a connection waits for, or does.
+#[derive(Clone, Copy, Debug, PartialEq, Eq, Drop)]
+pub enum Standing {
+    /// For a request, of which nothing came yet.
+    Idle,
+    /// For the rest of a head.
+    Head,
+    /// For more of a body that is dropped.
+    Dropping,
+    /// For more of an encoder's body.
+    Feeding,
+    /// That what it has to say is handed out.
+    Replying,
+    /// It is over, and all was handed out.
+    Over,
+}
+
+/// One connection. Read into it while it `wants_read`, call `advance` after each read and once what it had to say is handed out, and
+/// hand its `output` out while it `wants_write`; a connection that came to its `end` has nothing more to do but to hand that out.
+///
+/// It is lent the keeper of its channel at each `advance`; the same keeper may serve others between. While it is idle it holds no
+/// memory, and nothing of what it handed out.
+#[derive(Drop)]
+pub struct Visit {
+    input: Input,
+    talk: Talk,
+    ghost holds: { ∥ HoldsOf talk input.unread ∥₁ },
+}
+
+/// Gives the input's buffer back between two requests, where nothing is unread.
+fn rest(input: &mut Input, state: &State)
+    ensures { input.new.unread ≡ input.old.unread }
+{
+    match state {
+        State::Head => input.release(),
+        _ => {}
+    }
+}
+
+impl Visit {
+    ghost use Rattle.hls_serve.specs.Visits.{Rests, Suits, WantsRead, history, renditions_of, stage};
+
+    /// A connection to the keeper's channel, of which nothing came yet. It takes no memory.
+    pub fn new<K: Keeper>(keeper: &K) -> Visit
+        ensures history { history result ≡ new_history }
+        ensures suits { Suits (K.known keeper.now) result }
+    {
+        let talk = Talk::new(keeper.renditions());
+        Visit {
+            input: Input::empty(keeper.alloc()),
+            talk,
+        }
+    }
+
+    /// Reads once; no byte is the input's end. After an error, as `WouldBlock` or `OutOfMemory`, nothing has changed.
+    pub fn read_from<R: Read>(&mut self, reader: &mut R) -> io::Result<usize>
+        requires wants { WantsRead self.old }
+        ensures ok { IfOk result (λ n. (more : List ℕ) × (length more ≡ n) × Consumes (R.remaining reader.old) (R.remaining reader.new) more
+            × (history self.new ≡ after_read (history self.old) more) × (n ≡ 0 → IsAtEnd (R.remaining reader.new))) }
+        ensures err { OnErr result ((history self.new ≡ history self.old) × Keeps (R.remaining reader.old) (R.remaining reader.new)) }
+        ensures stage { stage self.new ≡ stage self.old }
+        ensures renditions { renditions_of self.new ≡ renditions_of self.old }
+        ensures suits { (known : Known) → Suits known self.old → Suits known self.new }
+    {
+        self.talk.read_from(&mut self.input, reader)
+    }
+
+    /// Answers what was received, until something waits to be handed out, more is to be read, or all is over; and pauses behind so
+    /// many steps. Whether there may be more to do at once.
+    pub fn advance<K: Keeper, O: Observer>(&mut self, keeper: &mut K, observer: &O) -> bool
+        requires suits { Suits (K.known keeper.old) self.old }
+        ensures suits { Suits (K.known keeper.new) self.new }
+        ensures later { Later (K.known keeper.old) (K.known keeper.new) }
+        ensures acts { Acted (K.known keeper.old) (history self.old).acts (K.known keeper.new) (history self.new).acts }
+        ensures rests { IsFalse result → Rests self.new }
+        ensures quiet { StaysQuiet (history self.old) (history self.new) }
+        ensures renditions { renditions_of self.new ≡ renditions_of self.old }
+    {
+        let more = self.talk.advance(&mut self.input, keeper, observer);
+        rest(&mut self.input, &self.talk.machine.state);
+        more
+    }
+
+    /// The next bytes to hand out; none only where nothing waits.
+    pub fn output(&self) -> &[u8]
+        ensures { IsChunkOf result.now (history self.now).pending }
+    {
+        self.talk.machine.output.chunk()
+    }
+
+    /// So many of the bytes that wait were handed out.
+    pub fn sent(&mut self, count: usize)
+        requires { count ≤ length (history self.old).pending }
+        ensures history { history self.new ≡ after_sent (history self.old) count }
+        ensures stage { stage self.new ≡ stage self.old }
+        ensures renditions { renditions_of self.new ≡ renditions_of self.old }
+        ensures suits { (known : Known) → Suits known self.old → Suits known self.new }
+    {
+        self.talk.sent(count);
+    }
+
+    /// Whether something waits to be handed out.
+    pub fn wants_write(&self) -> bool
+        ensures { IsTrue result ↔ (0 < length (history self.now).pending) }
+    {
+        !self.talk.machine.output.is_empty()
+    }
+
+    /// Whether more is to be read.
+    pub fn wants_read(&self) -> bool
+        ensures { IsTrue result ↔ WantsRead self.now }
+    {
+        if self.talk.ended {
+            return false;
+        }
+        if !self.talk.machine.output.is_empty() {
+            return false;
+        }
+        if self.talk.machine.is_over() {
+            return false;
+        }
+        self.input.unread().len() < MOST_UNREAD
+    }
+
+    /// How the connection ended by itself, where it did. What waits is still to be handed out.
+    pub fn end(&self) -> Option<SessionEnd>
+        ensures over { IfSome result (λ end. stage self.now ≡ Over end) }
+        ensures goes_on { IfNone result (GoesOn (stage self.now)) }
+    {
+        match self.talk.machine.state {
+            State::Over(end) => Some(end.end()),
+            _ => None,
+        }
+    }
+
+    /// What the connection waits for, or does.
+    pub fn standing(&self) -> Standing {
+        let machine = &self.talk.machine;
+        if !machine.output.is_empty() {
+            return Standing::Replying;
+        }
+        match machine.state {
+            State::Head if self.input.unread().is_empty() => Standing::Idle,
+            State::Head => Standing::Head,
+            State::Drop(_) => Standing::Dropping,
+            State::Feed(_) => Standing::Feeding,
+            State::Over(_) => Standing::Over,
+        }
+    }
+
+    /// Tells that no more of an encoder's body comes, since a read failed.
+    pub fn fail<O: Observer>(&self, observer: &O) {
+        self.talk.machine.fail(observer);
+    }
+
+    /// A law: what was received is answered in order, and what was handed out and waits are the replies.
+    pub fn served(&self)
+        ensures { ∥ IsServed (renditions_of self.now) (stage self.now) (history self.now) ∥₁ }
+    {}
+}
