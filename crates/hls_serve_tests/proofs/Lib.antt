@@ -1,1 +1,1 @@
-mod Visits
+mod Suited
