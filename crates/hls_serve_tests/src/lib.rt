@@ -13,7 +13,6 @@ mod failing;
 #[cfg(test)]
 mod fakes;
 #[cfg(test)]
-#[cfg(test)]
 mod jobs;
 #[cfg(test)]
 mod media;
@@ -33,7 +32,5 @@ mod sessions;
 mod smuggling;
 #[cfg(test)]
 mod streams;
-#[cfg(test)]
-mod visits;
 #[cfg(test)]
 mod went;
