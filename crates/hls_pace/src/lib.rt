@@ -1,18 +1,11 @@
-//! How long a connection may keep a worker waiting: a reader and a writer over a stream that give up on a silent, idle or
-//! slow peer. A session over them knows nothing of time: it sees the end of its input, or a failed call.
+//! For how long a connection may keep its place: what it has done of late, when that takes too long, and which connection gives
+//! way where all places are taken.
 #![tactic(auto)]
 
-mod call;
 mod clock;
-mod crowd;
 mod pace;
-mod reader;
-mod rest;
-mod writer;
+mod places;
 
 pub use clock::milliseconds;
-pub use crowd::Crowd;
-pub use pace::{Pace, Silence, Turn};
-pub use reader::PatientReader;
-pub use rest::drop_rest;
-pub use writer::PatientWriter;
+pub use pace::{Pace, Stage};
+pub use places::yields;

@@ -1,198 +1,135 @@
-//! What a connection has done of late, and what follows of it.
-ghost use Rattle.std.specs.Prelude.{◌≡◌, ◌≤◌};
-ghost use Rattle.hls_pace.specs.Paces.{begun, behind_head, continued, head_time, heard, is_slow, is_stuck, lags, silence, spoken};
+//! What a connection has done of late, and whether it takes too long.
 
-/// How long a peer that has sent nothing yet is waited for where no worker is free, in milliseconds: a client's first
-/// segment may be lost, or the client be busy.
-const GRACE: u64 = 1000;
+ghost use Rattle.std.specs.Prelude.{◌≡◌, ◌≢◌, ◌≤◌};
+ghost use Rattle.hls_pace.specs.Paces.{after_bytes, begun, is_over, is_silent, lags, renewed};
 
-/// For how long a head may go on while a worker is free, in milliseconds.
-const LONG_HEAD: u64 = 10000;
+/// For how long a head may go on, in milliseconds.
+const LONGEST_HEAD: u64 = 10_000;
 
-/// For how long a head may go on where no worker is free, in milliseconds: a lost segment comes again within it.
-const SHORT_HEAD: u64 = 1000;
+/// For how long what comes behind the last reply is dropped at most, in milliseconds.
+const LONGEST_REST: u64 = 2000;
 
-/// For how long a reply may move no byte where no worker is free, in milliseconds.
-const STUCK: u64 = 2000;
+/// For how long a byte is waited for behind the last reply, in milliseconds.
+const QUIET_REST: u64 = 250;
 
-/// Whose turn it is on a connection.
-#[derive(Clone, Copy, Debug, PartialEq, Eq)]
-pub enum Turn {
-    /// No byte has come yet.
-    Between,
-    /// Bytes of a head have come since the last reply, and none of its body is known to have.
-    Hearing,
-    /// A head is whole, and an encoder's body is taken in.
+/// What goes on at a connection.
+#[derive(Clone, Copy, Debug, PartialEq, Eq, Drop)]
+pub enum Stage {
+    /// Nothing: no byte of a next request has come.
+    Idle,
+    /// A head that isn't whole.
+    Head,
+    /// An encoder's body is taken in.
     Feeding,
-    /// A head is whole, and its body, where it has one, is dropped.
+    /// A body is dropped.
     Dropping,
-    /// A reply went out, and no byte has come since.
-    Speaking,
+    /// A reply waits to be taken, or 100 Continue (RFC 9110 15.2.1).
+    Replying,
+    /// The last reply went out, and what the peer still sends is dropped (RFC 9112 9.6).
+    Lingering,
 }
 
-/// What is to be done about a peer that sends nothing.
-#[derive(Clone, Copy, Debug, PartialEq, Eq)]
-pub enum Silence {
-    /// Wait on.
-    Wait,
-    /// Take it as the end of what the peer sends.
-    End,
-    /// Take it as a failed call.
-    GiveUp,
-}
-
-/// The request or reply that goes on: its bytes up to now, and when its first one went, in milliseconds.
-#[derive(Clone, Copy, Debug, PartialEq, Eq)]
+/// What goes on at a connection, and how many bytes of it have moved since when. Times are milliseconds of one clock.
+#[derive(Clone, Copy, Debug, PartialEq, Eq, Drop)]
 pub struct Pace {
-    pub turn: Turn,
-    pub bytes: u64,
+    pub stage: Stage,
+    /// When it began, or its bytes were counted anew.
     pub since: u64,
+    /// When it began, or a byte moved last.
+    pub moved: u64,
+    /// The bytes that have moved since.
+    pub bytes: u64,
 }
 
 impl Pace {
-    /// A connection that was just accepted.
-    pub fn new() -> Pace
-        ensures { result ≡ begun Turn.Between 0 0 }
-    {
-        Pace::begun(Turn::Between, 0, 0)
-    }
-
-    fn begun(turn: Turn, bytes: u64, now: u64) -> Pace
-        ensures { result ≡ begun turn bytes now }
+    /// What begins now.
+    pub fn begun(stage: Stage, now: u64) -> Pace
+        ensures { result ≡ begun stage now }
     {
         Pace {
-            turn,
-            bytes,
+            stage,
             since: now,
+            moved: now,
+            bytes: 0,
         }
     }
 
-    fn more(self, bytes: u64) -> Pace
-        ensures { result ≡ Rattle.hls_pace.specs.Paces.more self.turn self bytes }
+    /// What goes on now: the same, or something that begins.
+    pub fn entered(self, stage: Stage, now: u64) -> Pace
+        ensures same { stage ≡ self.stage → result ≡ self }
+        ensures other { stage ≢ self.stage → result ≡ begun stage now }
+    {
+        if stage == self.stage {
+            self
+        } else {
+            Pace::begun(stage, now)
+        }
+    }
+
+    /// After bytes came, or were taken.
+    pub fn after_bytes(self, bytes: u64, now: u64) -> Pace
+        ensures { result ≡ after_bytes bytes now self }
     {
         Pace {
-            turn: self.turn,
+            stage: self.stage,
+            since: self.since,
+            moved: now,
             bytes: self.bytes.saturating_add(bytes),
-            since: self.since,
         }
     }
 
-    /// After bytes came at a moment.
-    pub fn heard(self, bytes: u64, now: u64) -> Pace
-        ensures { result ≡ heard self bytes now }
+    /// Whether no byte has moved for so many seconds.
+    fn is_silent(self, patience: u64, now: u64) -> bool
+        requires { patience ≤ 3600 }
+        ensures { result ≡ is_silent patience self now }
     {
-        match self.turn {
-            Turn::Between => Pace::begun(Turn::Hearing, bytes, now),
-            Turn::Hearing => self.more(bytes),
-            Turn::Feeding => self.more(bytes),
-            Turn::Dropping => self.more(bytes),
-            Turn::Speaking => Pace::begun(Turn::Hearing, bytes, now),
-        }
+        now.saturating_sub(self.moved) >= patience * 1000
     }
 
-    /// After a head came to its end: its body is taken in, or dropped.
-    pub fn behind_head(self, feeds: bool) -> Pace
-        ensures { result ≡ behind_head feeds self }
-    {
-        Pace {
-            turn: if feeds { Turn::Feeding } else { Turn::Dropping },
-            bytes: self.bytes,
-            since: self.since,
-        }
-    }
-
-    /// After 100 Continue (RFC 9110 15.2.1) went out: the request goes on, and counts anew.
-    pub fn continued(self, now: u64) -> Pace
-        ensures { result ≡ continued self now }
-    {
-        Pace::begun(self.turn, 0, now)
-    }
-
-    /// After bytes of a reply were taken at a moment.
-    pub fn spoken(self, bytes: u64, now: u64) -> Pace
-        ensures { result ≡ spoken self bytes now }
-    {
-        match self.turn {
-            Turn::Between => Pace::begun(Turn::Speaking, bytes, now),
-            Turn::Hearing => Pace::begun(Turn::Speaking, bytes, now),
-            Turn::Feeding => Pace::begun(Turn::Speaking, bytes, now),
-            Turn::Dropping => Pace::begun(Turn::Speaking, bytes, now),
-            Turn::Speaking => self.more(bytes),
-        }
-    }
-
-    /// Whether it has had fewer than 1000 bytes a second for longer than so many seconds.
+    /// Whether for so many seconds fewer than 1000 bytes a second have moved.
     fn lags(self, patience: u64, now: u64) -> bool
         requires { patience ≤ 3600 }
         ensures { result ≡ lags patience self now }
     {
         let passed = now.saturating_sub(self.since);
-        passed > patience * 1000 && self.bytes < passed
+        passed >= patience * 1000 && self.bytes < passed
     }
 
-    /// Whether what goes on takes too long: a head that isn't whole in its time, or fewer than 1000 bytes a second of a
-    /// dropped body or a reply; an encoder's body is never too slow. `free` says whether a worker waits for a connection.
-    pub fn is_slow(self, patience: u64, now: u64, free: bool) -> bool
+    /// Whether it takes too long, by a patience in seconds: a head that isn't whole in ten seconds, or in the patience where that
+    /// is less; silence for as long as the patience; and fewer than 1000 bytes a second over that time of a reply or of a body
+    /// that is dropped. An encoder's body may be as slow as its encoder.
+    pub fn is_over(self, patience: u64, now: u64) -> bool
         requires { patience ≤ 3600 }
-        ensures { result ≡ is_slow patience self now free }
+        ensures { result ≡ is_over patience self now }
     {
-        match self.turn {
-            Turn::Between => false,
-            Turn::Hearing => now.saturating_sub(self.since) >= head_time(patience, free),
-            Turn::Feeding => false,
-            Turn::Dropping => self.lags(patience, now),
-            Turn::Speaking => self.lags(patience, now),
+        match self.stage {
+            Stage::Idle => self.is_silent(patience, now),
+            Stage::Head => now.saturating_sub(self.since) >= (patience * 1000).min(LONGEST_HEAD),
+            Stage::Feeding => self.is_silent(patience, now),
+            Stage::Dropping => self.is_silent(patience, now) || self.lags(patience, now),
+            Stage::Replying => self.is_silent(patience, now) || self.lags(patience, now),
+            Stage::Lingering => {
+                now.saturating_sub(self.since) >= LONGEST_REST
+                    || now.saturating_sub(self.moved) >= QUIET_REST
+            }
         }
     }
 
-    /// What follows where no byte came for so many milliseconds, now; `free` says whether a worker waits for a connection,
-    /// and `few` whether few workers have one that has sent nothing yet.
-    pub fn silence(self, patience: u64, waited: u64, now: u64, free: bool, few: bool) -> Silence
+    /// The bytes are counted anew, where they were counted for as long as the patience: what came fast once doesn't make up for
+    /// what comes slowly later.
+    pub fn renewed(self, patience: u64, now: u64) -> Pace
         requires { patience ≤ 3600 }
-        ensures { result ≡ silence patience self waited now free few }
+        ensures { result ≡ renewed patience now self }
     {
-        let late = waited >= patience * 1000;
-        match self.turn {
-            Turn::Between => idle(late, free || (few && waited < GRACE)),
-            Turn::Hearing => stuck(late || self.is_slow(patience, now, free)),
-            Turn::Feeding => stuck(late),
-            Turn::Dropping => stuck(late || self.is_slow(patience, now, free)),
-            Turn::Speaking => idle(late, free),
+        let counts = matches!(self.stage, Stage::Dropping | Stage::Replying);
+        if counts && now.saturating_sub(self.since) >= patience * 1000 {
+            return Pace {
+                stage: self.stage,
+                since: now,
+                moved: self.moved,
+                bytes: 0,
+            };
         }
+        self
     }
-}
-
-/// For how many milliseconds a head may go on from its first byte.
-fn head_time(patience: u64, free: bool) -> u64
-    requires { patience ≤ 3600 }
-    ensures { result ≡ head_time patience free }
-{
-    (patience * 1000).min(if free { LONG_HEAD } else { SHORT_HEAD })
-}
-
-fn idle(late: bool, waits: bool) -> Silence
-    ensures { result ≡ Rattle.hls_pace.specs.Paces.idle late waits }
-{
-    if late || !waits {
-        return Silence::End;
-    }
-    Silence::Wait
-}
-
-fn stuck(late: bool) -> Silence
-    ensures { result ≡ Rattle.hls_pace.specs.Paces.stuck late }
-{
-    if late {
-        return Silence::GiveUp;
-    }
-    Silence::Wait
-}
-
-/// Whether a reply of which no byte was taken for so many milliseconds is given up.
-pub(crate) fn is_stuck(patience: u64, waited: u64, free: bool) -> bool
-    requires { patience ≤ 3600 }
-    ensures { result ≡ is_stuck patience waited free }
-{
-    let most = patience * 1000;
-    waited >= if free { most } else { most.min(STUCK) }
 }
