@@ -27,7 +27,7 @@ unfoldable pub channel_app : App
 channel_app = with_rule timing_app (value_rule (codes "epoch"))
 
 unfoldable pub options_app : App
-options_app = with_rule (with_rule (with_rule (with_rule channel_app (value_rule (codes "workers"))) (value_rule (codes "planners"))) (value_rule (codes "patience"))) (value_rule (codes "log"))
+options_app = with_rule (with_rule (with_rule (with_rule (with_rule channel_app (value_rule (codes "workers"))) (value_rule (codes "connections"))) (value_rule (codes "planners"))) (value_rule (codes "patience"))) (value_rule (codes "log"))
 
 unfoldable pub serve_app : App
 serve_app = with_rule (with_rule options_app (new_rule (codes "address"))) (words_rule (codes "renditions"))
@@ -41,6 +41,7 @@ texts_in found = record {
   keep = first_value found (codes "keep");
   epoch = first_value found (codes "epoch");
   workers = first_value found (codes "workers");
+  connections = first_value found (codes "connections");
   planners = first_value found (codes "planners");
   patience = first_value found (codes "patience");
   log = first_value found (codes "log");
@@ -57,6 +58,7 @@ texts_of rows = record {
   keep = first_of (codes "keep") rows;
   epoch = first_of (codes "epoch") rows;
   workers = first_of (codes "workers") rows;
+  connections = first_of (codes "connections") rows;
   planners = first_of (codes "planners") rows;
   patience = first_of (codes "patience") rows;
   log = first_of (codes "log") rows;

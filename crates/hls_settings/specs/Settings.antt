@@ -62,21 +62,26 @@ epoch_in (Some text) = option_and_then epoch_within (instant_of text)
 
 -- ---- workers
 
-abbrev pub workers_with : ℕ → ℕ → Option ℕ → Result Workers SettingsFault
-workers_with workers planners None = Err faults.Patience
-workers_with workers planners (Some patience) = Ok (record { workers = workers; planners = planners; patience = patience })
+abbrev pub workers_with : ℕ → ℕ → ℕ → Option ℕ → Result Workers SettingsFault
+workers_with workers connections planners None = Err faults.Patience
+workers_with workers connections planners (Some patience) =
+    Ok (record { workers = workers; connections = connections; planners = planners; patience = patience })
 
-abbrev pub workers_after : ℕ → Option ℕ → Option Text → Result Workers SettingsFault
-workers_after workers None patience = Err faults.Planners
-workers_after workers (Some planners) patience = workers_with workers planners (number_in 1 3600 30 patience)
+abbrev pub workers_after : ℕ → ℕ → Option ℕ → Option Text → Result Workers SettingsFault
+workers_after workers connections None patience = Err faults.Planners
+workers_after workers connections (Some planners) patience = workers_with workers connections planners (number_in 1 3600 30 patience)
 
-abbrev pub workers_in : Option ℕ → Option Text → Option Text → Result Workers SettingsFault
-workers_in None planners patience = Err faults.Workers
-workers_in (Some workers) planners patience = workers_after workers (number_in 1 16 2 planners) patience
+abbrev pub workers_by : ℕ → Option ℕ → Option Text → Option Text → Result Workers SettingsFault
+workers_by workers None planners patience = Err faults.Connections
+workers_by workers (Some connections) planners patience = workers_after workers connections (number_in 1 16 2 planners) patience
 
--- by the texts of `--workers`, `--planners` and `--patience`
-abbrev pub workers_of : Option Text → Option Text → Option Text → Result Workers SettingsFault
-workers_of workers planners patience = workers_in (number_in 1 63 8 workers) planners patience
+abbrev pub workers_in : Option ℕ → Option Text → Option Text → Option Text → Result Workers SettingsFault
+workers_in None connections planners patience = Err faults.Workers
+workers_in (Some workers) connections planners patience = workers_by workers (number_in 16 1000000 4096 connections) planners patience
+
+-- by the texts of `--workers`, `--connections`, `--planners` and `--patience`
+abbrev pub workers_of : Option Text → Option Text → Option Text → Option Text → Result Workers SettingsFault
+workers_of workers connections planners patience = workers_in (number_in 1 63 8 workers) connections planners patience
 
 -- ---- all that stands apart from the renditions
 
@@ -88,6 +93,7 @@ pub record Texts : Type 0 where
   pub keep : Option Text
   pub epoch : Option Text
   pub workers : Option Text
+  pub connections : Option Text
   pub planners : Option Text
   pub patience : Option Text
   pub log : Option Text
@@ -118,7 +124,7 @@ plain_by timing epoch (Ok workers) log address = plain_after timing epoch worker
 
 abbrev pub plain_from : Timing → Option (Option ℤ) → Texts → Result Plain SettingsFault
 plain_from timing None t = Err faults.Epoch
-plain_from timing (Some epoch) t = plain_by timing epoch (workers_of t.workers t.planners t.patience) t.log t.address
+plain_from timing (Some epoch) t = plain_by timing epoch (workers_of t.workers t.connections t.planners t.patience) t.log t.address
 
 abbrev pub plain_in : Result Timing SettingsFault → Texts → Result Plain SettingsFault
 plain_in (Err fault) t = Err fault

@@ -42,6 +42,7 @@ fn options<'a>(alloc: Global) -> Result<Command<'a>, AllocError>
     ensures { IfOk result (λ made. app_of made ≡ options_app) }
 {
     let command = with(channel(alloc)?, valued(alloc, "workers"))?;
+    let command = with(command, valued(alloc, "connections"))?;
     let command = with(command, valued(alloc, "planners"))?;
     let command = with(command, valued(alloc, "patience"))?;
     with(command, valued(alloc, "log"))

@@ -17,6 +17,8 @@ pub enum SettingsFault {
     Epoch,
     /// `--workers` isn't 1 to 63.
     Workers,
+    /// `--connections` isn't 16 to 1000000.
+    Connections,
     /// `--planners` isn't 1 to 16.
     Planners,
     /// `--patience` isn't 1 to 3600 seconds.

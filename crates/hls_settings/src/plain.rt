@@ -56,6 +56,7 @@ pub fn read_plain(matches: &ArgMatches) -> Result<Plain, SettingsFault>
     };
     let workers = read_workers(
         matches.get_str("workers"),
+        matches.get_str("connections"),
         matches.get_str("planners"),
         matches.get_str("patience"),
     )?;

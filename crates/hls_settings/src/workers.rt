@@ -1,15 +1,17 @@
-//! The server's threads.
+//! The server's threads, and how many connections they hold.
 ghost use Rattle.std.specs.Prelude.{◌≡◌};
 ghost use Rattle.hls_settings.specs.Settings.{text_of, workers_of};
 
 use crate::fault::SettingsFault;
 use crate::number::number_in;
 
-/// How many threads there are, and how long a connection may keep one waiting.
+/// How many threads there are, how many connections they hold, and how long one may be silent.
 #[derive(Clone, Copy, Debug, PartialEq, Eq, Drop)]
 pub struct Workers {
     /// Threads that serve connections, 1 to 63.
     pub workers: u64,
+    /// Connections that are held at once, by all workers together, 16 to 1000000.
+    pub connections: u64,
     /// Threads that plan catch-up recordings, 1 to 16.
     pub planners: u64,
     /// In seconds, 1 to 3600.
@@ -19,13 +21,17 @@ pub struct Workers {
 /// The numbers that were given, or those that stand where they aren't.
 pub fn read_workers(
     workers: Option<&str>,
+    connections: Option<&str>,
     planners: Option<&str>,
     patience: Option<&str>,
 ) -> Result<Workers, SettingsFault>
-    ensures { result ≡ workers_of (text_of workers.entry) (text_of planners.entry) (text_of patience.entry) }
+    ensures { result ≡ workers_of (text_of workers.entry) (text_of connections.entry) (text_of planners.entry) (text_of patience.entry) }
 {
     let Some(workers) = number_in(1, 63, 8, workers) else {
         return Err(SettingsFault::Workers);
+    };
+    let Some(connections) = number_in(16, 1_000_000, 4096, connections) else {
+        return Err(SettingsFault::Connections);
     };
     let Some(planners) = number_in(1, 16, 2, planners) else {
         return Err(SettingsFault::Planners);
@@ -35,6 +41,7 @@ pub fn read_workers(
     };
     Ok(Workers {
         workers,
+        connections,
         planners,
         patience,
     })

@@ -45,6 +45,7 @@ impl Display for SettingsFault {
             }
             SettingsFault::Epoch => EPOCH,
             SettingsFault::Workers => "--workers takes 1 to 63",
+            SettingsFault::Connections => "--connections takes 16 to 1000000",
             SettingsFault::Planners => "--planners takes 1 to 16",
             SettingsFault::Patience => "--patience takes 1 to 3600 whole seconds",
             SettingsFault::Log => "--log takes the word requests",
