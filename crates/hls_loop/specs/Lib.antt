@@ -1,0 +1,2 @@
+pub mod Suited
+pub mod Files

@@ -1,0 +1,47 @@
+//! What the workers of one listener know of one another.
+
+use std::sync::atomic::{AtomicU64, Ordering};
+
+/// By how many connections a worker may have more than its share before it lets the others go first.
+const SLACK: u64 = 4;
+
+/// What the workers of one listener know of one another.
+#[derive(Drop)]
+pub struct Door {
+    /// The connections of all workers.
+    held: AtomicU64,
+    workers: u64,
+    /// How many connections each worker holds at most.
+    pub(crate) room: u64,
+    /// How many connections each of them takes before it ends.
+    pub(crate) connections: u64,
+}
+
+impl Door {
+    /// For so many workers that hold so many connections in all, at least one each; each takes so many before it ends.
+    pub fn new(workers: u64, most: u64, connections: u64) -> Door {
+        let workers = workers.max(1);
+        Door {
+            held: AtomicU64::new(0),
+            workers,
+            room: (most / workers).max(1),
+            connections,
+        }
+    }
+
+    /// A worker holds one connection more.
+    pub(crate) fn enter(&self) {
+        self.held.fetch_add(1, Ordering::SeqCst);
+    }
+
+    /// A worker holds one connection less.
+    pub(crate) fn leave(&self) {
+        self.held.fetch_sub(1, Ordering::SeqCst);
+    }
+
+    /// Whether a worker that holds so many has clearly more than its share.
+    pub(crate) fn has_more(&self, held: usize) -> bool {
+        let all = self.held.load(Ordering::SeqCst);
+        held as u64 > (all / self.workers.max(1)).saturating_add(SLACK)
+    }
+}

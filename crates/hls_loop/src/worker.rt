@@ -1,0 +1,434 @@
+//! A worker: many connections on one thread.
+
+ghost use Rattle.std.specs.Prelude.{◌≡◌, ◌≤◌, IfOk};
+ghost use Rattle.hls_loop.specs.Suited.{SuitsAll};
+
+use crate::door::Door;
+use crate::host::Host;
+use crate::post::Post;
+use crate::slot::{Slot, Turn, take_turn};
+use hls_pace::{Pace, milliseconds, yields};
+use mio::event::Event;
+use mio::net::{TcpListener, TcpStream};
+use mio::{Events, Interest, Poll, Token};
+use slab::Slab;
+use std::alloc::Global;
+use std::io::{self, ErrorKind};
+use std::mem;
+use std::net::SocketAddr;
+use std::sync::Wait;
+use std::time::{Clock, Duration};
+
+/// The token of the listener.
+const DOOR: Token = Token(usize::MAX);
+
+/// How many events one look brings at most.
+const MOST_EVENTS: usize = 256;
+
+/// How many connections are accepted before those that are there have their turn.
+const MOST_ACCEPTS: usize = 32;
+
+/// How often connections are looked through for those that take too long, in milliseconds.
+const SWEEP: u64 = 1000;
+
+/// For how long a worker with more than its share lets the others take a connection, in milliseconds.
+const COURTESY: u64 = 2;
+
+/// How long a worker waits after a failed accept, in milliseconds.
+const PAUSE: u64 = 10;
+
+/// Whether a connection may be waiting at the listener.
+#[derive(Clone, Copy, Debug, PartialEq, Eq, Drop)]
+enum Waiting {
+    /// None was told of since an accept found none.
+    No,
+    /// There may be one.
+    Maybe,
+    /// There may be one; it is left alone until this time.
+    Later(u64),
+}
+
+/// A worker: its connections, by the keys under which the system tells of them.
+#[derive(Drop)]
+pub struct Worker<'a, H: Host> {
+    alloc: Global,
+    poll: Poll,
+    listener: TcpListener,
+    door: &'a Door,
+    host: H,
+    /// For how many seconds a connection may be silent, at most 3600.
+    patience: u64,
+    slots: Slab<Slot<H::Visit>>,
+    /// Connections that have more to do.
+    again: Vec<usize>,
+    waiting: Waiting,
+    /// How many connections it still takes.
+    left: u64,
+    /// The time of this round, in milliseconds of the clock.
+    now: u64,
+    swept: u64,
+    ghost patient: { patience ≤ 3600 },
+}
+
+impl<'a, H: Host + Drop> Worker<'a, H> {
+    /// A worker at its post, without a connection.
+    pub fn new(
+        alloc: Global,
+        post: Post,
+        door: &'a Door,
+        host: H,
+        patience: u64,
+    ) -> io::Result<Worker<'a, H>>
+        ensures suits { IfOk result (λ worker. SuitsAll H.suits worker.host worker.slots) }
+    {
+        let Post { poll, listener } = post;
+        let mut listener = listener;
+        poll.registry()
+            .register(&mut listener, DOOR, Interest::READABLE)?;
+        Ok(Worker {
+            alloc,
+            poll,
+            listener,
+            door,
+            host,
+            patience: patience.min(3600),
+            slots: Slab::new(alloc),
+            again: Vec::new(alloc),
+            waiting: Waiting::Maybe,
+            left: door.connections,
+            now: 0,
+            swept: 0,
+        })
+    }
+
+    /// Closes a connection.
+    fn close(&mut self, key: usize)
+        requires suits { SuitsAll H.suits self.old.host self.old.slots }
+        ensures suits { SuitsAll H.suits self.new.host self.new.slots }
+    {
+        if self.slots.try_remove(key).is_some() {
+            self.door.leave();
+        }
+    }
+
+    /// Gives a connection up.
+    fn give_up(&mut self, key: usize)
+        requires suits { SuitsAll H.suits self.old.host self.old.slots }
+        ensures suits { SuitsAll H.suits self.new.host self.new.slots }
+    {
+        if let Some(slot) = self.slots.get(key) {
+            self.host.give_up(&slot.visit, slot.peer);
+        }
+        self.close(key);
+    }
+
+    /// Lets a connection have its turn; how it stands then, and whether it waits for its next one already.
+    fn go_once(&mut self, key: usize) -> Turn
+        requires suits { SuitsAll H.suits self.old.host self.old.slots }
+        ensures suits { SuitsAll H.suits self.new.host self.new.slots }
+    {
+        let Some(slot) = self.slots.get_mut(key) else {
+            return Turn::Parked;
+        };
+        let stands = take_turn(slot, &mut self.host, self.now);
+        if stands != Turn::Again {
+            return stands;
+        }
+        if slot.queued {
+            return Turn::Parked;
+        }
+        slot.queued = true;
+        Turn::Again
+    }
+
+    /// Lets a connection have its turn.
+    fn turn(&mut self, key: usize)
+        requires suits { SuitsAll H.suits self.old.host self.old.slots }
+        ensures suits { SuitsAll H.suits self.new.host self.new.slots }
+    {
+        match self.go_once(key) {
+            Turn::Parked => {}
+            Turn::Again => {
+                if self.again.push(key).is_err() {
+                    self.give_up(key);
+                }
+            }
+            Turn::Closed => self.close(key),
+        }
+    }
+
+    /// Goes on with what the system tells.
+    fn hear(&mut self, event: &Event)
+        requires suits { SuitsAll H.suits self.old.host self.old.slots }
+        ensures suits { SuitsAll H.suits self.new.host self.new.slots }
+    {
+        if event.token() == DOOR {
+            if self.waiting == Waiting::No {
+                self.waiting = Waiting::Maybe;
+            }
+            return;
+        }
+        let key = event.token().0;
+        if let Some(slot) = self.slots.get_mut(key) {
+            slot.wire.hear(event);
+        }
+        self.turn(key);
+    }
+
+    /// Goes on with one that had more to do.
+    fn go_on_with(&mut self, key: usize)
+        requires suits { SuitsAll H.suits self.old.host self.old.slots }
+        ensures suits { SuitsAll H.suits self.new.host self.new.slots }
+    {
+        if let Some(slot) = self.slots.get_mut(key) {
+            slot.queued = false;
+        }
+        self.turn(key);
+    }
+
+    /// Goes on with those that have more to do.
+    fn go_on(&mut self)
+        requires suits { SuitsAll H.suits self.old.host self.old.slots }
+        ensures suits { SuitsAll H.suits self.new.host self.new.slots }
+    {
+        let keys = mem::replace(&mut self.again, Vec::new(self.alloc));
+        for key in &keys {
+            self.go_on_with(*key);
+        }
+    }
+
+    /// Takes a new connection in, and says under which key; `None` where it can't be held.
+    fn place(&mut self, stream: TcpStream, peer: SocketAddr) -> Option<usize>
+        requires suits { SuitsAll H.suits self.old.host self.old.slots }
+        ensures suits { SuitsAll H.suits self.new.host self.new.slots }
+    {
+        let held = self.slots.len();
+        if held == self.slots.capacity() {
+            // by an eighth and not by as much again: what an idle connection costs is its slot
+            let _ = self.slots.reserve_exact(held / 8 + 16);
+        }
+        let slot = Slot::new(self.host.begin(), stream, peer, self.now);
+        let Ok(key) = self.slots.insert(slot) else {
+            return None;
+        };
+        self.door.enter();
+        Some(key)
+    }
+
+    /// Has the system tell of a connection; false where it refuses.
+    fn register(&mut self, key: usize) -> bool
+        requires suits { SuitsAll H.suits self.old.host self.old.slots }
+        ensures suits { SuitsAll H.suits self.new.host self.new.slots }
+    {
+        let Some(slot) = self.slots.get_mut(key) else {
+            return false;
+        };
+        let both = Interest::READABLE | Interest::WRITABLE;
+        let registry = self.poll.registry();
+        registry
+            .register(&mut slot.wire.stream, Token(key), both)
+            .is_ok()
+    }
+
+    /// Takes a new connection in, and lets it begin.
+    fn admit(&mut self, stream: TcpStream, peer: SocketAddr)
+        requires suits { SuitsAll H.suits self.old.host self.old.slots }
+        ensures suits { SuitsAll H.suits self.new.host self.new.slots }
+    {
+        let _ = stream.set_nodelay(true);
+        let Some(key) = self.place(stream, peer) else {
+            return;
+        };
+        if self.register(key) {
+            self.turn(key);
+        } else {
+            self.close(key);
+        }
+    }
+
+    /// Who gives way where all places are taken.
+    fn yielding(&self) -> Option<usize> {
+        let mut found: Option<(usize, Pace)> = None;
+        for (key, slot) in self.slots.iter() {
+            found = yields(found, key, slot.pace);
+        }
+        let (key, _) = found?;
+        Some(key)
+    }
+
+    /// Whether all its places are taken.
+    fn is_full(&self) -> bool {
+        self.slots.len() as u64 >= self.door.room
+    }
+
+    /// Takes the next connection in, where there is one; then another gives way for it, where one is named.
+    fn accept(&mut self, yielding: Option<usize>)
+        requires suits { SuitsAll H.suits self.old.host self.old.slots }
+        ensures suits { SuitsAll H.suits self.new.host self.new.slots }
+    {
+        match self.listener.accept() {
+            Ok((stream, peer)) => {
+                self.left = self.left.saturating_sub(1);
+                if let Some(key) = yielding {
+                    self.give_up(key);
+                }
+                self.admit(stream, peer);
+            }
+            Err(error) => match error.kind() {
+                ErrorKind::WouldBlock => self.waiting = Waiting::No,
+                ErrorKind::Interrupted => {}
+                _ => {
+                    self.left = self.left.saturating_sub(1);
+                    self.host.fail_accept(error);
+                    self.waiting = Waiting::Later(self.now.saturating_add(PAUSE));
+                }
+            },
+        }
+    }
+
+    /// Whether a connection that may be waiting is taken now. Who has more than a share lets the others go first for a while.
+    fn is_next(&mut self) -> bool
+        ensures host { self.new.host ≡ self.old.host }
+        ensures slots { self.new.slots ≡ self.old.slots }
+    {
+        match self.waiting {
+            Waiting::No => false,
+            Waiting::Maybe => {
+                if !self.door.has_more(self.slots.len()) {
+                    return true;
+                }
+                self.waiting = Waiting::Later(self.now.saturating_add(COURTESY));
+                false
+            }
+            Waiting::Later(time) => {
+                if self.now < time {
+                    return false;
+                }
+                self.waiting = Waiting::Maybe;
+                true
+            }
+        }
+    }
+
+    /// Takes some of the connections that are waiting. Where all places are taken and nobody gives way, they go on waiting.
+    fn accept_some(&mut self)
+        requires suits { SuitsAll H.suits self.old.host self.old.slots }
+        ensures suits { SuitsAll H.suits self.new.host self.new.slots }
+    {
+        for _ in 0..MOST_ACCEPTS {
+            if self.left == 0 || !self.is_next() {
+                return;
+            }
+            let yielding = if self.is_full() {
+                self.yielding()
+            } else {
+                None
+            };
+            if yielding.is_none() && self.is_full() {
+                return;
+            }
+            self.accept(yielding);
+        }
+    }
+
+    /// Whether a connection takes too long, by what is known of it. Of one that doesn't the bytes are counted anew in time.
+    fn is_late(&mut self, key: usize) -> bool
+        requires suits { SuitsAll H.suits self.old.host self.old.slots }
+        ensures suits { SuitsAll H.suits self.new.host self.new.slots }
+    {
+        let Some(slot) = self.slots.get_mut(key) else {
+            return false;
+        };
+        if slot.pace.is_over(self.patience, self.now) {
+            slot.wire.try_again();
+            return true;
+        }
+        slot.pace = slot.pace.renewed(self.patience, self.now);
+        false
+    }
+
+    /// Gives a connection up that takes too long. It is tried once more before: its bytes may have come while the process stood
+    /// still.
+    fn judge(&mut self, key: usize)
+        requires suits { SuitsAll H.suits self.old.host self.old.slots }
+        ensures suits { SuitsAll H.suits self.new.host self.new.slots }
+    {
+        if !self.is_late(key) {
+            return;
+        }
+        self.turn(key);
+        if self.is_late(key) {
+            self.give_up(key);
+        }
+    }
+
+    /// Looks each second for connections that take too long.
+    fn sweep(&mut self)
+        requires suits { SuitsAll H.suits self.old.host self.old.slots }
+        ensures suits { SuitsAll H.suits self.new.host self.new.slots }
+    {
+        if self.now < self.swept.saturating_add(SWEEP) {
+            return;
+        }
+        self.swept = self.now;
+        for key in 0..self.slots.capacity() {
+            self.judge(key);
+        }
+    }
+
+    /// For how long the system is asked for news.
+    fn pause(&self) -> Option<Duration> {
+        if !self.again.is_empty() {
+            return Some(Duration::from_millis(0));
+        }
+        if self.left > 0 {
+            match self.waiting {
+                Waiting::No => {}
+                Waiting::Maybe => {
+                    if !self.is_full() {
+                        return Some(Duration::from_millis(0));
+                    }
+                }
+                Waiting::Later(time) => {
+                    let left = time.saturating_sub(self.now);
+                    return Some(Duration::from_millis(left.min(SWEEP)));
+                }
+            }
+        }
+        if self.slots.is_empty() {
+            return None;
+        }
+        Some(Duration::from_millis(SWEEP))
+    }
+
+    /// One round: what the system tells, those that have more to do, new connections, and those that take too long.
+    fn round(&mut self, events: &Events)
+        requires suits { SuitsAll H.suits self.old.host self.old.slots }
+        ensures suits { SuitsAll H.suits self.new.host self.new.slots }
+    {
+        for event in events {
+            self.hear(event);
+        }
+        self.go_on();
+        self.accept_some();
+        self.sweep();
+    }
+
+    /// Serves until so many connections have come and gone. May wait.
+    pub fn work<R: Wait + Clock>(&mut self, rt: &R) -> io::Result<()>
+        requires suits { SuitsAll H.suits self.old.host self.old.slots }
+        ensures suits { SuitsAll H.suits self.new.host self.new.slots }
+    {
+        let mut events = Events::with_capacity(self.alloc, MOST_EVENTS)?;
+        for _ in rt.forever() {
+            if self.left == 0 && self.slots.is_empty() {
+                return Ok(());
+            }
+            let pause = self.pause();
+            self.poll.poll(&mut events, pause)?;
+            self.now = milliseconds(rt);
+            self.round(&events);
+        }
+        unreachable!()
+    }
+}
