@@ -87,10 +87,10 @@ serve: a live channel over HTTP; encoders PUT to /ingest/0, /ingest/1, .. and pl
   --keep N       what is kept for catch-up in microseconds, the window or more; 3600000000
   --epoch TEXT   the instant of time 0 of the encoders' clock, 1970 to 9000, as in
                  2024-01-01T00:00:00Z: each segment has its date then, and catch-up takes instants
-  --workers N    connections that are served at once, 1 to 63: one for each encoder and each player or
-                 edge that reads; 8
+  --workers N    threads that serve connections, 1 to 63; 8
+  --connections N  connections that are held at once, 16 to 1000000; 4096
   --planners N   threads for catch-up recordings, 1 to 16; 2
-  --patience N   seconds that a silent or slow connection may keep a worker, 1 to 3600; 30
+  --patience N   seconds that a connection may be silent or slow, 1 to 3600; 30
   --log requests a line for each request on standard error
 Each option may stand once, after its command; --each excludes --preferred and --certificate. No word
 may follow check or lint.

@@ -6,7 +6,6 @@
 #![tactic(auto)]
 
 mod client;
-mod connection;
 mod cuts;
 mod due;
 mod gauge;
@@ -17,12 +16,12 @@ mod log;
 mod near;
 mod planner;
 mod recent;
+mod reception;
 mod rest;
 mod server;
 mod start;
 mod warnings;
 mod watch;
-mod worker;
 
 pub use house::keep_house;
 pub use lines::{Ingest, Limits, Name, Names, Request};

@@ -53,8 +53,8 @@ impl<'a> Display for Limits<'a> {
         )?;
         write!(
             f,
-            " workers {} planners {} patience {}",
-            workers.workers, workers.planners, workers.patience
+            " workers {} connections {} planners {} patience {}",
+            workers.workers, workers.connections, workers.planners, workers.patience
         )?;
         match self.0.config.epoch() {
             None => Ok(()),

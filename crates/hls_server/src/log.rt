@@ -63,6 +63,11 @@ pub fn tell_failed_accept<E: Eprint>(rt: &E, error: Error) {
     let _ = eprintln!(rt; "serve: accept failed, tried again until it works: {error}");
 }
 
+/// A worker that can't go on.
+pub fn tell_ended_worker<E: Eprint>(rt: &E, error: Error) {
+    let _ = eprintln!(rt; "serve: a worker has ended: {error}");
+}
+
 /// How many threads there are of each kind.
 #[derive(Clone, Copy)]
 pub struct Crew {

@@ -3,19 +3,19 @@
 ghost use Rattle.std.specs.Prelude.{◌≡◌, ◌+◌, ◌≤◌, All, max, min};
 
 use crate::house::keep_house;
-use crate::log::{Crew, Log, tell_fewer_threads};
+use crate::log::{Crew, Log, tell_ended_worker, tell_fewer_threads};
 use crate::planner::plan_jobs;
-use crate::worker::{Door, work};
+use crate::reception::Reception;
 use hls_catchup::Jobs;
 use hls_core::snapshot::Snapshot;
-use hls_pace::Crowd;
+use hls_loop::{Door, Post, Worker, held_of, open_files, widen};
 use hls_serve::channel::Channel;
 use hls_serve::station::Station;
 use hls_settings::Settings;
 use hls_turn::{Pass, Turn};
 use std::alloc::{AllocError, Global};
 use std::io::Eprint;
-use std::net::TcpListener;
+use std::net::{Net, TcpListener, TcpStream};
 use std::rt::Env;
 use std::sync::Wait;
 use std::sync::atomic::{AtomicBool, AtomicU64, Ordering};
@@ -24,6 +24,15 @@ use std::time::Clock;
 
 /// The most workers: each has a pass, and so has the housekeeper.
 const MOST_WORKERS: u64 = 63;
+
+/// Where workers find connections, and what they know of one another.
+#[derive(Drop)]
+struct Entrance<'a> {
+    listener: &'a TcpListener,
+    door: &'a Door,
+    /// When a failed accept was told last, in milliseconds of the clock; 0 where none was.
+    told: &'a AtomicU64,
+}
 
 /// How many passes there are: one for each worker that is asked for, 1 to 63, and the housekeeper's.
 fn passes_for(workers: u64) -> u16
@@ -37,10 +46,17 @@ fn passes_for(workers: u64) -> u16
 /// Serves connections from a channel that begins empty, each worker so many of them, or without end where no number is given.
 /// The housekeeper and the planners end when all workers have, and the planners finish the jobs that wait by then.
 ///
-/// Each worker serves one connection at a time, so idle ones are closed early where none is free. Where a thread can't be
-/// started, the rest serve, and the operator is told; want of memory comes before a thread is started, or where no worker
+/// Each worker holds many connections, of all of which none may be slow for ever. Where a thread can't be started, the rest serve, and the operator is told; want of memory comes before a thread is started, or where no worker
 /// could be. May wait.
-pub fn run_server<R: Threads + Wait + Clock + Eprint + Env + Sync>(
+pub fn run_server<
+    R: Net<Listener = TcpListener, Stream = TcpStream>
+        + Threads
+        + Wait
+        + Clock
+        + Eprint
+        + Env
+        + Sync,
+>(
     rt: &R,
     alloc: Global,
     settings: &Settings,
@@ -56,24 +72,61 @@ pub fn run_server<R: Threads + Wait + Clock + Eprint + Env + Sync>(
         turn: &turn,
         jobs: &jobs,
     };
-    let crowd = Crowd::new(settings.plain.workers.workers);
-    let told = AtomicU64::new(0);
-    let door = Door {
-        listener,
-        crowd: &crowd,
-        told: &told,
-        connections: connections.unwrap_or(u64::MAX),
+    let workers = settings.plain.workers;
+    let count = workers.workers.clamp(1, MOST_WORKERS);
+    let most = match open_files() {
+        Some(files) => held_of(files, workers.connections, count),
+        None => workers.connections,
     };
-    run_threads(rt, alloc, &channel, settings, &door, passes)
+    widen(listener);
+    let entrance = Entrance {
+        listener,
+        door: &Door::new(count, most, connections.unwrap_or(u64::MAX)),
+        told: &AtomicU64::new(0),
+    };
+    let ran = run_threads(rt, alloc, &channel, settings, &entrance, passes);
+    let _ = listener.set_nonblocking(false);
+    ran
+}
+
+/// Serves connections on one thread; the operator is told where the system doesn't let it.
+fn serve<R: Wait + Clock + Eprint>(
+    post: Post,
+    entrance: &Entrance<'_>,
+    station: Station<'_, R>,
+    settings: &Settings,
+) {
+    let (rt, alloc) = (station.rt, station.alloc);
+    let reception = Reception {
+        station,
+        settings,
+        told: entrance.told,
+    };
+    let patience = settings.plain.workers.patience;
+    let served = match Worker::new(alloc, post, entrance.door, reception, patience) {
+        Ok(mut worker) => worker.work(rt),
+        Err(error) => Err(error),
+    };
+    if let Err(error) = served {
+        tell_ended_worker(rt, error);
+    }
 }
 
 /// Runs a thread for each pass: the last one's keeps house, and the others serve connections. The planners' are beside them.
-fn run_threads<R: Threads + Wait + Clock + Eprint + Env + Sync>(
+fn run_threads<
+    R: Net<Listener = TcpListener, Stream = TcpStream>
+        + Threads
+        + Wait
+        + Clock
+        + Eprint
+        + Env
+        + Sync,
+>(
     rt: &R,
     alloc: Global,
     channel: &Channel<'_>,
     settings: &Settings,
-    door: &Door<'_>,
+    entrance: &Entrance<'_>,
     passes: Vec<Pass>,
 ) -> Result<(), AllocError>
     requires { All (λ p. p.turn ≡ channel.now.turn.now) passes.items }
@@ -103,12 +156,15 @@ fn run_threads<R: Threads + Wait + Clock + Eprint + Env + Sync>(
                 { keep_house(rt, alloc, channel, settings, closed, &mut last) },
             );
             for pass in passes {
+                let Ok(post) = Post::at(rt, entrance.listener) else {
+                    continue;
+                };
                 let worker = scope.spawn(
                     move || -> ()
                         requires { pass.turn ≡ channel.now.turn.now }
                     {
-                        let mut station = Station::new(rt, alloc, channel, pass);
-                        work(&mut station, settings, door);
+                        let station = Station::new(rt, alloc, channel, pass);
+                        serve(post, entrance, station, settings);
                     },
                 );
                 if let Ok(worker) = worker {

@@ -1,12 +1,13 @@
 //! What the operator is told before the first connection is taken: settings that this machine can't keep to.
 
-ghost use Rattle.std.specs.Prelude.{◌≡◌, ◌+◌, ◌≤◌, ◌^◌, nat_lt};
+ghost use Rattle.std.specs.Prelude.{◌≡◌, ◌≤◌, ◌^◌};
 ghost use Rattle.hls_server.specs.Starts.{memory_wanted};
 
 use crate::log::Log;
 use crate::rest::rest_length;
 use hls_core_laws::rendition::Rendition;
-use hls_settings::{Settings, Timing};
+use hls_loop::{held_of, open_files};
+use hls_settings::{Settings, Timing, Workers};
 use hls_text::{MOST_DIGITS, read_number};
 use std::alloc::Global;
 use std::io::{Eprint, Read};
@@ -18,14 +19,6 @@ const MEGABYTE: u64 = 1_000_000;
 
 /// Room for one of the system's tables.
 const ROOM: usize = 4096;
-
-/// Whether so many workers are held by encoders alone, or leave fewer than two for readers.
-fn are_few(workers: u64, renditions: usize) -> bool
-    requires { renditions ≤ 16 }
-    ensures { result ≡ nat_lt workers (renditions + 2) }
-{
-    workers < renditions as u64 + 2
-}
 
 /// The bytes of media that so many bits a second come to over what is kept, the window, two targets, and a rest from trims.
 fn memory_wanted(bits: u64, timing: Timing) -> u64
@@ -106,19 +99,27 @@ fn tell_memory<E: Eprint>(log: &Log<'_, E>, wanted: u64, what: &str, given: Opti
     );
 }
 
-/// Tells of settings that can't be kept to: fewer workers than encoders and two readers need, and more media kept than there is
-/// memory for, as far as the system says how much that is.
-pub fn tell_start<R: Eprint + Files>(log: &Log<'_, R>, alloc: Global, settings: &Settings) {
-    let (rt, level) = (log.rt, log.warning());
-    let renditions = settings.config.renditions();
-    let workers = settings.plain.workers.workers;
-    let count = renditions.len().min(16);
-    if are_few(workers, count) {
-        let least = count as u64 + 2;
-        let _ = eprintln!(rt;
-            "{level}serve: --workers {workers} is fewer than {least}: encoders hold one for each rendition, and two are for readers"
+/// Tells that fewer connections are held than are wanted, since the process may have no more files open.
+fn tell_files<E: Eprint>(log: &Log<'_, E>, workers: Workers) {
+    let Some(files) = open_files() else {
+        return;
+    };
+    let wanted = workers.connections;
+    let held = held_of(files, wanted, workers.workers);
+    if held < wanted {
+        let level = log.warning();
+        let _ = eprintln!(log.rt;
+            "{level}serve: --connections {wanted} wants more than the {files} files that this process may have open: {held} are held"
         );
     }
+}
+
+/// Tells of settings that can't be kept to: more connections than the process may have files, and more media kept than there is
+/// memory for, as far as the system says how much that is.
+pub fn tell_start<R: Eprint + Files>(log: &Log<'_, R>, alloc: Global, settings: &Settings) {
+    let rt = log.rt;
+    let renditions = settings.config.renditions();
+    tell_files(log, settings.plain.workers);
     let timing = settings.plain.timing;
     if timing.target > 3600 {
         return;

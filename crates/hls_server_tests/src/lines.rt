@@ -74,7 +74,7 @@ fn what_is_in_force(rt: HostRuntime) -> Result<(), Fail> {
     assert_eq!(rt; format!(in alloc; "{names}")?.as_str(), " v720 en");
     assert_eq!(rt;
         format!(in alloc; "{limits}")?.as_str(),
-        "target 6 preferred 4000000 window 30000000 keep 3600000000 workers 12 planners 2 patience 30"
+        "target 6 preferred 4000000 window 30000000 keep 3600000000 workers 12 connections 4096 planners 2 patience 30"
     );
     let words = [
         "--epoch",
