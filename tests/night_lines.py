@@ -203,14 +203,13 @@ class LimitedOrigin(Origin):
     """A server whose address space may come to a GB."""
 
     def start(self):
-        self.words = ["sh", "-c", 'ulimit -v 1000000; exec "$@"', "sh", *self.words]
+        self.words = ["sh", "-c", 'ulimit -v 1000000; ulimit -n 1024; exec "$@"', "sh", *self.words]
         super().start()
 
 
 def told_at_the_start(program, folder):
     """Settings that no machine keeps to."""
     origin = Origin(program, folder, ["--workers", "4", "--keep", "9000000000000000"], THREE)
-    seen_once(origin, "too few workers", "serve: --workers 4 is fewer than 5: encoders hold one for each rendition, and two are for readers")
     seen_once(origin, "too much kept", r"serve: these renditions want \d+ MB for what --keep and --window say, and this machine has \d+ MB")
     wanted = int(re.search(r"want (\d+) MB", "\n".join(origin.lines()))[1])
     check("as the formula has it", abs(wanted - 3928000 / 8 * 9000000052 / 1e6) < 2, wanted)
@@ -218,7 +217,7 @@ def told_at_the_start(program, folder):
     origin = LimitedOrigin(program, folder, [], THREE, name="limited")
     seen_once(origin, "a limit on the address space",
               r"serve: these renditions want 1\d{3} MB for what --keep and --window say, and this process's address space is limited to 1024 MB")
-    never(origin, "enough workers", r"serve: --workers .*")
+    seen_once(origin, "a limit on open files", "serve: --connections 4096 wants more than the 1024 files that this process may have open: 976 are held")
     origin.stop()
 
 
