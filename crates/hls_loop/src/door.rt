@@ -11,20 +11,19 @@ pub struct Door {
     /// The connections of all workers.
     held: AtomicU64,
     workers: u64,
-    /// How many connections each worker holds at most.
-    pub(crate) room: u64,
+    /// How many connections all of them hold at most.
+    most: u64,
     /// How many connections each of them takes before it ends.
     pub(crate) connections: u64,
 }
 
 impl Door {
-    /// For so many workers that hold so many connections in all, at least one each; each takes so many before it ends.
+    /// For so many workers that hold so many connections in all, at least one; each takes so many before it ends.
     pub fn new(workers: u64, most: u64, connections: u64) -> Door {
-        let workers = workers.max(1);
         Door {
             held: AtomicU64::new(0),
-            workers,
-            room: (most / workers).max(1),
+            workers: workers.max(1),
+            most: most.max(1),
             connections,
         }
     }
@@ -37,6 +36,11 @@ impl Door {
     /// A worker holds one connection less.
     pub(crate) fn leave(&self) {
         self.held.fetch_sub(1, Ordering::SeqCst);
+    }
+
+    /// Whether all places are taken. Workers that look at once may each take one more: they keep a file each for that.
+    pub(crate) fn is_full(&self) -> bool {
+        self.held.load(Ordering::SeqCst) >= self.most
     }
 
     /// Whether a worker that holds so many has clearly more than its share.

@@ -9,7 +9,7 @@ use std::net::SocketAddr;
 /// How a connection came to its end by itself.
 #[derive(Clone, Copy, Debug, PartialEq, Eq, Drop)]
 pub enum End {
-    /// The peer has ended its side, or is to learn nothing more.
+    /// The peer has ended its side, or said that it sends nothing more: its last request asked for the close.
     Closed,
     /// By a reply, while the peer's side goes on: what it still sends is dropped for a while, since a socket that is closed with
     /// unread bytes takes back the reply (RFC 9112 9.6).

@@ -17,4 +17,4 @@ pub use door::Door;
 pub use host::{End, Host};
 pub use listen::{held_of, open_files, widen};
 pub use post::Post;
-pub use worker::Worker;
+pub use worker::work;

@@ -16,15 +16,25 @@ const SEND_BUFFER: i32 = 262_144;
 /// start.
 const OTHERS: u64 = 32;
 
-/// Lets more connections wait at a listener, and bounds what the system keeps of each one's replies, which a socket has from its
-/// listener. Where the system refuses, they stay as they were.
+/// An option's value, as the system takes it.
+fn option_value(value: i32) -> [u8; 16] {
+    let mut bytes = [0u8; 16];
+    bytes[..4].copy_from_slice(&value.to_ne_bytes());
+    bytes
+}
+
+/// Lets more connections wait at a listener, bounds what the system keeps of each one's replies, and has it send them at once, as
+/// each socket has it from its listener. Where the system refuses, they stay as they were.
 pub fn widen(listener: &TcpListener) {
     let fd = listener.as_raw_fd();
     let _ = libc::net::listen(fd, QUEUE);
-    let mut value = [0u8; 16];
-    value[..4].copy_from_slice(&SEND_BUFFER.to_ne_bytes());
+    let most = option_value(SEND_BUFFER);
+    let yes = option_value(1);
     let _ = unsafe {
-        libc::net::setsockopt(fd, libc::net::SOL_SOCKET, libc::net::SO_SNDBUF, &value, 4)
+        libc::net::setsockopt(fd, libc::net::SOL_SOCKET, libc::net::SO_SNDBUF, &most, 4)
+    };
+    let _ = unsafe {
+        libc::net::setsockopt(fd, libc::net::IPPROTO_TCP, libc::net::TCP_NODELAY, &yes, 4)
     };
 }
 
@@ -40,11 +50,11 @@ pub fn open_files() -> Option<u64> {
     Some(limit.rlim_cur)
 }
 
-/// How many of the connections that are wanted a process holds that may have so many files open. A worker has its listener and its
-/// set of sockets.
+/// How many of the connections that are wanted a process holds that may have so many files open. A worker has its listener, its set
+/// of sockets, and the connection for which another gives way.
 pub fn held_of(files: u64, wanted: u64, workers: u64) -> u64
     requires { workers ≤ 63 }
     ensures { result ≡ held_of files wanted workers }
 {
-    wanted.min(files.saturating_sub(2 * workers + OTHERS).max(1))
+    wanted.min(files.saturating_sub(3 * workers + OTHERS).max(1))
 }

@@ -28,14 +28,20 @@ const MOST_EVENTS: usize = 256;
 /// How many connections are accepted before those that are there have their turn.
 const MOST_ACCEPTS: usize = 32;
 
-/// How often connections are looked through for those that take too long, in milliseconds.
-const SWEEP: u64 = 1000;
+/// Connections are looked through for those that take too long at least so often, in milliseconds.
+const LONGEST_BEAT: u64 = 1000;
+
+/// And no more often than that.
+const SHORTEST_BEAT: u64 = 100;
 
 /// For how long a worker with more than its share lets the others take a connection, in milliseconds.
 const COURTESY: u64 = 2;
 
-/// How long a worker waits after a failed accept, in milliseconds.
+/// How long a worker waits after a failed accept, or where all places are taken and nobody gives way, in milliseconds.
 const PAUSE: u64 = 10;
+
+/// Of how many connections a look for one that gives way costs a millisecond's pause.
+const LOOKED_AT: u64 = 256;
 
 /// Whether a connection may be waiting at the listener.
 #[derive(Clone, Copy, Debug, PartialEq, Eq, Drop)]
@@ -50,7 +56,7 @@ enum Waiting {
 
 /// A worker: its connections, by the keys under which the system tells of them.
 #[derive(Drop)]
-pub struct Worker<'a, H: Host> {
+struct Worker<'a, H: Host> {
     alloc: Global,
     poll: Poll,
     listener: TcpListener,
@@ -66,13 +72,15 @@ pub struct Worker<'a, H: Host> {
     left: u64,
     /// The time of this round, in milliseconds of the clock.
     now: u64,
+    /// When connections were looked through last, and how often they are.
     swept: u64,
+    beat: u64,
     ghost patient: { patience ≤ 3600 },
 }
 
 impl<'a, H: Host + Drop> Worker<'a, H> {
     /// A worker at its post, without a connection.
-    pub fn new(
+    fn new(
         alloc: Global,
         post: Post,
         door: &'a Door,
@@ -83,6 +91,7 @@ impl<'a, H: Host + Drop> Worker<'a, H> {
     {
         let Post { poll, listener } = post;
         let mut listener = listener;
+        let patience = patience.min(3600);
         poll.registry()
             .register(&mut listener, DOOR, Interest::READABLE)?;
         Ok(Worker {
@@ -91,13 +100,14 @@ impl<'a, H: Host + Drop> Worker<'a, H> {
             listener,
             door,
             host,
-            patience: patience.min(3600),
+            patience,
             slots: Slab::new(alloc),
             again: Vec::new(alloc),
             waiting: Waiting::Maybe,
             left: door.connections,
             now: 0,
             swept: 0,
+            beat: (patience * 125).clamp(SHORTEST_BEAT, LONGEST_BEAT),
         })
     }
 
@@ -235,7 +245,6 @@ impl<'a, H: Host + Drop> Worker<'a, H> {
         requires suits { SuitsAll H.suits self.old.host self.old.slots }
         ensures suits { SuitsAll H.suits self.new.host self.new.slots }
     {
-        let _ = stream.set_nodelay(true);
         let Some(key) = self.place(stream, peer) else {
             return;
         };
@@ -246,7 +255,7 @@ impl<'a, H: Host + Drop> Worker<'a, H> {
         }
     }
 
-    /// Who gives way where all places are taken.
+    /// Who of its connections gives way.
     fn yielding(&self) -> Option<usize> {
         let mut found: Option<(usize, Pace)> = None;
         for (key, slot) in self.slots.iter() {
@@ -256,9 +265,10 @@ impl<'a, H: Host + Drop> Worker<'a, H> {
         Some(key)
     }
 
-    /// Whether all its places are taken.
-    fn is_full(&self) -> bool {
-        self.slots.len() as u64 >= self.door.room
+    /// Until when a worker leaves the door alone that found nobody who gives way: a look at many takes its time.
+    fn after_a_look(&self) -> u64 {
+        let looked = self.slots.len() as u64 / LOOKED_AT;
+        self.now.saturating_add(looked.saturating_add(PAUSE))
     }
 
     /// Takes the next connection in, where there is one; then another gives way for it, where one is named.
@@ -310,7 +320,8 @@ impl<'a, H: Host + Drop> Worker<'a, H> {
         }
     }
 
-    /// Takes some of the connections that are waiting. Where all places are taken and nobody gives way, they go on waiting.
+    /// Takes some of the connections that are waiting. Where all places are taken and nobody gives way, they go on waiting: another
+    /// worker may have one that does.
     fn accept_some(&mut self)
         requires suits { SuitsAll H.suits self.old.host self.old.slots }
         ensures suits { SuitsAll H.suits self.new.host self.new.slots }
@@ -319,13 +330,13 @@ impl<'a, H: Host + Drop> Worker<'a, H> {
             if self.left == 0 || !self.is_next() {
                 return;
             }
-            let yielding = if self.is_full() {
-                self.yielding()
-            } else {
-                None
-            };
-            if yielding.is_none() && self.is_full() {
-                return;
+            let mut yielding = None;
+            if self.door.is_full() {
+                yielding = self.yielding();
+                if yielding.is_none() {
+                    self.waiting = Waiting::Later(self.after_a_look());
+                    return;
+                }
             }
             self.accept(yielding);
         }
@@ -362,12 +373,12 @@ impl<'a, H: Host + Drop> Worker<'a, H> {
         }
     }
 
-    /// Looks each second for connections that take too long.
+    /// Looks through the connections for those that take too long, each time that the beat has passed.
     fn sweep(&mut self)
         requires suits { SuitsAll H.suits self.old.host self.old.slots }
         ensures suits { SuitsAll H.suits self.new.host self.new.slots }
     {
-        if self.now < self.swept.saturating_add(SWEEP) {
+        if self.now < self.swept.saturating_add(self.beat) {
             return;
         }
         self.swept = self.now;
@@ -384,21 +395,17 @@ impl<'a, H: Host + Drop> Worker<'a, H> {
         if self.left > 0 {
             match self.waiting {
                 Waiting::No => {}
-                Waiting::Maybe => {
-                    if !self.is_full() {
-                        return Some(Duration::from_millis(0));
-                    }
-                }
+                Waiting::Maybe => return Some(Duration::from_millis(0)),
                 Waiting::Later(time) => {
                     let left = time.saturating_sub(self.now);
-                    return Some(Duration::from_millis(left.min(SWEEP)));
+                    return Some(Duration::from_millis(left.min(self.beat)));
                 }
             }
         }
         if self.slots.is_empty() {
             return None;
         }
-        Some(Duration::from_millis(SWEEP))
+        Some(Duration::from_millis(self.beat))
     }
 
     /// One round: what the system tells, those that have more to do, new connections, and those that take too long.
@@ -415,7 +422,7 @@ impl<'a, H: Host + Drop> Worker<'a, H> {
     }
 
     /// Serves until so many connections have come and gone. May wait.
-    pub fn work<R: Wait + Clock>(&mut self, rt: &R) -> io::Result<()>
+    fn serve<R: Wait + Clock>(&mut self, rt: &R) -> io::Result<()>
         requires suits { SuitsAll H.suits self.old.host self.old.slots }
         ensures suits { SuitsAll H.suits self.new.host self.new.slots }
     {
@@ -431,4 +438,17 @@ impl<'a, H: Host + Drop> Worker<'a, H> {
         }
         unreachable!()
     }
+}
+
+/// Serves connections at a post, many at a time, until as many have come and gone as the door says; one may be silent for so many
+/// seconds, at most 3600. May wait.
+pub fn work<H: Host + Drop, R: Wait + Clock>(
+    rt: &R,
+    alloc: Global,
+    post: Post,
+    door: &Door,
+    host: H,
+    patience: u64,
+) -> io::Result<()> {
+    Worker::new(alloc, post, door, host, patience)?.serve(rt)
 }
