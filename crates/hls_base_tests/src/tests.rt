@@ -3,6 +3,7 @@
 mod boxes;
 mod instants;
 mod io;
+mod loops;
 mod options;
 mod pace;
 mod samples;

@@ -4,7 +4,7 @@ ghost use Rattle.std.specs.Prelude.{◌≡◌, nat_lt};
 ghost use Rattle.hls_server.specs.Uneven.{is_in, left_out, missing};
 
 /// The units of rendition 0 from one on and below another, by their numbers.
-#[derive(Clone, Copy)]
+#[derive(Clone, Copy, Debug, Default, Drop)]
 pub struct Span {
     pub from: u64,
     pub to: u64,
@@ -17,13 +17,7 @@ const FEW: usize = 5;
 pub fn missing(units: &[u64], places: &[u64]) -> usize
     ensures { result ≡ missing places.now units.now }
 {
-    let mut count = 0;
-    for unit in units {
-        if !places.contains(unit) {
-            count += 1;
-        }
-    }
-    count
+    units.iter().filter(|unit| !places.contains(*unit)).count()
 }
 
 /// Whether a unit lies in one of the spans.
@@ -37,13 +31,7 @@ fn is_in(unit: u64, spans: &[Span]) -> bool
 pub fn left_out(units: &[u64], spans: &[Span]) -> usize
     ensures { result ≡ left_out spans.now units.now }
 {
-    let mut count = 0;
-    for unit in units {
-        if !is_in(*unit, spans) {
-            count += 1;
-        }
-    }
-    count
+    units.iter().filter(|unit| !is_in(**unit, spans)).count()
 }
 
 /// Whether so many missing places are told: fewer than 95 of the last hundred became places.

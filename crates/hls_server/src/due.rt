@@ -43,33 +43,22 @@ impl Bell {
         }
     }
 
-    /// The bell and what is told, where it is so or not at a moment: once a minute at most that it is so, while it lasts
-    /// `again` or not, and that it is over once, if it was told.
-    pub fn heard(self, holds: bool, again: bool, now: u64) -> (Bell, Said)
-        ensures bell { result.0 ≡ bell_after holds again now self }
-        ensures said { result.1 ≡ said_after holds again now self }
+    /// What is told of it, where it is so or not at a moment: once a minute at most that it is so, while it lasts `again` or
+    /// not, and that it is over once, if it was told.
+    pub fn heard(&mut self, holds: bool, again: bool, now: u64) -> Said
+        ensures bell { self.new ≡ bell_after holds again now self.old }
+        ensures said { result ≡ said_after holds again now self.old }
     {
+        let lasted = self.lasts;
         if !holds {
-            let over = Bell {
-                lasts: false,
-                told: self.told,
-            };
-            return (
-                over,
-                if self.lasts {
-                    Said::Over
-                } else {
-                    Said::Nothing
-                },
-            );
+            self.lasts = false;
+            return if lasted { Said::Over } else { Said::Nothing };
         }
-        if (self.lasts && !again) || !is_due(self.told, now) {
-            return (self, Said::Nothing);
+        if (lasted && !again) || !is_due(self.told, now) {
+            return Said::Nothing;
         }
-        let rung = Bell {
-            lasts: true,
-            told: now,
-        };
-        (rung, Said::Lasts)
+        self.lasts = true;
+        self.told = now;
+        Said::Lasts
     }
 }

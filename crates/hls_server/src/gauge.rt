@@ -78,44 +78,35 @@ impl Gauge {
         }
     }
 
-    /// With the marks as they are at a moment.
-    fn marked(self, now: u64, used: u64) -> Gauge
-        ensures { result ≡ marked now used self }
+    /// Marks a moment, where the later mark is half an hour old.
+    fn mark(&mut self, now: u64, used: u64)
+        ensures { self.new ≡ marked now used self.old }
     {
-        if now.saturating_sub(self.next.at) < HALF_HOUR {
-            return self;
-        }
-        Gauge {
-            told: self.told,
-            since: self.next,
-            next: Mark { at: now, used },
+        if now.saturating_sub(self.next.at) >= HALF_HOUR {
+            self.since = self.next;
+            self.next = Mark { at: now, used };
         }
     }
 
-    /// The gauge where so much is used of a limit at a moment, and what is told then: each level once.
-    pub fn looked(self, used: u64, limit: u64, now: u64) -> (Gauge, Option<Nearing>)
+    /// What is told where so much is used of a limit at a moment: each level once.
+    pub fn looked(&mut self, used: u64, limit: u64, now: u64) -> Option<Nearing>
         requires used { used ≤ 2 ^ 56 }
         requires limit { limit ≤ 2 ^ 56 }
-        ensures gauge { result.0 ≡ raised (level_of used limit) (marked now used self) }
-        ensures told { result.1 ≡ told_of used limit now self }
+        ensures gauge { self.new ≡ raised (level_of used limit) (marked now used self.old) }
+        ensures told { result ≡ told_of used limit now self.old }
     {
         let level = level(used, limit);
-        let gauge = self.marked(now, used);
+        let since = self.since;
+        self.mark(now, used);
         if level <= self.told {
-            return (gauge, None);
+            return None;
         }
-        let rest = limit.saturating_sub(used);
-        let gained = used.saturating_sub(self.since.used);
-        let passed = now.saturating_sub(self.since.at);
-        let raised = Gauge {
-            told: level,
-            since: gauge.since,
-            next: gauge.next,
-        };
-        let nearing = Nearing {
+        self.told = level;
+        let gained = used.saturating_sub(since.used);
+        let passed = now.saturating_sub(since.at);
+        Some(Nearing {
             level,
-            left: left(rest, gained, passed),
-        };
-        (raised, Some(nearing))
+            left: left(limit.saturating_sub(used), gained, passed),
+        })
     }
 }

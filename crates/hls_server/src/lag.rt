@@ -55,22 +55,18 @@ fn earlier_begin(begin: u64, reach: Option<Reach>) -> u64
 fn last_end(courses: &[Course]) -> u64
     ensures { result ≡ last_end courses.now }
 {
-    let mut end = 0;
-    for course in courses {
-        end = later_end(end, course.reach);
-    }
-    end
+    courses
+        .iter()
+        .fold(0, |end, course| later_end(end, course.reach))
 }
 
 /// When the first one begins; where none has begun, `end`.
 fn first_begin(courses: &[Course], end: u64) -> u64
     ensures { result ≡ first_begin end courses.now }
 {
-    let mut begin = end;
-    for course in courses {
-        begin = earlier_begin(begin, course.reach);
-    }
-    begin
+    courses
+        .iter()
+        .fold(end, |begin, course| earlier_begin(begin, course.reach))
 }
 
 /// How far a rendition is behind where others have come from `begin` to `end`.

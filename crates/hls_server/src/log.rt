@@ -77,6 +77,17 @@ pub struct Crew {
     pub planners: u64,
 }
 
+impl Crew {
+    /// All that are wanted.
+    pub fn whole(workers: usize, planners: u64) -> Crew {
+        Crew {
+            keeps_house: true,
+            workers: workers as u64,
+            planners,
+        }
+    }
+}
+
 /// Not all threads that are wanted could be started.
 pub fn tell_fewer_threads<E: Eprint>(log: &Log<'_, E>, started: Crew, wanted: Crew) {
     let (rt, warning, error) = (log.rt, log.warning(), log.error());

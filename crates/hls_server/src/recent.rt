@@ -4,6 +4,7 @@
 use crate::cuts::Span;
 use crate::lag::{Course, Reach};
 use crate::near::sync_below;
+use arrayvec::ArrayVec;
 use hls_core::snapshot::Snapshot;
 use hls_core_laws::rendition::Rendition;
 use hls_places::{Place, time_of};
@@ -17,34 +18,6 @@ pub const MANY: usize = 100;
 
 /// So many units are looked at for them.
 const MOST_LOOKS: u64 = 16384;
-
-/// Up to a hundred numbers of units.
-#[derive(Clone, Copy)]
-pub struct Numbers {
-    items: [u64; MANY],
-    len: usize,
-}
-
-impl Numbers {
-    fn new() -> Numbers {
-        Numbers {
-            items: [0; MANY],
-            len: 0,
-        }
-    }
-
-    /// Takes one more, where there is room.
-    fn push(&mut self, number: u64) {
-        if let Some(place) = self.items.get_mut(self.len) {
-            *place = number;
-            self.len = self.len.saturating_add(1);
-        }
-    }
-
-    pub fn as_slice(&self) -> &[u64] {
-        self.items.get(..self.len).unwrap_or(&[])
-    }
-}
 
 /// When the last place starts, in microseconds of the channel's time; 0 where there is none.
 pub fn channel_time(snapshot: &Snapshot) -> u64 {
@@ -106,15 +79,15 @@ pub fn settled(snapshot: &Snapshot, target: u64) -> Option<(u64, u64)> {
 }
 
 /// The last sync samples of a recording that start between two moments, by their units' numbers, the last one first.
-pub fn last_syncs(recording: &Recording, from: u64, until: u64) -> Numbers {
-    let mut numbers = Numbers::new();
+pub fn last_syncs(recording: &Recording, from: u64, until: u64) -> ArrayVec<u64, MANY> {
+    let mut numbers = ArrayVec::new();
     let count = recording.count();
     for back in 1..MOST_LOOKS {
         let number = count.wrapping_sub(back);
         match recording.facts(number) {
-            Some(facts) if facts.start_us >= from && numbers.len < MANY => {
+            Some(facts) if facts.start_us >= from && numbers.len() < MANY => {
                 if facts.sync && facts.start_us <= until {
-                    numbers.push(number);
+                    let _ = numbers.try_push(number);
                 }
             }
             _ => return numbers,
@@ -129,14 +102,14 @@ fn unit_of(place: &Place) -> u64 {
 }
 
 /// The units of the first rendition at which the last places stand, from one on.
-pub fn last_places(snapshot: &Snapshot, from: u64) -> Numbers {
-    let mut numbers = Numbers::new();
+pub fn last_places(snapshot: &Snapshot, from: u64) -> ArrayVec<u64, MANY> {
+    let mut numbers = ArrayVec::new();
     let places = snapshot.places();
     for back in 1..128 {
         match places.get(places.next().wrapping_sub(back)) {
             Some(place) if unit_of(place) >= from => {
                 if !place.closing {
-                    numbers.push(unit_of(place));
+                    let _ = numbers.try_push(unit_of(place));
                 }
             }
             _ => return numbers,
@@ -145,34 +118,10 @@ pub fn last_places(snapshot: &Snapshot, from: u64) -> Numbers {
     numbers
 }
 
-/// Up to a hundred live segments, and what lies before them.
-#[derive(Clone, Copy)]
-pub struct Spans {
-    items: [Span; MANY],
-    len: usize,
-}
-
-impl Spans {
-    /// Takes one more, where there is room.
-    fn push(&mut self, from: u64, to: u64) {
-        if let Some(place) = self.items.get_mut(self.len) {
-            *place = Span { from, to };
-            self.len = self.len.saturating_add(1);
-        }
-    }
-
-    pub fn as_slice(&self) -> &[Span] {
-        self.items.get(..self.len).unwrap_or(&[])
-    }
-}
-
 /// The units of the first rendition in each of the last live segments, the last one first. The last of them has all before it
 /// too where others have left the list: where those went isn't looked at.
-pub fn last_segments(snapshot: &Snapshot) -> Spans {
-    let mut spans = Spans {
-        items: [Span { from: 0, to: 0 }; MANY],
-        len: 0,
-    };
+pub fn last_segments(snapshot: &Snapshot) -> ArrayVec<Span, MANY> {
+    let mut spans = ArrayVec::new();
     let segments = snapshot.line().segments();
     let mut front = 0;
     for back in 1..MANY as u64 {
@@ -180,10 +129,11 @@ pub fn last_segments(snapshot: &Snapshot) -> Spans {
             break;
         };
         front = unit_of(&segment.from);
-        spans.push(front, unit_of(&segment.to));
+        let to = unit_of(&segment.to);
+        let _ = spans.try_push(Span { from: front, to });
     }
     if segments.next() >= MANY as u64 || segments.first() > 0 {
-        spans.push(0, front);
+        let _ = spans.try_push(Span { from: 0, to: front });
     }
     spans
 }

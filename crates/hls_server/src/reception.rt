@@ -8,6 +8,7 @@ use crate::log::tell_failed_accept;
 use hls_http::SessionEnd;
 use hls_loop::{End, Host};
 use hls_pace::{Stage, milliseconds};
+use hls_serve::laws::suits_later;
 use hls_serve::station::Station;
 use hls_serve::visit::{Standing, Visit};
 use hls_settings::Settings;
@@ -52,6 +53,7 @@ impl<'a, R: Wait + Clock + Eprint> Host for Reception<'a, R> {
     }
 
     fn advance(&mut self, visit: &mut Visit, peer: SocketAddr) -> bool {
+        suits_later();
         let client = self.client(peer);
         visit.advance(&mut self.station, &client)
     }
@@ -78,7 +80,7 @@ impl<'a, R: Wait + Clock + Eprint> Host for Reception<'a, R> {
 
     fn end(&self, visit: &Visit) -> Option<End> {
         match visit.end()? {
-            SessionEnd::Closed | SessionEnd::Refused => Some(End::Said),
+            SessionEnd::Refused => Some(End::Said),
             _ => Some(End::Closed),
         }
     }

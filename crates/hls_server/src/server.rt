@@ -8,10 +8,10 @@ use crate::planner::plan_jobs;
 use crate::reception::Reception;
 use hls_catchup::Jobs;
 use hls_core::snapshot::Snapshot;
-use hls_loop::{Door, Post, Worker, held_of, open_files, widen};
+use hls_loop::{Door, Post, held_of, open_files, widen, work};
 use hls_serve::channel::Channel;
 use hls_serve::station::Station;
-use hls_settings::Settings;
+use hls_settings::{Settings, Workers};
 use hls_turn::{Pass, Turn};
 use std::alloc::{AllocError, Global};
 use std::io::Eprint;
@@ -19,16 +19,20 @@ use std::net::{Net, TcpListener, TcpStream};
 use std::rt::Env;
 use std::sync::Wait;
 use std::sync::atomic::{AtomicBool, AtomicU64, Ordering};
-use std::thread::{self, Threads};
+use std::thread::{self, JoinHandle, Scope, Threads};
 use std::time::Clock;
 
 /// The most workers: each has a pass, and so has the housekeeper.
 const MOST_WORKERS: u64 = 63;
 
-/// Where workers find connections, and what they know of one another.
-#[derive(Drop)]
-struct Entrance<'a> {
+/// What the threads of a server have in common.
+#[derive(Clone, Copy)]
+struct Site<'a> {
+    channel: Channel<'a>,
+    settings: &'a Settings,
+    /// Where workers find connections.
     listener: &'a TcpListener,
+    /// What workers know of one another.
     door: &'a Door,
     /// When a failed accept was told last, in milliseconds of the clock; 0 where none was.
     told: &'a AtomicU64,
@@ -43,11 +47,21 @@ fn passes_for(workers: u64) -> u16
     (workers + 1) as u16
 }
 
-/// Serves connections from a channel that begins empty, each worker so many of them, or without end where no number is given.
-/// The housekeeper and the planners end when all workers have, and the planners finish the jobs that wait by then.
+/// How many connections all workers hold at most: those that are wanted, or fewer where the process may have fewer files open.
+fn places_of(workers: Workers) -> u64 {
+    let count = workers.workers.clamp(1, MOST_WORKERS);
+    match open_files() {
+        Some(files) => held_of(files, workers.connections, count),
+        None => workers.connections,
+    }
+}
+
+/// Serves connections from a channel that begins empty; each worker takes so many of them, or goes on without end where no number
+/// is given. The housekeeper and the planners end when all workers have, and the planners finish the jobs that wait by then.
 ///
-/// Each worker holds many connections, of all of which none may be slow for ever. Where a thread can't be started, the rest serve, and the operator is told; want of memory comes before a thread is started, or where no worker
-/// could be. May wait.
+/// A worker holds many connections at once, and none of them may be silent or slow for ever. Where a thread can't be started, the
+/// rest serve, and the operator is told; want of memory comes before a thread is started, or where no worker could be. Accepts on
+/// the listener don't wait meanwhile. May wait.
 pub fn run_server<
     R: Net<Listener = TcpListener, Stream = TcpStream>
         + Threads
@@ -65,51 +79,88 @@ pub fn run_server<
 ) -> Result<(), AllocError> {
     let config = settings.config.share()?;
     let snapshot = Snapshot::first(alloc, config)?;
-    let count = passes_for(settings.plain.workers.workers);
+    let workers = settings.plain.workers;
+    let count = passes_for(workers.workers);
     let (turn, passes) = Turn::new(rt, alloc, snapshot, count)?;
     let jobs = Jobs::new(alloc)?;
-    let channel = Channel {
-        turn: &turn,
-        jobs: &jobs,
-    };
-    let workers = settings.plain.workers;
-    let count = workers.workers.clamp(1, MOST_WORKERS);
-    let most = match open_files() {
-        Some(files) => held_of(files, workers.connections, count),
-        None => workers.connections,
-    };
-    widen(listener);
-    let entrance = Entrance {
+    let serving = u64::from(count - 1);
+    let site = Site {
+        channel: Channel {
+            turn: &turn,
+            jobs: &jobs,
+        },
+        settings,
         listener,
-        door: &Door::new(count, most, connections.unwrap_or(u64::MAX)),
+        door: &Door::new(serving, places_of(workers), connections.unwrap_or(u64::MAX)),
         told: &AtomicU64::new(0),
     };
-    let ran = run_threads(rt, alloc, &channel, settings, &entrance, passes);
+    widen(listener);
+    let ran = run_threads(rt, alloc, site, passes);
     let _ = listener.set_nonblocking(false);
     ran
 }
 
 /// Serves connections on one thread; the operator is told where the system doesn't let it.
-fn serve<R: Wait + Clock + Eprint>(
-    post: Post,
-    entrance: &Entrance<'_>,
-    station: Station<'_, R>,
-    settings: &Settings,
-) {
+fn serve<R: Wait + Clock + Eprint>(post: Post, site: Site<'_>, station: Station<'_, R>) {
     let (rt, alloc) = (station.rt, station.alloc);
     let reception = Reception {
         station,
-        settings,
-        told: entrance.told,
+        settings: site.settings,
+        told: site.told,
     };
-    let patience = settings.plain.workers.patience;
-    let served = match Worker::new(alloc, post, entrance.door, reception, patience) {
-        Ok(mut worker) => worker.work(rt),
-        Err(error) => Err(error),
-    };
-    if let Err(error) = served {
+    let patience = site.settings.plain.workers.patience;
+    if let Err(error) = work(rt, alloc, post, site.door, reception, patience) {
         tell_ended_worker(rt, error);
     }
+}
+
+/// Starts a thread for each pass, which serves connections: those that there are then.
+fn start_workers<
+    's,
+    E,
+    R: Net<Listener = TcpListener, Stream = TcpStream> + Wait + Clock + Eprint + Sync,
+>(
+    scope: &Scope<'s, E>,
+    rt: &'s R,
+    alloc: Global,
+    site: Site<'s>,
+    passes: Vec<Pass>,
+    started: Vec<JoinHandle<()>>,
+) -> Vec<JoinHandle<()>>
+    requires { All (λ p. p.turn ≡ site.channel.turn.now) passes.items }
+{
+    let mut started = started;
+    for pass in passes {
+        let Ok(post) = Post::at(rt, site.listener) else {
+            continue;
+        };
+        let worker = scope.spawn(
+            move || -> ()
+                requires { pass.turn ≡ site.channel.turn.now }
+            { serve(post, site, Station::new(rt, alloc, &site.channel, pass)) },
+        );
+        if let Ok(worker) = worker {
+            let _ = started.push(worker);
+        }
+    }
+    started
+}
+
+/// Starts so many threads that work on jobs; how many there are then.
+fn start_planners<'s, E, R: Wait + Sync>(
+    scope: &Scope<'s, E>,
+    rt: &'s R,
+    alloc: Global,
+    jobs: &'s Jobs,
+    wanted: u64,
+) -> u64 {
+    let mut started: u64 = 0;
+    for _ in 0..wanted {
+        if scope.spawn(move || plan_jobs(rt, alloc, jobs)).is_ok() {
+            started = started.saturating_add(1);
+        }
+    }
+    started
 }
 
 /// Runs a thread for each pass: the last one's keeps house, and the others serve connections. The planners' are beside them.
@@ -121,76 +172,42 @@ fn run_threads<
         + Eprint
         + Env
         + Sync,
->(
-    rt: &R,
-    alloc: Global,
-    channel: &Channel<'_>,
-    settings: &Settings,
-    entrance: &Entrance<'_>,
-    passes: Vec<Pass>,
-) -> Result<(), AllocError>
-    requires { All (λ p. p.turn ≡ channel.now.turn.now) passes.items }
+>(rt: &R, alloc: Global, site: Site<'_>, passes: Vec<Pass>) -> Result<(), AllocError>
+    requires { All (λ p. p.turn ≡ site.channel.turn.now) passes.items }
 {
     let closed = AtomicBool::new(false);
     let closed = &closed;
-    let planners = settings.plain.workers.planners;
+    let planners = site.settings.plain.workers.planners;
     thread::scope(
         thread::scope_env(),
         rt,
         move |scope| -> Result<(), AllocError>
-            requires { All (λ p. p.turn ≡ channel.now.turn.now) passes.items }
+            requires { All (λ p. p.turn ≡ site.channel.turn.now) passes.items }
         {
-            let mut workers = Vec::with_capacity(alloc, passes.len())?;
+            let room = Vec::with_capacity(alloc, passes.len())?;
             let mut passes = passes;
             let Some(mut last) = passes.pop() else {
                 return Ok(());
             };
-            let wanted = Crew {
-                keeps_house: true,
-                workers: passes.len() as u64,
-                planners,
-            };
+            let wanted = Crew::whole(passes.len(), planners);
             let keeper = scope.spawn(
                 move || -> ()
-                    requires { last.turn ≡ channel.now.turn.now }
-                { keep_house(rt, alloc, channel, settings, closed, &mut last) },
+                    requires { last.turn ≡ site.channel.turn.now }
+                { keep_house(rt, alloc, &site.channel, site.settings, closed, &mut last) },
             );
-            for pass in passes {
-                let Ok(post) = Post::at(rt, entrance.listener) else {
-                    continue;
-                };
-                let worker = scope.spawn(
-                    move || -> ()
-                        requires { pass.turn ≡ channel.now.turn.now }
-                    {
-                        let station = Station::new(rt, alloc, channel, pass);
-                        serve(post, entrance, station, settings);
-                    },
-                );
-                if let Ok(worker) = worker {
-                    let _ = workers.push(worker);
-                }
-            }
-            let mut started = Crew {
+            let workers = start_workers(scope, rt, alloc, site, passes, room);
+            let started = Crew {
                 keeps_house: keeper.is_ok(),
                 workers: workers.len() as u64,
-                planners: 0,
+                planners: start_planners(scope, rt, alloc, site.channel.jobs, planners),
             };
-            for _ in 0..planners {
-                if scope
-                    .spawn(move || plan_jobs(rt, alloc, channel.jobs))
-                    .is_ok()
-                {
-                    started.planners = started.planners.saturating_add(1);
-                }
-            }
             tell_fewer_threads(&Log::new(rt), started, wanted);
             for worker in workers {
                 worker.join(rt);
             }
-            channel.jobs.close(rt);
+            site.channel.jobs.close(rt);
             closed.store(true, Ordering::SeqCst);
-            channel.turn.tell(rt);
+            site.channel.turn.tell(rt);
             if started.workers == 0 {
                 return Err(AllocError);
             }

@@ -91,6 +91,21 @@ pub struct Cause<'a> {
     pub finished: bool,
 }
 
+impl<'a> Display for Cause<'a> {
+    fn fmt<W: Write>(&self, f: &mut Formatter<W>) -> fmt::Result {
+        let name = self.name;
+        if self.finished {
+            return write!(f, "{name} is finished");
+        }
+        let away = self.away.div_ceil(MILLISECOND);
+        let tolerance = self.tolerance / MILLISECOND;
+        write!(
+            f,
+            "{name}'s units begin up to {away} ms away and its tolerance is {tolerance} ms"
+        )
+    }
+}
+
 /// So many of the last sync samples of the first rendition are no places.
 pub fn tell_missing<E: Eprint>(
     log: &Log<'_, E>,
@@ -100,24 +115,14 @@ pub fn tell_missing<E: Eprint>(
     cause: Option<Cause<'_>>,
 ) {
     let (rt, level) = (log.rt, log.warning());
-    let Some(cause) = cause else {
-        let _ = eprintln!(rt;
+    let _ = match cause {
+        None => eprintln!(rt;
             "{level}serve: {missing} of the last {all} sync samples of {first} are no places"
-        );
-        return;
+        ),
+        Some(cause) => eprintln!(rt;
+            "{level}serve: {missing} of the last {all} sync samples of {first} are no places: {cause}"
+        ),
     };
-    let name = cause.name;
-    if cause.finished {
-        let _ = eprintln!(rt;
-            "{level}serve: {missing} of the last {all} sync samples of {first} are no places: {name} is finished"
-        );
-        return;
-    }
-    let away = cause.away.div_ceil(MILLISECOND);
-    let tolerance = cause.tolerance / MILLISECOND;
-    let _ = eprintln!(rt;
-        "{level}serve: {missing} of the last {all} sync samples of {first} are no places: {name}'s units begin up to {away} ms away and its tolerance is {tolerance} ms"
-    );
 }
 
 /// So many of the last sync samples of the first rendition are in no live segment.

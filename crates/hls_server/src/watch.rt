@@ -143,18 +143,14 @@ impl Watch {
         now: u64,
     ) {
         let entries = snapshot.version().min(MOST_ENTRIES);
-        let (gauge, nearing) = self.entries.looked(entries, MOST_ENTRIES, now);
-        self.entries = gauge;
-        if let Some(nearing) = nearing {
+        if let Some(nearing) = self.entries.looked(entries, MOST_ENTRIES, now) {
             tell_nearing(log, Filled::Log(MOST_ENTRIES), nearing);
         }
         let renditions = settings.config.renditions();
         for number in 0..MOST_RENDITIONS {
             if let Some(recording) = snapshot.recording(number) {
-                let total = recording.total();
-                let (gauge, nearing) = self.recordings[number].looked(total, MOST_BYTES, now);
-                self.recordings[number] = gauge;
-                if let Some(nearing) = nearing {
+                let gauge = &mut self.recordings[number];
+                if let Some(nearing) = gauge.looked(recording.total(), MOST_BYTES, now) {
                     let filled = Filled::Recording(name(renditions, number), MOST_BYTES);
                     tell_nearing(log, filled, nearing);
                 }
@@ -179,9 +175,7 @@ impl Watch {
             courses[number] = course(snapshot, number);
         }
         let found = first_late(settings.plain.timing.target.min(3600), &courses);
-        let (late, said) = self.late.heard(found.is_some(), true, now);
-        self.late = late;
-        match (said, found) {
+        match (self.late.heard(found.is_some(), true, now), found) {
             (Said::Lasts, Some(late)) => tell_late(log, name(renditions, late.rendition), late),
             (Said::Over, _) => tell_in_time(log),
             _ => {}
@@ -211,11 +205,8 @@ impl Watch {
         };
         let units = last_syncs(first, from, until);
         let out = left_out(units.as_slice(), last_segments(snapshot).as_slice());
-        let (bell, said) = self.left_out.heard(out > 0, true, now);
-        self.left_out = bell;
-        if let Said::Lasts = said {
-            let all = units.as_slice().len();
-            tell_left_out(log, name(renditions, 0), out, all, target);
+        if let Said::Lasts = self.left_out.heard(out > 0, true, now) {
+            tell_left_out(log, name(renditions, 0), out, units.len(), target);
         }
     }
 
@@ -231,9 +222,7 @@ impl Watch {
         let places = last_places(snapshot, units.last().copied().unwrap_or(0));
         let places = places.as_slice();
         let missed = missing(units, places);
-        let (bell, said) = self.missing.heard(is_uneven(missed), true, now);
-        self.missing = bell;
-        if let Said::Lasts = said {
+        if let Said::Lasts = self.missing.heard(is_uneven(missed), true, now) {
             let cause = cause(snapshot, renditions, units, places);
             tell_missing(log, name(renditions, 0), missed, units.len(), cause);
         }
@@ -241,9 +230,7 @@ impl Watch {
 
     /// Whether jobs hold more than half of their places.
     fn look_at_jobs<E: Eprint>(&mut self, log: &Log<'_, E>, jobs: usize, now: u64) {
-        let (bell, said) = self.jobs.heard(jobs > HALF, false, now);
-        self.jobs = bell;
-        match said {
+        match self.jobs.heard(jobs > HALF, false, now) {
             Said::Nothing => {}
             Said::Lasts => tell_many_jobs(log, jobs),
             Said::Over => tell_fewer_jobs(log, jobs),

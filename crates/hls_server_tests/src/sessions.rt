@@ -73,6 +73,25 @@ fn is_answered<R: Wait>(station: &mut Station<'_, R>, reader: Held<'_>, wanted: 
     session.writer.into_inner().says(wanted)
 }
 
+/// The reply to an init section and a unit that are new.
+const TAKEN: &[u8] =
+    b"HTTP/1.1 200 OK\r\nContent-Type: text/plain\r\nContent-Length: 29\r\n\r\ninit 1 accepted 1 repeated 0\n";
+
+/// The status of a channel before anything came.
+const OPENED: &[u8] =
+    b"HTTP/1.1 200 OK\r\nContent-Type: text/plain\r\nContent-Length: 47\r\n\r\nversion 0\nplaces 0\nsegments 0\nremoved 0\njobs 0\n";
+
+/// Whether a status is answered, of a channel before anything came.
+fn is_told<R: Wait>(station: &mut Station<'_, R>) -> bool {
+    let open = AtomicBool::new(true);
+    let reader = Held {
+        first: b"GET /status HTTP/1.1\r\nHost: a\r\n\r\n",
+        then: b"",
+        let_go: &open,
+    };
+    is_answered(station, reader, OPENED)
+}
+
 /// Whether an encoder whose body is held until a status was asked for, and that status, are answered.
 fn answers_beside_a_held_body<R: Threads + Wait + Sync>(
     rt: &R,
@@ -86,8 +105,6 @@ fn answers_beside_a_held_body<R: Threads + Wait + Sync>(
 {
     let answered = AtomicBool::new(false);
     let answered = &answered;
-    let open = AtomicBool::new(true);
-    let open = &open;
     let taken = AtomicBool::new(false);
     let taken = &taken;
     let asked = thread::scope(
@@ -113,20 +130,11 @@ fn answers_beside_a_held_body<R: Threads + Wait + Sync>(
                         then: body,
                         let_go: answered,
                     };
-                    let reply =
-                        b"HTTP/1.1 200 OK\r\nContent-Type: text/plain\r\nContent-Length: 29\r\n\r\ninit 1 accepted 1 repeated 0\n";
-                    taken.store(is_answered(&mut station, reader, reply), Ordering::SeqCst);
+                    taken.store(is_answered(&mut station, reader, TAKEN), Ordering::SeqCst);
                 },
             );
-            let reader = Held {
-                first: b"GET /status HTTP/1.1\r\nHost: a\r\n\r\n",
-                then: b"",
-                let_go: open,
-            };
-            let reply =
-                b"HTTP/1.1 200 OK\r\nContent-Type: text/plain\r\nContent-Length: 47\r\n\r\nversion 0\nplaces 0\nsegments 0\nremoved 0\njobs 0\n";
             let mut station = Station::new(rt, alloc, channel, askers);
-            let asked = encoder.is_ok() && is_answered(&mut station, reader, reply);
+            let asked = encoder.is_ok() && is_told(&mut station);
             answered.store(true, Ordering::SeqCst);
             asked
         },
