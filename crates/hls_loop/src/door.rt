@@ -10,6 +10,8 @@ const SLACK: u64 = 4;
 pub struct Door {
     /// The connections of all workers.
     held: AtomicU64,
+    /// Who goes first of those that may give way, by the rank that a worker found last.
+    first: AtomicU64,
     workers: u64,
     /// How many connections all of them hold at most.
     most: u64,
@@ -22,6 +24,7 @@ impl Door {
     pub fn new(workers: u64, most: u64, connections: u64) -> Door {
         Door {
             held: AtomicU64::new(0),
+            first: AtomicU64::new(u64::MAX),
             workers: workers.max(1),
             most: most.max(1),
             connections,
@@ -47,5 +50,18 @@ impl Door {
     pub(crate) fn has_more(&self, held: usize) -> bool {
         let all = self.held.load(Ordering::SeqCst);
         held as u64 > (all / self.workers.max(1)).saturating_add(SLACK)
+    }
+    /// Whether one of this rank goes before those that other workers have found, as far as they said.
+    pub(crate) fn goes_first(&self, rank: u64) -> bool {
+        if self.first.load(Ordering::SeqCst) < rank {
+            return false;
+        }
+        self.first.store(rank, Ordering::SeqCst);
+        true
+    }
+
+    /// The one that went first is gone, and the next one of its worker's has this rank.
+    pub(crate) fn pass_on(&self, rank: u64) {
+        self.first.store(rank, Ordering::SeqCst);
     }
 }

@@ -1,6 +1,6 @@
 //! Who serves the connections of a worker.
 
-ghost use Rattle.std.specs.Prelude.{◌≤◌, ℕ, List, length, IsTrue};
+ghost use Rattle.std.specs.Prelude.{◌≡◌, ◌≤◌, ℕ, List, length, take, drop, IsTrue};
 
 use hls_pace::Stage;
 use std::io::{self, Read};
@@ -47,12 +47,14 @@ pub trait Host {
 
     /// The next bytes to hand out.
     fn output<'v>(&self, visit: &'v Self::Visit) -> &'v [u8]
-        ensures { length result.now ≤ length (pending visit.now) };
+        ensures fits { length result.now ≤ length (pending visit.now) }
+        ensures first { take (length result.now) (pending visit.now) ≡ result.now };
 
     /// So many bytes were handed out.
     fn sent(&self, visit: &mut Self::Visit, count: usize)
         requires { count ≤ length (pending visit.old) }
-        ensures { (host : Self) → suits host visit.old → suits host visit.new };
+        ensures rest { pending visit.new ≡ drop count (pending visit.old) }
+        ensures suits { (host : Self) → suits host visit.old → suits host visit.new };
 
     /// Whether something waits to be handed out.
     fn wants_write(&self, visit: &Self::Visit) -> bool;

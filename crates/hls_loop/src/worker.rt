@@ -7,7 +7,7 @@ use crate::door::Door;
 use crate::host::Host;
 use crate::post::Post;
 use crate::slot::{Slot, Turn, take_turn};
-use hls_pace::{Pace, milliseconds, yields};
+use hls_pace::{Pace, Stage, milliseconds, yields};
 use mio::event::Event;
 use mio::net::{TcpListener, TcpStream};
 use mio::{Events, Interest, Poll, Token};
@@ -42,6 +42,14 @@ const PAUSE: u64 = 10;
 
 /// Of how many connections a look for one that gives way costs a millisecond's pause.
 const LOOKED_AT: u64 = 256;
+
+/// Who goes first of those that may give way, by the least number: the longest idle, and then the head that began last.
+fn rank(pace: Pace) -> u64 {
+    match pace.stage {
+        Stage::Idle => pace.moved,
+        _ => u64::MAX - pace.since,
+    }
+}
 
 /// Whether a connection may be waiting at the listener.
 #[derive(Clone, Copy, Debug, PartialEq, Eq, Drop)]
@@ -255,20 +263,21 @@ impl<'a, H: Host + Drop> Worker<'a, H> {
         }
     }
 
-    /// Who of its connections gives way.
-    fn yielding(&self) -> Option<usize> {
+    /// Who of its own gives way.
+    fn yielding(&self) -> Option<(usize, Pace)> {
         let mut found: Option<(usize, Pace)> = None;
         for (key, slot) in self.slots.iter() {
             found = yields(found, key, slot.pace);
         }
-        let (key, _) = found?;
-        Some(key)
+        found
     }
 
-    /// Until when a worker leaves the door alone that found nobody who gives way: a look at many takes its time.
-    fn after_a_look(&self) -> u64 {
-        let looked = self.slots.len() as u64 / LOOKED_AT;
-        self.now.saturating_add(looked.saturating_add(PAUSE))
+    /// Leaves the door alone for so many milliseconds.
+    fn leave_door(&mut self, time: u64)
+        ensures host { self.new.host ≡ self.old.host }
+        ensures slots { self.new.slots ≡ self.old.slots }
+    {
+        self.waiting = Waiting::Later(self.now.saturating_add(time));
     }
 
     /// Takes the next connection in, where there is one; then another gives way for it, where one is named.
@@ -290,7 +299,7 @@ impl<'a, H: Host + Drop> Worker<'a, H> {
                 _ => {
                     self.left = self.left.saturating_sub(1);
                     self.host.fail_accept(error);
-                    self.waiting = Waiting::Later(self.now.saturating_add(PAUSE));
+                    self.leave_door(PAUSE);
                 }
             },
         }
@@ -307,7 +316,7 @@ impl<'a, H: Host + Drop> Worker<'a, H> {
                 if !self.door.has_more(self.slots.len()) {
                     return true;
                 }
-                self.waiting = Waiting::Later(self.now.saturating_add(COURTESY));
+                self.leave_door(COURTESY);
                 false
             }
             Waiting::Later(time) => {
@@ -320,25 +329,44 @@ impl<'a, H: Host + Drop> Worker<'a, H> {
         }
     }
 
-    /// Takes some of the connections that are waiting. Where all places are taken and nobody gives way, they go on waiting: another
-    /// worker may have one that does.
+    /// Takes a connection in where all places are taken: for it the longest idle one gives way, or the youngest head, of all
+    /// workers'. Where that is another worker's the door is left alone for a while, and who has left it alone for that long takes
+    /// its own; where nobody gives way, for longer, since a look at many takes its time.
+    fn accept_full(&mut self, waited: bool)
+        requires suits { SuitsAll H.suits self.old.host self.old.slots }
+        ensures suits { SuitsAll H.suits self.new.host self.new.slots }
+    {
+        let Some((key, pace)) = self.yielding() else {
+            let looked = self.slots.len() as u64 / LOOKED_AT;
+            self.leave_door(looked.saturating_add(PAUSE));
+            return;
+        };
+        if !waited && !self.door.goes_first(rank(pace)) {
+            self.leave_door(COURTESY);
+            return;
+        }
+        self.accept(Some(key));
+        match self.yielding() {
+            Some((_, next)) => self.door.pass_on(rank(next)),
+            None => self.door.pass_on(u64::MAX),
+        }
+    }
+
+    /// Takes some of the connections that are waiting. Where all places are taken and nobody gives way, they go on waiting.
     fn accept_some(&mut self)
         requires suits { SuitsAll H.suits self.old.host self.old.slots }
         ensures suits { SuitsAll H.suits self.new.host self.new.slots }
     {
         for _ in 0..MOST_ACCEPTS {
+            let waited = matches!(self.waiting, Waiting::Later(_));
             if self.left == 0 || !self.is_next() {
                 return;
             }
-            let mut yielding = None;
             if self.door.is_full() {
-                yielding = self.yielding();
-                if yielding.is_none() {
-                    self.waiting = Waiting::Later(self.after_a_look());
-                    return;
-                }
+                self.accept_full(waited);
+            } else {
+                self.accept(None);
             }
-            self.accept(yielding);
         }
     }
 
