@@ -9,8 +9,10 @@ use std::net::SocketAddr;
 /// How a connection came to its end by itself.
 #[derive(Clone, Copy, Debug, PartialEq, Eq, Drop)]
 pub enum End {
-    /// The peer has ended its side, or said that it sends nothing more: its last request asked for the close.
+    /// The peer has ended its side, or is to learn nothing more.
     Closed,
+    /// By a reply to a request that said that it is the last one: it is over at once, but where something has come behind that.
+    Done,
     /// By a reply, while the peer's side goes on: what it still sends is dropped for a while, since a socket that is closed with
     /// unread bytes takes back the reply (RFC 9112 9.6).
     Said,

@@ -87,7 +87,12 @@ impl<V> Slot<V> {
     fn end(&mut self, end: End, now: u64) -> Turn
         ensures { self.new.visit ≡ self.old.visit }
     {
-        if end == End::Closed
+        let lingers = match end {
+            End::Closed => false,
+            End::Done => self.wire.readable,
+            End::Said => true,
+        };
+        if !lingers
             || self.wire.is_at_end
             || self.wire.stream.shutdown(Shutdown::Write).is_err()
         {

@@ -1,19 +1,36 @@
 //! Who is at the other end of a connection.
 
-use crate::lines::{Ingest, Name, Request};
+use crate::lines::{Ingest, Name};
 use crate::log::tell;
+use hls_http::Method;
+use hls_http_laws::reply::Status;
 use hls_serve::news::{Ingested, News, Observer};
+use hls_serve_laws::route::Route;
 use hls_settings::Settings;
+use std::cell::Cell;
 use std::io::Eprint;
 use std::net::SocketAddr;
 
-/// Who is at the other end of a connection: what comes of its requests is told to the operator.
+/// A reply that was made.
+#[derive(Clone, Copy, Drop)]
+pub struct Answered {
+    pub method: Method,
+    pub route: Option<Route>,
+    pub status: Status,
+}
+
+/// Who is at the other end of a connection, for one turn: an encoder's body that ended is told to the operator, and what came of a
+/// request is noted.
 #[derive(Drop)]
 pub struct Client<'a, E> {
     pub rt: &'a E,
-    /// The renditions by their names, and whether each request is told.
+    /// The renditions by their names.
     pub settings: &'a Settings,
     pub address: SocketAddr,
+    /// Whether a request's head was whole in this turn.
+    pub began: Cell<bool>,
+    /// The reply that was made in this turn.
+    pub answered: Cell<Option<Answered>>,
 }
 
 impl<'a, E: Eprint> Client<'a, E> {
@@ -39,23 +56,17 @@ impl<'a, E: Eprint> Client<'a, E> {
 impl<'a, E: Eprint> Observer for Client<'a, E> {
     fn tell(&self, news: &News) {
         match *news {
-            News::Begun { .. } => {}
+            News::Begun { .. } => self.began.set(true),
             News::Ingested(ingested) => self.tell_ingested(ingested),
             News::Replied {
                 method,
                 route,
                 status,
-            } => {
-                if self.settings.plain.logs_requests {
-                    let line = Request {
-                        peer: self.address,
-                        method,
-                        route,
-                        status,
-                    };
-                    tell(self.rt, line);
-                }
-            }
+            } => self.answered.set(Some(Answered {
+                method,
+                route,
+                status,
+            })),
         }
     }
 }

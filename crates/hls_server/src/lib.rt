@@ -9,6 +9,7 @@ mod client;
 mod cuts;
 mod due;
 mod gauge;
+mod guest;
 mod house;
 mod lag;
 mod lines;

@@ -129,13 +129,19 @@ fn number_of(status: Status) -> u16 {
     }
 }
 
-/// A request that was answered.
+/// A request that was answered, and how its reply was taken.
 #[derive(Drop)]
 pub struct Request {
     pub peer: SocketAddr,
     pub method: Method,
     pub route: Option<Route>,
     pub status: Status,
+    /// How many bytes of the reply were taken, its head among them.
+    pub bytes: u64,
+    /// For how long, since the request's head was whole.
+    pub milliseconds: u64,
+    /// Whether the reply was taken whole.
+    pub whole: bool,
 }
 
 impl Display for Request {
@@ -143,6 +149,8 @@ impl Display for Request {
         let method = method_name(self.method);
         let path = Path(self.route);
         let status = number_of(self.status);
-        write!(f, "request {method} {path} from {}: {status}", self.peer)
+        write!(f, "request {method} {path} from {}: {status}", self.peer)?;
+        let end = if self.whole { "" } else { ", broken off" };
+        write!(f, ", {} bytes in {} ms{end}", self.bytes, self.milliseconds)
     }
 }

@@ -4,6 +4,7 @@ ghost use Rattle.hls_serve.specs.Visits.{Suits, WantsRead, history};
 
 use crate::client::Client;
 use crate::due::is_due;
+use crate::guest::{Asked, Guest};
 use crate::log::tell_failed_accept;
 use hls_http::SessionEnd;
 use hls_loop::{End, Host};
@@ -12,6 +13,7 @@ use hls_serve::laws::suits_later;
 use hls_serve::station::Station;
 use hls_serve::visit::{Standing, Visit};
 use hls_settings::Settings;
+use std::cell::Cell;
 use std::io::{self, Eprint, Read};
 use std::net::SocketAddr;
 use std::sync::Wait;
@@ -35,58 +37,97 @@ impl<'a, R: Wait> Reception<'a, R> {
             rt: self.station.rt,
             settings: self.settings,
             address: peer,
+            began: Cell::new(false),
+            answered: Cell::new(None),
+        }
+    }
+}
+
+impl<'a, R: Wait + Clock + Eprint> Reception<'a, R> {
+    /// Notes what came of a request in a turn that began then, where requests are told. Where there is no memory for that, it
+    /// isn't told.
+    fn note(&self, asked: &mut Option<Box<Asked>>, client: &Client<'a, R>, then: u64) {
+        if !self.settings.plain.logs_requests {
+            return;
+        }
+        let answered = client.answered.get();
+        if client.began.get() || (asked.is_none() && answered.is_some()) {
+            *asked = Box::new(self.station.alloc, Asked::new(client.address, then)).ok();
+        }
+        if let (Some(asked), Some(answered)) = (asked, answered) {
+            asked.answer(answered);
+        }
+    }
+
+    /// Notes that so many bytes were taken; whether more wait.
+    fn note_taken(&self, asked: &mut Option<Box<Asked>>, count: usize, more: bool) {
+        let Some(request) = asked else {
+            return;
+        };
+        request.take(count);
+        if !more && request.is_answered() {
+            request.tell(self.station.rt, milliseconds(self.station.rt), true);
+            *asked = None;
         }
     }
 }
 
 impl<'a, R: Wait + Clock + Eprint> Host for Reception<'a, R> {
-    type Visit = Visit;
+    type Visit = Guest;
 
-    ghost suits = { λ reception visit. Suits reception.station.pass.known visit };
+    ghost suits = { λ reception guest. Suits reception.station.pass.known guest.visit };
 
-    ghost pending = { λ visit. (history visit).pending };
+    ghost pending = { λ guest. (history guest.visit).pending };
 
-    ghost reads = { WantsRead };
+    ghost reads = { λ guest. WantsRead guest.visit };
 
-    fn begin(&self) -> Visit {
-        Visit::new(&self.station)
+    fn begin(&self) -> Guest {
+        Guest {
+            visit: Visit::new(&self.station),
+            asked: None,
+        }
     }
 
-    fn advance(&mut self, visit: &mut Visit, peer: SocketAddr) -> bool {
+    fn advance(&mut self, guest: &mut Guest, peer: SocketAddr) -> bool {
         suits_later();
         let client = self.client(peer);
-        visit.advance(&mut self.station, &client)
+        let then = milliseconds(self.station.rt);
+        let more = guest.visit.advance(&mut self.station, &client);
+        self.note(&mut guest.asked, &client, then);
+        more
     }
 
-    fn read<S: Read>(&self, visit: &mut Visit, reader: &mut S) -> io::Result<usize> {
-        visit.read_from(reader)
+    fn read<S: Read>(&self, guest: &mut Guest, reader: &mut S) -> io::Result<usize> {
+        guest.visit.read_from(reader)
     }
 
-    fn output<'v>(&self, visit: &'v Visit) -> &'v [u8] {
-        visit.output()
+    fn output<'v>(&self, guest: &'v Guest) -> &'v [u8] {
+        guest.visit.output()
     }
 
-    fn sent(&self, visit: &mut Visit, count: usize) {
-        visit.sent(count);
+    fn sent(&self, guest: &mut Guest, count: usize) {
+        guest.visit.sent(count);
+        self.note_taken(&mut guest.asked, count, guest.visit.wants_write());
     }
 
-    fn wants_write(&self, visit: &Visit) -> bool {
-        visit.wants_write()
+    fn wants_write(&self, guest: &Guest) -> bool {
+        guest.visit.wants_write()
     }
 
-    fn wants_read(&self, visit: &Visit) -> bool {
-        visit.wants_read()
+    fn wants_read(&self, guest: &Guest) -> bool {
+        guest.visit.wants_read()
     }
 
-    fn end(&self, visit: &Visit) -> Option<End> {
-        match visit.end()? {
+    fn end(&self, guest: &Guest) -> Option<End> {
+        match guest.visit.end()? {
+            SessionEnd::Closed => Some(End::Done),
             SessionEnd::Refused => Some(End::Said),
             _ => Some(End::Closed),
         }
     }
 
-    fn stage(&self, visit: &Visit) -> Stage {
-        match visit.standing() {
+    fn stage(&self, guest: &Guest) -> Stage {
+        match guest.visit.standing() {
             Standing::Idle => Stage::Idle,
             Standing::Head => Stage::Head,
             Standing::Dropping => Stage::Dropping,
@@ -96,8 +137,11 @@ impl<'a, R: Wait + Clock + Eprint> Host for Reception<'a, R> {
         }
     }
 
-    fn give_up(&self, visit: &Visit, peer: SocketAddr) {
-        visit.fail(&self.client(peer));
+    fn give_up(&self, guest: &Guest, peer: SocketAddr) {
+        guest.visit.fail(&self.client(peer));
+        if let Some(asked) = &guest.asked {
+            asked.tell(self.station.rt, milliseconds(self.station.rt), false);
+        }
     }
 
     /// Of failed accepts the first one is told, and then one a minute. Of workers that tell at once, one does.

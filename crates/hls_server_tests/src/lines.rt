@@ -45,13 +45,19 @@ fn a_body_that_ended(rt: HostRuntime) -> Result<(), Fail> {
 
 #[test]
 fn a_request_that_was_answered(rt: HostRuntime) -> Result<(), Fail> {
-    let request = Request {
+    let mut request = Request {
         peer: peer(),
         method: Method::Get,
         route: Some(Route::Media(1)),
         status: Status::PartialContent,
+        bytes: 1048743,
+        milliseconds: 12,
+        whole: true,
     };
-    let line = "request GET /media/1.mp4 from 10.0.0.7:5000: 206";
+    let line = "request GET /media/1.mp4 from 10.0.0.7:5000: 206, 1048743 bytes in 12 ms";
+    assert_eq!(rt; format!(in rt.alloc(); "{request}")?.as_str(), line);
+    request.whole = false;
+    let line = "request GET /media/1.mp4 from 10.0.0.7:5000: 206, 1048743 bytes in 12 ms, broken off";
     assert_eq!(rt; format!(in rt.alloc(); "{request}")?.as_str(), line);
     Ok(())
 }
