@@ -92,10 +92,7 @@ impl<V> Slot<V> {
             End::Done => self.wire.readable,
             End::Said => true,
         };
-        if !lingers
-            || self.wire.is_at_end
-            || self.wire.stream.shutdown(Shutdown::Write).is_err()
-        {
+        if !lingers || self.wire.is_at_end || self.wire.stream.shutdown(Shutdown::Write).is_err() {
             return Turn::Closed;
         }
         self.pace = Pace::begun(Stage::Lingering, now);

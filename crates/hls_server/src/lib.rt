@@ -21,6 +21,7 @@ mod reception;
 mod rest;
 mod server;
 mod start;
+mod told;
 mod warnings;
 mod watch;
 

@@ -98,7 +98,7 @@ impl<'a> Display for Ingest<'a> {
 }
 
 /// A method's name.
-fn method_name(method: Method) -> &'static str {
+pub(crate) fn method_name(method: Method) -> &'static str {
     match method {
         Method::Get => "GET",
         Method::Head => "HEAD",

@@ -1,7 +1,9 @@
 //! What the operator is told: each line by one write to standard error. A line that can't be written is dropped.
 
-use crate::lines::{Limits, Names};
+use crate::client::Answered;
+use crate::lines::{Limits, Names, method_name};
 use hls_core_laws::refusal::Refusal;
+use hls_serve::path::Path;
 use hls_settings::Settings;
 use std::env::{Env, FillError};
 use std::fmt::Display;
@@ -61,6 +63,12 @@ pub fn tell_refused_upkeep<E: Eprint>(log: &Log<'_, E>, refusal: Refusal) {
 /// An accept that failed; told once a minute at most.
 pub fn tell_failed_accept<E: Eprint>(rt: &E, error: Error) {
     let _ = eprintln!(rt; "serve: accept failed, tried again until it works: {error}");
+}
+
+/// A reply that took so many milliseconds to make, while the others of its worker waited; told once a minute at most.
+pub fn tell_long_reply<E: Eprint>(rt: &E, milliseconds: u64, answered: Answered) {
+    let (method, path) = (method_name(answered.method), Path(answered.route));
+    let _ = eprintln!(rt; "serve: a reply took {milliseconds} ms to make: {method} {path}");
 }
 
 /// A worker that can't go on.

@@ -3,9 +3,9 @@
 ghost use Rattle.hls_serve.specs.Visits.{Suits, WantsRead, history};
 
 use crate::client::Client;
-use crate::due::is_due;
 use crate::guest::{Asked, Guest};
-use crate::log::tell_failed_accept;
+use crate::log::{tell_failed_accept, tell_long_reply};
+use crate::told::{Told, is_told};
 use hls_http::SessionEnd;
 use hls_loop::{End, Host};
 use hls_pace::{Stage, milliseconds};
@@ -17,7 +17,6 @@ use std::cell::Cell;
 use std::io::{self, Eprint, Read};
 use std::net::SocketAddr;
 use std::sync::Wait;
-use std::sync::atomic::{AtomicU64, Ordering};
 use std::time::Clock;
 
 /// Who serves the connections of a worker: a station of the channel, and what is told of them.
@@ -26,9 +25,11 @@ pub struct Reception<'a, R: Wait> {
     pub station: Station<'a, R>,
     /// The renditions by their names, and whether each request is told.
     pub settings: &'a Settings,
-    /// When a failed accept was told last, in milliseconds of the clock; 0 where none was.
-    pub told: &'a AtomicU64,
+    pub told: &'a Told,
 }
+
+/// From which time on a reply is told that took it to make, in milliseconds: for so long the others of its worker have waited.
+const LONG: u64 = 50;
 
 impl<'a, R: Wait> Reception<'a, R> {
     /// Who is told of what comes of a peer's requests.
@@ -44,6 +45,19 @@ impl<'a, R: Wait> Reception<'a, R> {
 }
 
 impl<'a, R: Wait + Clock + Eprint> Reception<'a, R> {
+    /// Tells a reply that took long to make.
+    fn tell_long(&self, client: &Client<'a, R>, then: u64) {
+        let Some(answered) = client.answered.get() else {
+            return;
+        };
+        let rt = self.station.rt;
+        let now = milliseconds(rt);
+        let passed = now.saturating_sub(then);
+        if passed >= LONG && is_told(&self.told.long_reply, now) {
+            tell_long_reply(rt, passed, answered);
+        }
+    }
+
     /// Notes what came of a request in a turn that began then, where requests are told. Where there is no memory for that, it
     /// isn't told.
     fn note(&self, asked: &mut Option<Box<Asked>>, client: &Client<'a, R>, then: u64) {
@@ -93,6 +107,7 @@ impl<'a, R: Wait + Clock + Eprint> Host for Reception<'a, R> {
         let client = self.client(peer);
         let then = milliseconds(self.station.rt);
         let more = guest.visit.advance(&mut self.station, &client);
+        self.tell_long(&client, then);
         self.note(&mut guest.asked, &client, then);
         more
     }
@@ -144,12 +159,9 @@ impl<'a, R: Wait + Clock + Eprint> Host for Reception<'a, R> {
         }
     }
 
-    /// Of failed accepts the first one is told, and then one a minute. Of workers that tell at once, one does.
     fn fail_accept(&self, error: io::Error) {
         let rt = self.station.rt;
-        let now = milliseconds(rt).max(1);
-        let told = self.told.load(Ordering::SeqCst);
-        if is_due(told, now) && self.told.swap(now, Ordering::SeqCst) == told {
+        if is_told(&self.told.failed_accept, milliseconds(rt)) {
             tell_failed_accept(rt, error);
         }
     }

@@ -6,6 +6,7 @@ use crate::house::keep_house;
 use crate::log::{Crew, Log, tell_ended_worker, tell_fewer_threads};
 use crate::planner::plan_jobs;
 use crate::reception::Reception;
+use crate::told::Told;
 use hls_catchup::Jobs;
 use hls_core::snapshot::Snapshot;
 use hls_loop::{Door, Post, held_of, open_files, widen, work};
@@ -18,7 +19,7 @@ use std::io::Eprint;
 use std::net::{Net, TcpListener, TcpStream};
 use std::rt::Env;
 use std::sync::Wait;
-use std::sync::atomic::{AtomicBool, AtomicU64, Ordering};
+use std::sync::atomic::{AtomicBool, Ordering};
 use std::thread::{self, JoinHandle, Scope, Threads};
 use std::time::Clock;
 
@@ -34,8 +35,7 @@ struct Site<'a> {
     listener: &'a TcpListener,
     /// What workers know of one another.
     door: &'a Door,
-    /// When a failed accept was told last, in milliseconds of the clock; 0 where none was.
-    told: &'a AtomicU64,
+    told: &'a Told,
 }
 
 /// How many passes there are: one for each worker that is asked for, 1 to 63, and the housekeeper's.
@@ -92,7 +92,7 @@ pub fn run_server<
         settings,
         listener,
         door: &Door::new(serving, places_of(workers), connections.unwrap_or(u64::MAX)),
-        told: &AtomicU64::new(0),
+        told: &Told::new(),
     };
     widen(listener);
     let ran = run_threads(rt, alloc, site, passes);
