@@ -19,6 +19,9 @@ use std::net::SocketAddr;
 use std::sync::Wait;
 use std::time::Clock;
 
+/// From which time on a reply is told that took it to make, in milliseconds: for so long the others of its worker have waited.
+const LONG: u64 = 50;
+
 /// Who serves the connections of a worker: a station of the channel, and what is told of them.
 #[derive(Drop)]
 pub struct Reception<'a, R: Wait> {
@@ -27,9 +30,6 @@ pub struct Reception<'a, R: Wait> {
     pub settings: &'a Settings,
     pub told: &'a Told,
 }
-
-/// From which time on a reply is told that took it to make, in milliseconds: for so long the others of its worker have waited.
-const LONG: u64 = 50;
 
 impl<'a, R: Wait> Reception<'a, R> {
     /// Who is told of what comes of a peer's requests.

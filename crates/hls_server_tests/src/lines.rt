@@ -57,7 +57,8 @@ fn a_request_that_was_answered(rt: HostRuntime) -> Result<(), Fail> {
     let line = "request GET /media/1.mp4 from 10.0.0.7:5000: 206, 1048743 bytes in 12 ms";
     assert_eq!(rt; format!(in rt.alloc(); "{request}")?.as_str(), line);
     request.whole = false;
-    let line = "request GET /media/1.mp4 from 10.0.0.7:5000: 206, 1048743 bytes in 12 ms, broken off";
+    let line =
+        "request GET /media/1.mp4 from 10.0.0.7:5000: 206, 1048743 bytes in 12 ms, broken off";
     assert_eq!(rt; format!(in rt.alloc(); "{request}")?.as_str(), line);
     Ok(())
 }
