@@ -71,6 +71,9 @@ pub trait Host {
     /// What goes on, as patience sees it.
     fn stage(&self, visit: &Self::Visit) -> Stage;
 
+    /// What is said to a connection that can't be read into, since memory is wanted, before it ends.
+    fn no_memory(&self) -> &'static [u8];
+
     /// Takes note that a connection was lost, or is given up.
     fn give_up(&self, visit: &Self::Visit, peer: SocketAddr);
 

@@ -35,6 +35,8 @@ enum Step {
     Wait,
     /// The connection came to its end by itself.
     End(End),
+    /// Memory is wanted for what there is to read.
+    Starved,
     /// A call failed for good.
     Lost,
 }
@@ -44,6 +46,7 @@ impl Step {
     fn stopped(stop: Stop) -> Step {
         match stop {
             Stop::Lost => Step::Lost,
+            Stop::Memory => Step::Starved,
             _ => Step::On(0),
         }
     }
@@ -181,6 +184,11 @@ fn go_on<H: Host>(slot: &mut Slot<H::Visit>, host: &mut H, now: u64) -> Turn
             Step::On(bytes) => moved = moved.saturating_add(bytes),
             Step::Wait => return Turn::Parked,
             Step::End(end) => return slot.end(end, now),
+            Step::Starved => {
+                let _ = slot.wire.send(host.no_memory());
+                host.give_up(&slot.visit, slot.peer);
+                return slot.end(End::Said, now);
+            }
             Step::Lost => {
                 host.give_up(&slot.visit, slot.peer);
                 return Turn::Closed;

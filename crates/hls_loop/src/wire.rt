@@ -16,6 +16,8 @@ pub(crate) enum Stop {
     Nothing,
     /// A signal interrupted the call, which is made again.
     Again,
+    /// Memory is wanted for what there is to read.
+    Memory,
     /// Nothing will move, ever: the call failed for good.
     Lost,
 }
@@ -37,6 +39,7 @@ pub(crate) fn stop_of(error: &io::Error) -> Stop {
     match error.kind() {
         ErrorKind::WouldBlock => Stop::Nothing,
         ErrorKind::Interrupted => Stop::Again,
+        ErrorKind::OutOfMemory => Stop::Memory,
         _ => Stop::Lost,
     }
 }

@@ -22,9 +22,6 @@ use std::time::{Clock, Duration};
 /// The token of the listener.
 const DOOR: Token = Token(usize::MAX);
 
-/// How many events one look brings at most.
-const MOST_EVENTS: usize = 256;
-
 /// How many connections are accepted before those that are there have their turn.
 const MOST_ACCEPTS: usize = 32;
 
@@ -87,17 +84,17 @@ struct Worker<'a, H: Host> {
 }
 
 impl<'a, H: Host + Drop> Worker<'a, H> {
-    /// A worker at its post, without a connection.
+    /// A worker without a connection.
     fn new(
         alloc: Global,
-        post: Post,
+        poll: Poll,
+        listener: TcpListener,
         door: &'a Door,
         host: H,
         patience: u64,
     ) -> io::Result<Worker<'a, H>>
         ensures suits { IfOk result (λ worker. SuitsAll H.suits worker.host worker.slots) }
     {
-        let Post { poll, listener } = post;
         let mut listener = listener;
         let patience = patience.min(3600);
         poll.registry()
@@ -450,11 +447,11 @@ impl<'a, H: Host + Drop> Worker<'a, H> {
     }
 
     /// Serves until so many connections have come and gone. May wait.
-    fn serve<R: Wait + Clock>(&mut self, rt: &R) -> io::Result<()>
+    fn serve<R: Wait + Clock>(&mut self, rt: &R, events: Events) -> io::Result<()>
         requires suits { SuitsAll H.suits self.old.host self.old.slots }
         ensures suits { SuitsAll H.suits self.new.host self.new.slots }
     {
-        let mut events = Events::with_capacity(self.alloc, MOST_EVENTS)?;
+        let mut events = events;
         for _ in rt.forever() {
             if self.left == 0 && self.slots.is_empty() {
                 return Ok(());
@@ -478,5 +475,10 @@ pub fn work<H: Host + Drop, R: Wait + Clock>(
     host: H,
     patience: u64,
 ) -> io::Result<()> {
-    Worker::new(alloc, post, door, host, patience)?.serve(rt)
+    let Post {
+        poll,
+        listener,
+        events,
+    } = post;
+    Worker::new(alloc, poll, listener, door, host, patience)?.serve(rt, events)
 }

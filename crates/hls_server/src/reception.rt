@@ -7,6 +7,7 @@ use crate::guest::{Asked, Guest};
 use crate::log::{tell_failed_accept, tell_long_reply};
 use crate::told::{Told, is_told};
 use hls_http::SessionEnd;
+use hls_http_laws::reply::no_memory_text;
 use hls_loop::{End, Host};
 use hls_pace::{Stage, milliseconds};
 use hls_serve::laws::suits_later;
@@ -150,6 +151,10 @@ impl<'a, R: Wait + Clock + Eprint> Host for Reception<'a, R> {
             Standing::Replying => Stage::Replying,
             Standing::Over => Stage::Lingering,
         }
+    }
+
+    fn no_memory(&self) -> &'static [u8] {
+        no_memory_text()
     }
 
     fn give_up(&self, guest: &Guest, peer: SocketAddr) {

@@ -131,7 +131,7 @@ fn start_workers<
 {
     let mut started = started;
     for pass in passes {
-        let Ok(post) = Post::at(rt, site.listener) else {
+        let Ok(post) = Post::at(rt, alloc, site.listener) else {
             continue;
         };
         let worker = scope.spawn(

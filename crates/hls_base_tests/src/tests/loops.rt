@@ -92,6 +92,10 @@ impl Host for Mirror {
         }
     }
 
+    fn no_memory(&self) -> &'static [u8] {
+        b"none"
+    }
+
     fn give_up(&self, _visit: &Echo, _peer: SocketAddr) {}
 
     fn fail_accept(&self, _error: io::Error) {}
@@ -186,7 +190,7 @@ fn plays<R: Net<Listener = TcpListener, Stream = TcpStream> + Threads + Wait + C
     let listener = TcpListener::bind(rt, "127.0.0.1:0")?;
     widen(&listener);
     let address = listener.local_addr()?;
-    let post = Post::at(rt, &listener)?;
+    let post = Post::at(rt, alloc, &listener)?;
     let door = Door::new(1, places, connections);
     let door = &door;
     thread::scope(thread::scope_env(), rt, move |scope| -> io::Result<bool> {
