@@ -126,13 +126,16 @@ impl<'a, H: Host + Drop> Worker<'a, H> {
         }
     }
 
-    /// Gives a connection up.
+    /// Gives a connection up; one that had its last reply is closed.
     fn give_up(&mut self, key: usize)
         requires suits { SuitsAll H.suits self.old.host self.old.slots }
         ensures suits { SuitsAll H.suits self.new.host self.new.slots }
     {
-        if let Some(slot) = self.slots.get(key) {
-            self.host.give_up(&slot.visit, slot.peer);
+        match self.slots.get(key) {
+            Some(slot) if slot.pace.stage != Stage::Lingering => {
+                self.host.give_up(&slot.visit, slot.peer);
+            }
+            _ => {}
         }
         self.close(key);
     }

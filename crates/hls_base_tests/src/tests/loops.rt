@@ -21,6 +21,9 @@ struct Echo {
     seen: u64,
 }
 
+/// A byte for which there is no memory.
+const TOO_MUCH: u8 = 255;
+
 /// Hands back what its connections send; counts how often it acts.
 #[derive(Drop)]
 struct Mirror {
@@ -60,6 +63,9 @@ impl Host for Mirror {
         let Some(came) = bytes.get(..count) else {
             return Err(io::Error::from(ErrorKind::InvalidData));
         };
+        if came.contains(&TOO_MUCH) {
+            return Err(io::Error::from(ErrorKind::OutOfMemory));
+        }
         visit.waits.extend_from_slice(came)?;
         Ok(count)
     }
@@ -138,6 +144,8 @@ enum Scene {
     Silence,
     /// One ends its side.
     HalfClose,
+    /// One sends what there is no memory for.
+    NoMemory,
 }
 
 /// Whether the clients of a scene see what they are to see. All of them close at the end.
@@ -172,6 +180,13 @@ fn is_right<R: Net<Stream = TcpStream>>(
             Ok(before && after && is_ended(&first) && is_handed_back(&second, 4)?)
         }
         Scene::Silence => Ok(is_ended(&first)),
+        Scene::NoMemory => {
+            let mut stream = &first;
+            let mut back = [0; 4];
+            let _ = stream.write(&[TOO_MUCH])?;
+            let count = stream.read(&mut back)?;
+            Ok(count == 4 && back == *b"none" && is_ended(&first))
+        }
         Scene::HalfClose => {
             first.shutdown(Shutdown::Write)?;
             Ok(is_ended(&first))
@@ -223,5 +238,11 @@ fn a_silent_one_goes(rt: HostRuntime) -> Result<(), Fail> {
 #[test]
 fn one_that_ended_its_side_goes(rt: HostRuntime) -> Result<(), Fail> {
     assert!(rt; plays(&rt, rt.alloc(), Scene::HalfClose, 8, 1)?);
+    Ok(())
+}
+
+#[test]
+fn want_of_memory_is_told(rt: HostRuntime) -> Result<(), Fail> {
+    assert!(rt; plays(&rt, rt.alloc(), Scene::NoMemory, 8, 1)?);
     Ok(())
 }
