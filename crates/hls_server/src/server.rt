@@ -63,6 +63,7 @@ fn places_of(workers: Workers) -> u64 {
 /// rest serve, and the operator is told; want of memory comes before a thread is started, or where no worker could be. Accepts on
 /// the listener don't wait meanwhile. May wait.
 pub fn run_server<
+    'a,
     R: Net<Listener = TcpListener, Stream = TcpStream>
         + Threads
         + Wait
@@ -73,8 +74,8 @@ pub fn run_server<
 >(
     rt: &R,
     alloc: Global,
-    settings: &Settings,
-    listener: &TcpListener,
+    settings: &'a Settings,
+    listener: &'a TcpListener,
     connections: Option<u64>,
 ) -> Result<(), AllocError> {
     let config = settings.config.share()?;
