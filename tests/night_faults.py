@@ -245,28 +245,32 @@ class Poor(Origin):
     """A server that may have so many descriptors."""
 
     def start(self):
-        self.words = ["sh", "-c", 'ulimit -n 24; exec "$@"', "sh", *self.words]
+        self.words = ["sh", "-c", 'ulimit -n 64; exec "$@"', "sh", *self.words]
         super().start()
 
 
 def few_descriptors(program, folder):
-    """More connections than descriptors: said once, and over when they are."""
-    origin = Poor(program, folder, ["--workers", "40"], ONE)
+    """More connections than descriptors: fewer are held, which is said at the start; the others wait, and are served when there are places."""
+    origin = Poor(program, folder, ["--workers", "4"], ONE)
+    found = [line for line in origin.lines() if line.endswith("that this process may have open: 20 are held")]
+    check("it is told at the start", len(found) == 1, origin.lines())
     held = []
     for _ in range(40):
         s = socket.create_connection(("127.0.0.1", origin.port))
         s.sendall(b"PUT /ingest/0 HTTP/1.1\r\nHost: a\r\nContent-Length: 9\r\n\r\n")
         held.append(s)
     time.sleep(2)
-    found = [line for line in origin.lines() if line.startswith("serve: accept failed, tried again until it works: ")]
-    check("it is told once", len(found) == 1, found)
+    found = len(os.listdir(f"/proc/{origin.process.pid}/fd"))
+    check("no more descriptors are taken than there are", found < 64, found)
     spent = cpu(origin.process.pid)
     time.sleep(2)
-    check("waiting for descriptors takes little", cpu(origin.process.pid) - spent < 1, cpu(origin.process.pid) - spent)
+    check("waiting for places takes little", cpu(origin.process.pid) - spent < 1, cpu(origin.process.pid) - spent)
     for s in held:
         s.close()
     time.sleep(0.5)
-    serves("descriptors again", origin)
+    serves("places again", origin)
+    failed = [line for line in origin.lines() if "accept failed" in line]
+    check("no accept failed", not failed, failed)
     origin.stop()
 
 
