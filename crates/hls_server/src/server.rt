@@ -95,7 +95,7 @@ pub fn run_server<
         door: &Door::new(serving, places_of(workers), connections.unwrap_or(u64::MAX)),
         told: &Told::new(),
     };
-    widen(listener);
+    widen(listener, workers.patience);
     let ran = run_threads(rt, alloc, site, passes);
     let _ = listener.set_nonblocking(false);
     ran
