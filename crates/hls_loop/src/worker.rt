@@ -80,6 +80,8 @@ struct Worker<'a, H: Host> {
     /// When connections were looked through last, and how often they are.
     swept: u64,
     beat: u64,
+    /// Whether the process stood still since the last round.
+    stood_still: bool,
     ghost patient: { patience ≤ 3600 },
 }
 
@@ -113,6 +115,7 @@ impl<'a, H: Host + Drop> Worker<'a, H> {
             now: 0,
             swept: 0,
             beat: (patience * 125).clamp(SHORTEST_BEAT, LONGEST_BEAT),
+            stood_still: false,
         })
     }
 
@@ -370,7 +373,8 @@ impl<'a, H: Host + Drop> Worker<'a, H> {
         }
     }
 
-    /// Whether a connection takes too long, by what is known of it. Of one that doesn't the bytes are counted anew in time.
+    /// Whether a connection takes too long, by what is known of it. Of one that doesn't the bytes are counted anew in time; where
+    /// the process stood still its time begins anew.
     fn is_late(&mut self, key: usize) -> bool
         requires suits { SuitsAll H.suits self.old.host self.old.slots }
         ensures suits { SuitsAll H.suits self.new.host self.new.slots }
@@ -378,6 +382,10 @@ impl<'a, H: Host + Drop> Worker<'a, H> {
         let Some(slot) = self.slots.get_mut(key) else {
             return false;
         };
+        if self.stood_still {
+            slot.pace = Pace::begun(slot.pace.stage, self.now);
+            return false;
+        }
         if slot.pace.is_over(self.patience, self.now) {
             slot.wire.try_again();
             return true;
@@ -436,6 +444,16 @@ impl<'a, H: Host + Drop> Worker<'a, H> {
         Some(Duration::from_millis(self.beat))
     }
 
+    /// A round begins. The last one began a beat before, or a little more, unless there was nobody to wait for, or the process stood
+    /// still meanwhile, perhaps within that round: then its time says nothing of those that had their turn in it.
+    fn begin_round(&mut self, now: u64)
+        ensures host { self.new.host ≡ self.old.host }
+        ensures slots { self.new.slots ≡ self.old.slots }
+    {
+        self.stood_still = now >= self.now.saturating_add(self.beat.saturating_mul(2));
+        self.now = now;
+    }
+
     /// One round: what the system tells, those that have more to do, new connections, and those that take too long.
     fn round(&mut self, events: &Events)
         requires suits { SuitsAll H.suits self.old.host self.old.slots }
@@ -461,7 +479,7 @@ impl<'a, H: Host + Drop> Worker<'a, H> {
             }
             let pause = self.pause();
             self.poll.poll(&mut events, pause)?;
-            self.now = milliseconds(rt);
+            self.begin_round(milliseconds(rt));
             self.round(&events);
         }
         unreachable!()
