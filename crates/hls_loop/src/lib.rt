@@ -15,6 +15,6 @@ mod worker;
 
 pub use door::Door;
 pub use host::{End, Host};
-pub use listen::{held_of, open_files, widen};
+pub use listen::{held_of, open_files, widen, workers_of};
 pub use post::Post;
 pub use worker::work;

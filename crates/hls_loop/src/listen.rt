@@ -69,3 +69,11 @@ pub fn held_of(files: u64, wanted: u64, workers: u64) -> u64
 {
     wanted.min(files.saturating_sub(3 * workers + OTHERS).max(1))
 }
+
+/// How many of the workers that are wanted a process has that may have so many files open: with a fourth of its files at most, and
+/// one at least.
+pub fn workers_of(files: u64, wanted: u64) -> u64
+    ensures { result ≤ wanted }
+{
+    wanted.min((files / 12).max(1))
+}

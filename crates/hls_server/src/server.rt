@@ -9,7 +9,7 @@ use crate::reception::Reception;
 use crate::told::Told;
 use hls_catchup::Jobs;
 use hls_core::snapshot::Snapshot;
-use hls_loop::{Door, Post, held_of, open_files, widen, work};
+use hls_loop::{Door, Post, held_of, open_files, widen, work, workers_of};
 use hls_serve::channel::Channel;
 use hls_serve::station::Station;
 use hls_settings::{Settings, Workers};
@@ -33,6 +33,8 @@ struct Site<'a> {
     settings: &'a Settings,
     /// Where workers find connections.
     listener: &'a TcpListener,
+    /// How many workers serve at most.
+    crew: u64,
     /// What workers know of one another.
     door: &'a Door,
     told: &'a Told,
@@ -47,11 +49,22 @@ fn passes_for(workers: u64) -> u16
     (workers + 1) as u16
 }
 
-/// How many connections all workers hold at most: those that are wanted, or fewer where the process may have fewer files open.
-fn places_of(workers: Workers) -> u64 {
+/// How many workers serve: those that are wanted, or fewer where the process may have so few files open that none were left for
+/// connections.
+fn crew_of(workers: Workers) -> u64
+    ensures { result ≤ 63 }
+{
     let count = workers.workers.clamp(1, MOST_WORKERS);
     match open_files() {
-        Some(files) => held_of(files, workers.connections, count),
+        Some(files) => workers_of(files, count),
+        None => count,
+    }
+}
+
+/// How many connections all workers hold at most: those that are wanted, or fewer where the process may have fewer files open.
+fn places_of(workers: Workers) -> u64 {
+    match open_files() {
+        Some(files) => held_of(files, workers.connections, crew_of(workers)),
         None => workers.connections,
     }
 }
@@ -84,7 +97,7 @@ pub fn run_server<
     let count = passes_for(workers.workers);
     let (turn, passes) = Turn::new(rt, alloc, snapshot, count)?;
     let jobs = Jobs::new(alloc)?;
-    let serving = u64::from(count - 1);
+    let crew = crew_of(workers);
     let site = Site {
         channel: Channel {
             turn: &turn,
@@ -92,7 +105,8 @@ pub fn run_server<
         },
         settings,
         listener,
-        door: &Door::new(serving, places_of(workers), connections.unwrap_or(u64::MAX)),
+        crew,
+        door: &Door::new(crew, places_of(workers), connections.unwrap_or(u64::MAX)),
         told: &Told::new(),
     };
     widen(listener, workers.patience);
@@ -132,6 +146,9 @@ fn start_workers<
 {
     let mut started = started;
     for pass in passes {
+        if started.len() as u64 >= site.crew {
+            continue;
+        }
         let Ok(post) = Post::at(rt, alloc, site.listener) else {
             continue;
         };
