@@ -49,16 +49,16 @@ pub fn widen(listener: &TcpListener, patience: u64) {
     };
 }
 
-/// How many files the process may have open, as far as the system says.
-pub fn open_files() -> Option<u64> {
+/// How many files the process may have open; as many as there may be where the system doesn't say.
+pub fn open_files() -> u64 {
     let mut limit = libc::types::rlimit {
         rlim_cur: 0,
         rlim_max: 0,
     };
     if libc::getrlimit(libc::RLIMIT_NOFILE, &mut limit) != 0 {
-        return None;
+        return u64::MAX;
     }
-    Some(limit.rlim_cur)
+    limit.rlim_cur
 }
 
 /// How many of the connections that are wanted a process holds that may have so many files open. A worker has its listener, its set

@@ -19,6 +19,7 @@ mod planner;
 mod recent;
 mod reception;
 mod rest;
+mod room;
 mod server;
 mod start;
 mod told;

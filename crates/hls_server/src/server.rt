@@ -6,13 +6,14 @@ use crate::house::keep_house;
 use crate::log::{Crew, Log, tell_ended_worker, tell_fewer_threads};
 use crate::planner::plan_jobs;
 use crate::reception::Reception;
+use crate::room::{crew_of, places_of};
 use crate::told::Told;
 use hls_catchup::Jobs;
 use hls_core::snapshot::Snapshot;
-use hls_loop::{Door, Post, held_of, open_files, widen, work, workers_of};
+use hls_loop::{Door, Post, open_files, widen, work};
 use hls_serve::channel::Channel;
 use hls_serve::station::Station;
-use hls_settings::{Settings, Workers};
+use hls_settings::Settings;
 use hls_turn::{Pass, Turn};
 use std::alloc::{AllocError, Global};
 use std::io::Eprint;
@@ -24,7 +25,7 @@ use std::thread::{self, JoinHandle, Scope, Threads};
 use std::time::Clock;
 
 /// The most workers: each has a pass, and so has the housekeeper.
-const MOST_WORKERS: u64 = 63;
+pub const MOST_WORKERS: u64 = 63;
 
 /// What the threads of a server have in common.
 #[derive(Clone, Copy)]
@@ -47,26 +48,6 @@ fn passes_for(workers: u64) -> u16
 {
     let workers = workers.clamp(1, MOST_WORKERS);
     (workers + 1) as u16
-}
-
-/// How many workers serve: those that are wanted, or fewer where the process may have so few files open that none were left for
-/// connections.
-fn crew_of(workers: Workers) -> u64
-    ensures { result ≤ 63 }
-{
-    let count = workers.workers.clamp(1, MOST_WORKERS);
-    match open_files() {
-        Some(files) => workers_of(files, count),
-        None => count,
-    }
-}
-
-/// How many connections all workers hold at most: those that are wanted, or fewer where the process may have fewer files open.
-fn places_of(workers: Workers) -> u64 {
-    match open_files() {
-        Some(files) => held_of(files, workers.connections, crew_of(workers)),
-        None => workers.connections,
-    }
 }
 
 /// Serves connections from a channel that begins empty; each worker takes so many of them, or goes on without end where no number
@@ -97,7 +78,8 @@ pub fn run_server<
     let count = passes_for(workers.workers);
     let (turn, passes) = Turn::new(rt, alloc, snapshot, count)?;
     let jobs = Jobs::new(alloc)?;
-    let crew = crew_of(workers);
+    let files = open_files();
+    let crew = crew_of(workers, files);
     let site = Site {
         channel: Channel {
             turn: &turn,
@@ -106,7 +88,11 @@ pub fn run_server<
         settings,
         listener,
         crew,
-        door: &Door::new(crew, places_of(workers), connections.unwrap_or(u64::MAX)),
+        door: &Door::new(
+            crew,
+            places_of(workers, files),
+            connections.unwrap_or(u64::MAX),
+        ),
         told: &Told::new(),
     };
     widen(listener, workers.patience);

@@ -5,8 +5,9 @@ ghost use Rattle.hls_server.specs.Starts.{memory_wanted};
 
 use crate::log::Log;
 use crate::rest::rest_length;
+use crate::room::places_of;
 use hls_core_laws::rendition::Rendition;
-use hls_loop::{held_of, open_files};
+use hls_loop::open_files;
 use hls_settings::{Settings, Timing, Workers};
 use hls_text::{MOST_DIGITS, read_number};
 use std::alloc::Global;
@@ -101,11 +102,9 @@ fn tell_memory<E: Eprint>(log: &Log<'_, E>, wanted: u64, what: &str, given: Opti
 
 /// Tells that fewer connections are held than are wanted, since the process may have no more files open.
 fn tell_files<E: Eprint>(log: &Log<'_, E>, workers: Workers) {
-    let Some(files) = open_files() else {
-        return;
-    };
+    let files = open_files();
     let wanted = workers.connections;
-    let held = held_of(files, wanted, workers.workers);
+    let held = places_of(workers, files);
     if held < wanted {
         let level = log.warning();
         let _ = eprintln!(log.rt;
