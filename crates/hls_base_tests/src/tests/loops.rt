@@ -1,6 +1,6 @@
 //! Connections of one worker, over sockets, with a host that hands back what it receives.
 
-ghost use Rattle.std.specs.Prelude.{◌≤◌, Unit};
+ghost use Rattle.std.specs.Prelude.{◌≤◌};
 
 use hls_loop::{Door, End, Host, Post, widen, work};
 use hls_pace::Stage;
@@ -38,7 +38,7 @@ impl Host for Mirror {
 
     ghost pending = { λ echo. echo.waits.items };
 
-    ghost reads = { λ echo. Unit };
+    ghost reads = { λ echo. Unit {0} };
 
     fn begin(&self) -> Echo {
         Echo {
