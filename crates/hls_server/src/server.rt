@@ -30,7 +30,7 @@ pub const MOST_WORKERS: u64 = 63;
 /// What the threads of a server have in common.
 #[derive(Clone, Copy)]
 struct Site<'a> {
-    channel: Channel<'a>,
+    alloc: Global,
     settings: &'a Settings,
     /// Where workers find connections.
     listener: &'a TcpListener,
@@ -80,23 +80,26 @@ pub fn run_server<
     let jobs = Jobs::new(alloc)?;
     let files = open_files();
     let crew = crew_of(workers, files);
+    let channel = Channel {
+        turn: &turn,
+        jobs: &jobs,
+    };
+    let door = Door::new(
+        crew,
+        places_of(workers, files),
+        connections.unwrap_or(u64::MAX),
+    );
+    let told = Told::new();
     let site = Site {
-        channel: Channel {
-            turn: &turn,
-            jobs: &jobs,
-        },
+        alloc,
         settings,
         listener,
         crew,
-        door: &Door::new(
-            crew,
-            places_of(workers, files),
-            connections.unwrap_or(u64::MAX),
-        ),
-        told: &Told::new(),
+        door: &door,
+        told: &told,
     };
     widen(listener, workers.patience);
-    let ran = run_threads(rt, alloc, site, passes);
+    let ran = run_threads(rt, &channel, site, passes);
     let _ = listener.set_nonblocking(false);
     ran
 }
@@ -123,25 +126,25 @@ fn start_workers<
 >(
     scope: &Scope<'s, E>,
     rt: &'s R,
-    alloc: Global,
+    channel: &'s Channel<'s>,
     site: Site<'s>,
     passes: Vec<Pass>,
     started: Vec<JoinHandle<()>>,
 ) -> Vec<JoinHandle<()>>
-    requires { All (λ p. p.turn ≡ site.channel.turn.now) passes.items }
+    requires { All (λ p. p.turn ≡ channel.now.turn.now) passes.items }
 {
     let mut started = started;
     for pass in passes {
         if started.len() as u64 >= site.crew {
             continue;
         }
-        let Ok(post) = Post::at(rt, alloc, site.listener) else {
+        let Ok(post) = Post::at(rt, site.alloc, site.listener) else {
             continue;
         };
         let worker = scope.spawn(
             move || -> ()
-                requires { pass.turn ≡ site.channel.turn.now }
-            { serve(post, site, Station::new(rt, alloc, &site.channel, pass)) },
+                requires { pass.turn ≡ channel.now.turn.now }
+            { serve(post, site, Station::new(rt, site.alloc, channel, pass)) },
         );
         if let Ok(worker) = worker {
             let _ = started.push(worker);
@@ -176,8 +179,8 @@ fn run_threads<
         + Eprint
         + Env
         + Sync,
->(rt: &R, alloc: Global, site: Site<'_>, passes: Vec<Pass>) -> Result<(), AllocError>
-    requires { All (λ p. p.turn ≡ site.channel.turn.now) passes.items }
+>(rt: &R, channel: &Channel<'_>, site: Site<'_>, passes: Vec<Pass>) -> Result<(), AllocError>
+    requires { All (λ p. p.turn ≡ channel.now.turn.now) passes.items }
 {
     let closed = AtomicBool::new(false);
     let closed = &closed;
@@ -186,9 +189,9 @@ fn run_threads<
         thread::scope_env(),
         rt,
         move |scope| -> Result<(), AllocError>
-            requires { All (λ p. p.turn ≡ site.channel.turn.now) passes.items }
+            requires { All (λ p. p.turn ≡ channel.now.turn.now) passes.items }
         {
-            let room = Vec::with_capacity(alloc, passes.len())?;
+            let room = Vec::with_capacity(site.alloc, passes.len())?;
             let mut passes = passes;
             let Some(mut last) = passes.pop() else {
                 return Ok(());
@@ -196,22 +199,22 @@ fn run_threads<
             let wanted = Crew::whole(passes.len(), planners);
             let keeper = scope.spawn(
                 move || -> ()
-                    requires { last.turn ≡ site.channel.turn.now }
-                { keep_house(rt, alloc, &site.channel, site.settings, closed, &mut last) },
+                    requires { last.turn ≡ channel.now.turn.now }
+                { keep_house(rt, site.alloc, channel, site.settings, closed, &mut last) },
             );
-            let workers = start_workers(scope, rt, alloc, site, passes, room);
+            let workers = start_workers(scope, rt, channel, site, passes, room);
             let started = Crew {
                 keeps_house: keeper.is_ok(),
                 workers: workers.len() as u64,
-                planners: start_planners(scope, rt, alloc, site.channel.jobs, planners),
+                planners: start_planners(scope, rt, site.alloc, channel.jobs, planners),
             };
             tell_fewer_threads(&Log::new(rt), started, wanted);
             for worker in workers {
                 worker.join(rt);
             }
-            site.channel.jobs.close(rt);
+            channel.jobs.close(rt);
             closed.store(true, Ordering::SeqCst);
-            site.channel.turn.tell(rt);
+            channel.turn.tell(rt);
             if started.workers == 0 {
                 return Err(AllocError);
             }
