@@ -3,6 +3,6 @@ use Rattle.hls_turn.specs.Passes.{PassData}
 use Rattle.hls_turn.proofs.Openings.{all_opening}
 use Rattle.hls_server.proofs.server.run_server.Goals as goal
 
-pub run_threads-requires-after_bounds : goal.run_threads-requires-after_bounds
-run_threads-requires-after_bounds g c κs within =
+pub run_threads-ran-requires-after_bounds : goal.run_threads-ran-requires-after_bounds
+run_threads-ran-requires-after_bounds g c κs within =
     subst (λ (l : List PassData). All (λ (p : PassData). p.turn ≡ c.in_ok-turn.turn) l) (sym c.in_ok-turn.ensures) (all_opening c.in_ok-turn.turn c.in_ok-snapshot.snapshot _)
