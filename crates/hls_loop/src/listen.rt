@@ -23,29 +23,18 @@ fn option_value(value: i32) -> [u8; 16] {
     bytes
 }
 
-/// Lets more connections wait at a listener, bounds what the system keeps of each one's replies, has it send them at once, and drop
-/// them where for so many seconds, at most 3600, the peer takes none, as each socket has it from its listener: so it keeps nothing
-/// for long of a connection that was given up. Where the system refuses, they stay as they were.
-pub fn widen(listener: &TcpListener, patience: u64) {
+/// Lets more connections wait at a listener, bounds what the system keeps of each one's replies, and has it send them at once, as
+/// each socket has it from its listener. Where the system refuses, they stay as they were.
+pub fn widen(listener: &TcpListener) {
     let fd = listener.as_raw_fd();
     let _ = libc::net::listen(fd, QUEUE);
     let most = option_value(SEND_BUFFER);
     let yes = option_value(1);
-    let longest = option_value(patience.min(3600) as i32 * 1000);
     let _ = unsafe {
         libc::net::setsockopt(fd, libc::net::SOL_SOCKET, libc::net::SO_SNDBUF, &most, 4)
     };
     let _ = unsafe {
         libc::net::setsockopt(fd, libc::net::IPPROTO_TCP, libc::net::TCP_NODELAY, &yes, 4)
-    };
-    let _ = unsafe {
-        libc::net::setsockopt(
-            fd,
-            libc::net::IPPROTO_TCP,
-            libc::net::TCP_USER_TIMEOUT,
-            &longest,
-            4,
-        )
     };
 }
 

@@ -98,7 +98,7 @@ pub fn run_server<
         door: &door,
         told: &told,
     };
-    widen(listener, workers.patience);
+    widen(listener);
     let ran = run_threads(rt, &channel, site, passes);
     let _ = listener.set_nonblocking(false);
     ran

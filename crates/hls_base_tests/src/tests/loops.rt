@@ -203,7 +203,7 @@ fn plays<R: Net<Listener = TcpListener, Stream = TcpStream> + Threads + Wait + C
     connections: u64,
 ) -> io::Result<bool> {
     let listener = TcpListener::bind(rt, "127.0.0.1:0")?;
-    widen(&listener, 30);
+    widen(&listener);
     let address = listener.local_addr()?;
     let post = Post::at(rt, alloc, &listener)?;
     let door = Door::new(1, places, connections);
