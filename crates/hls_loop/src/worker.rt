@@ -445,12 +445,17 @@ impl<'a, H: Host + Drop> Worker<'a, H> {
     }
 
     /// A round begins. The last one began a beat before, or a little more, unless there was nobody to wait for, or the process stood
-    /// still meanwhile, perhaps within that round: then its time says nothing of those that had their turn in it.
+    /// still meanwhile, perhaps within that round: then its time says nothing of those that had their turn in it. A busy machine's
+    /// gaps are shorter than a second.
     fn begin_round(&mut self, now: u64)
         ensures host { self.new.host ≡ self.old.host }
         ensures slots { self.new.slots ≡ self.old.slots }
     {
-        self.stood_still = now >= self.now.saturating_add(self.beat.saturating_mul(2));
+        let late = self
+            .now
+            .saturating_add(self.beat)
+            .saturating_add(LONGEST_BEAT);
+        self.stood_still = now >= late;
         self.now = now;
     }
 
