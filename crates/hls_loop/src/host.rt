@@ -11,8 +11,6 @@ use std::net::SocketAddr;
 pub enum End {
     /// The peer has ended its side, or is to learn nothing more.
     Closed,
-    /// By a reply to a request that said that it is the last one: it is over at once, but where something has come behind that.
-    Done,
     /// By a reply, while the peer's side goes on: what it still sends is dropped for a while, since a socket that is closed with
     /// unread bytes takes back the reply (RFC 9112 9.6).
     Said,

@@ -90,16 +90,13 @@ impl<V> Slot<V> {
     fn end(&mut self, end: End, now: u64) -> Turn
         ensures { self.new.visit ≡ self.old.visit }
     {
-        let lingers = match end {
-            End::Closed => false,
-            End::Done => self.wire.readable,
-            End::Said => true,
-        };
-        if !lingers || self.wire.is_at_end || self.wire.stream.shutdown(Shutdown::Write).is_err() {
+        if end == End::Closed
+            || self.wire.is_at_end
+            || self.wire.stream.shutdown(Shutdown::Write).is_err()
+        {
             return Turn::Closed;
         }
         self.pace = Pace::begun(Stage::Lingering, now);
-        self.wire.readable = true;
         drop_rest(&mut self.wire, &mut self.pace, now)
     }
 }

@@ -136,8 +136,7 @@ impl<'a, R: Wait + Clock + Eprint> Host for Reception<'a, R> {
 
     fn end(&self, guest: &Guest) -> Option<End> {
         match guest.visit.end()? {
-            SessionEnd::Closed => Some(End::Done),
-            SessionEnd::Refused => Some(End::Said),
+            SessionEnd::Closed | SessionEnd::Refused => Some(End::Said),
             _ => Some(End::Closed),
         }
     }
