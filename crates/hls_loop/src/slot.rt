@@ -179,7 +179,10 @@ fn go_on<H: Host>(slot: &mut Slot<H::Visit>, host: &mut H, now: u64) -> Turn
     for _ in 0..MOST_STEPS {
         match step_on(slot, host, now) {
             Step::On(bytes) => moved = moved.saturating_add(bytes),
-            Step::Wait => return Turn::Parked,
+            Step::Wait => {
+                slot.pace = slot.pace.entered(host.stage(&slot.visit), now);
+                return Turn::Parked;
+            }
             Step::End(end) => return slot.end(end, now),
             Step::Starved => {
                 let _ = slot.wire.send(host.no_memory());
