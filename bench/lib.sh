@@ -4,30 +4,63 @@
 #   source bench/lib.sh
 #   bench_program NAME "CRATE CRATE .." "LIBRARY .." [FOLDER]
 #
-# makes the program of bench/NAME/program.txt, or of another folder (the gate reads each .rt file as a crate's), which uses
-# these crates of this repository (name those below them too) and these libraries of the kit. It leaves in BENCH_PROGRAM the
-# path of the built program, and removes the folder of the run when the script ends. BENCH_KEEP=1 keeps it.
+# makes the program of bench/NAME/program.txt, or of another folder (the gate reads each .rt file as a crate's), which names
+# these crates of this repository and these libraries of the kit. What the crates stand on is proved first, in this repository
+# and as `bash build` does it, so that it is kept, and what a build left isn't proved again. It leaves in BENCH_PROGRAM the path
+# of the built program, and removes the folder of the run when the script ends. BENCH_KEEP=1 keeps it.
 
 bench_root=$(cd "$(dirname "${BASH_SOURCE[0]}")/.." && pwd)
 
+# bench_below CRATE..: these crates and those that they stand on, in the order of crates.txt.
+bench_below() {
+    awk -F: -v top="$*" '
+        !/^#/ && NF { name[++count] = $1; uses[count] = $2 }
+        END {
+            split(top, tops, " ")
+            for (i in tops) wanted[tops[i]]
+            do {
+                before = length(wanted)
+                for (i = count; i > 0; i--) if (name[i] in wanted) {
+                    split(uses[i], below, " ")
+                    for (j in below) wanted[below[j]]
+                }
+            } while (length(wanted) > before)
+            for (i = 1; i <= count; i++) if (name[i] in wanted) print name[i]
+        }' "$bench_root/crates.txt"
+}
+
+# bench_prove CRATE..: proves these crates and what they stand on, those first that stand on others of them.
+bench_prove() {
+    local crate left
+    left=" $* "
+    while read -r crate; do
+        [[ $left = *" $crate "* ]] || continue
+        "$bench_root/tools/prove" "$crate" >&2
+        for crate in $(bench_below "$crate"); do left=${left/ $crate / }; done
+    done < <(bench_below "$@" | tac)
+}
+
 bench_program() {
-    local name=$1 crates=$2 libraries=$3 crate
+    local name=$1 crates=$2 libraries=$3 crate part
     local folder=${4:-$bench_root/bench/$name}
-    bench_work=$(mktemp -d)
+    # shellcheck disable=SC2086  # words
+    bench_prove $crates
+    # (on the file system of the crates, where it can be, so that libraries are linked and not copied)
+    if [ -d "$bench_root/.git" ]; then bench_work=$(mktemp -d -p "$bench_root/.git"); else bench_work=$(mktemp -d); fi
     [ -n "${BENCH_KEEP:-}" ] || trap 'rm -rf "$bench_work"' EXIT
-    local part
     mkdir -p "$bench_work/crates/bench_$name/src" "$bench_work/crates/bench_$name/specs"
-    for crate in $crates; do
-        mkdir "$bench_work/crates/$crate"
-        # The must-fail edits aren't needed; what earlier checks kept in out/ saves time, by links where the file system has them.
+    # shellcheck disable=SC2086  # words
+    for crate in $(bench_below $crates); do
+        mkdir -p "$bench_work/crates/$crate/out"
+        # neither the must-fail edits are needed nor what else a check kept
         for part in src specs proofs; do
             if [ -e "$bench_root/crates/$crate/$part" ]; then
                 cp -a "$bench_root/crates/$crate/$part" "$bench_work/crates/$crate/"
             fi
         done
-        if [ -e "$bench_root/crates/$crate/out" ] && ! cp -al "$bench_root/crates/$crate/out" "$bench_work/crates/$crate/" 2> /dev/null; then
-            rm -rf "$bench_work/crates/$crate/out"
-            cp -a "$bench_root/crates/$crate/out" "$bench_work/crates/$crate/"
+        if ! cp -al "$bench_root/crates/$crate/out/rlib" "$bench_work/crates/$crate/out/" 2> /dev/null; then
+            rm -rf "$bench_work/crates/$crate/out/rlib"
+            cp -a "$bench_root/crates/$crate/out/rlib" "$bench_work/crates/$crate/out/"
         fi
         grep "^$crate:" "$bench_root/crates.txt" >> "$bench_work/crates.txt"
     done
