@@ -23,8 +23,8 @@ is_idle_in _ = false
 abbrev pub goes_before : Pace → Pace → Bool
 goes_before pace other =
     cond (is_idle_in pace.stage)
-        (cond (is_idle_in other.stage) (nat_lt pace.moved other.moved) true)
-        (cond (is_idle_in other.stage) false (nat_lt other.since pace.since))
+    (cond (is_idle_in other.stage) (nat_lt pace.moved other.moved) true)
+    (cond (is_idle_in other.stage) false (nat_lt other.since pace.since))
 
 -- one more is looked at, by its key
 abbrev pub yields_after : Option (ℕ × Pace) → ℕ → Pace → Option (ℕ × Pace)
