@@ -252,7 +252,12 @@ class Poor(Origin):
 def few_descriptors(program, folder):
     """More connections than descriptors: fewer are held, which is said at the start; the others wait, and are served when there are places."""
     origin = Poor(program, folder, ["--workers", "4"], ONE)
-    found = [line for line in origin.lines() if line.endswith("that this process may have open: 20 are held")]
+    found = []
+    for _ in range(100):
+        found = [line for line in origin.lines() if line.endswith("that this process may have open: 20 are held")]
+        if found:
+            break
+        time.sleep(0.05)
     check("it is told at the start", len(found) == 1, origin.lines())
     held = []
     for _ in range(40):
