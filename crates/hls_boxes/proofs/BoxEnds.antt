@@ -9,8 +9,7 @@ use Rattle.hls_boxes_laws.specs.declared.step.Next.{Next}
 use Rattle.hls_boxes_laws.specs.declared.step.Next.TheVariants.{Wait, Ends}
 use Rattle.hls_boxes_laws.specs.Boxes.{number_at, header_at}
 use Rattle.hls_boxes_laws.specs.Parts.{fault_of, passed, next_if, next_of}
-use Rattle.hls_boxes_laws.proofs.Headers.{Short, Long, header_at-append, header_at-front, header_at-read, header_at-within}
-use Rattle.hls_boxes_laws.proofs.Steps.{Came, Waits, Fails, Passes, came, fault_of-fits, is_end}
+use Rattle.hls_boxes_laws.proofs.Callers.{Short, Long, header_at-append, header_at-front, header_at-read, header_at-within, Came, Waits, Fails, Passes, came, fault_of-fits, is_end}
 use Rattle.hls_boxes.specs.Intake.{wanted_by, EndsAt}
 
 -- a header that isn't whole wants more bytes

@@ -8,8 +8,7 @@ use Rattle.hls_boxes_laws.specs.declared.fault.BoxFault.{BoxFault}
 use Rattle.hls_boxes_laws.specs.declared.step.Next.TheVariants.{Fault, Joins, Ends}
 use Rattle.hls_boxes_laws.specs.Boxes.{header_at}
 use Rattle.hls_boxes_laws.specs.Parts.{part_of, next_of, cut_at, cut_of, after_parts}
-use Rattle.hls_boxes_laws.proofs.CutLaws.{refused}
-use Rattle.hls_boxes_laws.proofs.NextLaws.{next-joins, next-ends, next-fault}
+use Rattle.hls_boxes_laws.proofs.Callers.{refused, next-joins, next-ends, next-fault}
 use Rattle.hls_boxes.specs.declared.begun.Begun.{Begun}
 use Rattle.hls_boxes.specs.declared.whole.Whole.{Whole}
 use Rattle.hls_boxes.specs.Intake.{wanted_by, bytes_in, IsWhole, AreWhole, open_box, next_box_of, Reaches, Waits, EndsAt, IsEven, Stands, first_bytes, AddsTo, TakesIn}

@@ -8,9 +8,7 @@ use Rattle.hls_boxes_laws.specs.declared.part.Part.{Part}
 use Rattle.hls_boxes_laws.specs.declared.fault.BoxFault.{BoxFault}
 use Rattle.hls_boxes_laws.specs.declared.fault.BoxFault.TheVariants.{BadSize, TooLarge, OpenEnded, MdatAlone, MoofWithoutMdat, Truncated, Memory}
 use Rattle.hls_boxes_laws.specs.Parts.{part_of, bytes_of, next_of, Left, Nothing, Boxes, CutShort, Refused, left_of, fault_left, text_fault, fault_at_end, Cut, cut_at, cut_of, after_parts}
-use Rattle.hls_boxes_laws.proofs.Steps.{IsHeaderFault}
-use Rattle.hls_boxes_laws.proofs.CutLaws.{bytes_of-part_of, left_of-open, open-fault_left, refused}
-use Rattle.hls_boxes_laws.proofs.NextLaws.{next-wait}
+use Rattle.hls_boxes_laws.proofs.Callers.{IsHeaderFault, bytes_of-part_of, left_of-open, open-fault_left, refused, next-wait}
 use Rattle.hls_boxes.specs.declared.begun.Begun.{Begun}
 use Rattle.hls_boxes.specs.declared.whole.Whole.{Whole}
 use Rattle.hls_boxes.specs.Intake.{bytes_in, IsWhole, AreWhole, open_box, Waits, Stands, TakesIn, fed_bytes, Settles}

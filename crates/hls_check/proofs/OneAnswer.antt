@@ -1,4 +1,4 @@
-use Rattle.std.proofs.Common.{◌≡◌, ℕ, List, Option, Bool, Result, Ok, Err, arith, refl, sym, ap, ◌∙◌, inl, inr}
+use Rattle.std.proofs.Common.{◌≡◌, ℕ, ◌<◌, List, Option, Bool, Result, Ok, Err, arith, refl, sym, ap, ◌∙◌, inl, inr}
 use Rattle.std.proofs.lemmas.Bool.{cases_lt, cases_eq}
 use Rattle.hls_check_laws.specs.declared.cert_fault.CertFault.{CertFault}
 use Rattle.hls_check_laws.specs.declared.cert_fault.CertFault.TheVariants.{Form, TableNotSorted, PlanEnds, PlanStep, PlanCost, PriceStart, PriceStep, EndReached, Memory}
@@ -13,17 +13,18 @@ use Rattle.hls_check.specs.Answers.{CutAnswer, NoneAnswer, AnswerOver, IsAnswer}
 use Rattle.hls_check.proofs.PlanLists.{ends_from_plan, steps_from_plan}
 use Rattle.hls_check.proofs.GoodAnswers.{cut_fault, none_fault}
 
+-- of two firsts neither is before the other
+one_first : (p q : ℕ) → (p < q → ⊥) → (q < p → ⊥) → p ≡ q
+one_first p q before behind =
+    elim (cases_lt p q) [
+      | inl below ↦ absurd (before below)
+      | inr above ↦ elim (cases_eq p q) [ inl same ↦ same | inr ne ↦ absurd (behind (omega arith)) ]
+    ]
+
 -- the first place out of order is one
 one_unsorted : (t : Table) (p q : ℕ) → IsFirstUnsorted t p → IsFirstUnsorted t q → p ≡ q
 one_unsorted t p q one other =
-    elim (cases_lt p q) [
-      | inl below ↦ absurd (one.unsorted (other.sorted_before p below))
-      | inr above ↦
-          elim (cases_eq p q) [
-            | inl same ↦ same
-            | inr ne ↦ absurd (other.unsorted (one.sorted_before q (omega arith)))
-          ]
-    ]
+    one_first p q (λ below. one.unsorted (other.sorted_before p below)) (λ above. other.unsorted (one.sorted_before q above))
 
 unsorted_sorted : (t : Table) (p : ℕ) → IsFirstUnsorted t p → IsSorted t → ⊥
 unsorted_sorted t p first sorted = first.unsorted (sorted p first.in_range)
@@ -32,16 +33,8 @@ unsorted_sorted t p first sorted = first.unsorted (sorted p first.in_range)
 one_at : (t : Table) (plan : List ℕ) (p q i j : ℕ) (one : IsFirstBadPair t plan p q) (other : IsFirstBadPair t plan i j) →
     one.at ≡ other.at
 one_at t plan p q i j one other =
-    elim (cases_lt one.at other.at) [
-      | inl below ↦
-          absurd (one.bad (rw (← one.is_from, ← one.is_to) (other.good_before one.at below)))
-      | inr above ↦
-          elim (cases_eq one.at other.at) [
-            | inl same ↦ same
-            | inr ne ↦
-                absurd (other.bad (rw (← other.is_from, ← other.is_to) (one.good_before other.at (omega arith))))
-          ]
-    ]
+    one_first one.at other.at (λ below. one.bad (rw (← one.is_from, ← one.is_to) (other.good_before one.at below)))
+    (λ above. other.bad (rw (← other.is_from, ← other.is_to) (one.good_before other.at above)))
 
 bad_pair_plan : (t : Table) → IsTable t → (plan : List ℕ) (p q : ℕ) → IsSorted t → IsFirstBadPair t plan p q → IsPlan t plan → ⊥
 bad_pair_plan t ok plan p q sorted first is_plan =
@@ -50,25 +43,11 @@ bad_pair_plan t ok plan p q sorted first is_plan =
 -- the first broken step is one
 one_row : (Holds : ℕ → ℕ → Type 0) (p q i j : ℕ) → IsFirstBroken Holds p q → IsFirstBroken Holds i j → p ≡ i
 one_row Holds p q i j one other =
-    elim (cases_lt p i) [
-      | inl below ↦ absurd (one.in_row.broken (other.rows p q below))
-      | inr above ↦
-          elim (cases_eq p i) [
-            | inl same ↦ same
-            | inr ne ↦ absurd (other.in_row.broken (one.rows i j (omega arith)))
-          ]
-    ]
+    one_first p i (λ below. one.in_row.broken (other.rows p q below)) (λ above. other.in_row.broken (one.rows i j above))
 
 one_place : (Holds : ℕ → ℕ → Type 0) (p q j : ℕ) → IsFirstBroken Holds p q → IsFirstBroken Holds p j → q ≡ j
 one_place Holds p q j one other =
-    elim (cases_lt q j) [
-      | inl below ↦ absurd (one.in_row.broken (other.in_row.before q below))
-      | inr above ↦
-          elim (cases_eq q j) [
-            | inl same ↦ same
-            | inr ne ↦ absurd (other.in_row.broken (one.in_row.before j (omega arith)))
-          ]
-    ]
+    one_first q j (λ below. one.in_row.broken (other.in_row.before q below)) (λ above. other.in_row.broken (one.in_row.before j above))
 
 -- two faults of one cut are one
 cut_faults : (t : Table) → IsTable t → (total : ℕ) (plan : List ℕ) (prices : List (Option ℕ)) (one other : CertFault) →

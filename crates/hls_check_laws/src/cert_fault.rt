@@ -7,43 +7,44 @@ ghost use Rattle.hls_check_laws.specs.declared.cert_fault.CertFault.TheVariants.
 use std::alloc::{AllocError, AllocFailed};
 use thiserror::Error;
 
+/// The name of a variant, among all that its type has.
+macro_rules! name_among {
+    ($fault:expr; $type:ident: $($variant:ident),*) => {
+        match $fault {
+            $($type::$variant { .. } => stringify!($variant)),*
+        }
+    };
+}
+
 /// Why a certificate is refused. The check answers the first that holds, in this order.
 #[derive(Clone, Copy, Debug, PartialEq, Eq, Error)]
+#[error("{}", self.name())]
 pub enum CertFault {
     /// The first line of the text, from 1, that isn't as the format says.
-    #[error("Form")]
     Form { line: usize },
 
     /// The first place of the table that isn't in order.
-    #[error("TableNotSorted")]
     TableNotSorted { place: usize },
 
     /// The plan doesn't begin with the first place or end with the last.
-    #[error("PlanEnds")]
     PlanEnds,
 
     /// The first pair of the plan that isn't an allowed step.
-    #[error("PlanStep")]
     PlanStep { p: usize, q: usize },
 
     /// The plan's cost, the printed cost and the last place's price aren't all equal.
-    #[error("PlanCost")]
     PlanCost,
 
     /// The first place has not price 0, or isn't in the closed set.
-    #[error("PriceStart")]
     PriceStart,
 
     /// The first allowed step that shows a price too high or missing, or that leaves the closed set.
-    #[error("PriceStep")]
     PriceStep { p: usize, q: usize },
 
     /// The closed set has the last place.
-    #[error("EndReached")]
     EndReached,
 
     /// A growth of memory was refused.
-    #[error("Memory")]
     Memory,
 }
 
@@ -52,17 +53,7 @@ impl CertFault {
     pub fn name(&self) -> &'static str
         ensures { result.now ≡ fault_name self.now }
     {
-        match self {
-            CertFault::Form { .. } => "Form",
-            CertFault::TableNotSorted { .. } => "TableNotSorted",
-            CertFault::PlanEnds => "PlanEnds",
-            CertFault::PlanStep { .. } => "PlanStep",
-            CertFault::PlanCost => "PlanCost",
-            CertFault::PriceStart => "PriceStart",
-            CertFault::PriceStep { .. } => "PriceStep",
-            CertFault::EndReached => "EndReached",
-            CertFault::Memory => "Memory",
-        }
+        name_among!(self; CertFault: Form, TableNotSorted, PlanEnds, PlanStep, PlanCost, PriceStart, PriceStep, EndReached, Memory)
     }
 }
 

@@ -11,7 +11,7 @@ use Rattle.hls_check_text.proofs.Starts.{unpriced, left_out}
 use Rattle.hls_text.specs.Numbers.{words}
 use Rattle.hls_check_text.specs.Wrong.{IsFirstWrong}
 use Rattle.hls_check_laws.specs.declared.cert_fault.CertFault.{CertFault}
-use Rattle.hls_text.proofs.Joins.{first_cut}
+use Rattle.hls_check_text.proofs.Cited.{first_cut}
 use Rattle.hls_check_text.proofs.Wrongs.{at_next, first_wrong, stops_building, is_whole}
 
 -- prices, padded up to a place, and one more

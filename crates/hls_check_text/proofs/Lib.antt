@@ -1,3 +1,4 @@
+mod Cited
 mod Spellings
 mod Nexts
 mod Stagings

@@ -6,9 +6,7 @@ use Rattle.std.specs.Fmt.{decimal}
 use Rattle.std.proofs.lemmas.List.Elements.{All-cons, All-nil, All-append}
 use Rattle.hls_text.specs.Lines.{cut_text, IsFirstLine}
 use Rattle.hls_text.specs.Numbers.{words, number_line, spaced, IsNumber, HasNoNumber, AreNumbers}
-use Rattle.hls_text.proofs.Decimals.{same_number}
-use Rattle.hls_text.proofs.Joins.{first_cut}
-use Rattle.hls_text.proofs.Words.{front_number}
+use Rattle.hls_check_text.proofs.Cited.{same_number, first_cut, front_number}
 use Rattle.hls_check_text.specs.Text.{plan_line, closed_line}
 use Rattle.hls_check_text.specs.Stages.{Refuses, IsNumberLine, IsPlanLine, IsPriceLine, IsClosedLine}
 use Rattle.hls_check_text.proofs.Spellings.{number_same, priced_line_same}

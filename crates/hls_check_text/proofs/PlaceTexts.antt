@@ -7,9 +7,7 @@ use Rattle.hls_check_laws.specs.declared.spot.Spot.{Spot}
 use Rattle.hls_check_laws.specs.Tables.{IsSpotInRange, IsPlaceOf}
 use Rattle.hls_text.specs.Lines.{cut_text, joined, IsFirstLine}
 use Rattle.hls_text.specs.Numbers.{words, spaced, begins_with_digit, IsNumber, HasNoNumber, IsSpaced}
-use Rattle.hls_text.proofs.Decimals.{same_number}
-use Rattle.hls_text.proofs.Joins.{clean_words, joined_lines, no_end}
-use Rattle.hls_text.proofs.Words.{no_digit_behind, front_spaced, same_spaced}
+use Rattle.hls_check_text.proofs.Cited.{same_number, clean_words, joined_lines, no_end, no_digit_behind, front_spaced, same_spaced}
 use Rattle.hls_check_text.specs.Text.{place_numbers, place_line}
 use Rattle.hls_check_text.specs.Stages.{Refuses, IsPlaceLine}
 use Rattle.hls_check_text.specs.SpotTexts.{IsFirstSpot, IsNextSpot}

@@ -8,7 +8,7 @@ use Rattle.hls_check_laws.specs.declared.spot.Spot.{Spot}
 use Rattle.hls_check_laws.specs.Tables.{Table, IsTable, IsPlaceOf, goal_of, table_of}
 use Rattle.hls_check_laws.specs.Certificates.{Printed, Shown, CutShown, NoneShown, IsForm, IsCertificate}
 use Rattle.hls_text.specs.Numbers.{words, ArePrintable}
-use Rattle.hls_text.proofs.Words.{IsSmall}
+use Rattle.hls_check_text.proofs.Cited.{IsSmall}
 use Rattle.hls_check_text.specs.Text.{cut_line, none_line, end_line, price_line, closed_line, place_line, place_numbers, table_lines, shown_lines, lines, Priced, priced, priced_from, members_from}
 use Rattle.hls_check_text.specs.Stages.{printed}
 use Rattle.hls_check_text.proofs.Spellings.{words_same, number_same, other_first, numbers_printable, place_same, RisesFrom, ClimbsFrom, priced_rises, members_climb, priced_line_same}

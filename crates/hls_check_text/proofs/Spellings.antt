@@ -6,8 +6,7 @@ use Rattle.hls_check_laws.specs.declared.spot.Spot.{Spot}
 use Rattle.hls_check_laws.specs.Tables.{IsSpotInRange}
 use Rattle.hls_check_laws.specs.Certificates.{IsPriceInRange}
 use Rattle.hls_text.specs.Numbers.{spaced, words, ArePrintable, IsNumber}
-use Rattle.hls_text.proofs.Decimals.{same_number}
-use Rattle.hls_text.proofs.Words.{IsSmall, spaced_same, no_digit}
+use Rattle.hls_check_text.proofs.Cited.{same_number, IsSmall, spaced_same, no_digit}
 use Rattle.hls_check_text.specs.Text.{place_numbers, Priced, price_line, priced_from, members_from}
 
 pub words_same : (m n : ℕ) (ms ns : List ℕ) → ArePrintable (m ∷ ms) → ArePrintable (n ∷ ns) →

@@ -8,8 +8,8 @@ use Rattle.hls_check_laws.specs.Tables.{Table}
 use Rattle.hls_check_laws.specs.Certificates.{Printed, Shown, CutShown, NoneShown}
 use Rattle.hls_text.specs.Lines.{joined}
 use Rattle.hls_text.specs.Numbers.{words, spaced, number_line}
-use Rattle.hls_text.proofs.Joins.{joined-append}
-use Rattle.hls_check_text.specs.Text.{ruled_header_line, charge_line, rule_lines, target_line, preferred_line, renditions_line, places_line, cut_line, none_line, end_line, head_lines, table_lines, shown_lines, lines, text, place_numbers, place_line, plan_line, closed_line, price_line, priced, priced_from, members_from}
+use Rattle.hls_check_text.proofs.Cited.{joined-append}
+use Rattle.hls_check_text.specs.Text.{ruled_header_line, charge_line, rule_lines, target_line, preferred_line, renditions_line, places_line, cut_line, none_line, end_line, head_lines, table_lines, shown_lines, lines, text, after_fragment, place_numbers, place_line, plan_line, closed_line, price_line, priced, priced_from, members_from}
 
 pub one_line : (line : List ℕ) → joined (line ∷ []) ≡ line ++ (10 ∷ [])
 unfolding joined
@@ -27,29 +27,33 @@ number_line_written old word n a b c a_is b_is c_is =
     c_is ∙ ap (λ (xs : List ℕ). xs ++ (10 ∷ [])) (b_is ∙ ap (λ (xs : List ℕ). xs ++ decimal n) a_is)
     ∙ simp (append_assoc, append-nil)
 
--- five numbers, one after the other
-five_joined : (old a b c d e : List ℕ) → ((((old ++ a) ++ b) ++ c) ++ d) ++ e ≡ old ++ (a ++ (b ++ (c ++ (d ++ e))))
-five_joined old a b c d e = simp append_assoc
+-- four numbers, one after the other
+four_joined : (old a b c d : List ℕ) → (((old ++ a) ++ b) ++ c) ++ d ≡ old ++ (a ++ (b ++ (c ++ d)))
+four_joined old a b c d = simp append_assoc
 
-pub spot_written : (old : List ℕ) (s : Spot) (a b c d e : List ℕ) → a ≡ old ++ (32 ∷ decimal s.fragment) → b ≡ a ++ (32 ∷ decimal s.prev_end) →
+pub after_fragment_written : (old : List ℕ) (s : Spot) (b c d e : List ℕ) → b ≡ old ++ (32 ∷ decimal s.prev_end) →
     c ≡ b ++ (32 ∷ decimal s.start) → d ≡ c ++ (32 ∷ decimal s.run_in) → e ≡ d ++ (32 ∷ decimal s.run_out) →
+    e ≡ old ++ spaced (after_fragment s)
+unfolding spaced
+after_fragment_written old s b c d e b_is c_is d_is e_is =
+    rw (e_is, d_is, c_is, b_is)
+    (four_joined old (32 ∷ decimal s.prev_end) (32 ∷ decimal s.start) (32 ∷ decimal s.run_in) (32 ∷ decimal s.run_out)
+    ∙ ap (λ (xs : List ℕ). old ++ ((32 ∷ decimal s.prev_end) ++ ((32 ∷ decimal s.start) ++ ((32 ∷ decimal s.run_in) ++ (32 ∷ xs)))))
+    (sym (append-nil (decimal s.run_out))))
+
+-- a number, and the others of its spot behind it
+behind_number : (old number more a e : List ℕ) → a ≡ old ++ number → e ≡ a ++ more → e ≡ old ++ (number ++ more)
+behind_number old number more a e a_is e_is = e_is ∙ ap (λ (xs : List ℕ). xs ++ more) a_is ∙ append_assoc old number more
+
+pub spot_written : (old : List ℕ) (s : Spot) (a e : List ℕ) → a ≡ old ++ (32 ∷ decimal s.fragment) → e ≡ a ++ spaced (after_fragment s) →
     e ≡ old ++ spaced (place_numbers (s ∷ []))
 unfolding place_numbers spaced
-spot_written old s a b c d e a_is b_is c_is d_is e_is =
-    rw (e_is, d_is, c_is, b_is, a_is)
-    (five_joined old (32 ∷ decimal s.fragment) (32 ∷ decimal s.prev_end) (32 ∷ decimal s.start) (32 ∷ decimal s.run_in) (32 ∷ decimal s.run_out)
-    ∙ ap (λ (xs : List ℕ). old ++ ((32 ∷ decimal s.fragment) ++ ((32 ∷ decimal s.prev_end) ++ ((32 ∷ decimal s.start) ++ ((32 ∷ decimal s.run_in) ++ (32 ∷ xs))))))
-    (sym (append-nil (decimal s.run_out))))
+spot_written old s a e a_is e_is = behind_number old (32 ∷ decimal s.fragment) (spaced (after_fragment s)) a e a_is e_is
 
-pub first_spot_written : (old : List ℕ) (s : Spot) (a b c d e : List ℕ) → a ≡ old ++ decimal s.fragment → b ≡ a ++ (32 ∷ decimal s.prev_end) →
-    c ≡ b ++ (32 ∷ decimal s.start) → d ≡ c ++ (32 ∷ decimal s.run_in) → e ≡ d ++ (32 ∷ decimal s.run_out) →
+pub first_spot_written : (old : List ℕ) (s : Spot) (a e : List ℕ) → a ≡ old ++ decimal s.fragment → e ≡ a ++ spaced (after_fragment s) →
     e ≡ old ++ words (place_numbers (s ∷ []))
 unfolding place_numbers spaced words
-first_spot_written old s a b c d e a_is b_is c_is d_is e_is =
-    rw (e_is, d_is, c_is, b_is, a_is)
-    (five_joined old (decimal s.fragment) (32 ∷ decimal s.prev_end) (32 ∷ decimal s.start) (32 ∷ decimal s.run_in) (32 ∷ decimal s.run_out)
-    ∙ ap (λ (xs : List ℕ). old ++ (decimal s.fragment ++ ((32 ∷ decimal s.prev_end) ++ ((32 ∷ decimal s.start) ++ ((32 ∷ decimal s.run_in) ++ (32 ∷ xs))))))
-    (sym (append-nil (decimal s.run_out))))
+first_spot_written old s a e a_is e_is = behind_number old (decimal s.fragment) (spaced (after_fragment s)) a e a_is e_is
 
 pub price_written : (old : List ℕ) (place price : ℕ) (a b c d : List ℕ) → a ≡ old ++ codes "price " → b ≡ a ++ decimal place →
     c ≡ b ++ (32 ∷ decimal price) → d ≡ c ++ (10 ∷ []) → d ≡ old ++ joined (price_line (priced place price) ∷ [])

@@ -13,8 +13,7 @@ use Rattle.hls_check_laws.specs.Tables.{IsPlaceOf, charge_of, goal_of, table_of}
 use Rattle.hls_check_laws.specs.Certificates.{Printed, Shown, CutShown, NoneShown, IsForm, IsCertificate}
 use Rattle.hls_text.specs.Lines.{cut_text, joined, IsFirstLine}
 use Rattle.hls_text.specs.Numbers.{words}
-use Rattle.hls_text.proofs.Words.{IsSmall}
-use Rattle.hls_text.proofs.Joins.{IsClean, clean-append, clean_words, lines_of_joined, tail_of_joined, joined_lines, first_cut}
+use Rattle.hls_check_text.proofs.Cited.{IsSmall, IsClean, clean-append, clean_words, lines_of_joined, tail_of_joined, joined_lines, first_cut}
 use Rattle.hls_check_text.specs.Text.{header_line, ruled_header_line, charge_line, rule_lines, target_line, preferred_line, renditions_line, places_line, cut_line, none_line, end_line, plan_line, price_line, closed_line, place_line, place_numbers, head_lines, table_lines, shown_lines, lines, text, Priced, priced_from, members_from}
 use Rattle.hls_check_text.specs.Wrong.{IsFirstWrong, IsGoodText, IsReading, Gives}
 use Rattle.hls_check_text.specs.declared.head.Head.{Head}

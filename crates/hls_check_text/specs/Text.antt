@@ -59,6 +59,10 @@ priced place price = record { place = place; price = price }
 abbrev pub price_line : Priced → List ℕ
 price_line p = codes "price " ++ words (p.place ∷ p.price ∷ [])
 
+-- a spot's numbers behind that of its fragment
+abbrev pub after_fragment : Spot → List ℕ
+after_fragment s = s.prev_end ∷ s.start ∷ s.run_in ∷ s.run_out ∷ []
+
 -- the numbers of a place's line, spot by spot
 unfoldable pub place_numbers : List Spot → List ℕ
 place_numbers [] = []

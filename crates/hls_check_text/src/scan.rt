@@ -16,7 +16,7 @@ use hls_text::take_line;
 fn scan_places(head: Head, text: &[u8], first: usize) -> Result<&[u8], WrongLine>
     requires room { first + length text.now + 1 < 2 ^ 64 }
     requires head { IsHead head }
-    ensures at { OfPlaces head text.now first (λ bytes. MatchResult result (λ rest. PassesPlaces head bytes rest.now (first + head.count)) (StopsScanning bytes)) }
+    ensures at { OfPlaces head text.now first (λ bytes. MatchResult result (λ r. PassesPlaces head bytes r.now (first + head.count)) (StopsScanning bytes)) }
     ensures shorter { IfOk result (λ rest. head.count + length rest.now ≤ length text.now) }
 {
     let mut rest = text;

@@ -5,7 +5,7 @@ ghost use Rattle.std.specs.Fmt.{decimal};
 ghost use Rattle.hls_text.specs.Lines.{joined};
 ghost use Rattle.hls_text.specs.Numbers.{words, spaced, number_line};
 ghost use Rattle.hls_check_laws.specs.Certificates.{CutShown, NoneShown, shown_by};
-ghost use Rattle.hls_check_text.specs.Text.{place_numbers, place_line, plan_line, price_line, closed_line, priced, priced_from, members_from, rule_lines, table_lines, shown_lines, text, IsShowable};
+ghost use Rattle.hls_check_text.specs.Text.{after_fragment, place_numbers, place_line, plan_line, price_line, closed_line, priced, priced_from, members_from, rule_lines, table_lines, shown_lines, text, IsShowable};
 
 use hls_check_laws::{Certificate, Claim, CostRule, PrintedTable, Spot, Spots};
 use std::alloc::{AllocError, Global};
@@ -46,15 +46,23 @@ fn push_word(out: &mut Vec<u8>, word: &[u8]) -> Result<(), AllocError>
     Ok(())
 }
 
+// A spot's numbers behind that of its fragment, each with a space before it.
+fn push_after_fragment(out: &mut Vec<u8>, spot: Spot) -> Result<(), AllocError>
+    ensures { IfOk result (λ _. out.new.items ≡ out.old.items ++ spaced (after_fragment spot)) }
+{
+    push_spaced(out, spot.prev_end)?;
+    push_spaced(out, spot.start)?;
+    push_spaced(out, spot.run_in)?;
+    push_spaced(out, spot.run_out)?;
+    Ok(())
+}
+
 // A spot's numbers, each with a space before it.
 fn push_spot(out: &mut Vec<u8>, spot: Spot) -> Result<(), AllocError>
     ensures { IfOk result (λ _. out.new.items ≡ out.old.items ++ spaced (place_numbers (spot ∷ []))) }
 {
     push_spaced(out, spot.fragment)?;
-    push_spaced(out, spot.prev_end)?;
-    push_spaced(out, spot.start)?;
-    push_spaced(out, spot.run_in)?;
-    push_spaced(out, spot.run_out)?;
+    push_after_fragment(out, spot)?;
     Ok(())
 }
 
@@ -63,10 +71,7 @@ fn push_first_spot(out: &mut Vec<u8>, spot: Spot) -> Result<(), AllocError>
     ensures { IfOk result (λ _. out.new.items ≡ out.old.items ++ words (place_numbers (spot ∷ []))) }
 {
     push_number(out, spot.fragment)?;
-    push_spaced(out, spot.prev_end)?;
-    push_spaced(out, spot.start)?;
-    push_spaced(out, spot.run_in)?;
-    push_spaced(out, spot.run_out)?;
+    push_after_fragment(out, spot)?;
     Ok(())
 }
 

@@ -7,33 +7,37 @@ ghost use Rattle.hls_m3u8.specs.declared.fault.ListFault.TheVariants.{Memory};
 use std::alloc::{AllocError, AllocFailed};
 use thiserror::Error;
 
+/// The name of a variant, among all that its type has.
+macro_rules! name_among {
+    ($fault:expr; $type:ident: $($variant:ident),*) => {
+        match $fault {
+            $($type::$variant { .. } => stringify!($variant)),*
+        }
+    };
+}
+
 /// Why a text is refused as a media playlist. TooLong of the bytes, Utf8 and NotM3u are tested first, in this order,
 /// then the lines one by one (on a URI's line MissingTag, BadTag, TooLong in this order), at the end MissingTag, and
 /// then Memory.
 #[derive(Clone, Copy, Debug, PartialEq, Eq, Error)]
+#[error("{}", self.name())]
 pub enum ListFault {
     /// The first line isn't `#EXTM3U` (RFC 8216 section 4.3.1.1).
-    #[error("NotM3u")]
     NotM3u,
 
     /// The text isn't UTF-8, or begins with a byte order mark (section 4.1).
-    #[error("Utf8")]
     Utf8,
 
     /// A tag that isn't read, a value that a tag can't have, or a tag where it can't stand; the line, from 1.
-    #[error("BadTag")]
     BadTag { line: usize },
 
     /// A URI without EXTINF before it, an EXTINF without a URI behind it, or no target duration.
-    #[error("MissingTag")]
     MissingTag,
 
     /// More than `TEXT_LIMIT` bytes or `SEGMENT_LIMIT` segments.
-    #[error("TooLong")]
     TooLong,
 
     /// A growth of memory was refused.
-    #[error("Memory")]
     Memory,
 }
 
@@ -42,14 +46,7 @@ impl ListFault {
     pub fn name(&self) -> &'static str
         ensures { result.now ≡ fault_name self.now }
     {
-        match self {
-            ListFault::NotM3u => "NotM3u",
-            ListFault::Utf8 => "Utf8",
-            ListFault::BadTag { .. } => "BadTag",
-            ListFault::MissingTag => "MissingTag",
-            ListFault::TooLong => "TooLong",
-            ListFault::Memory => "Memory",
-        }
+        name_among!(self; ListFault: NotM3u, Utf8, BadTag, MissingTag, TooLong, Memory)
     }
 }
 

@@ -1,7 +1,7 @@
 //! What one line does. What was read stands in one place and is changed there: a line costs what it says, and an
 //! empty one nothing. What a refusal leaves of it is no matter, since the text is refused.
 
-ghost use Rattle.std.specs.Prelude.{◌≡◌, ◌<◌, ℕ, List, Some, None, true, is_some, option_map, IfSome, IfNone};
+ghost use Rattle.std.specs.Prelude.{◌≡◌, ◌<◌, ℕ, List, Some, None, ◌||◌, true, false, is_some, option_map, IfSome, IfNone};
 ghost use Rattle.hls_m3u8.specs.TextLines.{split_at};
 ghost use Rattle.hls_m3u8.specs.Tags.{tag_of};
 ghost use Rattle.std.specs.Borrow.{Bor};
@@ -34,6 +34,18 @@ fn give_once<T: Copy>(place: &mut Option<T>, value: T) -> Option<()>
         return None;
     }
     *place = Some(value);
+    Some(())
+}
+
+// Keeps that a tag without a value was there, which may be once.
+fn set_once(place: &mut bool, value: Option<&str>) -> Option<()>
+    ensures set { IfSome result (λ _. (is_some value.entry ≡ false) × (place.old ≡ false) × (place.new ≡ true)) }
+    ensures refused { IfNone result ((is_some value.entry || place.old) ≡ true) }
+{
+    if value.is_some() || *place {
+        return None;
+    }
+    *place = true;
     Some(())
 }
 
@@ -149,14 +161,7 @@ fn with_map<'a>(reading: &mut Reading<'a>, map: Option<Resource<'a>>) -> Option<
 fn with_mark(reading: &mut Reading<'_>, value: Option<&str>) -> Option<()>
     ensures { taken result reading.new ≡ with_mark reading.old (option_map (λ (v : Bor (List ℕ)). v.now) value.entry) }
 {
-    if value.is_some() {
-        return None;
-    }
-    if reading.mark {
-        return None;
-    }
-    reading.mark = true;
-    Some(())
+    set_once(&mut reading.mark, value)
 }
 
 // A moment in whole milliseconds, where the text names one.
@@ -179,14 +184,7 @@ fn with_date(reading: &mut Reading<'_>, date: Option<i64>) -> Option<()>
 fn with_end(reading: &mut Reading<'_>, value: Option<&str>) -> Option<()>
     ensures { taken result reading.new ≡ with_end reading.old (option_map (λ (v : Bor (List ℕ)). v.now) value.entry) }
 {
-    if value.is_some() {
-        return None;
-    }
-    if reading.ended {
-        return None;
-    }
-    reading.ended = true;
-    Some(())
+    set_once(&mut reading.ended, value)
 }
 
 // A tag, and what stands behind its colon.

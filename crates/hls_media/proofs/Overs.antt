@@ -2,7 +2,7 @@
 use Rattle.std.proofs.Common.{◌≡◌, ℕ, ◌<◌, List, [], ◌∷◌, length, drop, slice_range, Option, Some, None, option_and_then, option_map, refl, ◌∙◌, ap, arith}
 use Rattle.hls_boxes_laws.specs.declared.header.Header.{Header}
 use Rattle.hls_boxes_laws.specs.Boxes.{Child, child_of, children, children_by, box_at}
-use Rattle.hls_boxes_laws.proofs.Walk.{children-empty, children-step}
+use Rattle.hls_boxes_laws.proofs.Callers.{children-empty, children-step}
 use Rattle.hls_media.specs.Folds.{along, over}
 
 pub over-end : {S R : Type 0} (step : S → ℕ → List ℕ → Option S) (finish : S → Option R) (s : S) (bytes : List ℕ) → length bytes ≡ 0 → over step finish s bytes ≡ finish s

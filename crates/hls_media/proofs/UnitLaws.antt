@@ -5,7 +5,7 @@ use Rattle.std.proofs.lemmas.List.{drop-drop, length-drop}
 use Rattle.hls_boxes_laws.specs.declared.header.Header.{Header}
 use Rattle.hls_boxes_laws.specs.Kinds.{moov_type, moof_type, mdat_type, unit_limit}
 use Rattle.hls_boxes_laws.specs.Boxes.{Child, child_of, children, children_by, box_at, IsWithin}
-use Rattle.hls_boxes_laws.proofs.Walk.{children-empty, children-step}
+use Rattle.hls_boxes_laws.proofs.Callers.{children-empty, children-step}
 use Rattle.hls_media_laws.specs.Layout.{Layout, layout_by, layout_of, with_mdat, last_box, size_of_box}
 use Rattle.hls_media.specs.declared.units.Met.{Met}
 use Rattle.hls_media.specs.Shapes.{to_come}

@@ -9,7 +9,7 @@ use Rattle.hls_media_laws.specs.InitData.{InitData, timing_track}
 use Rattle.hls_media_laws.specs.Layout.{layout_of, layout_by, moov_of, moov_by}
 use Rattle.hls_media_laws.specs.Inits.{init_of, init_by, init_causes, tracks_of, with_timing}
 use Rattle.hls_boxes_laws.specs.Kinds.{init_limit, unit_limit}
-use Rattle.hls_boxes_laws.proofs.Walk.{children-empty}
+use Rattle.hls_boxes_laws.proofs.Callers.{children-empty}
 use Rattle.hls_media_laws.specs.Trafs.{Traf}
 use Rattle.hls_media_laws.specs.TrafFacts.{Given, duration_for, flags_for}
 use Rattle.hls_media_laws.specs.UnitFacts.{first_tick, last_tick, last_us, is_empty, is_too_large, facts_said}

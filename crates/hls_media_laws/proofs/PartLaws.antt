@@ -3,8 +3,7 @@ use Rattle.std.proofs.Common.{◌≡◌, ℕ, ◌+◌, ◌≤◌, ◌==◌, nat_
 use Rattle.std.proofs.lemmas.Bool.{cases_Bool, eqb-true, ltb-false, le-ltb}
 use Rattle.hls_boxes_laws.specs.Kinds.{moov_type, moof_type, mdat_type, init_limit, unit_limit}
 use Rattle.hls_boxes_laws.specs.Boxes.{Child, children, kinds_of}
-use Rattle.hls_boxes_laws.proofs.KindTests.{is_last, ends_init, ends_unit, has_unit, fills}
-use Rattle.hls_boxes_laws.proofs.WholeLaws.{unit_part, unit_whole, init_part, init_whole}
+use Rattle.hls_boxes_laws.proofs.Callers.{is_last, ends_init, ends_unit, has_unit, fills, unit_part, unit_whole, init_part, init_whole}
 use Rattle.hls_media_laws.specs.Layout.{layout_of, layout_by, with_mdat, last_box, size_of_box, moov_of, moov_by, last_moov, UnitsAreParts, InitsAreParts}
 
 other : (kind one another : ℕ) → (kind == one) ≡ true → (one == another) ≡ false → (kind == another) ≡ false

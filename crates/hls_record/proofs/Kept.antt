@@ -3,22 +3,21 @@ use Rattle.std.proofs.Common.{◌≡◌, ℕ, ◌+◌, ◌-◌, ◌<◌, ◌≤�
 use Rattle.std.specs.Prelude.{slice_get, option_map}
 use Rattle.std.proofs.lemmas.List.{map-append, length-map, take-append-le, take_all}
 use Rattle.std.proofs.lemmas.List.Sums.{sum_by_push}
+use Rattle.std.proofs.lemmas.Option.{slice_get_within, slice_get-map}
 use Rattle.hls_media_laws.specs.InitData.{InitData}
 use Rattle.hls_media_laws.specs.Meaning.{IsInit, IsUnit}
 use Rattle.hls_media_laws.specs.declared.facts.Facts.{Facts}
-use Rattle.hls_media_laws.proofs.Bounds.{units_are_bounded, inits_are_bounded}
+use Rattle.hls_record.proofs.Cited.{units_are_bounded, inits_are_bounded, in_order_grown, were_grown, at_drop, at_snoc}
 use Rattle.hls_blocks.specs.Numbered.{Numbered, no_items, with_item, from_number, list_limit}
 use Rattle.hls_record.specs.declared.item.Item.{Item}
 use Rattle.hls_record.specs.declared.recording.Recording.TheInside.{Inside}
 use Rattle.hls_record.specs.Recorded.{total_of}
 use Rattle.hls_media_laws.specs.FactLists.{end_tick, last_end, WereUnits, InOrder}
-use Rattle.hls_media_laws.proofs.Timelines.{in_order_grown, were_grown}
 use Rattle.hls_record.specs.Kept.{seen, IsKept}
-use Rattle.hls_media_laws.proofs.Lists.{within_of, at_map, at_drop, at_snoc}
 
 -- the facts of a unit are those of its item
 pub facts_at : (items : List Item) (k : ℕ) (x : Item) → slice_get items k ≡ Some x → slice_get (map (λ i. i.facts) items) k ≡ Some x.facts
-facts_at items k x is = at_map (λ i. i.facts) items k ∙ ap (option_map (λ i. i.facts)) is
+facts_at items k x is = slice_get-map (λ i. i.facts) items k ∙ ap (option_map (λ i. i.facts)) is
 
 -- the end of every unit fits
 pub end_fits : (i : Inside) (k : ℕ) (x : Item) → IsKept i → Some x ≡ slice_get i.items.items k → x.facts.start + x.facts.duration < 2 ^ 64
@@ -87,11 +86,11 @@ fits_grown : (init : InitData) (fs : List Facts) (f : Facts) (floor : ℕ) (unit
 fits_grown init fs f floor units unit fits kept is k g b at_g at_b =
     elim (at_snoc fs f (floor + k) g at_g) [
       | inl old_g ↦
-          (let before : floor + k < length fs = within_of fs (floor + k) g old_g in
+          (let before : floor + k < length fs = slice_get_within fs (floor + k) g old_g in
           elim (at_snoc units unit k b at_b) [ inl old_b ↦ fits k g b old_g old_b | inr new_b ↦ absurd (omega arith) ])
       | inr new_g ↦
           elim (at_snoc units unit k b at_b) [
-            | inl old_b ↦ (let before : k < length units = within_of units k b old_b in absurd (omega arith))
+            | inl old_b ↦ (let before : k < length units = slice_get_within units k b old_b in absurd (omega arith))
             | inr new_b ↦ rw (new_g.1, new_b.1) is
           ]
     ]
@@ -104,7 +103,7 @@ offsets_grown : (i : Inside) (f : Facts) (k : ℕ) (x : Item) → IsKept i
     → (slice_get i.items.items k ≡ Some x) ⊎ ((k ≡ length i.items.items) × (x ≡ record { facts = f; offset = i.total }))
     → x.offset ≡ length i.head + sum_by (λ g. g.len) (take k (map (λ y. y.facts) i.items.items ++ f ∷ []))
 offsets_grown i f k x kept (inl old) =
-    let before : k < length i.items.items = within_of i.items.items k x old in
+    let before : k < length i.items.items = slice_get_within i.items.items k x old in
     let within : k ≤ length (map (λ y. y.facts) i.items.items) = rw length-map (omega arith) in
     rw (take-append-le k (map (λ y. y.facts) i.items.items) (f ∷ []) within) (kept.offsets k x old)
 offsets_grown i f k x kept (inr new) =

@@ -1,8 +1,10 @@
+mod Cited
 mod Search
 mod Kept
 mod Twins
 mod Offsets
-pub mod Pieces
+mod Pieces
 mod Places
-pub mod Ranges
-pub mod Stays
+mod Ranges
+mod Stays
+pub mod Callers

@@ -4,7 +4,8 @@ use Rattle.std.specs.Prelude.{slice_get}
 use Rattle.std.specs.List.{concat}
 use Rattle.std.proofs.lemmas.Bool.{cases_lt, le-ltb}
 use Rattle.std.proofs.lemmas.List.{length-map, take_all}
-use Rattle.hls_media_laws.proofs.Bounds.{units_are_bounded}
+use Rattle.std.proofs.lemmas.Option.{slice_get_within}
+use Rattle.hls_record.proofs.Cited.{units_are_bounded, some_at}
 use Rattle.hls_blocks.specs.Numbered.{Numbered, item_at}
 use Rattle.hls_record.specs.declared.item.Key.TheVariants as keys
 use Rattle.hls_record.specs.declared.recording.Recording.TheInside.{Inside}
@@ -12,7 +13,6 @@ use Rattle.hls_record.specs.Recorded.{Recorded, offset_at, total_of, piece_at}
 use Rattle.hls_record.specs.Valid.{IsRecorded}
 use Rattle.hls_record.specs.Search.{IsFirst, Stands}
 use Rattle.hls_record.specs.Kept.{seen, IsKept}
-use Rattle.hls_media_laws.proofs.Lists.{some_at, within_of}
 use Rattle.hls_record.proofs.Offsets.{next_offset, kept_before, kept_length}
 use Rattle.hls_record.proofs.Pieces.{piece_of_unit, no_piece}
 
@@ -63,7 +63,7 @@ unit_found i at after kept found low high =
 pub unit_length : (r : Recorded) (n : ℕ) (u : List ℕ) → IsRecorded r → r.floor ≤ n → slice_get r.units (n - r.floor) ≡ Some u
     → offset_at r (n + 1) ≡ offset_at r n + length u
 unit_length r n u valid low at =
-    let within : n - r.floor < length r.units = within_of r.units (n - r.floor) u at in
+    let within : n - r.floor < length r.units = slice_get_within r.units (n - r.floor) u at in
     let f = some_at r.facts n (omega (arith, valid.kept)) in
     let n_is : r.floor + (n - r.floor) ≡ n = omega arith in
     let is = valid.fits (n - r.floor) f.0 u (rw n_is f.1) at in

@@ -4,7 +4,7 @@ use Rattle.std.specs.List.{concat}
 use Rattle.std.proofs.lemmas.Bool.{cases_lt, lt-ltb, le-ltb}
 use Rattle.std.proofs.lemmas.List.{take-append-le}
 use Rattle.hls_media_laws.specs.declared.facts.Facts.{Facts}
-use Rattle.hls_media_laws.proofs.Timelines.{units_are_timed}
+use Rattle.hls_record.proofs.Cited.{units_are_timed}
 use Rattle.hls_record.specs.Recorded.{Recorded, offset_at, with_unit, trimmed, unit_piece, piece_at}
 use Rattle.hls_record.specs.Valid.{IsRecorded}
 use Rattle.hls_record.specs.Laws.{OffsetsStay, PiecesStay, PiecesAreBytes, UnitsAreInTime}

@@ -4,17 +4,24 @@ ghost use Rattle.hls_record.specs.FaultName.{record_fault_name, range_fault_name
 
 use thiserror::Error;
 
+/// The name of a variant, among all that its type has.
+macro_rules! name_among {
+    ($fault:expr; $type:ident: $($variant:ident),*) => {
+        match $fault {
+            $($type::$variant { .. } => stringify!($variant)),*
+        }
+    };
+}
+
 /// Why a unit isn't appended, in the order in which they are looked at.
 #[derive(Clone, Copy, Debug, PartialEq, Eq, Error)]
+#[error("{}", self.name())]
 pub enum RecordFault {
     /// The unit starts, in ticks, before the end of the last one.
-    #[error("Overlap")]
     Overlap,
     /// The init section and all units ever appended would pass 2^40 bytes.
-    #[error("Full")]
     Full,
     /// A growth was refused.
-    #[error("Memory")]
     Memory,
 }
 
@@ -23,25 +30,19 @@ impl RecordFault {
     pub fn name(&self) -> &'static str
         ensures { result.now ≡ record_fault_name self.now }
     {
-        match self {
-            RecordFault::Overlap => "Overlap",
-            RecordFault::Full => "Full",
-            RecordFault::Memory => "Memory",
-        }
+        name_among!(self; RecordFault: Overlap, Full, Memory)
     }
 }
 
 /// Why a range isn't copied, in the order in which they are looked at.
 #[derive(Clone, Copy, Debug, PartialEq, Eq, Error)]
+#[error("{}", self.name())]
 pub enum RangeFault {
     /// The range ends before it begins, or past the total.
-    #[error("Outside")]
     Outside,
     /// A byte of the range is trimmed.
-    #[error("Gone")]
     Gone,
     /// A growth was refused.
-    #[error("Memory")]
     Memory,
 }
 
@@ -50,10 +51,6 @@ impl RangeFault {
     pub fn name(&self) -> &'static str
         ensures { result.now ≡ range_fault_name self.now }
     {
-        match self {
-            RangeFault::Outside => "Outside",
-            RangeFault::Gone => "Gone",
-            RangeFault::Memory => "Memory",
-        }
+        name_among!(self; RangeFault: Outside, Gone, Memory)
     }
 }

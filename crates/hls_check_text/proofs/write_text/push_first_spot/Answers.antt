@@ -3,6 +3,5 @@ use Rattle.hls_check_text.proofs.write_text.push_first_spot.Goals as goal
 
 pub returns : goal.returns
 returns c =
-    first_spot_written c.args.out.now.items c.args.spot c.push_number.new.out.items c.push_spaced.new.out.items
-    c.push_spaced-2.new.out.items c.push_spaced-3.new.out.items c.push_spaced-4.new.out.items
-    c.in_ok-push_number.ensures c.in_ok-push_spaced.ensures c.in_ok-push_spaced-2.ensures c.in_ok-push_spaced-3.ensures c.in_ok-push_spaced-4.ensures
+    first_spot_written c.args.out.now.items c.args.spot c.push_number.new.out.items c.push_after_fragment.new.out.items
+    c.in_ok-push_number.ensures c.in_ok-push_after_fragment.ensures

@@ -1,6 +1,6 @@
 use Rattle.std.proofs.Common.{length, ap, ◌∙◌}
 use Rattle.hls_media_laws.specs.FactCases.{facts_at}
-use Rattle.hls_media_laws.proofs.Causes.{facts-cases}
+use Rattle.hls_media_laws.proofs.Callers.{facts-cases}
 use Rattle.hls_media.proofs.units.read_facts_counted.Goals as goal
 
 pub returns-in_default-clause-value : goal.returns-in_default-clause-value
