@@ -9,8 +9,7 @@ use Rattle.hls_core_laws.specs.Channel.{Lane, no_lane, lane}
 use Rattle.hls_core_laws.specs.State.{State, Held, channel}
 use Rattle.hls_core_laws.specs.Follows.{Continues, AreSame, SameHeld}
 use Rattle.hls_core_laws.specs.Workers.{events_by}
-use Rattle.hls_core_laws.proofs.Callers.{events_by-append}
-use Rattle.hls_core_laws.proofs.Callers as lists
+use Rattle.hls_core.proofs.Cited.{at_or, events_by-append, take_at}
 use Rattle.hls_core.specs.declared.side.Side.{Side}
 use Rattle.hls_core.specs.Sides.{lane_of, held_of, IsAt}
 
@@ -26,8 +25,8 @@ module _ {T : Type 0} where
 -- one more entry that both logs have
 pub begins_more : (a b : List Entry) (n : ℕ) (x y : Entry) → slice_get a n ≡ Some x → slice_get b n ≡ Some y → x ≡ y → take n b ≡ take n a → take (n + 1) b ≡ take (n + 1) a
 begins_more a b n x y at_a at_b same front =
-    let front_a = lists.take_at a n x at_a in
-    let front_b = lists.take_at b n y at_b in
+    let front_a = take_at a n x at_a in
+    let front_b = take_at b n y at_b in
     cc
 
 -- one more entry, of the worker or of another
@@ -39,7 +38,7 @@ none_by by e isnt = let test : (e.by == by) ≡ false = ne_eqb e.by by isnt in r
 
 counted : (by : ℕ) (xs : List Entry) (n : ℕ) (e : Entry) → slice_get xs n ≡ Some e → length (events_by by (take (n + 1) xs)) ≡ length (events_by by (take n xs)) + length (events_by by (e ∷ []))
 counted by xs n e at =
-    ap (λ (ys : List Entry). length (events_by by ys)) (lists.take_at xs n e at)
+    ap (λ (ys : List Entry). length (events_by by ys)) (take_at xs n e at)
     ∙ ap length (events_by-append by (take n xs) (e ∷ []))
     ∙ length-append (events_by by (take n xs)) (events_by by (e ∷ []))
 
@@ -54,8 +53,8 @@ pub sides_same : (a b : State) (r : ℕ) (x y : Side) → IsAt a r x → IsAt b 
 sides_same a b r x y at_a at_b same ha hb held_a held_b =
     let a_is : held_of x ≡ ha = let was = at_a.held in cc in
     let b_is : held_of y ≡ hb = let was = at_b.held in cc in
-    let lane_a : lane (channel a) r ≡ lane_of x = lists.at_or (channel a).lanes r no_lane (lane_of x) at_a.lane in
-    let lane_b : lane (channel b) r ≡ lane_of y = lists.at_or (channel b).lanes r no_lane (lane_of y) at_b.lane in
+    let lane_a : lane (channel a) r ≡ lane_of x = at_or (channel a).lanes r no_lane (lane_of x) at_a.lane in
+    let lane_b : lane (channel b) r ≡ lane_of y = at_or (channel b).lanes r no_lane (lane_of y) at_b.lane in
     subst (λ (l : Lane). SameHeld l (lane (channel b) r) ha hb) (sym lane_a)
     (subst (λ (l : Lane). SameHeld (lane_of x) l ha hb) (sym lane_b)
     (subst (λ (h : Held). SameHeld (lane_of x) (lane_of y) h hb) a_is
@@ -63,8 +62,8 @@ sides_same a b r x y at_a at_b same ha hb held_a held_b =
 
 pub same_at : (a b : State) (r : ℕ) (x y : Side) → IsAt a r x → IsAt b r y → AreSame a b → SameHeld (lane_of x) (lane_of y) (held_of x) (held_of y)
 same_at a b r x y at_a at_b same =
-    let lane_a : lane (channel a) r ≡ lane_of x = lists.at_or (channel a).lanes r no_lane (lane_of x) at_a.lane in
-    let lane_b : lane (channel b) r ≡ lane_of y = lists.at_or (channel b).lanes r no_lane (lane_of y) at_b.lane in
+    let lane_a : lane (channel a) r ≡ lane_of x = at_or (channel a).lanes r no_lane (lane_of x) at_a.lane in
+    let lane_b : lane (channel b) r ≡ lane_of y = at_or (channel b).lanes r no_lane (lane_of y) at_b.lane in
     subst (λ (l : Lane). SameHeld l (lane_of y) (held_of x) (held_of y)) lane_a
     (subst (λ (l : Lane). SameHeld (lane (channel a) r) l (held_of x) (held_of y)) lane_b
     (same r (held_of x) (held_of y) at_a.held at_b.held))

@@ -14,7 +14,7 @@ use Rattle.hls_core_laws.specs.State.{State, Held, no_held, channel, log_limit}
 use Rattle.hls_places_laws.specs.Line.Live.{front_of}
 use Rattle.hls_core_laws.specs.Places.{sources}
 use Rattle.hls_core_laws.specs.Line.{line}
-use Rattle.hls_core_laws.proofs.Callers.{front_within, sources_trim, at_or, set_same, units_are_logged, advanced_state, advanced_continues, sources_count, source_of}
+use Rattle.hls_core.proofs.Cited.{front_within, sources_trim, at_or, set_same, units_are_logged, advanced_state, advanced_continues, sources_count, source_of}
 use Rattle.std.proofs.lemmas.Option.{slice_get_within}
 use Rattle.hls_core_laws.specs.IsState.{IsState}
 use Rattle.hls_core_laws.specs.Outcome.{New, outcome_of, held, accept, accept_beside, accept_later, trim_limit}

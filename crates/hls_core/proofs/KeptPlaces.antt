@@ -11,7 +11,7 @@ use Rattle.hls_core_laws.specs.State.{State, channel}
 use Rattle.hls_core_laws.specs.IsState.{IsState}
 use Rattle.hls_core_laws.specs.Places.{places, floors, floor_of, kept_places}
 use Rattle.std.proofs.lemmas.Option.{slice_get_within}
-use Rattle.hls_core_laws.proofs.Callers.{kept-parts, kept-of, kept-goes-on, times-rise}
+use Rattle.hls_core.proofs.Cited.{kept-parts, kept-of, kept-goes-on, times-rise}
 use Rattle.hls_core.specs.declared.kept.Asked.{Asked}
 use Rattle.hls_core.specs.declared.kept.Asked.TheVariants.{By, Trimmed}
 use Rattle.hls_core.specs.Cuts.{KeptBefore}

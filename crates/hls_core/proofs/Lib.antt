@@ -1,3 +1,4 @@
+mod Cited
 mod Names
 mod Taken
 mod Goes

@@ -9,14 +9,12 @@ use Rattle.hls_places_laws.specs.declared.place.Place.{Place}
 use Rattle.hls_places_laws.specs.Sources.{Source, source_at, sources_of, first_facts}
 use Rattle.hls_places_laws.specs.Places.{places_after}
 use Rattle.hls_places_laws.specs.Positions.{Position, IsCursor, IsThrough}
-use Rattle.hls_places_laws.proofs.Callers.{side-at, length-sources_of, after-without, found-without, told-none, told-more, advanced-few_more}
-use Rattle.hls_places.proofs.Gathered.{next-side}
+use Rattle.hls_core.proofs.Cited.{side-at, length-sources_of, after-without, found-without, told-none, told-more, advanced-few_more, next-side, at_map, at_or}
 use Rattle.hls_places.specs.declared.cursor.Advance.{Advance}
 use Rattle.hls_places.specs.Advances.{IsAdvance}
 use Rattle.hls_core_laws.specs.Config.{ConfigData}
 use Rattle.hls_core_laws.specs.declared.rendition.Rendition.{Rendition}
 use Rattle.hls_core_laws.specs.Places.{facts_of, is_finished, tolerance_of}
-use Rattle.hls_core_laws.proofs.Callers.{at_map, at_or}
 use Rattle.std.proofs.lemmas.Option.{slice_get_within}
 use Rattle.hls_core.specs.declared.placed.Placed.{Placed}
 use Rattle.hls_core.specs.declared.side.Side.{Side}

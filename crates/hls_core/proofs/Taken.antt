@@ -7,7 +7,7 @@ use Rattle.hls_places_laws.specs.declared.place.Place.{Place}
 use Rattle.hls_places_laws.specs.Sources.{Source, source_at, sources_of, first_facts}
 use Rattle.hls_places_laws.specs.Places.{places_of, places_after, common_at, closing_of, has_ended, end_in}
 use Rattle.hls_places_laws.specs.Order.{no_place}
-use Rattle.hls_places_laws.proofs.Callers.{places-ordered, continues, after-without, found-without}
+use Rattle.hls_core.proofs.Cited.{places-ordered, continues, after-without, found-without, channel_advanced, advanced_state, line_few, line_goes_on, line_slides, line_stays, sources_slide, sources_grow, sources_count, source_of, lanes_count, at_map, at_set, some_at, mapped_at, length_set, channel_from-snoc, units_are_logged, states_are_timed, first_is_state, first-cursor}
 use Rattle.std.proofs.lemmas.Option.{slice_get-get_or}
 use Rattle.hls_places_laws.specs.Line.Live.{Live, fresh as fresh_line, live_of, moved_by, slid}
 use Rattle.hls_places_laws.specs.Line.Told.{told}
@@ -15,11 +15,9 @@ use Rattle.hls_core_laws.specs.declared.event.Event.TheVariants.{Slide}
 use Rattle.hls_core_laws.specs.Line.{aim_of, line}
 use Rattle.hls_core_laws.specs.Outcome.{New, outcome_of}
 use Rattle.hls_core_laws.specs.Moves.{entry_of, advanced}
-use Rattle.hls_core_laws.proofs.Callers.{channel_advanced, advanced_state, line_few, line_goes_on, line_slides, line_stays, sources_slide, sources_grow, sources_count, source_of, lanes_count, at_map, at_set, at_some, mapped_at, length_set, channel_from-snoc, units_are_logged, states_are_timed, first_is_state}
 use Rattle.std.proofs.lemmas.Option.{slice_get_within}
 use Rattle.hls_places_laws.specs.Positions.{Position, first_position, IsCursor, IsThrough}
 use Rattle.hls_places_laws.specs.Growth.{Continues as PlacesContinue}
-use Rattle.hls_places.proofs.Walks.{first-cursor}
 use Rattle.hls_core_laws.specs.Places.{facts_of, is_finished, tolerance_of, sources, places}
 use Rattle.std.proofs.lemmas.List.{map-set, length-map}
 use Rattle.hls_core_laws.specs.declared.event.Entry.{Entry}
@@ -50,7 +48,7 @@ closed false p = omega arith
 -- a state has no more common places than entries and one
 places_few : (s : State) → IsState s → length (places s) ≤ 4194305
 places_few s state =
-    let lane_at = at_some (channel s).lanes 0 (omega (arith, lanes_count s.config s.log, state.configured.renditions.some)) in
+    let lane_at = some_at (channel s).lanes 0 (omega (arith, lanes_count s.config s.log, state.configured.renditions.some)) in
     let facts : length (first_facts (sources s)) ≡ length lane_at.0.facts = ap length (source_of s 0 lane_at.0 lane_at.1).facts in
     let found = filtered (common_at (sources s)) (first_facts (sources s)) in
     let end = closed (list_all has_ended (sources s)) (record { spots = map end_in (sources s); closing = true }) in
@@ -239,7 +237,7 @@ opening_source : (config : ConfigData) → IsConfig config → (0 < length (sour
 unfolding channel_from
 opening_source config good =
     let s : State = first_state config in
-    let first = at_some config.renditions 0 (omega (arith, good.renditions.some)) in
+    let first = some_at config.renditions 0 (omega (arith, good.renditions.some)) in
     let lane_at : slice_get (channel s).lanes 0 ≡ Some no_lane = at_map fresh config.renditions 0 first.0 first.1 in
     (omega (arith, sources_count s, slice_get_within (channel s).lanes 0 no_lane lane_at), (source_of s 0 no_lane lane_at).facts)
 

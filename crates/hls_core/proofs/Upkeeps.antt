@@ -2,13 +2,14 @@
 use Rattle.std.proofs.Common.{◌≡◌, ℕ, ◌+◌, ◌-◌, ◌<◌, ◌≤◌, true, false, length, get_or, Option, None, Some, leb, ltb, arith, refl, sym, ap, subst, inl, inr, ◌∙◌}
 use Rattle.std.specs.Prelude.{slice_get, slice_index, IfSome, IfNone}
 use Rattle.std.proofs.lemmas.Bool.{cases_lt, and_parts, and_from, leb-true, le-leb, lt-leb, le-ltb, cond-false}
+use Rattle.std.proofs.lemmas.Option.{same_Some}
 use Rattle.hls_check_laws.specs.Tables.{spot_in}
 use Rattle.hls_places_laws.specs.declared.place.Place.{Place}
 use Rattle.hls_places_laws.specs.Order.{time_of}
 use Rattle.hls_places_laws.specs.Programmes.{is_kept}
 use Rattle.hls_places_laws.specs.Line.Live.{front_of, has_ended}
-use Rattle.hls_places_laws.specs.Line.Upkeep.{IsMostSlide, Channel, is_old, IsCut, IsSlide, IsTrim, Idle, Trims}
-use Rattle.hls_places_laws.proofs.Callers.{front-stands, upkeep-slides, upkeep-trims}
+use Rattle.hls_places_laws.specs.Line.Upkeep.{IsMostSlide, is_old, IsCut, IsSlide, IsTrim, Idle, Trims}
+use Rattle.hls_core.proofs.Cited.{cut-once, front-stands, upkeep-slides, upkeep-trims, some_at, at_map, at_or, sources_count, ordered, floors-count}
 use Rattle.hls_core_laws.specs.declared.event.Event.{Event}
 use Rattle.hls_core_laws.specs.declared.event.Event.TheVariants.{Slide, Trim}
 use Rattle.hls_core_laws.specs.Channel.{Lane}
@@ -17,14 +18,10 @@ use Rattle.hls_core_laws.specs.IsState.{IsState}
 use Rattle.hls_core_laws.specs.Places.{sources, places, floors, floor_of}
 use Rattle.hls_core_laws.specs.Line.{aim_of, line}
 use Rattle.hls_core_laws.specs.Outcome.{logged_by, slide, trim, trim_limit, outcome_of}
-use Rattle.hls_core_laws.proofs.Callers.{at_some, at_map, at_or, sources_count, ordered, floors-count}
 use Rattle.hls_core.specs.Upkeeps.{watched, IsUpkeepOf}
 use Rattle.hls_core.specs.Cuts.{IsOldUntil, NoneOld, IsCutOf, NoCut, ReachedBefore, IsFirstBelow}
 use Rattle.hls_core.specs.KeptPlaces.{IsLastKeptBy, NoKeptBy}
 use Rattle.hls_core.proofs.KeptPlaces.{one-more}
-
-some-is : {A : Type 0} (x y : A) → Some x ≡ Some y → x ≡ y
-some-is x y is = cc
 
 -- old, by times
 old-parts : (keep : ℕ) (front last p : Place) → is_old keep front last p ≡ true → (time_of p ≤ time_of front) × (time_of p + keep ≤ time_of last)
@@ -61,14 +58,14 @@ none-last s keep none front last p is last_is old =
 
 pub none-long : (s : State) (keep : ℕ) (end : Place) → slice_get (places s) (length (places s) - 1) ≡ Some end → time_of end < keep → NoneOld s keep
 none-long s keep end there short front last p is last_is old =
-    let same : end ≡ last = some-is end last (sym there ∙ last_is) in
+    let same : end ≡ last = same_Some end last (sym there ∙ last_is) in
     absurd (omega (arith, short, ap time_of same, (old-parts keep front last p old).1))
 
 -- the cut
 old-in : (s : State) (keep time window : ℕ) (cut : Place) (until : IsOldUntil s keep time) (is : IsCut (watched s window keep) cut) → is_old keep until.front until.last cut ≡ true
 old-in s keep time window cut until is =
-    let front : is.front ≡ until.front = some-is is.front until.front (sym is.front_is ∙ until.front_is) in
-    let last : is.last ≡ until.last = some-is is.last until.last (sym is.last_is ∙ until.last_is) in
+    let front : is.front ≡ until.front = same_Some is.front until.front (sym is.front_is ∙ until.front_is) in
+    let last : is.last ≡ until.last = same_Some is.last until.last (sym is.last_is ∙ until.last_is) in
     subst (λ (l : Place). is_old keep until.front l cut ≡ true) last
     (subst (λ (f : Place). is_old keep f is.last cut ≡ true) front is.old)
 
@@ -82,7 +79,7 @@ no-cut s keep time until none window cut is =
 pub cut-is : (s : State) (keep time n : ℕ) (p : Place) → IsOldUntil s keep time → IsLastKeptBy s time n → slice_get (places s) n ≡ Some p → IsCutOf s keep p
 cut-is s keep time n p until last at window =
     let early : time_of p ≤ time = last.by.early n p (omega arith) at in
-    let same : last.place ≡ p = some-is last.place p (sym last.there ∙ at) in
+    let same : last.place ≡ p = same_Some last.place p (sym last.there ∙ at) in
     record {
       front = until.front;
       front_is = until.front_is;
@@ -125,20 +122,6 @@ uncut-idle s window keep most none = record {
   is = (λ n slide. no-slide s window keep n most slide, λ r floor trim. none window trim.cut trim.cut_is);
   event_is = refl;
 }
-
-cut-later : (c : Channel) (x y : Place) (x-is : IsCut c x) (y-is : IsCut c y) → x-is.number ≤ y-is.number
-cut-later c x y x-is y-is =
-    let front : x-is.front ≡ y-is.front = some-is x-is.front y-is.front (sym x-is.front_is ∙ y-is.front_is) in
-    let last : x-is.last ≡ y-is.last = some-is x-is.last y-is.last (sym x-is.last_is ∙ y-is.last_is) in
-    let old : is_old c.keep y-is.front y-is.last x ≡ true =
-    subst (λ (l : Place). is_old c.keep y-is.front l x ≡ true) last
-    (subst (λ (f : Place). is_old c.keep f x-is.last x ≡ true) front x-is.old) in
-    y-is.latest x-is.number x x-is.there x-is.kept old
-
-cut-once : (c : Channel) (x y : Place) → IsCut c x → IsCut c y → x ≡ y
-cut-once c x y x-is y-is =
-    let number : x-is.number ≡ y-is.number = omega (arith, cut-later c x y x-is y-is, cut-later c y x y-is x-is) in
-    some-is x y (sym x-is.there ∙ (ap (slice_get c.places) number ∙ y-is.there))
 
 pub trimmed-idle : (s : State) (window keep : ℕ) (cut : Place) → IsMostSlide (line s) window 0 → IsCutOf s keep cut →
     ReachedBefore s cut (length (floors s)) → IsUpkeepOf s window keep None
@@ -189,7 +172,7 @@ pub trim-taken : (s : State) → IsState s → (window keep r floor : ℕ) → I
 trim-taken s state window keep r floor is =
     let raises = upkeep-trims (watched s window keep) (length (sources s)) r floor (ordered s state) (floors-count s)
     (λ p front_is. front-stands (aim_of s.config) (places s) (channel s).removed p front_is) is in
-    let l = at_some (channel s).lanes r (omega (arith, is.within, floors-count s, sources_count s)) in
+    let l = some_at (channel s).lanes r (omega (arith, is.within, floors-count s, sources_count s)) in
     let old : get_or (floors s) r 0 ≡ l.0.floor = at_or (floors s) r 0 l.0.floor (at_map floor_of (channel s).lanes r l.0 l.1) in
     trim-passed s r floor l.0 (front_of (line s)) raises.front l.1 raises.front_is (omega (arith, raises.rises, old)) raises.stays
 

@@ -16,24 +16,29 @@ use thiserror::Error;
 /// 9000-01-01T00:00:00Z in microseconds since 1970-01-01T00:00:00Z: the last moment at which time 0 may be.
 pub const LAST_EPOCH: i64 = 221845392000000000;
 
+/// The name of a variant, among all that its type has.
+macro_rules! name_among {
+    ($fault:expr; $type:ident: $($variant:ident),*) => {
+        match $fault {
+            $($type::$variant { .. } => stringify!($variant)),*
+        }
+    };
+}
+
 /// Why a channel can't be configured so.
 #[derive(Clone, Copy, Debug, PartialEq, Eq, Error)]
+#[error("{}", self.name())]
 pub enum ConfigFault {
     /// The target isn't 1 to 3600 seconds.
-    #[error("BadTarget")]
     BadTarget,
     /// The preferred length isn't 1 microsecond to the target.
-    #[error("BadPreferred")]
     BadPreferred,
     /// The number of the first rendition that is outside its limits, or has an earlier one's name; 0 where there is no
     /// rendition, and 16 where only the seventeenth is too many.
-    #[error("BadRendition")]
     BadRendition(usize),
     /// The epoch is before 1970, or after 9000-01-01T00:00:00Z.
-    #[error("BadEpoch")]
     BadEpoch,
     /// Memory ran out.
-    #[error("Memory")]
     Memory,
 }
 
@@ -65,13 +70,7 @@ impl ConfigFault {
     pub fn name(&self) -> &'static str
         ensures { result.now ≡ name_of self.now }
     {
-        match self {
-            ConfigFault::BadTarget => "BadTarget",
-            ConfigFault::BadPreferred => "BadPreferred",
-            ConfigFault::BadRendition(_) => "BadRendition",
-            ConfigFault::BadEpoch => "BadEpoch",
-            ConfigFault::Memory => "Memory",
-        }
+        name_among!(self; ConfigFault: BadTarget, BadPreferred, BadRendition, BadEpoch, Memory)
     }
 }
 

@@ -11,7 +11,7 @@ use crate::snapshot::{Snapshot, fragment_in};
 use hls_blocks::Shared;
 use hls_places::{Place, time_of};
 
-/// So often a search for a time guesses where it is. Then it goes by halves, which takes few looks however the places come.
+/// So often a search guesses where it ends. Then it goes by halves, which takes few looks however the places come.
 const MOST_GUESSES: u32 = 8;
 
 /// What a search asks of a place: true of some places at the front, and of none behind them.
@@ -46,15 +46,16 @@ pub fn last_kept_by(snapshot: &Snapshot, time: u64) -> Option<u64>
     Some(count - 1)
 }
 
-/// How many places meet what is asked. Where they come about evenly, some three of them are looked at for a time.
+/// How many places meet what is asked. Where they come about evenly, some three of them are looked at.
 fn count_front(snapshot: &Snapshot, asked: Asked) -> u64
     ensures front { IsFront snapshot.now asked result }
     ensures valid { IsState snapshot.now }
 {
-    let (time, mut guesses) = match asked {
-        Asked::By(time) => (time, MOST_GUESSES),
-        Asked::Trimmed => (0, 0),
+    let time = match asked {
+        Asked::By(time) => time,
+        Asked::Trimmed => kept_since(snapshot),
     };
+    let mut guesses = MOST_GUESSES;
     let places = snapshot.places();
     let mut low = 0;
     let mut high = places.next();
@@ -74,6 +75,18 @@ fn count_front(snapshot: &Snapshot, asked: Asked) -> u64
         }
     }
     low
+}
+
+/// When the first unit of rendition 0 starts that isn't trimmed, in microseconds, which is about where the kept places begin; behind
+/// all of them where each unit is trimmed.
+fn kept_since(snapshot: &Snapshot) -> u64 {
+    let Some(recording) = snapshot.recording(0) else {
+        return 0;
+    };
+    match recording.facts(recording.floor()) {
+        Some(facts) => facts.start_us,
+        None => u64::MAX,
+    }
 }
 
 /// Whether a place meets what is asked.

@@ -6,10 +6,9 @@ use Rattle.std.proofs.lemmas.Option.{slice_get_within}
 use Rattle.std.proofs.lemmas.List.{length-append, length-drop, drop-append-le, drop-drop, get_or_past}
 use Rattle.std.proofs.lemmas.List.Sums.{sum_by-append}
 use Rattle.std.proofs.Math.Seq.{take-length, drop-length}
-use Rattle.hls_media_laws.proofs.Lists.{at_snoc, at_drop}
+use Rattle.hls_live.proofs.Cited.{at_snoc, at_drop, marks-append, marks-add}
 use Rattle.hls_places_laws.specs.declared.line.segment.Segment.{Segment}
 use Rattle.hls_places_laws.specs.Line.Lengths.{length_in, left_in, is_marked, marks_in}
-use Rattle.hls_places_laws.proofs.Callers.{marks-append, marks-add}
 use Rattle.hls_live.specs.declared.sums.Sums.{Sums}
 use Rattle.hls_live.specs.Sums.{IsLonger, IsSumsTo, AreSums, last_of, lengths_of, marks_of, IsNext}
 use Rattle.hls_check_laws.specs.Steps.{cost_limit}

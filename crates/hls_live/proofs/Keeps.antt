@@ -15,7 +15,7 @@ use Rattle.hls_places_laws.specs.declared.line.opening.Opening.{Opening}
 use Rattle.hls_places_laws.specs.Line.Steps.{is_allowed}
 use Rattle.hls_places_laws.specs.Line.Cuts.{resumed}
 use Rattle.hls_places_laws.specs.Line.Lengths.{length_in, left_in, marks_in, renditions_of, each_below}
-use Rattle.hls_places_laws.proofs.Callers.{step-from_allowed}
+use Rattle.hls_live.proofs.Cited.{step-from_allowed}
 use Rattle.hls_live.specs.declared.sums.Sums.{Sums}
 use Rattle.hls_live.specs.declared.line.LiveLine.TheInside.{Inside}
 use Rattle.hls_live.specs.Sums.{AreSums, last_of, lengths_of, marks_of, IsNext}

@@ -1,3 +1,4 @@
+mod Cited
 mod Beside
 mod Moves
 mod Keeps

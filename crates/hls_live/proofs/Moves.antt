@@ -10,7 +10,7 @@ use Rattle.hls_places_laws.specs.Line.Steps.{is_past, is_allowed, is_enough}
 use Rattle.hls_places_laws.specs.Line.Cuts.{resumed, begun_anew}
 use Rattle.hls_places_laws.specs.Line.Told.{Told, told_with, closed_with, tried, stopped_by, advanced_from}
 use Rattle.hls_places_laws.specs.Line.Live.{Live, moved}
-use Rattle.hls_places_laws.proofs.Callers.{tried-skipped, tried-far, tried-enough, tried-further, stopped-anew, advanced-first}
+use Rattle.hls_live.proofs.Cited.{tried-skipped, tried-far, tried-enough, tried-further, stopped-anew, advanced-first}
 use Rattle.hls_live.specs.declared.reach.Reach.{Reach}
 use Rattle.hls_live.specs.declared.reach.Reach.TheVariants.{Skipped, TooFar, Further, Enough}
 use Rattle.hls_live.specs.Reaches.{reach_of}

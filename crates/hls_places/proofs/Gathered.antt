@@ -3,7 +3,7 @@ use Rattle.std.proofs.Common.{◌≡◌, ℕ, suc, ◌+◌, ◌<◌, List, [], �
 use Rattle.std.proofs.Math.Seq.{take-suc}
 use Rattle.hls_media_laws.specs.declared.facts.Facts.{Facts}
 use Rattle.hls_places_laws.specs.Sources.{Source, no_source, source_at, sources_of}
-use Rattle.hls_places_laws.proofs.Callers.{length-sources_of, side-at}
+use Rattle.hls_places.proofs.Cited.{length-sources_of, side-at}
 
 -- the first ones, and the next
 pub next-side : (lists : List (List Facts)) (tolerances : List ℕ) (finished : List Bool) →

@@ -1,3 +1,4 @@
+mod Cited
 mod Lookings
 pub mod Walks
 mod CutOuts

@@ -3,11 +3,10 @@ use Rattle.std.proofs.Common.{◌≡◌, ℕ, ◌≤◌, List, length, map, get_
 use Rattle.hls_media_laws.specs.declared.facts.Facts.{Facts}
 use Rattle.hls_record.specs.Recorded.{Recorded}
 use Rattle.hls_record.specs.Valid.{IsRecorded}
-use Rattle.hls_record.proofs.Stays.{units_are_in_time}
+use Rattle.hls_places.proofs.Cited.{units_are_in_time, length-sides, side-of, places-ordered, ordered-places}
 use Rattle.hls_places_laws.specs.Sources.{Source, IsTimeline, sources_of}
 use Rattle.hls_places_laws.specs.Places.{places_of}
 use Rattle.hls_places_laws.specs.Order.{ArePlaces}
-use Rattle.hls_places_laws.proofs.Callers.{length-sides, side-of, places-ordered, ordered-places}
 use Rattle.hls_places.specs.Searches.{AreInOrder}
 use Rattle.hls_check_laws.specs.Tables.{rendition_limit}
 

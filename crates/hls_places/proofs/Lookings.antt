@@ -11,7 +11,7 @@ use Rattle.hls_places_laws.specs.Sources.{Source, fact_at, source_at, first_fact
 use Rattle.hls_places_laws.specs.Spots.{first_entry}
 use Rattle.hls_places_laws.specs.Places.{spots, place_of, common_at}
 use Rattle.hls_places_laws.specs.Positions.{IsAsked, IsDecided, IsCursor}
-use Rattle.hls_places_laws.proofs.Callers.{starts-never_fall, before_entry, entry-later, none-left}
+use Rattle.hls_places.proofs.Cited.{starts-never_fall, before_entry, entry-later, none-left}
 use Rattle.hls_places.specs.Searches.{AreEarly, AreAtEntries, AllSettled, IsUnsettled}
 use Rattle.hls_places.specs.Decisions.{IsToldOf, IsLeftAt}
 

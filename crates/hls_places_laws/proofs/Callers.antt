@@ -18,4 +18,4 @@ pub use Rattle.hls_places_laws.proofs.LineLemmas.Lines.{advanced-first, stopped-
 pub use Rattle.hls_places_laws.proofs.LineLemmas.Lives.{live-moves, live-slides, marks-add, marks-append, whole-is_told}
 pub use Rattle.hls_places_laws.proofs.LineLemmas.Origins.{marks-agree, segments-agree}
 pub use Rattle.hls_places_laws.proofs.LineLemmas.Tests.{allowed-from_step, not-past, past-count, past-fragment, past-from_each, step-from_allowed}
-pub use Rattle.hls_places_laws.proofs.LineLemmas.Upkeeps.{upkeep-slides, upkeep-trims}
+pub use Rattle.hls_places_laws.proofs.LineLemmas.Upkeeps.{cut-once, upkeep-slides, upkeep-trims}

@@ -1,6 +1,6 @@
 use Rattle.std.proofs.Common.{◌∙◌, sym, inl, inr, arith}
 use Rattle.std.proofs.lemmas.Bool.{eqb-false}
-use Rattle.hls_core_laws.proofs.Callers.{at_read}
+use Rattle.hls_core.proofs.Cited.{at_read}
 use Rattle.std.proofs.lemmas.Option.{slice_get_within}
 use Rattle.hls_core.proofs.Names.{good_more}
 use Rattle.hls_core.proofs.config.first_bad.Goals as goal

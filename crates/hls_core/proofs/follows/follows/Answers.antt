@@ -1,5 +1,5 @@
 use Rattle.std.proofs.Common.{◌≡◌, sym, ◌∙◌, length, take}
-use Rattle.hls_core_laws.proofs.Callers.{follows_of, continues_of}
+use Rattle.hls_core.proofs.Cited.{follows_of, continues_of}
 use Rattle.hls_core.proofs.Compared.{continues_when}
 use Rattle.hls_core.proofs.follows.follows.Goals as goal
 

@@ -4,7 +4,7 @@ use Rattle.std.specs.Option.{option_copied}
 use Rattle.hls_blocks.specs.Numbered.{Numbered, item_at}
 use Rattle.hls_places_laws.specs.declared.place.Place.{Place}
 use Rattle.hls_core_laws.specs.Places.{places}
-use Rattle.hls_core_laws.proofs.Callers.{spots-count}
+use Rattle.hls_core.proofs.Cited.{spots-count}
 use Rattle.hls_core.proofs.Compared.{item_there}
 use Rattle.hls_core.proofs.kept.place_there.Goals as goal
 

@@ -1,5 +1,5 @@
 use Rattle.std.proofs.Common.{◌∙◌, arith}
-use Rattle.hls_core_laws.proofs.Callers.{at_read}
+use Rattle.hls_core.proofs.Cited.{at_read}
 use Rattle.hls_core.proofs.Moved.{told_next, told_end}
 use Rattle.hls_core.proofs.placed.all_told.Goals as goal
 

@@ -1,5 +1,5 @@
 use Rattle.std.proofs.lemmas.Bool.Decides.{same_from_decides}
-use Rattle.hls_places_laws.proofs.Callers.{step-from_allowed, allowed-from_step}
+use Rattle.hls_live.proofs.Cited.{step-from_allowed, allowed-from_step}
 use Rattle.hls_places_laws.specs.Line.Steps.{is_allowed}
 use Rattle.hls_live.proofs.reach.is_allowed.Goals as goal
 

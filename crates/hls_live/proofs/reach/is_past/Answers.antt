@@ -1,7 +1,7 @@
 use Rattle.std.proofs.Common.{◌<◌, length, arith, sym, ap, below_more, ◌∙◌, List}
 use Rattle.hls_check_laws.specs.declared.spot.Spot.{Spot}
 use Rattle.hls_check_laws.specs.Tables.{spot_in}
-use Rattle.hls_places_laws.proofs.Callers.{past-count, past-from_each, past-fragment, not-past}
+use Rattle.hls_live.proofs.Cited.{past-count, past-from_each, past-fragment, not-past}
 use Rattle.hls_live.proofs.reach.is_past.Goals as goal
 
 pub returns-then-starts-ends : goal.returns-then-starts-ends

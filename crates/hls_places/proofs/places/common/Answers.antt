@@ -1,6 +1,6 @@
 use Rattle.std.proofs.Common.{length, map, refl, sym, ap, arith, ◌∙◌}
 use Rattle.hls_places_laws.specs.Sources.{sources_of}
-use Rattle.hls_places_laws.proofs.Callers.{length-sides}
+use Rattle.hls_places.proofs.Cited.{length-sides}
 use Rattle.hls_places.proofs.Walks.{first-cursor}
 use Rattle.hls_places.proofs.Lines.{places-in_order}
 use Rattle.hls_places.proofs.places.common.Goals as goal

@@ -1,7 +1,7 @@
 use Rattle.std.proofs.Common.{◌≡◌, ◌∙◌, List, [], ◌∷◌, ◌++◌, false, length, map, take, get_or, sym, ap, arith}
 use Rattle.std.proofs.lemmas.List.{length-map, get_or-map, take_all}
 use Rattle.hls_places_laws.specs.Sources.{Source, sources_of}
-use Rattle.hls_places_laws.proofs.Callers.{length-sides}
+use Rattle.hls_places.proofs.Cited.{length-sides}
 use Rattle.hls_places.proofs.Gathered.{next-side}
 use Rattle.hls_places.proofs.places.gathered.Goals as goal
 use Rattle.std.proofs.Common.{refl}

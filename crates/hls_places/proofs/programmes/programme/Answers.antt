@@ -3,11 +3,11 @@ use Rattle.std.specs.Result.{IsErrAnd}
 use Rattle.std.proofs.lemmas.List.{length-map}
 use Rattle.hls_check_laws.specs.Tables.{Table}
 use Rattle.hls_places_laws.specs.declared.place.Place.{Place}
-use Rattle.hls_places_laws.specs.declared.programme_fault.ProgrammeFault.{ProgrammeFault}
-use Rattle.hls_places_laws.specs.declared.programme_fault.ProgrammeFault.TheVariants.{Memory}
+use Rattle.hls_places_laws.specs.declared.fault.ProgrammeFault.{ProgrammeFault}
+use Rattle.hls_places_laws.specs.declared.fault.ProgrammeFault.TheVariants.{Memory}
 use Rattle.hls_places_laws.specs.Firsts.{first_after, first_from}
 use Rattle.hls_places_laws.specs.Programmes.{StopsLate, cut_out, IsProgramme}
-use Rattle.hls_places_laws.proofs.Callers.{start-before_stop, none-by, stops-late, programme-fits, programme-too_long}
+use Rattle.hls_places.proofs.Cited.{start-before_stop, none-by, stops-late, programme-fits, programme-too_long}
 use Rattle.hls_places.proofs.programmes.programme.Goals as goal
 use Rattle.hls_places.proofs.programmes.programme.Goals.{then-finished, else-finished}
 

@@ -1,7 +1,7 @@
 use Rattle.std.proofs.Common.{map, arith, sym, subst, ◌∙◌}
 use Rattle.std.proofs.lemmas.List.{length-map}
 use Rattle.hls_check_laws.specs.Orders.{IsOrderly}
-use Rattle.hls_places_laws.proofs.Callers.{cut_out-is_table, cut_out-is_orderly}
+use Rattle.hls_places.proofs.Cited.{cut_out-is_table, cut_out-is_orderly}
 use Rattle.hls_places.proofs.CutOuts.{cut_out-is}
 use Rattle.hls_places.proofs.programmes.table.Goals as goal
 

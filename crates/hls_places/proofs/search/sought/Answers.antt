@@ -1,5 +1,5 @@
 use Rattle.std.proofs.Common.{arith}
-use Rattle.hls_places_laws.proofs.Callers.{first_entry-is}
+use Rattle.hls_places.proofs.Cited.{first_entry-is}
 use Rattle.hls_places.proofs.search.sought.Goals as goal
 
 pub returns-then-is_entry : goal.returns-then-is_entry

@@ -1,7 +1,7 @@
 use Rattle.std.proofs.Common.{◌≡◌, ◌+◌, arith, ap, refl}
 use Rattle.hls_media_laws.specs.declared.facts.Facts.{Facts}
 use Rattle.hls_places_laws.specs.Gaps.{gaps}
-use Rattle.hls_places_laws.proofs.Callers.{gaps-run_in, gaps-le}
+use Rattle.hls_places.proofs.Cited.{gaps-run_in, gaps-le}
 use Rattle.hls_places.proofs.search.spot.Goals as goal
 
 pub overflow_add-result : goal.overflow_add-result

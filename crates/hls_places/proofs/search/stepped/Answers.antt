@@ -1,5 +1,5 @@
 use Rattle.std.proofs.Common.{arith}
-use Rattle.hls_places_laws.proofs.Callers.{gaps-run_in, gaps-le, run_in-next}
+use Rattle.hls_places.proofs.Cited.{gaps-run_in, gaps-le, run_in-next}
 use Rattle.hls_places.proofs.search.stepped.Goals as goal
 
 pub overflow_add-result-2 : goal.overflow_add-result-2

@@ -2,7 +2,7 @@ use Rattle.std.proofs.Common.{subst}
 use Rattle.hls_places_laws.specs.Sources.{AreSources}
 use Rattle.hls_core_laws.specs.State.{State}
 use Rattle.hls_core_laws.specs.Places.{sources}
-use Rattle.hls_core_laws.proofs.Callers.{states_are_timed}
+use Rattle.hls_core.proofs.Cited.{states_are_timed}
 use Rattle.hls_core.proofs.snapshot.Snapshot.places.Goals as goal
 
 pub returns-clause-sources : goal.returns-clause-sources

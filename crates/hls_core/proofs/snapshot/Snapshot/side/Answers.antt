@@ -1,5 +1,5 @@
 use Rattle.std.proofs.Common.{◌<◌, length, arith}
-use Rattle.hls_core_laws.proofs.Callers.{at_read, at_map}
+use Rattle.hls_core.proofs.Cited.{at_read, at_map}
 use Rattle.hls_core.proofs.Taken.{side_at}
 use Rattle.hls_core.proofs.snapshot.Snapshot.side.Goals as goal
 

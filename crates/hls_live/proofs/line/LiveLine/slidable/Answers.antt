@@ -1,6 +1,6 @@
 use Rattle.std.proofs.Common.{ℕ, ◌+◌, ◌-◌, ◌/◌, ◌<◌, ◌≤◌, ◌⊎◌, arith, sym, inl, inr, ◌∙◌}
 use Rattle.std.proofs.lemmas.Bool.{false≢true}
-use Rattle.hls_places_laws.proofs.Callers.{leaves-more}
+use Rattle.hls_live.proofs.Cited.{leaves-more}
 use Rattle.hls_live.proofs.line.LiveLine.slidable.Goals as goal
 
 pub loop-high-preserved : goal.loop-high-preserved

@@ -4,7 +4,7 @@ use Rattle.hls_places_laws.specs.declared.line.opening.Opening.{Opening}
 use Rattle.hls_places_laws.specs.Line.Told.{told_with}
 use Rattle.hls_places_laws.specs.Line.Lengths.{renditions_of}
 use Rattle.hls_places_laws.specs.Line.Live.{Live}
-use Rattle.hls_places_laws.proofs.Callers.{past-count}
+use Rattle.hls_live.proofs.Cited.{past-count}
 use Rattle.hls_live.specs.declared.reach.Reach.TheVariants.{Skipped, TooFar, Further, Enough}
 use Rattle.hls_live.specs.Reaches.{reach_of}
 use Rattle.hls_live.specs.Tries.{with_told}
