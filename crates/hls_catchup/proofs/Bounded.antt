@@ -10,7 +10,7 @@ use Rattle.hls_places_laws.specs.declared.place.Place.{Place}
 use Rattle.hls_places_laws.specs.Sources.{Source, first_facts, fact_at, no_facts}
 use Rattle.hls_places_laws.specs.Spots.{near, spot_at, first_entry}
 use Rattle.hls_places_laws.specs.Places.{spots, with_spot, place_of, common_at, has_ended, end_in, closing_of, places_of}
-use Rattle.hls_places_laws.proofs.Callers.{filter_map-all, all-snoc}
+use Rattle.hls_catchup.proofs.Cited.{filter_map-all, all-snoc}
 
 -- spots side by side with the renditions, none past the last fragment's end
 abbrev pub Bounded : List Source → List Spot → Type 0

@@ -11,7 +11,7 @@ use Rattle.hls_check_laws.specs.Tables.{Table, IsTable, IsPlaceOf, spot_in, plac
 use Rattle.hls_record.specs.Recorded.{Recorded}
 use Rattle.hls_core_laws.specs.State.{State, channel}
 use Rattle.hls_core_laws.specs.Places.{is_finished, tolerance_of, sources, kept_places}
-use Rattle.hls_core_laws.proofs.Callers.{lanes_count}
+use Rattle.hls_catchup.proofs.Cited.{lanes_count}
 use Rattle.hls_places_laws.specs.declared.place.Place.{Place}
 use Rattle.hls_places_laws.specs.Sources.{Source, sources_of}
 use Rattle.hls_places_laws.specs.Places.{places_of}

@@ -1,3 +1,4 @@
+mod Cited
 mod Offsets
 mod Places
 mod Pieces

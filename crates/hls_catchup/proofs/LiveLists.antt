@@ -15,10 +15,9 @@ use Rattle.hls_core_laws.specs.State.{State, Held, no_held, channel}
 use Rattle.hls_core_laws.specs.IsState.{IsState}
 use Rattle.hls_core_laws.specs.Outcome.{held}
 use Rattle.hls_core_laws.specs.Line.{line}
-use Rattle.hls_core_laws.proofs.Callers.{at_beside, at_or}
+use Rattle.hls_catchup.proofs.Cited.{at_beside, at_or, closed-some, has-begun}
 use Rattle.hls_core.specs.Reads.{recorded_from, recorded_at, recording_of}
 use Rattle.hls_lists_laws.specs.Live.{live_uri, listed, list_over, has_closed, list_in, live_list_of}
-use Rattle.hls_lists_laws.proofs.Callers.{closed-some, has-begun}
 use Rattle.hls_catchup.specs.Lists.{cutting}
 
 -- no segment was closed

@@ -4,14 +4,11 @@ use Rattle.std.proofs.lemmas.Bool.{cases_lt, lt-ltb, le-ltb}
 use Rattle.std.specs.Prelude.{slice_get}
 use Rattle.std.specs.List.{concat}
 use Rattle.hls_media_laws.specs.declared.facts.Facts.{Facts}
-use Rattle.hls_media_laws.proofs.Bounds.{units_are_bounded}
+use Rattle.hls_catchup.proofs.Cited.{units_are_bounded, at_drop, no_piece, bytes_are}
 use Rattle.hls_record.specs.Recorded.{Recorded, offset_at, unit_piece, piece_at}
 use Rattle.hls_record.specs.Valid.{IsRecorded}
-use Rattle.hls_media_laws.proofs.Lists.{at_drop}
-use Rattle.hls_record.proofs.Pieces.{no_piece}
 use Rattle.hls_media_laws.specs.FactLists.{len_of}
 use Rattle.hls_lists_laws.specs.Jobs.{bytes_between, units_between, resource_of, HaveLengths}
-use Rattle.hls_lists_laws.proofs.Callers.{bytes_are}
 use Rattle.hls_catchup.proofs.Offsets.{offsets_add}
 
 -- lengths side by side

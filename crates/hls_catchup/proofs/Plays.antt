@@ -10,7 +10,7 @@ use Rattle.hls_core_laws.specs.State.{State}
 use Rattle.hls_core_laws.specs.Moves.{IsFitting}
 use Rattle.hls_core_laws.specs.Runs.{first_state, next_state, replayed, AreFitting}
 use Rattle.hls_catchup.specs.declared.request.Request.{Request}
-use Rattle.hls_catchup.specs.declared.request.CatchFault.{CatchFault}
+use Rattle.hls_catchup.specs.declared.fault.CatchFault.{CatchFault}
 use Rattle.hls_catchup.specs.declared.actions.Action.{Action}
 use Rattle.hls_catchup.specs.declared.actions.Action.TheVariants as action
 use Rattle.hls_catchup.specs.Replies.{ReplyData}

@@ -2,7 +2,7 @@
 use Rattle.std.proofs.Common.{◌≡◌, ℕ, zero, suc, ◌+◌, ◌<◌, ◌≤◌, ℤ, List, [], ◌∷◌, length, map, Some, refl, sym, ◌∙◌, ap, arith, subst, zero-add, All, Option, Bool, Vec, Global, Bor}
 use Rattle.std.specs.Prelude.{slice_get}
 use Rattle.std.proofs.lemmas.List.Elements.{All-nil, All-cons, All-head, All-tail}
-use Rattle.hls_media_laws.proofs.Bounds.{units_are_bounded, inits_are_bounded}
+use Rattle.hls_catchup.proofs.Cited.{units_are_bounded, inits_are_bounded, vod_has_text, media_are_the_units, segments_are_good, number_uri}
 use Rattle.hls_record.specs.Recorded.{Recorded}
 use Rattle.hls_record.specs.Valid.{IsRecorded}
 use Rattle.hls_check_laws.specs.Tables.{Table, IsTable}
@@ -13,10 +13,8 @@ use Rattle.hls_plan.specs.declared.planned.Planned.TheVariants.{Cut, NoCut}
 use Rattle.hls_plan.specs.Planned.{certificate_of, IsBest}
 use Rattle.hls_m3u8.specs.Playlist.{Playlist}
 use Rattle.hls_core_laws.specs.Config.{IsEpoch}
-use Rattle.hls_m3u8.proofs.Building.{vod_has_text}
 use Rattle.hls_lists_laws.specs.Segments.{Cutting, segments_of}
 use Rattle.hls_lists_laws.specs.SegmentLaws.{AreUnits, first_fragment}
-use Rattle.hls_lists_laws.proofs.Callers.{media_are_the_units, segments_are_good, number_uri}
 use Rattle.hls_catchup.specs.Lists.{cutting, job_uri, job_list, job_lists}
 use Rattle.hls_catchup.specs.Answers.{IsCovered, AreCovered, IsRightList, AreRightLists, ShowsCut, ShowsNoCut, IsGoodFor}
 use Rattle.hls_catchup.specs.Accepted.{IsAccepted}

@@ -10,7 +10,7 @@ use Rattle.hls_record.specs.Recorded.{Recorded, offset_at, total_of, unit_at}
 use Rattle.hls_record.specs.Search.{Stands}
 use Rattle.hls_record.specs.Valid.{IsRecorded}
 use Rattle.hls_lists_laws.specs.Jobs.{bytes_between, units_between}
-use Rattle.hls_lists_laws.proofs.Callers.{bytes_are}
+use Rattle.hls_catchup.proofs.Cited.{bytes_are}
 use Rattle.hls_catchup.specs.Resources.{IsPlaceOf, FindsPlace}
 use Rattle.hls_catchup.proofs.Offsets.{bytes_are_offsets, offsets_add}
 use Rattle.hls_catchup.proofs.Pieces.{have_lengths}

@@ -2,8 +2,9 @@
 use Rattle.std.proofs.Common.{◌≡◌, ℕ, ◌<◌, ◌≤◌, List, ◌∷◌, length, Some, None, arith, sym, ap, subst, inl, inr, ◌∙◌, Vec, Global}
 use Rattle.std.specs.Prelude.{option_map}
 use Rattle.std.proofs.lemmas.Bool.{cases_lt}
+use Rattle.std.proofs.lemmas.Option.{slice_get_past}
 use Rattle.hls_record.specs.Recorded.{Recorded}
-use Rattle.hls_media_laws.proofs.Lists.{some_at, none_past}
+use Rattle.hls_catchup.proofs.Cited.{some_at}
 use Rattle.hls_core_laws.specs.State.{State, channel}
 use Rattle.hls_core_laws.specs.Outcome.{held}
 use Rattle.hls_core.specs.Reads.{recorded_at, recording_of}
@@ -25,7 +26,7 @@ lane_there s r recorded is =
     elim (cases_lt r (length (channel s).lanes)) [
       | inl within ↦ within
       | inr past ↦
-          (let none : recording_of s r ≡ None = ap (λ o. recorded_at o (held s r)) (none_past (channel s).lanes r past) in
+          (let none : recording_of s r ≡ None = ap (λ o. recorded_at o (held s r)) (slice_get_past (channel s).lanes r past) in
           let both : None ≡ Some recorded = sym none ∙ is in
           cc)
     ]

@@ -6,15 +6,13 @@ use Rattle.std.proofs.lemmas.Bool.{cases_lt}
 use Rattle.std.proofs.lemmas.List.{length-map, map-append, get_or_past, get_or-map, at_drop_more}
 use Rattle.hls_media_laws.specs.InitData.{InitData}
 use Rattle.hls_record.specs.Recorded.{Recorded}
-use Rattle.hls_media_laws.proofs.Lists.{some_at, at_snoc}
+use Rattle.hls_catchup.proofs.Cited.{some_at, at_snoc, lanes_count, sources_count, source_of, at_map, at_or, after-without}
 use Rattle.hls_core_laws.specs.Channel.{Lane, no_lane}
 use Rattle.hls_core_laws.specs.State.{State, Held, channel}
 use Rattle.hls_core_laws.specs.IsState.{IsState}
 use Rattle.hls_core_laws.specs.Outcome.{held}
 use Rattle.hls_core_laws.specs.Places.{facts_of, is_finished, floor_of, sources, places, floors}
-use Rattle.hls_core_laws.proofs.Callers.{lanes_count, sources_count, source_of, at_map, at_or}
 use Rattle.hls_places_laws.specs.Sources.{source_at}
-use Rattle.hls_places_laws.proofs.Callers.{after-without}
 use Rattle.hls_core.specs.Reads.{recorded_from, recorded_at, recording_of, finished_at}
 use Rattle.hls_places_laws.specs.declared.place.Place.{Place}
 use Rattle.hls_catchup.specs.Kept.{kept_in}

@@ -9,16 +9,15 @@ use Rattle.hls_core_laws.specs.State.{State}
 use Rattle.hls_core_laws.specs.Config.{IsConfig}
 use Rattle.hls_core_laws.specs.IsState.{IsState}
 use Rattle.hls_core_laws.specs.Places.{sources, places, floors, kept_places}
-use Rattle.hls_core_laws.proofs.Callers.{lanes_count, sources_count}
+use Rattle.hls_catchup.proofs.Cited.{lanes_count, sources_count, places-ordered, filter-ordered, table-place, ordered-places, IsRange, start-before_stop, cut_out-is_table, cut_out-is_orderly, none-by, stops-late, programme-fits, programme-too_long}
 use Rattle.hls_places_laws.specs.declared.place.Place.{Place}
 use Rattle.hls_places_laws.specs.Sources.{AreSources}
 use Rattle.hls_places_laws.specs.Order.{no_place, time_of, spots_of, renditions_in, AreOrdered, ArePlaces}
 use Rattle.hls_places_laws.specs.Firsts.{first_after, first_from}
 use Rattle.hls_places_laws.specs.Programmes.{is_kept, kept, cut_out, StopsLate}
-use Rattle.hls_places_laws.proofs.Callers.{places-ordered, filter-ordered, table-place, ordered-places, IsRange, start-before_stop, cut_out-is_table, cut_out-is_orderly, none-by, stops-late, programme-fits, programme-too_long}
 use Rattle.hls_catchup.specs.declared.programme.Programme.{Programme}
 use Rattle.hls_catchup.specs.declared.request.Request.{Request}
-use Rattle.hls_catchup.specs.declared.request.CatchFault.TheVariants.{BeforeRecording, NotYet, AfterRecording, ProgrammeTooLong}
+use Rattle.hls_catchup.specs.declared.fault.CatchFault.TheVariants.{BeforeRecording, NotYet, AfterRecording, ProgrammeTooLong}
 use Rattle.hls_catchup.specs.Kept.{Kept, kept_in, all_kept, kept_from, IsLastBy}
 use Rattle.hls_catchup.specs.Requests.{all_finished, goal_for, IsInRange, IsTableFor}
 use Rattle.hls_catchup.specs.Programmes.{table_at, ArePlacesFor}

@@ -5,8 +5,8 @@ use Rattle.hls_core_laws.specs.Config.{ConfigData}
 use Rattle.hls_core_laws.specs.State.{State}
 use Rattle.hls_core_laws.specs.Runs.{first_state, replayed, AreFitting}
 use Rattle.hls_catchup.specs.declared.request.Request.{Request}
-use Rattle.hls_catchup.specs.declared.request.CatchFault.{CatchFault}
-use Rattle.hls_catchup.specs.declared.request.CatchFault.TheVariants.{Memory}
+use Rattle.hls_catchup.specs.declared.fault.CatchFault.{CatchFault}
+use Rattle.hls_catchup.specs.declared.fault.CatchFault.TheVariants.{Memory}
 use Rattle.hls_catchup.specs.declared.actions.Action.{Action}
 use Rattle.hls_catchup.specs.declared.actions.Action.TheVariants as action
 use Rattle.hls_catchup.specs.Replies.{ReplyData, IsReplyTo}

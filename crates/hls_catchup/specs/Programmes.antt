@@ -6,7 +6,7 @@ use Rattle.hls_places_laws.specs.Order.{spots_of}
 use Rattle.hls_core_laws.specs.State.{State}
 use Rattle.hls_catchup.specs.declared.programme.Programme.{Programme}
 use Rattle.hls_catchup.specs.declared.request.Request.{Request}
-use Rattle.hls_catchup.specs.declared.request.CatchFault.{CatchFault}
+use Rattle.hls_catchup.specs.declared.fault.CatchFault.{CatchFault}
 use Rattle.hls_catchup.specs.Kept.{kept_from}
 use Rattle.hls_catchup.specs.Requests.{goal_for, IsTableFor}
 

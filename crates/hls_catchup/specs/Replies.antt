@@ -2,7 +2,7 @@
 use Rattle.std.specs.Prelude.{◌≡◌, Result, Ok, Err}
 use Rattle.hls_core_laws.specs.State.{State}
 use Rattle.hls_catchup.specs.declared.request.Request.{Request}
-use Rattle.hls_catchup.specs.declared.request.CatchFault.{CatchFault}
+use Rattle.hls_catchup.specs.declared.fault.CatchFault.{CatchFault}
 use Rattle.hls_catchup.specs.declared.cutout.Cutout.{Cutout}
 use Rattle.hls_catchup.specs.declared.reply.Reply.TheInside.{Inside}
 use Rattle.hls_catchup.specs.Requests.{IsTableFor, IsRightAnswer}

@@ -7,12 +7,12 @@ use Rattle.hls_record.specs.Recorded.{Recorded}
 use Rattle.hls_core_laws.specs.State.{State, channel}
 use Rattle.hls_core_laws.specs.Places.{is_finished, kept_places}
 use Rattle.hls_core.specs.Reads.{recording_of}
-use Rattle.hls_places_laws.specs.declared.programme_fault.ProgrammeFault.{ProgrammeFault}
-use Rattle.hls_places_laws.specs.declared.programme_fault.ProgrammeFault.TheVariants as programme
+use Rattle.hls_places_laws.specs.declared.fault.ProgrammeFault.{ProgrammeFault}
+use Rattle.hls_places_laws.specs.declared.fault.ProgrammeFault.TheVariants as programme
 use Rattle.hls_places_laws.specs.Programmes.{IsProgramme}
 use Rattle.hls_catchup.specs.declared.request.Request.{Request}
-use Rattle.hls_catchup.specs.declared.request.CatchFault.{CatchFault}
-use Rattle.hls_catchup.specs.declared.request.CatchFault.TheVariants.{BadRange, BadPreferred, BadCharge, BeforeRecording, NotYet, AfterRecording, ProgrammeTooLong, Memory}
+use Rattle.hls_catchup.specs.declared.fault.CatchFault.{CatchFault}
+use Rattle.hls_catchup.specs.declared.fault.CatchFault.TheVariants.{BadRange, BadPreferred, BadCharge, BeforeRecording, NotYet, AfterRecording, ProgrammeTooLong, Memory}
 use Rattle.hls_catchup.specs.declared.cutout.Cutout.{Cutout}
 use Rattle.hls_catchup.specs.Answers.{AreCovered, IsRightCutout}
 

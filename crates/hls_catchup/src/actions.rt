@@ -4,8 +4,9 @@ ghost use Rattle.std.specs.Prelude.{◌≡◌, Some, IfOk};
 ghost use Rattle.hls_core_laws.specs.Runs.{first_state, AreFitting};
 ghost use Rattle.hls_catchup.specs.Plays.{events_in, IsAnswered, IsPlayed};
 
+use crate::fault::CatchFault;
 use crate::reply::{Reply, answer};
-use crate::request::{CatchFault, Request};
+use crate::request::Request;
 use hls_core::config::Config;
 use hls_core::replay::next;
 use hls_core::snapshot::Snapshot;

@@ -4,6 +4,7 @@ ghost use Rattle.std.specs.Prelude.{◌≡◌, length, take, slice_index_or};
 ghost use Rattle.hls_core_laws.specs.State.{channel};
 ghost use Rattle.hls_core_laws.specs.Places.{floors};
 
+use crate::recordings::rendition_count;
 use hls_check_laws::RENDITION_LIMIT;
 use hls_core::snapshot::Snapshot;
 
@@ -12,7 +13,7 @@ pub fn floors_of(snapshot: &Snapshot) -> [u64; RENDITION_LIMIT]
     ensures { take (length (channel snapshot.now).lanes) result ≡ floors snapshot.now }
 {
     let mut floors = [0; RENDITION_LIMIT];
-    for rendition in 0..snapshot.config().renditions().len() {
+    for rendition in 0..rendition_count(snapshot) {
         floors[rendition] = floor_of(snapshot, rendition);
     }
     floors

@@ -4,7 +4,6 @@
 //! A job's answer is right for the snapshot and the request that it holds: its type says so, under the lock and out of it.
 
 pub mod answered;
-pub mod fault;
 pub mod files;
 pub mod finished;
 pub mod gate;

@@ -9,6 +9,7 @@ ghost use Rattle.hls_places_laws.specs.Programmes.{is_kept};
 ghost use Rattle.hls_catchup.specs.Kept.{kept_in, kept_from, IsCountTo};
 
 use crate::floors::floors_of;
+use crate::recordings::rendition_count;
 use hls_blocks::Shared;
 use hls_check_laws::RENDITION_LIMIT;
 use hls_core::snapshot::Snapshot;
@@ -46,7 +47,7 @@ impl<'a> KeptPlaces<'a> {
         KeptPlaces {
             places,
             floors: floors_of(snapshot),
-            renditions: snapshot.config().renditions().len(),
+            renditions: rendition_count(snapshot),
         }
     }
 

@@ -4,9 +4,9 @@
 
 pub use actions::{Action, play};
 pub use cutout::{Cutout, cut};
+pub use fault::{CatchFault, JobFault};
 pub use hls_check_laws::CostRule;
 pub use jobs::answered::Answered;
-pub use jobs::fault::JobFault;
 pub use jobs::files::{certificate_text, master_text, playlist_text};
 pub use jobs::finished::{Ending, Finished, run_job};
 pub use jobs::gate::{Gate, work_loop};
@@ -21,7 +21,7 @@ pub use lists::job_lists;
 pub use live::live_playlist;
 pub use masters::{job_master, live_master};
 pub use reply::{Reply, answer};
-pub use request::{CatchFault, Request};
+pub use request::Request;
 pub use resource::{resource_piece, resource_place, resource_slice, resource_total};
 pub use segments::{bytes_between, is_break, segment_between, segments_of};
 pub use span::{reply_piece, reply_place, reply_slice, reply_total};
@@ -29,6 +29,7 @@ pub use table::table_of;
 
 mod actions;
 mod cutout;
+mod fault;
 mod floors;
 mod jobs;
 mod kept;

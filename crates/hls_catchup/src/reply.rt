@@ -4,8 +4,9 @@ ghost use Rattle.std.specs.Prelude.{◌≡◌, ◌∷◌, length, IfSome, IfNone
 ghost use Rattle.hls_catchup.specs.Replies.{IsReplyTo};
 
 use crate::cutout::{Cutout, cut};
+use crate::fault::CatchFault;
 use crate::recordings::recordings_of;
-use crate::request::{CatchFault, Request};
+use crate::request::Request;
 use crate::table::table_of;
 use hls_core::snapshot::Snapshot;
 use std::alloc::Global;

@@ -6,7 +6,7 @@ use Rattle.hls_boxes_laws.specs.declared.part.Part.{Part}
 use Rattle.hls_boxes_laws.specs.declared.fault.BoxFault.{BoxFault}
 use Rattle.hls_boxes_laws.specs.declared.fault.BoxFault.TheVariants as boxes
 use Rattle.hls_boxes_laws.specs.Parts.{Cut, Left, Nothing, Boxes, CutShort, Refused as Broken, after_parts, cut_of, fault_at_end, fault_left, text_fault}
-use Rattle.hls_boxes_laws.proofs.TextLaws.{empty, stay}
+use Rattle.hls_boxes_laws.proofs.Callers.{empty, stay}
 use Rattle.hls_boxes.specs.Reader.{IsRefusal, held_by}
 use Rattle.hls_feed.specs.declared.fault.StreamFault.TheVariants as faults
 use Rattle.hls_feed.specs.declared.fault.Untaken.{Untaken}

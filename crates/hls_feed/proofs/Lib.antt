@@ -1,4 +1,5 @@
-pub mod DrainLaws
-pub mod FeedLaws
-pub mod Least
-pub mod ShortestLaws
+mod DrainLaws
+mod FeedLaws
+mod Least
+mod ShortestLaws
+pub mod Callers

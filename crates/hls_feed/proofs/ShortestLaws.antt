@@ -6,7 +6,7 @@ use Rattle.std.specs.Option.{is_some}
 use Rattle.hls_boxes_laws.specs.declared.part.Part.{Part}
 use Rattle.hls_boxes_laws.specs.declared.fault.BoxFault.{BoxFault}
 use Rattle.hls_boxes_laws.specs.Parts.{Left, Nothing, Boxes, CutShort, Refused, Cut, bytes_of, cut_of, text_fault, fault_left}
-use Rattle.hls_boxes_laws.proofs.TextLaws.{in_order, stay}
+use Rattle.hls_boxes_laws.proofs.Callers.{in_order, stay}
 use Rattle.hls_feed.specs.Shortest.{ShortestPart, ShortestFault}
 use Rattle.hls_feed.proofs.Least.{least, shortest}
 

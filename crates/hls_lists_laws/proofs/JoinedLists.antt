@@ -12,7 +12,7 @@ use Rattle.hls_places_laws.specs.declared.line.segment.Segment as live_line
 use Rattle.hls_places_laws.specs.Line.Cuts.{Ahead, Nothing, Enough, TooFar, Line, line_by, line_within, line_of, ahead_of, resumed, begun_anew}
 use Rattle.hls_places_laws.specs.Line.Lengths.{marks_in, is_marked as is_break}
 use Rattle.hls_places_laws.specs.Line.Origins.{segments_over}
-use Rattle.hls_places_laws.proofs.Callers.{marks-add}
+use Rattle.hls_lists_laws.proofs.Cited.{marks-add, at_drop}
 use Rattle.hls_m3u8.specs.declared.playlist.Segment.{Segment}
 use Rattle.hls_m3u8.specs.Playlist.{Playlist}
 use Rattle.hls_core_laws.specs.Channel.{Lane}
@@ -21,7 +21,6 @@ use Rattle.hls_core_laws.specs.IsState.{IsState}
 use Rattle.hls_core_laws.specs.Follows.{Follows}
 use Rattle.hls_core_laws.specs.Places.{sources, places}
 use Rattle.hls_core_laws.specs.Line.{aim_of, line}
-use Rattle.hls_core_laws.proofs.Callers.{at_drop}
 use Rattle.hls_lists_laws.specs.Live.{live_cutting, listed, list_over, live_list_of}
 use Rattle.hls_lists_laws.specs.Later.{IsLater, is_marked, us_of}
 use Rattle.hls_lists_laws.specs.Handovers.{IsHandedOver, marks_to, range_behind, IsMoved}

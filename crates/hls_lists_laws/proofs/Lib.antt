@@ -1,3 +1,4 @@
+mod Cited
 mod Ranges
 mod JoinedMedia
 mod Dates

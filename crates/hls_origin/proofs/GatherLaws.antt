@@ -4,14 +4,13 @@ use Rattle.std.proofs.lemmas.List.{take-append-drop}
 use Rattle.std.specs.Io.KnownBytes.{Consumes, IsAtEnd, Keeps}
 use Rattle.hls_boxes_laws.specs.declared.part.Part.{Part}
 use Rattle.hls_boxes_laws.specs.Parts.{Cut, Left, Refused as Broken, cut_of, fault_at_end}
-use Rattle.hls_boxes_laws.proofs.TextLaws.{stay}
+use Rattle.hls_boxes_laws.proofs.Callers.{stay}
 use Rattle.hls_core_laws.specs.State.{State}
 use Rattle.hls_feed.specs.declared.fault.StreamFault.{StreamFault}
 use Rattle.hls_feed.specs.declared.fault.Untaken.{Untaken}
 use Rattle.hls_feed.specs.declared.fault.Untaken.TheVariants.{Refused, Memory}
 use Rattle.hls_feed.specs.Streams.{EndsSo, FeedsBehind, IsTaken, Reached, Refuses, RefusesBox, RefusesPart, TakesAll}
-use Rattle.hls_feed.proofs.FeedLaws.{left_refused, reached_none}
-use Rattle.hls_feed.proofs.ShortestLaws.{grows}
+use Rattle.hls_feed.proofs.Callers.{left_refused, reached_none, grows}
 use Rattle.hls_origin.specs.declared.cut.fault.CutFault.TheVariants as fault
 use Rattle.hls_origin.specs.FaultName.{fault_of}
 use Rattle.hls_origin.specs.Gather.{CountsReads, Gathers, IsRefused}

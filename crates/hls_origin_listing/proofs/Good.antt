@@ -3,7 +3,7 @@ use Rattle.std.proofs.Common.{◌≡◌, ℕ, zero, suc, ◌+◌, ◌-◌, ◌*�
 use Rattle.std.specs.Prelude.{All, slice_get, Some}
 use Rattle.std.specs.List.{range_with_len}
 use Rattle.std.proofs.lemmas.List.Elements.{All-nil, All-cons, All-get_or}
-use Rattle.hls_media_laws.proofs.Bounds.{units_are_bounded, inits_are_bounded}
+use Rattle.hls_media_laws.proofs.Callers.{units_are_bounded, inits_are_bounded}
 use Rattle.hls_record.specs.Recorded.{Recorded}
 use Rattle.hls_record.specs.Valid.{IsRecorded}
 use Rattle.hls_check_laws.specs.declared.spot.Spot.{Spot}

@@ -15,7 +15,7 @@ use Rattle.hls_core_laws.specs.Channel.{Lane}
 use Rattle.hls_core_laws.specs.State.{State, Held, channel}
 use Rattle.hls_core_laws.specs.Outcome.{held}
 use Rattle.hls_core_laws.specs.Places.{sources, places}
-use Rattle.hls_core_laws.proofs.Callers.{at_some, lanes_count, sources_count, source_of}
+use Rattle.hls_core_laws.proofs.Callers.{some_at, lanes_count, sources_count, source_of}
 use Rattle.hls_core.specs.Reads.{recorded_from, recorded_at, recording_of}
 use Rattle.hls_catchup.proofs.Callers.{Bounded, places-bounded}
 use Rattle.hls_origin_listing.specs.Places.{ArePlacesOf}
@@ -32,7 +32,7 @@ source_facts : (s : State) (recorded : Recorded) → 1 ≤ length s.config.rendi
     (source_at (sources s) 0).facts ≡ recorded.facts
 source_facts s recorded some is =
     let count : length (channel s).lanes ≡ length s.config.renditions = lanes_count s.config s.log in
-    let lane = at_some (channel s).lanes 0 (omega arith) in
+    let lane = some_at (channel s).lanes 0 (omega arith) in
     let there : recorded_at (Some lane.0) (held s 0) ≡ Some recorded = ap (λ (o : Option Lane). recorded_at o (held s 0)) (sym lane.1) ∙ is in
     (source_of s 0 lane.0 lane.1).facts ∙ sym (facts_from lane.0.init lane.0 (held s 0) recorded there)
 

@@ -7,20 +7,26 @@ ghost use Rattle.hls_origin_listing.specs.declared.fault.ListFault.TheVariants.{
 use std::alloc::{AllocError, AllocFailed};
 use thiserror::Error;
 
+/// The name of a variant, among all that its type has.
+macro_rules! name_among {
+    ($fault:expr; $type:ident: $($variant:ident),*) => {
+        match $fault {
+            $($type::$variant { .. } => stringify!($variant)),*
+        }
+    };
+}
+
 /// Why a recorded stream isn't listed, in the order in which the causes are looked at.
 #[derive(Clone, Copy, Debug, PartialEq, Eq, Error)]
+#[error("{}", self.name())]
 pub enum ListFault {
     /// There are less than two places.
-    #[error("NoPlace")]
     NoPlace,
     /// More than 16384 places, of which a plan was asked for.
-    #[error("ProgrammeTooLong")]
     ProgrammeTooLong,
     /// The number, from 0, of the first place from which no segment may reach the next.
-    #[error("NotAllowed")]
     NotAllowed { place: usize },
     /// A growth of memory was refused.
-    #[error("Memory")]
     Memory,
 }
 
@@ -29,12 +35,7 @@ impl ListFault {
     pub fn name(&self) -> &'static str
         ensures { result.now ≡ name_of self.now }
     {
-        match self {
-            ListFault::NoPlace => "NoPlace",
-            ListFault::ProgrammeTooLong => "ProgrammeTooLong",
-            ListFault::NotAllowed { .. } => "NotAllowed",
-            ListFault::Memory => "Memory",
-        }
+        name_among!(self; ListFault: NoPlace, ProgrammeTooLong, NotAllowed, Memory)
     }
 }
 

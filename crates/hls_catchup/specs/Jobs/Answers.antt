@@ -2,7 +2,7 @@
 use Rattle.std.specs.Prelude.{Some, Result}
 use Rattle.hls_core_laws.specs.State.{State}
 use Rattle.hls_catchup.specs.declared.request.Request.{Request}
-use Rattle.hls_catchup.specs.declared.request.CatchFault.{CatchFault}
+use Rattle.hls_catchup.specs.declared.fault.CatchFault.{CatchFault}
 use Rattle.hls_catchup.specs.Replies.{ReplyData}
 use Rattle.hls_catchup.specs.Plays.{IsAnswered}
 use Rattle.hls_catchup.specs.declared.jobs.answered.Answered.TheInside.{Inside}

@@ -3,8 +3,9 @@
 ghost use Rattle.std.specs.Prelude.{◌≡◌, length, IfOk};
 ghost use Rattle.hls_catchup.specs.Jobs.Answers.{IsRight};
 
+use crate::fault::CatchFault;
 use crate::reply::{Reply, answer};
-use crate::request::{CatchFault, Request};
+use crate::request::Request;
 use hls_core::snapshot::Snapshot;
 use std::alloc::{AllocError, Global};
 use std::marker::Model;

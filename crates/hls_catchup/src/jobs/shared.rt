@@ -5,7 +5,7 @@ ghost use Rattle.hls_catchup.specs.Jobs.Changes.{told};
 ghost use Rattle.hls_catchup.specs.Jobs.Phases.{IsRightJob};
 ghost use Rattle.hls_catchup.specs.Jobs.Shared.{HasAdded, HasCounted, HasFinished, HasGot, HasRemoved, HasTaken};
 
-use crate::jobs::fault::{JobFault, Refused};
+use crate::fault::{JobFault, Refused};
 use crate::jobs::finished::Finished;
 use crate::jobs::job::Job;
 use crate::jobs::row::Row;

@@ -4,7 +4,7 @@ ghost use Rattle.std.specs.Prelude.{◌≡◌, IfOk, IfErr, length};
 ghost use Rattle.hls_catchup.specs.Jobs.Tables.{IsTable, empty_table};
 ghost use Rattle.hls_catchup.specs.Jobs.Changes.{Adds, Takes, Finishes, Gets, Removes, told};
 
-use crate::jobs::fault::{JobFault, Refused};
+use crate::fault::{JobFault, Refused};
 use crate::jobs::finished::Finished;
 use crate::jobs::job::Job;
 use crate::jobs::row::{Phase, Row};

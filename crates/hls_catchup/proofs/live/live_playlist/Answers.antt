@@ -7,7 +7,7 @@ use Rattle.hls_check_laws.specs.Tables.{spot_in}
 use Rattle.hls_places_laws.specs.declared.line.segment.Segment as live_line
 use Rattle.hls_places_laws.specs.Line.Live.{Live, segments_of}
 use Rattle.hls_m3u8.specs.Playlist.{Playlist}
-use Rattle.hls_lists_laws.proofs.Callers.{starts-small}
+use Rattle.hls_catchup.proofs.Cited.{starts-small}
 use Rattle.hls_catchup.proofs.LiveLists.{unbegun, listed-by, list-made}
 use Rattle.hls_catchup.proofs.live.live_playlist.Goals as goal
 

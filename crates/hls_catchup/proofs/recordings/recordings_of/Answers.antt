@@ -1,16 +1,12 @@
-use Rattle.std.proofs.Common.{◌≡◌, ◌∷◌, [], length, arith, ap, sym, ◌∙◌, length-append}
+use Rattle.std.proofs.Common.{◌∷◌, [], arith, ap, sym, ◌∙◌, length-append}
 use Rattle.hls_core.specs.Reads.{recording_of}
-use Rattle.hls_core_laws.proofs.Callers.{lanes_count}
 use Rattle.hls_catchup.proofs.States.{no_places, one_recording_more, are_recordings}
 use Rattle.hls_catchup.proofs.recordings.recordings_of.Goals as goal
 
 pub returns-in-None : goal.returns-in-None
 returns-in-None c =
-    let renditions = c.renditions-rendition-end.ensures.value in
-    let config = c.config.ensures.value in
-    let count : length c.renditions-rendition-end.result.now ≡ length c.args.snapshot.now.config.renditions = cc in
-    let lanes = lanes_count c.args.snapshot.now.config c.args.snapshot.now.log in
-    no_places c.args.snapshot.now c.config.ensures.valid c.loop-rendition.rendition (omega arith) (sym c.in-None.ensures.value)
+    no_places c.args.snapshot.now c.in-None.ensures.valid c.loop-rendition.rendition (omega (arith, c.rendition_count-rendition-end.ensures.lanes))
+    (sym c.in-None.ensures.value)
 
 pub loop-rendition-preserved : goal.loop-rendition-preserved
 loop-rendition-preserved c =
@@ -23,8 +19,6 @@ loop-rendition-preserved c =
 
 pub returns : goal.returns
 returns c =
-    let renditions = c.renditions-rendition-end.ensures.value in
-    let config = c.config.ensures.value in
-    let count : length c.renditions-rendition-end.result.now ≡ length c.args.snapshot.now.config.renditions = cc in
     let end = c.loop-rendition.auto.rendition-end in
-    are_recordings c.args.snapshot.now c.loop-rendition.recordings.items (omega (arith, c.loop-rendition.invariant.count)) c.loop-rendition.invariant.each
+    are_recordings c.args.snapshot.now c.loop-rendition.recordings.items
+    (omega (arith, c.loop-rendition.invariant.count, c.rendition_count-rendition-end.ensures.configured)) c.loop-rendition.invariant.each

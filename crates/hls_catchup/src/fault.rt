@@ -1,0 +1,104 @@
+//! Why a request has no answer, and why a call on the job table is refused.
+
+ghost use Rattle.std.specs.Prelude.{◌≡◌};
+ghost use Rattle.hls_catchup.specs.FaultName.{catch_fault_name};
+ghost use Rattle.hls_catchup.specs.Jobs.FaultName.{job_fault_name};
+ghost use Rattle.hls_catchup.specs.declared.fault.CatchFault.TheVariants as catch_fault;
+ghost use Rattle.hls_catchup.specs.declared.fault.JobFault.TheVariants as job_fault;
+
+use std::alloc::{AllocError, AllocFailed};
+use thiserror::Error;
+
+/// The name of a variant, among all that its type has.
+macro_rules! name_among {
+    ($fault:expr; $type:ident: $($variant:ident),*) => {
+        match $fault {
+            $($type::$variant { .. } => stringify!($variant)),*
+        }
+    };
+}
+
+/// Why a request has no answer, in the order in which the causes are looked at.
+#[derive(Clone, Copy, Debug, PartialEq, Eq, Error)]
+#[error("{}", self.name())]
+pub enum CatchFault {
+    /// The stop isn't after the start.
+    BadRange,
+    /// The preferred length isn't 1 microsecond to the channel's target.
+    BadPreferred,
+    /// The charge for a segment is above 3600000000 microseconds.
+    BadCharge,
+    /// No kept place lies at or before the start.
+    BeforeRecording,
+    /// The stop is after the last place, and more may come.
+    NotYet,
+    /// The stop is after the last place of a channel that is finished.
+    AfterRecording,
+    /// More than 16384 places.
+    ProgrammeTooLong,
+    /// Memory ran out.
+    Memory,
+}
+
+impl CatchFault {
+    /// The variant's name, as replies print it.
+    pub fn name(&self) -> &'static str
+        ensures { result.now ≡ catch_fault_name self.now }
+    {
+        name_among!(self; CatchFault: BadRange, BadPreferred, BadCharge, BeforeRecording, NotYet, AfterRecording, ProgrammeTooLong, Memory)
+    }
+}
+
+impl From<AllocError> for CatchFault {
+    ghost from_gives = { λ _ e. e ≡ catch_fault.Memory };
+
+    fn from(_error: AllocError) -> CatchFault {
+        CatchFault::Memory
+    }
+}
+
+impl<T: Drop> From<AllocFailed<T>> for CatchFault {
+    ghost from_gives = { λ _ e. e ≡ catch_fault.Memory };
+
+    fn from(_error: AllocFailed<T>) -> CatchFault {
+        CatchFault::Memory
+    }
+}
+
+/// Why a call on the job table is refused.
+#[derive(Clone, Copy, Debug, PartialEq, Eq, Error)]
+#[error("{}", self.name())]
+pub enum JobFault {
+    /// All 64 places are taken, or the last id is used.
+    TableFull,
+    /// The table has no job of this id.
+    UnknownJob,
+    /// The job isn't running, or runs for another version or request.
+    Stray,
+    /// Memory ran out.
+    Memory,
+}
+
+/// Why a call is refused, with what it was given back: a lock can so be let go of before that is.
+#[derive(Drop)]
+pub(crate) struct Refused<T> {
+    pub(crate) fault: JobFault,
+    pub(crate) back: T,
+}
+
+impl JobFault {
+    /// The variant's name, as replies print it.
+    pub fn name(&self) -> &'static str
+        ensures { result.now ≡ job_fault_name self.now }
+    {
+        name_among!(self; JobFault: TableFull, UnknownJob, Stray, Memory)
+    }
+}
+
+impl From<AllocError> for JobFault {
+    ghost from_gives = { λ _ e. e ≡ job_fault.Memory };
+
+    fn from(_error: AllocError) -> JobFault {
+        JobFault::Memory
+    }
+}
