@@ -1,25 +1,24 @@
 //! A reader in small steps.
 
+use crate::calls::Calls;
 use std::io::{self, ErrorKind, Read};
 
 /// A reader that gives at most `step` bytes a call, and fails at the call of one number, from 1; behind it the rest comes. A
 /// call of an even number fails as interrupted, one of an odd number as reset.
 #[derive(Drop)]
 pub struct Drips<'a> {
+    calls: Calls,
     rest: &'a [u8],
     step: usize,
-    calls: usize,
-    fails_at: usize,
 }
 
 impl<'a> Drips<'a> {
     /// A reader of the text.
     pub fn new(text: &'a [u8], step: usize, fails_at: usize) -> Drips<'a> {
         Drips {
+            calls: Calls::failing_at(fails_at),
             rest: text,
             step,
-            calls: 0,
-            fails_at,
         }
     }
 
@@ -30,15 +29,14 @@ impl<'a> Drips<'a> {
 
     /// How many calls there were.
     pub fn calls(&self) -> usize {
-        self.calls
+        self.calls.count
     }
 }
 
 impl<'a> Read for Drips<'a> {
     fn read(&mut self, buf: &mut [u8]) -> io::Result<usize> {
-        self.calls = self.calls.wrapping_add(1);
-        if self.calls == self.fails_at {
-            let kind = if self.fails_at % 2 == 0 {
+        if self.calls.fails() {
+            let kind = if self.calls.is_even() {
                 ErrorKind::Interrupted
             } else {
                 ErrorKind::ConnectionReset

@@ -2,6 +2,7 @@
 //! taken to their end.
 #![tactic(auto)]
 
+mod calls;
 mod drips;
 mod outputs;
 mod page;

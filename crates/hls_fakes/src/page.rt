@@ -1,5 +1,6 @@
 //! A writer that takes no memory.
 
+use crate::calls::Calls;
 use std::io::{self, Write};
 
 /// How many bytes a page takes.
@@ -10,8 +11,7 @@ const LEN: usize = 32768;
 pub struct Page {
     bytes: [u8; LEN],
     len: usize,
-    calls: usize,
-    fails_at: usize,
+    calls: Calls,
 }
 
 impl Page {
@@ -25,8 +25,7 @@ impl Page {
         Page {
             bytes: [0; LEN],
             len: 0,
-            calls: 0,
-            fails_at: call,
+            calls: Calls::failing_at(call),
         }
     }
 
@@ -47,14 +46,13 @@ impl Page {
 
     /// How many calls there were.
     pub fn calls(&self) -> usize {
-        self.calls
+        self.calls.count
     }
 }
 
 impl Write for Page {
     fn write(&mut self, buf: &[u8]) -> io::Result<usize> {
-        self.calls = self.calls.wrapping_add(1);
-        if self.calls == self.fails_at {
+        if self.calls.fails() {
             return Ok(0);
         }
         let Some(room) = self.bytes.get_mut(self.len..) else {

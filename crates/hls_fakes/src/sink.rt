@@ -1,5 +1,6 @@
 //! A writer in small steps.
 
+use crate::calls::Calls;
 use std::alloc::Global;
 use std::io::{self, ErrorKind, Write};
 
@@ -9,8 +10,7 @@ use std::io::{self, ErrorKind, Write};
 pub struct Sink {
     taken: Vec<u8>,
     step: usize,
-    calls: usize,
-    fails_at: usize,
+    calls: Calls,
 }
 
 impl Sink {
@@ -19,8 +19,7 @@ impl Sink {
         Sink {
             taken: Vec::new(alloc),
             step,
-            calls: 0,
-            fails_at,
+            calls: Calls::failing_at(fails_at),
         }
     }
 
@@ -31,15 +30,14 @@ impl Sink {
 
     /// How many calls there were.
     pub fn calls(&self) -> usize {
-        self.calls
+        self.calls.count
     }
 }
 
 impl Write for Sink {
     fn write(&mut self, buf: &[u8]) -> io::Result<usize> {
-        self.calls = self.calls.wrapping_add(1);
-        if self.calls == self.fails_at {
-            return if self.fails_at % 2 == 0 {
+        if self.calls.fails() {
+            return if self.calls.is_even() {
                 Ok(0)
             } else {
                 Err(ErrorKind::BrokenPipe.into())

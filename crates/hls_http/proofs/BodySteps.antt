@@ -1,30 +1,25 @@
 -- Steps of a body in what is held, and in what follows.
-use Rattle.std.proofs.Common.{◌≡◌, ◌∙◌, ℕ, zero, suc, ◌+◌, ◌≤◌, ◌<◌, List, [], ◌∷◌, ◌++◌, ◌⊎◌, inl, inr, Option, Some, length, take, drop, refl, sym, ap, subst, arith, append-nil, length-append, length-take}
+use Rattle.std.proofs.Common.{◌≡◌, ◌∙◌, ℕ, ◌+◌, ◌≤◌, ◌<◌, List, [], ◌∷◌, ◌++◌, ◌⊎◌, inl, inr, Option, Some, length, take, drop, refl, sym, ap, subst, arith, append-nil, length-append, length-take}
 use Rattle.std.specs.Io.KnownBytes.{prepend_known}
 use Rattle.std.proofs.lemmas.List.{length-map}
 use Rattle.httparse.specs.declared.spans.HeaderSpan.{HeaderSpan}
-use Rattle.httparse.specs.Grammar.{ChunkLine, Field, LineEnd, crlf, lf, HasNoChunkLine, HasNoSection, print_chunk_line, print_section, print_field}
+use Rattle.httparse.specs.Grammar.{ChunkLine, Field, LineEnd, HasNoChunkLine, HasNoSection, print_chunk_line, print_section}
 use Rattle.httparse.specs.Spans.{IsChunkLineAt, IsSectionAt, header_bytes, name_and_value}
 use Rattle.httparse.proofs.GrammarLemmas.{ReadsSection-append, section_unique}
 use Rattle.httparse.proofs.ChunkLemmas.{ReadsChunkLine-append, chunk_line_unique}
-use Rattle.std.specs.List.{flat_map}
 use Rattle.hls_http_laws.specs.declared.body.Body.{Body}
 use Rattle.hls_http_laws.specs.declared.body.Body.TheVariants.{Length, Size, Data, Trailers}
 use Rattle.hls_http_laws.specs.Bodies.{after_line, TakesData, EndsData, Steps, RunsIn, Runs, HasNoStep, Goes}
-use Rattle.hls_http_laws.specs.Stays.{RunsStay, RunsJoin}
+use Rattle.hls_http_laws.proofs.Callers.{Leaves, runs_join, runs_leave, runs_stay, some_line, some_section}
 use Rattle.hls_http.specs.declared.input.Filled.{Filled}
 use Rattle.hls_http.specs.Bodies.{IsLastAlone}
-use Rattle.hls_http.specs.Source.{Fills}
-use Rattle.hls_http.proofs.HeadLaws.{filled_there, front, known_left}
+use Rattle.hls_http.specs.Input.{Reads}
+use Rattle.hls_http.proofs.HeadLaws.{front, known_left, reads_known}
 
 pub long_line : (held : List ℕ) (len size : ℕ) (l : ChunkLine) → IsChunkLineAt held len size l → 16384 < len → HasNoStep Size held
 long_line held len size l at past = λ more piece next rest s.
     let same = chunk_line_unique (held ++ more) l s.1.line (drop len held ++ more) rest (ReadsChunkLine-append held l (drop len held) more at.reads) s.1.reads in
     absurd (omega (arith, at.len_is, ap (λ x. length (print_chunk_line x)) same.0, s.1.small))
-
-some_line : (l : ChunkLine) → 0 < length (print_chunk_line l)
-unfolding print_chunk_line
-some_line l = omega (arith, length-append {A = ℕ})
 
 pub line_frame : (held : List ℕ) (len size : ℕ) (l : ChunkLine) (next : Body) → IsChunkLineAt held len size l → len ≤ 16384 → next ≡ after_line size
     → (0 < len) × (len ≤ length held) × Steps Size held [] next (drop len held)
@@ -45,10 +40,6 @@ long_trailers held headers len count fields last at past = λ more piece next re
   where
     sections_same : (fs gs : List Field) (a b : LineEnd) → fs ≡ gs → a ≡ b → print_section fs a ≡ print_section gs b
     sections_same fs gs a b p q = cc
-
-some_section : (fields : List Field) (last : LineEnd) → 0 < length (print_section fields last)
-some_section fields crlf = omega (arith, length-append (flat_map print_field fields) (13 ∷ 10 ∷ []))
-some_section fields lf = omega (arith, length-append (flat_map print_field fields) (10 ∷ []))
 
 pub trailers_frame : (held : List ℕ) (headers : List HeaderSpan) (len count : ℕ) (fields : List Field) (last : LineEnd) → IsSectionAt held 0 headers len count fields last → length headers ≤ 64 → len ≤ 16384 → len ≤ length held
     → (0 < len) × (len ≤ length held) × Steps Trailers held [] (Length 0) (drop len held)
@@ -78,86 +69,29 @@ pub goes_none : (b : Body) (held rest : List ℕ) (left : Option (List ℕ)) →
 goes_none b held rest left is =
     record { later = held ++ rest; runs = record { steps = 0; run = (refl, refl, refl) }; known = ap (λ o. prepend_known held o) is }
 
-pub goes_then : RunsStay → RunsJoin → (b middle last : Body) (input got held now piece rest : List ℕ) (old left : Option (List ℕ)) → Goes b input got middle held old → Steps middle held piece last rest
+pub goes_then : (b middle last : Body) (input got held now piece rest : List ℕ) (old left : Option (List ℕ)) → Goes b input got middle held old → Steps middle held piece last rest
     → now ≡ rest → left ≡ old → Goes b input (got ++ piece) last now left
-goes_then stays joins b middle last input got held now piece rest old left g s now_is left_is =
+goes_then b middle last input got held now piece rest old left g s now_is left_is =
     let w = known_left held old g.later g.known in
     let step : Runs middle held piece last rest = record { steps = 1; run = (piece, last, rest, [], s, (refl, refl, refl), sym (append-nil piece)) } in
-    let here = subst (λ (xs : List ℕ). Runs middle xs piece last (rest ++ w.rest)) (sym w.input_is) (stays middle held piece last rest w.rest step) in
+    let here = subst (λ (xs : List ℕ). Runs middle xs piece last (rest ++ w.rest)) (sym w.input_is) (runs_stay middle held piece last rest w.rest step) in
     record {
       later = rest ++ w.rest;
-      runs = joins b middle last input got g.later piece (rest ++ w.rest) g.runs here;
+      runs = runs_join b middle last input got g.later piece (rest ++ w.rest) g.runs here;
       known = ap (λ o. prepend_known now o) (left_is ∙ w.left_is) ∙ ap (λ xs. Some (xs ++ w.rest)) now_is;
     }
 
 -- what was read behind what was held changes nothing of what is to come
 pub goes_filled : (b middle : Body) (input got held now : List ℕ) (old left : Option (List ℕ)) (filled : Filled) → Goes b input got middle held old
-    → ((rest : List ℕ) → old ≡ Some rest → Fills held rest now left filled) → Goes b input got middle now left × (rest : List ℕ) × Fills held rest now left filled
-goes_filled b middle input got held now old left filled g fills =
-    let w = filled_there g.later held now old left filled g.known fills in
-    (record { later = g.later; runs = g.runs; known = w.0 }, w.1, w.2)
-
--- ---- what a run leaves of a body
-
--- by length what wasn't taken of it, and in chunks never bytes by length
-abbrev IsOfChunks : Body → Type 0
-IsOfChunks last = (n : ℕ) → last ≡ Length (suc n) → ⊥
-
-abbrev pub Leaves : Body → ℕ → Body → Type 0
-Leaves (Length n) taken last = (left : ℕ) × (last ≡ Length left) × (taken + left ≡ n)
-Leaves Size taken last = IsOfChunks last
-Leaves (Data n) taken last = IsOfChunks last
-Leaves Trailers taken last = IsOfChunks last
-
-leaves_none : (b : Body) → Leaves b 0 b
-leaves_none (Length n) = (n, refl, omega arith)
-leaves_none Size = λ n is. cc
-leaves_none (Data m) = λ n is. cc
-leaves_none Trailers = λ n is. cc
-
-behind_line : (size taken : ℕ) (last : Body) → Leaves (after_line size) taken last → IsOfChunks last
-behind_line zero taken last l = l
-behind_line (suc n) taken last l = l
-
-behind_trailers : (taken : ℕ) (last : Body) → Leaves (Length 0) taken last → IsOfChunks last
-behind_trailers taken last l = λ n is. absurd (omega (arith, ap announced (sym is ∙ l.1), l.2))
-  where
-    announced : Body → ℕ
-    announced (Length n) = n
-    announced Size = 0
-    announced (Data n) = n
-    announced Trailers = 0
-
-data_leaves : (n taken : ℕ) (input piece rest : List ℕ) (next last : Body) → TakesData n input piece next rest ⊎ EndsData n input piece next rest → Leaves next taken last → IsOfChunks last
-data_leaves n taken input piece rest next last (inl s) l = subst (λ (x : Body). Leaves x taken last) s.2 l
-data_leaves n taken input piece rest next last (inr s) l = subst (λ (x : Body). Leaves x taken last) s.3 l
-
-step_leaves : (b next last : Body) (input piece rest : List ℕ) (taken : ℕ) → Steps b input piece next rest → Leaves next taken last → Leaves b (length piece + taken) last
-step_leaves (Length n) next last input piece rest taken s l =
-    let there = subst (λ (x : Body). Leaves x taken last) s.2 l in (there.0, there.1, omega (arith, s.1.count, there.2))
-step_leaves Size next last input piece rest taken s l = behind_line s.0 taken last (subst (λ (x : Body). Leaves x taken last) s.3 l)
-step_leaves (Data n) next last input piece rest taken s l = data_leaves n taken input piece rest next last s l
-step_leaves Trailers next last input piece rest taken s l = behind_trailers taken last (subst (λ (x : Body). Leaves x taken last) s.2 l)
-
-run_leaves : (k : ℕ) (b last : Body) (input content rest : List ℕ) → RunsIn k b input content last rest → Leaves b (length content) last
-run_leaves zero b last input content rest r =
-    let here = subst (λ (n : ℕ). Leaves b n b) (sym (ap length r.2)) (leaves_none b) in subst (λ (x : Body). Leaves b (length content) x) (sym r.0) here
-run_leaves (suc k) b last input content rest r =
-    let more = step_leaves b r.1 last input r.0 r.2 (length r.3) r.4 (run_leaves k r.1 last r.2 r.3 rest r.5) in
-    subst (λ (n : ℕ). Leaves b n last) (sym (ap length r.6 ∙ length-append r.0 r.3)) more
-
-pub runs_leave : (b last : Body) (input content rest : List ℕ) → Runs b input content last rest → Leaves b (length content) last
-runs_leave b last input content rest r = run_leaves r.steps b last input content rest r.run
+    → Reads held now old left filled → Goes b input got middle now left
+goes_filled b middle input got held now old left filled g r = record { later = g.later; runs = g.runs; known = reads_known g.later held now old left filled g.known r }
 
 -- where nothing was taken yet and the last byte is next, it is all of the body
 pub last_alone : (b middle next : Body) (input rest : List ℕ) → Runs b input [] middle rest → IsLastAlone middle next → IsLastAlone b next
 last_alone b middle next input rest r alone = λ over. all b (runs_leave b middle input [] rest r) (alone over)
   where
-    same : (n m : ℕ) → Length n ≡ Length m → n ≡ m
-    same n m is = cc
-
     all : (b : Body) → Leaves b 0 middle → middle ≡ Length 1 → b ≡ Length 1
-    all (Length n) l is = ap Length (omega (arith, same l.0 1 (sym l.1 ∙ is), l.2))
+    all (Length n) l is = let left : l.0 ≡ 1 = cc (l.1, is) in ap Length (omega (arith, left, l.2))
     all Size l is = absurd (l 0 is)
     all (Data n) l is = absurd (l 0 is)
     all Trailers l is = absurd (l 0 is)

@@ -1,12 +1,11 @@
 -- What stands in a buffer, when some of it is taken and when more comes.
 use Rattle.std.proofs.Common.{◌≡◌, ◌∙◌, ℕ, ◌+◌, ◌-◌, ◌≤◌, ◌<◌, List, [], ◌++◌, Option, Some, None, length, take, drop, slice_range, take-add, length-take, refl, sym, ap, subst, arith, append-nil}
-use Rattle.std.specs.Io.KnownBytes.{Consumes, Keeps}
+use Rattle.std.specs.Io.KnownBytes.{Keeps}
+use Rattle.std.proofs.KnownBytes.{Consumes-kept, Consumes-nil}
 use Rattle.std.proofs.lemmas.List.{drop-drop, drop-take, take-take}
 use Rattle.hls_http.specs.Texts.{Texts, after_take}
-use Rattle.hls_http.specs.declared.input.Filled.{Filled}
-use Rattle.hls_http.specs.declared.input.Filled.TheVariants.{More, AtEnd, Failed}
+use Rattle.hls_http.specs.declared.input.Filled.TheVariants.{Failed}
 use Rattle.hls_http.specs.Input.{Reads}
-use Rattle.hls_http.specs.Source.{Fills}
 
 held_drop : (buffer : List ℕ) (start end len : ℕ) → start + len ≤ end → slice_range buffer (start + len) end ≡ drop len (slice_range buffer start end)
 held_drop buffer start end len h =
@@ -54,29 +53,6 @@ takes buffer from start end len room texts ordered are few =
 pub count_of : (read : ℕ) (behind : List ℕ) → read ≤ length behind → length (take read behind) ≡ read
 count_of read behind fits = omega (arith, length-take read behind)
 
-pub some_bytes : (read : ℕ) (behind : List ℕ) → (read ≡ 0 → ⊥) → read ≤ length behind → 0 < length (take read behind)
-some_bytes read behind some fits = omega (arith, length-take read behind, some)
-
-pub none_read : (read : ℕ) (behind : List ℕ) (old left : Option (List ℕ)) → read ≡ 0 → Consumes old left (take read behind) → Consumes old left []
-none_read read behind old left none all = subst (λ (n : ℕ). Consumes old left (take n behind)) none all
-
-pub none_came : (old left : Option (List ℕ)) → Keeps old left → Consumes old left []
-none_came None left keeps = keeps
-none_came (Some xs) None keeps = keeps
-none_came (Some xs) (Some ys) keeps = sym keeps
-
--- ---- where what is still to come is known
-
-pub came : (held now rest : List ℕ) (old left : Option (List ℕ)) (filled : Filled) → Reads held now old left filled → old ≡ Some rest → Fills held rest now left filled
-came held now rest None left result r is = absurd (cc is)
-came held now rest (Some xs) None result r is = absurd r.consumes
-came held now rest (Some xs) (Some ys) More r is = record { bytes = r.bytes; later = ys; some = r.brings; now_is = r.behind; split = cc (is, r.consumes); left_is = refl }
-came held now rest (Some xs) (Some ys) AtEnd r is = (
-  r.behind ∙ ap (λ bs. held ++ bs) r.brings.0 ∙ append-nil held,
-  cc (is, r.consumes ∙ ap (λ bs. bs ++ ys) r.brings.0 ∙ r.brings.1),
-  ap Some r.brings.1,
-)
-came held now rest (Some xs) (Some ys) Failed r is = (
-  r.behind ∙ ap (λ bs. held ++ bs) r.brings ∙ append-nil held,
-  ap Some (sym (r.consumes ∙ ap (λ bs. bs ++ ys) r.brings)) ∙ is,
-)
+pub read_failed : (held now : List ℕ) (old left : Option (List ℕ)) → now ≡ held → Keeps old left → Reads held now old left Failed
+read_failed held now old left same keeps =
+    record { bytes = []; behind = same ∙ sym (append-nil held); consumes = Consumes-kept old old left [] (Consumes-nil old) keeps; brings = refl }

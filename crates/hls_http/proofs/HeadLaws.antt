@@ -1,7 +1,7 @@
 -- Heads within the limits, in what is held and in the input.
 use Rattle.std.proofs.Common.{◌≡◌, ◌∙◌, ℕ, ◌≤◌, ◌<◌, List, [], ◌++◌, inl, Option, Some, None, length, take, drop, refl, sym, ap, subst, arith, append_assoc, append-nil, length-take}
 use Rattle.std.proofs.Math.Seq.{take-append_seam}
-use Rattle.std.specs.Io.KnownBytes.{prepend_known}
+use Rattle.std.specs.Io.KnownBytes.{IsAtEnd, prepend_known}
 use Rattle.std.proofs.lemmas.List.{length-map, take-append-drop, take-append-le}
 use Rattle.httparse.specs.declared.spans.HeaderSpan.{HeaderSpan}
 use Rattle.httparse.specs.declared.spans.RequestSpans.{RequestSpans}
@@ -11,9 +11,9 @@ use Rattle.httparse.proofs.GrammarLemmas.{ReadsRequest-append, request_prefix_fr
 use Rattle.hls_http_laws.specs.Heads.{IsTooLarge}
 use Rattle.hls_http.specs.declared.head.Head.{Head}
 use Rattle.hls_http.specs.declared.input.Filled.{Filled}
-use Rattle.hls_http.specs.declared.input.Filled.TheVariants.{More, AtEnd, Failed}
+use Rattle.hls_http.specs.declared.input.Filled.TheVariants.{AtEnd}
 use Rattle.hls_http.specs.Heads.{IsHead, FoundHead, Heard}
-use Rattle.hls_http.specs.Source.{Fills}
+use Rattle.hls_http.specs.Input.{Reads}
 
 -- of two ways to cut a text, the shorter front begins the longer
 pub front : (a b c d : List ℕ) → c ++ d ≡ a ++ b → length a ≤ length c → c ≡ a ++ drop (length a) c
@@ -74,26 +74,23 @@ heard_ok input held now taken old left head len known found now_is taken_is left
       known = ap (λ o. prepend_known now o) (left_is ∙ w.left_is) ∙ ap (λ xs. Some (xs ++ w.rest)) now_is;
     }
 
--- .. when more of it was read
-pub filled_known : (held rest now : List ℕ) (left : Option (List ℕ)) (filled : Filled) → Fills held rest now left filled → prepend_known now left ≡ Some (held ++ rest)
-filled_known held rest now left More f =
-    ap (λ o. prepend_known now o) f.left_is
-    ∙ ap Some (ap (λ xs. xs ++ f.later) f.now_is ∙ append_assoc held f.bytes f.later ∙ ap (λ xs. held ++ xs) (sym f.split))
-filled_known held rest now left AtEnd f = ap (λ o. prepend_known now o) f.2 ∙ ap Some (ap (λ xs. xs ++ []) f.0 ∙ ap (λ xs. held ++ xs) (sym f.1))
-filled_known held rest now left Failed f = ap (λ o. prepend_known now o) f.1 ∙ ap (λ xs. Some (xs ++ rest)) f.0
+-- .. behind a read, which brought some of it
+pub reads_known : (input held now : List ℕ) (old left : Option (List ℕ)) (brought : Filled) → prepend_known held old ≡ Some input → Reads held now old left brought → prepend_known now left ≡ Some input
+reads_known input held now None left brought known r = absurd (cc known)
+reads_known input held now (Some xs) None brought known r = absurd r.consumes
+reads_known input held now (Some xs) (Some ys) brought known r =
+    ap (λ zs. Some (zs ++ ys)) r.behind ∙ ap Some (append_assoc held r.bytes ys ∙ ap (λ zs. held ++ zs) (sym r.consumes)) ∙ known
 
--- .. what one read brought, where something of it was known
-pub filled_there : (input held now : List ℕ) (old left : Option (List ℕ)) (filled : Filled) → prepend_known held old ≡ Some input
-    → ((rest : List ℕ) → old ≡ Some rest → Fills held rest now left filled) → (prepend_known now left ≡ Some input) × (rest : List ℕ) × Fills held rest now left filled
-filled_there input held now old left filled known fills =
-    let w = known_left held old input known in
-    let f = fills w.rest w.left_is in
-    (filled_known held w.rest now left filled f ∙ ap Some (sym w.input_is), w.rest, f)
+-- .. where it brought nothing
+pub none_came : (held now bytes : List ℕ) → now ≡ held ++ bytes → bytes ≡ [] → now ≡ held
+none_came held now bytes is none = is ∙ ap (λ xs. held ++ xs) none ∙ append-nil held
 
--- .. all of it, at the input's end
-pub at_end : (input held now : List ℕ) (old left : Option (List ℕ)) → prepend_known held old ≡ Some input → ((rest : List ℕ) → old ≡ Some rest → Fills held rest now left AtEnd)
+-- .. at the input's end
+pub at_end : (input held now : List ℕ) (old left : Option (List ℕ)) → prepend_known held old ≡ Some input → Reads held now old left AtEnd
     → (held ≡ input) × (now ≡ input) × (prepend_known now left ≡ Some input) × (left ≡ Some [])
-at_end input held now old left known ends =
-    let e = filled_there input held now old left AtEnd known ends in
-    let all : now ≡ input = sym (append-nil now) ∙ cc (ap (λ o. prepend_known now o) (sym e.2.2) ∙ e.0) in
-    (sym e.2.0 ∙ all, all, e.0, e.2.2)
+at_end input held now old left known r =
+    let there = reads_known input held now old left AtEnd known r in
+    let w = known_left now left input there in
+    let none : w.rest ≡ [] = subst IsAtEnd w.left_is r.brings.1 in
+    let all : now ≡ input = sym (w.input_is ∙ ap (λ xs. now ++ xs) none ∙ append-nil now) in
+    (sym (none_came held now r.bytes r.behind r.brings.0) ∙ all, all, there, w.left_is ∙ ap Some none)

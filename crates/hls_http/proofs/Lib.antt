@@ -1,9 +1,10 @@
-pub mod BodySteps
+mod BodySteps
 mod Buffers
 mod Digits
-pub mod HeadLaws
+mod HeadLaws
 mod QueryLaws
-pub mod ReplyLaws
+mod ReplyLaws
 mod SendLaws
 mod Values
 mod Words
+pub mod Callers

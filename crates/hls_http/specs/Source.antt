@@ -1,9 +1,7 @@
 -- What is told of a source: what it holds, what was taken last, and the reader inside.
-use Rattle.std.specs.Prelude.{◌≡◌, ℕ, ◌<◌, List, [], ◌++◌, length, Option, Some}
+use Rattle.std.specs.Prelude.{◌≡◌, ℕ, List, [], ◌++◌, Option, Some}
 use Rattle.hls_io.specs.Counted.{calls_left, failures_of, inside_of}
 use Rattle.hls_http.specs.declared.source.Source.{Source}
-use Rattle.hls_http.specs.declared.input.Filled.{Filled}
-use Rattle.hls_http.specs.declared.input.Filled.TheVariants.{More, AtEnd, Failed}
 
 -- read, and not yet taken
 abbrev pub held_of : {R : Type 0} → Source R → List ℕ
@@ -33,18 +31,3 @@ pub record IsFresh {R : Type 0} (reader : R) (source : Source R) : Type 0 where
   pub held : held_of source ≡ []
   pub inside : reader_of source ≡ reader
   pub quiet : read_failures source ≡ 0
-
--- some bytes came of the rest
-pub record Grows (held rest now : List ℕ) (left : Option (List ℕ)) : Type 0 where
-  pub bytes : List ℕ
-  pub later : List ℕ
-  pub some : 0 < length bytes
-  pub now_is : now ≡ held ++ bytes
-  pub split : rest ≡ bytes ++ later
-  pub left_is : left ≡ Some later
-
--- by what one read brought: what is held now, and what is left
-abbrev pub Fills : List ℕ → List ℕ → List ℕ → Option (List ℕ) → Filled → Type 0
-Fills held rest now left More = Grows held rest now left
-Fills held rest now left AtEnd = (now ≡ held) × (rest ≡ []) × (left ≡ Some [])
-Fills held rest now left Failed = (now ≡ held) × (left ≡ Some rest)

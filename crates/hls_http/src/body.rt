@@ -8,7 +8,6 @@ ghost use Rattle.hls_http.specs.Source.{FromSource, read_failures, taken_of};
 use crate::input::Filled;
 use crate::source::Source;
 use hls_http_laws::body::Body;
-use hls_http_laws::laws::{fronts_join, fronts_stay};
 use hls_http_laws::limits::{MOST_FIELDS, MOST_HEAD};
 use httparse::spans::{EMPTY_HEADER_SPAN, parse_headers};
 use httparse::{Status, parse_chunk_size};
@@ -179,8 +178,6 @@ pub fn read_body<R: Read>(source: &mut Source<R>, body: &mut Body) -> Result<Giv
     ensures passes { FromSource R.remaining source.old source.new (λ input. Passes body.old input body.new (taken_of source.new)) result }
     ensures counts { CountsBody result (read_failures source.old) (read_failures source.new) }
 {
-    fronts_stay();
-    fronts_join();
     loop {
         if *body == Body::Length(0) {
             return Ok(Given::Over);

@@ -1,9 +1,8 @@
 //! What was read of a connection and not yet taken.
 
-ghost use Rattle.std.specs.Prelude.{◌≡◌, ◌≢◌, ◌<◌, ◌≤◌, ◌==◌, length, take, drop, slice_range, IsSome, IfSome, IfNone, IfOk, OnOk, OnErr};
+ghost use Rattle.std.specs.Prelude.{◌≡◌, ◌≢◌, ◌<◌, ◌≤◌, ◌==◌, length, take, drop, slice_range, IfOk, OnOk, OnErr};
 ghost use Rattle.std.specs.Io.KnownBytes.{Consumes, IsAtEnd, Keeps};
 ghost use Rattle.hls_io.specs.Counted.{calls_left, failures_of, inside_of};
-ghost use Rattle.hls_io.specs.Rose.{Rose};
 ghost use Rattle.hls_http.specs.Input.{Came, CountsFill, Reads};
 
 use hls_io::Counted;
@@ -76,23 +75,8 @@ fn make_room(buffer: &mut [u8], start: usize, end: usize) -> (usize, usize)
     (0, end - start)
 }
 
-/// Reads behind the first `end` bytes.
-fn read_behind<R: Read>(reader: &mut Counted<R>, buffer: &mut [u8], end: usize) -> Option<usize>
-    requires { end < length buffer.old }
-    ensures front { take end buffer.new ≡ take end buffer.old }
-    ensures quiet { IsSome result → failures_of reader.new ≡ failures_of reader.old }
-    ensures progress { IsSome result → calls_left reader.new < calls_left reader.old }
-    ensures bound { IfSome result (λ n. n ≤ length (drop end buffer.new)) }
-    ensures bytes { IfSome result (λ n. Consumes (R.remaining (inside_of reader.old)) (R.remaining (inside_of reader.new)) (take n (drop end buffer.new))) }
-    ensures end { IfSome result (λ n. n ≡ 0 → IsAtEnd (R.remaining (inside_of reader.new))) }
-    ensures rose { IfNone result (Rose (failures_of reader.old) (failures_of reader.new)) }
-    ensures kept { IfNone result (Keeps (R.remaining (inside_of reader.old)) (R.remaining (inside_of reader.new))) }
-{
-    reader.read(&mut buffer[end..])
-}
-
 /// Reads behind the first `end` bytes, and passes on what the reader says.
-fn read_plainly<R: Read>(reader: &mut R, buffer: &mut [u8], end: usize) -> io::Result<usize>
+fn read_behind<R: Read>(reader: &mut R, buffer: &mut [u8], end: usize) -> io::Result<usize>
     requires { end < length buffer.old }
     ensures front { take end buffer.new ≡ take end buffer.old }
     ensures bound { IfOk result (λ n. n ≤ length (drop end buffer.new)) }
@@ -105,7 +89,7 @@ fn read_plainly<R: Read>(reader: &mut R, buffer: &mut [u8], end: usize) -> io::R
 
 /// Reads once behind what stands from one place of the buffer to another, passes on what the reader says, and says where all of it
 /// then stands.
-fn read_some_on<R: Read>(
+fn read_on<R: Read>(
     reader: &mut R,
     buffer: &mut [u8],
     start: usize,
@@ -119,34 +103,9 @@ fn read_some_on<R: Read>(
     ensures within { result.2 ≤ length buffer.new }
 {
     let (start, end) = make_room(buffer, start, end);
-    match read_plainly(reader, buffer, end) {
+    match read_behind(reader, buffer, end) {
         Ok(read) => (Ok(read), start, end + read),
         Err(error) => (Err(error), start, end),
-    }
-}
-
-/// Reads once behind what stands from one place of the buffer to another, and says where that and what came then stand.
-fn read_on<R: Read>(
-    reader: &mut Counted<R>,
-    buffer: &mut [u8],
-    start: usize,
-    end: usize,
-) -> (Filled, usize, usize)
-    requires ordered { start ≤ end }
-    requires within { end ≤ length buffer.old }
-    requires few { length (slice_range buffer.old start end) < length buffer.old }
-    ensures reads { Reads (slice_range buffer.old start end) (slice_range buffer.new result.1 result.2)
-        (R.remaining (inside_of reader.old)) (R.remaining (inside_of reader.new)) result.0 }
-    ensures ordered { result.1 ≤ result.2 }
-    ensures within { result.2 ≤ length buffer.new }
-    ensures counts { CountsFill result.0 (failures_of reader.old) (failures_of reader.new) }
-    ensures progress { result.0 ≢ Filled.Failed → calls_left reader.new < calls_left reader.old }
-{
-    let (start, end) = make_room(buffer, start, end);
-    match read_behind(reader, buffer, end) {
-        Some(0) => (Filled::AtEnd, start, end),
-        Some(read) => (Filled::More, start, end + read),
-        None => (Filled::Failed, start, end),
     }
 }
 
@@ -246,8 +205,9 @@ impl Input {
         requires { length self.old.unread < self.old.room }
         ensures came { Came self.old.unread self.new.unread (R.remaining reader.old) (R.remaining reader.new) result }
         ensures room { self.new.room ≡ self.old.room }
+        ensures few { length self.new.unread ≤ 65536 }
     {
-        let (read, start, end) = read_some_on(reader, &mut self.buffer, self.start, self.end);
+        let (read, start, end) = read_on(reader, &mut self.buffer, self.start, self.end);
         self.from = start;
         self.start = start;
         self.end = end;
@@ -263,10 +223,17 @@ impl Input {
         ensures counts { CountsFill result (failures_of reader.old) (failures_of reader.new) }
         ensures progress { result ≢ Filled.Failed → calls_left reader.new < calls_left reader.old }
     {
-        let (filled, start, end) = read_on(reader, &mut self.buffer, self.start, self.end);
-        self.from = start;
-        self.start = start;
-        self.end = end;
-        filled
+        if !reader.starts_call() {
+            self.from = self.start;
+            return Filled::Failed;
+        }
+        match self.read_some(&mut reader.inner) {
+            Ok(0) => Filled::AtEnd,
+            Ok(_) => Filled::More,
+            Err(_) => {
+                reader.count_failure();
+                Filled::Failed
+            }
+        }
     }
 }

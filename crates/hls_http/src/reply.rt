@@ -58,8 +58,7 @@ fn push_content(out: &mut Vec<u8>, status: Status, kind: Kind, len: u64) -> Resu
         return Ok(());
     }
     out.extend_from_slice(type_text(kind))?;
-    push_between(out, b"Content-Length: ", len, b"\r\n")?;
-    Ok(())
+    push_between(out, b"Content-Length: ", len, b"\r\n")
 }
 
 fn push_range(out: &mut Vec<u8>, first: u64, last: u64, total: u64) -> Result<(), AllocError>
@@ -76,8 +75,7 @@ fn push_allow(out: &mut Vec<u8>, methods: &[u8]) -> Result<(), AllocError>
 {
     out.extend_from_slice(b"Allow: ")?;
     out.extend_from_slice(methods)?;
-    out.extend_from_slice(b"\r\n")?;
-    Ok(())
+    out.extend_from_slice(b"\r\n")
 }
 
 fn push_extra(out: &mut Vec<u8>, extra: Extra<'_>) -> Result<(), AllocError>

@@ -62,15 +62,13 @@ impl<R> Source<R> {
 }
 
 impl<R: Read> Source<R> {
-    ghost use Rattle.hls_io.specs.Streams.{FromInput};
     ghost use Rattle.hls_http.specs.Input.{CountsFill, Reads};
-    ghost use Rattle.hls_http.specs.Source.{held_of, read_failures, reader_of, reads_left, Fills};
+    ghost use Rattle.hls_http.specs.Source.{held_of, read_failures, reader_of, reads_left};
 
     /// Reads once, behind the held bytes.
     pub fn fill(&mut self) -> Filled
         requires { length (held_of self.old) < 65536 }
         ensures reads { Reads (held_of self.old) (held_of self.new) (R.remaining (reader_of self.old)) (R.remaining (reader_of self.new)) result }
-        ensures fills { FromInput R.remaining self.old.reader self.new.reader (λ rest. Fills (held_of self.old) rest (held_of self.new)) result }
         ensures few { length (held_of self.new) ≤ 65536 }
         ensures counts { CountsFill result (read_failures self.old) (read_failures self.new) }
         ensures progress { result ≢ Filled.Failed → reads_left self.new < reads_left self.old }

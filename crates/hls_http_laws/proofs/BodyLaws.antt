@@ -1,14 +1,24 @@
 -- Bodies by steps and by the grammar.
-use Rattle.std.proofs.Common.{◌≡◌, ◌∙◌, ℕ, zero, suc, ◌<◌, inl, inr, List, [], ◌∷◌, ◌++◌, length, Option, Some, refl, sym, ap, subst, append_assoc, append-nil, arith, length-append, ◌⊎◌}
+use Rattle.std.proofs.Common.{◌≡◌, ◌∙◌, ℕ, zero, suc, ◌+◌, ◌<◌, ◌≤◌, inl, inr, List, [], ◌∷◌, ◌++◌, length, refl, sym, ap, subst, append_assoc, append-nil, arith, length-append, ◌⊎◌}
 use Rattle.std.specs.List.{flat_map}
-use Rattle.httparse.specs.Grammar.{ChunkLine, print_chunk_line, chunk_size}
+use Rattle.std.proofs.lemmas.List.{nil_from_length}
+use Rattle.httparse.specs.Grammar.{ChunkLine, Field, LineEnd, crlf, lf, print_chunk_line, print_field, print_section, chunk_size}
 use Rattle.httparse.proofs.GrammarLemmas.{section_unique}
 use Rattle.httparse.proofs.ChunkLemmas.{chunk_line_unique}
 use Rattle.hls_http_laws.specs.declared.body.Body.{Body}
 use Rattle.hls_http_laws.specs.declared.body.Body.TheVariants.{Length, Size, Data, Trailers}
-use Rattle.hls_http_laws.specs.Bodies.{IsPiece, ReadsLine, ReadsTrailers, after_line, TakesData, EndsData, Steps, RunsIn, Runs, IsBroken, Goes}
+use Rattle.hls_http_laws.specs.Bodies.{IsPiece, ReadsLine, ReadsTrailers, after_line, TakesData, EndsData, Steps, RunsIn, Runs, IsBroken}
+use Rattle.hls_http_laws.specs.Laws.{BodiesByGrammar, BodiesAreOne}
 use Rattle.hls_http_laws.specs.Grammar.{Chunk, chunk_bytes, print_chunk, IsLine, AreChunks, ReadsChunked, ReadsRestOfChunk, IsBody}
-use Rattle.hls_http_laws.proofs.Lists.{cut, none_of_length}
+
+-- of two ways to cut a text the shorter front begins the longer
+pub cut : (a b c d : List ℕ) → a ++ b ≡ c ++ d → length a ≤ length c → (m : List ℕ) × (c ≡ a ++ m) × (b ≡ m ++ d)
+cut [] b c d e h = (c, refl, e)
+cut (x ∷ a) b [] d e h = absurd (omega arith)
+cut (x ∷ a) b (y ∷ c) d e h =
+    let rest : a ++ b ≡ c ++ d = cc in
+    let w = cut a b c d rest (omega arith) in
+    (w.0, cc (w.1), w.2)
 
 -- ---- what is taken is a body
 
@@ -78,7 +88,7 @@ data_body n next input piece rest content end (inr s) body = record {
 trailers_body : (next : Body) (input piece rest content end : List ℕ) → ReadsTrailers input rest → piece ≡ [] → next ≡ Length 0 → IsBody next rest content end → (piece ++ content ≡ []) × ReadsTrailers input end
 trailers_body next input piece rest content end t none is body =
     let h = subst (λ (b : Body). IsBody b rest content end) is body in
-    let empty = none_of_length content h.1 in
+    let empty = nil_from_length content h.1 in
     let same : rest ≡ end = h.0 ∙ ap (λ xs. xs ++ end) empty in
     (ap (λ xs. xs ++ content) none ∙ empty, subst (λ (xs : List ℕ). ReadsTrailers input xs) same t)
 
@@ -102,6 +112,92 @@ run_body (suc k) b input content rest r =
 pub body_taken : (b : Body) (input content rest : List ℕ) → Runs b input content (Length 0) rest → IsBody b input content rest
 body_taken b input content rest r = run_body r.steps b input content rest r.run
 
+-- ---- how a body begins
+
+-- a chunk's size is that of its bytes, of which there is one at least
+sized : (n : ℕ) → 0 < n → after_line n ≡ Data n
+sized zero h = absurd (omega arith)
+sized (suc n) h = refl
+
+pub some_line : (line : ChunkLine) → 0 < length (print_chunk_line line)
+unfolding print_chunk_line
+some_line line = omega (arith, length-append {A = ℕ})
+
+pub some_section : (fields : List Field) (last : LineEnd) → 0 < length (print_section fields last)
+some_section fields crlf = omega (arith, length-append (flat_map print_field fields) (13 ∷ 10 ∷ []))
+some_section fields lf = omega (arith, length-append (flat_map print_field fields) (10 ∷ []))
+
+-- a first step, and the body that is left
+pub record Opens (b : Body) (input content rest : List ℕ) : Type 0 where
+  pub piece : List ℕ
+  pub next : Body
+  pub middle : List ℕ
+  pub more : List ℕ
+  pub step : Steps b input piece next middle
+  pub body : IsBody next middle more rest
+  pub split : content ≡ piece ++ more
+  pub shorter : length middle < length input
+
+-- a size line, and then its chunk or the trailers
+record OpensChunked (input content rest : List ℕ) : Type 0 where
+  pub size : ℕ
+  pub middle : List ℕ
+  pub line : ReadsLine input size middle
+  pub body : IsBody (after_line size) middle content rest
+
+first_line : (chunks : List Chunk) (last : ChunkLine) (input content after rest : List ℕ) → AreChunks chunks → IsLine last → chunk_size last ≡ 0
+    → input ≡ flat_map print_chunk chunks ++ (print_chunk_line last ++ after) → ReadsTrailers after rest → content ≡ flat_map chunk_bytes chunks → OpensChunked input content rest
+first_line [] last input content after rest each good size whole trailers is =
+    record { size = 0; middle = after; line = record { line = last; reads = (good.good, whole); small = good.small; size_is = sym size }; body = (is, trailers) }
+first_line (chunk ∷ chunks) last input content after rest each good size whole trailers is =
+    let behind : List ℕ = flat_map print_chunk chunks ++ (print_chunk_line last ++ after) in
+    let text : List ℕ = chunk.bytes ++ 13 ∷ 10 ∷ behind in
+    let split : input ≡ print_chunk_line chunk.line ++ text =
+    whole ∙ sym (regroup (print_chunk_line chunk.line) chunk.bytes (13 ∷ 10 ∷ []) (flat_map print_chunk chunks) (print_chunk_line last ++ after)) in
+    let more : ReadsChunked behind (flat_map chunk_bytes chunks) rest =
+    record { chunks = chunks; each = each.1; last = last; last_line = good; last_size = size; after = after; whole = refl; trailers = trailers; content_is = refl } in
+    let body : IsBody (Data (length chunk.bytes)) text content rest =
+    record { bytes = chunk.bytes; more = flat_map chunk_bytes chunks; middle = behind; count = refl; whole = refl; chunks = more; content_is = is } in
+    record {
+      size = length chunk.bytes;
+      middle = text;
+      line = record { line = chunk.line; reads = (each.0.line.good, split); small = each.0.line.small; size_is = each.0.size };
+      body = subst (λ (b : Body). IsBody b text content rest) (sym (sized (length chunk.bytes) each.0.some)) body;
+    }
+
+opens_chunked : (input content rest : List ℕ) → ReadsChunked input content rest → OpensChunked input content rest
+opens_chunked input content rest h = first_line h.chunks h.last input content h.after rest h.each h.last_line h.last_size h.whole h.trailers h.content_is
+
+length_opens : (n : ℕ) (input content rest : List ℕ) → IsBody (Length (suc n)) input content rest → Opens (Length (suc n)) input content rest
+length_opens n input content rest h =
+    let step : IsPiece (suc n) input content 0 rest = record { whole = h.0; some = omega (arith, h.1); count = omega (arith, h.1) } in
+    let shorter : length rest < length input = omega (arith, ap length h.0, h.1, length-append content rest) in
+    record { piece = content; next = Length 0; middle = rest; more = []; step = (0, step, refl); body = (refl, refl); split = sym (append-nil content); shorter = shorter }
+
+pub size_opens : (input content rest : List ℕ) → ReadsChunked input content rest → Opens Size input content rest
+size_opens input content rest h =
+    let o = opens_chunked input content rest h in
+    let shorter : length o.middle < length input = omega (arith, some_line o.line.line, ap length o.line.reads.1, length-append (print_chunk_line o.line.line) o.middle) in
+    record { piece = []; next = after_line o.size; middle = o.middle; more = content; step = (o.size, o.line, refl, refl); body = o.body; split = refl; shorter = shorter }
+
+data_opens : (n : ℕ) (input content rest : List ℕ) → ReadsRestOfChunk n input content rest → Opens (Data n) input content rest
+data_opens zero input content rest h =
+    let empty = nil_from_length h.bytes h.count in
+    let text : input ≡ 13 ∷ 10 ∷ h.middle = h.whole ∙ ap (λ xs. xs ++ 13 ∷ 10 ∷ h.middle) empty in
+    let split : content ≡ h.more = h.content_is ∙ ap (λ xs. xs ++ h.more) empty in
+    record { piece = []; next = Size; middle = h.middle; more = h.more; step = inr (refl, text, refl, refl); body = h.chunks; split = split; shorter = omega (arith, ap length text) }
+data_opens (suc n) input content rest h =
+    let behind : List ℕ = 13 ∷ 10 ∷ h.middle in
+    let step : IsPiece (suc n) input h.bytes 0 behind = record { whole = h.whole; some = omega (arith, h.count); count = omega (arith, h.count) } in
+    let body : IsBody (Data 0) behind h.more rest = record { bytes = []; more = h.more; middle = h.middle; count = refl; whole = refl; chunks = h.chunks; content_is = refl } in
+    let shorter : length behind < length input = omega (arith, ap length h.whole, h.count, length-append h.bytes behind) in
+    record { piece = h.bytes; next = Data 0; middle = behind; more = h.more; step = inl (0, step, refl); body = body; split = h.content_is; shorter = shorter }
+
+trailers_open : (input content rest : List ℕ) → (content ≡ []) × ReadsTrailers input rest → Opens Trailers input content rest
+trailers_open input content rest h =
+    let shorter : length rest < length input = omega (arith, some_section h.1.fields h.1.last, ap length h.1.reads.1, length-append (print_section h.1.fields h.1.last) rest) in
+    record { piece = []; next = Length 0; middle = rest; more = []; step = (h.1, refl, refl); body = (refl, refl); split = h.0; shorter = shorter }
+
 -- ---- a body is taken
 
 pub runs_none : (b : Body) (input : List ℕ) → Runs b input [] b input
@@ -110,67 +206,29 @@ runs_none b input = record { steps = 0; run = (refl, refl, refl) }
 pub runs_step : (b next last : Body) (input piece middle more rest : List ℕ) → Steps b input piece next middle → Runs next middle more last rest → Runs b input (piece ++ more) last rest
 runs_step b next last input piece middle more rest step r = record { steps = suc r.steps; run = (piece, next, middle, more, step, r.run, refl) }
 
-length_taken : (n : ℕ) (input content rest : List ℕ) → (input ≡ content ++ rest) × (length content ≡ n) → Runs (Length n) input content (Length 0) rest
-length_taken zero input content rest h =
-    let empty = none_of_length content h.1 in
-    record { steps = 0; run = (refl, sym (h.0 ∙ ap (λ xs. xs ++ rest) empty), empty) }
-length_taken (suc n) input content rest h =
-    let piece : IsPiece (suc n) input content 0 rest = record { whole = h.0; some = omega (arith, h.1); count = omega (arith, h.1) } in
-    subst (λ (c : List ℕ). Runs (Length (suc n)) input c (Length 0) rest) (append-nil content)
-    (runs_step (Length (suc n)) (Length 0) (Length 0) input content rest [] rest (0, piece, refl) (runs_none (Length 0) rest))
+taken_on : (b : Body) (input content rest : List ℕ) (o : Opens b input content rest) → Runs o.next o.middle o.more (Length 0) rest → Runs b input content (Length 0) rest
+taken_on b input content rest o r =
+    subst (λ (c : List ℕ). Runs b input c (Length 0) rest) (sym o.split) (runs_step b o.next (Length 0) input o.piece o.middle o.more rest o.step r)
 
-trailers_taken : (input content rest : List ℕ) → (content ≡ []) × ReadsTrailers input rest → Runs Trailers input content (Length 0) rest
-trailers_taken input content rest h =
-    subst (λ (c : List ℕ). Runs Trailers input c (Length 0) rest) (sym h.0)
-    (runs_step Trailers (Length 0) (Length 0) input [] rest [] rest (h.1, refl, refl) (runs_none (Length 0) rest))
-
-data_end_taken : (middle more rest : List ℕ) → Runs Size middle more (Length 0) rest → Runs (Data 0) (13 ∷ 10 ∷ middle) more (Length 0) rest
-data_end_taken middle more rest r = runs_step (Data 0) Size (Length 0) (13 ∷ 10 ∷ middle) [] middle more rest (inr (refl, refl, refl, refl)) r
-
-data_taken : (n : ℕ) (input bytes middle more rest : List ℕ) → length bytes ≡ n → input ≡ bytes ++ 13 ∷ 10 ∷ middle → Runs Size middle more (Length 0) rest → Runs (Data n) input (bytes ++ more) (Length 0) rest
-data_taken zero input bytes middle more rest count whole r =
-    let empty = none_of_length bytes count in
-    let text : input ≡ 13 ∷ 10 ∷ middle = whole ∙ ap (λ xs. xs ++ 13 ∷ 10 ∷ middle) empty in
-    subst (λ (c : List ℕ). Runs (Data 0) input (c ++ more) (Length 0) rest) (sym empty)
-    (subst (λ (i : List ℕ). Runs (Data 0) i more (Length 0) rest) (sym text) (data_end_taken middle more rest r))
-data_taken (suc n) input bytes middle more rest count whole r =
-    let piece : IsPiece (suc n) input bytes 0 (13 ∷ 10 ∷ middle) = record { whole = whole; some = omega (arith, count); count = omega (arith, count) } in
-    runs_step (Data (suc n)) (Data 0) (Length 0) input bytes (13 ∷ 10 ∷ middle) more rest (inl (0, piece, refl)) (data_end_taken middle more rest r)
-
-line_step : (line : ChunkLine) (input rest : List ℕ) (n : ℕ) → IsLine line → input ≡ print_chunk_line line ++ rest → n ≡ chunk_size line → Steps Size input [] (after_line n) rest
-line_step line input rest n good whole size = (n, record { line = line; reads = (good.good, whole); small = good.small; size_is = size }, refl, refl)
-
--- a chunk's size is that of its bytes, of which there is one at least
-sized : (n : ℕ) → 0 < n → after_line n ≡ Data n
-sized zero h = absurd (omega arith)
-sized (suc n) h = refl
-
-chunks_taken : (chunks : List Chunk) (last : ChunkLine) (input content after rest : List ℕ) → AreChunks chunks → IsLine last → chunk_size last ≡ 0
-    → input ≡ flat_map print_chunk chunks ++ (print_chunk_line last ++ after) → ReadsTrailers after rest → content ≡ flat_map chunk_bytes chunks → Runs Size input content (Length 0) rest
-chunks_taken [] last input content after rest each good size whole trailers is =
-    subst (λ (c : List ℕ). Runs Size input c (Length 0) rest) (sym is)
-    (runs_step Size Trailers (Length 0) input [] after [] rest (line_step last input after 0 good whole (sym size)) (trailers_taken after [] rest (refl, trailers)))
-chunks_taken (chunk ∷ chunks) last input content after rest each good size whole trailers is =
-    let behind : List ℕ = flat_map print_chunk chunks ++ (print_chunk_line last ++ after) in
-    let data_text : List ℕ = chunk.bytes ++ 13 ∷ 10 ∷ behind in
-    let split : input ≡ print_chunk_line chunk.line ++ data_text = whole ∙ sym (regroup (print_chunk_line chunk.line) chunk.bytes (13 ∷ 10 ∷ []) (flat_map print_chunk chunks) (print_chunk_line last ++ after)) in
-    let n : ℕ = length chunk.bytes in
-    let first = subst (λ (b : Body). Steps Size input [] b data_text) (sized n each.0.some) (line_step chunk.line input data_text n each.0.line split each.0.size) in
-    let more = chunks_taken chunks last behind (flat_map chunk_bytes chunks) after rest each.1 good size refl trailers refl in
-    subst (λ (c : List ℕ). Runs Size input c (Length 0) rest) (sym is)
-    (runs_step Size (Data n) (Length 0) input [] data_text (chunk.bytes ++ flat_map chunk_bytes chunks) rest first
-    (data_taken n data_text chunk.bytes behind (flat_map chunk_bytes chunks) rest refl refl more))
-
-chunked_taken : (input content rest : List ℕ) → ReadsChunked input content rest → Runs Size input content (Length 0) rest
-chunked_taken input content rest r = chunks_taken r.chunks r.last input content r.after rest r.each r.last_line r.last_size r.whole r.trailers r.content_is
+-- each step leaves less of the input
+taken_in : (k : ℕ) (b : Body) (input content rest : List ℕ) → length input < k → IsBody b input content rest → Runs b input content (Length 0) rest
+taken_in zero b input content rest few h = absurd (omega arith)
+taken_in (suc k) (Length zero) input content rest few h =
+    let empty = nil_from_length content h.1 in record { steps = 0; run = (refl, sym (h.0 ∙ ap (λ xs. xs ++ rest) empty), empty) }
+taken_in (suc k) (Length (suc n)) input content rest few h =
+    let o = length_opens n input content rest h in taken_on (Length (suc n)) input content rest o (taken_in k o.next o.middle o.more rest (omega (arith, o.shorter)) o.body)
+taken_in (suc k) Size input content rest few h =
+    let o = size_opens input content rest h in taken_on Size input content rest o (taken_in k o.next o.middle o.more rest (omega (arith, o.shorter)) o.body)
+taken_in (suc k) (Data n) input content rest few h =
+    let o = data_opens n input content rest h in taken_on (Data n) input content rest o (taken_in k o.next o.middle o.more rest (omega (arith, o.shorter)) o.body)
+taken_in (suc k) Trailers input content rest few h =
+    let o = trailers_open input content rest h in taken_on Trailers input content rest o (taken_in k o.next o.middle o.more rest (omega (arith, o.shorter)) o.body)
 
 pub taken_body : (b : Body) (input content rest : List ℕ) → IsBody b input content rest → Runs b input content (Length 0) rest
-taken_body (Length n) input content rest h = length_taken n input content rest h
-taken_body Size input content rest h = chunked_taken input content rest h
-taken_body (Data n) input content rest h =
-    subst (λ (c : List ℕ). Runs (Data n) input c (Length 0) rest) (sym h.content_is)
-    (data_taken n input h.bytes h.middle h.more rest h.count h.whole (chunked_taken h.middle h.more rest h.chunks))
-taken_body Trailers input content rest h = trailers_taken input content rest h
+taken_body b input content rest h = taken_in (suc (length input)) b input content rest (omega arith) h
+
+pub body_by_steps : BodiesByGrammar
+body_by_steps b input content rest = (body_taken b input content rest, taken_body b input content rest)
 
 -- ---- a step of a text that begins with a body is a step of that body
 
@@ -185,26 +243,13 @@ length_left n next input piece middle content rest s h =
     let left : IsBody (Length s.0) middle w.0 rest = (w.2, omega (arith, s.1.count, h.1, ap length w.1, length-append piece w.0)) in
     record { more = w.0; split = w.1; body = subst (λ (b : Body). IsBody b middle w.0 rest) (sym s.2) left }
 
--- the line that was read is that of the first chunk, or of the last
-size_left : (chunks : List Chunk) (last : ChunkLine) (next : Body) (input piece middle content after rest : List ℕ) → Steps Size input piece next middle
-    → AreChunks chunks → IsLine last → chunk_size last ≡ 0 → input ≡ flat_map print_chunk chunks ++ (print_chunk_line last ++ after) → ReadsTrailers after rest → content ≡ flat_map chunk_bytes chunks
-    → LeftOf next piece content middle rest
-size_left [] last next input piece middle content after rest s each good size whole trailers is =
-    let same = chunk_line_unique input s.1.line last middle after s.1.reads (good.good, whole) in
-    let zero_size : s.0 ≡ 0 = s.1.size_is ∙ ap chunk_size same.0 ∙ size in
-    let next_is : next ≡ Trailers = s.3 ∙ ap after_line zero_size in
-    let body : IsBody Trailers middle content rest = (is, subst (λ (xs : List ℕ). ReadsTrailers xs rest) (sym same.1) trailers) in
-    record { more = content; split = ap (λ xs. xs ++ content) (sym s.2); body = subst (λ (b : Body). IsBody b middle content rest) (sym next_is) body }
-size_left (chunk ∷ chunks) last next input piece middle content after rest s each good size whole trailers is =
-    let behind : List ℕ = flat_map print_chunk chunks ++ (print_chunk_line last ++ after) in
-    let data_text : List ℕ = chunk.bytes ++ 13 ∷ 10 ∷ behind in
-    let split : input ≡ print_chunk_line chunk.line ++ data_text = whole ∙ sym (regroup (print_chunk_line chunk.line) chunk.bytes (13 ∷ 10 ∷ []) (flat_map print_chunk chunks) (print_chunk_line last ++ after)) in
-    let same = chunk_line_unique input s.1.line chunk.line middle data_text s.1.reads (each.0.line.good, split) in
-    let n : ℕ = length chunk.bytes in
-    let size_is : s.0 ≡ n = s.1.size_is ∙ ap chunk_size same.0 ∙ sym each.0.size in
-    let next_is : next ≡ Data n = s.3 ∙ ap after_line size_is ∙ sized n each.0.some in
-    let chunked : ReadsChunked behind (flat_map chunk_bytes chunks) rest = record { chunks = chunks; each = each.1; last = last; last_line = good; last_size = size; after = after; whole = refl; trailers = trailers; content_is = refl } in
-    let body : IsBody (Data n) middle content rest = record { bytes = chunk.bytes; more = flat_map chunk_bytes chunks; middle = behind; count = refl; whole = same.1; chunks = chunked; content_is = is } in
+-- the line that was read is the first
+size_left : (next : Body) (input piece middle content rest : List ℕ) → Steps Size input piece next middle → IsBody Size input content rest → LeftOf next piece content middle rest
+size_left next input piece middle content rest s h =
+    let o = opens_chunked input content rest h in
+    let same = chunk_line_unique input s.1.line o.line.line middle o.middle s.1.reads o.line.reads in
+    let next_is : next ≡ after_line o.size = s.3 ∙ ap after_line (s.1.size_is ∙ ap chunk_size same.0 ∙ sym o.line.size_is) in
+    let body = subst (λ (m : List ℕ). IsBody (after_line o.size) m content rest) (sym same.1) o.body in
     record { more = content; split = ap (λ xs. xs ++ content) (sym s.2); body = subst (λ (b : Body). IsBody b middle content rest) (sym next_is) body }
 
 data_left : (n : ℕ) (next : Body) (input piece middle content rest : List ℕ) → TakesData n input piece next middle ⊎ EndsData n input piece next middle → IsBody (Data n) input content rest → LeftOf next piece content middle rest
@@ -225,7 +270,7 @@ data_left n next input piece middle content rest (inl s) h =
       body = subst (λ (b : Body). IsBody b middle (w.0 ++ h.more) rest) (sym s.2) left;
     }
 data_left n next input piece middle content rest (inr s) h =
-    let empty = none_of_length h.bytes (h.count ∙ s.0) in
+    let empty = nil_from_length h.bytes (h.count ∙ s.0) in
     let texts : 13 ∷ 10 ∷ middle ≡ 13 ∷ 10 ∷ h.middle = sym s.1 ∙ h.whole ∙ ap (λ xs. xs ++ 13 ∷ 10 ∷ h.middle) empty in
     let same : h.middle ≡ middle = cc in
     let content_is : h.more ≡ content = sym (h.content_is ∙ ap (λ xs. xs ++ h.more) empty) in
@@ -240,8 +285,7 @@ trailers_left next input piece middle content rest s h =
 
 pub step_left : (b next : Body) (input piece middle content rest : List ℕ) → Steps b input piece next middle → IsBody b input content rest → LeftOf next piece content middle rest
 step_left (Length n) next input piece middle content rest s h = length_left n next input piece middle content rest s h
-step_left Size next input piece middle content rest s h =
-    size_left h.chunks h.last next input piece middle content h.after rest s h.each h.last_line h.last_size h.whole h.trailers h.content_is
+step_left Size next input piece middle content rest s h = size_left next input piece middle content rest s h
 step_left (Data n) next input piece middle content rest s h = data_left n next input piece middle content rest s h
 step_left Trailers next input piece middle content rest s h = trailers_left next input piece middle content rest s h
 
@@ -261,51 +305,62 @@ run_left_in (suc k) b last input got middle content rest r h =
 pub run_left : (b last : Body) (input got middle content rest : List ℕ) → Runs b input got last middle → IsBody b input content rest → LeftOf last got content middle rest
 run_left b last input got middle content rest r h = run_left_in r.steps b last input got middle content rest r.run h
 
-pub body_one : (b : Body) (input content rest other after : List ℕ) → IsBody b input content rest → IsBody b input other after → (content ≡ other) × (rest ≡ after)
+pub body_one : BodiesAreOne
 body_one b input content rest other after x y =
     let w = run_left b (Length 0) input content rest other after (taken_body b input content rest x) y in
-    let none = none_of_length w.more w.body.1 in
+    let none = nil_from_length w.more w.body.1 in
     (sym (w.split ∙ ap (λ xs. content ++ xs) none ∙ append-nil content), w.body.0 ∙ ap (λ xs. xs ++ after) none)
 
--- ---- where no step can be made, or none yet, no body stands
-
--- a first step of a body that isn't over
-pub record FirstStep (b : Body) (input : List ℕ) : Type 0 where
-  pub piece : List ℕ
-  pub next : Body
-  pub middle : List ℕ
-  pub step : Steps b input piece next middle
-
-pub size_first : (chunks : List Chunk) (last : ChunkLine) (input after : List ℕ) → AreChunks chunks → IsLine last
-    → input ≡ flat_map print_chunk chunks ++ (print_chunk_line last ++ after) → FirstStep Size input
-size_first [] last input after each good whole =
-    record { piece = []; next = after_line (chunk_size last); middle = after; step = line_step last input after (chunk_size last) good whole refl }
-size_first (chunk ∷ chunks) last input after each good whole =
-    let behind : List ℕ = flat_map print_chunk chunks ++ (print_chunk_line last ++ after) in
-    let data_text : List ℕ = chunk.bytes ++ 13 ∷ 10 ∷ behind in
-    let split : input ≡ print_chunk_line chunk.line ++ data_text = whole ∙ sym (regroup (print_chunk_line chunk.line) chunk.bytes (13 ∷ 10 ∷ []) (flat_map print_chunk chunks) (print_chunk_line last ++ after)) in
-    record { piece = []; next = after_line (chunk_size chunk.line); middle = data_text; step = line_step chunk.line input data_text (chunk_size chunk.line) each.0.line split refl }
-
-data_first : (n : ℕ) (input bytes middle : List ℕ) → length bytes ≡ n → input ≡ bytes ++ 13 ∷ 10 ∷ middle → FirstStep (Data n) input
-data_first zero input bytes middle count whole =
-    let empty = none_of_length bytes count in
-    let text : input ≡ 13 ∷ 10 ∷ middle = whole ∙ ap (λ xs. xs ++ 13 ∷ 10 ∷ middle) empty in
-    record { piece = []; next = Size; middle = middle; step = inr (refl, text, refl, refl) }
-data_first (suc n) input bytes middle count whole =
-    let piece : IsPiece (suc n) input bytes 0 (13 ∷ 10 ∷ middle) = record { whole = whole; some = omega (arith, count); count = omega (arith, count) } in
-    record { piece = bytes; next = Data 0; middle = 13 ∷ 10 ∷ middle; step = inl (0, piece, refl) }
+-- ---- where no step can be made no body stands
 
 pub broken_body : (b : Body) (held more content rest : List ℕ) → IsBroken b held → IsBody b (held ++ more) content rest → ⊥
 broken_body (Length n) held more content rest broken h = broken
-broken_body Size held more content rest broken h =
-    let w = size_first h.chunks h.last (held ++ more) h.after h.each h.last_line h.whole in broken more w.piece w.next w.middle w.step
-broken_body (Data n) held more content rest broken h =
-    let w = data_first n (held ++ more) h.bytes h.middle h.count h.whole in broken more w.piece w.next w.middle w.step
+broken_body Size held more content rest broken h = let o = size_opens (held ++ more) content rest h in broken more o.piece o.next o.middle o.step
+broken_body (Data n) held more content rest broken h = let o = data_opens n (held ++ more) content rest h in broken more o.piece o.next o.middle o.step
 broken_body Trailers held more content rest broken h = broken more [] (Length 0) rest (h.1, refl, refl)
 
-pub refused : (b last : Body) (input got held content rest : List ℕ) (left : Option (List ℕ)) → Goes b input got last held left → IsBroken last held → IsBody b input content rest → ⊥
-refused b last input got held content rest (Some xs) goes broken h =
-    let w = run_left b last input got goes.later content rest goes.runs h in
-    let later : held ++ xs ≡ goes.later = cc (goes.known) in
-    broken_body last held xs w.more rest broken (subst (λ (ys : List ℕ). IsBody last ys w.more rest) (sym later) w.body)
-refused b last input got held content rest left goes broken h = absurd (cc (goes.known))
+-- ---- what a run leaves of a body
+
+-- by length what wasn't taken of it, and in chunks never bytes by length
+abbrev IsOfChunks : Body → Type 0
+IsOfChunks last = (n : ℕ) → last ≡ Length (suc n) → ⊥
+
+abbrev pub Leaves : Body → ℕ → Body → Type 0
+Leaves (Length n) taken last = (left : ℕ) × (last ≡ Length left) × (taken + left ≡ n)
+Leaves Size taken last = IsOfChunks last
+Leaves (Data n) taken last = IsOfChunks last
+Leaves Trailers taken last = IsOfChunks last
+
+leaves_none : (b : Body) → Leaves b 0 b
+leaves_none (Length n) = (n, refl, omega arith)
+leaves_none Size = λ n is. cc
+leaves_none (Data m) = λ n is. cc
+leaves_none Trailers = λ n is. cc
+
+behind_line : (size taken : ℕ) (last : Body) → Leaves (after_line size) taken last → IsOfChunks last
+behind_line zero taken last l = l
+behind_line (suc n) taken last l = l
+
+behind_trailers : (taken : ℕ) (last : Body) → Leaves (Length 0) taken last → IsOfChunks last
+behind_trailers taken last l = λ n is. let left : l.0 ≡ suc n = cc (l.1, is) in absurd (omega (arith, left, l.2))
+
+data_leaves : (n taken : ℕ) (input piece rest : List ℕ) (next last : Body) → TakesData n input piece next rest ⊎ EndsData n input piece next rest → Leaves next taken last → IsOfChunks last
+data_leaves n taken input piece rest next last (inl s) l = subst (λ (x : Body). Leaves x taken last) s.2 l
+data_leaves n taken input piece rest next last (inr s) l = subst (λ (x : Body). Leaves x taken last) s.3 l
+
+step_leaves : (b next last : Body) (input piece rest : List ℕ) (taken : ℕ) → Steps b input piece next rest → Leaves next taken last → Leaves b (length piece + taken) last
+step_leaves (Length n) next last input piece rest taken s l =
+    let there = subst (λ (x : Body). Leaves x taken last) s.2 l in (there.0, there.1, omega (arith, s.1.count, there.2))
+step_leaves Size next last input piece rest taken s l = behind_line s.0 taken last (subst (λ (x : Body). Leaves x taken last) s.3 l)
+step_leaves (Data n) next last input piece rest taken s l = data_leaves n taken input piece rest next last s l
+step_leaves Trailers next last input piece rest taken s l = behind_trailers taken last (subst (λ (x : Body). Leaves x taken last) s.2 l)
+
+run_leaves : (k : ℕ) (b last : Body) (input content rest : List ℕ) → RunsIn k b input content last rest → Leaves b (length content) last
+run_leaves zero b last input content rest r =
+    let here = subst (λ (n : ℕ). Leaves b n b) (sym (ap length r.2)) (leaves_none b) in subst (λ (x : Body). Leaves b (length content) x) (sym r.0) here
+run_leaves (suc k) b last input content rest r =
+    let more = step_leaves b r.1 last input r.0 r.2 (length r.3) r.4 (run_leaves k r.1 last r.2 r.3 rest r.5) in
+    subst (λ (n : ℕ). Leaves b n last) (sym (ap length r.6 ∙ length-append r.0 r.3)) more
+
+pub runs_leave : (b last : Body) (input content rest : List ℕ) → Runs b input content last rest → Leaves b (length content) last
+runs_leave b last input content rest r = run_leaves r.steps b last input content rest r.run

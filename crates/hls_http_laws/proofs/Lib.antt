@@ -1,5 +1,5 @@
-pub mod BodyLaws
+mod BodyLaws
 mod Examples
-pub mod Lists
 mod RequestLaws
-pub mod StayLaws
+mod StayLaws
+pub mod Callers

@@ -9,8 +9,9 @@ use Rattle.hls_http_laws.specs.declared.end.InputEnd.TheVariants.{Closed, CutSho
 use Rattle.hls_http_laws.specs.Heads.{ReadsSmall}
 use Rattle.hls_http_laws.specs.Bodies.{IsBroken, IsOpen}
 use Rattle.hls_http_laws.specs.Grammar.{IsBody}
-use Rattle.hls_http_laws.specs.Requests.{Request, begins, ReadsOne, Cuts, StopsInBody, HasBadFields, Ends, AreRequests}
-use Rattle.hls_http_laws.proofs.BodyLaws.{body_one, broken_body, run_left, size_first}
+use Rattle.hls_http_laws.specs.Requests.{Request, begins, ReadsOne, Cuts, StopsInBody, HasBadFields, Ends}
+use Rattle.hls_http_laws.specs.Laws.{StreamsAreOne}
+use Rattle.hls_http_laws.proofs.BodyLaws.{body_one, broken_body, run_left, size_opens}
 
 -- the body behind a head is one
 same_begin : (x y : RequestHead) (b d : Body) → x ≡ y → begins x ≡ Ok b → begins y ≡ Ok d → d ≡ b
@@ -34,7 +35,7 @@ no_empty_request h rest e = absurd (omega (arith, ap length e, length-append {A 
 pub open_body : (b : Body) (later content rest : List ℕ) → IsOpen b later → IsBody b later content rest → ⊥
 open_body (Length n) later content rest s h = absurd (omega (arith, ap length h.0, s.0, h.1, ap length s.1, length-append content rest))
 open_body Size later content rest s h =
-    let w = size_first h.chunks h.last later h.after h.each h.last_line h.whole in s.1 w.step.1.line w.middle w.step.1.reads
+    let o = size_opens later content rest h in s.1 o.step.1.line o.middle o.step.1.reads
 open_body (Data zero) later content rest (inl s) h = absurd (omega (arith, ap length h.whole, ap length s, length-append h.bytes (13 ∷ 10 ∷ h.middle)))
 open_body (Data zero) later content rest (inr s) h = absurd (omega (arith, ap length h.whole, ap length s, length-append h.bytes (13 ∷ 10 ∷ h.middle)))
 open_body (Data (suc n)) later content rest s h = absurd (omega (arith, ap length h.whole, ap length s, length-append h.bytes (13 ∷ 10 ∷ h.middle)))
@@ -79,5 +80,5 @@ cuts_one (r ∷ rs) (q ∷ qs) text rest after e f x ends y other =
     let more = cuts_one rs qs x.0 rest after e f x.2 ends (subst (λ (m : List ℕ). Cuts m qs after) (sym one.1) y.2) other in
     cc (one.0, more)
 
-pub streams_one : (text : List ℕ) (rs qs : List Request) (e f : InputEnd) → AreRequests text rs e → AreRequests text qs f → rs ≡ qs
+pub streams_one : StreamsAreOne
 streams_one text rs qs e f x y = cuts_one rs qs text x.rest y.rest e f x.cuts x.ends y.cuts y.ends

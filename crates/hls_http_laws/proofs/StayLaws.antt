@@ -1,6 +1,7 @@
 -- What stands at the front of a text stays there; step by step.
 use Rattle.std.proofs.Common.{◌≡◌, ◌∙◌, ◌⊎◌, ℕ, zero, suc, ◌+◌, ◌≤◌, ◌<◌, inl, inr, List, [], ◌∷◌, ◌++◌, length, refl, sym, ap, subst, append_assoc, append-nil, arith, length-append}
 use Rattle.std.proofs.lemmas.Bool.{cases_lt}
+use Rattle.std.proofs.lemmas.List.{nil_from_length}
 use Rattle.httparse.specs.Grammar.{ReadsRequest}
 use Rattle.httparse.proofs.ChunkLemmas.{ReadsChunkLine-append}
 use Rattle.httparse.proofs.GrammarLemmas.{ReadsSection-append, ReadsRequest-append, request_unique}
@@ -10,9 +11,8 @@ use Rattle.hls_http_laws.specs.Bodies.{IsPiece, ReadsLine, ReadsTrailers, TakesD
 use Rattle.hls_http_laws.specs.Grammar.{IsBody}
 use Rattle.hls_http_laws.specs.Heads.{ReadsSmall}
 use Rattle.hls_http_laws.specs.Requests.{Cuts}
-use Rattle.hls_http_laws.specs.Stays.{HeadsStay, RunsStay, BodiesStay, RequestsStay, StreamsStay, BadHeadsStay, LargeHeadsStay, BadFieldsStay, BrokenBodiesStay, RunsJoin, SplitsAt, RunsSplit, StreamsJoin, HeadsAreOne, RequestsAreOne, BrokenBodies, OpenBodies, SizesCount}
-use Rattle.hls_http_laws.proofs.Lists.{cut, none_of_length}
-use Rattle.hls_http_laws.proofs.BodyLaws.{body_taken, broken_body, run_left, runs_none, runs_step, step_left, taken_body}
+use Rattle.hls_http_laws.specs.Laws.{HeadsStay, RunsStay, BodiesStay, RequestsStay, StreamsStay, BadHeadsStay, LargeHeadsStay, BadFieldsStay, BrokenBodiesStay, RunsJoin, SplitsAt, RunsSplit, StreamsJoin, HeadsAreOne, RequestsAreOne, BrokenBodies, OpenBodies, SizesCount}
+use Rattle.hls_http_laws.proofs.BodyLaws.{body_taken, broken_body, cut, run_left, runs_none, runs_step, step_left, taken_body}
 use Rattle.hls_http_laws.proofs.RequestLaws.{one_left, open_body}
 
 -- ---- what was read
@@ -168,7 +168,7 @@ split_within b next last input (x ∷ first) m more later rest some s r =
 split_in : (k : ℕ) (b last : Body) (input content first second rest : List ℕ) → content ≡ first ++ second → RunsIn k b input content last rest → SplitsAt b last input first second rest
 split_in zero b last input content first second rest is r =
     let none : first ++ second ≡ [] = sym is ∙ r.2 in
-    let empty : first ≡ [] = none_of_length first (omega (arith, ap length none, length-append first second)) in
+    let empty : first ≡ [] = nil_from_length first (omega (arith, ap length none, length-append first second)) in
     let all : content ≡ second = is ∙ ap (λ (t : List ℕ). t ++ second) empty in
     let whole : Runs b input second last rest = record { steps = 0; run = (r.0, r.1, sym all ∙ r.2) } in
     subst (λ (t : List ℕ). SplitsAt b last input t second rest) (sym empty) (split_none b last input second rest whole)

@@ -10,4 +10,3 @@ pub mod Query
 pub mod Range
 pub mod Reply
 pub mod Requests
-pub mod Stays

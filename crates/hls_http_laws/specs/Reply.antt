@@ -11,56 +11,45 @@ use Rattle.hls_http_laws.specs.declared.reply.Extra.{Extra}
 use Rattle.hls_http_laws.specs.declared.reply.ReplyHead.{ReplyHead}
 use Rattle.hls_http_laws.specs.declared.reply.Extra.TheVariants.{Nothing, Range, NoRange, Job, Allow}
 
--- the name of a fault, as replies print it
-abbrev pub fault_name : HttpFault → List ℕ
-fault_name faults.BadHead = codes "BadHead"
-fault_name faults.HeadTooLarge = codes "HeadTooLarge"
-fault_name faults.BadFraming = codes "BadFraming"
-fault_name faults.TooLarge = codes "TooLarge"
-fault_name faults.RangeOutside = codes "RangeOutside"
-fault_name faults.BadMethod = codes "BadMethod"
-fault_name faults.NotFound = codes "NotFound"
-fault_name faults.Gone = codes "Gone"
-fault_name faults.Conflict = codes "Conflict"
-fault_name faults.Memory = codes "Memory"
-fault_name faults.Full = codes "Full"
+-- the status of a fault, and its name, as replies print it
+abbrev pub fault_row : HttpFault → Status × List ℕ
+fault_row faults.BadHead = (BadRequest, codes "BadHead")
+fault_row faults.HeadTooLarge = (HeadTooLarge, codes "HeadTooLarge")
+fault_row faults.BadFraming = (BadRequest, codes "BadFraming")
+fault_row faults.TooLarge = (ContentTooLarge, codes "TooLarge")
+fault_row faults.RangeOutside = (RangeNotSatisfiable, codes "RangeOutside")
+fault_row faults.BadMethod = (MethodNotAllowed, codes "BadMethod")
+fault_row faults.NotFound = (NotFound, codes "NotFound")
+fault_row faults.Gone = (Gone, codes "Gone")
+fault_row faults.Conflict = (Conflict, codes "Conflict")
+fault_row faults.Memory = (Unavailable, codes "Memory")
+fault_row faults.Full = (InsufficientStorage, codes "Full")
 
--- the status of a fault
 abbrev pub fault_status : HttpFault → Status
-fault_status faults.BadHead = BadRequest
-fault_status faults.HeadTooLarge = HeadTooLarge
-fault_status faults.BadFraming = BadRequest
-fault_status faults.TooLarge = ContentTooLarge
-fault_status faults.RangeOutside = RangeNotSatisfiable
-fault_status faults.BadMethod = MethodNotAllowed
-fault_status faults.NotFound = NotFound
-fault_status faults.Gone = Gone
-fault_status faults.Conflict = Conflict
-fault_status faults.Memory = Unavailable
-fault_status faults.Full = InsufficientStorage
+fault_status fault = (fault_row fault).0
+
+abbrev pub fault_name : HttpFault → List ℕ
+fault_name fault = (fault_row fault).1
 
 abbrev pub crlf : List ℕ
 crlf = 13 ∷ 10 ∷ []
 
--- the number and the phrase of a status (RFC 9110, section 15)
-abbrev pub phrase : Status → List ℕ
-phrase Done = codes "200 OK"
-phrase Accepted = codes "202 Accepted"
-phrase NoContent = codes "204 No Content"
-phrase PartialContent = codes "206 Partial Content"
-phrase BadRequest = codes "400 Bad Request"
-phrase NotFound = codes "404 Not Found"
-phrase MethodNotAllowed = codes "405 Method Not Allowed"
-phrase Conflict = codes "409 Conflict"
-phrase Gone = codes "410 Gone"
-phrase ContentTooLarge = codes "413 Content Too Large"
-phrase RangeNotSatisfiable = codes "416 Range Not Satisfiable"
-phrase HeadTooLarge = codes "431 Request Header Fields Too Large"
-phrase Unavailable = codes "503 Service Unavailable"
-phrase InsufficientStorage = codes "507 Insufficient Storage"
-
+-- the first line of a reply: the number and the phrase of a status (RFC 9110, section 15)
 abbrev pub status_line : Status → List ℕ
-status_line status = codes "HTTP/1.1 " ++ (phrase status ++ crlf)
+status_line Done = codes "HTTP/1.1 200 OK" ++ crlf
+status_line Accepted = codes "HTTP/1.1 202 Accepted" ++ crlf
+status_line NoContent = codes "HTTP/1.1 204 No Content" ++ crlf
+status_line PartialContent = codes "HTTP/1.1 206 Partial Content" ++ crlf
+status_line BadRequest = codes "HTTP/1.1 400 Bad Request" ++ crlf
+status_line NotFound = codes "HTTP/1.1 404 Not Found" ++ crlf
+status_line MethodNotAllowed = codes "HTTP/1.1 405 Method Not Allowed" ++ crlf
+status_line Conflict = codes "HTTP/1.1 409 Conflict" ++ crlf
+status_line Gone = codes "HTTP/1.1 410 Gone" ++ crlf
+status_line ContentTooLarge = codes "HTTP/1.1 413 Content Too Large" ++ crlf
+status_line RangeNotSatisfiable = codes "HTTP/1.1 416 Range Not Satisfiable" ++ crlf
+status_line HeadTooLarge = codes "HTTP/1.1 431 Request Header Fields Too Large" ++ crlf
+status_line Unavailable = codes "HTTP/1.1 503 Service Unavailable" ++ crlf
+status_line InsufficientStorage = codes "HTTP/1.1 507 Insufficient Storage" ++ crlf
 
 abbrev pub kind_name : Kind → List ℕ
 kind_name Text = codes "text/plain"

@@ -1,8 +1,7 @@
 //! Laws of bodies and of streams of requests. Each function has no body: its contract is what holds of every text.
 
 ghost use Rattle.std.specs.Prelude.{◌≡◌};
-ghost use Rattle.hls_http_laws.specs.Laws.{BodiesAreOne, BodiesByGrammar, RefusedBodies, StreamsAreOne};
-ghost use Rattle.hls_http_laws.specs.Stays.{BadFieldsStay, BadHeadsStay, BodiesStay, BrokenBodies, BrokenBodiesStay, HeadsAreOne, HeadsStay, LargeHeadsStay, OpenBodies, RequestsAreOne, RequestsStay, RunsJoin, RunsSplit, RunsStay, SizesCount, StreamsJoin, StreamsStay};
+ghost use Rattle.hls_http_laws.specs.Laws.{BadFieldsStay, BadHeadsStay, BodiesAreOne, BodiesByGrammar, BodiesStay, BrokenBodies, BrokenBodiesStay, HeadsAreOne, HeadsStay, LargeHeadsStay, OpenBodies, RequestsAreOne, RequestsStay, RunsJoin, RunsSplit, RunsStay, SizesCount, StreamsAreOne, StreamsJoin, StreamsStay};
 ghost use Rattle.hls_http_laws.specs.Limits.{dropped_limit, field_limit, head_limit, length_digits, range_limit};
 
 use crate::limits::{MOST_DROPPED, MOST_FIELDS, MOST_HEAD, MOST_LENGTH_DIGITS, MOST_RANGE};
@@ -19,19 +18,12 @@ pub fn bodies_by_grammar()
     ensures { BodiesByGrammar }
 {}
 
-/// Where a body was refused after some steps, the text begins with no body.
-pub fn refused_bodies()
-    ensures { RefusedBodies }
-{}
-
-/// A text begins with at most one body.
-pub fn bodies_are_one()
-    ensures { BodiesAreOne }
-{}
-
-/// A stream has one list of requests, however it was read.
-pub fn streams_are_one()
-    ensures { StreamsAreOne }
+/// A text begins with at most one body, one head and one request, and a stream has one list of requests, however it was read.
+pub fn requests_are_one()
+    ensures bodies { BodiesAreOne }
+    ensures heads { HeadsAreOne }
+    ensures requests { RequestsAreOne }
+    ensures streams { StreamsAreOne }
 {}
 
 /// What stands at the front of a text stands there whatever follows: a head, some of a body or all of it, a request, and
@@ -53,31 +45,18 @@ pub fn refusals_stay()
     ensures bodies { BrokenBodiesStay }
 {}
 
-/// Some of a body and then some more of it is so much of it, and so are requests behind requests.
+/// Some of a body and then some more of it is so much of it, and so are requests behind requests; of some of a body each front is
+/// some of it.
 pub fn fronts_join()
     ensures runs { RunsJoin }
     ensures streams { StreamsJoin }
+    ensures split { RunsSplit }
 {}
 
-/// Of some of a body each front is some of it.
-pub fn runs_split()
-    ensures { RunsSplit }
-{}
-
-/// A text begins with at most one head, and with at most one request.
-pub fn requests_are_one()
-    ensures heads { HeadsAreOne }
-    ensures requests { RequestsAreOne }
-{}
-
-/// Behind some of a body that then breaks the grammar no body ends, whatever follows; and none where the text ends within it.
+/// Behind some of a body that then breaks the grammar no body ends, whatever follows; and none where the text ends within it. A body
+/// has at least as many bytes as were taken of it and its next size line announces, so one that announces too many is too large.
 pub fn no_body_ends()
     ensures broken { BrokenBodies }
     ensures within { OpenBodies }
-{}
-
-/// A body has at least as many bytes as were taken of it and its next size line announces, so one that announces too many is too
-/// large, whatever follows.
-pub fn sizes_count()
-    ensures { SizesCount }
+    ensures sizes { SizesCount }
 {}

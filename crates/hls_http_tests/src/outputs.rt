@@ -76,9 +76,6 @@ fn fixed_text_taken(rt: HostRuntime) -> Result<(), Fail> {
     Ok(())
 }
 
-const PARTIAL_HEAD: &[u8] =
-    b"HTTP/1.1 206 Partial Content\r\nContent-Type: video/mp4\r\nContent-Length: 7\r\nContent-Range: bytes 0-6/10\r\n\r\n";
-
 const PARTIAL: &[u8] =
     b"HTTP/1.1 206 Partial Content\r\nContent-Type: video/mp4\r\nContent-Length: 7\r\nContent-Range: bytes 0-6/10\r\n\r\n0123456";
 
@@ -97,7 +94,10 @@ fn replies_taken_by_any_counts(rt: HostRuntime) -> Result<(), Fail> {
         assert!(rt; all.as_slice() == PARTIAL, "{most}");
         let alone = reply_output(alloc, &head, first_digits(7), true)?;
         let all = taken(alloc, alone, most)?;
-        assert!(rt; all.as_slice() == PARTIAL_HEAD, "{most}");
+        assert!(rt;
+            Some(all.as_slice()) == PARTIAL.strip_suffix(b"0123456"),
+            "{most}"
+        );
     }
     Ok(())
 }

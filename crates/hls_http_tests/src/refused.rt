@@ -5,7 +5,6 @@ use hls_fakes::{Drips, Page};
 use hls_http::{Session, SessionEnd, value_of};
 use hls_http_laws::reply::{no_memory_head_text, no_memory_text};
 use std::alloc::Global;
-use std::test::Fail;
 
 /// How a session answered.
 #[derive(Clone, Copy, PartialEq, Eq)]
@@ -40,24 +39,25 @@ fn is_right(first: Answer, second: Answer) -> bool {
     }
 }
 
-#[test]
-fn refused_memory_is_the_fixed_reply(rt: HostRuntime) -> Result<(), Fail> {
-    let request = b"PUT / HTTP/1.1\r\nHost: a\r\nContent-Length: 3\r\n\r\nabc";
-    let reply = b"HTTP/1.1 200 OK\r\nContent-Type: text/plain\r\nContent-Length: 3\r\n\r\nabc";
-    let first = serve_once(rt.alloc(), request, reply, no_memory_text());
-    let second = serve_once(rt.alloc(), request, reply, no_memory_text());
-    assert!(rt; is_right(first, second));
-    Ok(())
+/// Whether a request is answered so once of two times, and the other time too or with the reply to want of memory.
+fn is_served(alloc: Global, request: &[u8], reply: &[u8], no_memory: &[u8]) -> bool {
+    let first = serve_once(alloc, request, reply, no_memory);
+    let second = serve_once(alloc, request, reply, no_memory);
+    is_right(first, second)
 }
 
 #[test]
-fn refused_memory_to_head_has_no_body(rt: HostRuntime) -> Result<(), Fail> {
+fn refused_memory_is_the_fixed_reply(rt: HostRuntime) {
+    let request = b"PUT / HTTP/1.1\r\nHost: a\r\nContent-Length: 3\r\n\r\nabc";
+    let reply = b"HTTP/1.1 200 OK\r\nContent-Type: text/plain\r\nContent-Length: 3\r\n\r\nabc";
+    assert!(rt; is_served(rt.alloc(), request, reply, no_memory_text()));
+}
+
+#[test]
+fn refused_memory_to_head_has_no_body(rt: HostRuntime) {
     let request = b"HEAD / HTTP/1.1\r\nHost: a\r\n\r\n";
     let reply = b"HTTP/1.1 200 OK\r\nContent-Type: text/plain\r\nContent-Length: 10\r\n\r\n";
-    let first = serve_once(rt.alloc(), request, reply, no_memory_head_text());
-    let second = serve_once(rt.alloc(), request, reply, no_memory_head_text());
-    assert!(rt; is_right(first, second));
-    Ok(())
+    assert!(rt; is_served(rt.alloc(), request, reply, no_memory_head_text()));
 }
 
 /// The value of a query's key.
@@ -70,9 +70,8 @@ fn finds(alloc: Global) -> Answer {
 }
 
 #[test]
-fn refused_memory_finds_no_value(rt: HostRuntime) -> Result<(), Fail> {
+fn refused_memory_finds_no_value(rt: HostRuntime) {
     let first = finds(rt.alloc());
     let second = finds(rt.alloc());
     assert!(rt; is_right(first, second));
-    Ok(())
 }

@@ -1,5 +1,5 @@
 //! Readers and writers whose failed calls are counted.
-ghost use Rattle.std.specs.Prelude.{◌≡◌, ◌+◌, ◌^◌, ◌<◌, ◌≤◌, length, take, IsSome, IfSome, IfNone, IsTrue, ◌↔◌, true};
+ghost use Rattle.std.specs.Prelude.{◌≡◌, ◌+◌, ◌^◌, ◌<◌, ◌≤◌, length, take, IsSome, IfSome, IfNone, true, false};
 ghost use Rattle.std.specs.Io.KnownBytes.{Appends, Consumes, IsAtEnd, Keeps};
 ghost use Rattle.hls_io.specs.Rose.{Rose};
 
@@ -15,7 +15,8 @@ const MOST_FAILURES: u64 = 1 << 63;
 /// writes that take no byte, and every call after the 2^62nd.
 #[derive(Debug, Drop)]
 pub struct Counted<T> {
-    inner: T,
+    /// The reader or writer itself. Who calls it [starts a call](Counted::starts_call) before, and counts one that failed.
+    pub inner: T,
     calls: u64,
     failures: u64,
     ghost calls_in_range: { calls ≤ 2 ^ 62 },
@@ -50,14 +51,15 @@ impl<T> Counted<T> {
         inner
     }
 
-    /// Whether another call may be passed on, which is then counted.
-    fn starts_call(&mut self) -> bool
+    /// Whether another call may be passed on, which is then counted; else a failure is.
+    pub fn starts_call(&mut self) -> bool
         ensures inside { inside_of self.new ≡ inside_of self.old }
-        ensures failures { failures_of self.new ≡ failures_of self.old }
-        ensures passes { IsTrue result ↔ (0 < calls_left self.old) }
-        ensures calls { result ≡ true → calls_left self.new + 1 ≡ calls_left self.old }
+        ensures quiet { result ≡ true → failures_of self.new ≡ failures_of self.old }
+        ensures progress { result ≡ true → calls_left self.new < calls_left self.old }
+        ensures rose { result ≡ false → Rose (failures_of self.old) (failures_of self.new) }
     {
         if self.calls >= MOST_CALLS {
+            self.count_failure();
             return false;
         }
         self.calls += 1;
@@ -65,8 +67,9 @@ impl<T> Counted<T> {
     }
 
     /// Counts a failed call.
-    fn count_failure(&mut self)
+    pub fn count_failure(&mut self)
         ensures inside { inside_of self.new ≡ inside_of self.old }
+        ensures calls { calls_left self.new ≡ calls_left self.old }
         ensures rose { Rose (failures_of self.old) (failures_of self.new) }
     {
         if self.failures < MOST_FAILURES {
@@ -91,7 +94,6 @@ impl<R: Read> Counted<R> {
         ensures kept { IfNone result (Keeps (R.remaining (inside_of self.old)) (R.remaining (inside_of self.new))) }
     {
         if !self.starts_call() {
-            self.count_failure();
             return None;
         }
         match self.inner.read(buf) {
@@ -119,7 +121,6 @@ impl<W: Write> Counted<W> {
         ensures kept { IfNone result (Keeps (W.contents (inside_of self.old)) (W.contents (inside_of self.new))) }
     {
         if !self.starts_call() {
-            self.count_failure();
             return None;
         }
         match self.inner.write(buf) {

@@ -4,6 +4,7 @@ use Rattle.hls_http_laws.specs.Bodies.{Goes, IsOpen}
 use Rattle.hls_http.specs.declared.input.Filled.TheVariants.{AtEnd, Failed}
 use Rattle.hls_http.specs.Source.{held_of}
 use Rattle.hls_http.proofs.BodySteps.{goes_filled, goes_none, goes_then, last_alone}
+use Rattle.hls_http.proofs.HeadLaws.{at_end, none_came}
 use Rattle.hls_http.proofs.body.read_body.Goals as goal
 
 pub loop-source-init : goal.loop-source-init
@@ -15,7 +16,7 @@ returns-in-Ok-Piece-clause-passes g c = λ rest known.
     let held = held_of c.loop-source.source in
     let some : 0 < length (take c.in-Ok-Piece.len held) = omega (arith, length-take c.in-Ok-Piece.len held, step.0, step.1) in
     let w = c.loop-source.invariant.goes rest known in
-    let goes = goes_then c.fronts_stay.ensures.runs c.fronts_join.ensures.runs c.args.body.now c.loop-source.body c.in-Ok-Piece.next (held_of c.args.source.now ++ rest) [] held (held_of c.take.new.self) _ _ _ (g.R.Read.remaining (inside_of c.take.new.self.reader))
+    let goes = goes_then c.args.body.now c.loop-source.body c.in-Ok-Piece.next (held_of c.args.source.now ++ rest) [] held (held_of c.take.new.self) _ _ _ (g.R.Read.remaining (inside_of c.take.new.self.reader))
     w step.2 c.take.ensures.held (ap (λ r. g.R.Read.remaining (inside_of r)) c.take.ensures.reader) in (
       subst (λ (xs : List ℕ). 0 < length xs) (sym c.take.ensures.taken) some,
       subst (λ (xs : List ℕ). Goes c.args.body.now (held_of c.args.source.now ++ rest) xs c.in-Ok-Piece.next (held_of c.take.new.self) (g.R.Read.remaining (inside_of c.take.new.self.reader))) (sym c.take.ensures.taken) goes,
@@ -26,7 +27,7 @@ pub loop-source-preserved-in-Ok-Frame : goal.loop-source-preserved-in-Ok-Frame
 loop-source-preserved-in-Ok-Frame g c = record {
   goes = λ rest known.
       let step = rw (c.in-Ok-Frame.field-0-is, c.held.ensures) at c.in-Ok-Frame.ensures in
-      goes_then c.fronts_stay.ensures.runs c.fronts_join.ensures.runs c.args.body.now c.loop-source.body c.in-Ok-Frame.next (held_of c.args.source.now ++ rest) [] (held_of c.loop-source.source) (held_of c.take-in-Ok-Frame.new.self) [] _ _
+      goes_then c.args.body.now c.loop-source.body c.in-Ok-Frame.next (held_of c.args.source.now ++ rest) [] (held_of c.loop-source.source) (held_of c.take-in-Ok-Frame.new.self) [] _ _
       (g.R.Read.remaining (inside_of c.take-in-Ok-Frame.new.self.reader)) (c.loop-source.invariant.goes rest known) step.2 c.take-in-Ok-Frame.ensures.held
       (ap (λ r. g.R.Read.remaining (inside_of r)) c.take-in-Ok-Frame.ensures.reader);
   quiet = ap (λ r. failures_of r) c.take-in-Ok-Frame.ensures.reader ∙ c.loop-source.invariant.quiet;
@@ -35,11 +36,18 @@ loop-source-preserved-in-Ok-Frame g c = record {
 pub returns-in-AtEnd-clause-passes : goal.returns-in-AtEnd-clause-passes
 returns-in-AtEnd-clause-passes g c = λ rest known.
     let wait = rw (c.in-Err-Wait.field-0-is, c.held.ensures) at c.in-Err-Wait.ensures in
-    let w = goes_filled c.args.body.now c.loop-source.body (held_of c.args.source.now ++ rest) [] (held_of c.loop-source.source) (held_of c.fill.new.self) _ _ AtEnd (c.loop-source.invariant.goes rest known) c.in-AtEnd.ensures.fills in
-    (w.0, (w.2.2, subst (λ (xs : List ℕ). IsOpen c.loop-source.body xs) (sym w.2.0) wait.1))
+    let r = c.in-AtEnd.ensures.reads in
+    let old = c.loop-source.invariant.goes rest known in
+    let e = at_end old.later (held_of c.loop-source.source) (held_of c.fill.new.self) _ _ old.known r in (
+      goes_filled c.args.body.now c.loop-source.body (held_of c.args.source.now ++ rest) [] (held_of c.loop-source.source) (held_of c.fill.new.self) _ _ AtEnd old r,
+      (e.3, subst (λ (xs : List ℕ). IsOpen c.loop-source.body xs) (e.0 ∙ sym e.1) wait.1),
+    )
 
 pub returns-in-Failed-clause-passes : goal.returns-in-Failed-clause-passes
 returns-in-Failed-clause-passes g c = λ rest known.
     let wait = rw (c.in-Err-Wait.field-0-is, c.held.ensures) at c.in-Err-Wait.ensures in
-    let w = goes_filled c.args.body.now c.loop-source.body (held_of c.args.source.now ++ rest) [] (held_of c.loop-source.source) (held_of c.fill.new.self) _ _ Failed (c.loop-source.invariant.goes rest known) c.in-Failed.ensures.fills in
-    (w.0, subst (λ (xs : List ℕ). IsOpen c.loop-source.body xs) (sym w.2.0) wait.1)
+    let r = c.in-Failed.ensures.reads in
+    let same = none_came (held_of c.loop-source.source) (held_of c.fill.new.self) r.bytes r.behind r.brings in (
+      goes_filled c.args.body.now c.loop-source.body (held_of c.args.source.now ++ rest) [] (held_of c.loop-source.source) (held_of c.fill.new.self) _ _ Failed (c.loop-source.invariant.goes rest known) r,
+      subst (λ (xs : List ℕ). IsOpen c.loop-source.body xs) (sym same) wait.1,
+    )

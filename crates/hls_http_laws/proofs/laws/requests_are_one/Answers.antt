@@ -1,5 +1,7 @@
+use Rattle.hls_http_laws.proofs.BodyLaws.{body_one}
+use Rattle.hls_http_laws.proofs.RequestLaws.{streams_one}
 use Rattle.hls_http_laws.proofs.StayLaws.{heads_one, requests_one}
 use Rattle.hls_http_laws.proofs.laws.requests_are_one.Goals as goal
 
 pub returns : goal.returns
-returns c = record { heads = heads_one; requests = requests_one }
+returns c = record { bodies = body_one; heads = heads_one; requests = requests_one; streams = streams_one }
