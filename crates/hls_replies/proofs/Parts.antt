@@ -7,8 +7,7 @@ use Rattle.std.proofs.lemmas.List.{length-map, length-replicate, map-append, dro
 use Rattle.std.proofs.Math.Seq.{drop-append-add}
 use Rattle.hls_record.specs.Recorded.{Recorded, offset_at, total_of, bytes_of, range_of}
 use Rattle.hls_record.specs.Valid.{IsRecorded}
-use Rattle.hls_record.proofs.Pieces.{bytes_length}
-use Rattle.hls_record.proofs.Ranges.{gone_range}
+use Rattle.hls_record.proofs.Callers.{bytes_length, gone_range}
 use Rattle.hls_output.specs.Slices.{part_at, rest_at}
 use Rattle.hls_catchup.specs.Resources.{FindsPlace}
 use Rattle.hls_serve_laws.specs.Replies.{media_bytes, whole}

@@ -59,6 +59,9 @@ fn sent(alloc: Global, answer: Answer, closing: bool, to_head: bool) -> Result<V
     sent_of(alloc, output_of(alloc, answer, closing, to_head)?)
 }
 
+const GONE: &[u8] =
+    b"HTTP/1.1 410 Gone\r\nContent-Type: text/plain\r\nContent-Length: 13\r\nConnection: close\r\n\r\nrefused Gone\n";
+
 /// What goes out for a GET of a part of the rendition's resource.
 fn part(alloc: Global, snapshot: &Arc<Snapshot>, asked: Asked) -> Result<Vec<u8>, Fail>
     ensures { IfOk result (λ bytes. length bytes.items < 2 ^ 64) }
@@ -69,9 +72,6 @@ fn part(alloc: Global, snapshot: &Arc<Snapshot>, asked: Asked) -> Result<Vec<u8>
 
 const LIVE: &[u8] =
     b"HTTP/1.1 200 OK\r\nContent-Type: application/vnd.apple.mpegurl\r\nContent-Length: 385\r\n\r\n#EXTM3U\n#EXT-X-VERSION:6\n#EXT-X-TARGETDURATION:6\n#EXT-X-MEDIA-SEQUENCE:1\n#EXT-X-DISCONTINUITY-SEQUENCE:0\n#EXT-X-MAP:URI=\"/media/0.mp4\",BYTERANGE=\"600@0\"\n#EXTINF:4.000000,\n#EXT-X-BYTERANGE:1000@1600\n/media/0.mp4\n#EXTINF:5.000000,\n#EXT-X-BYTERANGE:1000@2600\n/media/0.mp4\n#EXTINF:5.000000,\n#EXT-X-BYTERANGE:1000@3600\n/media/0.mp4\n#EXTINF:4.000000,\n#EXT-X-BYTERANGE:1000@4600\n/media/0.mp4\n";
-
-const GONE: &[u8] =
-    b"HTTP/1.1 410 Gone\r\nContent-Type: text/plain\r\nContent-Length: 13\r\nConnection: close\r\n\r\nrefused Gone\n";
 
 #[test]
 fn a_live_list_and_what_is_gone(rt: HostRuntime) -> Result<(), Fail> {

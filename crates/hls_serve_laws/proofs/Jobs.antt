@@ -4,11 +4,11 @@ use Rattle.hls_core_laws.specs.State.{State}
 use Rattle.hls_http_laws.specs.declared.fault.HttpFault.TheVariants as http
 use Rattle.hls_http_laws.specs.declared.range.Asked.{Asked}
 use Rattle.hls_catchup.specs.declared.request.Request.{Request}
-use Rattle.hls_catchup.specs.declared.request.CatchFault.{CatchFault}
+use Rattle.hls_catchup.specs.declared.fault.CatchFault.{CatchFault}
 use Rattle.hls_catchup.specs.Plays.{IsAnswered}
 use Rattle.hls_catchup.specs.Replies.{ReplyData}
-use Rattle.hls_catchup.specs.declared.jobs.fault.JobFault.{JobFault}
-use Rattle.hls_catchup.specs.declared.jobs.fault.JobFault.TheVariants.{TableFull, UnknownJob, Stray, Memory}
+use Rattle.hls_catchup.specs.declared.fault.JobFault.{JobFault}
+use Rattle.hls_catchup.specs.declared.fault.JobFault.TheVariants.{TableFull, UnknownJob, Stray, Memory}
 use Rattle.hls_catchup.specs.declared.jobs.job.Job.{Job}
 use Rattle.hls_catchup.specs.declared.jobs.job.Job.TheVariants.{Waiting, Running, Finished, Failed}
 use Rattle.hls_catchup.specs.Jobs.Phases.{IsRightJob}

@@ -1,6 +1,7 @@
-pub mod Acting
+mod Acting
 mod Allowed
 mod Examples
 mod Jobs
-pub mod Linking
+mod Linking
 mod Requests
+pub mod Callers

@@ -12,11 +12,11 @@ use Rattle.hls_http_laws.specs.declared.fault.HttpFault.{HttpFault}
 use Rattle.hls_http_laws.specs.declared.fault.HttpFault.TheVariants.{BadFraming, NotFound, TooLarge}
 use Rattle.hls_http_laws.specs.declared.plan.Plan.{Plan}
 use Rattle.hls_http_laws.specs.declared.plan.Plan.TheVariants.{Refuse, Feed, Skip}
-use Rattle.hls_http_laws.specs.Bodies.{Runs as BodyRuns, RunsIn as BodyRunsIn}
+use Rattle.hls_http_laws.specs.Bodies.{Runs as BodyRuns}
 use Rattle.hls_http_laws.specs.Grammar.{IsBody}
 use Rattle.hls_http_laws.specs.Order.{is_over, is_past, plan_by, says_close}
 use Rattle.hls_http_laws.specs.Requests.{Request as WholeRequest, ReadsOne, begins}
-use Rattle.hls_http_laws.proofs.BodyLaws.{body_taken}
+use Rattle.hls_http_laws.proofs.Callers.{body_taken, runs_leave}
 use Rattle.hls_http.specs.declared.body.BodyEnd.{BodyEnd}
 use Rattle.hls_http.specs.declared.body.BodyEnd.TheVariants as bodies
 use Rattle.hls_http.specs.declared.drain.DropEnd.{DropEnd}
@@ -68,20 +68,11 @@ over_is Size is = absurd (true_is_false is)
 over_is (Data n) is = absurd (true_is_false is)
 over_is Trailers is = absurd (true_is_false is)
 
--- of a body by length, what came and what is to come are all of it
-by_length : (k n : ℕ) (last : Body) (input content rest : List ℕ) → BodyRunsIn k (Length n) input content last rest
-    → (left : ℕ) × (last ≡ Length left) × (length content + left ≡ n)
-by_length zero n last input content rest x = (n, x.0, omega (arith, ap length x.2))
-by_length (suc k) n last input content rest (piece, next, middle, more, step, run, is) =
-    let here = subst (λ (b : Body). BodyRunsIn k b middle more last rest) step.2 run in
-    let later = by_length k step.0 last middle more rest here in
-    (later.0, later.1, omega (arith, later.2, step.1.count, ap length is, length-append piece more))
-
 -- a refusal behind which nothing is to come stands at a body's end
 ended_at : (r size : ℕ) (body last : Body) (input content unread : List ℕ) (fault : StreamFault) (y : Progress)
     → IsRefusedAt size r content fault y → BodyRuns body input content last unread → ends_at body size ≡ true → last ≡ Length 0
 ended_at r size (Length n) last input content unread fault y refused runs ends =
-    let so = by_length runs.steps n last input content unread runs.run in
+    let so = runs_leave (Length n) last input content unread runs in
     let all = eqb-true size n ends in
     so.1 ∙ ap Length (omega (arith, so.2, all, within refused.refuses))
   where

@@ -33,8 +33,8 @@ use Rattle.hls_http.specs.declared.drain.DropEnd.{DropEnd}
 use Rattle.hls_http.specs.declared.drain.DropEnd.TheVariants as drops
 use Rattle.hls_http.specs.Heads.{method_of}
 use Rattle.hls_http.specs.Drained.{announced_by}
-use Rattle.hls_catchup.specs.declared.jobs.fault.JobFault.{JobFault}
-use Rattle.hls_catchup.specs.declared.jobs.fault.JobFault.TheVariants.{UnknownJob}
+use Rattle.hls_catchup.specs.declared.fault.JobFault.{JobFault}
+use Rattle.hls_catchup.specs.declared.fault.JobFault.TheVariants.{UnknownJob}
 use Rattle.hls_catchup.specs.declared.jobs.job.Job.{Job}
 use Rattle.hls_serve_laws.specs.declared.ingest.Intake.{Intake}
 use Rattle.hls_serve_laws.specs.declared.ingest.Intake.TheVariants as came

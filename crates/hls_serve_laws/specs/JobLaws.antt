@@ -5,7 +5,7 @@ use Rattle.hls_http_laws.specs.declared.fault.HttpFault.TheVariants as http
 use Rattle.hls_http_laws.specs.declared.range.Asked.{Asked}
 use Rattle.hls_http_laws.specs.declared.reply.Status.TheVariants.{Done}
 use Rattle.hls_catchup.specs.declared.request.Request.{Request}
-use Rattle.hls_catchup.specs.declared.request.CatchFault.{CatchFault}
+use Rattle.hls_catchup.specs.declared.fault.CatchFault.{CatchFault}
 use Rattle.hls_catchup.specs.Replies.{ReplyData, IsRightReply}
 use Rattle.hls_catchup.specs.Plays.{IsAnswered}
 use Rattle.hls_catchup.specs.Jobs.Line.{result_line}

@@ -11,7 +11,7 @@ use Rattle.hls_http_laws.specs.Range.{part_of}
 use Rattle.hls_http_laws.specs.Reply.{extra_line, refusal}
 use Rattle.hls_catchup.specs.Replies.{ReplyData}
 use Rattle.hls_catchup.specs.Resources.{parts_in}
-use Rattle.hls_catchup.specs.declared.jobs.fault.JobFault.{JobFault}
+use Rattle.hls_catchup.specs.declared.fault.JobFault.{JobFault}
 use Rattle.hls_catchup.specs.declared.jobs.job.Job.{Job}
 use Rattle.hls_catchup.specs.Jobs.FaultName.{job_fault_name}
 use Rattle.hls_catchup.specs.declared.jobs.standing.Withheld.{Withheld}

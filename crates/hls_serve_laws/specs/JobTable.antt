@@ -4,7 +4,7 @@ use Rattle.std.specs.Global.{Global}
 use Rattle.std.specs.declared.sync.Arc.{Arc}
 use Rattle.hls_core_laws.specs.State.{State}
 use Rattle.hls_catchup.specs.declared.request.Request.{Request}
-use Rattle.hls_catchup.specs.declared.jobs.fault.JobFault.{JobFault}
+use Rattle.hls_catchup.specs.declared.fault.JobFault.{JobFault}
 use Rattle.hls_catchup.specs.declared.jobs.job.Job.{Job}
 use Rattle.hls_catchup.specs.Jobs.Phases.{IsRightJob}
 use Rattle.hls_catchup.specs.Jobs.Shared.{HasAdded, HasGot}

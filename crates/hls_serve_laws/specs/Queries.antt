@@ -66,15 +66,6 @@ wanted_with (Ok start) (Ok stop) preferred charge = Ok (record { start_us = star
 abbrev pub wanted_of : Option ℤ → Query → Result Wanted QueryFault
 wanted_of epoch query = wanted_with (time_of epoch query.start) (time_of epoch query.stop) query.preferred query.charge
 
--- a query that isn't good comes before an instant before the epoch, whichever key it is
-abbrev pub wanted_by : Option ℤ → Option Query → Result Wanted QueryFault
-wanted_by epoch None = Err BadQuery
-wanted_by epoch (Some query) = wanted_of epoch query
-
--- what the text of a query asks of a channel with this epoch
-abbrev pub wanted_in : Option ℤ → List ℕ → Result Wanted QueryFault
-wanted_in epoch text = wanted_by epoch (query_in text)
-
 abbrev pub query_fault_name : QueryFault → List ℕ
 query_fault_name BadQuery = codes "BadQuery"
 query_fault_name BeforeEpoch = codes "BeforeEpoch"

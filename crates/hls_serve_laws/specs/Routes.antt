@@ -1,7 +1,7 @@
 -- What a target names, and which methods that has.
 use Rattle.std.specs.Prelude.{ℕ, nat_lt, min, Bool, true, false, ◌&&◌, ◌==◌, ◌-◌, ◌+◌, cond, Option, Some, None, option_map, unwrap_or}
-use Rattle.std.specs.Prelude.{List, length, take, drop, position, bytes_eq, codes}
-use Rattle.std.specs.List.{position_or_len}
+use Rattle.std.specs.Prelude.{List, [], ◌∷◌, ◌++◌, length, take, drop, position, bytes_eq, codes}
+use Rattle.std.specs.List.{filter, position_or_len}
 use Rattle.std.specs.Str.{all_ascii_digits}
 use Rattle.hls_text.specs.Digits.{is_plain, number_of}
 use Rattle.hls_http.specs.declared.head.Method.{Method}
@@ -46,8 +46,8 @@ no_job = 9007199254740992
 abbrev pub job_in : List ℕ → Option ℕ
 job_in text = cond (is_plain text && all_ascii_digits text) (Some (min (unwrap_or (number_of 16 text) no_job) no_job)) None
 
--- the route of what stands there; without that, another
-abbrev pub or_else : {A : Type 0} → Option A → (A → Option Route) → Option Route → Option Route
+-- what is named by what stands there; without that, another
+abbrev pub or_else : {A B : Type 0} → Option A → (A → Option B) → Option B → Option B
 or_else None route other = other
 or_else (Some a) route other = route a
 
@@ -60,16 +60,12 @@ abbrev pub media_route : ℕ → List ℕ → Option Route
 media_route count text = or_else (before (codes ".mp4") text) (λ number. option_map routes.Media (rendition_in count number)) None
 
 -- a file of a job by its name
-abbrev pub or_file : Option (List ℕ) → (List ℕ → Option JobFile) → Option JobFile → Option JobFile
-or_file None file other = other
-or_file (Some text) file other = file text
-
 abbrev pub media_file : ℕ → List ℕ → Option JobFile
-media_file count name = or_file (before (codes ".mp4") name) (λ number. option_map files.Media (rendition_in count number)) None
+media_file count name = or_else (before (codes ".mp4") name) (λ number. option_map files.Media (rendition_in count number)) None
 
 abbrev pub list_file : ℕ → List ℕ → Option JobFile
 list_file count name =
-    or_file (before (codes ".m3u8") name) (λ number. option_map files.List (rendition_in count number)) (media_file count name)
+    or_else (before (codes ".m3u8") name) (λ number. option_map files.List (rendition_in count number)) (media_file count name)
 
 abbrev pub file_of : ℕ → List ℕ → Option JobFile
 file_of count name =
@@ -137,17 +133,22 @@ allows (routes.Job id) method = is_read_or_deleted method
 allows (routes.JobFile id file) method = is_read method
 allows routes.Status method = is_read method
 
--- their names (RFC 9110, section 10.2.1)
+-- the methods that have a name of their own, and that name
+abbrev pub named_methods : List (Method × List ℕ)
+named_methods = (Get, codes "GET") ∷ (Head, codes "HEAD") ∷ (Put, codes "PUT") ∷ (Post, codes "POST") ∷ (Delete, codes "DELETE") ∷ []
+
+-- a list of names (RFC 9110, section 5.6.1)
+abbrev pub names_behind : List (Method × List ℕ) → List ℕ
+names_behind [] = []
+names_behind (named ∷ more) = codes ", " ++ (named.1 ++ names_behind more)
+
+abbrev pub names_of : List (Method × List ℕ) → List ℕ
+names_of [] = []
+names_of (named ∷ more) = named.1 ++ names_behind more
+
+-- the names of the methods that a route has, in this order (RFC 9110, section 10.2.1)
 abbrev pub methods_of : Route → List ℕ
-methods_of (routes.Ingest r) = codes "PUT, POST"
-methods_of (routes.Finish r) = codes "POST"
-methods_of routes.LiveMaster = codes "GET, HEAD"
-methods_of (routes.LiveList r) = codes "GET, HEAD"
-methods_of (routes.Media r) = codes "GET, HEAD"
-methods_of routes.CatchUp = codes "POST"
-methods_of (routes.Job id) = codes "GET, HEAD, DELETE"
-methods_of (routes.JobFile id file) = codes "GET, HEAD"
-methods_of routes.Status = codes "GET, HEAD"
+methods_of route = names_of (filter (λ named. allows route named.0) named_methods)
 
 -- the job of such a request is taken away
 abbrev pub removes : Route → Method → Bool

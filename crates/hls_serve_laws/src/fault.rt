@@ -14,13 +14,9 @@ fn box_status(fault: BoxFault) -> Status
     ensures { result ≡ spec.box_status fault }
 {
     match fault {
-        BoxFault::BadSize => Status::BadRequest,
         BoxFault::TooLarge => Status::ContentTooLarge,
-        BoxFault::OpenEnded => Status::BadRequest,
-        BoxFault::MdatAlone => Status::BadRequest,
-        BoxFault::MoofWithoutMdat => Status::BadRequest,
-        BoxFault::Truncated => Status::BadRequest,
         BoxFault::Memory => Status::Unavailable,
+        _ => Status::BadRequest,
     }
 }
 
@@ -41,16 +37,10 @@ pub fn core_status(refusal: Refusal) -> Status
 {
     match refusal {
         Refusal::UnknownRendition => Status::NotFound,
-        Refusal::NoInit => Status::Conflict,
-        Refusal::InitChanged => Status::Conflict,
-        Refusal::Overlap => Status::Conflict,
-        Refusal::Finished => Status::Conflict,
-        Refusal::SlideTooShort => Status::Conflict,
-        Refusal::SlideTooMany => Status::Conflict,
-        Refusal::TrimTooFar => Status::Conflict,
         Refusal::LedgerFull => Status::InsufficientStorage,
         Refusal::RecordingFull => Status::InsufficientStorage,
         Refusal::Memory => Status::Unavailable,
+        _ => Status::Conflict,
     }
 }
 

@@ -167,58 +167,58 @@ fn a_job_without_files(rt: HostRuntime) -> Result<(), Fail> {
     Ok(())
 }
 
-/// How the line of each job ends.
+/// Queries with how the line of their job ends: of a channel that goes on, that is finished, and that has trimmed units.
+const TO_TEN: [(&[u8], &[u8]); 5] = [
+    (b"from=4&to=4", b"refused BadRange version 11\n"),
+    (b"from=0&to=36000001", b"refused NotYet version 11\n"),
+    (
+        b"from=0&to=8000000&preferred=6000001",
+        b"refused BadPreferred version 11\n",
+    ),
+    (
+        b"from=0&to=8000000&charge=3600000001",
+        b"refused BadCharge version 11\n",
+    ),
+    (
+        b"from=0&to=8000000&charge=3600000000",
+        b"cut 7200000000 version 11\n",
+    ),
+];
+
+const TO_FINISHED: [(&[u8], &[u8]); 2] = [
+    (b"from=0&to=40000000", b"cut 0 version 12\n"),
+    (
+        b"from=0&to=40000001",
+        b"refused AfterRecording version 12\n",
+    ),
+];
+
+const TO_TRIMMED: [(&[u8], &[u8]); 1] = [(
+    b"from=0&to=36000000",
+    b"refused BeforeRecording version 14\n",
+)];
+
 #[test]
 fn requests_that_have_no_answer(rt: HostRuntime) -> Result<(), Fail> {
     let alloc = rt.alloc();
     let ten = recorded(alloc, &TEN_UNITS)?;
     let over = finished(alloc, &ten, 0)?;
     let cut = trimmed(alloc, &over)?;
-    for (snapshot, query, line) in [
-        (
-            &ten,
-            b"from=4&to=4".as_slice(),
-            b"refused BadRange version 11\n".as_slice(),
-        ),
-        (&ten, b"from=0&to=36000001", b"refused NotYet version 11\n"),
-        (
-            &ten,
-            b"from=0&to=8000000&preferred=6000001",
-            b"refused BadPreferred version 11\n",
-        ),
-        (
-            &ten,
-            b"from=0&to=8000000&charge=3600000001",
-            b"refused BadCharge version 11\n",
-        ),
-        (
-            &ten,
-            b"from=0&to=8000000&charge=3600000000",
-            b"cut 7200000000 version 11\n",
-        ),
-        (&over, b"from=0&to=40000000", b"cut 0 version 12\n"),
-        (
-            &over,
-            b"from=0&to=40000001",
-            b"refused AfterRecording version 12\n",
-        ),
-        (
-            &cut,
-            b"from=0&to=36000000",
-            b"refused BeforeRecording version 14\n",
-        ),
+    for (snapshot, rows) in [
+        (&ten, TO_TEN.as_slice()),
+        (&over, TO_FINISHED.as_slice()),
+        (&cut, TO_TRIMMED.as_slice()),
     ] {
-        let mut jobs = with_job(alloc, snapshot, query)?;
-        assert!(rt; replied(alloc, &mut jobs, snapshot, Ask::Line(1))?.ends_with(line));
+        for (query, line) in rows {
+            let mut jobs = with_job(alloc, snapshot, *query)?;
+            assert!(rt; replied(alloc, &mut jobs, snapshot, Ask::Line(1))?.ends_with(*line));
+        }
     }
     Ok(())
 }
 
 const TWO_SEGMENTS: &[u8] =
     b"HTTP/1.1 200 OK\r\nContent-Type: application/vnd.apple.mpegurl\r\nContent-Length: 287\r\n\r\n#EXTM3U\n#EXT-X-VERSION:6\n#EXT-X-TARGETDURATION:6\n#EXT-X-MEDIA-SEQUENCE:0\n#EXT-X-DISCONTINUITY-SEQUENCE:0\n#EXT-X-PLAYLIST-TYPE:VOD\n#EXT-X-MAP:URI=\"0.mp4\",BYTERANGE=\"600@0\"\n#EXTINF:4.000000,\n#EXT-X-BYTERANGE:1000@600\n0.mp4\n#EXTINF:4.000000,\n#EXT-X-BYTERANGE:1000@1600\n0.mp4\n#EXT-X-ENDLIST\n";
-
-const LAST_BYTE_OF_2600: &[u8] =
-    b"HTTP/1.1 206 Partial Content\r\nContent-Type: video/mp4\r\nContent-Length: 1\r\nContent-Range: bytes 2599-2599/2600\r\n\r\n\xaa";
 
 const CERTIFICATE: &[u8] =
     b"HTTP/1.1 200 OK\r\nContent-Type: text/plain\r\nContent-Length: 190\r\n\r\nHLS-CUT-CERTIFICATE 1\ntarget 6\npreferred 4000000\nrenditions 1\nplaces 3\n1 4000000 4000000 0 0\n2 8000000 8000000 0 0\n3 12000000 12000000 0 0\ncut 0\nplan 0 1 2\nprice 0 0\nprice 1 0\nprice 2 0\nend\n";
@@ -231,7 +231,10 @@ fn a_job_between_places(rt: HostRuntime) -> Result<(), Fail> {
     for (ask, wanted) in [
         (Ask::Line(1), CUT),
         (Ask::File(JobFile::List(0)), TWO_SEGMENTS),
-        (Ask::Part(Asked::Last(1)), LAST_BYTE_OF_2600),
+        (
+            Ask::Part(Asked::Last(1)),
+            b"HTTP/1.1 206 Partial Content\r\nContent-Type: video/mp4\r\nContent-Length: 1\r\nContent-Range: bytes 2599-2599/2600\r\n\r\n\xaa",
+        ),
         (Ask::File(JobFile::Certificate), CERTIFICATE),
         (Ask::File(JobFile::Media(1)), NOT_FOUND),
     ] {
@@ -324,12 +327,6 @@ fn trimmed_bytes_are_gone(rt: HostRuntime) -> Result<(), Fail> {
     Ok(())
 }
 
-const TABLE_FULL: &[u8] =
-    b"HTTP/1.1 503 Service Unavailable\r\nContent-Type: text/plain\r\nContent-Length: 18\r\n\r\nrefused TableFull\n";
-
-const BAD_QUERY: &[u8] =
-    b"HTTP/1.1 400 Bad Request\r\nContent-Type: text/plain\r\nContent-Length: 17\r\n\r\nrefused BadQuery\n";
-
 #[test]
 fn a_full_table(rt: HostRuntime) -> Result<(), Fail> {
     let alloc = rt.alloc();
@@ -339,8 +336,14 @@ fn a_full_table(rt: HostRuntime) -> Result<(), Fail> {
         let _reply = replied(alloc, &mut jobs, &state, FIRST)?;
     }
     for (ask, wanted) in [
-        (FIRST, TABLE_FULL),
-        (Ask::Post(b"from=0"), BAD_QUERY),
+        (
+            FIRST,
+            b"HTTP/1.1 503 Service Unavailable\r\nContent-Type: text/plain\r\nContent-Length: 18\r\n\r\nrefused TableFull\n".as_slice(),
+        ),
+        (
+            Ask::Post(b"from=0"),
+            b"HTTP/1.1 400 Bad Request\r\nContent-Type: text/plain\r\nContent-Length: 17\r\n\r\nrefused BadQuery\n",
+        ),
         (Ask::Remove(64), b"HTTP/1.1 204 No Content\r\n\r\n"),
         (Ask::Remove(64), NOT_FOUND),
         (FIRST, b"\r\nLocation: /job/65\r\n\r\njob 65 version 2\n"),

@@ -12,42 +12,50 @@ const EPOCH: i64 = 1_704_067_200_000_000;
 
 const SECONDS_9: &[u8] = b"from=2024-01-01T01:00:05%2B01:00&to=2024-01-01T00:00:09Z";
 
-const LARGEST: &[u8] = b"charge=9999999999999999&preferred=0&to=0&from=9999999999999999";
+/// The largest number of 16 digits.
+const MOST: u64 = 9_999_999_999_999_999;
+
+/// A query to a channel with an epoch or without, and what is wanted: from, to, preferred, charge.
+type Asked = (
+    &'static [u8],
+    Option<i64>,
+    (u64, u64, Option<u64>, Option<u64>),
+);
+
+const GOOD: [Asked; 7] = [
+    (b"from=0&to=8000000", None, (0, 8_000_000, None, None)),
+    (
+        b"from=0&to=8000000",
+        Some(EPOCH),
+        (0, 8_000_000, None, None),
+    ),
+    (
+        b"charge=9999999999999999&preferred=0&to=0&from=9999999999999999",
+        None,
+        (MOST, 0, Some(0), Some(MOST)),
+    ),
+    (SECONDS_9, Some(EPOCH), (5_000_000, 9_000_000, None, None)),
+    (
+        SECONDS_9,
+        Some(EPOCH + 5_000_000),
+        (0, 4_000_000, None, None),
+    ),
+    (
+        b"from=2023-12-31T19:00:00.0000019-05:00&to=10",
+        Some(EPOCH),
+        (1, 10, None, None),
+    ),
+    (
+        b"from=0&to=9999-12-30T22:00:00.999999Z",
+        Some(0),
+        (0, 253_402_207_200_999_999, None, None),
+    ),
+];
 
 #[test]
 fn good_queries(rt: HostRuntime) -> Result<(), Fail> {
     let alloc = rt.alloc();
-    let most = 9_999_999_999_999_999;
-    for (query, epoch, start_us, stop_us, preferred, charge) in [
-        (
-            b"from=0&to=8000000".as_slice(),
-            None,
-            0,
-            8_000_000,
-            None,
-            None,
-        ),
-        (b"from=0&to=8000000", Some(EPOCH), 0, 8_000_000, None, None),
-        (LARGEST, None, most, 0, Some(0), Some(most)),
-        (SECONDS_9, Some(EPOCH), 5_000_000, 9_000_000, None, None),
-        (SECONDS_9, Some(EPOCH + 5_000_000), 0, 4_000_000, None, None),
-        (
-            b"from=2023-12-31T19:00:00.0000019-05:00&to=10",
-            Some(EPOCH),
-            1,
-            10,
-            None,
-            None,
-        ),
-        (
-            b"from=0&to=9999-12-30T22:00:00.999999Z",
-            Some(0),
-            0,
-            253_402_207_200_999_999,
-            None,
-            None,
-        ),
-    ] {
+    for (query, epoch, (start_us, stop_us, preferred, charge)) in GOOD {
         let wanted = Wanted {
             start_us,
             stop_us,

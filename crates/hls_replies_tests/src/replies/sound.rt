@@ -57,48 +57,59 @@ fn with_sound(
     finished(alloc, &*finished(alloc, &state, 0)?, 1)
 }
 
-/// How the replies end: of the job's line, of the sound's playlist, of the master playlist, and of the certificate.
-#[test]
-fn jobs_with_sound(rt: HostRuntime) -> Result<(), Fail> {
-    let alloc = rt.alloc();
-    let uneven: &[(u32, u32)] = &[(0, 192_512), (192_512, 385_024)];
-    for (video, sounds, query, line, list, master, certificate) in [
-        (
-            [(0, 4), (6, 10)],
-            [(0, 192_000), (288_000, 480_000)].as_slice(),
-            b"from=0&to=10000000".as_slice(),
-            b"\r\n\r\ncut 0 version 8\n".as_slice(),
+/// A channel of video and sound, as for [`with_sound`], a query, and how the replies of its job end: of the job's line, of the
+/// sound's playlist, of the master playlist, and of the certificate.
+struct Row {
+    video: [(u32, u32); 2],
+    sounds: &'static [(u32, u32)],
+    query: &'static [u8],
+    replies: [&'static [u8]; 4],
+}
+
+const ROWS: [Row; 3] = [
+    Row {
+        video: [(0, 4), (6, 10)],
+        sounds: &[(0, 192_000), (288_000, 480_000)],
+        query: b"from=0&to=10000000",
+        replies: [
+            b"\r\n\r\ncut 0 version 8\n",
             GAP_IN_SOUND,
             JOB_MASTER,
-            b"plan 0 1 2\nprice 0 0\nprice 1 0\nprice 2 0\nend\n".as_slice(),
-        ),
-        (
-            [(0, 4), (4, 8)],
-            &[(0, 96_000), (144_000, 192_000), (192_000, 384_000)],
-            b"from=0&to=8000000",
-            b"\r\n\r\nnone version 9\n",
-            NOT_FOUND,
-            NOT_FOUND,
-            NO_CUT,
-        ),
-        (
-            [(0, 4), (4, 8)],
-            uneven,
-            b"from=0&to=8000000",
+            b"plan 0 1 2\nprice 0 0\nprice 1 0\nprice 2 0\nend\n",
+        ],
+    },
+    Row {
+        video: [(0, 4), (4, 8)],
+        sounds: &[(0, 96_000), (144_000, 192_000), (192_000, 384_000)],
+        query: b"from=0&to=8000000",
+        replies: [b"\r\n\r\nnone version 9\n", NOT_FOUND, NOT_FOUND, NO_CUT],
+    },
+    Row {
+        video: [(0, 4), (4, 8)],
+        sounds: &[(0, 192_512), (192_512, 385_024)],
+        query: b"from=0&to=8000000",
+        replies: [
             b"\r\n\r\ncut 0 version 8\n",
             SOUND,
             JOB_MASTER,
             b"\nplan 0 1 2\nprice 0 0\nprice 1 0\nprice 2 0\nend\n",
-        ),
-    ] {
-        let state = with_sound(alloc, &video, sounds)?;
-        let mut jobs = with_job(alloc, &state, query)?;
-        for (ask, wanted) in [
-            (Ask::Line(1), line),
-            (Ask::File(JobFile::List(1)), list),
-            (Ask::File(JobFile::Master), master),
-            (Ask::File(JobFile::Certificate), certificate),
-        ] {
+        ],
+    },
+];
+
+#[test]
+fn jobs_with_sound(rt: HostRuntime) -> Result<(), Fail> {
+    let alloc = rt.alloc();
+    for row in &ROWS {
+        let state = with_sound(alloc, &row.video, row.sounds)?;
+        let mut jobs = with_job(alloc, &state, row.query)?;
+        let asks = [
+            Ask::Line(1),
+            Ask::File(JobFile::List(1)),
+            Ask::File(JobFile::Master),
+            Ask::File(JobFile::Certificate),
+        ];
+        for (ask, wanted) in asks.into_iter().zip(row.replies) {
             assert!(rt; replied(alloc, &mut jobs, &state, ask)?.ends_with(wanted));
         }
     }
