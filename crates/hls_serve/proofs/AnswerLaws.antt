@@ -6,7 +6,7 @@ use Rattle.hls_http_laws.specs.declared.plan.Plan.{Plan}
 use Rattle.hls_http_laws.specs.Bodies.{ReadsLine, after_line}
 use Rattle.hls_http_laws.specs.Order.{is_over, says_close}
 use Rattle.hls_http_laws.specs.declared.fault.HttpFault.TheVariants as http
-use Rattle.hls_http_laws.proofs.StayLaws.{broken_bodies_stay, step_stays}
+use Rattle.hls_http_laws.proofs.Callers.{broken_bodies_stay, step_stays}
 use Rattle.hls_http.specs.declared.body.BodyEnd.{BodyEnd}
 use Rattle.hls_http.specs.declared.body.BodyEnd.TheVariants as bodies
 use Rattle.hls_http.specs.declared.drain.DropEnd.{DropEnd}

@@ -3,7 +3,7 @@ use Rattle.std.proofs.Common.{◌≡◌, ◌∙◌, ◌⊎◌, ℕ, zero, ◌+�
 use Rattle.std.proofs.lemmas.Grind.{flat_map-append}
 use Rattle.httparse.specs.Grammar.{RequestHead}
 use Rattle.hls_feed.specs.Streams.{Reached}
-use Rattle.hls_feed.proofs.FeedLaws.{reached_none}
+use Rattle.hls_feed.proofs.Callers.{reached_none}
 use Rattle.hls_http_laws.specs.declared.body.Body.{Body}
 use Rattle.hls_http_laws.specs.declared.end.SessionEnd.TheVariants as ends
 use Rattle.hls_http_laws.specs.declared.fault.HttpFault.{HttpFault}
@@ -11,7 +11,7 @@ use Rattle.hls_http_laws.specs.declared.plan.Plan.{Plan}
 use Rattle.hls_http_laws.specs.declared.plan.Plan.TheVariants.{Refuse, Feed, Skip}
 use Rattle.hls_http_laws.specs.Bodies.{IsOpen, Runs}
 use Rattle.hls_http_laws.specs.Heads.{ReadsSmall, IsUnfinished}
-use Rattle.hls_http_laws.proofs.StayLaws.{heads_stay}
+use Rattle.hls_http_laws.proofs.Callers.{heads_stay}
 use Rattle.std.proofs.lemmas.Bool.{cond-false}
 use Rattle.std.proofs.Math.Bool.{and-false}
 use Rattle.hls_http_laws.specs.Fields.{expects}

@@ -25,7 +25,7 @@ use Rattle.hls_feed.specs.declared.fault.Untaken.{Untaken}
 use Rattle.hls_feed.specs.declared.fault.Untaken.TheVariants as untaken
 use Rattle.hls_serve_laws.specs.Acts.{Act, Acted, ActsInVain, IsVain, Leads, Looked, LookedInVain, Looks, Submitted, Submits}
 use Rattle.hls_serve_laws.specs.Ingest.{Progress, FindsInit, PartComes, RefusesUnit}
-use Rattle.hls_serve_laws.proofs.Linking.{acted_follows}
+use Rattle.hls_serve_laws.proofs.Callers.{acted_follows}
 use Rattle.hls_serve.specs.declared.acts.Noted.{Noted}
 use Rattle.hls_serve.specs.Noted.{act_in}
 use Rattle.hls_serve.specs.Taken.{Finds, HasInit, IsUsable, told_as}

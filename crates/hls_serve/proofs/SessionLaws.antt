@@ -5,7 +5,7 @@ use Rattle.std.specs.Io.KnownBytes.{Appends, Consumes, IsAtEnd}
 use Rattle.http_server.proofs.KnownLemmas.{Appends-then, Consumes-then}
 use Rattle.bytes.specs.Unread.{IsChunkOf}
 use Rattle.hls_io.specs.Writing.{Writes}
-use Rattle.hls_http.proofs.ReplyLaws.{writes_whole}
+use Rattle.hls_http.proofs.Callers.{writes_whole}
 use Rattle.hls_http_laws.specs.declared.end.SessionEnd.{SessionEnd}
 use Rattle.hls_http_laws.specs.declared.end.SessionEnd.TheVariants as ends
 use Rattle.hls_turn.specs.Passes.{Known}

@@ -10,7 +10,7 @@ use Rattle.hls_serve_laws.specs.Acts.{Act, Acted}
 use Rattle.hls_serve_laws.specs.Connections.{IsServed}
 use Rattle.hls_serve_laws.specs.Linked.{Later, Linked}
 use Rattle.hls_serve_laws.specs.Sessions.{GoesOn}
-use Rattle.hls_serve_laws.proofs.Linking.{later_itself, linked_acted, linked_follows, linked_later}
+use Rattle.hls_serve_laws.proofs.Callers.{later_itself, linked_acted, linked_follows, linked_later}
 use Rattle.hls_serve.specs.declared.machine.Machine.{Machine}
 use Rattle.hls_serve.specs.declared.machine.State.{State}
 use Rattle.hls_serve.specs.declared.machine.State.TheVariants as states
@@ -33,6 +33,10 @@ talk_at {count} {state} {received} {ended} {unread} {asked} {sent} {pending} t r
     let of_sent = subst (λ (x : List ℕ). Holds m.renditions m.state (history_by received ended unread (asked_in m) x m.output)) (sym g) at in
     let of_end = subst (λ (x : Bool). Holds m.renditions m.state (history_by received x unread (asked_in m) (sent_in t) m.output)) (sym e) of_sent in
     subst (λ (x : List ℕ). Holds m.renditions m.state (history_by x t.ended unread (asked_in m) (sent_in t) m.output)) (sym r) of_end
+
+-- as much is unread
+pub holds_unread : (t : Talk) (unread now : List ℕ) → now ≡ unread → HoldsOf t unread → HoldsOf t now
+holds_unread t unread now is h = subst (λ (x : List ℕ). HoldsOf t x) (sym is) h
 
 -- of which nothing came
 pub talk_new : (t : Talk) → received_in t ≡ [] → t.ended ≡ false → sent_in t ≡ [] → t.machine.state ≡ states.Head → asked_in t.machine ≡ [] → t.machine.output ≡ []

@@ -13,7 +13,7 @@ use Rattle.hls_core_laws.specs.declared.refusal.Refusal.{Refusal}
 use Rattle.hls_core_laws.specs.declared.refusal.Refusal.TheVariants.{Memory}
 use Rattle.hls_core_laws.specs.State.{State}
 use Rattle.hls_turn.specs.declared.done.Done.{Done as Moved}
-use Rattle.hls_catchup.specs.declared.jobs.fault.JobFault.{JobFault}
+use Rattle.hls_catchup.specs.declared.fault.JobFault.{JobFault}
 use Rattle.hls_catchup.specs.declared.jobs.job.Job.{Job}
 use Rattle.hls_catchup.specs.Jobs.Shared.{HasCounted}
 use Rattle.hls_serve_laws.specs.Acts.{Act, ActsInVain, IsVain, Looks, Submits}

@@ -13,12 +13,11 @@ use Rattle.hls_http_laws.specs.declared.body.Body.TheVariants.{Length, Size, Dat
 use Rattle.hls_http_laws.specs.declared.plan.Plan.{Plan}
 use Rattle.hls_http_laws.specs.Bodies.{EndsData, IsBroken, ReadsLine, Runs, Steps, TakesData, after_line}
 use Rattle.hls_http_laws.specs.Order.{is_over}
-use Rattle.hls_http_laws.proofs.StayLaws.{runs_join, runs_stay}
+use Rattle.hls_http_laws.proofs.Callers.{Leaves, runs_join, runs_leave, runs_stay}
 use Rattle.hls_http.specs.declared.body.BodyEnd.TheVariants as bodies
 use Rattle.hls_http.specs.declared.drain.DropEnd.TheVariants as drops
 use Rattle.hls_http.specs.Bodies.{IsLastAlone}
 use Rattle.hls_http.specs.Drained.{announced_by}
-use Rattle.hls_http.proofs.BodySteps.{Leaves, runs_leave}
 use Rattle.hls_serve_laws.specs.declared.ingest.Intake.{Intake}
 use Rattle.hls_serve_laws.specs.declared.ingest.Intake.TheVariants as came
 use Rattle.hls_serve_laws.specs.Ingest.{BodyComes, PartComes, begun, ends_at, intake_of}

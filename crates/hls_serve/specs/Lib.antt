@@ -6,9 +6,11 @@ pub mod Machine
 pub mod Meanwhile
 pub mod Noted
 pub mod Owned
+pub mod Places
 pub mod Taken
 pub mod Talks
 pub mod Talking
+pub mod Told
 pub mod Turns
 pub mod Visits
 pub mod Within

@@ -1,10 +1,12 @@
 -- For the proofs of this crate; no public clause cites it.
 -- A connection but for its input, in the middle of its stream.
-use Rattle.std.specs.Prelude.{◌≡◌, ◌⊎◌, ℕ, ◌<◌, Bool, true, false, List, [], ◌++◌, length, flat_map, Option, Some, None, IsFalse}
+use Rattle.std.specs.Prelude.{◌≡◌, ◌⊎◌, ℕ, ◌<◌, Bool, true, false, List, [], ◌++◌, length, flat_map, Option, Some, None, Err, IsFalse}
 use Rattle.httparse.specs.Grammar.{RequestHead}
 use Rattle.hls_core_laws.specs.IsState.{IsState}
 use Rattle.hls_http_laws.specs.Heads.{ReadsSmall}
+use Rattle.hls_http.specs.declared.body.BodyEnd.TheVariants as bodies
 use Rattle.hls_turn.specs.Passes.{Known}
+use Rattle.hls_serve_laws.specs.declared.ingest.Intake.TheVariants as came
 use Rattle.hls_serve_laws.specs.Acts.{Act}
 use Rattle.hls_serve_laws.specs.Connections.{Exchange, History, Serves, Stage, Between, Within, Over, IsBetween, Stands, acts_of, output, text_of}
 use Rattle.hls_serve.specs.declared.call.Call.{Call}
@@ -13,8 +15,10 @@ use Rattle.hls_serve.specs.declared.ending.Ending.TheVariants as own
 use Rattle.hls_serve.specs.declared.machine.Machine.{Machine}
 use Rattle.hls_serve.specs.declared.machine.State.{State}
 use Rattle.hls_serve.specs.declared.machine.State.TheVariants as states
+use Rattle.hls_serve.specs.declared.news.News.{News}
 use Rattle.hls_serve.specs.Endings.{end_of}
 use Rattle.hls_serve.specs.Taken.{IsUsable}
+use Rattle.hls_serve.specs.Told.{news_of}
 use Rattle.hls_serve.specs.Turns.{IsCall}
 use Rattle.hls_serve.specs.Within.{DropsBody, IsDropping, IsFeeding}
 
@@ -99,6 +103,11 @@ SuitsIn known state = Unit {0}
 
 abbrev pub Suits : Known → Machine → Type 0
 Suits known m = IsState known.seen × SuitsIn known m.state
+
+-- what is told where a read failed
+abbrev pub failure_in : State → Option News
+failure_in (states.Feed f) = Some (news_of f (Err (came.Stopped bodies.ReadFailed)))
+failure_in state = None
 
 -- ---- where nothing more can be done
 

@@ -2,6 +2,7 @@
 
 ghost use Rattle.std.specs.Prelude.{◌≡◌, ℕ, List, []};
 ghost use Rattle.hls_serve_laws.specs.Acts.{Acted};
+ghost use Rattle.hls_serve.specs.Told.{news_of};
 ghost use Rattle.hls_serve.specs.Within.{DropsBody, IsDropped, IsFedUp, IsToDrop, IsToFeed, RepliesTo};
 
 use crate::acts::Acts;
@@ -43,13 +44,20 @@ pub(crate) fn answer_dropped<K: Keeper, O: Observer>(
     }
 }
 
-/// Tells how an encoder's body ended, or why no more of it is taken.
-pub(crate) fn tell_ingested<O: Observer>(feeding: &Feeding, fed: Result<(), Intake>, observer: &O) {
-    observer.tell(&News::Ingested(Ingested {
+/// What is told of an encoder's body that ended, or of which no more is taken.
+pub(crate) fn ingested(feeding: &Feeding, fed: Result<(), Intake>) -> News
+    ensures { result ≡ news_of feeding.now fed }
+{
+    News::Ingested(Ingested {
         rendition: feeding.rendition,
         counts: feeding.taken.counts,
         result: fed,
-    }));
+    })
+}
+
+/// Tells it.
+pub(crate) fn tell_ingested<O: Observer>(feeding: &Feeding, fed: Result<(), Intake>, observer: &O) {
+    observer.tell(&ingested(feeding, fed));
 }
 
 /// To one whose body is an encoder's, which ended, or of which no more is taken.

@@ -193,7 +193,7 @@ impl<K: Keeper> Encoder<K> {
 }
 
 impl<K: Keeper> Taker for Encoder<K> {
-    ghost use Rattle.hls_serve_laws.proofs.Acting.{acted_none, acted_on};
+    ghost use Rattle.hls_serve_laws.proofs.Callers.{acted_none, acted_on};
     ghost use Rattle.hls_serve_laws.specs.Ingest.{Progress as ProgressOf};
 
     type Kept = Taken;

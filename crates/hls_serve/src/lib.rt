@@ -20,6 +20,7 @@ mod machine;
 pub mod news;
 mod next;
 pub mod path;
+mod place;
 mod reply;
 mod respond;
 pub mod route;

@@ -6,7 +6,7 @@ ghost use Rattle.hls_core_laws.specs.IsState.{IsState};
 ghost use Rattle.hls_turn.specs.Passes.{Known};
 ghost use Rattle.hls_serve_laws.specs.Acts.{Acted};
 ghost use Rattle.hls_serve.specs.declared.machine.State.TheVariants as states;
-ghost use Rattle.hls_serve.specs.Machine.{Goes, GoesBehind, GoesFrom, GoesOnIn, Rests, Suits, SuitsIn, asked_in, asked_now, state_behind, total, waited_head};
+ghost use Rattle.hls_serve.specs.Machine.{Goes, GoesBehind, GoesFrom, GoesOnIn, Rests, Suits, SuitsIn, asked_in, asked_now, failure_in, state_behind, total, waited_head};
 ghost use Rattle.httparse.specs.Grammar.{RequestHead};
 ghost use Rattle.hls_serve_laws.specs.Heard.{first_of};
 ghost use Rattle.hls_serve.specs.Taken.{IsUsable};
@@ -14,7 +14,7 @@ ghost use Rattle.hls_serve.specs.Turns.{IsCall};
 ghost use Rattle.hls_serve.specs.Within.{DropsBody};
 
 use crate::acts::Acts;
-use crate::answers::{answer_dropped, answer_fed, tell_ingested};
+use crate::answers::{answer_dropped, answer_fed, ingested, tell_ingested};
 use crate::call::{Call, plan_of, read_call};
 use crate::dropping::Dropping;
 use crate::ending::Ending;
@@ -349,10 +349,23 @@ impl Machine {
         matches!(self.state, State::Over(_))
     }
 
-    /// Tells that no more of an encoder's body comes, since a read failed.
+    /// What is to be told where a read failed: that no more comes of an encoder's body, where one is read.
+    pub fn failure(&self) -> Option<News>
+        ensures { result ≡ failure_in self.now.state }
+    {
+        match &self.state {
+            State::Feed(feeding) => Some(ingested(
+                feeding,
+                Err(Intake::Stopped(BodyEnd::ReadFailed)),
+            )),
+            _ => None,
+        }
+    }
+
+    /// Tells it.
     pub fn fail<O: Observer>(&self, observer: &O) {
-        if let State::Feed(feeding) = &self.state {
-            tell_ingested(feeding, Err(Intake::Stopped(BodyEnd::ReadFailed)), observer);
+        if let Some(news) = self.failure() {
+            observer.tell(&news);
         }
     }
 }

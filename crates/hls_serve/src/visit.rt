@@ -9,13 +9,15 @@ ghost use Rattle.hls_serve_laws.specs.Connections.{IsServed, Over};
 ghost use Rattle.hls_serve_laws.specs.Linked.{Later};
 ghost use Rattle.hls_serve_laws.specs.Sessions.{GoesOn};
 ghost use Rattle.hls_serve.specs.Histories.{StaysQuiet, after_read, after_sent, new_history};
+ghost use Rattle.hls_serve.specs.Places.{talk_of, unread_of};
 ghost use Rattle.hls_serve.specs.Talks.{HoldsOf};
 
 use crate::keeper::Keeper;
 use crate::machine::State;
-use crate::news::Observer;
-use crate::talk::Talk;
-use hls_http::{Input, SessionEnd};
+use crate::news::{News, Observer};
+use crate::place::{Idle, Place};
+use hls_http::SessionEnd;
+use std::alloc::Global;
 use std::io;
 use std::io::Read;
 
@@ -43,36 +45,26 @@ pub enum Standing {
 /// hand its `output` out while it `wants_write`; a connection that came to its `end` has nothing more to do but to hand that out.
 ///
 /// It is lent the keeper of its channel at each `advance`; the same keeper may serve others between. While it is idle it holds no
-/// memory, and nothing of what it handed out.
+/// memory but its own 24 bytes, and nothing of what it handed out.
 #[derive(Drop)]
 pub struct Visit {
-    input: Input,
-    talk: Talk,
-    ghost holds: { ∥ HoldsOf talk input.unread ∥₁ },
-}
-
-/// Gives the input's buffer back between two requests, where nothing is unread.
-fn rest(input: &mut Input, state: &State)
-    ensures { input.new.unread ≡ input.old.unread }
-{
-    match state {
-        State::Head => input.release(),
-        _ => {}
-    }
+    alloc: Global,
+    place: Place,
+    ghost holds: { ∥ HoldsOf (talk_of place) (unread_of place) ∥₁ },
 }
 
 impl Visit {
-    ghost use Rattle.hls_serve.specs.Visits.{Rests, Suits, WantsRead, history, renditions_of, stage};
+    ghost use Rattle.hls_serve.specs.Visits.{IsStanding, Rests, Suits, WantsRead, failure_of, history, renditions_of, stage};
 
     /// A connection to the keeper's channel, of which nothing came yet. It takes no memory.
     pub fn new<K: Keeper>(keeper: &K) -> Visit
         ensures history { history result ≡ new_history }
         ensures suits { Suits (K.known keeper.now) result }
     {
-        let talk = Talk::new(keeper.renditions());
+        let idle = Idle::new(keeper.renditions());
         Visit {
-            input: Input::empty(keeper.alloc()),
-            talk,
+            alloc: keeper.alloc(),
+            place: Place::Idle(idle),
         }
     }
 
@@ -86,7 +78,7 @@ impl Visit {
         ensures renditions { renditions_of self.new ≡ renditions_of self.old }
         ensures suits { (known : Known) → Suits known self.old → Suits known self.new }
     {
-        self.talk.read_from(&mut self.input, reader)
+        self.place.read_from(self.alloc, reader)
     }
 
     /// Answers what was received, until something waits to be handed out, more is to be read, or all is over; and pauses behind so
@@ -100,16 +92,14 @@ impl Visit {
         ensures quiet { StaysQuiet (history self.old) (history self.new) }
         ensures renditions { renditions_of self.new ≡ renditions_of self.old }
     {
-        let more = self.talk.advance(&mut self.input, keeper, observer);
-        rest(&mut self.input, &self.talk.machine.state);
-        more
+        self.place.advance(keeper, observer)
     }
 
     /// The next bytes to hand out; none only where nothing waits.
     pub fn output(&self) -> &[u8]
         ensures { IsChunkOf result.now (history self.now).pending }
     {
-        self.talk.machine.output.chunk()
+        self.place.output()
     }
 
     /// So many of the bytes that wait were handed out.
@@ -120,30 +110,33 @@ impl Visit {
         ensures renditions { renditions_of self.new ≡ renditions_of self.old }
         ensures suits { (known : Known) → Suits known self.old → Suits known self.new }
     {
-        self.talk.sent(count);
+        self.place.sent(count);
     }
 
     /// Whether something waits to be handed out.
     pub fn wants_write(&self) -> bool
         ensures { IsTrue result ↔ (0 < length (history self.now).pending) }
     {
-        !self.talk.machine.output.is_empty()
+        !self.place.is_sent()
     }
 
     /// Whether more is to be read.
     pub fn wants_read(&self) -> bool
         ensures { IsTrue result ↔ WantsRead self.now }
     {
-        if self.talk.ended {
+        let Place::Busy(busy) = &self.place else {
+            return true;
+        };
+        if busy.talk.ended {
             return false;
         }
-        if !self.talk.machine.output.is_empty() {
+        if !busy.talk.machine.output.is_empty() {
             return false;
         }
-        if self.talk.machine.is_over() {
+        if busy.talk.machine.is_over() {
             return false;
         }
-        self.input.unread().len() < MOST_UNREAD
+        busy.input.unread().len() < MOST_UNREAD
     }
 
     /// How the connection ended by itself, where it did. What waits is still to be handed out.
@@ -151,20 +144,28 @@ impl Visit {
         ensures over { IfSome result (λ end. stage self.now ≡ Over end) }
         ensures goes_on { IfNone result (GoesOn (stage self.now)) }
     {
-        match self.talk.machine.state {
+        let Place::Busy(busy) = &self.place else {
+            return None;
+        };
+        match busy.talk.machine.state {
             State::Over(end) => Some(end.end()),
             _ => None,
         }
     }
 
     /// What the connection waits for, or does.
-    pub fn standing(&self) -> Standing {
-        let machine = &self.talk.machine;
+    pub fn standing(&self) -> Standing
+        ensures { IsStanding result self.now }
+    {
+        let Place::Busy(busy) = &self.place else {
+            return Standing::Idle;
+        };
+        let machine = &busy.talk.machine;
         if !machine.output.is_empty() {
             return Standing::Replying;
         }
         match machine.state {
-            State::Head if self.input.unread().is_empty() => Standing::Idle,
+            State::Head if busy.input.unread().is_empty() => Standing::Idle,
             State::Head => Standing::Head,
             State::Drop(_) => Standing::Dropping,
             State::Feed(_) => Standing::Feeding,
@@ -172,9 +173,21 @@ impl Visit {
         }
     }
 
-    /// Tells that no more of an encoder's body comes, since a read failed.
+    /// What is to be told where a read failed: that no more comes of an encoder's body, where one is read.
+    pub fn failure(&self) -> Option<News>
+        ensures { result ≡ failure_of self.now }
+    {
+        match &self.place {
+            Place::Busy(busy) => busy.talk.machine.failure(),
+            Place::Idle(_) => None,
+        }
+    }
+
+    /// Tells it.
     pub fn fail<O: Observer>(&self, observer: &O) {
-        self.talk.machine.fail(observer);
+        if let Some(news) = self.failure() {
+            observer.tell(&news);
+        }
     }
 
     /// A law: what was received is answered in order, and what was handed out and waits are the replies.

@@ -33,4 +33,6 @@ mod smuggling;
 #[cfg(test)]
 mod streams;
 #[cfg(test)]
+mod visits;
+#[cfg(test)]
 mod went;

@@ -3,7 +3,7 @@ use Rattle.std.specs.Io.KnownBytes.{Appends}
 use Rattle.hls_io.specs.Counted.{inside_of}
 use Rattle.hls_http.specs.Source.{held_of, reader_of}
 use Rattle.hls_serve_laws.specs.Acts.{Act, Acted}
-use Rattle.hls_serve_laws.proofs.Acting.{acted_none, acted_on}
+use Rattle.hls_serve_laws.proofs.Callers.{acted_none, acted_on}
 use Rattle.hls_serve.specs.declared.machine.Machine.{Machine}
 use Rattle.hls_serve.specs.Machine.{total}
 use Rattle.hls_serve.specs.Talks.{received_in, sent_in}

@@ -3,7 +3,7 @@ use Rattle.hls_boxes_laws.specs.declared.part.Part.TheVariants as parts
 use Rattle.hls_feed.specs.declared.fault.Untaken.{Untaken}
 use Rattle.hls_media_laws.specs.Meaning.{IsUnit}
 use Rattle.hls_serve_laws.specs.Ingest.{PartComes}
-use Rattle.hls_serve_laws.proofs.Acting.{acted_on}
+use Rattle.hls_serve_laws.proofs.Callers.{acted_on}
 use Rattle.hls_serve.specs.Taken.{progress_of}
 use Rattle.hls_serve.proofs.PassLaws.{fits_unit, unit_refused_by}
 use Rattle.hls_serve.proofs.ingest.Encoder.take_unit.Goals as goal

@@ -1,6 +1,5 @@
 use Rattle.std.proofs.Common.{◌∙◌, refl}
-use Rattle.hls_serve_laws.proofs.Acting.{acted_none, acted_on}
-use Rattle.hls_serve_laws.proofs.Linking.{acted_follows}
+use Rattle.hls_serve_laws.proofs.Callers.{acted_follows, acted_none, acted_on}
 use Rattle.hls_serve.specs.declared.talk.Talk.{Talk}
 use Rattle.hls_serve.specs.Machine.{total}
 use Rattle.hls_serve.specs.Talks.{received_in, sent_in}
