@@ -31,7 +31,7 @@ pub enum Filled {
 /// What was read and not yet taken, and what was taken last. A clause sees these two texts, and for how many bytes there is room.
 ///
 /// They stand in one buffer. It may hold 65536 bytes from the beginning on, so that no read wants memory; or it is made where more
-/// is to be read, grows as it is full, and is given back where nothing is unread.
+/// is to be read, grows where a read has filled it, and is given back where nothing is unread.
 #[derive(Drop)]
 pub struct Input {
     buffer: Vec<u8>,
@@ -137,8 +137,9 @@ impl Input {
         }
     }
 
-    /// Makes room for a read where there is none: the buffer is made, or grows to four times as much, up to 65536 bytes. Where
-    /// memory is wanted, nothing has changed.
+    /// Makes room for a read. The buffer is made where there is none, and grows to four times as much, up to 65536 bytes, where the
+    /// last read has filled it: then more is likely to be there than it takes at once. Where memory is wanted for a read, nothing
+    /// has changed.
     pub fn reserve(&mut self) -> Result<(), AllocError>
         requires { length self.old.unread < 65536 }
         ensures unread { self.new.unread ≡ self.old.unread }
@@ -146,11 +147,15 @@ impl Input {
         ensures err { OnErr result (self.new ≡ self.old) }
     {
         let len = self.buffer.len();
-        if self.end - self.start < len {
+        if self.end < len || len == BUFFER {
             return Ok(());
         }
         let room = (len * 4).clamp(FIRST, BUFFER);
-        self.buffer.resize(room, 0)
+        let grown = self.buffer.resize(room, 0);
+        if self.end - self.start < len {
+            return Ok(());
+        }
+        grown
     }
 
     /// Gives the buffer back where nothing is unread.

@@ -69,3 +69,40 @@ fn more_than_the_buffer_holds(rt: HostRuntime) -> Result<(), Fail> {
     assert!(rt; taken(alloc, input, &text, 5000, 0)?.is_none());
     Ok(())
 }
+
+/// How many bytes one read brings, of which all are taken then.
+fn read_once(input: &mut Input, reader: &mut Drips) -> Result<usize, AllocError> {
+    if input.unread().len() >= 65536 {
+        return Ok(0);
+    }
+    input.reserve()?;
+    let count = input.read_some(reader).unwrap_or(0);
+    input.take(input.unread().len());
+    Ok(count)
+}
+
+#[test]
+fn a_buffer_that_is_filled_grows(rt: HostRuntime) -> Result<(), Fail> {
+    let alloc = rt.alloc();
+    let text = vec![in alloc; 7u8; 200000]?;
+    let mut reader = Drips::new(&text, 200000, 0);
+    let mut input = Input::empty(alloc);
+    for count in [1024, 4096, 16384, 65536, 65536usize] {
+        assert_eq!(rt; read_once(&mut input, &mut reader)?, count);
+    }
+    Ok(())
+}
+
+#[test]
+fn a_buffer_that_is_not_filled_stays(rt: HostRuntime) -> Result<(), Fail> {
+    let alloc = rt.alloc();
+    let text = vec![in alloc; 7u8; 200000]?;
+    let mut slow = Drips::new(&text, 1000, 0);
+    let mut input = Input::empty(alloc);
+    for _ in 0..100u32 {
+        assert_eq!(rt; read_once(&mut input, &mut slow)?, 1000);
+    }
+    let mut fast = Drips::new(&text, 200000, 0);
+    assert_eq!(rt; read_once(&mut input, &mut fast)?, 1024);
+    Ok(())
+}

@@ -13,7 +13,7 @@ use std::net::{Shutdown, SocketAddr};
 const MOST_STEPS: usize = 64;
 
 /// How many bytes it may move before that.
-const MOST_MOVED: usize = 524_288;
+const MOST_MOVED: usize = 1_048_576;
 
 /// How a connection stands behind its turn.
 #[derive(Clone, Copy, Debug, PartialEq, Eq, Drop)]
