@@ -22,8 +22,8 @@ use std::time::{Clock, Duration};
 /// The token of the listener.
 const DOOR: Token = Token(usize::MAX);
 
-/// How many connections are accepted before those that are there have their turn.
-const MOST_ACCEPTS: usize = 32;
+/// How many connections are accepted before those that are there have their turn: some of them are over by then.
+const MOST_ACCEPTS: usize = 8;
 
 /// Connections are looked through for those that take too long at least so often, in milliseconds.
 const LONGEST_BEAT: u64 = 1000;
@@ -55,6 +55,8 @@ enum Waiting {
     No,
     /// There may be one.
     Maybe,
+    /// There may be one; the other workers go first until this time, as long as this one has more than its share.
+    Others(u64),
     /// There may be one; it is left alone until this time.
     Later(u64),
 }
@@ -308,7 +310,8 @@ impl<'a, H: Host + Drop> Worker<'a, H> {
         }
     }
 
-    /// Whether a connection that may be waiting is taken now. Who has more than a share lets the others go first for a while.
+    /// Whether a connection that may be waiting is taken now. Who has more than a share lets the others go first for a while, or until
+    /// as many of its own are over.
     fn is_next(&mut self) -> bool
         ensures host { self.new.host ≡ self.old.host }
         ensures slots { self.new.slots ≡ self.old.slots }
@@ -319,8 +322,15 @@ impl<'a, H: Host + Drop> Worker<'a, H> {
                 if !self.door.has_more(self.slots.len()) {
                     return true;
                 }
-                self.leave_door(COURTESY);
+                self.waiting = Waiting::Others(self.now.saturating_add(COURTESY));
                 false
+            }
+            Waiting::Others(time) => {
+                if self.now < time && self.door.has_more(self.slots.len()) {
+                    return false;
+                }
+                self.waiting = Waiting::Maybe;
+                true
             }
             Waiting::Later(time) => {
                 if self.now < time {
@@ -432,7 +442,7 @@ impl<'a, H: Host + Drop> Worker<'a, H> {
             match self.waiting {
                 Waiting::No => {}
                 Waiting::Maybe => return Some(Duration::from_millis(0)),
-                Waiting::Later(time) => {
+                Waiting::Others(time) | Waiting::Later(time) => {
                     let left = time.saturating_sub(self.now);
                     return Some(Duration::from_millis(left.min(self.beat)));
                 }
