@@ -9,8 +9,8 @@ use std::os::fd::AsRawFd;
 /// How many connections the system holds for the workers.
 const QUEUE: i32 = 4096;
 
-/// The most bytes that the system keeps for a client that doesn't read.
-const SEND_BUFFER: i32 = 262_144;
+/// Half of what the system keeps at most for a client that doesn't read: it takes twice what is asked for, for its own notes.
+const SEND_BUFFER: i32 = 131_072;
 
 /// Files that a server has open beside its connections and its workers' own: standard streams, the listener, what is read at the
 /// start.
