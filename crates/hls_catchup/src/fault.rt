@@ -6,17 +6,9 @@ ghost use Rattle.hls_catchup.specs.Jobs.FaultName.{job_fault_name};
 ghost use Rattle.hls_catchup.specs.declared.fault.CatchFault.TheVariants as catch_fault;
 ghost use Rattle.hls_catchup.specs.declared.fault.JobFault.TheVariants as job_fault;
 
-use std::alloc::{AllocError, AllocFailed};
+use hls_faults::{WantOfMemory, name_among};
+use std::alloc::AllocError;
 use thiserror::Error;
-
-/// The name of a variant, among all that its type has.
-macro_rules! name_among {
-    ($fault:expr; $type:ident: $($variant:ident),*) => {
-        match $fault {
-            $($type::$variant { .. } => stringify!($variant)),*
-        }
-    };
-}
 
 /// Why a request has no answer, in the order in which the causes are looked at.
 #[derive(Clone, Copy, Debug, PartialEq, Eq, Error)]
@@ -49,18 +41,10 @@ impl CatchFault {
     }
 }
 
-impl From<AllocError> for CatchFault {
+impl<E: WantOfMemory> From<E> for CatchFault {
     ghost from_gives = { λ _ e. e ≡ catch_fault.Memory };
 
-    fn from(_error: AllocError) -> CatchFault {
-        CatchFault::Memory
-    }
-}
-
-impl<T: Drop> From<AllocFailed<T>> for CatchFault {
-    ghost from_gives = { λ _ e. e ≡ catch_fault.Memory };
-
-    fn from(_error: AllocFailed<T>) -> CatchFault {
+    fn from(_want: E) -> CatchFault {
         CatchFault::Memory
     }
 }

@@ -4,17 +4,8 @@ ghost use Rattle.std.specs.Prelude.{◌≡◌};
 ghost use Rattle.hls_check_laws.specs.Faults.{fault_name};
 ghost use Rattle.hls_check_laws.specs.declared.cert_fault.CertFault.TheVariants.{Memory};
 
-use std::alloc::{AllocError, AllocFailed};
+use hls_faults::{WantOfMemory, name_among};
 use thiserror::Error;
-
-/// The name of a variant, among all that its type has.
-macro_rules! name_among {
-    ($fault:expr; $type:ident: $($variant:ident),*) => {
-        match $fault {
-            $($type::$variant { .. } => stringify!($variant)),*
-        }
-    };
-}
 
 /// Why a certificate is refused. The check answers the first that holds, in this order.
 #[derive(Clone, Copy, Debug, PartialEq, Eq, Error)]
@@ -57,18 +48,10 @@ impl CertFault {
     }
 }
 
-impl From<AllocError> for CertFault {
+impl<E: WantOfMemory> From<E> for CertFault {
     ghost from_gives = { λ _ e. e ≡ Memory };
 
-    fn from(_error: AllocError) -> CertFault {
-        CertFault::Memory
-    }
-}
-
-impl<T: Drop> From<AllocFailed<T>> for CertFault {
-    ghost from_gives = { λ _ e. e ≡ Memory };
-
-    fn from(_error: AllocFailed<T>) -> CertFault {
+    fn from(_want: E) -> CertFault {
         CertFault::Memory
     }
 }

@@ -8,6 +8,7 @@ ghost use Rattle.hls_core.specs.FirstBad.{IsFirstBad, bears_name};
 use bytes::Bytes;
 use hls_check_laws::{RENDITION_LIMIT, TARGET_LIMIT};
 use hls_core_laws::rendition::Rendition;
+use hls_faults::name_among;
 use std::alloc::{AllocError, Global};
 use std::marker::Model;
 use std::sync::Arc;
@@ -15,15 +16,6 @@ use thiserror::Error;
 
 /// 9000-01-01T00:00:00Z in microseconds since 1970-01-01T00:00:00Z: the last moment at which time 0 may be.
 pub const LAST_EPOCH: i64 = 221845392000000000;
-
-/// The name of a variant, among all that its type has.
-macro_rules! name_among {
-    ($fault:expr; $type:ident: $($variant:ident),*) => {
-        match $fault {
-            $($type::$variant { .. } => stringify!($variant)),*
-        }
-    };
-}
 
 /// Why a channel can't be configured so.
 #[derive(Clone, Copy, Debug, PartialEq, Eq, Error)]

@@ -3,17 +3,9 @@
 ghost use Rattle.std.specs.Prelude.{◌≡◌};
 ghost use Rattle.hls_core_laws.specs.declared.refusal.Refusal.TheVariants.{Memory};
 
+use hls_faults::name_among;
 use std::alloc::AllocError;
 use thiserror::Error;
-
-/// The name of a variant, among all that its type has.
-macro_rules! name_among {
-    ($fault:expr; $type:ident: $($variant:ident),*) => {
-        match $fault {
-            $($type::$variant { .. } => stringify!($variant)),*
-        }
-    };
-}
 
 /// Why an event was refused. A refused event changes nothing.
 #[derive(Clone, Copy, Debug, PartialEq, Eq, Error)]

@@ -4,16 +4,8 @@ ghost use Rattle.std.specs.Prelude.{◌≡◌};
 ghost use Rattle.hls_http_laws.specs.Reply.{fault_name, fault_status};
 
 use crate::reply::Status;
+use hls_faults::name_among;
 use thiserror::Error;
-
-/// The name of a variant, among all that its type has.
-macro_rules! name_among {
-    ($fault:expr; $type:ident: $($variant:ident),*) => {
-        match $fault {
-            $($type::$variant { .. } => stringify!($variant)),*
-        }
-    };
-}
 
 /// Why a request is refused, by what HTTP says of it. It is printed as its variant's name.
 #[derive(Clone, Copy, Debug, PartialEq, Eq, Error)]

@@ -4,17 +4,8 @@ ghost use Rattle.std.specs.Prelude.{◌≡◌};
 ghost use Rattle.hls_m3u8.specs.Faults.{fault_name};
 ghost use Rattle.hls_m3u8.specs.declared.fault.ListFault.TheVariants.{Memory};
 
-use std::alloc::{AllocError, AllocFailed};
+use hls_faults::{WantOfMemory, name_among};
 use thiserror::Error;
-
-/// The name of a variant, among all that its type has.
-macro_rules! name_among {
-    ($fault:expr; $type:ident: $($variant:ident),*) => {
-        match $fault {
-            $($type::$variant { .. } => stringify!($variant)),*
-        }
-    };
-}
 
 /// Why a text is refused as a media playlist. TooLong of the bytes, Utf8 and NotM3u are tested first, in this order,
 /// then the lines one by one (on a URI's line MissingTag, BadTag, TooLong in this order), at the end MissingTag, and
@@ -50,18 +41,10 @@ impl ListFault {
     }
 }
 
-impl From<AllocError> for ListFault {
+impl<E: WantOfMemory> From<E> for ListFault {
     ghost from_gives = { λ _ e. e ≡ Memory };
 
-    fn from(_error: AllocError) -> ListFault {
-        ListFault::Memory
-    }
-}
-
-impl<T: Drop> From<AllocFailed<T>> for ListFault {
-    ghost from_gives = { λ _ e. e ≡ Memory };
-
-    fn from(_error: AllocFailed<T>) -> ListFault {
+    fn from(_want: E) -> ListFault {
         ListFault::Memory
     }
 }

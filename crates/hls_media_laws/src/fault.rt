@@ -3,16 +3,8 @@
 ghost use Rattle.std.specs.Prelude.{◌≡◌};
 ghost use Rattle.hls_media_laws.specs.FaultName.{name_of};
 
+use hls_faults::name_among;
 use thiserror::Error;
-
-/// The name of a variant, among all that its type has.
-macro_rules! name_among {
-    ($fault:expr; $type:ident: $($variant:ident),*) => {
-        match $fault {
-            $($type::$variant { .. } => stringify!($variant)),*
-        }
-    };
-}
 
 /// Why bytes are no good init section, or no good unit under theirs.
 #[derive(Clone, Copy, Debug, PartialEq, Eq, Error)]

@@ -4,17 +4,8 @@ ghost use Rattle.std.specs.Prelude.{◌≡◌};
 ghost use Rattle.hls_origin_listing.specs.FaultName.{name_of};
 ghost use Rattle.hls_origin_listing.specs.declared.fault.ListFault.TheVariants.{Memory};
 
-use std::alloc::{AllocError, AllocFailed};
+use hls_faults::{WantOfMemory, name_among};
 use thiserror::Error;
-
-/// The name of a variant, among all that its type has.
-macro_rules! name_among {
-    ($fault:expr; $type:ident: $($variant:ident),*) => {
-        match $fault {
-            $($type::$variant { .. } => stringify!($variant)),*
-        }
-    };
-}
 
 /// Why a recorded stream isn't listed, in the order in which the causes are looked at.
 #[derive(Clone, Copy, Debug, PartialEq, Eq, Error)]
@@ -39,18 +30,10 @@ impl ListFault {
     }
 }
 
-impl From<AllocError> for ListFault {
+impl<E: WantOfMemory> From<E> for ListFault {
     ghost from_gives = { λ _ e. e ≡ Memory };
 
-    fn from(_error: AllocError) -> ListFault {
-        ListFault::Memory
-    }
-}
-
-impl<T: Drop> From<AllocFailed<T>> for ListFault {
-    ghost from_gives = { λ _ e. e ≡ Memory };
-
-    fn from(_error: AllocFailed<T>) -> ListFault {
+    fn from(_want: E) -> ListFault {
         ListFault::Memory
     }
 }

@@ -6,17 +6,8 @@ ghost use Rattle.hls_places_laws.specs.Line.FaultName.{line_fault_name};
 ghost use Rattle.hls_places_laws.specs.declared.fault.LineFault.TheVariants as line_fault;
 ghost use Rattle.hls_places_laws.specs.declared.fault.ProgrammeFault.TheVariants as programme_fault;
 
-use std::alloc::{AllocError, AllocFailed};
+use hls_faults::{WantOfMemory, name_among};
 use thiserror::Error;
-
-/// The name of a variant, among all that its type has.
-macro_rules! name_among {
-    ($fault:expr; $type:ident: $($variant:ident),*) => {
-        match $fault {
-            $($type::$variant { .. } => stringify!($variant)),*
-        }
-    };
-}
 
 /// Why a programme has no table. The first that holds is answered, in this order.
 #[derive(Clone, Copy, Debug, PartialEq, Eq, Error)]
@@ -47,18 +38,10 @@ impl ProgrammeFault {
     }
 }
 
-impl From<AllocError> for ProgrammeFault {
+impl<E: WantOfMemory> From<E> for ProgrammeFault {
     ghost from_gives = { λ _ e. e ≡ programme_fault.Memory };
 
-    fn from(_error: AllocError) -> ProgrammeFault {
-        ProgrammeFault::Memory
-    }
-}
-
-impl<T: Drop> From<AllocFailed<T>> for ProgrammeFault {
-    ghost from_gives = { λ _ e. e ≡ programme_fault.Memory };
-
-    fn from(_error: AllocFailed<T>) -> ProgrammeFault {
+    fn from(_want: E) -> ProgrammeFault {
         ProgrammeFault::Memory
     }
 }
@@ -89,18 +72,10 @@ impl LineFault {
     }
 }
 
-impl From<AllocError> for LineFault {
+impl<E: WantOfMemory> From<E> for LineFault {
     ghost from_gives = { λ _ e. e ≡ line_fault.Memory };
 
-    fn from(_error: AllocError) -> LineFault {
-        LineFault::Memory
-    }
-}
-
-impl<T: Drop> From<AllocFailed<T>> for LineFault {
-    ghost from_gives = { λ _ e. e ≡ line_fault.Memory };
-
-    fn from(_error: AllocFailed<T>) -> LineFault {
+    fn from(_want: E) -> LineFault {
         LineFault::Memory
     }
 }

@@ -2,16 +2,8 @@
 ghost use Rattle.std.specs.Prelude.{◌≡◌};
 ghost use Rattle.hls_record.specs.FaultName.{record_fault_name, range_fault_name};
 
+use hls_faults::name_among;
 use thiserror::Error;
-
-/// The name of a variant, among all that its type has.
-macro_rules! name_among {
-    ($fault:expr; $type:ident: $($variant:ident),*) => {
-        match $fault {
-            $($type::$variant { .. } => stringify!($variant)),*
-        }
-    };
-}
 
 /// Why a unit isn't appended, in the order in which they are looked at.
 #[derive(Clone, Copy, Debug, PartialEq, Eq, Error)]
