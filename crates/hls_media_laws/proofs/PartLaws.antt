@@ -1,8 +1,9 @@
 -- The bytes that have a layout, or a `moov`, are just those of which the stream cut makes one part.
-use Rattle.std.proofs.Common.{◌≡◌, ℕ, ◌+◌, ◌≤◌, ◌==◌, nat_lt, Bool, true, false, cond, List, [], ◌∷◌, length, Option, Some, None, is_some, option_and_then, refl, sym, ◌∙◌, ap, inl, inr}
+use Rattle.std.proofs.Common.{◌≡◌, ◌↔◌, ℕ, ◌+◌, ◌≤◌, ◌==◌, nat_lt, Bool, true, false, cond, List, [], ◌∷◌, length, Option, Some, None, is_some, option_and_then, refl, sym, ◌∙◌, ap, inl, inr}
 use Rattle.std.proofs.lemmas.Bool.{cases_Bool, eqb-true, ltb-false, le-ltb}
 use Rattle.hls_boxes_laws.specs.Kinds.{moov_type, moof_type, mdat_type, init_limit, unit_limit}
 use Rattle.hls_boxes_laws.specs.Boxes.{Child, children, kinds_of}
+use Rattle.hls_boxes_laws.specs.Parts.{IsInitPart, IsUnitPart}
 use Rattle.hls_boxes_laws.proofs.Callers.{is_last, ends_init, ends_unit, has_unit, fills, unit_part, unit_whole, init_part, init_whole}
 use Rattle.hls_media_laws.specs.Layout.{layout_of, layout_by, with_mdat, last_box, size_of_box, moov_of, moov_by, last_moov, UnitsAreParts, InitsAreParts}
 
@@ -68,24 +69,25 @@ within_by : {A : Type 0} (limit len : ℕ) (o : Option A) (past : Bool) → nat_
 within_by limit len o true e h = absurd (cc)
 within_by limit len o false e h = (ltb-false limit len e, h)
 
+-- what is read of boxes within a limit is there just where the bytes are a part, if that is told by the boxes' types
+read_by : {A : Type 0} (IsPart : Type 0) (limit : ℕ) (bytes : List ℕ) (by : List Child → Option A) (kinds_hold : List ℕ → Bool)
+    → ((bs : List Child) → is_some (by bs) ≡ kinds_hold (kinds_of bs))
+    → (length bytes ≤ limit → fills kinds_hold (children bytes) ≡ true → IsPart)
+    → (IsPart → (length bytes ≤ limit) × (fills kinds_hold (children bytes) ≡ true))
+    → (is_some (cond (nat_lt limit (length bytes)) None (option_and_then by (children bytes))) ≡ true) ↔ IsPart
+read_by IsPart limit bytes by kinds_hold each whole part = (
+  λ some.
+      let w : (length bytes ≤ limit) × (is_some (option_and_then by (children bytes)) ≡ true) = within_by limit (length bytes) (option_and_then by (children bytes)) (nat_lt limit (length bytes)) refl some in
+      whole w.0 (sym (filled by kinds_hold each (children bytes)) ∙ w.1),
+  λ is.
+      let p : (length bytes ≤ limit) × (fills kinds_hold (children bytes) ≡ true) = part is in
+      rw (le-ltb limit (length bytes) p.0) (filled by kinds_hold each (children bytes) ∙ p.1),
+)
+
 pub units_are_parts : UnitsAreParts
 unfolding layout_of
-units_are_parts bytes = (
-  λ some.
-      let w : (length bytes ≤ unit_limit) × (is_some (option_and_then layout_by (children bytes)) ≡ true) = within_by unit_limit (length bytes) (option_and_then layout_by (children bytes)) (nat_lt unit_limit (length bytes)) refl some in
-      unit_whole bytes w.0 (sym (filled layout_by has_unit layout_by-kinds (children bytes)) ∙ w.1),
-  λ part.
-      let p : (length bytes ≤ unit_limit) × (fills has_unit (children bytes) ≡ true) = unit_part bytes part in
-      rw (le-ltb unit_limit (length bytes) p.0) (filled layout_by has_unit layout_by-kinds (children bytes) ∙ p.1),
-)
+units_are_parts bytes = read_by (IsUnitPart bytes) unit_limit bytes layout_by has_unit layout_by-kinds (unit_whole bytes) (unit_part bytes)
 
 pub inits_are_parts : InitsAreParts
 unfolding moov_of
-inits_are_parts bytes = (
-  λ some.
-      let w : (length bytes ≤ init_limit) × (is_some (option_and_then moov_by (children bytes)) ≡ true) = within_by init_limit (length bytes) (option_and_then moov_by (children bytes)) (nat_lt init_limit (length bytes)) refl some in
-      init_whole bytes w.0 (sym (filled moov_by ends_init moov_by-kinds (children bytes)) ∙ w.1),
-  λ part.
-      let p : (length bytes ≤ init_limit) × (fills ends_init (children bytes) ≡ true) = init_part bytes part in
-      rw (le-ltb init_limit (length bytes) p.0) (filled moov_by ends_init moov_by-kinds (children bytes) ∙ p.1),
-)
+inits_are_parts bytes = read_by (IsInitPart bytes) init_limit bytes moov_by ends_init moov_by-kinds (init_whole bytes) (init_part bytes)
