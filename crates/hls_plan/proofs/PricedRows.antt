@@ -47,10 +47,10 @@ row_skipped t p first prices origins pricing from = record {
   row = λ j below rises allowed. let up : first ≤ j = from j rises allowed in absurd (omega arith);
 }
 
--- a row is whole where no later step from it is allowed
-pub row_end : (t : Table) (p q : ℕ) (prices : List (Option ℕ)) (origins : List ℕ) →
-    IsPricing t p q prices origins → ((j : ℕ) → p < j → q ≤ j → Allowed t p j → ⊥) → IsPricing t (p + 1) 0 prices origins
-row_end t p q prices origins pricing none = record {
+-- a row is whole where the steps from it to the places from q on keep to the prices
+row_over : (t : Table) (p q : ℕ) (prices : List (Option ℕ)) (origins : List ℕ) →
+    IsPricing t p q prices origins → ((j : ℕ) → q ≤ j → CutKeeps t prices p j) → IsPricing t (p + 1) 0 prices origins
+row_over t p q prices origins pricing keep = record {
   one_each = pricing.one_each;
   origin_each = pricing.origin_each;
   start = pricing.start;
@@ -59,30 +59,25 @@ row_end t p q prices origins pricing none = record {
   bound = pricing.bound;
   rows = λ i j below.
       below_more (λ x. CutKeeps t prices x j) p (λ x h. pricing.rows x j h)
-      (λ rises allowed.
-      elim (cases_lt j q) [
-        | inl before ↦ pricing.row j before rises allowed
-        | inr after ↦ absurd (none j rises after allowed)
+      (elim (cases_lt j q) [
+        | inl before ↦ pricing.row j before
+        | inr after ↦ keep j after
       ])
       i below;
   row = λ j below. absurd (omega arith);
 }
 
--- so it is where its place can't be reached
+-- so it is where no later step from it is allowed
+pub row_end : (t : Table) (p q : ℕ) (prices : List (Option ℕ)) (origins : List ℕ) →
+    IsPricing t p q prices origins → ((j : ℕ) → p < j → q ≤ j → Allowed t p j → ⊥) → IsPricing t (p + 1) 0 prices origins
+row_end t p q prices origins pricing none =
+    row_over t p q prices origins pricing (λ j after rises allowed. absurd (none j rises after allowed))
+
+-- and where its place can't be reached
 pub row_unpriced : (t : Table) (p : ℕ) (prices : List (Option ℕ)) (origins : List ℕ) →
     IsPricing t p 0 prices origins → price_at prices p ≡ None → IsPricing t (p + 1) 0 prices origins
-row_unpriced t p prices origins pricing unpriced = record {
-  one_each = pricing.one_each;
-  origin_each = pricing.origin_each;
-  start = pricing.start;
-  reached = pricing.reached;
-  origin_done = λ k price h is. omega (arith, pricing.origin_done k price h is);
-  bound = pricing.bound;
-  rows = λ i j below.
-      below_more (λ x. CutKeeps t prices x j) p (λ x h. pricing.rows x j h)
-      (λ rises allowed. rw unpriced tt) i below;
-  row = λ j below. absurd (omega arith);
-}
+row_unpriced t p prices origins pricing unpriced =
+    row_over t p 0 prices origins pricing (λ j from rises allowed. rw unpriced tt)
 
 -- place q takes a lower price, that of place p and the step
 row_taken : (t : Table) (p q a : ℕ) (prices : List (Option ℕ)) (origins : List ℕ) →
