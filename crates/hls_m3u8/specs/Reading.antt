@@ -1,6 +1,6 @@
 -- What the lines of a media playlist say, one after the other (RFC 8216 section 4.3).
 
-use Rattle.std.specs.Prelude.{ℕ, ◌+◌, ℤ, ◌==◌, ◌&&◌, Bool, true, false, not, if◌then◌else◌, nat_lt, List, [], ◌∷◌, ◌++◌, length, Option, Some, None, Result, Ok, Err, codes}
+use Rattle.std.specs.Prelude.{ℕ, ◌+◌, ℤ, ◌==◌, ◌&&◌, Bool, true, false, not, if◌then◌else◌, nat_lt, List, [], ◌∷◌, ◌++◌, length, Option, Some, None, option_and_then, Result, Ok, Err, codes}
 use Rattle.std.specs.Str.{bytes_eq, is_utf8}
 use Rattle.hls_m3u8.specs.declared.playlist.Kind.{Kind}
 use Rattle.hls_m3u8.specs.declared.playlist.ByteRange.{ByteRange}
@@ -50,10 +50,6 @@ abbrev pub with_discontinuity_sequence : Reading → Option ℕ → Option Readi
 with_discontinuity_sequence r None = None
 with_discontinuity_sequence r (Some n) = at_front r (once r.discontinuity_sequence (record r { discontinuity_sequence = Some n }))
 
-abbrev pub kind_value : Option (List ℕ) → Option Kind
-kind_value None = None
-kind_value (Some value) = kind_of value
-
 abbrev pub with_kind : Reading → Option Kind → Option Reading
 with_kind r None = None
 with_kind r (Some kind) = once r.kind (record r { kind = Some kind })
@@ -67,17 +63,9 @@ abbrev pub with_length : Reading → Option ℕ → Option Reading
 with_length r None = None
 with_length r (Some us) = once r.us (record r { us = Some us })
 
-abbrev pub range_value : Option (List ℕ) → Option RangeTag
-range_value None = None
-range_value (Some value) = range_tag value
-
 abbrev pub with_range_tag : Reading → Option RangeTag → Option Reading
 with_range_tag r None = None
 with_range_tag r (Some range) = once r.range (record r { range = Some range })
-
-abbrev pub map_value : Option (List ℕ) → Option Resource
-map_value None = None
-map_value (Some value) = map_tag value
 
 abbrev pub same_range : Option ByteRange → Option ByteRange → Bool
 same_range None None = true
@@ -125,10 +113,10 @@ after_tag r tag.Version value = with_version r (number value)
 after_tag r tag.TargetDuration value = with_target r (number value)
 after_tag r tag.MediaSequence value = with_media_sequence r (number value)
 after_tag r tag.DiscontinuitySequence value = with_discontinuity_sequence r (number value)
-after_tag r tag.PlaylistType value = with_kind r (kind_value value)
+after_tag r tag.PlaylistType value = with_kind r (option_and_then kind_of value)
 after_tag r tag.Extinf value = with_length r (length_value value)
-after_tag r tag.Byterange value = with_range_tag r (range_value value)
-after_tag r tag.Map value = with_map r (map_value value)
+after_tag r tag.Byterange value = with_range_tag r (option_and_then range_tag value)
+after_tag r tag.Map value = with_map r (option_and_then map_tag value)
 after_tag r tag.Discontinuity value = with_mark r value
 after_tag r tag.ProgramDateTime value = with_date r (date_value value)
 after_tag r tag.Endlist value = with_end r value

@@ -1,11 +1,11 @@
 //! What one line does. What was read stands in one place and is changed there: a line costs what it says, and an
 //! empty one nothing. What a refusal leaves of it is no matter, since the text is refused.
 
-ghost use Rattle.std.specs.Prelude.{◌≡◌, ◌<◌, ℕ, List, Some, None, ◌||◌, true, false, is_some, option_map, IfSome, IfNone};
+ghost use Rattle.std.specs.Prelude.{◌≡◌, ◌<◌, ℕ, List, Some, None, ◌||◌, ◌==◌, if◌then◌else◌, true, false, is_some, option_map, IfSome, IfNone};
 ghost use Rattle.hls_m3u8.specs.TextLines.{split_at};
 ghost use Rattle.hls_m3u8.specs.Tags.{tag_of};
 ghost use Rattle.std.specs.Borrow.{Bor};
-ghost use Rattle.hls_m3u8.specs.Reading.{once, at_front, number, with_version, with_target, with_media_sequence, with_discontinuity_sequence, kind_value, with_kind, length_value, with_length, range_value, with_range_tag, map_value, same_range, same_resource, with_map, with_mark, date_value, with_date, with_end, after_tag, behind_range, behind, placed, segment_range, after_segment, segment_within, uri_step, tag_step, step};
+ghost use Rattle.hls_m3u8.specs.Reading.{once, at_front, number, with_version, with_target, with_media_sequence, with_discontinuity_sequence, with_kind, length_value, with_length, with_range_tag, same_range, same_resource, with_map, with_mark, date_value, with_date, with_end, after_tag, behind_range, behind, placed, segment_range, after_segment, segment_within, uri_step, tag_step, step};
 ghost use Rattle.hls_m3u8.specs.Scans.{taken, stepped};
 ghost use Rattle.hls_m3u8.specs.Limits.{segment_limit};
 
@@ -61,30 +61,28 @@ fn with_target(reading: &mut Reading<'_>, number: Option<u64>) -> Option<()>
     give_once(&mut reading.target, number?)
 }
 
-fn with_media_sequence(reading: &mut Reading<'_>, number: Option<u64>) -> Option<()>
-    ensures { taken result reading.new ≡ with_media_sequence reading.old number }
+// A number that may be given before the first segment alone.
+fn before_segments(reading: &Reading<'_>, number: Option<u64>) -> Option<u64>
+    ensures { result ≡ (if reading.now.count == 0 then number else None) }
 {
-    let n = number?;
     if reading.count != 0 {
         return None;
     }
+    number
+}
+
+fn with_media_sequence(reading: &mut Reading<'_>, number: Option<u64>) -> Option<()>
+    ensures { taken result reading.new ≡ with_media_sequence reading.old number }
+{
+    let n = before_segments(reading, number)?;
     give_once(&mut reading.media_sequence, n)
 }
 
 fn with_discontinuity_sequence(reading: &mut Reading<'_>, number: Option<u64>) -> Option<()>
     ensures { taken result reading.new ≡ with_discontinuity_sequence reading.old number }
 {
-    let n = number?;
-    if reading.count != 0 {
-        return None;
-    }
+    let n = before_segments(reading, number)?;
     give_once(&mut reading.discontinuity_sequence, n)
-}
-
-fn kind_value(value: Option<&str>) -> Option<Kind>
-    ensures { result ≡ kind_value (option_map (λ (v : Bor (List ℕ)). v.now) value.entry) }
-{
-    kind_of(value?)
 }
 
 fn with_kind(reading: &mut Reading<'_>, kind: Option<Kind>) -> Option<()>
@@ -105,22 +103,10 @@ fn with_length(reading: &mut Reading<'_>, length: Option<u64>) -> Option<()>
     give_once(&mut reading.us, length?)
 }
 
-fn range_value(value: Option<&str>) -> Option<RangeTag>
-    ensures { result ≡ range_value (option_map (λ (v : Bor (List ℕ)). v.now) value.entry) }
-{
-    range_tag(value?)
-}
-
 fn with_range_tag(reading: &mut Reading<'_>, range: Option<RangeTag>) -> Option<()>
     ensures { taken result reading.new ≡ with_range_tag reading.old range }
 {
     give_once(&mut reading.range, range?)
-}
-
-fn map_value(value: Option<&str>) -> Option<Resource<'_>>
-    ensures { result ≡ map_value (option_map (λ (v : Bor (List ℕ)). v.now) value.entry) }
-{
-    map_tag(value?)
 }
 
 fn same_range(a: Option<ByteRange>, b: Option<ByteRange>) -> bool
@@ -196,10 +182,10 @@ fn after_tag<'a>(reading: &mut Reading<'a>, tag: Tag, value: Option<&'a str>) ->
         Tag::TargetDuration => with_target(reading, number(value)),
         Tag::MediaSequence => with_media_sequence(reading, number(value)),
         Tag::DiscontinuitySequence => with_discontinuity_sequence(reading, number(value)),
-        Tag::PlaylistType => with_kind(reading, kind_value(value)),
+        Tag::PlaylistType => with_kind(reading, kind_of(value?)),
         Tag::Extinf => with_length(reading, length_value(value)),
-        Tag::Byterange => with_range_tag(reading, range_value(value)),
-        Tag::Map => with_map(reading, map_value(value)),
+        Tag::Byterange => with_range_tag(reading, range_tag(value?)),
+        Tag::Map => with_map(reading, map_tag(value?)),
         Tag::Discontinuity => with_mark(reading, value),
         Tag::ProgramDateTime => with_date(reading, date_value(value)),
         Tag::Endlist => with_end(reading, value),

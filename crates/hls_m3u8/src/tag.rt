@@ -27,31 +27,19 @@ pub(crate) enum Tag {
 pub(crate) fn tag_of(name: &str) -> Tag
     ensures { result ≡ tag_of name.now }
 {
-    if name == "#EXTINF" {
-        Tag::Extinf
-    } else if name == "#EXT-X-BYTERANGE" {
-        Tag::Byterange
-    } else if name == "#EXT-X-DISCONTINUITY" {
-        Tag::Discontinuity
-    } else if name == "#EXT-X-PROGRAM-DATE-TIME" {
-        Tag::ProgramDateTime
-    } else if name == "#EXT-X-VERSION" {
-        Tag::Version
-    } else if name == "#EXT-X-TARGETDURATION" {
-        Tag::TargetDuration
-    } else if name == "#EXT-X-MEDIA-SEQUENCE" {
-        Tag::MediaSequence
-    } else if name == "#EXT-X-DISCONTINUITY-SEQUENCE" {
-        Tag::DiscontinuitySequence
-    } else if name == "#EXT-X-PLAYLIST-TYPE" {
-        Tag::PlaylistType
-    } else if name == "#EXT-X-MAP" {
-        Tag::Map
-    } else if name == "#EXT-X-ENDLIST" {
-        Tag::Endlist
-    } else if name == "#EXT-X-KEY" || name == "#EXT-X-STREAM-INF" || name == "#EXT-X-MEDIA" {
-        Tag::Refused
-    } else {
-        Tag::Unknown
+    match name {
+        "#EXTINF" => Tag::Extinf,
+        "#EXT-X-BYTERANGE" => Tag::Byterange,
+        "#EXT-X-DISCONTINUITY" => Tag::Discontinuity,
+        "#EXT-X-PROGRAM-DATE-TIME" => Tag::ProgramDateTime,
+        "#EXT-X-VERSION" => Tag::Version,
+        "#EXT-X-TARGETDURATION" => Tag::TargetDuration,
+        "#EXT-X-MEDIA-SEQUENCE" => Tag::MediaSequence,
+        "#EXT-X-DISCONTINUITY-SEQUENCE" => Tag::DiscontinuitySequence,
+        "#EXT-X-PLAYLIST-TYPE" => Tag::PlaylistType,
+        "#EXT-X-MAP" => Tag::Map,
+        "#EXT-X-ENDLIST" => Tag::Endlist,
+        "#EXT-X-KEY" | "#EXT-X-STREAM-INF" | "#EXT-X-MEDIA" => Tag::Refused,
+        _ => Tag::Unknown,
     }
 }
