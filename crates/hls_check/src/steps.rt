@@ -17,7 +17,11 @@ fn refuses(table: &PrintedTable, p: usize, q: usize, r: usize) -> bool
     ensures { IsTrue result → Allowed table.now p q → ⊥ }
 {
     r < table.renditions()
-        && !spot_allowed(table.target(), table.place(p).get(r), table.place(q).get(r))
+        && !spot_allowed(
+            table.goal().target,
+            table.place(p).get(r),
+            table.place(q).get(r),
+        )
 }
 
 /// The first rendition that doesn't allow the step from place `p` to place `q`.
@@ -30,7 +34,7 @@ fn first_refusing(table: &PrintedTable, p: usize, q: usize) -> Option<usize>
 {
     let (from, to) = (table.place(p), table.place(q));
     for r in 0..table.renditions() {
-        if !spot_allowed(table.target(), from.get(r), to.get(r)) {
+        if !spot_allowed(table.goal().target, from.get(r), to.get(r)) {
             return Some(r);
         }
     }

@@ -6,7 +6,6 @@ ghost use Rattle.hls_check_laws.specs.Tables.{IsTable, place_at};
 ghost use Rattle.hls_check_laws.specs.Orders.{IsOrderly, IsPastGap, IsRowEnd};
 ghost use Rattle.hls_check_laws.specs.Steps.{Allowed, cost, cost_limit};
 
-use crate::cost_rule::CostRule;
 use crate::goal::Goal;
 use crate::orders::{first_unsorted, is_rising_throughout};
 use crate::printed_table::PrintedTable;
@@ -115,23 +114,7 @@ impl PlaceTable {
     pub fn target(&self) -> u64
         ensures { result ≡ self.now.goal.target }
     {
-        self.table().target()
-    }
-
-    /// The preferred length of a segment, in microseconds.
-    #[inline(always)]
-    pub fn preferred(&self) -> u64
-        ensures { result ≡ self.now.goal.preferred }
-    {
-        self.table().preferred()
-    }
-
-    /// What a segment costs.
-    #[inline(always)]
-    pub fn rule(&self) -> CostRule
-        ensures { result ≡ self.now.goal.rule }
-    {
-        self.table().rule()
+        self.table().goal().target
     }
 
     #[inline(always)]

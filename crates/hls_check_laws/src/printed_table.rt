@@ -4,7 +4,6 @@ ghost use Rattle.std.specs.Prelude.{◌≡◌, ◌<◌, ◌≤◌, ◌↔◌, le
 ghost use Rattle.hls_check_laws.specs.Tables.{IsSpotInRange, IsPlaceOf, IsTable, place_at, table_of};
 ghost use Rattle.hls_check_laws.specs.Steps.{Allowed, cost, cost_limit};
 
-use crate::cost_rule::CostRule;
 use crate::goal::{Goal, is_goal};
 use crate::spot::Spot;
 use crate::spots::Spots;
@@ -102,28 +101,12 @@ impl PrintedTable {
         self.goal
     }
 
-    /// The greatest length of a segment, in seconds.
-    #[inline(always)]
-    pub fn target(&self) -> u64
-        ensures { result ≡ self.now.goal.target }
-    {
-        self.goal.target
-    }
-
     /// The preferred length of a segment, in microseconds.
     #[inline(always)]
     pub fn preferred(&self) -> u64
         ensures { result ≡ self.now.goal.preferred }
     {
         self.goal.preferred
-    }
-
-    /// What a segment costs.
-    #[inline(always)]
-    pub fn rule(&self) -> CostRule
-        ensures { result ≡ self.now.goal.rule }
-    {
-        self.goal.rule
     }
 
     #[inline(always)]
@@ -164,7 +147,7 @@ impl PrintedTable {
     {
         p < self.len()
             && q < self.len()
-            && pair_allowed(self.target(), self.place(p), self.place(q))
+            && pair_allowed(self.goal.target, self.place(p), self.place(q))
     }
 
     /// What the step from place `p` to place `q` costs if it is allowed, in microseconds.

@@ -6,7 +6,8 @@ use Rattle.hls_check_laws.specs.Tables.{Table, IsTable}
 use Rattle.hls_check_laws.specs.Certificates.{Printed, CutShown, NoneShown, IsCertificate, IsPriceInRange}
 use Rattle.hls_text.specs.Lines.{cut_text, IsFirstLine}
 use Rattle.hls_check_text.specs.Text.{cut_line, none_line, end_line, plan_line, price_line, closed_line, table_lines, shown_lines, lines, text, Priced, priced, priced_from, members_from}
-use Rattle.hls_check_text.specs.Stages.{RefusesOrLacks, Builds, IsNumberLine, IsPlanLine, IsPriceLine, IsClosedLine, IsAt, AtClaim, AtPlan, AtPrice, AtClosed, AtEnd, IsPlanned, ArePrices, IsClosing, past_priced, past_members, printed}
+use Rattle.hls_check_text.specs.Stages.{Stage, RefusesOrLacks, Builds, IsNext, IsNumberLine, IsPlanLine, IsPriceLine, IsClosedLine, IsAt, AtClaim, AtPlan, AtPrice, AtClosed, AtEnd, IsPlanned, ArePrices, IsClosing, past_priced, past_members, printed, OfPrices}
+use Rattle.hls_check_text.proofs.Stagings.{IsOpen}
 use Rattle.hls_check_text.proofs.Starts.{unpriced, left_out}
 use Rattle.hls_text.specs.Numbers.{words}
 use Rattle.hls_check_text.specs.Wrong.{IsFirstWrong}
@@ -256,13 +257,26 @@ member_end count whole first closed more rest line after passed read first_line 
     ∙ sym (append_assoc (table_lines t) (none_line ∷ map closed_line (members_from 0 closed)) (end_line ∷ [])))
 
 -- a line that is missing, or that may not come next
+line_missing : (s : Stage) → IsOpen s → (bytes rest : List ℕ) (passed : ℕ) → IsAt s bytes rest passed → (cut_text rest).lines ≡ [] →
+    IsFirstWrong bytes (passed + 1)
+line_missing s open_ bytes rest passed at none =
+    first_wrong s open_ bytes rest passed at (λ line after here good. let e : [] ≡ line ∷ after = sym none ∙ here in absurd cc)
+
+line_bad : (s : Stage) → IsOpen s → (bytes rest line after : List ℕ) (passed : ℕ) → IsAt s bytes rest passed →
+    IsFirstLine rest line after → (IsNext s line → ⊥) → IsFirstWrong bytes (passed + 1)
+line_bad s open_ bytes rest line after passed at first_line bad =
+    first_wrong s open_ bytes rest passed at
+    (λ other others here good.
+    let heads : line ∷ (cut_text after).lines ≡ other ∷ others = sym (first_cut rest line after first_line).0 ∙ here in
+    let same : line ≡ other = cc in
+    bad (subst (IsNext s) (sym same) good))
+
 pub price_missing : (count : ℕ) (whole : List ℕ) (first : ℕ) (prices : List (Option ℕ)) (rest : List ℕ) (passed : ℕ) →
     PricesRead count whole first prices rest passed → (cut_text rest).lines ≡ [] →
     (bytes plan : List ℕ) (t : Table) (total : ℕ) → length t.places ≡ count → IsAt (AtPrice t total plan []) bytes whole first →
     IsFirstWrong bytes (passed + 1)
 price_missing count whole first prices rest passed read none bytes plan t total count_is at =
-    first_wrong (AtPrice t total plan prices) tt bytes rest passed (read.at bytes plan t total count_is at)
-    (λ line after here good. let e : [] ≡ line ∷ after = sym none ∙ here in absurd cc)
+    line_missing (AtPrice t total plan prices) tt bytes rest passed (read.at bytes plan t total count_is at) none
 
 pub price_bad : (count : ℕ) (whole : List ℕ) (first : ℕ) (prices : List (Option ℕ)) (rest line after : List ℕ) (passed : ℕ) →
     PricesRead count whole first prices rest passed → IsFirstLine rest line after → (line ≡ end_line → ⊥) →
@@ -270,37 +284,26 @@ pub price_bad : (count : ℕ) (whole : List ℕ) (first : ℕ) (prices : List (O
     (bytes plan : List ℕ) (t : Table) (total : ℕ) → length t.places ≡ count → IsAt (AtPrice t total plan []) bytes whole first →
     IsFirstWrong bytes (passed + 1)
 price_bad count whole first prices rest line after passed read first_line no_end no_price bytes plan t total count_is at =
-    first_wrong (AtPrice t total plan prices) tt bytes rest passed (read.at bytes plan t total count_is at)
-    (λ other others here good.
-    let heads : line ∷ (cut_text after).lines ≡ other ∷ others = sym (first_cut rest line after first_line).0 ∙ here in
-    let same : line ≡ other = cc in
+    line_bad (AtPrice t total plan prices) tt bytes rest line after passed (read.at bytes plan t total count_is at) first_line
+    (λ good.
     let P : ℕ → Type 0 = λ n. IsPriceLine (length prices) n line in
-    elim (subst (λ (l : List ℕ). (l ≡ end_line) ⊎ IsPriceLine (length prices) (length t.places) l) (sym same) good) [
-      | inl ended ↦ no_end ended
-      | inr other ↦ no_price (subst P count_is other)
-    ])
+    elim good [ inl ended ↦ no_end ended | inr priced ↦ no_price (subst P count_is priced) ])
 
 pub member_missing : (count : ℕ) (whole : List ℕ) (first : ℕ) (closed : List Bool) (rest : List ℕ) (passed : ℕ) →
     ClosedRead count whole first closed rest passed → (cut_text rest).lines ≡ [] →
     (bytes : List ℕ) (t : Table) → length t.places ≡ count → IsAt (AtClosed t []) bytes whole first → IsFirstWrong bytes (passed + 1)
 member_missing count whole first closed rest passed read none bytes t count_is at =
-    first_wrong (AtClosed t closed) tt bytes rest passed (read.at bytes t count_is at)
-    (λ line after here good. let e : [] ≡ line ∷ after = sym none ∙ here in absurd cc)
+    line_missing (AtClosed t closed) tt bytes rest passed (read.at bytes t count_is at) none
 
 pub member_bad : (count : ℕ) (whole : List ℕ) (first : ℕ) (closed : List Bool) (rest line after : List ℕ) (passed : ℕ) →
     ClosedRead count whole first closed rest passed → IsFirstLine rest line after → (line ≡ end_line → ⊥) →
     (IsClosedLine (length closed) count line → ⊥) →
     (bytes : List ℕ) (t : Table) → length t.places ≡ count → IsAt (AtClosed t []) bytes whole first → IsFirstWrong bytes (passed + 1)
 member_bad count whole first closed rest line after passed read first_line no_end no_member bytes t count_is at =
-    first_wrong (AtClosed t closed) tt bytes rest passed (read.at bytes t count_is at)
-    (λ other others here good.
-    let heads : line ∷ (cut_text after).lines ≡ other ∷ others = sym (first_cut rest line after first_line).0 ∙ here in
-    let same : line ≡ other = cc in
+    line_bad (AtClosed t closed) tt bytes rest line after passed (read.at bytes t count_is at) first_line
+    (λ good.
     let P : ℕ → Type 0 = λ n. IsClosedLine (length closed) n line in
-    elim (subst (λ (l : List ℕ). (l ≡ end_line) ⊎ IsClosedLine (length closed) (length t.places) l) (sym same) good) [
-      | inl ended ↦ no_end ended
-      | inr member ↦ no_member (subst P count_is member)
-    ])
+    elim good [ inl ended ↦ no_end ended | inr member ↦ no_member (subst P count_is member) ])
 
 -- from the claim's line on
 pub at_plan : (bytes rest after : List ℕ) (t : Table) (total passed : ℕ) → IsAt (AtClaim t) bytes rest passed →
@@ -373,6 +376,14 @@ pub plan_passed : (bytes rest after : List ℕ) (t : Table) (cost passed n : ℕ
 plan_passed bytes rest after t cost passed n plan count read at =
     let P : ℕ → Type 0 = λ m. All (λ p. p < m) plan in
     at_prices bytes rest after t cost passed plan at (read.0, subst P count read.1, read.2)
+
+-- and the prices behind it, up to the end
+pub prices_passed : (bytes text after rest : List ℕ) (t : Table) (cost passed n m read : ℕ) (plan : List ℕ) (prices : List (Option ℕ)) →
+    n ≡ length t.places → (0 < length plan) × All (λ p. p < n) plan × IsFirstLine text (plan_line plan) after → m ≡ length t.places →
+    OfPrices m after (passed + 1) (λ bs Ends. Ends prices rest read) → IsAt (AtPlan t cost) bytes text passed →
+    IsAt (AtEnd (printed t (CutShown cost plan prices))) bytes rest read
+prices_passed bytes text after rest t cost passed n m read plan prices count is_plan places ends at =
+    ends bytes plan t cost (sym places) (plan_passed bytes text after t cost passed n plan count is_plan at)
 
 -- a certificate that was read whole, or that something follows
 pub read_whole : (bytes rest : List ℕ) (c d : Printed) (passed : ℕ) → d ≡ c → IsAt (AtEnd c) bytes rest passed → length rest ≡ 0 →

@@ -1,5 +1,5 @@
 -- The lines of a certificate are those of no other, and no lines go on behind them.
-use Rattle.std.proofs.Common.{◌≡◌, refl, sym, ◌∙◌, ap, ap₂, subst, ℕ, ◌+◌, ◌<◌, ◌≤◌, Bool, true, false, List, [], ◌∷◌, ◌++◌, length, map, All, arith, append_assoc, get_or, drop, codes, Option, Some, None}
+use Rattle.std.proofs.Common.{◌≡◌, refl, sym, ◌∙◌, ap, ap₂, subst, ℕ, ◌+◌, ◌^◌, ◌<◌, ◌≤◌, Bool, true, false, List, [], ◌∷◌, ◌++◌, length, map, All, arith, append_assoc, get_or, drop, codes, Option, Some, None}
 use Rattle.std.proofs.lemmas.List.Elements.{All-head, All-tail, All-cons, All-nil}
 use Rattle.std.proofs.lemmas.List.{append_cancel_left}
 use Rattle.hls_check_laws.specs.declared.cost_rule.CostRule.{CostRule}
@@ -76,42 +76,55 @@ table_same t u tail xs t_good u_good e =
 priced_made : (a b a' b' : ℕ) → a ≡ a' → b ≡ b' → priced a b ≡ priced a' b'
 priced_made a b a' b' p q = rw (p, q) refl
 
+-- lines before an end line, which is none of them, tell what they are of, and nothing stands behind them
+ended_same : {A : Type 0} (line : A → List ℕ) (IsGood : A → Type 0) → ((x : A) → end_line ≡ line x → ⊥) →
+    ((x y : A) → IsGood x → IsGood y → line x ≡ line y → x ≡ y) →
+    (ps qs : List A) (xs : List (List ℕ)) → All IsGood ps → All IsGood qs →
+    map line ps ++ (end_line ∷ []) ≡ (map line qs ++ (end_line ∷ [])) ++ xs → (ps ≡ qs) × (xs ≡ [])
+ended_same line IsGood no_end told [] [] xs p_good q_good e = (refl, sym (ap (drop 1) e))
+ended_same line IsGood no_end told (p ∷ ps) [] xs p_good q_good e =
+    absurd (no_end p (sym (ap (λ (ls : List (List ℕ)). get_or ls 0 []) e)))
+ended_same line IsGood no_end told [] (q ∷ qs) xs p_good q_good e =
+    absurd (no_end q (ap (λ (ls : List (List ℕ)). get_or ls 0 []) e))
+ended_same {A} line IsGood no_end told (p ∷ ps) (q ∷ qs) xs p_good q_good e =
+    let same : p ≡ q =
+    told p q (All-head IsGood p ps p_good) (All-head IsGood q qs q_good) (ap (λ (ls : List (List ℕ)). get_or ls 0 []) e) in
+    let rest : (ps ≡ qs) × (xs ≡ []) =
+    ended_same line IsGood no_end told ps qs xs (All-tail IsGood p ps p_good) (All-tail IsGood q qs q_good) (ap (drop 1) e) in
+    (ap₂ (λ (y : A) (ys : List A). y ∷ ys) same rest.0, rest.1)
+
 -- the same prices are shown, and nothing behind them
+abbrev IsPricedIn : ℕ → Priced → Type 0
+IsPricedIn count p = (p.place < count) × (p.price < 2 ^ 53)
+
+rises_within : (k count : ℕ) (ps : List Priced) → RisesFrom k count ps → All (IsPricedIn count) ps
+rises_within k count [] rises = All-nil (IsPricedIn count)
+rises_within k count (p ∷ ps) rises =
+    All-cons (IsPricedIn count) p ps (rises.1, rises.2) (rises_within (p.place + 1) count ps rises.3)
+
 price_lines_same : (k count : ℕ) (ps qs : List Priced) (xs : List (List ℕ)) → count ≤ 16384 →
     RisesFrom k count ps → RisesFrom k count qs →
     map price_line ps ++ (end_line ∷ []) ≡ (map price_line qs ++ (end_line ∷ [])) ++ xs → (ps ≡ qs) × (xs ≡ [])
-price_lines_same k count [] [] xs few p_rises q_rises e = (refl, sym (ap (drop 1) e))
-price_lines_same k count (p ∷ ps) [] xs few p_rises q_rises e =
-    absurd (other_first end_line (price_line p) (λ z. omega (arith, z)) (sym (ap (λ (ls : List (List ℕ)). get_or ls 0 []) e)))
-price_lines_same k count [] (q ∷ qs) xs few p_rises q_rises e =
-    absurd (other_first end_line (price_line q) (λ z. omega (arith, z)) (ap (λ (ls : List (List ℕ)). get_or ls 0 []) e))
-price_lines_same k count (p ∷ ps) (q ∷ qs) xs few p_rises q_rises e =
-    let p_place : p.place < count = p_rises.1 in
-    let q_place : q.place < count = q_rises.1 in
-    let same : (p.place ≡ q.place) × (p.price ≡ q.price) =
-    priced_line_same p q (omega arith) p_rises.2 (omega arith) q_rises.2 (ap (λ (ls : List (List ℕ)). get_or ls 0 []) e) in
-    let P : ℕ → Type 0 = λ n. RisesFrom (n + 1) count ps in
-    let rest : (ps ≡ qs) × (xs ≡ []) =
-    price_lines_same (q.place + 1) count ps qs xs few (subst P same.0 p_rises.3) q_rises.3 (ap (drop 1) e) in
-    (ap₂ (λ (y : Priced) (ys : List Priced). y ∷ ys) (priced_made p.place p.price q.place q.price same.0 same.1) rest.0, rest.1)
+price_lines_same k count ps qs xs few p_rises q_rises e =
+    ended_same price_line (IsPricedIn count) (λ p. other_first end_line (price_line p) (λ z. omega (arith, z)))
+    (λ p q p_in q_in is.
+    let p_place : p.place < count = p_in.0 in
+    let q_place : q.place < count = q_in.0 in
+    let same : (p.place ≡ q.place) × (p.price ≡ q.price) = priced_line_same p q (omega arith) p_in.1 (omega arith) q_in.1 is in
+    priced_made p.place p.price q.place q.price same.0 same.1)
+    ps qs xs (rises_within k count ps p_rises) (rises_within k count qs q_rises) e
+
+climbs_within : (k count : ℕ) (ps : List ℕ) → ClimbsFrom k count ps → All (λ p. p < count) ps
+climbs_within k count [] climbs = All-nil (λ p. p < count)
+climbs_within k count (p ∷ ps) climbs = All-cons (λ p. p < count) p ps climbs.1 (climbs_within (p + 1) count ps climbs.2)
 
 closed_lines_same : (k count : ℕ) (ps qs : List ℕ) (xs : List (List ℕ)) → count ≤ 16384 →
     ClimbsFrom k count ps → ClimbsFrom k count qs →
     map closed_line ps ++ (end_line ∷ []) ≡ (map closed_line qs ++ (end_line ∷ [])) ++ xs → (ps ≡ qs) × (xs ≡ [])
-closed_lines_same k count [] [] xs few p_climbs q_climbs e = (refl, sym (ap (drop 1) e))
-closed_lines_same k count (p ∷ ps) [] xs few p_climbs q_climbs e =
-    absurd (other_first end_line (closed_line p) (λ z. omega (arith, z)) (sym (ap (λ (ls : List (List ℕ)). get_or ls 0 []) e)))
-closed_lines_same k count [] (q ∷ qs) xs few p_climbs q_climbs e =
-    absurd (other_first end_line (closed_line q) (λ z. omega (arith, z)) (ap (λ (ls : List (List ℕ)). get_or ls 0 []) e))
-closed_lines_same k count (p ∷ ps) (q ∷ qs) xs few p_climbs q_climbs e =
-    let p_place : p < count = p_climbs.1 in
-    let q_place : q < count = q_climbs.1 in
-    let same : p ≡ q =
-    number_same (codes "closed ") p q (omega arith) (omega arith) (ap (λ (ls : List (List ℕ)). get_or ls 0 []) e) in
-    let P : ℕ → Type 0 = λ n. ClimbsFrom (n + 1) count ps in
-    let rest : (ps ≡ qs) × (xs ≡ []) =
-    closed_lines_same (q + 1) count ps qs xs few (subst P same p_climbs.2) q_climbs.2 (ap (drop 1) e) in
-    (ap₂ (λ (y : ℕ) (ys : List ℕ). y ∷ ys) same rest.0, rest.1)
+closed_lines_same k count ps qs xs few p_climbs q_climbs e =
+    ended_same closed_line (λ p. p < count) (λ p. other_first end_line (closed_line p) (λ z. omega (arith, z)))
+    (λ p q p_in q_in is. number_same (codes "closed ") p q (omega arith) (omega arith) is)
+    ps qs xs (climbs_within k count ps p_climbs) (climbs_within k count qs q_climbs) e
 
 -- prices are told by the places that have one
 priced_above : (j : ℕ) (prices : List (Option ℕ)) (r : Priced) (rs : List Priced) → priced_from j prices ≡ r ∷ rs → j ≤ r.place

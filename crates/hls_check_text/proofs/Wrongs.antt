@@ -15,7 +15,7 @@ use Rattle.hls_text.specs.Lines.{cut_text, joined, IsFirstLine}
 use Rattle.hls_text.specs.Numbers.{words}
 use Rattle.hls_check_text.proofs.Cited.{IsSmall, IsClean, clean-append, clean_words, lines_of_joined, tail_of_joined, joined_lines, first_cut}
 use Rattle.hls_check_text.specs.Text.{header_line, ruled_header_line, charge_line, rule_lines, target_line, preferred_line, renditions_line, places_line, cut_line, none_line, end_line, plan_line, price_line, closed_line, place_line, place_numbers, head_lines, table_lines, shown_lines, lines, text, Priced, priced_from, members_from}
-use Rattle.hls_check_text.specs.Wrong.{IsFirstWrong, IsGoodText, IsReading, Gives}
+use Rattle.hls_check_text.specs.Wrong.{IsFirstWrong, IsGoodText, IsReadingFault, IsReading, Gives}
 use Rattle.hls_check_text.specs.declared.head.Head.{Head}
 use Rattle.hls_check_text.specs.Stages.{Stage, AtHeader, AtRule, AtTarget, AtPreferred, AtRenditions, AtCount, AtPlace, AtClaim, AtEnd, front, IsStage, IsNext, IsAt, Refuses, RefusesOrLacks, Builds, IsHead, lines_of}
 use Rattle.hls_check_text.proofs.Spellings.{one_small, numbers_printable, RisesFrom, ClimbsFrom, priced_rises, members_climb}
@@ -149,31 +149,31 @@ pub stops : (s : Stage) → IsOpen s → (bytes rest : List ℕ) (passed : ℕ) 
 stops s open_ bytes rest passed at n refused =
     subst (IsFirstWrong bytes) (sym refused.0) (first_wrong s open_ bytes rest passed at refused.1)
 
+-- what holds of a fault that reading may tell leads to what else does
+reading_fault : (OfLine ToLine : ℕ → Type 0) (OfWant ToWant : Type 0) → ((n : ℕ) → OfLine n → ToLine n) → (OfWant → ToWant) →
+    (fault : CertFault) → IsReadingFault OfLine OfWant fault → IsReadingFault ToLine ToWant fault
+reading_fault OfLine ToLine OfWant ToWant line want (Form n) is = line n is
+reading_fault OfLine ToLine OfWant ToWant line want Memory is = want is
+reading_fault OfLine ToLine OfWant ToWant line want (TableNotSorted place) is = absurd is
+reading_fault OfLine ToLine OfWant ToWant line want PlanEnds is = absurd is
+reading_fault OfLine ToLine OfWant ToWant line want (PlanStep p q) is = absurd is
+reading_fault OfLine ToLine OfWant ToWant line want PlanCost is = absurd is
+reading_fault OfLine ToLine OfWant ToWant line want PriceStart is = absurd is
+reading_fault OfLine ToLine OfWant ToWant line want (PriceStep p q) is = absurd is
+reading_fault OfLine ToLine OfWant ToWant line want EndReached is = absurd is
+
 -- and one that takes memory
 pub stops_building : (s : Stage) → IsOpen s → (bytes rest : List ℕ) (passed : ℕ) → IsAt s bytes rest passed → (fault : CertFault) →
     RefusesOrLacks (IsNext s) rest passed fault → Builds bytes (Err fault)
-stops_building s open_ bytes rest passed at (Form n) refused = stops s open_ bytes rest passed at n refused
-stops_building s open_ bytes rest passed at Memory refused = tt
-stops_building s open_ bytes rest passed at (TableNotSorted place) refused = absurd refused
-stops_building s open_ bytes rest passed at PlanEnds refused = absurd refused
-stops_building s open_ bytes rest passed at (PlanStep p q) refused = absurd refused
-stops_building s open_ bytes rest passed at PlanCost refused = absurd refused
-stops_building s open_ bytes rest passed at PriceStart refused = absurd refused
-stops_building s open_ bytes rest passed at (PriceStep p q) refused = absurd refused
-stops_building s open_ bytes rest passed at EndReached refused = absurd refused
+stops_building s open_ bytes rest passed at fault refused =
+    reading_fault (Refuses (IsNext s) rest passed) (IsFirstWrong bytes) (Unit {0}) (Unit {0})
+    (λ n line. stops s open_ bytes rest passed at n line) (λ want. want) fault refused
 
 -- memory is wanted only for a certificate's text
 pub reads : (bytes : List ℕ) (result : Result Printed CertFault) → IsGoodText bytes → Builds bytes result → IsReading bytes result
 reads bytes (Ok c) good built = built
-reads bytes (Err (Form n)) good built = built
-reads bytes (Err Memory) good built = good
-reads bytes (Err (TableNotSorted place)) good built = absurd built
-reads bytes (Err PlanEnds) good built = absurd built
-reads bytes (Err (PlanStep p q)) good built = absurd built
-reads bytes (Err PlanCost) good built = absurd built
-reads bytes (Err PriceStart) good built = absurd built
-reads bytes (Err (PriceStep p q)) good built = absurd built
-reads bytes (Err EndReached) good built = absurd built
+reads bytes (Err fault) good built =
+    reading_fault (IsFirstWrong bytes) (IsFirstWrong bytes) (Unit {0}) (IsGoodText bytes) (λ n wrong. wrong) (λ want. good) fault built
 
 -- at the end nothing may follow
 pub is_whole : (c : Printed) (bytes rest : List ℕ) (passed : ℕ) → IsAt (AtEnd c) bytes rest passed → length rest ≡ 0 → bytes ≡ text c
@@ -234,15 +234,8 @@ text_is_told c d c_good d_good e =
 pub gives : (bytes : List ℕ) (c : Printed) (result : Result Printed CertFault) → IsReading bytes result → IsCertificate c →
     bytes ≡ text c → Gives c result
 gives bytes c (Ok d) reading good e = text_is_told d c reading.0 good (sym reading.1 ∙ e)
-gives bytes c (Err (Form n)) reading good e = reading.no_text c good e
-gives bytes c (Err Memory) reading good e = tt
-gives bytes c (Err (TableNotSorted place)) reading good e = absurd reading
-gives bytes c (Err PlanEnds) reading good e = absurd reading
-gives bytes c (Err (PlanStep p q)) reading good e = absurd reading
-gives bytes c (Err PlanCost) reading good e = absurd reading
-gives bytes c (Err PriceStart) reading good e = absurd reading
-gives bytes c (Err (PriceStep p q)) reading good e = absurd reading
-gives bytes c (Err EndReached) reading good e = absurd reading
+gives bytes c (Err fault) reading good e =
+    reading_fault (IsFirstWrong bytes) (λ n. ⊥) (IsGoodText bytes) (Unit {0}) (λ n wrong. wrong.no_text c good e) (λ text. tt) fault reading
 
 -- of two cuts of one list the longer goes on with the next element
 record Longer (before rest longer : List (List ℕ)) : Type 0 where

@@ -6,13 +6,12 @@ use Rattle.hls_check_laws.specs.declared.cost_rule.CostRule.TheVariants.{Deviati
 use Rattle.hls_check_laws.specs.declared.goal.Goal.{Goal}
 use Rattle.hls_check_laws.specs.declared.spot.Spot.{Spot}
 use Rattle.hls_check_laws.specs.declared.cert_fault.CertFault.{CertFault}
-use Rattle.hls_check_laws.specs.declared.cert_fault.CertFault.TheVariants.{Form, TableNotSorted, PlanEnds, PlanStep, PlanCost, PriceStart, PriceStep, EndReached, Memory}
 use Rattle.hls_check_laws.specs.Tables.{Table, IsTable, IsPlaceOf, IsGoal, charge_of, table_of, target_limit, preferred_limit, charge_limit, rendition_limit, place_limit}
 use Rattle.hls_check_laws.specs.Certificates.{Printed, Shown, CutShown, NoneShown, IsCertificate, IsPriceInRange}
 use Rattle.hls_text.specs.Lines.{cut_text}
 use Rattle.hls_check_text.specs.declared.head.Head.{Head}
 use Rattle.hls_check_text.specs.declared.wrong_line.WrongLine.{WrongLine}
-use Rattle.hls_check_text.specs.Wrong.{IsFirstWrong, IsGoodText, IsReading}
+use Rattle.hls_check_text.specs.Wrong.{IsFirstWrong, IsGoodText, IsReadingFault, IsReading}
 use Rattle.hls_check_text.specs.Text.{header_line, ruled_header_line, charge_line, rule_lines, target_line, preferred_line, renditions_line, places_line, cut_line, none_line, end_line, plan_line, price_line, closed_line, place_line, head_lines, table_lines, lines, Priced, priced_from, members_from}
 
 -- the lines above the places
@@ -182,20 +181,12 @@ Refuses IsGood rest passed n =
 
 -- the same of a reader that takes memory, which may be refused it
 abbrev pub RefusesOrLacks : (List ℕ → Type 0) → List ℕ → ℕ → CertFault → Type 0
-RefusesOrLacks IsGood rest passed (Form n) = Refuses IsGood rest passed n
-RefusesOrLacks IsGood rest passed Memory = Unit {0}
-RefusesOrLacks IsGood rest passed (TableNotSorted place) = ⊥
-RefusesOrLacks IsGood rest passed PlanEnds = ⊥
-RefusesOrLacks IsGood rest passed (PlanStep p q) = ⊥
-RefusesOrLacks IsGood rest passed PlanCost = ⊥
-RefusesOrLacks IsGood rest passed PriceStart = ⊥
-RefusesOrLacks IsGood rest passed (PriceStep p q) = ⊥
-RefusesOrLacks IsGood rest passed EndReached = ⊥
+RefusesOrLacks IsGood rest passed fault = IsReadingFault (Refuses IsGood rest passed) (Unit {0}) fault
 
 -- a text's certificate, its first wrong line, or want of memory
 abbrev pub Builds : List ℕ → Result Printed CertFault → Type 0
-Builds bytes (Err Memory) = Unit {0}
-Builds bytes result = IsReading bytes result
+Builds bytes (Ok c) = IsReading bytes (Ok c)
+Builds bytes (Err fault) = IsReadingFault (IsFirstWrong bytes) (Unit {0}) fault
 
 -- what scanning a text comes to: that it is a certificate's, or its first wrong line
 abbrev pub Scans : List ℕ → Result (Unit {0}) WrongLine → Type 0

@@ -31,29 +31,25 @@ pub record IsGoodText (bytes : List ℕ) : Type 0 where
   pub is_certificate : IsCertificate certificate
   pub is : bytes ≡ text certificate
 
+-- a fault that reading may tell: a line's, of which this holds, or want of memory, of which that does
+abbrev pub IsReadingFault : (ℕ → Type 0) → Type 0 → CertFault → Type 0
+IsReadingFault OfLine OfWant (Form n) = OfLine n
+IsReadingFault OfLine OfWant Memory = OfWant
+IsReadingFault OfLine OfWant (TableNotSorted place) = ⊥
+IsReadingFault OfLine OfWant PlanEnds = ⊥
+IsReadingFault OfLine OfWant (PlanStep p q) = ⊥
+IsReadingFault OfLine OfWant PlanCost = ⊥
+IsReadingFault OfLine OfWant PriceStart = ⊥
+IsReadingFault OfLine OfWant (PriceStep p q) = ⊥
+IsReadingFault OfLine OfWant EndReached = ⊥
+
 -- what reading a text answers: the certificate whose text it is, or its first wrong line; want of
 -- memory only where it is a certificate's text
 abbrev pub IsReading : List ℕ → Result Printed CertFault → Type 0
 IsReading bytes (Ok c) = IsCertificate c × (bytes ≡ text c)
-IsReading bytes (Err (Form n)) = IsFirstWrong bytes n
-IsReading bytes (Err Memory) = IsGoodText bytes
-IsReading bytes (Err (TableNotSorted place)) = ⊥
-IsReading bytes (Err PlanEnds) = ⊥
-IsReading bytes (Err (PlanStep p q)) = ⊥
-IsReading bytes (Err PlanCost) = ⊥
-IsReading bytes (Err PriceStart) = ⊥
-IsReading bytes (Err (PriceStep p q)) = ⊥
-IsReading bytes (Err EndReached) = ⊥
+IsReading bytes (Err fault) = IsReadingFault (IsFirstWrong bytes) (IsGoodText bytes) fault
 
 -- the certificate itself, unless memory was refused
 abbrev pub Gives : Printed → Result Printed CertFault → Type 0
 Gives c (Ok d) = d ≡ c
-Gives c (Err Memory) = Unit {0}
-Gives c (Err (Form n)) = ⊥
-Gives c (Err (TableNotSorted place)) = ⊥
-Gives c (Err PlanEnds) = ⊥
-Gives c (Err (PlanStep p q)) = ⊥
-Gives c (Err PlanCost) = ⊥
-Gives c (Err PriceStart) = ⊥
-Gives c (Err (PriceStep p q)) = ⊥
-Gives c (Err EndReached) = ⊥
+Gives c (Err fault) = IsReadingFault (λ n. ⊥) (Unit {0}) fault

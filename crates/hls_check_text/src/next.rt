@@ -30,10 +30,7 @@ pub fn next_number<'a>(
     let Some(number) = number_in(line, word) else {
         return Err(WrongLine { line: passed + 1 });
     };
-    if number < low {
-        return Err(WrongLine { line: passed + 1 });
-    }
-    if number > high {
+    if number < low || number > high {
         return Err(WrongLine { line: passed + 1 });
     }
     Ok((number, after))

@@ -209,9 +209,10 @@ fn push_rule(out: &mut Vec<u8>, rule: CostRule) -> Result<(), AllocError>
 fn push_table(out: &mut Vec<u8>, table: &PrintedTable) -> Result<(), AllocError>
     ensures { IfOk result (λ _. out.new.items ≡ out.old.items ++ joined (table_lines table.now)) }
 {
-    push_rule(out, table.rule())?;
-    push_number_line(out, b"target ", table.target())?;
-    push_number_line(out, b"preferred ", table.preferred())?;
+    let goal = table.goal();
+    push_rule(out, goal.rule)?;
+    push_number_line(out, b"target ", goal.target)?;
+    push_number_line(out, b"preferred ", goal.preferred)?;
     push_number_line(out, b"renditions ", table.renditions() as u64)?;
     push_number_line(out, b"places ", table.len() as u64)?;
     push_places(out, table.places())?;

@@ -1,4 +1,4 @@
-use Rattle.std.proofs.Common.{◌<◌, ◌≤◌, arith}
+use Rattle.std.proofs.Common.{◌<◌, ◌≤◌, inl, inr, arith}
 use Rattle.hls_text.specs.Numbers.{number_line}
 use Rattle.hls_check_text.specs.Stages.{IsNumberLine}
 use Rattle.hls_check_text.proofs.LineKinds.{line_refused, out_of_range}
@@ -9,16 +9,11 @@ returns-then-number-low-clause-line c =
     out_of_range c.args.word.now c.args.rest.now c.in-Some.line.now c.in-Some.after.now c.in-Some-number_in.number c.args.low c.args.high c.args.passed
     c.in-Some.ensures.line c.in-Some-number_in.ensures c.requires.range
     (λ range. let above : c.args.low ≤ c.in-Some-number_in.number = range.0 in
-    let below : c.in-Some-number_in.number < c.args.low = c.if-number-low.true in
-    omega arith)
-
-pub returns-then-number-high-clause-line : goal.returns-then-number-high-clause-line
-returns-then-number-high-clause-line c =
-    out_of_range c.args.word.now c.args.rest.now c.in-Some.line.now c.in-Some.after.now c.in-Some-number_in.number c.args.low c.args.high c.args.passed
-    c.in-Some.ensures.line c.in-Some-number_in.ensures c.requires.range
-    (λ range. let within : c.in-Some-number_in.number ≤ c.args.high = range.1 in
-    let above : c.args.high < c.in-Some-number_in.number = c.if-number-high.true in
-    omega arith)
+    let within : c.in-Some-number_in.number ≤ c.args.high = range.1 in
+    elim c.then-number-low.either [
+      | inl low ↦ (let below : c.in-Some-number_in.number < c.args.low = low in omega arith)
+      | inr high ↦ (let past : c.args.high < c.in-Some-number_in.number = high.1 in omega arith)
+    ])
 
 pub returns-in_default-number_in-clause-line : goal.returns-in_default-number_in-clause-line
 returns-in_default-number_in-clause-line c =

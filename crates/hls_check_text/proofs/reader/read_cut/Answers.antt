@@ -1,9 +1,9 @@
 use Rattle.std.proofs.Common.{[], ◌≡◌, ◌+◌, ◌<◌, length, Err, sym, arith, rules}
 use Rattle.std.proofs.lemmas.Bool.Decides.{nat_tests}
 use Rattle.hls_check_laws.specs.Certificates.{CutShown}
-use Rattle.hls_check_text.specs.Stages.{IsAt, AtPrice, AtEnd, Builds, printed}
+use Rattle.hls_check_text.specs.Stages.{IsAt, AtPrice, Builds, printed}
 use Rattle.hls_check_text.proofs.Wrongs.{wrong_behind}
-use Rattle.hls_check_text.proofs.Claims.{plan_stops, plan_passed, read_whole}
+use Rattle.hls_check_text.proofs.Claims.{plan_stops, plan_passed, prices_passed, read_whole}
 use Rattle.hls_check_text.proofs.reader.read_cut.Goals as goal
 
 pub returns-in_err-plan : goal.returns-in_err-plan
@@ -24,24 +24,18 @@ returns-in_err-prices c = λ bytes at.
 
 pub returns-then-not-is_empty : goal.returns-then-not-is_empty
 returns-then-not-is_empty c = λ bytes at.
-    let prices : IsAt (AtPrice c.args.table c.args.cost c.in_ok-plan.plan.items []) bytes c.in_ok-plan.after_plan.now (c.args.passed + 1) =
-    plan_passed bytes c.args.text.now c.in_ok-plan.after_plan.now c.args.table c.args.cost c.args.passed c.len.result c.in_ok-plan.plan.items
-    c.len.ensures.len c.in_ok-plan.ensures.line at in
-    let read : IsAt (AtEnd (printed c.args.table (CutShown c.args.cost c.in_ok-plan.plan.items c.in_ok-prices.prices.items))) bytes
-    c.in_ok-prices.rest.now c.in_ok-prices.read =
-    c.in_ok-prices.ensures.at bytes c.in_ok-plan.plan.items c.args.table c.args.cost (sym c.len-2.ensures.len) prices in
+    let read = prices_passed bytes c.args.text.now c.in_ok-plan.after_plan.now c.in_ok-prices.rest.now c.args.table c.args.cost c.args.passed c.len.result
+    c.len-2.result c.in_ok-prices.read c.in_ok-plan.plan.items c.in_ok-prices.prices.items c.len.ensures.len c.in_ok-plan.ensures.line
+    c.len-2.ensures.len c.in_ok-prices.ensures.at at in
     let some : 0 < length c.in_ok-prices.rest.now = grind (arith, nat_tests) in
     wrong_behind (printed c.args.table (CutShown c.args.cost c.in_ok-plan.plan.items c.in_ok-prices.prices.items)) bytes
     c.in_ok-prices.rest.now c.in_ok-prices.read read some
 
 pub returns : goal.returns
 returns c = λ bytes at.
-    let prices : IsAt (AtPrice c.args.table c.args.cost c.in_ok-plan.plan.items []) bytes c.in_ok-plan.after_plan.now (c.args.passed + 1) =
-    plan_passed bytes c.args.text.now c.in_ok-plan.after_plan.now c.args.table c.args.cost c.args.passed c.len.result c.in_ok-plan.plan.items
-    c.len.ensures.len c.in_ok-plan.ensures.line at in
-    let read : IsAt (AtEnd (printed c.args.table (CutShown c.args.cost c.in_ok-plan.plan.items c.in_ok-prices.prices.items))) bytes
-    c.in_ok-prices.rest.now c.in_ok-prices.read =
-    c.in_ok-prices.ensures.at bytes c.in_ok-plan.plan.items c.args.table c.args.cost (sym c.len-2.ensures.len) prices in
+    let read = prices_passed bytes c.args.text.now c.in_ok-plan.after_plan.now c.in_ok-prices.rest.now c.args.table c.args.cost c.args.passed c.len.result
+    c.len-2.result c.in_ok-prices.read c.in_ok-plan.plan.items c.in_ok-prices.prices.items c.len.ensures.len c.in_ok-plan.ensures.line
+    c.len-2.ensures.len c.in_ok-prices.ensures.at at in
     let none : length c.in_ok-prices.rest.now ≡ 0 = grind (arith, nat_tests) in
     read_whole bytes c.in_ok-prices.rest.now
     (printed c.args.table (CutShown c.args.cost c.in_ok-plan.plan.items c.in_ok-prices.prices.items)) c.new.result
