@@ -177,17 +177,10 @@ takes-rest old mid new before whole taken xs fault t is =
       stands = stands-grown mid new xs fault is t.stands;
     }
 
--- what was added where memory is refused
-pub adds : (old mid new : Begun) (before whole : List Whole) (taken xs : List ℕ) (fault : Option BoxFault)
-    → TakesIn old before taken fault mid whole → new.bytes.items ≡ mid.bytes.items ++ xs → AddsTo old before new whole
-adds old mid new before whole taken xs fault t is =
-    let f = first-grown t.parts [] mid new new old.bytes.items t.more xs [] t.first is (sym (append-nil new.bytes.items)) in
-    record {
-      parts = t.parts;
-      queued = t.queued;
-      more = f.more;
-      first = ap (λ (ws : List Whole). first_bytes ws new) (sym (append-nil t.parts)) ∙ f.first;
-    }
+-- so something was added, whatever of the piece was taken
+pub adds : (old new : Begun) (before whole : List Whole) (taken : List ℕ) (fault : Option BoxFault)
+    → TakesIn old before taken fault new whole → AddsTo old before new whole
+adds old new before whole taken fault t = record { parts = t.parts; queued = t.queued; more = t.more; first = t.first }
 
 -- and what is left when it is taken back
 back-parts : (before parts whole : List Whole) (n : ℕ) → n ≡ length before → whole ≡ before ++ parts → take n whole ≡ before

@@ -22,8 +22,9 @@ returns-in_err-extend_from_slice-clause-err c =
     let t = takes-more c.args.begun.now c.loop-rest.begun grown c.pass.new.begun c.args.whole.now.items c.loop-rest.whole.items c.pass.new.whole.items c.loop-rest.invariant.0 c.split_at.result.0.now
     (Some c.in-Some.fault) c.loop-rest.invariant.2 c.in_ok-extend.ensures.ok (subst (λ (o : Option BoxFault). TakesIn grown c.loop-rest.whole.items [] o c.pass.new.begun c.pass.new.whole.items) c.in-Some.is c.in_ok-fault.ensures.ok) in
     any_error c.from_residual-in_err-extend_from_slice.result
-    (adds c.args.begun.now c.pass.new.begun kept c.args.whole.now.items c.pass.new.whole.items (c.loop-rest.invariant.0 ++ c.split_at.result.0.now) [] (Some c.in-Some.fault) t
-    (c.in_err-extend_from_slice.ensures.items ∙ sym (append-nil c.pass.new.begun.bytes.items)))
+    (adds c.args.begun.now kept c.args.whole.now.items c.pass.new.whole.items _ (Some c.in-Some.fault)
+    (takes-rest c.args.begun.now c.pass.new.begun kept c.args.whole.now.items c.pass.new.whole.items (c.loop-rest.invariant.0 ++ c.split_at.result.0.now) [] c.in-Some.fault t
+    (c.in_err-extend_from_slice.ensures.items ∙ sym (append-nil c.pass.new.begun.bytes.items))))
 
 pub returns-in-Some-clause-ok : goal.returns-in-Some-clause-ok
 returns-in-Some-clause-ok c =
