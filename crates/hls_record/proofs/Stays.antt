@@ -34,23 +34,30 @@ piece_before (v ∷ us) u p s is =
       | inr past ↦ rw (le-ltb p (length v) past) (piece_before us u (p - length v) s (rw (le-ltb p (length v) past) at is))
     ]
 
+-- a piece that isn't of the head is of a kept unit
+unit_kept : (r : Recorded) (at : ℕ) (s : List ℕ) → length r.head ≤ at → piece_at r at ≡ Some s
+    → (offset_at r r.floor ≤ at) × (unit_piece r.units (at - offset_at r r.floor) ≡ Some s)
+unit_kept r at s behind is =
+    elim (cases_lt at (offset_at r r.floor)) [
+      | inl gone ↦ (let wrong : None ≡ Some s = rw (le-ltb at (length r.head) behind, lt-ltb at (offset_at r r.floor) gone) at is in cc)
+      | inr kept ↦ (kept, rw (le-ltb at (length r.head) behind, le-ltb at (offset_at r r.floor) kept) at is)
+    ]
+
 trim_stays : (r : Recorded) (floor at : ℕ) (s : List ℕ) → IsRecorded r → r.floor ≤ floor → floor ≤ length r.facts
     → piece_at (trimmed r floor) at ≡ Some s → piece_at r at ≡ Some s
 trim_stays r floor at s valid low high is =
     elim (cases_lt at (length r.head)) [
       | inl here ↦ rw (lt-ltb at (length r.head) here) (rw (lt-ltb at (length r.head) here) at is)
       | inr behind ↦
-          elim (cases_lt at (offset_at r floor)) [
-            | inl gone ↦ (let wrong : None ≡ Some s = rw (le-ltb at (length r.head) behind, lt-ltb at (offset_at r floor) gone) at is in cc)
-            | inr kept ↦
-                (let there : unit_piece (drop (floor - r.floor) r.units) (at - offset_at r floor) ≡ Some s = rw (le-ltb at (length r.head) behind, le-ltb at (offset_at r floor) kept) at is in
-                let floor_is : r.floor + (floor - r.floor) ≡ floor = omega arith in
-                let before : offset_at r floor ≡ offset_at r r.floor + length (concat (take (floor - r.floor) r.units)) =
-                ap (offset_at r) (sym floor_is) ∙ kept_before r (floor - r.floor) valid in
-                let place : at - offset_at r r.floor ≡ length (concat (take (floor - r.floor) r.units)) + (at - offset_at r floor) = omega arith in
-                rw (le-ltb at (length r.head) behind, le-ltb at (offset_at r r.floor) (omega arith), place)
-                (piece_behind r.units (floor - r.floor) (at - offset_at r floor) ∙ there))
-          ]
+          (let there : (offset_at r floor ≤ at) × (unit_piece (drop (floor - r.floor) r.units) (at - offset_at r floor) ≡ Some s) =
+          unit_kept (trimmed r floor) at s behind is in
+          let kept : offset_at r floor ≤ at = there.0 in
+          let floor_is : r.floor + (floor - r.floor) ≡ floor = omega arith in
+          let before : offset_at r floor ≡ offset_at r r.floor + length (concat (take (floor - r.floor) r.units)) =
+          ap (offset_at r) (sym floor_is) ∙ kept_before r (floor - r.floor) valid in
+          let place : at - offset_at r r.floor ≡ length (concat (take (floor - r.floor) r.units)) + (at - offset_at r floor) = omega arith in
+          rw (le-ltb at (length r.head) behind, le-ltb at (offset_at r r.floor) (omega arith), place)
+          (piece_behind r.units (floor - r.floor) (at - offset_at r floor) ∙ there.1))
     ]
 
 append_stays : (r : Recorded) (f : Facts) (unit : List ℕ) (at : ℕ) (s : List ℕ) → IsRecorded r → piece_at r at ≡ Some s → piece_at (with_unit r f unit) at ≡ Some s
@@ -60,12 +67,9 @@ append_stays r f unit at s valid is =
     elim (cases_lt at (length r.head)) [
       | inl here ↦ rw (lt-ltb at (length r.head) here) (rw (lt-ltb at (length r.head) here) at is)
       | inr behind ↦
-          elim (cases_lt at (offset_at r r.floor)) [
-            | inl gone ↦ (let wrong : None ≡ Some s = rw (le-ltb at (length r.head) behind, lt-ltb at (offset_at r r.floor) gone) at is in cc)
-            | inr kept ↦
-                rw (le-ltb at (length r.head) behind, same, le-ltb at (offset_at r r.floor) kept)
-                (piece_before r.units unit (at - offset_at r r.floor) s (rw (le-ltb at (length r.head) behind, le-ltb at (offset_at r r.floor) kept) at is))
-          ]
+          (let there = unit_kept r at s behind is in
+          rw (le-ltb at (length r.head) behind, same, le-ltb at (offset_at r r.floor) there.0)
+          (piece_before r.units unit (at - offset_at r r.floor) s there.1))
     ]
 
 pub pieces_stay : PiecesStay
