@@ -1,9 +1,9 @@
 -- The renditions that a cursor is moved on over are those of the snapshot.
-use Rattle.std.proofs.Common.{arith, ◌≡◌, ℕ, zero, suc, ◌+◌, ◌<◌, ◌≤◌, Bool, List, [], ◌∷◌, ◌++◌, Option, Some, None, length, map, drop, take, get_or, false, refl, sym, ap, subst, ◌∙◌, append-nil}
+use Rattle.std.proofs.Common.{arith, ◌≡◌, ℕ, zero, suc, ◌+◌, ◌<◌, ◌≤◌, Bool, List, [], ◌∷◌, ◌++◌, Option, Some, None, length, map, drop, take, get_or, false, refl, sym, ap, subst, ◌∙◌, append-nil, Result, Ok, Err, IfOk, Global}
+use Rattle.std.specs.declared.sync.Arc.{Arc}
 use Rattle.std.specs.Prelude.{slice_get}
 use Rattle.std.proofs.lemmas.List.{length-map, get_or-map, drop_all}
 use Rattle.std.proofs.lemmas.Option.{same_Some}
-use Rattle.hls_blocks.specs.Numbered.{Numbered}
 use Rattle.hls_record.specs.Recorded.{Recorded}
 use Rattle.hls_places_laws.specs.declared.place.Place.{Place}
 use Rattle.hls_places_laws.specs.Sources.{Source, source_at, sources_of, first_facts}
@@ -20,7 +20,7 @@ use Rattle.hls_core.specs.declared.placed.Placed.{Placed}
 use Rattle.hls_core.specs.declared.side.Side.{Side}
 use Rattle.hls_core.specs.Gathers.{Lacks}
 use Rattle.hls_places_laws.specs.Line.Live.{Live, moved, moved_by}
-use Rattle.hls_core.specs.Placed.{IsPlaced, CanBeTold}
+use Rattle.hls_core.specs.Placed.{AreSame, AreAfter, IsPlaced, CanBeTold}
 use Rattle.hls_core.specs.Sides.{lane_of, lane_from, sources_by}
 
 lane_facts : (o : Option Recorded) (finished : Bool) (rec : Recorded) → Some rec ≡ o → rec.facts ≡ (lane_from o finished).facts
@@ -66,7 +66,10 @@ module _ {X : Type 0} where
       let here : record { facts = get_or (map facts_of lanes) r []; tolerance = get_or (map tolerance_of config.renditions) r 0; finished = get_or (map is_finished lanes) r false }
       ≡ record { facts = rec.facts; tolerance = t.tolerance; finished = (side x).finished } =
       λ k. record { facts = facts_at k; tolerance = tolerance_at k; finished = finished_at k } in
-      next ∙ ap (λ (s : Source). take r (sources_by config sides) ++ s ∷ []) here
+      next
+      ∙ ap (λ (s : Source). take r (sources_by config sides) ++ s ∷ [])
+      {x = record { facts = get_or (map facts_of lanes) r []; tolerance = get_or (map tolerance_of config.renditions) r 0; finished = get_or (map is_finished lanes) r false }}
+      {y = record { facts = rec.facts; tolerance = t.tolerance; finished = (side x).finished }} here
 
 -- as many renditions as sides
 pub by_count : (config : ConfigData) (sides : List Side) → length config.renditions ≡ length sides → length (sources_by config sides) ≡ length sides
@@ -76,6 +79,13 @@ by_count config sides count =
     length-sources_of (map facts_of (map lane_of sides)) (map tolerance_of config.renditions) (map is_finished (map lane_of sides))
     (length-map config.renditions tolerance_of ∙ count ∙ sym lanes)
     (length-map (map lane_of sides) is_finished ∙ length-map sides lane_of ∙ sym lanes) ∙ lanes
+
+-- and as many where the sides are shared
+pub one_each : (config : ConfigData) (sides : List (Arc Side Global)) (found : List Source) → length config.renditions ≡ length sides →
+    found ≡ sources_by config (map (λ a. a.value) sides) → length found ≡ length sides
+one_each config sides found count is =
+    let all : length (map (λ (a : Arc Side Global). a.value) sides) ≡ length sides = length-map sides (λ a. a.value) in
+    ap length is ∙ by_count config (map (λ a. a.value) sides) (count ∙ sym all) ∙ all
 
 -- a rendition that hasn't begun has no facts
 bare : (config : ConfigData) (sides : List Side) → length config.renditions ≡ length sides → (l : Lacks sides) → (l.number < length (sources_by config sides)) × ((source_at (sources_by config sides) l.number).facts ≡ [])
@@ -137,29 +147,34 @@ told_end first all now rest n past t =
 pub told_here : (first : Live) (all : List Place) (now : Live) (rest : List Place) (n : ℕ) (q : Place) → slice_get rest n ≡ Some q → IsTold first all now (drop n rest) → CanBeTold now (q ∷ drop (n + 1) rest)
 told_here first all now rest n q at t = subst (λ (xs : List Place). CanBeTold now xs) (drop_at rest n q at) t.can
 
-pub placed_without : (config : ConfigData) (sides : List Side) (told : Numbered Place) (position : Position) (live : Live) (p : Placed) → length config.renditions ≡ length sides → Lacks sides → IsCursor position (sources_by config sides) → p.places ≡ told → p.cursor.value ≡ position → p.line.value ≡ live → IsPlaced (sources_by config sides) told position.done live p
-placed_without config sides told position live p count l fits same_places same_cursor same_line =
+-- what follows of a value holds of it, where there is one
+pub when_ok : {T E : Type 0} {P Q : T → Type 0} (r : Result T E) → ((x : T) → P x → Q x) → IfOk r P → IfOk r Q
+when_ok (Ok x) follows is = follows x is
+when_ok (Err e) follows is = is
+
+pub placed_without : (config : ConfigData) (sides : List Side) (old p : Placed) → length config.renditions ≡ length sides → Lacks sides → IsCursor old.cursor.value (sources_by config sides) → AreSame old p → IsPlaced (sources_by config sides) old p
+placed_without config sides old p count l fits same =
     let source = bare config sides count l in
-    let none : places_after (sources_by config sides) position.done ≡ [] =
-    after-without (sources_by config sides) l.number source.0 source.1 position.done in
-    let first : p.places.first ≡ told.first = ap (λ x. x.first) same_places in
-    let items : p.places.items ≡ told.items ++ places_after (sources_by config sides) position.done =
-    ap (λ x. x.items) same_places ∙ sym (append-nil told.items) ∙ ap (λ (xs : List Place). told.items ++ xs) (sym none) in
+    let none : places_after (sources_by config sides) old.cursor.value.done ≡ [] =
+    after-without (sources_by config sides) l.number source.0 source.1 old.cursor.value.done in
+    let first : p.places.first ≡ old.places.first = ap (λ x. x.first) same.places in
+    let items : p.places.items ≡ old.places.items ++ places_after (sources_by config sides) old.cursor.value.done =
+    ap (λ x. x.items) same.places ∙ sym (append-nil old.places.items) ∙ ap (λ (xs : List Place). old.places.items ++ xs) (sym none) in
     record {
       places = λ k. record { first = first k; items = items k };
-      cursor = subst (λ (x : Position). IsCursor x (sources_by config sides)) (sym same_cursor) fits;
+      cursor = subst (λ (x : Position). IsCursor x (sources_by config sides)) (sym same.cursor) fits;
       through = found-without (sources_by config sides) l.number source.0 source.1 (drop p.cursor.value.done (first_facts (sources_by config sides)));
-      line_is = same_line ∙ sym (none_told live) ∙ ap (moved_by live) (sym none);
+      line_is = same.line_is ∙ sym (none_told old.line.value) ∙ ap (moved_by old.line.value) (sym none);
     }
 
-pub placed_on : (sources : List Source) (told : Numbered Place) (done : ℕ) (live : Live) (a : Advance) (p : Placed) → IsAdvance sources done a → p.places ≡ record { first = told.first; items = told.items ++ a.places.items } → p.cursor.value ≡ a.cursor → p.line.value ≡ moved_by live a.places.items → IsPlaced sources told done live p
-placed_on sources told done live a p on places cursor line =
-    let first : p.places.first ≡ told.first = ap (λ x. x.first) places in
-    let items : p.places.items ≡ told.items ++ places_after sources done =
-    ap (λ x. x.items) places ∙ ap (λ (xs : List Place). told.items ++ xs) on.places in
+pub placed_on : (sources : List Source) (old : Placed) (a : Advance) (p : Placed) → IsAdvance sources old.cursor.value.done a → AreAfter old a p → IsPlaced sources old p
+placed_on sources old a p on now =
+    let first : p.places.first ≡ old.places.first = ap (λ x. x.first) now.places in
+    let items : p.places.items ≡ old.places.items ++ places_after sources old.cursor.value.done =
+    ap (λ x. x.items) now.places ∙ ap (λ (xs : List Place). old.places.items ++ xs) on.places in
     record {
       places = λ k. record { first = first k; items = items k };
-      cursor = subst (λ (x : Position). IsCursor x sources) (sym cursor) on.cursor;
-      through = subst (λ (x : Position). IsThrough x sources) (sym cursor) on.through;
-      line_is = line ∙ ap (moved_by live) on.places;
+      cursor = subst (λ (x : Position). IsCursor x sources) (sym now.cursor) on.cursor;
+      through = subst (λ (x : Position). IsThrough x sources) (sym now.cursor) on.through;
+      line_is = now.line_is ∙ ap (moved_by old.line.value) on.places;
     }

@@ -1,5 +1,6 @@
 -- A snapshot's parts stay one state: at the opening, and where one side is put in place of another.
-use Rattle.std.proofs.Common.{◌≡◌, ℕ, suc, ◌+◌, ◌*◌, ◌<◌, ◌≤◌, Bool, true, false, List, [], ◌∷◌, ◌++◌, Option, Some, None, length, map, get_or, refl, sym, ap, subst, inl, inr, ◌∙◌, arith, length-append}
+use Rattle.std.proofs.Common.{◌≡◌, ℕ, suc, ◌+◌, ◌*◌, ◌<◌, ◌≤◌, Bool, true, false, List, [], ◌∷◌, ◌++◌, Option, Some, None, length, map, get_or, refl, sym, ap, subst, inl, inr, ◌∙◌, arith, length-append, Vec, Global}
+use Rattle.std.specs.declared.sync.Arc.{Arc}
 use Rattle.std.specs.Prelude.{slice_get, slice_set, if◌then◌else◌}
 use Rattle.std.specs.List.{filter_map, cons_option, list_all}
 use Rattle.hls_blocks.specs.Numbered.{next_of, list_limit}
@@ -30,8 +31,9 @@ use Rattle.hls_core_laws.specs.Runs.{first_state, nothing_held}
 use Rattle.hls_core.specs.declared.side.Side.{Side}
 use Rattle.hls_core.specs.declared.snapshot.Snapshot.TheInside.{Inside}
 use Rattle.hls_core.specs.Sides.{lane_of, held_of, fresh_side, sources_by, IsAt, IsGood, with_side, MayTake, MayTrim}
-use Rattle.hls_core.specs.Placed.{CanBeTold}
-use Rattle.hls_core.specs.Kept.{sides_of, seen, IsKept}
+use Rattle.hls_core.specs.declared.placed.Placed.{Placed}
+use Rattle.hls_core.specs.Placed.{AreFirst, AreSame, HaveLine, IsPlaced, CanBeTold}
+use Rattle.hls_core.specs.Kept.{sides_of, seen, inside_after, IsKept}
 use Rattle.hls_check_laws.specs.Tables.{rendition_limit}
 
 filtered : {X Y : Type 0} (f : X → Option Y) (xs : List X) → length (filter_map f xs) ≤ length xs
@@ -71,12 +73,12 @@ at_behind (x ∷ xs) ys k p at =
 
 -- what a cursor that is moved on needs, where a side is put in place of another
 pub record Ahead (i : Inside) (config : ConfigData) (sides : List Side) : Type 0 where
-  pub cursor : IsCursor i.cursor.value (sources_by config sides)
-  pub room : next_of i.places + length (places_after (sources_by config sides) i.cursor.value.done) < list_limit
+  pub cursor : IsCursor i.placed.cursor.value (sources_by config sides)
+  pub room : next_of i.placed.places + length (places_after (sources_by config sides) i.placed.cursor.value.done) < list_limit
   pub count : length config.renditions ≡ length sides
   pub some : 1 ≤ length sides
   pub few : length sides ≤ rendition_limit
-  pub told : CanBeTold i.line.value (places_after (sources_by config sides) i.cursor.value.done)
+  pub told : CanBeTold i.placed.line.value (places_after (sources_by config sides) i.placed.cursor.value.done)
 
 sources_put : (i : Inside) (entry : Entry) (r : ℕ) (side : Side) → IsKept i → MayTake (seen i) entry r side → sources_by i.config (slice_set (sides_of i) r side) ≡ sources (with_side (seen i) entry r side)
 sources_put i entry r side kept take =
@@ -87,9 +89,9 @@ sources_put i entry r side kept take =
     ∙ ap (λ (ch : Channel). ch.lanes) (sym now) in
     ap (λ (ls : List Lane). sources_of (map facts_of ls) (map tolerance_of i.config.renditions) (map is_finished ls)) lanes
 
-moved : (i : Inside) (entry : Entry) (r : ℕ) (side : Side) → IsKept i → MayTake (seen i) entry r side → PlacesContinue (sources (seen i)) (sources (with_side (seen i) entry r side)) i.cursor.value
+moved : (i : Inside) (entry : Entry) (r : ℕ) (side : Side) → IsKept i → MayTake (seen i) entry r side → PlacesContinue (sources (seen i)) (sources (with_side (seen i) entry r side)) i.placed.cursor.value
 moved i entry r side kept take =
-    continues (sources (seen i)) (sources (with_side (seen i) entry r side)) i.cursor.value
+    continues (sources (seen i)) (sources (with_side (seen i) entry r side)) i.placed.cursor.value
     (sources_grow (seen i) (with_side (seen i) entry r side) take.valid take.continues) take.live kept.cursor kept.through
 
 ahead_put : (i : Inside) (entry : Entry) (r : ℕ) (side : Side) → IsKept i → MayTake (seen i) entry r side → Ahead i i.config (slice_set (sides_of i) r side)
@@ -98,26 +100,26 @@ ahead_put i entry r side kept take =
     let is = sources_put i entry r side kept take in
     let s : State = with_side (seen i) entry r side in
     let few = places_few s take.valid in
-    let told : length i.places.items ≡ length (places (seen i)) = ap (λ p. length p.items) kept.places in
-    let zero_first : i.places.first ≡ 0 = ap (λ p. p.first) kept.places in
-    let whole : length (places s) ≡ length (places (seen i)) + length (places_after (sources s) i.cursor.value.done) =
-    ap length on.places ∙ length-append (places (seen i)) (places_after (sources s) i.cursor.value.done) in
-    let room : next_of i.places + length (places_after (sources s) i.cursor.value.done) < list_limit = omega arith in
-    let told_room : i.line.value.removed + length i.line.value.told.line.segments + 2 * length (places_after (sources s) i.cursor.value.done) + 1 < list_limit =
+    let told : length i.placed.places.items ≡ length (places (seen i)) = ap (λ p. length p.items) kept.places in
+    let zero_first : i.placed.places.first ≡ 0 = ap (λ p. p.first) kept.places in
+    let whole : length (places s) ≡ length (places (seen i)) + length (places_after (sources s) i.placed.cursor.value.done) =
+    ap length on.places ∙ length-append (places (seen i)) (places_after (sources s) i.placed.cursor.value.done) in
+    let room : next_of i.placed.places + length (places_after (sources s) i.placed.cursor.value.done) < list_limit = omega arith in
+    let told_room : i.placed.line.value.removed + length i.placed.line.value.told.line.segments + 2 * length (places_after (sources s) i.placed.cursor.value.done) + 1 < list_limit =
     omega (arith, few, whole, line_few (seen i) kept.valid, ap (λ (l : Live). l.removed) kept.line_is, ap (λ (l : Live). length l.told.line.segments) kept.line_is) in
-    let spots : (k : ℕ) (p : Place) → slice_get (places_after (sources s) i.cursor.value.done) k ≡ Some p → 0 < length p.spots =
+    let spots : (k : ℕ) (p : Place) → slice_get (places_after (sources s) i.placed.cursor.value.done) k ≡ Some p → 0 < length p.spots =
     λ k p at. some_spots s take.valid (length (places (seen i)) + k) p
-    (subst (λ (ps : List Place). slice_get ps (length (places (seen i)) + k) ≡ Some p) (sym on.places) (at_behind (places (seen i)) (places_after (sources s) i.cursor.value.done) k p at)) in
+    (subst (λ (ps : List Place). slice_get ps (length (places (seen i)) + k) ≡ Some p) (sym on.places) (at_behind (places (seen i)) (places_after (sources s) i.placed.cursor.value.done) k p at)) in
     let sides : length (slice_set (sides_of i) r side) ≡ length i.config.renditions =
     length_set (sides_of i) r side ∙ sym (length-map (sides_of i) lane_of) ∙ ap length kept.lanes ∙ lanes_count i.config i.log.items in
     let rs = kept.valid.configured.renditions in
     record {
-      cursor = subst (λ (x : List Source). IsCursor i.cursor.value x) (sym is) on.cursor;
-      room = subst (λ (x : List Source). next_of i.places + length (places_after x i.cursor.value.done) < list_limit) (sym is) room;
+      cursor = subst (λ (x : List Source). IsCursor i.placed.cursor.value x) (sym is) on.cursor;
+      room = subst (λ (x : List Source). next_of i.placed.places + length (places_after x i.placed.cursor.value.done) < list_limit) (sym is) room;
       count = sym sides;
       some = omega (arith, rs.some);
       few = omega (arith, rs.few);
-      told = subst (λ (x : List Source). CanBeTold i.line.value (places_after x i.cursor.value.done)) (sym is) (record { room = told_room; spots = spots });
+      told = subst (λ (x : List Source). CanBeTold i.placed.line.value (places_after x i.placed.cursor.value.done)) (sym is) (record { room = told_room; spots = spots });
     }
 
 pub ahead : (i : Inside) (s : State) (entry : Entry) (r : ℕ) (side : Side) (config : ConfigData) (sides : List Side) → seen i ≡ s → IsKept i → MayTake s entry r side → config ≡ i.config → sides ≡ slice_set (sides_of i) r side → Ahead i config sides
@@ -153,18 +155,11 @@ pub record Puts (i n : Inside) (entry : Entry) (r : ℕ) (side : Side) : Type 0 
   pub config : n.config ≡ i.config
   pub log : n.log ≡ record { first = i.log.first; items = i.log.items ++ entry ∷ [] }
   pub sides : sides_of n ≡ slice_set (sides_of i) r side
-  pub places : n.places ≡ record { first = i.places.first; items = i.places.items ++ places_after (sources_by n.config (sides_of n)) i.cursor.value.done }
-  pub cursor : IsCursor n.cursor.value (sources_by n.config (sides_of n))
-  pub through : IsThrough n.cursor.value (sources_by n.config (sides_of n))
-  pub line_is : n.line.value ≡ moved_by i.line.value (places_after (sources_by n.config (sides_of n)) i.cursor.value.done)
+  pub placed : IsPlaced (sources_by n.config (sides_of n)) i.placed n.placed
 
 seen_puts : (i n : Inside) (entry : Entry) (r : ℕ) (side : Side) → Puts i n entry r side → seen n ≡ with_side (seen i) entry r side
 seen_puts i n entry r side p =
     seen_with i n entry r side p.config p.log p.sides
-
-pub seen_put : (i n : Inside) (s : State) (entry : Entry) (r : ℕ) (side : Side) → seen i ≡ s → Puts i n entry r side → seen n ≡ with_side s entry r side
-seen_put i n s entry r side is p =
-    subst (λ (x : State). seen n ≡ with_side x entry r side) is (seen_puts i n entry r side p)
 
 good_puts : (i n : Inside) (entry : Entry) (r : ℕ) (side : Side) → IsKept i → IsGood side → sides_of n ≡ slice_set (sides_of i) r side → (q : ℕ) (x : Side) → slice_get (sides_of n) q ≡ Some x → IsGood x
 good_puts i n entry r side kept good sides q x at =
@@ -180,13 +175,13 @@ kept_puts i n entry r side kept take p =
     let lanes : map lane_of (sides_of n) ≡ (channel (seen n)).lanes = lanes_with i n entry r side kept take.lanes p.sides is in
     let by : sources_by n.config (sides_of n) ≡ sources (seen n) =
     ap (λ (ls : List Lane). sources_of (map facts_of ls) (map tolerance_of n.config.renditions) (map is_finished ls)) lanes in
-    let on : PlacesContinue (sources (seen i)) (sources (seen n)) i.cursor.value =
-    subst (λ (s : State). PlacesContinue (sources (seen i)) (sources s) i.cursor.value) (sym is) (moved i entry r side kept take) in
-    let first : n.places.first ≡ 0 = ap (λ l. l.first) p.places ∙ ap (λ l. l.first) kept.places in
-    let items : n.places.items ≡ places (seen n) =
-    ap (λ l. l.items) p.places
-    ∙ ap (λ l. l.items ++ places_after (sources_by n.config (sides_of n)) i.cursor.value.done) kept.places
-    ∙ ap (λ (x : List Source). places (seen i) ++ places_after x i.cursor.value.done) by
+    let on : PlacesContinue (sources (seen i)) (sources (seen n)) i.placed.cursor.value =
+    subst (λ (s : State). PlacesContinue (sources (seen i)) (sources s) i.placed.cursor.value) (sym is) (moved i entry r side kept take) in
+    let first : n.placed.places.first ≡ 0 = ap (λ l. l.first) p.placed.places ∙ ap (λ l. l.first) kept.places in
+    let items : n.placed.places.items ≡ places (seen n) =
+    ap (λ l. l.items) p.placed.places
+    ∙ ap (λ l. l.items ++ places_after (sources_by n.config (sides_of n)) i.placed.cursor.value.done) kept.places
+    ∙ ap (λ (x : List Source). places (seen i) ++ places_after x i.placed.cursor.value.done) by
     ∙ sym on.places in
     record {
       all = ap (λ l. l.first) p.log ∙ kept.all;
@@ -194,18 +189,36 @@ kept_puts i n entry r side kept take p =
       valid = subst (λ (s : State). IsState s) (sym is) take.valid;
       good = good_puts i n entry r side kept take.good p.sides;
       places = λ k. record { first = first k; items = items k };
-      cursor = subst (λ (x : List Source). IsCursor n.cursor.value x) by p.cursor;
-      through = subst (λ (x : List Source). IsThrough n.cursor.value x) by p.through;
-      line_is = p.line_is
-          ∙ ap (λ (x : List Source). moved_by i.line.value (places_after x i.cursor.value.done)) by
-          ∙ ap (λ (l : Live). moved_by l (places_after (sources (seen n)) i.cursor.value.done)) kept.line_is
-          ∙ sym (line_goes_on (seen i) (seen n) (places_after (sources (seen n)) i.cursor.value.done) kept.valid p.config on.places
+      cursor = subst (λ (x : List Source). IsCursor n.placed.cursor.value x) by p.placed.cursor;
+      through = subst (λ (x : List Source). IsThrough n.placed.cursor.value x) by p.placed.through;
+      line_is = p.placed.line_is
+          ∙ ap (λ (x : List Source). moved_by i.placed.line.value (places_after x i.placed.cursor.value.done)) by
+          ∙ ap (λ (l : Live). moved_by l (places_after (sources (seen n)) i.placed.cursor.value.done)) kept.line_is
+          ∙ sym (line_goes_on (seen i) (seen n) (places_after (sources (seen n)) i.placed.cursor.value.done) kept.valid p.config on.places
           (removed_with i n entry r side take.removed is));
     }
 
-pub kept_put : (i n : Inside) (s : State) (entry : Entry) (r : ℕ) (side : Side) → seen i ≡ s → IsKept i → MayTake s entry r side → Puts i n entry r side → IsKept n
-kept_put i n s entry r side is kept take p =
-    kept_puts i n entry r side kept (subst (λ (x : State). MayTake x entry r side) (sym is) take) p
+-- the log of these parts, one entry longer
+log_after : (i : Inside) (entry : Entry) → IsKept i → (inside_after (seen i) entry i.sides i.placed).log ≡ record { first = i.log.first; items = i.log.items ++ entry ∷ [] }
+log_after i entry kept = λ k. record { first = sym kept.all k; items = i.log.items ++ entry ∷ [] }
+
+puts : (i : Inside) (entry : Entry) (r : ℕ) (side : Side) (sides : Vec (Arc Side Global) Global) (placed : Placed) → IsKept i → map (λ a. a.value) sides.items ≡ slice_set (sides_of i) r side →
+    IsPlaced (sources_by i.config (map (λ a. a.value) sides.items)) i.placed placed → Puts i (inside_after (seen i) entry sides placed) entry r side
+puts i entry r side sides placed kept sides_are on = record { config = refl; log = log_after i entry kept; sides = sides_are; placed = on }
+
+pub kept_put : (i : Inside) (s : State) (entry : Entry) (r : ℕ) (side : Side) (sides : Vec (Arc Side Global) Global) (placed : Placed) → seen i ≡ s → IsKept i → MayTake s entry r side →
+    map (λ a. a.value) sides.items ≡ slice_set (sides_of i) r side → IsPlaced (sources_by i.config (map (λ a. a.value) sides.items)) i.placed placed → IsKept (inside_after s entry sides placed)
+kept_put i s entry r side sides placed is kept take sides_are on =
+    subst (λ (x : State). IsKept (inside_after x entry sides placed)) is
+    (kept_puts i (inside_after (seen i) entry sides placed) entry r side kept (subst (λ (x : State). MayTake x entry r side) (sym is) take)
+    (puts i entry r side sides placed kept sides_are on))
+
+-- the state of the parts after one more entry, and with this side at number r
+pub seen_put : (i : Inside) (s : State) (entry : Entry) (r : ℕ) (side : Side) (sides : Vec (Arc Side Global) Global) (placed : Placed) → seen i ≡ s → IsKept i →
+    map (λ a. a.value) sides.items ≡ slice_set (sides_of i) r side → seen (inside_after s entry sides placed) ≡ with_side s entry r side
+seen_put i s entry r side sides placed is kept sides_are =
+    subst (λ (x : State). seen (inside_after x entry sides placed) ≡ with_side x entry r side) is
+    (seen_with i (inside_after (seen i) entry sides placed) entry r side refl (log_after i entry kept) sides_are)
 
 -- a side stands where its lane and its bytes stand
 pub side_at : (i : Inside) (s : State) (r : ℕ) (side : Side) → seen i ≡ s → IsKept i → slice_get (sides_of i) r ≡ Some side → IsAt s r side
@@ -241,9 +254,9 @@ opening_source config good =
     let lane_at : slice_get (channel s).lanes 0 ≡ Some no_lane = at_map fresh config.renditions 0 first.0 first.1 in
     (omega (arith, sources_count s, slice_get_within (channel s).lanes 0 no_lane lane_at), (source_of s 0 no_lane lane_at).facts)
 
-pub kept_first : (n : Inside) (config : ConfigData) → IsConfig config → n.config ≡ config → n.log ≡ record { first = 0; items = [] } → sides_of n ≡ map fresh_side config.renditions → n.places ≡ record { first = 0; items = [] } → n.cursor.value ≡ first_position (length config.renditions) → n.line.value ≡ fresh_line (aim_of config) → IsKept n
+pub kept_first : (n : Inside) (config : ConfigData) → IsConfig config → n.config ≡ config → n.log ≡ record { first = 0; items = [] } → sides_of n ≡ map fresh_side config.renditions → AreFirst config n.placed → IsKept n
 unfolding channel_from told
-kept_first n config good is log sides no_places cursor line_first =
+kept_first n config good is log sides none_yet =
     let whole : seen n ≡ first_state config = seen_first n config is log sides in
     let source = opening_source config good in
     let none : places (first_state config) ≡ [] = after-without (sources (first_state config)) 0 source.0 source.1 0 in
@@ -252,9 +265,9 @@ kept_first n config good is log sides no_places cursor line_first =
     let fits : IsCursor (first_position (length config.renditions)) (sources (first_state config)) =
     first-cursor (length config.renditions) (sources (first_state config))
     (sym (sources_count (first_state config) ∙ lanes_count config [])) in
-    let items : n.places.items ≡ places (seen n) =
-    ap (λ p. p.items) no_places ∙ sym none ∙ ap (λ (s : State). places s) (sym whole) in
-    let first : n.places.first ≡ 0 = ap (λ p. p.first) no_places in
+    let items : n.placed.places.items ≡ places (seen n) =
+    ap (λ p. p.items) none_yet.places ∙ sym none ∙ ap (λ (s : State). places s) (sym whole) in
+    let first : n.placed.places.first ≡ 0 = ap (λ p. p.first) none_yet.places in
     record {
       all = ap (λ l. l.first) log;
       lanes = ap (map lane_of) sides ∙ fresh_lanes config.renditions ∙ ap (λ (s : State). (channel s).lanes) (sym whole);
@@ -264,104 +277,92 @@ kept_first n config good is log sides no_places cursor line_first =
           let bare : side.recording ≡ None = ap (λ (x : Side). x.recording) (sym fresh_at.2) in
           cc;
       places = λ k. record { first = first k; items = items k };
-      cursor = subst (λ (p : Position). IsCursor p (sources (seen n))) (sym cursor)
+      cursor = subst (λ (p : Position). IsCursor p (sources (seen n))) (sym none_yet.cursor)
           (subst (λ (s : State). IsCursor (first_position (length config.renditions)) (sources s)) (sym whole) fits);
-      through = subst (λ (p : Position). IsThrough p (sources (seen n))) (sym cursor)
+      through = subst (λ (p : Position). IsThrough p (sources (seen n))) (sym none_yet.cursor)
           (subst (λ (s : State). IsThrough (first_position (length config.renditions)) (sources s)) (sym whole) through);
-      line_is = line_first ∙ ap (λ (ps : List Place). live_of (aim_of config) ps 0) (sym none) ∙ ap line (sym whole);
+      line_is = none_yet.line_is ∙ ap (λ (ps : List Place). live_of (aim_of config) ps 0) (sym none) ∙ ap line (sym whole);
+    }
+
+-- where the renditions say the same as before, the places stay those of the state
+record AreStill (n : Inside) : Type 0 where
+  pub places : n.placed.places ≡ record { first = 0; items = places (seen n) }
+  pub cursor : IsCursor n.placed.cursor.value (sources (seen n))
+  pub through : IsThrough n.placed.cursor.value (sources (seen n))
+
+are_still : (i n : Inside) (now : Live) → IsKept i → sources (seen n) ≡ sources (seen i) → HaveLine i.placed now n.placed → AreStill n
+are_still i n now kept same p =
+    let first : n.placed.places.first ≡ 0 = ap (λ l. l.first) p.places ∙ ap (λ l. l.first) kept.places in
+    let items : n.placed.places.items ≡ places (seen n) =
+    ap (λ l. l.items) p.places ∙ ap (λ l. l.items) kept.places ∙ ap places_of (sym same) in
+    record {
+      places = λ k. record { first = first k; items = items k };
+      cursor = subst (λ (x : Position). IsCursor x (sources (seen n))) (sym p.cursor) (subst (λ (x : List Source). IsCursor i.placed.cursor.value x) (sym same) kept.cursor);
+      through = subst (λ (x : Position). IsThrough x (sources (seen n))) (sym p.cursor) (subst (λ (x : List Source). IsThrough i.placed.cursor.value x) (sym same) kept.through);
     }
 
 -- a trim: places and line stay
-pub record TrimPuts (i n : Inside) (entry : Entry) (r : ℕ) (side : Side) : Type 0 where
-  pub config : n.config ≡ i.config
-  pub log : n.log ≡ record { first = i.log.first; items = i.log.items ++ entry ∷ [] }
-  pub sides : sides_of n ≡ slice_set (sides_of i) r side
-  pub places : n.places ≡ i.places
-  pub cursor : n.cursor.value ≡ i.cursor.value
-  pub line_is : n.line.value ≡ i.line.value
-
-seen_trims : (i n : Inside) (entry : Entry) (r : ℕ) (side : Side) → TrimPuts i n entry r side → seen n ≡ with_side (seen i) entry r side
-seen_trims i n entry r side p =
-    seen_with i n entry r side p.config p.log p.sides
-
-kept_trims : (i n : Inside) (entry : Entry) (r : ℕ) (side : Side) → IsKept i → MayTrim (seen i) entry r side → TrimPuts i n entry r side → IsKept n
-kept_trims i n entry r side kept trim p =
-    let is : seen n ≡ with_side (seen i) entry r side = seen_trims i n entry r side p in
-    let lanes : map lane_of (sides_of n) ≡ (channel (seen n)).lanes = lanes_with i n entry r side kept trim.lanes p.sides is in
+kept_trims : (i : Inside) (entry : Entry) (r : ℕ) (side : Side) (sides : Vec (Arc Side Global) Global) (placed : Placed) → IsKept i → MayTrim (seen i) entry r side →
+    map (λ a. a.value) sides.items ≡ slice_set (sides_of i) r side → AreSame i.placed placed → IsKept (inside_after (seen i) entry sides placed)
+kept_trims i entry r side sides placed kept trim sides_are p =
+    let n : Inside = inside_after (seen i) entry sides placed in
+    let is : seen n ≡ with_side (seen i) entry r side = seen_with i n entry r side refl (log_after i entry kept) sides_are in
+    let lanes : map lane_of (sides_of n) ≡ (channel (seen n)).lanes = lanes_with i n entry r side kept trim.lanes sides_are is in
     let same : sources (seen n) ≡ sources (seen i) = ap sources is ∙ trim.same in
-    let first : n.places.first ≡ 0 = ap (λ l. l.first) p.places ∙ ap (λ l. l.first) kept.places in
-    let items : n.places.items ≡ places (seen n) =
-    ap (λ l. l.items) p.places ∙ ap (λ l. l.items) kept.places ∙ ap places_of (sym same) in
+    let still = are_still i n i.placed.line.value kept same p in
     record {
-      all = ap (λ l. l.first) p.log ∙ kept.all;
+      all = refl;
       lanes = lanes;
       valid = subst (λ (s : State). IsState s) (sym is) trim.valid;
-      good = good_puts i n entry r side kept trim.good p.sides;
-      places = λ k. record { first = first k; items = items k };
-      cursor = subst (λ (x : Position). IsCursor x (sources (seen n))) (sym p.cursor) (subst (λ (x : List Source). IsCursor i.cursor.value x) (sym same) kept.cursor);
-      through = subst (λ (x : Position). IsThrough x (sources (seen n))) (sym p.cursor) (subst (λ (x : List Source). IsThrough i.cursor.value x) (sym same) kept.through);
-      line_is = p.line_is ∙ kept.line_is ∙ sym (line_stays (seen i) (seen n) p.config same (removed_with i n entry r side trim.removed is));
+      good = good_puts i n entry r side kept trim.good sides_are;
+      places = still.places;
+      cursor = still.cursor;
+      through = still.through;
+      line_is = p.line_is ∙ kept.line_is ∙ sym (line_stays (seen i) (seen n) refl same (removed_with i n entry r side trim.removed is));
     }
 
-pub kept_trim : (i n : Inside) (s : State) (entry : Entry) (r : ℕ) (side : Side) → seen i ≡ s → IsKept i → MayTrim s entry r side → TrimPuts i n entry r side → IsKept n
-kept_trim i n s entry r side is kept trim p =
-    kept_trims i n entry r side kept (subst (λ (x : State). MayTrim x entry r side) (sym is) trim) p
-
-pub seen_trim : (i n : Inside) (s : State) (entry : Entry) (r : ℕ) (side : Side) → seen i ≡ s → TrimPuts i n entry r side → seen n ≡ with_side s entry r side
-seen_trim i n s entry r side is p =
-    subst (λ (x : State). seen n ≡ with_side x entry r side) is (seen_trims i n entry r side p)
+pub kept_trim : (i : Inside) (s : State) (entry : Entry) (r : ℕ) (side : Side) (sides : Vec (Arc Side Global) Global) (placed : Placed) → seen i ≡ s → IsKept i → MayTrim s entry r side →
+    map (λ a. a.value) sides.items ≡ slice_set (sides_of i) r side → AreSame i.placed placed → IsKept (inside_after s entry sides placed)
+kept_trim i s entry r side sides placed is kept trim sides_are p =
+    subst (λ (x : State). IsKept (inside_after x entry sides placed)) is
+    (kept_trims i entry r side sides placed kept (subst (λ (x : State). MayTrim x entry r side) (sym is) trim) sides_are p)
 
 -- a slide: the line alone is another
-pub record SlidePuts (i n : Inside) (by count : ℕ) : Type 0 where
-  pub config : n.config ≡ i.config
-  pub log : n.log ≡ record { first = i.log.first; items = i.log.items ++ entry_of by (Slide count) ∷ [] }
-  pub sides : sides_of n ≡ sides_of i
-  pub places : n.places ≡ i.places
-  pub cursor : n.cursor.value ≡ i.cursor.value
-  pub line_is : n.line.value ≡ slid count (line (seen i))
+seen_slides : (i : Inside) (by count : ℕ) (sides : Vec (Arc Side Global) Global) (placed : Placed) → map (λ a. a.value) sides.items ≡ sides_of i →
+    seen (inside_after (seen i) (entry_of by (Slide count)) sides placed) ≡ advanced (seen i) by (Slide count)
+seen_slides i by count sides placed sides_are =
+    let bytes : map held_of (map (λ a. a.value) sides.items) ≡ map held_of (sides_of i) = ap (map held_of) sides_are in
+    λ k. record { config = i.config; log = i.log.items ++ entry_of by (Slide count) ∷ []; bytes = bytes k }
 
-seen_slides : (i n : Inside) (by count : ℕ) → SlidePuts i n by count → seen n ≡ advanced (seen i) by (Slide count)
-seen_slides i n by count p =
-    let log : n.log.items ≡ i.log.items ++ entry_of by (Slide count) ∷ [] = ap (λ l. l.items) p.log in
-    let bytes : map held_of (sides_of n) ≡ map held_of (sides_of i) = ap (map held_of) p.sides in
-    λ k. record { config = p.config k; log = log k; bytes = bytes k }
-
-kept_slides : (i n : Inside) (by count : ℕ) → IsKept i → outcome_of (seen i) (Slide count) ≡ New → SlidePuts i n by count → IsKept n
-kept_slides i n by count kept new p =
-    let is : seen n ≡ advanced (seen i) by (Slide count) = seen_slides i n by count p in
+kept_slides : (i : Inside) (by count : ℕ) (sides : Vec (Arc Side Global) Global) (placed : Placed) → IsKept i → outcome_of (seen i) (Slide count) ≡ New →
+    map (λ a. a.value) sides.items ≡ sides_of i → HaveLine i.placed (slid count (line (seen i))) placed → IsKept (inside_after (seen i) (entry_of by (Slide count)) sides placed)
+kept_slides i by count sides placed kept new sides_are p =
+    let n : Inside = inside_after (seen i) (entry_of by (Slide count)) sides placed in
+    let is : seen n ≡ advanced (seen i) by (Slide count) = seen_slides i by count sides placed sides_are in
     let lanes_now : map lane_of (sides_of n) ≡ (channel (seen n)).lanes =
-    ap (map lane_of) p.sides ∙ kept.lanes ∙ ap (λ ch. ch.lanes) (sym (channel_advanced (seen i) by (Slide count)))
+    ap (map lane_of) sides_are ∙ kept.lanes ∙ ap (λ ch. ch.lanes) (sym (channel_advanced (seen i) by (Slide count)))
     ∙ ap (λ (s : State). (channel s).lanes) (sym is) in
     let same : sources (seen n) ≡ sources (seen i) = ap sources is ∙ sources_slide (seen i) by count in
-    let first : n.places.first ≡ 0 = ap (λ l. l.first) p.places ∙ ap (λ l. l.first) kept.places in
-    let items : n.places.items ≡ places (seen n) =
-    ap (λ l. l.items) p.places ∙ ap (λ l. l.items) kept.places ∙ ap places_of (sym same) in
+    let still = are_still i n (slid count (line (seen i))) kept same p in
     record {
-      all = ap (λ l. l.first) p.log ∙ kept.all;
+      all = refl;
       lanes = lanes_now;
       valid = subst (λ (s : State). IsState s) (sym is) (advanced_state (seen i) by (Slide count) kept.valid tt new);
-      good = λ q x at. kept.good q x (subst (λ (xs : List Side). slice_get xs q ≡ Some x) p.sides at);
-      places = λ k. record { first = first k; items = items k };
-      cursor = subst (λ (x : Position). IsCursor x (sources (seen n))) (sym p.cursor) (subst (λ (x : List Source). IsCursor i.cursor.value x) (sym same) kept.cursor);
-      through = subst (λ (x : Position). IsThrough x (sources (seen n))) (sym p.cursor) (subst (λ (x : List Source). IsThrough i.cursor.value x) (sym same) kept.through);
+      good = λ q x at. kept.good q x (subst (λ (xs : List Side). slice_get xs q ≡ Some x) sides_are at);
+      places = still.places;
+      cursor = still.cursor;
+      through = still.through;
       line_is = p.line_is ∙ sym (line_slides (seen i) by count) ∙ ap line (sym is);
     }
 
--- its parts, where the line of the state is given
-pub slide_puts : (i n : Inside) (s : State) (by count : ℕ) → seen i ≡ s → n.config ≡ i.config → n.log ≡ record { first = i.log.first; items = i.log.items ++ entry_of by (Slide count) ∷ [] } → sides_of n ≡ sides_of i → n.places ≡ i.places → n.cursor.value ≡ i.cursor.value → n.line.value ≡ slid count (line s) → SlidePuts i n by count
-slide_puts i n s by count is config log sides same_places cursor slid_line = record {
-  config = config;
-  log = log;
-  sides = sides;
-  places = same_places;
-  cursor = cursor;
-  line_is = slid_line ∙ ap (λ (x : State). slid count (line x)) (sym is);
-}
+pub kept_slide : (i : Inside) (s : State) (by count : ℕ) (sides : Vec (Arc Side Global) Global) (placed : Placed) → seen i ≡ s → IsKept i → outcome_of s (Slide count) ≡ New →
+    map (λ a. a.value) sides.items ≡ sides_of i → HaveLine i.placed (slid count (line s)) placed → IsKept (inside_after s (entry_of by (Slide count)) sides placed)
+kept_slide i s by count sides placed is kept new sides_are p =
+    subst (λ (x : State). IsKept (inside_after x (entry_of by (Slide count)) sides placed)) is
+    (kept_slides i by count sides placed kept (subst (λ (x : State). outcome_of x (Slide count) ≡ New) (sym is) new) sides_are
+    (subst (λ (x : State). HaveLine i.placed (slid count (line x)) placed) (sym is) p))
 
-pub kept_slide : (i n : Inside) (s : State) (by count : ℕ) → seen i ≡ s → IsKept i → outcome_of s (Slide count) ≡ New → SlidePuts i n by count → IsKept n
-kept_slide i n s by count is kept new p =
-    kept_slides i n by count kept (subst (λ (x : State). outcome_of x (Slide count) ≡ New) (sym is) new) p
-
-pub seen_slide : (i n : Inside) (s : State) (by count : ℕ) → seen i ≡ s → SlidePuts i n by count → seen n ≡ advanced s by (Slide count)
-seen_slide i n s by count is p =
-    subst (λ (x : State). seen n ≡ advanced x by (Slide count)) is (seen_slides i n by count p)
+pub seen_slide : (i : Inside) (s : State) (by count : ℕ) (sides : Vec (Arc Side Global) Global) (placed : Placed) → seen i ≡ s →
+    map (λ a. a.value) sides.items ≡ sides_of i → seen (inside_after s (entry_of by (Slide count)) sides placed) ≡ advanced s by (Slide count)
+seen_slide i s by count sides placed is sides_are =
+    subst (λ (x : State). seen (inside_after x (entry_of by (Slide count)) sides placed) ≡ advanced x by (Slide count)) is (seen_slides i by count sides placed sides_are)

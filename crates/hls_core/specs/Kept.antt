@@ -1,11 +1,15 @@
 -- For the proofs of this crate; no public clause cites it.
 -- How a snapshot's parts make up its state.
-use Rattle.std.specs.Prelude.{◌≡◌, ℕ, List, Some, map, slice_get}
+use Rattle.std.specs.Prelude.{◌≡◌, ℕ, List, [], ◌∷◌, ◌++◌, Some, map, slice_get, Vec}
+use Rattle.std.specs.declared.sync.Arc.{Arc}
+use Rattle.std.specs.Global.{Global}
 use Rattle.hls_places_laws.specs.Positions.{IsCursor, IsThrough}
+use Rattle.hls_core_laws.specs.declared.event.Entry.{Entry}
 use Rattle.hls_core_laws.specs.State.{State, channel}
 use Rattle.hls_core_laws.specs.IsState.{IsState}
 use Rattle.hls_core_laws.specs.Places.{sources, places}
 use Rattle.hls_core_laws.specs.Line.{line}
+use Rattle.hls_core.specs.declared.placed.Placed.{Placed}
 use Rattle.hls_core.specs.declared.side.Side.{Side}
 use Rattle.hls_core.specs.declared.snapshot.Snapshot.TheInside.{Inside}
 use Rattle.hls_core.specs.Sides.{lane_of, held_of, IsGood}
@@ -22,8 +26,12 @@ pub record IsKept (i : Inside) : Type 0 where
   pub valid : IsState (seen i)
   pub good : (r : ℕ) (side : Side) → slice_get (sides_of i) r ≡ Some side → IsGood side
   -- the common places of the log, and a cursor behind the last of them
-  pub places : i.places ≡ record { first = 0; items = places (seen i) }
-  pub cursor : IsCursor i.cursor.value (sources (seen i))
-  pub through : IsThrough i.cursor.value (sources (seen i))
+  pub places : i.placed.places ≡ record { first = 0; items = places (seen i) }
+  pub cursor : IsCursor i.placed.cursor.value (sources (seen i))
+  pub through : IsThrough i.placed.cursor.value (sources (seen i))
   -- and the live line of these places
-  pub line_is : i.line.value ≡ line (seen i)
+  pub line_is : i.placed.line.value ≡ line (seen i)
+
+-- the parts after one more entry: these sides and places
+abbrev pub inside_after : State → Entry → Vec (Arc Side Global) Global → Placed → Inside
+inside_after s entry sides placed = record { config = s.config; log = record { first = 0; items = s.log ++ entry ∷ [] }; sides = sides; placed = placed }

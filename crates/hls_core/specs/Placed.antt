@@ -1,19 +1,45 @@
--- Common places moved on. For the proofs of this crate; no public clause cites it.
-use Rattle.std.specs.Prelude.{◌≡◌, ℕ, ◌+◌, ◌*◌, ◌<◌, List, ◌++◌, Some, length, slice_get}
+-- Common places with their live line: at the opening, moved on, or with another line. For the proofs of this crate; no public
+-- clause cites it.
+use Rattle.std.specs.Prelude.{◌≡◌, ℕ, ◌+◌, ◌*◌, ◌<◌, List, [], ◌++◌, Some, length, slice_get}
 use Rattle.hls_places_laws.specs.declared.place.Place.{Place}
 use Rattle.hls_places_laws.specs.Sources.{Source}
 use Rattle.hls_places_laws.specs.Places.{places_after}
-use Rattle.hls_places_laws.specs.Positions.{IsCursor, IsThrough}
-use Rattle.hls_blocks.specs.Numbered.{Numbered, list_limit}
-use Rattle.hls_places_laws.specs.Line.Live.{Live, moved_by}
+use Rattle.hls_places_laws.specs.Positions.{first_position, IsCursor, IsThrough}
+use Rattle.hls_places.specs.declared.cursor.Advance.{Advance}
+use Rattle.hls_blocks.specs.Numbered.{list_limit}
+use Rattle.hls_places_laws.specs.Line.Live.{Live, fresh, moved_by}
+use Rattle.hls_core_laws.specs.Config.{ConfigData}
+use Rattle.hls_core_laws.specs.Line.{aim_of}
 use Rattle.hls_core.specs.declared.placed.Placed.{Placed}
 
--- what was told, and then all that is told from number `done` on, to the line too
-pub record IsPlaced (sources : List Source) (told : Numbered Place) (done : ℕ) (line : Live) (p : Placed) : Type 0 where
-  pub places : p.places ≡ record { first = told.first; items = told.items ++ places_after sources done }
+-- no place yet
+pub record AreFirst (config : ConfigData) (p : Placed) : Type 0 where
+  pub places : p.places ≡ record { first = 0; items = [] }
+  pub cursor : p.cursor.value ≡ first_position (length config.renditions)
+  pub line_is : p.line.value ≡ fresh (aim_of config)
+
+-- the same places with this line
+pub record HaveLine (old : Placed) (line : Live) (p : Placed) : Type 0 where
+  pub places : p.places ≡ old.places
+  pub cursor : p.cursor.value ≡ old.cursor.value
+  pub line_is : p.line.value ≡ line
+
+-- the same
+abbrev pub AreSame : Placed → Placed → Type 0
+AreSame old p = HaveLine old old.line.value p
+
+-- what was told, and then what an advance passed, to the line too
+pub record AreAfter (old : Placed) (advance : Advance) (p : Placed) : Type 0 where
+  pub places : p.places ≡ record { first = old.places.first; items = old.places.items ++ advance.places.items }
+  pub cursor : p.cursor.value ≡ advance.cursor
+  pub line_is : p.line.value ≡ moved_by old.line.value advance.places.items
+
+-- what was told, and then all that is told from there on, to the line too
+pub record IsPlaced (sources : List Source) (old p : Placed) : Type 0 where
+  pub places : p.places ≡ record { first = old.places.first; items = old.places.items ++ places_after sources old.cursor.value.done }
   pub cursor : IsCursor p.cursor.value sources
   pub through : IsThrough p.cursor.value sources
-  pub line_is : p.line.value ≡ moved_by line (places_after sources done)
+  pub line_is : p.line.value ≡ moved_by old.line.value (places_after sources old.cursor.value.done)
 
 -- a line that has room for what these places close, two segments each at most
 pub record CanBeTold (line : Live) (places : List Place) : Type 0 where

@@ -14,7 +14,7 @@ use crate::config::Config;
 use crate::side::Side;
 use hls_blocks::Shared;
 use hls_live::LiveLine;
-use hls_places::{Cursor, Place, Source};
+use hls_places::{Advance, Cursor, Place, Source};
 use std::alloc::{AllocError, Global};
 use std::sync::Arc;
 
@@ -27,41 +27,82 @@ pub(crate) struct Placed {
 }
 
 impl Placed {
-    ghost use Rattle.hls_core.specs.Placed.{IsPlaced};
+    ghost use Rattle.hls_core.specs.Placed.{AreFirst, AreSame, AreAfter, HaveLine, IsPlaced};
+
+    /// No place yet, and before all units of each rendition.
+    pub(crate) fn first(alloc: Global, config: &Config) -> Result<Placed, AllocError>
+        ensures { IfOk result (AreFirst config.now) }
+    {
+        let cursor = Cursor::first(alloc, config.renditions().len())?;
+        let cursor = Arc::new(alloc, cursor)?;
+        let line = LiveLine::fresh(alloc, config.target(), config.preferred());
+        let line = Arc::new(alloc, line)?;
+        Ok(Placed {
+            places: Shared::empty(alloc),
+            cursor,
+            line,
+        })
+    }
+
+    /// The same once more, over the same memory.
+    pub(crate) fn share(&self, alloc: Global) -> Result<Placed, AllocError>
+        ensures { IfOk result (AreSame self.now) }
+    {
+        Ok(Placed {
+            places: self.places.share(alloc)?,
+            cursor: Arc::try_clone(&self.cursor)?,
+            line: Arc::try_clone(&self.line)?,
+        })
+    }
+
+    /// The same places with another line.
+    pub(crate) fn with_line(&self, alloc: Global, line: LiveLine) -> Result<Placed, AllocError>
+        ensures { IfOk result (HaveLine self.now line) }
+    {
+        let line = Arc::new(alloc, line)?;
+        Ok(Placed {
+            places: self.places.share(alloc)?,
+            cursor: Arc::try_clone(&self.cursor)?,
+            line,
+        })
+    }
 
     /// The places with those that are decided by now at their end, which the line is told. While some rendition hasn't begun
     /// there are none.
     pub(crate) fn moved_on(
+        &self,
         alloc: Global,
         config: &Config,
         sides: &[Arc<Side>],
-        places: &Shared<Place>,
-        cursor: &Arc<Cursor>,
-        line: &Arc<LiveLine>,
     ) -> Result<Placed, AllocError>
         requires some { 1 ≤ length sides.now }
         requires few { length sides.now ≤ rendition_limit }
         requires count { length config.now.renditions ≡ length sides.now }
-        requires cursor { IsCursor cursor.now.value (sources_by config.now (map (λ a. a.value) sides.now)) }
-        requires room { next_of places.now + length (places_after (sources_by config.now (map (λ a. a.value) sides.now)) cursor.now.value.done) < list_limit }
-        requires told { CanBeTold line.now.value (places_after (sources_by config.now (map (λ a. a.value) sides.now)) cursor.now.value.done) }
-        ensures { IfOk result (IsPlaced (sources_by config.now (map (λ a. a.value) sides.now)) places.now cursor.now.value.done line.now.value) }
+        requires cursor { IsCursor self.now.cursor.value (sources_by config.now (map (λ a. a.value) sides.now)) }
+        requires room { next_of self.now.places + length (places_after (sources_by config.now (map (λ a. a.value) sides.now)) self.now.cursor.value.done) < list_limit }
+        requires told { CanBeTold self.now.line.value (places_after (sources_by config.now (map (λ a. a.value) sides.now)) self.now.cursor.value.done) }
+        ensures { IfOk result (IsPlaced (sources_by config.now (map (λ a. a.value) sides.now)) self.now) }
     {
         let gathered = sources_of(alloc, config, sides)?;
-        let sources = match gathered {
-            Some(sources) => sources,
-            None => {
-                return Ok(Placed {
-                    places: places.share(alloc)?,
-                    cursor: Arc::try_clone(cursor)?,
-                    line: Arc::try_clone(line)?,
-                });
+        match gathered {
+            Some(sources) => {
+                let advance = self.cursor.advanced(alloc, &sources)?;
+                self.after(alloc, advance)
             }
-        };
-        let advance = cursor.advanced(alloc, &sources)?;
-        let line = all_told(alloc, line, &advance.places)?;
+            None => self.share(alloc),
+        }
+    }
+
+    /// The places with those that an advance passed at their end.
+    fn after(&self, alloc: Global, advance: Advance) -> Result<Placed, AllocError>
+        requires room { next_of self.now.places + length advance.places.items < list_limit }
+        requires told { CanBeTold self.now.line.value advance.places.items }
+        ensures { IfOk result (AreAfter self.now advance) }
+    {
+        let line = all_told(alloc, &self.line, &advance.places)?;
+        let places = all_pushed(alloc, &self.places, advance.places)?;
         Ok(Placed {
-            places: all_pushed(alloc, places, advance.places)?,
+            places,
             cursor: Arc::new(alloc, advance.cursor)?,
             line,
         })

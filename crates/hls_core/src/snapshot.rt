@@ -24,7 +24,7 @@ use hls_blocks::Shared;
 use hls_core_laws::event::{Entry, Logged};
 use hls_core_laws::rendition::Rendition;
 use hls_live::LiveLine;
-use hls_places::{Cursor, Place};
+use hls_places::Place;
 use hls_record::Recording;
 use std::alloc::{AllocError, Global};
 use std::marker::Model;
@@ -41,9 +41,7 @@ pub struct Snapshot {
     config: Config,
     log: Shared<Entry>,
     sides: Vec<Arc<Side>>,
-    places: Shared<Place>,
-    cursor: Arc<Cursor>,
-    line: Arc<LiveLine>,
+    placed: Placed,
 }
 
 impl Model for Snapshot {
@@ -60,6 +58,7 @@ impl Model for Snapshot {
 
 impl Snapshot {
     ghost use Rattle.hls_core.specs.Sides.{IsAt, MayTake, MayTrim, with_side};
+    ghost use Rattle.hls_core.specs.Kept.{seen, IsKept, inside_after};
     ghost use Rattle.hls_core.specs.Reads.{recording_of, finished_at};
 
     /// The opening state of a channel: an empty log, and no rendition begun.
@@ -67,17 +66,12 @@ impl Snapshot {
         ensures { IfOk result (λ s. s ≡ first_state config) }
     {
         let sides = fresh_sides(alloc, config.renditions())?;
-        let cursor = Cursor::first(alloc, config.renditions().len())?;
-        let cursor = Arc::new(alloc, cursor)?;
-        let line = LiveLine::fresh(alloc, config.target(), config.preferred());
-        let line = Arc::new(alloc, line)?;
+        let placed = Placed::first(alloc, &config)?;
         Ok(Snapshot {
             config,
             log: Shared::empty(alloc),
             sides,
-            places: Shared::empty(alloc),
-            cursor,
-            line,
+            placed,
         })
     }
 
@@ -127,7 +121,7 @@ impl Snapshot {
         ensures valid { IsState self.now }
         ensures sources { AreSources (sources self.now) }
     {
-        &self.places
+        &self.placed.places
     }
 
     /// The live line: the segments that are kept, and where it goes on.
@@ -135,7 +129,7 @@ impl Snapshot {
         ensures value { result.now ≡ line self.now }
         ensures valid { IsState self.now }
     {
-        &self.line
+        &self.placed.line
     }
 
     /// The number of log entries that the worker `by` brought.
@@ -196,25 +190,8 @@ impl Snapshot {
         ensures { IfOk result (λ s. s.value ≡ with_side self.now entry rendition side) }
     {
         let sides = replaced_side(alloc, &self.sides, rendition, side)?;
-        let config = self.config.share()?;
-        let log = self.log.pushed(alloc, entry)?;
-        let placed = Placed::moved_on(
-            alloc,
-            &config,
-            &sides,
-            &self.places,
-            &self.cursor,
-            &self.line,
-        )?;
-        let next = Snapshot {
-            config,
-            log,
-            sides,
-            places: placed.places,
-            cursor: placed.cursor,
-            line: placed.line,
-        };
-        Ok(Arc::new(alloc, next)?)
+        let placed = self.placed.moved_on(alloc, &self.config, &sides)?;
+        self.next(alloc, entry, sides, placed)
     }
 
     /// The snapshot with one more entry, and this side of a rendition in place of one of which only units were kept that
@@ -231,15 +208,9 @@ impl Snapshot {
         requires trim { MayTrim self.now entry rendition side }
         ensures { IfOk result (λ s. s.value ≡ with_side self.now entry rendition side) }
     {
-        let next = Snapshot {
-            config: self.config.share()?,
-            log: self.log.pushed(alloc, entry)?,
-            sides: replaced_side(alloc, &self.sides, rendition, side)?,
-            places: self.places.share(alloc)?,
-            cursor: Arc::try_clone(&self.cursor)?,
-            line: Arc::try_clone(&self.line)?,
-        };
-        Ok(Arc::new(alloc, next)?)
+        let sides = replaced_side(alloc, &self.sides, rendition, side)?;
+        let placed = self.placed.share(alloc)?;
+        self.next(alloc, entry, sides, placed)
     }
 
     /// The snapshot after a slide of the line, whose line this is.
@@ -256,13 +227,28 @@ impl Snapshot {
         ensures { IfOk result (λ s. s.value ≡ advanced self.now by (Slide count)) }
     {
         let event = Logged::Slid { count };
+        let sides = shared_sides(alloc, &self.sides)?;
+        let placed = self.placed.with_line(alloc, now)?;
+        self.next(alloc, Entry { by, event }, sides, placed)
+    }
+
+    /// The snapshot with one more entry, of these sides and places.
+    fn next(
+        &self,
+        alloc: Global,
+        entry: Entry,
+        sides: Vec<Arc<Side>>,
+        placed: Placed,
+    ) -> Result<Arc<Snapshot>, AllocError>
+        requires room { length self.now.log < log_limit }
+        requires kept { IsKept (inside_after self.now entry sides placed) }
+        ensures { IfOk result (λ s. s.value ≡ seen (inside_after self.now entry sides placed)) }
+    {
         let next = Snapshot {
             config: self.config.share()?,
-            log: self.log.pushed(alloc, Entry { by, event })?,
-            sides: shared_sides(alloc, &self.sides)?,
-            places: self.places.share(alloc)?,
-            cursor: Arc::try_clone(&self.cursor)?,
-            line: Arc::new(alloc, now)?,
+            log: self.log.pushed(alloc, entry)?,
+            sides,
+            placed,
         };
         Ok(Arc::new(alloc, next)?)
     }
@@ -271,7 +257,7 @@ impl Snapshot {
     pub(crate) fn trim_limit(&self, rendition: usize) -> u64
         ensures { result ≡ trim_limit (front_of (line self.now)) rendition }
     {
-        match self.line.front() {
+        match self.placed.line.front() {
             Some(place) => fragment_in(place, rendition),
             None => 0,
         }
