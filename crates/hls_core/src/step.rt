@@ -1,9 +1,13 @@
 //! The one step by which a channel changes.
 
-ghost use Rattle.std.specs.Prelude.{◌≡◌, length};
+ghost use Rattle.std.specs.Prelude.{◌≡◌, ◌<◌, Some, None, false, length};
 ghost use Rattle.hls_media_laws.specs.Meaning.{IsInit};
+ghost use Rattle.hls_record.specs.Recorded.{twin_of};
+ghost use Rattle.hls_core_laws.specs.State.{log_limit};
+ghost use Rattle.hls_core_laws.specs.IsState.{IsState};
 ghost use Rattle.hls_core_laws.specs.declared.event.Event.TheVariants.{Begin, Accept, Finish, Slide, Trim};
 ghost use Rattle.hls_core_laws.specs.Moves.{IsFitting};
+ghost use Rattle.hls_core.specs.Sides.{IsAt};
 ghost use Rattle.hls_core.specs.Steps.{Steps};
 
 use crate::side::Side;
@@ -118,6 +122,29 @@ fn accept(
     if snapshot.is_full() {
         return Err(Refusal::LedgerFull);
     }
+    keep(snapshot, alloc, by, rendition, old, recording, facts, bytes)
+}
+
+/// Keeps a unit that no test but those of its length and of memory can refuse.
+fn keep(
+    snapshot: &Snapshot,
+    alloc: Global,
+    by: u16,
+    rendition: usize,
+    old: &Side,
+    recording: &Recording,
+    facts: Facts,
+    bytes: Bytes,
+) -> Result<Stepped, Refusal>
+    requires fits { IsFitting snapshot.now (Accept rendition facts bytes) }
+    requires valid { IsState snapshot.now }
+    requires at { IsAt snapshot.now rendition old.now }
+    requires begun { old.now.recording ≡ Some recording.now }
+    requires apart { twin_of recording.now facts.start ≡ None }
+    requires going { old.now.finished ≡ false }
+    requires room { length snapshot.now.log < log_limit }
+    ensures { Steps snapshot.now by (Accept rendition facts bytes) result }
+{
     let recording = match recording.appended(alloc, facts, bytes) {
         Ok(recording) => recording,
         Err(RecordFault::Overlap) => return Err(Refusal::Overlap),
