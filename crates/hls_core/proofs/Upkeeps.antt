@@ -8,7 +8,7 @@ use Rattle.hls_places_laws.specs.declared.place.Place.{Place}
 use Rattle.hls_places_laws.specs.Order.{time_of}
 use Rattle.hls_places_laws.specs.Programmes.{is_kept}
 use Rattle.hls_places_laws.specs.Line.Live.{front_of, has_ended}
-use Rattle.hls_places_laws.specs.Line.Upkeep.{IsMostSlide, is_old, IsCut, IsSlide, IsTrim, Idle, Trims}
+use Rattle.hls_places_laws.specs.Line.Upkeep.{IsMostSlide, is_old, IsCut, IsSlide, IsTrim, Upkeep, Idle, Slides, Trims, IsUpkeep}
 use Rattle.hls_core.proofs.Cited.{cut-once, front-stands, upkeep-slides, upkeep-trims, some_at, at_map, at_or, sources_count, ordered, floors-count}
 use Rattle.hls_core_laws.specs.declared.event.Event.{Event}
 use Rattle.hls_core_laws.specs.declared.event.Event.TheVariants.{Slide, Trim}
@@ -18,7 +18,7 @@ use Rattle.hls_core_laws.specs.IsState.{IsState}
 use Rattle.hls_core_laws.specs.Places.{sources, places, floors, floor_of}
 use Rattle.hls_core_laws.specs.Line.{aim_of, line}
 use Rattle.hls_core_laws.specs.Outcome.{logged_by, slide, trim, trim_limit, outcome_of}
-use Rattle.hls_core.specs.Upkeeps.{watched, IsUpkeepOf}
+use Rattle.hls_core.specs.Upkeeps.{watched, event_of, IsUpkeepOf}
 use Rattle.hls_core.specs.Cuts.{IsOldUntil, NoneOld, IsCutOf, NoCut, ReachedBefore, IsFirstBelow}
 use Rattle.hls_core.specs.KeptPlaces.{IsLastKeptBy, NoKeptBy}
 use Rattle.hls_core.proofs.KeptPlaces.{one-more}
@@ -190,8 +190,14 @@ trimmed-by s window keep cut (Some event) on most is below none = record {
   event_is = ap (λ (e : Event). Some e) below.is;
 }
 
-pub taken-by : (s : State) → IsState s → (window keep : ℕ) (cut : Place) (found : Option Event) → has_ended (line s) ≡ false → IsMostSlide (line s) window 0 → IsCutOf s keep cut →
-    IfSome found (IsFirstBelow s cut) → IfSome found (λ event. outcome_of s event ≡ logged_by (length s.log))
-taken-by s state window keep cut None on most is some = tt
-taken-by s state window keep cut (Some event) on most is below =
-    ap (outcome_of s) below.is ∙ trim-taken s state window keep below.rendition below.floor (trims-to s window keep cut event on most is below)
+-- what an upkeep says to do is refused by nothing but a full log or want of memory
+taken-as : (s : State) → IsState s → (window keep : ℕ) (upkeep : Upkeep) → IsUpkeep (watched s window keep) upkeep →
+    IfSome (event_of upkeep) (λ event. outcome_of s event ≡ logged_by (length s.log))
+taken-as s state window keep Idle is = tt
+taken-as s state window keep (Slides count) is = slide-taken s window keep count is
+taken-as s state window keep (Trims r floor) is = trim-taken s state window keep r floor is
+
+pub upkeep-taken : (s : State) → IsState s → (window keep : ℕ) (found : Option Event) → IsUpkeepOf s window keep found →
+    IfSome found (λ event. outcome_of s event ≡ logged_by (length s.log))
+upkeep-taken s state window keep found is =
+    subst (λ (o : Option Event). IfSome o (λ event. outcome_of s event ≡ logged_by (length s.log))) (sym is.event_is) (taken-as s state window keep is.upkeep is.is)

@@ -15,10 +15,7 @@ returns-clause-continues c =
 
 pub returns-clause-follows : goal.returns-clause-follows
 returns-clause-follows c =
-    let config : c.args.a.now.config ≡ c.args.b.now.config =
-    sym c.config.ensures.value ∙ c.same_config.ensures.0 c.if-not-same_config.false ∙ c.config-2.ensures.value in
-    let front : take (length c.args.a.now.log) c.args.b.now.log ≡ c.args.a.now.log =
-    rw (c.log.ensures.value, c.log-2.ensures.value) at c.begins.ensures.0 c.if-not-begins.false in (
-      λ yes. follows_of c.args.a.now c.args.b.now c.config.ensures.valid c.config-2.ensures.valid (continues_when c.args.a.now c.args.b.now config front (c.same_sides.ensures.0 yes)),
-      λ follows. c.same_sides.ensures.1 (continues_of c.args.a.now c.args.b.now follows).same,
+    let same = returns-clause-continues c in (
+      λ yes. follows_of c.args.a.now c.args.b.now c.config.ensures.valid c.config-2.ensures.valid (same.0 yes),
+      λ follows. same.1 (continues_of c.args.a.now c.args.b.now follows),
     )

@@ -2,7 +2,7 @@ use Rattle.std.proofs.Common.{◌≡◌, ℕ, false, arith, refl, sym, ap, subst
 use Rattle.hls_places_laws.specs.Line.Live.{Live, has_ended}
 use Rattle.hls_places_laws.specs.Line.Upkeep.{IsMostSlide, Slides}
 use Rattle.hls_core_laws.specs.Line.{line}
-use Rattle.hls_core.proofs.Upkeeps.{slides-on, uncut-idle, trimmed-by, taken-by}
+use Rattle.hls_core.proofs.Upkeeps.{slides-on, uncut-idle, trimmed-by, upkeep-taken}
 use Rattle.hls_core.proofs.upkeep.upkeep.Goals as goal
 
 pub returns-then-count-gt0-clause-is : goal.returns-then-count-gt0-clause-is
@@ -25,11 +25,7 @@ returns-in-Some-clause-is c =
 
 pub returns-in-Some-clause-taken : goal.returns-in-Some-clause-taken
 returns-in-Some-clause-taken c =
-    let on : has_ended (line c.args.snapshot.now) ≡ false = sym (ap has_ended c.line.ensures.value) ∙ (sym c.ended.ensures ∙ c.if-ended.false) in
-    let most = subst (λ (l : Live). IsMostSlide l c.args.window c.slidable-count.result) c.line-2.ensures.value c.slidable-count.ensures in
-    let none : c.slidable-count.result ≡ 0 = omega arith in
-    let stays = subst (λ (n : ℕ). IsMostSlide (line c.args.snapshot.now) c.args.window n) none most in
-    taken-by c.args.snapshot.now c.line.ensures.valid c.args.window c.args.keep c.in-Some.cut.now c.trim_to.result on stays c.in-Some.ensures.some c.trim_to.ensures.some
+    upkeep-taken c.args.snapshot.now c.line.ensures.valid c.args.window c.args.keep c.trim_to.result (returns-in-Some-clause-is c)
 
 pub returns-in-None-clause-is : goal.returns-in-None-clause-is
 returns-in-None-clause-is c =
