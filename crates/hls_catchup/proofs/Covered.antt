@@ -118,15 +118,15 @@ table-covered s request t recordings are valid is =
     }
 
 -- an answer over the recordings of the state is right
-pub right_answer : (s t : State) (epoch : Option ℤ) (request : Request) (table : Table) (recordings : List Recorded) (cutout : Cutout) → t ≡ s →
+pub right_answer : (s : State) (epoch : Option ℤ) (request : Request) (table : Table) (recordings : List Recorded) (cutout : Cutout) →
     epoch ≡ s.config.epoch → IsTableFor s request (Ok table) → AreRecordings s recordings → IsTable table → IsRightCutout epoch recordings table cutout →
-    IsRightAnswer t request cutout
-right_answer s t epoch request table recordings cutout same known defined are valid right =
-    rw same (record {
+    IsRightAnswer s request cutout
+right_answer s epoch request table recordings cutout known defined are valid right =
+    record {
       table = table;
       defined = defined;
       recordings = recordings;
       are = are;
       covered = table-covered s request table recordings are valid defined;
       right = subst (λ (e : Option ℤ). IsRightCutout e recordings table cutout) known right;
-    })
+    }

@@ -1,6 +1,7 @@
 //! Answers to requests.
 
-ghost use Rattle.std.specs.Prelude.{◌≡◌, ◌∷◌, length, IfSome, IfNone};
+ghost use Rattle.std.specs.Prelude.{◌≡◌, Err, MatchResult};
+ghost use Rattle.hls_catchup.specs.Requests.{IsTableFor, IsRightAnswer};
 ghost use Rattle.hls_catchup.specs.Replies.{IsReplyTo};
 
 use crate::cutout::{Cutout, cut};
@@ -33,8 +34,6 @@ impl Model for Reply {
 }
 
 impl Reply {
-    ghost use Rattle.hls_catchup.specs.Requests.{IsRightAnswer};
-
     /// The snapshot that was asked.
     pub fn snapshot(&self) -> &Snapshot
         ensures value { result.now ≡ self.now.state }
@@ -66,6 +65,20 @@ pub fn answer(
 ) -> Result<Reply, CatchFault>
     ensures { IsReplyTo snapshot.now.value request result }
 {
+    match cut_for(alloc, snapshot, request) {
+        Ok(cutout) => Ok(Reply {
+            snapshot: Arc::try_clone(snapshot)?,
+            request,
+            cutout,
+        }),
+        Err(fault) => Err(fault),
+    }
+}
+
+/// What the programme of a request is cut into, or the first fault.
+fn cut_for(alloc: Global, snapshot: &Snapshot, request: Request) -> Result<Cutout, CatchFault>
+    ensures { MatchResult result (IsRightAnswer snapshot.now request) (λ fault. IsTableFor snapshot.now request (Err fault)) }
+{
     match table_of(alloc, snapshot, request) {
         Ok(table) => {
             let _ = table.len();
@@ -73,12 +86,7 @@ pub fn answer(
                 unreachable!()
             };
             let epoch = snapshot.config().epoch();
-            let cutout = cut(alloc, recordings.as_slice(), epoch, table)?;
-            Ok(Reply {
-                snapshot: Arc::try_clone(snapshot)?,
-                request,
-                cutout,
-            })
+            Ok(cut(alloc, recordings.as_slice(), epoch, table)?)
         }
         Err(fault) => Err(fault),
     }
