@@ -20,7 +20,11 @@ cutting epoch recorded rendition uri first = record {
   epoch = epoch;
 }
 
--- the URI of a rendition's resource
+-- the URI of a rendition's resource in a folder
+abbrev pub resource_uri : List ℕ → ℕ → List ℕ
+resource_uri folder rendition = folder ++ (decimal rendition ++ codes ".mp4")
+
+-- the URI of a rendition's resource, as the playlists of a job name it: beside them
 abbrev pub job_uri : ℕ → List ℕ
 job_uri rendition = decimal rendition ++ codes ".mp4"
 

@@ -4,21 +4,14 @@ ghost use Rattle.std.specs.Prelude.{◌≡◌, ◌<◌, length, map, All, IfOk};
 ghost use Rattle.hls_record.specs.Valid.{IsRecorded};
 ghost use Rattle.hls_core_laws.specs.Config.{IsEpoch};
 ghost use Rattle.hls_m3u8.specs.Playlist.{playlist_of};
-ghost use Rattle.hls_catchup.specs.Lists.{job_uri, job_list, job_lists};
+ghost use Rattle.hls_catchup.specs.Lists.{job_list, job_lists};
 
+use crate::resource::resource_uri;
 use crate::segments::segments_of;
-use bytes::ByteStr;
 use hls_check_laws::PlaceTable;
 use hls_m3u8::MediaPlaylist;
 use hls_record::Recording;
 use std::alloc::{AllocError, Global};
-
-/// The URI of a rendition's resource, as the playlists of a job name it.
-fn job_uri(alloc: Global, rendition: usize) -> Result<ByteStr, AllocError>
-    ensures { IfOk result (λ uri. uri ≡ job_uri rendition) }
-{
-    ByteStr::from_string(format!(in alloc; "{rendition}.mp4")?)
-}
 
 /// The list of VOD of one rendition with the plan's steps as its segments (RFC 8216 4.3.3.5).
 #[tactic(auto, using(crate::proofs::Places::place_long))]
@@ -38,7 +31,7 @@ fn job_list(
 {
     let _ = recording.count();
     let _ = table.len();
-    let uri = job_uri(alloc, rendition)?;
+    let uri = resource_uri(alloc, "", rendition)?;
     let first = table.place(0).get(rendition).fragment;
     let segments = segments_of(alloc, recording, epoch, rendition, &uri, first, table, plan)?;
     let init_length = recording.head().len() as u64;

@@ -7,9 +7,10 @@ ghost use Rattle.hls_places_laws.specs.Line.Live.{segments_of};
 ghost use Rattle.hls_m3u8.specs.Playlist.{playlist_of};
 ghost use Rattle.hls_core_laws.specs.Config.{IsEpoch};
 ghost use Rattle.hls_core_laws.specs.IsState.{IsState};
-ghost use Rattle.hls_lists_laws.specs.Live.{live_uri, listed, live_list_of};
+ghost use Rattle.hls_lists_laws.specs.Live.{listed, live_list_of};
 ghost use Rattle.hls_catchup.specs.Lists.{cutting};
 
+use crate::resource::resource_uri;
 use crate::segments::segment_between;
 use bytes::ByteStr;
 use hls_core::snapshot::Snapshot;
@@ -36,7 +37,7 @@ pub fn live_playlist(
     if line.segments().next() == 0 {
         return Ok(None);
     }
-    let uri = live_uri(alloc, rendition)?;
+    let uri = resource_uri(alloc, "/media/", rendition)?;
     let config = snapshot.config();
     let segments = live_segments(alloc, recording, config.epoch(), rendition, &uri, line)?;
     Ok(Some(MediaPlaylist::live(
@@ -48,13 +49,6 @@ pub fn live_playlist(
         segments,
         line.ended(),
     )))
-}
-
-/// The URI of a rendition's recording, as live lists name it.
-fn live_uri(alloc: Global, rendition: usize) -> Result<ByteStr, AllocError>
-    ensures { IfOk result (λ uri. uri ≡ live_uri rendition) }
-{
-    ByteStr::from_string(format!(in alloc; "/media/{rendition}.mp4")?)
 }
 
 /// The kept segments of the live line in one rendition, with ranges in its recording.
@@ -73,16 +67,32 @@ fn live_segments(
     let mut list = Vec::new(alloc);
     let segments = line.segments();
     for segment in segments.iter_from(segments.first()) {
-        list.push(segment_between(
-            recording,
-            epoch,
-            rendition,
-            uri.clone()?,
-            0,
-            segment.mark,
-            &segment.from.spots,
-            &segment.to.spots,
-        ))?;
+        list.push(listed(recording, epoch, rendition, uri, segment)?)?;
     }
     Ok(list)
+}
+
+/// A segment of the live line in one rendition, with its range in the recording.
+fn listed(
+    recording: &Recording,
+    epoch: Option<i64>,
+    rendition: usize,
+    uri: &ByteStr,
+    segment: &hls_live::Segment,
+) -> Result<Segment, AllocError>
+    requires epoch { IsEpoch epoch }
+    requires start { (spot_in segment.now.from.spots rendition).start < 2 ^ 53 }
+    ensures { IfOk result (λ made. made ≡ listed (cutting epoch recording.now rendition uri.now 0) segment.now) }
+{
+    let uri = uri.clone()?;
+    Ok(segment_between(
+        recording,
+        epoch,
+        rendition,
+        uri,
+        0,
+        segment.mark,
+        &segment.from.spots,
+        &segment.to.spots,
+    ))
 }

@@ -1,13 +1,23 @@
 //! The resource of a recording from one unit to another.
 
-ghost use Rattle.std.specs.Prelude.{◌≡◌, [], ◌∷◌, ◌<◌, ◌≤◌, ◌^◌, get_or, length};
+ghost use Rattle.std.specs.Prelude.{◌≡◌, [], ◌∷◌, ◌<◌, ◌≤◌, ◌^◌, get_or, length, IfOk};
 ghost use Rattle.std.specs.Option.{option_copied};
 ghost use Rattle.hls_record.specs.Recorded.{unit_piece};
 ghost use Rattle.hls_lists_laws.specs.Jobs.{units_between, resource_of};
 ghost use Rattle.hls_catchup.specs.Resources.{FindsPlace};
+ghost use Rattle.hls_catchup.specs.Lists.{resource_uri};
 
 use crate::segments::bytes_between;
+use bytes::ByteStr;
 use hls_record::Recording;
+use std::alloc::{AllocError, Global};
+
+/// The URI of a rendition's resource in a folder.
+pub fn resource_uri(alloc: Global, folder: &str, rendition: usize) -> Result<ByteStr, AllocError>
+    ensures { IfOk result (λ uri. uri ≡ resource_uri folder.now rendition) }
+{
+    ByteStr::from_string(format!(in alloc; "{folder}{rendition}.mp4")?)
+}
 
 /// The length of the resource that has the recording's init section and then the units from number `first` to the one before
 /// `end`.
