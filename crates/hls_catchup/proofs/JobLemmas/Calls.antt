@@ -1,8 +1,9 @@
 -- From what is found and changed among the rows to what a call says of its table.
-use Rattle.std.proofs.Common.{◌≡◌, ℕ, suc, zero, ◌<◌, ◌≤◌, true, false, List, [], ◌∷◌, length, take, Some, ap, subst, ◌∙◌, arith}
+use Rattle.std.proofs.Common.{◌≡◌, ℕ, suc, zero, ◌<◌, ◌≤◌, true, false, List, [], ◌∷◌, length, take, get_or, Some, refl, ap, subst, ◌∙◌, arith}
 use Rattle.std.specs.Prelude.{All, slice_get}
 use Rattle.std.specs.List.{AllByRecursion, remove}
 use Rattle.std.proofs.lemmas.List.Elements.{All-head, All-tail}
+use Rattle.std.proofs.lemmas.Option.{slice_get_read}
 use Rattle.hls_catchup.specs.declared.jobs.row.Row.{Row}
 use Rattle.hls_catchup.specs.declared.jobs.row.Phase.{Phase}
 use Rattle.hls_catchup.specs.declared.jobs.row.Phase.TheVariants.{Running}
@@ -24,6 +25,11 @@ id_at rows id at row stands there = ap (λ (r : Row). r.id) (one_row rows at row
 pub phase_there : (rows : List Row) (id at : ℕ) (row : Row) → AreRising rows → StandsAt rows id at → slice_get rows at ≡ Some row → phase_at id rows ≡ Some row.phase
 phase_there rows id at row rising stands there =
     subst (λ (n : ℕ). phase_at n rows ≡ Some row.phase) (id_at rows id at row stands there) (phase_is rows at row rising there)
+
+-- the same of what was read at that number
+pub phase_read : (rows : List Row) (id at : ℕ) (row : Row) → AreRising rows → StandsAt rows id at → row ≡ get_or rows at row → phase_at id rows ≡ Some row.phase
+phase_read rows id at row rising stands is =
+    phase_there rows id at row rising stands (slice_get_read rows (length rows) at row refl stands.within is)
 
 pub changed_there : (rows then : List Row) (id at : ℕ) (phase : Phase) → AreRising rows → StandsAt rows id at → Sets rows at phase then → then ≡ with_phase id phase rows
 changed_there rows then id at phase rising stands sets =

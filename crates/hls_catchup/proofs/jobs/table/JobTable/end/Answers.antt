@@ -1,6 +1,5 @@
-use Rattle.std.proofs.Common.{◌≡◌, ℕ, List, length, Some, None, refl, ap, subst, ◌∙◌, ◌≢◌}
+use Rattle.std.proofs.Common.{◌≡◌, ℕ, List, Some, None, refl, ap, subst, ◌∙◌, ◌≢◌}
 use Rattle.std.specs.Prelude.{All}
-use Rattle.std.proofs.lemmas.Option.{slice_get_read}
 use Rattle.hls_catchup.specs.declared.jobs.row.Row.{Row}
 use Rattle.hls_catchup.specs.declared.jobs.row.Phase.{Phase}
 use Rattle.hls_catchup.specs.declared.jobs.row.Phase.TheVariants.{Running}
@@ -10,7 +9,7 @@ use Rattle.hls_catchup.specs.Jobs.Rows.{StandsAt, Sets}
 use Rattle.hls_catchup.specs.Jobs.Tables.{TableData, phase_at}
 use Rattle.hls_catchup.specs.Jobs.Changes.{IsStray, changed}
 use Rattle.hls_catchup.proofs.JobLemmas.ByIds.{none_is}
-use Rattle.hls_catchup.proofs.JobLemmas.Calls.{phase_there, changed_there}
+use Rattle.hls_catchup.proofs.JobLemmas.Calls.{phase_read, changed_there}
 use Rattle.hls_catchup.proofs.JobLemmas.Keeps.{kept_changed, right_end}
 use Rattle.hls_catchup.proofs.jobs.table.JobTable.end.Goals as goal
 
@@ -25,11 +24,10 @@ returns-then-not-runs_for-clause-finishes c =
     let f = c.args.finished in
     let rows = c.self.inside.rows.items in
     let stands = subst (λ (x : List Row × ℕ). StandsAt x.0 x.1 c.in-Some.at) (λ i. (c.deref.ensures.value i, c.id.ensures i)) c.in-Some.ensures in
-    let row = c.index.result.now in
-    let there = slice_get_read rows (length rows) c.in-Some.at row refl stands.within c.index.ensures in (
+    let row = c.index.result.now in (
       subst (λ (t : TableData). IsStray f t.rows) c.self.view_is (record {
         phase = row.phase;
-        there = phase_there rows f.id c.in-Some.at row c.self.invariant.table.rising stands there;
+        there = phase_read rows f.id c.in-Some.at row c.self.invariant.table.rising stands c.index.ensures;
         other = subst (λ (x : ℕ × Request). ¬ IsRunningFor x.0 x.1 row.phase) (λ i. (c.version.ensures i, c.request.ensures i))
             (c.runs_for.ensures.no c.if-not-runs_for.true);
       }),
@@ -55,7 +53,6 @@ returns-clause-finishes c =
     let rising = c.self.invariant.table.rising in
     let stands = subst (λ (x : List Row × ℕ). StandsAt x.0 x.1 c.in-Some.at) (λ i. (c.deref.ensures.value i, c.id.ensures i)) c.in-Some.ensures in
     let row = c.index.result.now in
-    let there = slice_get_read rows (length rows) c.in-Some.at row refl stands.within c.index.ensures in
     let runs = subst (λ (x : ℕ × Request). IsRunningFor x.0 x.1 row.phase) (λ i. (c.version.ensures i, c.request.ensures i))
     (c.runs_for.ensures.yes c.if-not-runs_for.false) in
     let phase : c.of.result ≡ ended f.ending = c.of.ensures ∙ ap ended c.into_ending.ensures.value in
@@ -64,6 +61,6 @@ returns-clause-finishes c =
     subst (λ (t : TableData). (phase_at f.id t.rows ≡ Some (Running f.version f.request))
     × (◌≡◌ {A = TableData} (record { next = c.self.inside.next; rows = c.set_phase.new.rows.items }) (changed t f.id (ended f.ending))))
     c.self.view_is (
-      phase_there rows f.id c.in-Some.at row rising stands there ∙ ap Some runs,
+      phase_read rows f.id c.in-Some.at row rising stands c.index.ensures ∙ ap Some runs,
       ap (λ (rs : List Row). record { next = c.self.inside.next; rows = rs }) changes,
     )

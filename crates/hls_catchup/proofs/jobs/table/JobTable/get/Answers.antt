@@ -1,12 +1,11 @@
-use Rattle.std.proofs.Common.{◌≡◌, List, length, None, refl, subst, ◌≢◌}
+use Rattle.std.proofs.Common.{◌≡◌, List, None, subst, ◌≢◌}
 use Rattle.std.specs.Prelude.{All}
-use Rattle.std.proofs.lemmas.Option.{slice_get_read}
 use Rattle.hls_catchup.specs.declared.jobs.row.Row.{Row}
 use Rattle.hls_catchup.specs.Jobs.Rows.{StandsAt}
 use Rattle.hls_catchup.specs.Jobs.Tables.{TableData, phase_at}
 use Rattle.hls_catchup.specs.Jobs.Changes.{IsTold, HasAnswer}
 use Rattle.hls_catchup.proofs.JobLemmas.ByIds.{none_is}
-use Rattle.hls_catchup.proofs.JobLemmas.Calls.{phase_there}
+use Rattle.hls_catchup.proofs.JobLemmas.Calls.{phase_read}
 use Rattle.hls_catchup.proofs.jobs.table.JobTable.get.Goals as goal
 
 pub returns-in_default-clause-gets : goal.returns-in_default-clause-gets
@@ -18,11 +17,9 @@ pub returns-in-Ok-clause-gets : goal.returns-in-Ok-clause-gets
 returns-in-Ok-clause-gets c =
     let rows = c.self.inside.rows.items in
     let stands = subst (λ (rs : List Row). StandsAt rs c.args.id c.in-Some.at) c.deref.ensures.value c.in-Some.ensures in
-    let row = c.index.result.now in
-    let there = slice_get_read rows (length rows) c.in-Some.at row refl stands.within c.index.ensures in
     subst (λ (t : TableData). IsTold c.args.id t.rows c.in-Ok.job) c.self.view_is (record {
-      phase = row.phase;
-      there = phase_there rows c.args.id c.in-Some.at row c.self.invariant.table.rising stands there;
+      phase = c.index.result.now.phase;
+      there = phase_read rows c.args.id c.in-Some.at c.index.result.now c.self.invariant.table.rising stands c.index.ensures;
       told = c.in-Ok.ensures.ok;
     })
 
@@ -30,10 +27,8 @@ pub returns-in-Err-clause-gets : goal.returns-in-Err-clause-gets
 returns-in-Err-clause-gets c =
     let rows = c.self.inside.rows.items in
     let stands = subst (λ (rs : List Row). StandsAt rs c.args.id c.in-Some.at) c.deref.ensures.value c.in-Some.ensures in
-    let row = c.index.result.now in
-    let there = slice_get_read rows (length rows) c.in-Some.at row refl stands.within c.index.ensures in
     subst (λ (t : TableData). HasAnswer c.args.id t.rows) c.self.view_is (record {
-      phase = row.phase;
-      there = phase_there rows c.args.id c.in-Some.at row c.self.invariant.table.rising stands there;
+      phase = c.index.result.now.phase;
+      there = phase_read rows c.args.id c.in-Some.at c.index.result.now c.self.invariant.table.rising stands c.index.ensures;
       finished = c.in-Err.ensures.err;
     })
