@@ -1,9 +1,10 @@
 -- In every common place each rendition's fragment is one of those that were accepted, or the end of all.
-use Rattle.std.proofs.Common.{◌≡◌, ℕ, ◌+◌, ◌-◌, ◌<◌, ◌≤◌, List, [], ◌∷◌, length, map, get_or, Option, Some, None, Bool, true, false, cond, arith, refl, sym, ap, subst, inl, inr, ◌∙◌}
+use Rattle.std.proofs.Common.{◌≡◌, ℕ, ◌+◌, ◌-◌, ◌<◌, ◌≤◌, List, [], ◌∷◌, ◌++◌, length, map, get_or, Option, Some, None, Bool, true, false, cond, arith, refl, sym, ap, subst, inl, inr, ◌∙◌}
 use Rattle.std.specs.Prelude.{option_map, All, ⊤, nat_lt, nat_le, ◌&&◌}
 use Rattle.std.specs.List.{filter_map, list_all}
 use Rattle.std.proofs.lemmas.Bool.{cases_Bool, cond-true, cond-false, and_parts, ltb-true}
 use Rattle.std.proofs.lemmas.List.{append-nil}
+use Rattle.std.proofs.lemmas.Option.{same_Some}
 use Rattle.hls_media_laws.specs.declared.facts.Facts.{Facts}
 use Rattle.hls_check_laws.specs.declared.spot.Spot.{Spot}
 use Rattle.hls_places_laws.specs.declared.place.Place.{Place}
@@ -21,8 +22,15 @@ Bounded (s ∷ sources) (spot ∷ others) = (spot.fragment ≤ length s.facts) �
 
 -- a conditional that gives something gives what stands under its condition
 taken_true : {A : Type 0} (b : Bool) (x y : A) → cond b (Some x) None ≡ Some y → (b ≡ true) × (x ≡ y)
-taken_true true x y is = (refl, cc)
+taken_true true x y is = (refl, same_Some x y is)
 taken_true false x y is = cc
+
+-- what is below is within (a lemma of numbers alone, since omega looks through all that stands around it)
+below_is : (k m n : ℕ) → k < n → k ≡ m → m ≤ n
+below_is k m n below same = omega arith
+
+all_of : (n : ℕ) → n ≤ n
+all_of n = omega arith
 
 near-bounded : (s : Source) (t : ℕ) (spot : Spot) → near s t ≡ Some spot → spot.fragment ≤ length s.facts
 near-bounded s t spot is =
@@ -30,8 +38,7 @@ near-bounded s t spot is =
     let parts = taken_true (nat_lt k (length s.facts) && nat_le (fact_at s.facts k).start_us (t + s.tolerance)) (spot_at s.facts k) spot is in
     let below : k < length s.facts =
     ltb-true k (length s.facts) (and_parts (nat_lt k (length s.facts)) (nat_le (fact_at s.facts k).start_us (t + s.tolerance)) parts.0).0 in
-    let same : k ≡ spot.fragment = ap (λ (x : Spot). x.fragment) parts.1 in
-    omega arith
+    below_is k spot.fragment (length s.facts) below (ap (λ (x : Spot). x.fragment) parts.1)
 
 both_there : (s : Source) (sources : List Source) (o : Option Spot) (rest : Option (List Spot)) (found : List Spot) → with_spot o rest ≡ Some found →
     ((spot : Spot) → o ≡ Some spot → spot.fragment ≤ length s.facts) → ((others : List Spot) → rest ≡ Some others → Bounded sources others) →
@@ -39,24 +46,25 @@ both_there : (s : Source) (sources : List Source) (o : Option Spot) (rest : Opti
 both_there s sources None rest found is first others = cc
 both_there s sources (Some spot) None found is first others = cc
 both_there s sources (Some spot) (Some more) found is first others =
-    let same : spot ∷ more ≡ found = cc in
-    subst (Bounded (s ∷ sources)) same (first spot refl, others more refl)
+    subst (Bounded (s ∷ sources)) (same_Some (spot ∷ more) found is) (first spot refl, others more refl)
 
 spots-bounded : (sources : List Source) (t : ℕ) (found : List Spot) → spots sources t ≡ Some found → Bounded sources found
-spots-bounded [] t found is = let none : [] ≡ found = cc in subst (Bounded []) none tt
+spots-bounded [] t found is = subst (Bounded []) (same_Some [] found is) tt
 spots-bounded (s ∷ sources) t found is =
     both_there s sources (near s t) (spots sources t) found is (near-bounded s t) (spots-bounded sources t)
 
 ends-bounded : (sources : List Source) → Bounded sources (map end_in sources)
 ends-bounded [] = tt
-ends-bounded (s ∷ sources) = (omega arith, ends-bounded sources)
+ends-bounded (s ∷ sources) = (all_of (length s.facts), ends-bounded sources)
 
 mapped : (sources : List Source) (o : Option (List Spot)) (p : Place) → option_map place_of o ≡ Some p →
     ((found : List Spot) → o ≡ Some found → Bounded sources found) → Bounded sources p.spots
 mapped sources None p is each = cc
 mapped sources (Some found) p is each =
-    let same : place_of found ≡ p = cc in
-    subst (λ (x : Place). Bounded sources x.spots) same (each found refl)
+    subst (λ (x : Place). Bounded sources x.spots) (same_Some (place_of found) p is) (each found refl)
+
+not_some : (p : Place) → None ≡ Some p → ⊥
+not_some p is = cc
 
 place-bounded : (sources : List Source) (f : Facts) (p : Place) → common_at sources f ≡ Some p → Bounded sources p.spots
 place-bounded sources f p is =
@@ -65,7 +73,7 @@ place-bounded sources f p is =
           (let some : option_map place_of (spots sources f.start_us) ≡ Some p = sym (cond-true f.sync _ _ sync) ∙ is in
           mapped sources (spots sources f.start_us) p some (spots-bounded sources f.start_us))
       | inr not_sync ↦
-          (let none : None ≡ Some p = sym (cond-false f.sync _ _ not_sync) ∙ is in cc)
+          absurd (not_some p (sym (cond-false f.sync _ _ not_sync) ∙ is))
     ]
 
 pub places-bounded : (sources : List Source) → All (λ (p : Place). Bounded sources p.spots) (places_of sources)
@@ -77,8 +85,10 @@ places-bounded sources =
     elim (cases_Bool (list_all has_ended sources)) [
       | inl over ↦
           (let closing : closing_of sources ≡ (record { spots = map end_in sources; closing = true }) ∷ [] = cond-true (list_all has_ended sources) _ _ over in
-          rw closing (all-snoc P (filter_map (common_at sources) fs) (record { spots = map end_in sources; closing = true }) found (ends-bounded sources)))
+          subst (λ (ps : List Place). All P (filter_map (common_at sources) fs ++ ps)) (sym closing)
+          (all-snoc P (filter_map (common_at sources) fs) (record { spots = map end_in sources; closing = true }) found (ends-bounded sources)))
       | inr going ↦
           (let closing : closing_of sources ≡ [] = cond-false (list_all has_ended sources) _ _ going in
-          rw (closing, append-nil (filter_map (common_at sources) fs)) found)
+          subst (λ (ps : List Place). All P (filter_map (common_at sources) fs ++ ps)) (sym closing)
+          (subst (All P) (sym (append-nil (filter_map (common_at sources) fs))) found))
     ]
