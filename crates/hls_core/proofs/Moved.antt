@@ -6,12 +6,10 @@ use Rattle.std.proofs.lemmas.List.{length-map, get_or-map, drop_all}
 use Rattle.std.proofs.lemmas.Option.{same_Some}
 use Rattle.hls_record.specs.Recorded.{Recorded}
 use Rattle.hls_places_laws.specs.declared.place.Place.{Place}
-use Rattle.hls_places_laws.specs.Sources.{Source, source_at, sources_of, first_facts}
+use Rattle.hls_places_laws.specs.Sources.{Source, source_at, first_facts}
 use Rattle.hls_places_laws.specs.Places.{places_after}
-use Rattle.hls_places_laws.specs.Positions.{Position, IsCursor, IsThrough}
+use Rattle.hls_places_laws.specs.Positions.{Position, IsCursor}
 use Rattle.hls_core.proofs.Cited.{side-at, length-sources_of, after-without, found-without, told-none, told-more, advanced-few_more, next-side, at_map, at_or}
-use Rattle.hls_places.specs.declared.cursor.Advance.{Advance}
-use Rattle.hls_places.specs.Advances.{IsAdvance}
 use Rattle.hls_core_laws.specs.Config.{ConfigData}
 use Rattle.hls_core_laws.specs.declared.rendition.Rendition.{Rendition}
 use Rattle.hls_core_laws.specs.Places.{facts_of, is_finished, tolerance_of}
@@ -20,7 +18,7 @@ use Rattle.hls_core.specs.declared.placed.Placed.{Placed}
 use Rattle.hls_core.specs.declared.side.Side.{Side}
 use Rattle.hls_core.specs.Gathers.{Lacks}
 use Rattle.hls_places_laws.specs.Line.Live.{Live, moved, moved_by}
-use Rattle.hls_core.specs.Placed.{AreSame, AreAfter, IsPlaced, CanBeTold}
+use Rattle.hls_core.specs.Placed.{AreSame, IsPlaced, CanBeTold}
 use Rattle.hls_core.specs.Sides.{lane_of, lane_from, sources_by}
 
 lane_facts : (o : Option Recorded) (finished : Bool) (rec : Recorded) → Some rec ≡ o → rec.facts ≡ (lane_from o finished).facts
@@ -165,16 +163,4 @@ placed_without config sides old p count l fits same =
       cursor = subst (λ (x : Position). IsCursor x (sources_by config sides)) (sym same.cursor) fits;
       through = found-without (sources_by config sides) l.number source.0 source.1 (drop p.cursor.value.done (first_facts (sources_by config sides)));
       line_is = same.line_is ∙ sym (none_told old.line.value) ∙ ap (moved_by old.line.value) (sym none);
-    }
-
-pub placed_on : (sources : List Source) (old : Placed) (a : Advance) (p : Placed) → IsAdvance sources old.cursor.value.done a → AreAfter old a p → IsPlaced sources old p
-placed_on sources old a p on now =
-    let first : p.places.first ≡ old.places.first = ap (λ x. x.first) now.places in
-    let items : p.places.items ≡ old.places.items ++ places_after sources old.cursor.value.done =
-    ap (λ x. x.items) now.places ∙ ap (λ (xs : List Place). old.places.items ++ xs) on.places in
-    record {
-      places = λ k. record { first = first k; items = items k };
-      cursor = subst (λ (x : Position). IsCursor x sources) (sym now.cursor) on.cursor;
-      through = subst (λ (x : Position). IsThrough x sources) (sym now.cursor) on.through;
-      line_is = now.line_is ∙ ap (moved_by old.line.value) on.places;
     }

@@ -10,7 +10,7 @@ use Rattle.hls_places_laws.specs.Places.{places_of, places_after, common_at, clo
 use Rattle.hls_places_laws.specs.Order.{no_place}
 use Rattle.hls_core.proofs.Cited.{places-ordered, continues, after-without, found-without, channel_advanced, advanced_state, line_few, line_goes_on, line_slides, line_stays, sources_slide, sources_grow, sources_count, source_of, lanes_count, at_map, at_set, some_at, mapped_at, length_set, channel_from-snoc, units_are_logged, states_are_timed, first_is_state, first-cursor}
 use Rattle.std.proofs.lemmas.Option.{slice_get-get_or}
-use Rattle.hls_places_laws.specs.Line.Live.{Live, fresh as fresh_line, live_of, moved_by, slid}
+use Rattle.hls_places_laws.specs.Line.Live.{Live, live_of, moved_by, slid}
 use Rattle.hls_places_laws.specs.Line.Told.{told}
 use Rattle.hls_core_laws.specs.declared.event.Event.TheVariants.{Slide}
 use Rattle.hls_core_laws.specs.Line.{aim_of, line}

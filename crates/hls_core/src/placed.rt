@@ -1,7 +1,7 @@
 //! The common places of a channel and its live line, brought up to what was recorded.
 
-ghost use Rattle.std.specs.Prelude.{◌≡◌, ℕ, ◌+◌, ◌<◌, ◌≤◌, ◌++◌, List, Some, None, length, map, IfOk, IfSome};
-ghost use Rattle.hls_blocks.specs.Numbered.{Numbered, next_of, list_limit};
+ghost use Rattle.std.specs.Prelude.{◌≡◌, ◌+◌, ◌<◌, ◌≤◌, ◌++◌, Some, None, length, map, IfOk, IfSome};
+ghost use Rattle.hls_blocks.specs.Numbered.{next_of, list_limit};
 ghost use Rattle.hls_places_laws.specs.Places.{places_after};
 ghost use Rattle.hls_places_laws.specs.Positions.{IsCursor};
 ghost use Rattle.hls_places_laws.specs.Line.Live.{moved_by};

@@ -2,7 +2,7 @@ use Rattle.std.proofs.Common.{◌∙◌, ap, length, map, sym, subst, arith, Lis
 use Rattle.std.proofs.lemmas.List.{length-map}
 use Rattle.hls_places_laws.specs.declared.place.Place.{Place}
 use Rattle.hls_core.specs.Placed.{CanBeTold}
-use Rattle.hls_core.proofs.Moved.{one_each, when_ok, placed_without, placed_on}
+use Rattle.hls_core.proofs.Moved.{one_each, when_ok, placed_without}
 use Rattle.hls_core.proofs.placed.Placed.moved_on.Goals as goal
 
 pub returns-in-None : goal.returns-in-None
