@@ -1,10 +1,9 @@
 -- Places in the slices of a resource.
-use Rattle.std.proofs.Common.{◌≡◌, ◌∙◌, ℕ, zero, suc, ◌+◌, ◌-◌, ◌<◌, ◌≤◌, List, [], ◌∷◌, ◌++◌, length, take, drop, get_or, refl, sym, ap, subst, inl, inr, arith, add-one, length-append, length-drop, length-take}
+use Rattle.std.proofs.Common.{◌≡◌, ◌∙◌, ℕ, zero, suc, ◌+◌, ◌-◌, ◌<◌, ◌≤◌, List, [], ◌∷◌, ◌++◌, length, take, drop, get_or, refl, sym, ap, arith, add-one, length-append, length-take}
 use Rattle.std.specs.List.{concat}
-use Rattle.std.proofs.lemmas.Bool.{cases_lt}
-use Rattle.std.proofs.lemmas.List.{drop_all, drop-drop, drop-take}
+use Rattle.std.proofs.lemmas.List.{drop-drop, drop-take}
 use Rattle.std.proofs.Math.Seq.{drop-append-add}
-use Rattle.hls_output.specs.Slices.{rest_at, part_at, IsPlace}
+use Rattle.hls_output.specs.Slices.{rest_at, part_at}
 
 -- from a slice on stand its bytes, and then those from the next one on
 from_slice_to_next : (slices : List (List ℕ)) (n : ℕ) → concat (drop n slices) ≡ get_or slices n [] ++ concat (drop (suc n) slices)
@@ -15,14 +14,6 @@ from_slice_to_next (s ∷ slices) (suc n) = from_slice_to_next slices n
 
 pub from_slice : (slices : List (List ℕ)) (n : ℕ) → concat (drop n slices) ≡ get_or slices n [] ++ concat (drop (n + 1) slices)
 from_slice slices n = from_slice_to_next slices n ∙ ap (λ k. get_or slices n [] ++ concat (drop k slices)) (sym (add-one n))
-
--- where bytes stand from a slice on, there is that slice
-pub is_slice : (slices : List (List ℕ)) (n : ℕ) → 0 < length (concat (drop n slices)) → n < length slices
-is_slice slices n some =
-    elim (cases_lt n (length slices)) [
-      | inl h ↦ h
-      | inr past ↦ absurd (omega (arith, some, ap (λ (xs : List (List ℕ)). length (concat xs)) (drop_all n slices past)))
-    ]
 
 -- a place behind a slice is one in the next
 pub next_slice : (slices : List (List ℕ)) (n within : ℕ) → length (get_or slices n []) ≤ within
@@ -49,7 +40,3 @@ part_behind slices n within count left fits =
     let sum : count + (left - count) ≡ left = omega (arith, fits) in
     ap (take (left - count)) (ap (λ k. drop k there) (omega arith) ∙ sym (drop-drop count within there))
     ∙ sym (drop-take count (left - count) (drop within there)) ∙ ap (λ k. drop count (take k (drop within there))) sum
-
--- a place before the last byte stands before the end
-pub stands_before : (slices : List (List ℕ)) (n within count left : ℕ) → left ≤ length (rest_at slices n within) → count < left → within + count < length (concat (drop n slices))
-stands_before slices n within count left there some = omega (arith, there, some, length-drop within (concat (drop n slices)))

@@ -1,4 +1,4 @@
-use Rattle.std.proofs.Common.{◌≡◌, ◌∙◌, ◌+◌, ◌-◌, ◌≤◌, length, take, drop, ap, arith}
+use Rattle.std.proofs.Common.{◌∙◌, ◌-◌, ◌≤◌, length, take, drop, ap, arith}
 use Rattle.hls_output.proofs.Places.{part_behind, part_length}
 use Rattle.hls_output.proofs.media.Media.advance.Goals as goal
 

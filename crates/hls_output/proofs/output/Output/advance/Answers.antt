@@ -1,4 +1,4 @@
-use Rattle.std.proofs.Common.{◌≡◌, ◌∙◌, ◌+◌, ◌-◌, ◌≤◌, [], ◌++◌, length, drop, List, ℕ, Some, Option, ap, sym, arith}
+use Rattle.std.proofs.Common.{◌≡◌, ◌∙◌, ◌-◌, ◌≤◌, [], ◌++◌, length, drop, List, ℕ, Option, ap, sym, arith}
 use Rattle.std.specs.Prelude.{unwrap_or}
 use Rattle.hls_output.specs.Texts.{bytes_of}
 use Rattle.hls_output.proofs.Handed.{past_text}
