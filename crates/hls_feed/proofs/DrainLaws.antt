@@ -13,9 +13,6 @@ module _ {S : Type 0} (Comes : S → Part → S → Result (Unit {0}) Untaken �
   takes_append [] qs x y z first more = subst (λ (w : S). TakesAll Comes w qs z) first more
   takes_append (p ∷ ps) qs x y z first more = (first.0, first.1, takes_append ps qs first.0 y z first.2 more)
 
-  pub taken_none : (x : S) (text : List ℕ) → TakenFrom Comes x text text x
-  taken_none x text = record { parts = []; takes = refl; follows = λ more. refl }
-
   cut_more : (text old held more : List ℕ) (parts : List Part) (part : Part) → cut_of (text ++ more) ≡ after_parts parts (cut_of (old ++ more)) → IsFirst part old held
       → cut_of (text ++ more) ≡ after_parts (parts ++ part ∷ []) (cut_of (held ++ more))
   cut_more text old held more parts part is first =

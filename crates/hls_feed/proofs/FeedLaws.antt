@@ -13,15 +13,11 @@ use Rattle.hls_feed.specs.declared.fault.Untaken.{Untaken}
 use Rattle.hls_feed.specs.declared.fault.Untaken.TheVariants.{Refused, Memory}
 use Rattle.hls_feed.specs.Shortest.{IsShortestFault, IsShortestPart}
 use Rattle.hls_feed.specs.Steps.{Drains, TakenFrom}
-use Rattle.hls_feed.specs.Streams.{EndsSo, FeedsBehind, IsLeft, Reached, RefusesBehind, TakesAll, Wants}
-use Rattle.hls_feed.proofs.DrainLaws.{parts_of, takes_append, wants_none}
+use Rattle.hls_feed.specs.Streams.{EndsSo, FeedsBehind, IsLeft, Reached, RefusesBehind, TakesAll}
+use Rattle.hls_feed.proofs.DrainLaws.{parts_of, takes_append}
 use Rattle.hls_feed.proofs.ShortestLaws.{grows, shortest_fault, shortest_part}
 
 -- ---- texts
-
--- what is cut of the content and a piece behind it
-cut_on : (content old piece : List ℕ) → IsLeft content old → cut_of (content ++ piece) ≡ after_parts (cut_of content).parts (cut_of (old ++ piece))
-cut_on content old piece left = left piece
 
 parts_on : (content old piece : List ℕ) → IsLeft content old → (cut_of (content ++ piece)).parts ≡ (cut_of content).parts ++ (cut_of (old ++ piece)).parts
 parts_on content old piece left = ap (λ (c : Cut). c.parts) (left piece)
@@ -38,43 +34,38 @@ left_refused (Boxes m) f is = cc
 left_refused CutShort f is = cc
 left_refused (Broken g) f is = cc
 
+-- a beginning that isn't one of the content alone is longer than it
+behind_where : (content piece : List ℕ) (size : ℕ) → (take size (content ++ piece) ≡ take size content → ⊥) → length content < size
+behind_where content piece size never =
+    elim (cases_lt (length content) size) [ inl behind ↦ behind | inr within ↦ absurd (never (take-append-le size content piece within)) ]
+
 -- a beginning of both texts that shows a part more than the content does is longer than it
 part_behind : (content piece : List ℕ) (taken : List Part) (part : Part) (size : ℕ) → length (cut_of content).parts ≤ length taken → IsShortestPart (content ++ piece) taken part size
     → length content < size
-part_behind content piece taken part size few shows =
-    elim (cases_lt (length content) size) [
-      | inl behind ↦ behind
-      | inr within ↦
-          let here : take size (content ++ piece) ≡ take size content = take-append-le size content piece within in
-          let front : (cut_of (take size content)).parts ≡ taken ++ part ∷ shows.others = ap (λ xs. (cut_of xs).parts) (sym here) ∙ shows.shows in
-          let later = grows (take size content) (drop size content) in
-          let whole : (cut_of content).parts ≡ (cut_of (take size content)).parts ++ later.0 = ap (λ xs. (cut_of xs).parts) (sym (take-append-drop size content)) ∙ later.1 in
-          absurd (omega (arith, few, ap length whole, length-append (cut_of (take size content)).parts later.0, ap length front, length-append taken (part ∷ shows.others)))
-    ]
+part_behind content piece taken part size few shows = behind_where content piece size (λ here.
+    let front : (cut_of (take size content)).parts ≡ taken ++ part ∷ shows.others = ap (λ xs. (cut_of xs).parts) (sym here) ∙ shows.shows in
+    let later = grows (take size content) (drop size content) in
+    let whole : (cut_of content).parts ≡ (cut_of (take size content)).parts ++ later.0 = ap (λ xs. (cut_of xs).parts) (sym (take-append-drop size content)) ∙ later.1 in
+    absurd (omega (arith, few, ap length whole, length-append (cut_of (take size content)).parts later.0, ap length front, length-append taken (part ∷ shows.others))))
 
 -- .. and so is one that shows a fault where the content shows none
 fault_behind : (content piece : List ℕ) (f : BoxFault) (size : ℕ) → text_fault content ≡ None → (cut_of (content ++ piece)).left ≡ Broken f → IsShortestFault (content ++ piece) size
     → length content < size
-fault_behind content piece f size clean found shows =
-    elim (cases_lt (length content) size) [
-      | inl behind ↦ behind
-      | inr within ↦
-          let here : take size (content ++ piece) ≡ take size content = take-append-le size content piece within in
-          let front : (cut_of (take size content)).left ≡ Broken f = ap (λ xs. (cut_of xs).left) (sym here) ∙ ap (λ (c : Cut). c.left) shows.shows ∙ found in
-          let whole : cut_of content ≡ cut_of (take size content) = ap cut_of (sym (take-append-drop size content)) ∙ stay (take size content) (drop size content) f front in
-          let told : text_fault content ≡ Some f = ap (λ (c : Cut). fault_left c.left) whole ∙ ap fault_left front in
-          absurd (none_some f (sym clean ∙ told))
-    ]
+fault_behind content piece f size clean found shows = behind_where content piece size (λ here.
+    let front : (cut_of (take size content)).left ≡ Broken f = ap (λ xs. (cut_of xs).left) (sym here) ∙ ap (λ (c : Cut). c.left) shows.shows ∙ found in
+    let whole : cut_of content ≡ cut_of (take size content) = ap cut_of (sym (take-append-drop size content)) ∙ stay (take size content) (drop size content) f front in
+    let told : text_fault content ≡ Some f = ap (λ (c : Cut). fault_left c.left) whole ∙ ap fault_left front in
+    none_some f (sym clean ∙ told))
   where
     none_some : (f : BoxFault) → None ≡ Some f → ⊥
     none_some f is = cc
 
 -- ---- what a piece leaves in the reader
 
-pub fault_before : (content held : List ℕ) → IsLeft content held → text_fault content ≡ None → text_fault held ≡ None
+fault_before : (content held : List ℕ) → IsLeft content held → text_fault content ≡ None → text_fault held ≡ None
 fault_before content held left clean = ap fault_left (sym (left_of content held left)) ∙ clean
 
-pub refusal_is : (f : BoxFault) (old piece held : List ℕ) → text_fault old ≡ None → (f ≡ boxes.Memory → ⊥) → IsRefusal f old piece held → (held ≡ old ++ piece) × (text_fault held ≡ Some f)
+refusal_is : (f : BoxFault) (old piece held : List ℕ) → text_fault old ≡ None → (f ≡ boxes.Memory → ⊥) → IsRefusal f old piece held → (held ≡ old ++ piece) × (text_fault held ≡ Some f)
 refusal_is boxes.Memory old piece held clean other is = absurd (other refl)
 refusal_is f old piece held clean other is = (is.0 ∙ ap (λ (o : Option BoxFault). held_by o old piece) clean, is.1)
 
@@ -121,7 +112,7 @@ module _ {S : Type 0} (Comes : S → Part → S → Result (Unit {0}) Untaken �
 
   -- ---- a refusal
 
-  pub stops_behind : (start x y : S) (content old piece held now : List ℕ) (untaken : Untaken) → Reached Comes start content old x
+  stops_behind : (start x y : S) (content old piece held now : List ℕ) (untaken : Untaken) → Reached Comes start content old x
       → Drains Comes (old ++ piece) held x y (Err untaken) → FeedsBehind Comes start content piece now y (Err untaken)
   stops_behind start x y content old piece held now (Refused fault) reached next =
       let taken = (cut_of content).parts ++ next.taken in
@@ -154,11 +145,20 @@ module _ {S : Type 0} (Comes : S → Part → S → Result (Unit {0}) Untaken �
   goes_behind start x y content old piece held (Ok done) reached clean drained = reached_on start x y content old piece held reached clean drained
   goes_behind start x y content old piece held (Err untaken) reached clean drained = stops_behind start x y content old piece held held untaken reached drained
 
-  -- a fault behind all parts
-  pub broken_behind : (start x y : S) (content old piece held : List ℕ) (f : BoxFault) → Reached Comes start content old x → text_fault (old ++ piece) ≡ Some f
-      → Drains Comes (old ++ piece) held x y (Ok tt) → RefusesBehind Comes start content piece (faults.Boxes f) y
-  broken_behind start x y content old piece held f reached found drained =
-      let told : text_fault (content ++ piece) ≡ Some f = fault_on content old piece reached.left ∙ found in
+  -- one that the reader refuses: by a part before its fault
+  pub stops_before : (start x y : S) (content old piece held now : List ℕ) (f : BoxFault) (untaken : Untaken) → (f ≡ boxes.Memory → ⊥) → IsRefusal f old piece held → Reached Comes start content old x
+      → Drains Comes held now x y (Err untaken) → FeedsBehind Comes start content piece now y (Err untaken)
+  stops_before start x y content old piece held now f untaken other is reached drained =
+      let fed = refusal_is f old piece held (fault_before content old reached.left reached.taken.no_fault) other is in
+      stops_behind start x y content old piece now now untaken reached (subst (λ (text : List ℕ). Drains Comes text now x y (Err untaken)) fed.0 drained)
+
+  -- .. and by its fault, behind all parts
+  pub broken_behind : (start x y : S) (content old piece read held : List ℕ) (f : BoxFault) → (f ≡ boxes.Memory → ⊥) → IsRefusal f old piece read → Reached Comes start content old x
+      → Drains Comes read held x y (Ok tt) → RefusesBehind Comes start content piece (faults.Boxes f) y
+  broken_behind start x y content old piece read held f other is reached all =
+      let fed = refusal_is f old piece read (fault_before content old reached.left reached.taken.no_fault) other is in
+      let drained : Drains Comes (old ++ piece) held x y (Ok tt) = subst (λ (text : List ℕ). Drains Comes text held x y (Ok tt)) fed.0 all in
+      let told : text_fault (content ++ piece) ≡ Some f = fault_on content old piece reached.left ∙ ap text_fault (sym fed.0) ∙ fed.1 in
       let left : (cut_of (content ++ piece)).left ≡ Broken f = left_refused (cut_of (content ++ piece)).left f told in
       let shown = shortest_fault (content ++ piece) f left in record {
         size = shown.0;
@@ -171,17 +171,7 @@ module _ {S : Type 0} (Comes : S → Part → S → Result (Unit {0}) Untaken �
           shows = shown.1;
         });
       }
-
   -- a piece that couldn't be taken in
-  pub wants_behind : (start x : S) (content old piece : List ℕ) → Reached Comes start content old x → Wants Comes start (content ++ piece) x
-  wants_behind start x content old piece reached = record {
-    taken = (cut_of content).parts;
-    others = (cut_of (old ++ piece)).parts;
-    front = parts_on content old piece reached.left;
-    last = x;
-    takes = reached.taken.takes;
-    wants = wants_none Comes x (cut_of (old ++ piece)).parts;
-  }
 
 -- ---- the end
 

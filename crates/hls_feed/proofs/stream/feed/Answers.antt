@@ -1,7 +1,7 @@
-use Rattle.std.proofs.Common.{◌≡◌, ◌∙◌, List, ℕ, Ok, Err, ap, sym, subst, rules}
+use Rattle.std.proofs.Common.{◌≡◌, ◌∙◌, List, ℕ, Err, ap, sym, subst, rules}
 use Rattle.hls_boxes_laws.specs.Parts.{text_fault}
 use Rattle.hls_feed.specs.Steps.{Drains}
-use Rattle.hls_feed.proofs.FeedLaws.{broken_behind, fault_before, goes_behind, refusal_is, stops_behind}
+use Rattle.hls_feed.proofs.FeedLaws.{broken_behind, goes_behind, stops_before}
 use Rattle.hls_feed.proofs.stream.feed.Goals as goal
 
 pub returns-in-Ok-clause-feeds : goal.returns-in-Ok-clause-feeds
@@ -21,10 +21,9 @@ returns-in_err-drain-in_default g c =
       fits = c.drain-in_default.ensures.fits;
       goes = c.drain-in_default.ensures.goes;
       feeds = λ start content reached.
-          let fed = refusal_is c.in-Err.fault c.args.reader.now c.args.piece.now c.feed.new.self (fault_before content c.args.reader.now reached.left reached.taken.no_fault) c.in_default.not-Memory c.in-Err.ensures.err in
           rw is
-          (stops_behind (g.T.Taker.comes c.args.taker.now) start x y content c.args.reader.now c.args.piece.now c.drain-in_default.new.reader c.drain-in_default.new.reader c.in_err-drain-in_default.field-0.0 reached
-          (subst (λ (text : List ℕ). Drains (g.T.Taker.comes c.args.taker.now) text c.drain-in_default.new.reader x y (Err c.in_err-drain-in_default.field-0.0)) fed.0 c.in_err-drain-in_default.ensures.drains));
+          (stops_before (g.T.Taker.comes c.args.taker.now) start x y content c.args.reader.now c.args.piece.now c.feed.new.self c.drain-in_default.new.reader c.in-Err.fault c.in_err-drain-in_default.field-0.0
+          c.in_default.not-Memory c.in-Err.ensures.err reached c.in_err-drain-in_default.ensures.drains);
     }
 
 pub returns-in_ok-drain-in_default : goal.returns-in_ok-drain-in_default
@@ -34,8 +33,6 @@ returns-in_ok-drain-in_default g c =
       fits = c.drain-in_default.ensures.fits;
       goes = c.drain-in_default.ensures.goes;
       feeds = λ start content reached.
-          let fed = refusal_is c.in-Err.fault c.args.reader.now c.args.piece.now c.feed.new.self (fault_before content c.args.reader.now reached.left reached.taken.no_fault) c.in_default.not-Memory c.in-Err.ensures.err in
-          broken_behind (g.T.Taker.comes c.args.taker.now) start x y content c.args.reader.now c.args.piece.now c.drain-in_default.new.reader c.in-Err.fault reached
-          (ap text_fault (sym fed.0) ∙ fed.1)
-          (subst (λ (text : List ℕ). Drains (g.T.Taker.comes c.args.taker.now) text c.drain-in_default.new.reader x y (Ok tt)) fed.0 c.in_ok-drain-in_default.ensures.drains);
+          broken_behind (g.T.Taker.comes c.args.taker.now) start x y content c.args.reader.now c.args.piece.now c.feed.new.self c.drain-in_default.new.reader c.in-Err.fault
+          c.in_default.not-Memory c.in-Err.ensures.err reached c.in_ok-drain-in_default.ensures.drains;
     }
