@@ -52,7 +52,3 @@ takes buffer from start end len room texts ordered are few =
 
 pub count_of : (read : ℕ) (behind : List ℕ) → read ≤ length behind → length (take read behind) ≡ read
 count_of read behind fits = omega (arith, length-take read behind)
-
-pub read_failed : (held now : List ℕ) (old left : Option (List ℕ)) → now ≡ held → Keeps old left → Reads held now old left Failed
-read_failed held now old left same keeps =
-    record { bytes = []; behind = same ∙ sym (append-nil held); consumes = Consumes-kept old old left [] (Consumes-nil old) keeps; brings = refl }

@@ -29,9 +29,6 @@ more_digits (c ∷ bs) (suc i) below front good = go (is_ascii_digit c) (λ e. m
 pub more_value : (bs : List ℕ) (i : ℕ) → i < length bs → IsAsciiDigit (get_or bs i 0) → digits_value 10 (take (i + 1) bs) ≡ digits_value 10 (take i bs) * 10 + (get_or bs i 0 - 48)
 more_value bs i below digit = omega (arith, digits_value_more 10 bs i below, digit_value_digit (get_or bs i 0) digit)
 
-pub digit_range : (c : ℕ) → is_ascii_digit c ≡ true → (48 ≤ c) × (c ≤ 57)
-digit_range c is = grind arith
-
 -- capped before and after one more digit
 pub capped_more : (value digit most : ℕ) → min (min value most * 10 + digit) most ≡ min (value * 10 + digit) most
 capped_more value digit most = omega arith

@@ -13,9 +13,6 @@ pub record Sent (held text waiting : List ℕ) (contents : Option (List ℕ)) : 
   pub split : text ≡ written ++ waiting
   pub contents_are : contents ≡ Some (held ++ written)
 
-pub none_sent : (held text : List ℕ) (contents : Option (List ℕ)) → contents ≡ Some held → Sent held text text contents
-none_sent held text contents known = record { written = []; split = refl; contents_are = known ∙ ap Some (sym (append-nil held)) }
-
 -- what waits is the chunk, and then what is behind it
 chunk_first : (waiting chunk : List ℕ) → IsChunkOf chunk waiting → waiting ≡ chunk ++ drop (length chunk) waiting
 chunk_first waiting chunk is = sym (take-append-drop (length chunk) waiting) ∙ ap (λ xs. xs ++ drop (length chunk) waiting) is.front

@@ -1,5 +1,5 @@
 -- What one read brings.
-use Rattle.std.specs.Prelude.{◌≡◌, ℕ, ◌<◌, List, [], ◌++◌, length, Option, Result, Ok, Err}
+use Rattle.std.specs.Prelude.{◌≡◌, ℕ, ◌<◌, List, [], ◌++◌, length, slice_range, Option, Result, Ok, Err}
 use Rattle.std.specs.Io.KnownBytes.{Consumes, IsAtEnd, Keeps}
 use Rattle.hls_io.specs.Rose.{Rose}
 use Rattle.hls_http.specs.declared.input.Filled.{Filled}
@@ -28,3 +28,7 @@ abbrev pub Came : {E : Type 0} → List ℕ → List ℕ → Option (List ℕ) �
 Came old new before left (Ok n) =
     (bytes : List ℕ) × (length bytes ≡ n) × (new ≡ old ++ bytes) × Consumes before left bytes × (n ≡ 0 → IsAtEnd left)
 Came old new before left (Err e) = (new ≡ old) × Keeps before left
+
+-- .. and they all stand from one place of a buffer to another
+abbrev pub CameBehind : {E : Type 0} → List ℕ → List ℕ → ℕ → ℕ → Option (List ℕ) → Option (List ℕ) → Result ℕ E → Type 0
+CameBehind old buffer from until before left read = Came old (slice_range buffer from until) before left read

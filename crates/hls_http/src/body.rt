@@ -118,19 +118,10 @@ fn find_size(held: &[u8]) -> Result<Move, Lack>
     ensures { Moves Body.Size held.now result }
 {
     match parse_chunk_size(held) {
-        Ok(Status::Complete((len, size))) => {
-            if len > MOST_HEAD {
-                return Err(Lack::Bad);
-            }
-            Ok(Move::Frame(len, after_size(size)))
-        }
-        Ok(Status::Partial) => {
-            if held.len() < MOST_HEAD {
-                Err(Lack::Wait)
-            } else {
-                Err(Lack::Bad)
-            }
-        }
+        Ok(Status::Complete((len, _))) if len > MOST_HEAD => Err(Lack::Bad),
+        Ok(Status::Complete((len, size))) => Ok(Move::Frame(len, after_size(size))),
+        Ok(Status::Partial) if held.len() < MOST_HEAD => Err(Lack::Wait),
+        Ok(Status::Partial) => Err(Lack::Bad),
         Err(_) => Err(Lack::Bad),
     }
 }
@@ -141,19 +132,10 @@ fn find_trailers(held: &[u8]) -> Result<Move, Lack>
 {
     let mut headers = [EMPTY_HEADER_SPAN; MOST_FIELDS];
     match parse_headers(held, &mut headers) {
-        Ok(Status::Complete((len, _))) => {
-            if len > MOST_HEAD {
-                return Err(Lack::Bad);
-            }
-            Ok(Move::Frame(len, Body::Length(0)))
-        }
-        Ok(Status::Partial) => {
-            if held.len() < MOST_HEAD {
-                Err(Lack::Wait)
-            } else {
-                Err(Lack::Bad)
-            }
-        }
+        Ok(Status::Complete((len, _))) if len > MOST_HEAD => Err(Lack::Bad),
+        Ok(Status::Complete((len, _))) => Ok(Move::Frame(len, Body::Length(0))),
+        Ok(Status::Partial) if held.len() < MOST_HEAD => Err(Lack::Wait),
+        Ok(Status::Partial) => Err(Lack::Bad),
         Err(_) => Err(Lack::Bad),
     }
 }

@@ -119,19 +119,10 @@ pub fn find_head(text: &[u8]) -> Result<(Head, usize), Look>
 {
     let mut headers = [EMPTY_HEADER_SPAN; MOST_FIELDS];
     match parse_request(text, &mut headers) {
-        Ok(Status::Complete(spans)) => {
-            if spans.len > MOST_HEAD {
-                return Err(Look::TooLarge);
-            }
-            Ok((kept(text, &headers, &spans), spans.len))
-        }
-        Ok(Status::Partial) => {
-            if text.len() < MOST_HEAD {
-                Err(Look::Partial)
-            } else {
-                Err(Look::TooLarge)
-            }
-        }
+        Ok(Status::Complete(spans)) if spans.len > MOST_HEAD => Err(Look::TooLarge),
+        Ok(Status::Complete(spans)) => Ok((kept(text, &headers, &spans), spans.len)),
+        Ok(Status::Partial) if text.len() < MOST_HEAD => Err(Look::Partial),
+        Ok(Status::Partial) => Err(Look::TooLarge),
         Err(Error::TooManyHeaders) => Err(Look::TooLarge),
         Err(_) => Err(Look::Hopeless),
     }

@@ -3,7 +3,7 @@
 ghost use Rattle.std.specs.Prelude.{◌≡◌, ◌≢◌, ◌<◌, ◌≤◌, ◌==◌, length, take, drop, slice_range, IfOk, OnOk, OnErr};
 ghost use Rattle.std.specs.Io.KnownBytes.{Consumes, IsAtEnd, Keeps};
 ghost use Rattle.hls_io.specs.Counted.{calls_left, failures_of, inside_of};
-ghost use Rattle.hls_http.specs.Input.{Came, CountsFill, Reads};
+ghost use Rattle.hls_http.specs.Input.{Came, CameBehind, CountsFill, Reads};
 
 use hls_io::Counted;
 use std::alloc::{AllocError, Global};
@@ -98,7 +98,7 @@ fn read_on<R: Read>(
     requires ordered { start ≤ end }
     requires within { end ≤ length buffer.old }
     requires few { length (slice_range buffer.old start end) < length buffer.old }
-    ensures came { Came (slice_range buffer.old start end) (slice_range buffer.new result.1 result.2) (R.remaining reader.old) (R.remaining reader.new) result.0 }
+    ensures came { CameBehind (slice_range buffer.old start end) buffer.new result.1 result.2 (R.remaining reader.old) (R.remaining reader.new) result.0 }
     ensures ordered { result.1 ≤ result.2 }
     ensures within { result.2 ≤ length buffer.new }
 {
