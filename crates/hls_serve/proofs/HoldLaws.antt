@@ -1,5 +1,5 @@
 -- What holds of a connection, from one step to the next.
-use Rattle.std.proofs.Common.{◌≡◌, ◌∙◌, ◌⊎◌, ℕ, zero, ◌+◌, ◌<◌, Bool, true, false, List, [], ◌∷◌, ◌++◌, length, flat_map, Option, Some, None, IsTrue, inl, inr, refl, sym, ap, subst, arith, append_assoc, append-nil, rules}
+use Rattle.std.proofs.Common.{◌≡◌, ◌∙◌, ◌⊎◌, ℕ, zero, ◌+◌, Bool, true, false, List, [], ◌∷◌, ◌++◌, length, flat_map, Option, Some, None, IsTrue, inl, inr, refl, sym, ap, subst, arith, append_assoc, append-nil, rules}
 use Rattle.std.proofs.lemmas.Grind.{flat_map-append}
 use Rattle.httparse.specs.Grammar.{RequestHead}
 use Rattle.hls_feed.specs.Streams.{Reached}
@@ -10,7 +10,7 @@ use Rattle.hls_http_laws.specs.declared.fault.HttpFault.{HttpFault}
 use Rattle.hls_http_laws.specs.declared.plan.Plan.{Plan}
 use Rattle.hls_http_laws.specs.declared.plan.Plan.TheVariants.{Refuse, Feed, Skip}
 use Rattle.hls_http_laws.specs.Bodies.{IsOpen, Runs}
-use Rattle.hls_http_laws.specs.Heads.{ReadsSmall, IsUnfinished}
+use Rattle.hls_http_laws.specs.Heads.{ReadsSmall}
 use Rattle.hls_http_laws.proofs.Callers.{heads_stay}
 use Rattle.std.proofs.lemmas.Bool.{cond-false}
 use Rattle.std.proofs.Math.Bool.{and-false}
@@ -23,7 +23,7 @@ use Rattle.hls_serve_laws.specs.declared.route.Route.TheVariants as routes
 use Rattle.hls_turn.specs.Passes.{Known}
 use Rattle.hls_serve_laws.specs.Acts.{Act}
 use Rattle.hls_serve_laws.specs.Heard.{Due, FollowsBy, Heard, IsDue, IsDueWithoutHead, RefusesHead, first_of, request_of}
-use Rattle.hls_serve_laws.specs.Connections.{Exchange, Serves, Over, IsWithin, EndsByReply, Stands, IsServed, acts_of, text_of, due_in}
+use Rattle.hls_serve_laws.specs.Connections.{Exchange, Serves, Over, IsAsked, IsWithin, EndsByReply, Stands, IsServed, acts_of, text_of, due_in}
 use Rattle.hls_serve_laws.specs.Ingest.{PartComes, Progress, begun}
 use Rattle.hls_serve_laws.specs.Replies.{fault_answer}
 use Rattle.hls_serve.specs.declared.call.Call.{Call}
@@ -36,7 +36,7 @@ use Rattle.http_server.specs.declared.log.Log.{Log}
 use Rattle.hls_serve.specs.declared.machine.Machine.{Machine}
 use Rattle.hls_serve.specs.declared.machine.State.{State}
 use Rattle.hls_serve.specs.declared.machine.State.TheVariants as states
-use Rattle.hls_serve.specs.Machine.{AtHead, GoesOnIn, Holds, HoldsAt, StandsIn, SuitsIn, asked_in, asked_now, history_by, stage_of, state_behind, total, waited_head}
+use Rattle.hls_serve.specs.Machine.{AtHead, GoesOnIn, Holds, HoldsAt, StandsIn, SuitsIn, asked_in, asked_now, history_by, stage_of, state_behind, total}
 use Rattle.hls_serve.specs.Taken.{progress_of}
 use Rattle.hls_serve.specs.Turns.{IsCall, Replies, end_by}
 use Rattle.hls_serve.specs.Within.{HasBody, IsDropping, IsFeeding, RepliesTo}
@@ -97,32 +97,23 @@ module _ (count : ℕ) (received sent : List ℕ) (ended : Bool) (asked acts : L
   -- the connection is over
   ends_by : (due : Due) → due.closing ≡ true → due.text ≡ first ++ text → Heard count rest acts due unread ⊎ (RefusesHead rest due × (acts ≡ []) × (unread ≡ rest))
       → Holds count (state_behind (end_by true due.success)) (history_by received ended unread (asked ++ acts) sent text)
-  ends_by due closing is heard = by due.success refl
+  ends_by due closing is heard = record {
+    over = over;
+    rest = rest;
+    serves = serves;
+    acts = acts;
+    asked_is = ap (λ (t : List Act). t ++ acts) asked_is;
+    text = due.text;
+    written = grown due is;
+    stands = by due.success refl;
+  }
     where
       at : (success : Bool) → due.success ≡ success → EndsByReply count success rest acts due.text unread
       at success same = record { due = due; closing = closing; success_is = same; text_is = refl; heard = heard }
 
-      by : (success : Bool) → due.success ≡ success → Holds count (state_behind (end_by true success)) (history_by received ended unread (asked ++ acts) sent text)
-      by true same = record {
-        over = over;
-        rest = rest;
-        serves = serves;
-        acts = acts;
-        asked_is = ap (λ (t : List Act). t ++ acts) asked_is;
-        text = due.text;
-        written = grown due is;
-        stands = inr (at true same);
-      }
-      by false same = record {
-        over = over;
-        rest = rest;
-        serves = serves;
-        acts = acts;
-        asked_is = ap (λ (t : List Act). t ++ acts) asked_is;
-        text = due.text;
-        written = grown due is;
-        stands = at false same;
-      }
+      by : (success : Bool) → due.success ≡ success → StandsIn (state_behind (end_by true success)) count ended rest acts due.text unread
+      by true same = inr (at true same)
+      by false same = at false same
 
   pub replied : Replies (λ due. (later : List ℕ) → Heard count (rest ++ later) acts due (unread ++ later)) text end first
       → Holds count (state_behind end) (history_by received ended unread (asked ++ acts) sent text)
@@ -138,7 +129,7 @@ module _ (count : ℕ) (received sent : List ℕ) (ended : Bool) (asked acts : L
           (ends_by r.due closing r.text_is (inl (plainly (λ a b. Heard count a acts r.due b) rest unread r.is)))
 
 -- what can't become a head is refused
-pub head_refused : (count : ℕ) (received sent : List ℕ) (ended : Bool) (asked : List Act) (pending text unread : List ℕ) (end : Option Ending) (fault : HttpFault)
+head_refused : (count : ℕ) (received sent : List ℕ) (ended : Bool) (asked : List Act) (pending text unread : List ℕ) (end : Option Ending) (fault : HttpFault)
     → length pending ≡ 0 → Holds count states.Head (history_by received ended unread asked sent pending)
     → ((due : Due) → IsDueWithoutHead fault due → RefusesHead unread due) → Replies (IsDueWithoutHead fault) text end []
     → Holds count (state_behind end) (history_by received ended unread asked sent text)
@@ -158,31 +149,6 @@ head_refused count received sent ended asked pending text unread end fault empty
     closes due (inr is) = ap (λ (d : Due). d.closing) is
 
 -- ---- a head
-
--- none stands there yet
-pub head_waits : (count : ℕ) (received sent : List ℕ) (asked : List Act) (pending unread : List ℕ) (empty : Bool) → length pending ≡ 0
-    → Holds count states.Head (history_by received true unread asked sent pending) → IsUnfinished unread → (IsTrue empty → unread ≡ []) → (empty ≡ false → 0 < length unread)
-    → Holds count (waited_head empty true) (history_by received true unread asked sent pending)
-head_waits count received sent asked pending unread true nothing h unfinished is_empty some = record {
-  over = h.over;
-  rest = h.rest;
-  serves = h.serves;
-  acts = h.acts;
-  asked_is = h.asked_is;
-  text = h.text;
-  written = h.written;
-  stands = inl (yes, sym h.stands.0 ∙ is_empty yes, h.stands);
-}
-head_waits count received sent asked pending unread false nothing h unfinished is_empty some = record {
-  over = h.over;
-  rest = h.rest;
-  serves = h.serves;
-  acts = h.acts;
-  asked_is = h.asked_is;
-  text = h.text;
-  written = h.written;
-  stands = (yes, inl (subst IsUnfinished h.stands.0 unfinished, subst (λ (t : List ℕ). 0 < length t) h.stands.0 (some refl), h.stands));
-}
 
 pub head_found : (count : ℕ) (received sent : List ℕ) (ended : Bool) (asked : List Act) (pending unread rest : List ℕ) (call : Call) (h : RequestHead) → length pending ≡ 0
     → Holds count states.Head (history_by received ended unread asked sent pending) → ReadsSmall unread h rest → IsCall count h call → AtHead count received sent asked call rest
@@ -278,135 +244,85 @@ module _ (count : ℕ) (received sent : List ℕ) (ended : Bool) (asked : List A
 
 -- ---- a body
 
-abbrev within_drop : (count : ℕ) (stream first : List ℕ) (d : Dropping) (unread : List ℕ) → IsDropping count stream first d unread → IsWithin count stream [] first unread
-within_drop count stream first d unread x = record {
-  head = x.at.head;
-  behind = x.at.behind;
-  reads = plainly (λ a b. ReadsSmall a x.at.head b) stream x.at.behind x.at.reads;
-  body = x.at.body;
-  content = x.at.content;
-  last = d.body;
-  runs = plainly (λ a b. Runs x.at.body a x.at.content d.body b) x.at.behind unread x.at.runs;
-  asked = inl (x.at.plan_is, refl);
-  text_is = x.at.first_is;
+abbrev within : {count : ℕ} {stream first : List ℕ} {call : Call} {plan : Body → Plan} {last : Body} {unread : List ℕ} (acts : List Act) (at : HasBody count stream first call plan last unread)
+    → IsAsked count at.head at.body at.content acts → IsWithin count stream acts first unread
+within {stream} {last} {unread} acts at asked = record {
+  head = at.head;
+  behind = at.behind;
+  reads = plainly (λ a b. ReadsSmall a at.head b) stream at.behind at.reads;
+  body = at.body;
+  content = at.content;
+  last = last;
+  runs = plainly (λ a b. Runs at.body a at.content last b) at.behind unread at.runs;
+  asked = asked;
+  text_is = at.first_is;
 }
 
-abbrev within_feed : (count : ℕ) (stream first : List ℕ) (f : Feeding) (unread : List ℕ) → IsFeeding count stream first f unread → IsWithin count stream f.taken.acts first unread
-within_feed count stream first f unread x = record {
-  head = x.at.head;
-  behind = x.at.behind;
-  reads = plainly (λ a b. ReadsSmall a x.at.head b) stream x.at.behind x.at.reads;
-  body = x.at.body;
-  content = x.at.content;
-  last = f.body;
-  runs = plainly (λ a b. Runs x.at.body a x.at.content f.body b) x.at.behind unread x.at.runs;
-  asked = inr (x.at.plan_is, (f.rendition, sym x.at.is_call.route ∙ x.route, (progress_of f.taken, x.reached.taken, refl)));
-  text_is = x.at.first_is;
-}
+abbrev within_drop : {count : ℕ} {stream first : List ℕ} {d : Dropping} {unread : List ℕ} → IsDropping count stream first d unread → IsWithin count stream [] first unread
+within_drop x = within [] x.at (inl (x.at.plan_is, refl))
+
+abbrev within_feed : {count : ℕ} {stream first : List ℕ} {f : Feeding} {unread : List ℕ} → IsFeeding count stream first f unread → IsWithin count stream f.taken.acts first unread
+within_feed {f} x = within f.taken.acts x.at (inr (x.at.plan_is, (f.rendition, sym x.at.is_call.route ∙ x.route, (progress_of f.taken, x.reached.taken, refl))))
 
 -- nothing was asked for the body beside what its state says
 only_over : (asked : List Act) (over : List Exchange) (acts : List Act) → asked ≡ acts_of over ++ acts → acts ≡ [] → asked ≡ acts_of over
 only_over asked over acts is empty = is ∙ ap (λ (t : List Act). acts_of over ++ t) empty ∙ append-nil (acts_of over)
 
-module _ {count : ℕ} {received sent : List ℕ} {ended : Bool} {asked : List Act} {pending : List ℕ} where
-  -- the body goes on
-  pub drop_goes : {d g : Dropping} {unread rest : List ℕ} → ((stream first : List ℕ) → IsDropping count stream first d unread → IsDropping count stream first g rest)
-      → Holds count (states.Drop d) (history_by received ended unread asked sent pending) → Holds count (states.Drop g) (history_by received ended rest asked sent pending)
-  drop_goes goes h =
-      record { over = h.over; rest = h.rest; serves = h.serves; acts = h.acts; asked_is = h.asked_is; text = h.text; written = h.written; stands = (goes h.rest h.text h.stands.0, h.stands.1) }
+-- the requests that are over were answered as before, and then it stands so
+pub stands_so : {count : ℕ} {received sent : List ℕ} {ended now : Bool} {old : State} {asked : List Act} {pending unread rest : List ℕ} (new : State)
+    (h : Holds count old (history_by received ended unread asked sent pending)) → StandsIn new count now h.rest h.acts h.text rest
+    → Holds count new (history_by received now rest asked sent pending)
+stands_so new h stands =
+    record { over = h.over; rest = h.rest; serves = h.serves; acts = h.acts; asked_is = h.asked_is; text = h.text; written = h.written; stands = stands }
 
-  pub feed_goes : {f g : Feeding} {unread rest : List ℕ} → ((stream first : List ℕ) → IsFeeding count stream first f unread → IsFeeding count stream first g rest)
-      → Holds count (states.Feed f) (history_by received ended unread asked sent pending) → Holds count (states.Feed g) (history_by received ended rest asked sent pending)
-  feed_goes goes h =
-      record { over = h.over; rest = h.rest; serves = h.serves; acts = h.acts; asked_is = h.asked_is; text = h.text; written = h.written; stands = (goes h.rest h.text h.stands.0, h.stands.1) }
-
-  -- the reply to it
-  pub drop_replied : {d : Dropping} {unread rest text : List ℕ} {acts : List Act} {end : Option Ending} → length pending ≡ 0
-      → ((stream first : List ℕ) → IsDropping count stream first d unread → RepliesTo count stream first acts rest text end)
-      → Holds count (states.Drop d) (history_by received ended unread asked sent pending) → Holds count (state_behind end) (history_by received ended rest (asked ++ acts) sent text)
-  drop_replied {d} {unread} {rest} {text} {acts} {end} empty replies h =
-      replied count received sent ended asked acts text rest end h.over h.rest h.text h.serves (only_over asked h.over h.acts h.asked_is h.stands.1)
-      (all_sent sent pending _ empty h.written) (replies h.rest h.text h.stands.0)
-
-  pub feed_replied : {f : Feeding} {unread rest text : List ℕ} {acts : List Act} {end : Option Ending} → length pending ≡ 0
-      → ((stream first : List ℕ) → IsFeeding count stream first f unread → RepliesTo count stream first acts rest text end)
-      → Holds count (states.Feed f) (history_by received ended unread asked sent pending) → Holds count (state_behind end) (history_by received ended rest (asked ++ acts) sent text)
-  feed_replied {f} {unread} {rest} {text} {acts} {end} empty replies h =
-      replied count received sent ended asked acts text rest end h.over h.rest h.text h.serves (only_over asked h.over h.acts h.asked_is h.stands.1)
-      (all_sent sent pending _ empty h.written) (replies h.rest h.text h.stands.0)
+-- the reply to a body
+pub body_replied : {count : ℕ} {received sent : List ℕ} {ended : Bool} {old : State} {asked : List Act} {pending unread rest text : List ℕ} {acts : List Act} {end : Option Ending} → length pending ≡ 0
+    → (h : Holds count old (history_by received ended unread asked sent pending)) → h.acts ≡ [] → RepliesTo count h.rest h.text acts rest text end
+    → Holds count (state_behind end) (history_by received ended rest (asked ++ acts) sent text)
+body_replied {count} {received} {sent} {ended} {old} {asked} {pending} {unread} {rest} {text} {acts} {end} empty h nothing replies =
+    replied count received sent ended asked acts text rest end h.over h.rest h.text h.serves (only_over asked h.over h.acts h.asked_is nothing) (all_sent sent pending _ empty h.written) replies
 
 -- the input's end cuts a body short
-module _ {count : ℕ} {received sent : List ℕ} {asked : List Act} {pending : List ℕ} where
-  pub drop_cut : {d g : Dropping} {unread rest : List ℕ} → ((stream first : List ℕ) → IsDropping count stream first d unread → IsDropping count stream first g rest × IsOpen g.body rest)
-      → Holds count (states.Drop d) (history_by received true unread asked sent pending) → Holds count (states.Over own.CutShort) (history_by received true rest asked sent pending)
-  drop_cut {d} {g} {unread} {rest} waits h =
-      let w = waits h.rest h.text h.stands.0 in
-      let within = within_drop count h.rest h.text g rest w.0 in
-      let stands : Stands (Over ends.CutShort) count true h.rest h.acts h.text rest =
-      subst (λ (t : List Act). Stands (Over ends.CutShort) count true h.rest t h.text rest) (sym h.stands.1) (yes, inr (record { within = within; unfinished = w.1 })) in
-      record { over = h.over; rest = h.rest; serves = h.serves; acts = h.acts; asked_is = h.asked_is; text = h.text; written = h.written; stands = stands }
+module _ {count : ℕ} {received sent : List ℕ} {asked : List Act} {pending unread rest : List ℕ} where
+  pub drop_cut : {d g : Dropping} (h : Holds count (states.Drop d) (history_by received true unread asked sent pending)) → IsDropping count h.rest h.text g rest → IsOpen g.body rest
+      → Holds count (states.Over own.CutShort) (history_by received true rest asked sent pending)
+  drop_cut h x unfinished =
+      stands_so (states.Over own.CutShort) h
+      (subst (λ (t : List Act). Stands (Over ends.CutShort) count true h.rest t h.text rest) (sym h.stands.1) (yes, inr (record { within = within_drop x; unfinished = unfinished })))
 
-  pub feed_cut : {f g : Feeding} {unread rest : List ℕ} → ((stream first : List ℕ) → IsFeeding count stream first f unread → IsFeeding count stream first g rest × IsOpen g.body rest)
-      → Holds count (states.Feed f) (history_by received true unread asked sent pending) → Holds count (states.Over own.CutShort) (history_by received true rest (asked ++ g.taken.acts) sent pending)
-  feed_cut {f} {g} {unread} {rest} waits h =
-      let w = waits h.rest h.text h.stands.0 in
-      let within = within_feed count h.rest h.text g rest w.0 in
-      let acts : List Act = g.taken.acts in
-      record {
-        over = h.over;
-        rest = h.rest;
-        serves = h.serves;
-        acts = acts;
-        asked_is = ap (λ (t : List Act). t ++ acts) (h.asked_is ∙ ap (λ (t : List Act). acts_of h.over ++ t) h.stands.1 ∙ append-nil (acts_of h.over));
-        text = h.text;
-        written = h.written;
-        stands = (yes, inr (record { within = within; unfinished = w.1 }));
-      }
+  pub feed_cut : {f g : Feeding} (h : Holds count (states.Feed f) (history_by received true unread asked sent pending)) → IsFeeding count h.rest h.text g rest → IsOpen g.body rest
+      → Holds count (states.Over own.CutShort) (history_by received true rest (asked ++ g.taken.acts) sent pending)
+  feed_cut {f} {g} h x unfinished = record {
+    over = h.over;
+    rest = h.rest;
+    serves = h.serves;
+    acts = g.taken.acts;
+    asked_is = ap (λ (t : List Act). t ++ g.taken.acts) (only_over asked h.over h.acts h.asked_is h.stands.1);
+    text = h.text;
+    written = h.written;
+    stands = (yes, inr (record { within = within_feed x; unfinished = unfinished }));
+  }
 
 -- ---- what holds, in the words of connections
 
 pub served_of : (count : ℕ) (received sent : List ℕ) (ended : Bool) (state : State) (asked : List Act) (pending unread : List ℕ) → Holds count state (history_by received ended unread asked sent pending)
     → IsServed count (stage_of state) (record { received = received; ended = ended; unread = unread; acts = asked ++ asked_now state; sent = sent; pending = pending })
-served_of count received sent ended states.Head asked pending unread h = record {
-  over = h.over;
-  rest = h.rest;
-  serves = h.serves;
-  acts = h.acts;
-  asked = append-nil asked ∙ h.asked_is;
-  text = h.text;
-  written = h.written;
-  stands = h.stands;
-}
-served_of count received sent ended (states.Drop d) asked pending unread h = record {
-  over = h.over;
-  rest = h.rest;
-  serves = h.serves;
-  acts = [];
-  asked = append-nil asked ∙ h.asked_is ∙ ap (λ (t : List Act). acts_of h.over ++ t) h.stands.1;
-  text = h.text;
-  written = h.written;
-  stands = within_drop count h.rest h.text d unread h.stands.0;
-}
-served_of count received sent ended (states.Feed f) asked pending unread h = record {
-  over = h.over;
-  rest = h.rest;
-  serves = h.serves;
-  acts = f.taken.acts;
-  asked = ap (λ (t : List Act). t ++ f.taken.acts) (h.asked_is ∙ ap (λ (t : List Act). acts_of h.over ++ t) h.stands.1 ∙ append-nil (acts_of h.over));
-  text = h.text;
-  written = h.written;
-  stands = within_feed count h.rest h.text f unread h.stands.0;
-}
-served_of count received sent ended (states.Over end) asked pending unread h = record {
-  over = h.over;
-  rest = h.rest;
-  serves = h.serves;
-  acts = h.acts;
-  asked = append-nil asked ∙ h.asked_is;
-  text = h.text;
-  written = h.written;
-  stands = h.stands;
-}
+served_of count received sent ended state asked pending unread h = by state h
+  where
+    so : (state : State) (h : Holds count state (history_by received ended unread asked sent pending)) (acts : List Act) → asked ++ asked_now state ≡ acts_of h.over ++ acts
+        → Stands (stage_of state) count ended h.rest acts h.text unread
+        → IsServed count (stage_of state) (record { received = received; ended = ended; unread = unread; acts = asked ++ asked_now state; sent = sent; pending = pending })
+    so state h acts is stands =
+        record { over = h.over; rest = h.rest; serves = h.serves; acts = acts; asked = is; text = h.text; written = h.written; stands = stands }
+
+    by : (state : State) → Holds count state (history_by received ended unread asked sent pending)
+        → IsServed count (stage_of state) (record { received = received; ended = ended; unread = unread; acts = asked ++ asked_now state; sent = sent; pending = pending })
+    by states.Head h = so states.Head h h.acts (append-nil asked ∙ h.asked_is) h.stands
+    by (states.Drop d) h =
+        so (states.Drop d) h [] (append-nil asked ∙ h.asked_is ∙ ap (λ (t : List Act). acts_of h.over ++ t) h.stands.1) (within_drop h.stands.0)
+    by (states.Feed f) h =
+        so (states.Feed f) h f.taken.acts (ap (λ (t : List Act). t ++ f.taken.acts) (only_over asked h.over h.acts h.asked_is h.stands.1)) (within_feed h.stands.0)
+    by (states.Over end) h = so (states.Over end) h h.acts (append-nil asked ∙ h.asked_is) h.stands
 
 -- ---- more is received, and handed out
 
@@ -459,16 +375,8 @@ stands_ended (states.Over end) count stream acts text unread going s = absurd go
 
 pub holds_ended : {count : ℕ} {received sent : List ℕ} {state : State} {asked : List Act} {pending unread : List ℕ} → GoesOnIn state
     → Holds count state (history_by received false unread asked sent pending) → Holds count state (history_by received true unread asked sent pending)
-holds_ended {count} {received} {sent} {state} {asked} {pending} {unread} going h = record {
-  over = h.over;
-  rest = h.rest;
-  serves = h.serves;
-  acts = h.acts;
-  asked_is = h.asked_is;
-  text = h.text;
-  written = h.written;
-  stands = stands_ended state count h.rest h.acts h.text unread going h.stands;
-}
+holds_ended {count} {received} {sent} {state} {asked} {pending} {unread} going h =
+    stands_so state h (stands_ended state count h.rest h.acts h.text unread going h.stands)
 
 -- so much of what waits was handed out
 pub holds_sent : {count : ℕ} {received sent : List ℕ} {ended : Bool} {state : State} {asked : List Act} {pending unread : List ℕ} (gone waits : List ℕ) → pending ≡ gone ++ waits
@@ -496,6 +404,14 @@ holds_at {count} {received} {sent} {ended} {state} {asked} {pending} {unread} m 
 
 pub asked_same : (m n : Machine) → n.asked ≡ m.asked → asked_in n ≡ asked_in m
 asked_same m n is = ap (λ (log : Log (List Act) (Unit {0})). flat_map (λ acts. acts.0) log.items) is
+
+-- a machine behind the refusal of what can't become a head
+pub head_refuses : (m n : Machine) (received sent : List ℕ) (ended : Bool) (text unread : List ℕ) (end : Option Ending) (fault : HttpFault) → m.state ≡ states.Head → length m.output ≡ 0
+    → n.renditions ≡ m.renditions → n.state ≡ state_behind end → n.asked ≡ m.asked → n.output ≡ text → ((due : Due) → IsDueWithoutHead fault due → RefusesHead unread due)
+    → Replies (IsDueWithoutHead fault) text end [] → HoldsAt received ended sent m unread → HoldsAt received ended sent n unread
+head_refuses m n received sent ended text unread end fault head empty count state asked output refuses r h =
+    let at = subst (λ (s : State). Holds m.renditions s (history_by received ended unread (asked_in m) sent m.output)) head h in
+    holds_at n count state (asked_same m n asked) output (head_refused m.renditions received sent ended (asked_in m) m.output text unread end fault empty at refuses r)
 
 -- one request's acts more
 pub asked_more : {B : Type 0} (old new : List (List Act × B)) (acts : List Act) (u : B) → new ≡ old ++ (acts, u) ∷ [] → flat_map (λ x. x.0) new ≡ flat_map (λ x. x.0) old ++ acts

@@ -1,30 +1,23 @@
 -- What a keeper has seen, from one act to the next, and what its acts come to.
-use Rattle.std.proofs.Common.{◌≡◌, ℕ, Some, None, Option, slice_get, Ok, Err, inl, inr, List, [], ◌∷◌, ◌++◌, map, refl, sym, subst, ap, ◌∙◌, append_assoc}
+use Rattle.std.proofs.Common.{◌≡◌, ℕ, Some, Option, Ok, Err, inl, inr, List, [], ◌∷◌, ◌++◌, map, refl, sym, subst, ap, ◌∙◌, append_assoc}
 use Rattle.std.proofs.lemmas.List.{map-append}
 use Rattle.std.proofs.lemmas.List.Elements.{All-cons, All-nil}
 use Rattle.hls_media_laws.specs.InitData.{InitData}
 use Rattle.hls_media_laws.specs.declared.facts.Facts.{Facts}
-use Rattle.hls_media_laws.specs.Meaning.{IsInit, IsUnit}
+use Rattle.hls_media_laws.specs.Meaning.{IsUnit}
 use Rattle.hls_core_laws.specs.declared.event.Event.{Event}
-use Rattle.hls_core_laws.specs.declared.event.Event.TheVariants.{Begin, Accept}
+use Rattle.hls_core_laws.specs.declared.event.Event.TheVariants.{Accept}
 use Rattle.hls_core_laws.specs.declared.refusal.Refusal.{Refusal}
 use Rattle.hls_core_laws.specs.declared.refusal.Refusal.TheVariants as refusals
-use Rattle.hls_record.specs.Recorded.{Recorded}
-use Rattle.hls_core.specs.Reads.{recorded_at, recorded_from, recording_of}
-use Rattle.hls_core_laws.specs.Channel.{Lane}
-use Rattle.hls_core_laws.specs.Outcome.{held}
-use Rattle.hls_core_laws.specs.State.{State, Held, channel}
+use Rattle.hls_core_laws.specs.State.{State}
 use Rattle.hls_core_laws.specs.IsState.{IsState}
 use Rattle.hls_core_laws.specs.Moves.{IsFittingAsSeen}
 use Rattle.hls_core_laws.specs.Follows.{Follows}
 use Rattle.hls_core_laws.proofs.Callers.{inits_stay}
 use Rattle.hls_turn.specs.Passes.{Known}
 use Rattle.hls_boxes_laws.specs.declared.part.Part.TheVariants as parts
-use Rattle.hls_feed.specs.declared.fault.StreamFault.{StreamFault}
-use Rattle.hls_feed.specs.declared.fault.Untaken.{Untaken}
-use Rattle.hls_feed.specs.declared.fault.Untaken.TheVariants as untaken
-use Rattle.hls_serve_laws.specs.Acts.{Act, Acted, ActsInVain, IsVain, Leads, Looked, LookedInVain, Looks, Submitted, Submits}
-use Rattle.hls_serve_laws.specs.Ingest.{Progress, FindsInit, PartComes, RefusesUnit}
+use Rattle.hls_serve_laws.specs.Acts.{Act, Acted, ActsInVain, IsVain, Leads, Looked, Looks, Submitted, Submits}
+use Rattle.hls_serve_laws.specs.Ingest.{Progress, FindsInit, PartComes}
 use Rattle.hls_serve_laws.proofs.Callers.{acted_follows}
 use Rattle.hls_serve.specs.declared.acts.Noted.{Noted}
 use Rattle.hls_serve.specs.Noted.{act_in}
@@ -71,20 +64,6 @@ wanted_behind before middle after s event looks submits = record {
   each = All-cons IsVain (Looked s) (Submitted event (Err refusals.Memory) ∷ []) tt (All-cons IsVain (Submitted event (Err refusals.Memory)) [] tt (All-nil IsVain));
 }
 
--- a look that showed nothing
-pub looked_vainly : (before after : List Act) → after ≡ before ++ LookedInVain ∷ [] → ActsInVain before after
-looked_vainly before after is = record { acts = LookedInVain ∷ []; grown = is; each = All-cons IsVain LookedInVain [] tt (All-nil IsVain) }
-
--- .. and one behind which memory was wanted
-pub looked_idly : (before after : List Act) (s : State) → Looks before s after → ActsInVain before after
-looked_idly before after s is = record { acts = Looked s ∷ []; grown = is; each = All-cons IsVain (Looked s) [] tt (All-nil IsVain) }
-
--- a refused init section, and a refused unit
-pub init_refused : (r : ℕ) (x y : Progress) (bytes : List ℕ) (init : InitData) (q : Refusal) → IsInit bytes init → y.counts ≡ x.counts
-    → Submits x.acts (Begin r init bytes) (Err q) y.acts → PartComes r x (parts.Init bytes) y (Err (told_as q))
-init_refused r x y bytes init refusals.Memory is counts s = wanted x.acts y.acts (Begin r init bytes) s
-init_refused r x y bytes init q is counts s = (((λ e. cc), (init, is, s)), counts)
-
 unit_wanted : (r : ℕ) (x : Progress) (init : InitData) (z y : List Act) (f : Facts) (bytes : List ℕ) → FindsInit r x init z → Submits z (Accept r f bytes) (Err refusals.Memory) y
     → ActsInVain x.acts y
 unit_wanted r x init z y f bytes (inl same) s =
@@ -96,13 +75,6 @@ pub unit_refused : (r : ℕ) (x y : Progress) (bytes : List ℕ) (init : InitDat
 unit_refused r x y bytes init z f refusals.Memory finds is counts s = unit_wanted r x init z y.acts f bytes finds s
 unit_refused r x y bytes init z f q finds is counts s =
     (inr (record { init = init; looked = z; finds = finds; facts = f; reads = is; told = λ e. cc; submits = s }), counts)
-
--- what is no init section yet is no unit's
-pub unit_without_init : (r : ℕ) (x y : Progress) (bytes : List ℕ) (stops : Untaken) → Finds r x y (Err stops) → PartComes r x (parts.Unit bytes) y (Err stops)
-unit_without_init r x y bytes (untaken.Refused fault) h =
-    let P : StreamFault → Type 0 = λ e. RefusesUnit r x bytes e y.acts × (y.counts ≡ x.counts) in
-    subst P (sym h.1) (inl h.2, h.0)
-unit_without_init r x y bytes untaken.Memory h = h
 
 found_init : (r : ℕ) (x y : Progress) (init : InitData) → Finds r x y (Ok tt) → y.init ≡ Some init → FindsInit r x init y.acts
 found_init r x y init (counts, (i, is, finds)) there =
@@ -132,21 +104,3 @@ pub valid_acted : (a b : Known) (before after : List Act) → Acted a before b a
 valid_acted a b before after acted valid = (acted_follows a b before after valid acted).0
 
 -- ---- the init section of a recording that was shown
-
-by_init : (s : State) (r : ℕ) (rec : Recorded) (l : Lane) (h : Held) (found : Option InitData) → slice_get (channel s).lanes r ≡ Some l → l.init ≡ found
-    → recorded_from found l h ≡ Some rec → HasInit s r rec.init
-by_init s r rec l h None at is same = absurd (cc)
-by_init s r rec l h (Some init) at is same = record { lane = l; at = at; init_is = is ∙ cc }
-
-by_lane : (s : State) (r : ℕ) (rec : Recorded) (h : Held) (found : Option Lane) → slice_get (channel s).lanes r ≡ found → recorded_at found h ≡ Some rec → HasInit s r rec.init
-by_lane s r rec h None at same = absurd (cc)
-by_lane s r rec h (Some l) at same = by_init s r rec l h l.init at refl same
-
-pub found_usable : (r : ℕ) (a b : Known) (before after : List Act) (s : State) (rec : Recorded) (init : InitData) → Acted a before b after → IsState a.seen → b.seen ≡ s
-    → recording_of s r ≡ Some rec → init ≡ rec.init → IsUsable r b (Some init)
-found_usable r a b before after s rec init acted valid seen shown is = record {
-  valid = valid_acted a b before after acted valid;
-  has = λ i same.
-      let of_rec : i ≡ rec.init = cc in
-      subst (λ (t : State). HasInit t r i) (sym seen) (subst (λ (j : InitData). HasInit s r j) (sym of_rec) (by_lane s r rec (held s r) (slice_get (channel s).lanes r) refl shown));
-}

@@ -10,7 +10,7 @@ use Rattle.hls_http_laws.specs.declared.end.SessionEnd.{SessionEnd}
 use Rattle.hls_http_laws.specs.declared.end.SessionEnd.TheVariants as ends
 use Rattle.hls_turn.specs.Passes.{Known}
 use Rattle.hls_serve_laws.specs.Acts.{Act, Acted, Chain}
-use Rattle.hls_serve_laws.specs.Connections.{History, IsServed, Stage, Over}
+use Rattle.hls_serve_laws.specs.Connections.{History, IsServed, Stage, Between, Within, Over}
 use Rattle.hls_serve_laws.specs.Sessions.{EndsSo, GoesOn, Session}
 use Rattle.hls_serve.specs.declared.ending.Ending.{Ending}
 use Rattle.hls_serve.specs.declared.ending.Ending.TheVariants as own
@@ -24,6 +24,7 @@ use Rattle.hls_serve.specs.Machine.{GoesOnIn, IsOver, Rests, asked_in, stage_of,
 use Rattle.hls_serve.specs.Talking.{EndsIn, HasRead, HasWritten}
 use Rattle.hls_serve.specs.Talks.{HoldsOf, received_in, sent_in}
 use Rattle.hls_serve.proofs.HoldLaws.{holds_sent, none, served_of}
+use Rattle.hls_serve.proofs.TalkLaws.{received_same, sent_same}
 
 pub never : IsTrue false → ⊥
 never is = cc
@@ -55,18 +56,18 @@ kept_written None = tt
 kept_written (Some xs) = sym (append-nil xs)
 
 -- nothing was read, or handed out
-pub read_none : (t n : Talk) (left : Option (List ℕ)) → received_in n ≡ received_in t → n.ended ≡ t.ended → HasRead t n left left
-read_none t n left same ended = record {
+pub read_none : (t n : Talk) (left : Option (List ℕ)) → n.came ≡ t.came → n.ended ≡ t.ended → HasRead t n left left
+read_none t n left came ended = record {
   bytes = [];
-  received = same ∙ sym (append-nil (received_in t));
+  received = received_same t n came ∙ sym (append-nil (received_in t));
   consumes = kept_read left;
   at_end = λ before now. before (subst IsTrue ended now);
 }
 
-pub written_none : (t n : Talk) (held : Option (List ℕ)) (result : Option SessionEnd) → sent_in n ≡ sent_in t → HasWritten t n held held result
-written_none t n held result same = record {
+pub written_none : (t n : Talk) (held : Option (List ℕ)) (result : Option SessionEnd) → n.gone ≡ t.gone → HasWritten t n held held result
+written_none t n held result gone = record {
   gone = [];
-  sent = same ∙ sym (append-nil (sent_in t));
+  sent = sent_same t n gone ∙ sym (append-nil (sent_in t));
   more = [];
   waits = n.machine.output;
   pending = refl;
@@ -75,11 +76,11 @@ written_none t n held result same = record {
 }
 
 -- .. before which nothing was handed out
-pub written_quiet : (t u n : Talk) (before contents : Option (List ℕ)) (result : Option SessionEnd) → sent_in u ≡ sent_in t → HasWritten u n before contents result
+pub written_quiet : (t u n : Talk) (before contents : Option (List ℕ)) (result : Option SessionEnd) → u.gone ≡ t.gone → HasWritten u n before contents result
     → HasWritten t n before contents result
-written_quiet t u n before contents result same w = record {
+written_quiet t u n before contents result gone w = record {
   gone = w.gone;
-  sent = w.sent ∙ ap (λ (x : List ℕ). x ++ w.gone) same;
+  sent = w.sent ∙ ap (λ (x : List ℕ). x ++ w.gone) (sent_same t u gone);
   more = w.more;
   waits = w.waits;
   pending = w.pending;
@@ -88,10 +89,10 @@ written_quiet t u n before contents result same w = record {
 }
 
 -- .. or read
-pub read_quiet : (t u n : Talk) (before left : Option (List ℕ)) → received_in u ≡ received_in t → u.ended ≡ t.ended → HasRead u n before left → HasRead t n before left
-read_quiet t u n before left same ended r = record {
+pub read_quiet : (t u n : Talk) (before left : Option (List ℕ)) → u.came ≡ t.came → u.ended ≡ t.ended → HasRead u n before left → HasRead t n before left
+read_quiet t u n before left came ended r = record {
   bytes = r.bytes;
-  received = r.received ∙ ap (λ (x : List ℕ). x ++ r.bytes) same;
+  received = r.received ∙ ap (λ (x : List ℕ). x ++ r.bytes) (received_same t u came);
   consumes = r.consumes;
   at_end = λ there. r.at_end (λ now. there (subst IsTrue ended now));
 }
@@ -158,15 +159,9 @@ ends_itself m end over empty = so end (ap stage_of over)
     so own.Refused is = (is, none m.output empty)
     so own.CutShort is = (is, none m.output empty)
 
-goes_stage : (s : State) → GoesOnIn s → GoesOn (stage_of s)
-goes_stage states.Head going = tt
-goes_stage (states.Drop d) going = tt
-goes_stage (states.Feed f) going = tt
-goes_stage (states.Over end) going = absurd going
-
 -- by a failed read
 pub ends_unread : (m : Machine) → GoesOnIn m.state → length m.output ≡ 0 → EndsIn (Some ends.ReadFailed) m
-ends_unread m going empty = (goes_stage m.state going, none m.output empty)
+ends_unread m going empty = (going, none m.output empty)
 
 -- a failure is told only where one was counted
 pub counts_own : (end : Ending) (reads writes : ℕ) → CountsSession (end_of end) reads reads writes writes
@@ -185,13 +180,12 @@ goes_on (states.Over end) never = never end refl
 -- it waits since nothing is to be handed out and the input goes on; there is room
 pub rests_open : (ended : Bool) (m : Machine) (unread : List ℕ) → length m.output ≡ 0 → GoesOnIn m.state → Rests ended m unread → (ended ≡ false) × (length unread < 16384)
 rests_open ended m unread empty going (inl some) = absurd (omega (arith, empty, some))
-rests_open ended m unread empty going (inr (inl over)) = absurd (not_both m.state going over)
+rests_open ended m unread empty going (inr (inl over)) = absurd (not_both (stage_of m.state) going over)
   where
-    not_both : (s : State) → GoesOnIn s → IsOver s → ⊥
-    not_both states.Head going over = over
-    not_both (states.Drop d) going over = over
-    not_both (states.Feed f) going over = over
-    not_both (states.Over end) going over = going
+    not_both : (stage : Stage) → GoesOn stage → IsOver stage → ⊥
+    not_both Between going over = over
+    not_both Within going over = over
+    not_both (Over end) going over = going
 rests_open true m unread empty going (inr (inr waits)) = cc
 rests_open false m unread empty going (inr (inr waits)) = (refl, waits.1)
 

@@ -1,5 +1,5 @@
 -- A connection with the notes of what came of it, from one call to the next.
-use Rattle.std.proofs.Common.{◌≡◌, ◌∙◌, ◌⊎◌, ℕ, ◌<◌, Bool, true, false, List, [], ◌++◌, length, take, drop, flat_map, IsFalse, inl, inr, refl, sym, ap, subst, append-nil}
+use Rattle.std.proofs.Common.{◌≡◌, ◌∙◌, ℕ, Bool, true, false, List, [], ◌++◌, length, take, drop, flat_map, IsFalse, refl, sym, ap, subst, append-nil}
 use Rattle.std.proofs.lemmas.List.{take-append-drop}
 use Rattle.std.proofs.Math.Seq.{drop-append_seam}
 use Rattle.http_server.specs.declared.log.Log.{Log}
@@ -9,16 +9,14 @@ use Rattle.hls_turn.specs.Passes.{Known}
 use Rattle.hls_serve_laws.specs.Acts.{Act, Acted}
 use Rattle.hls_serve_laws.specs.Connections.{IsServed}
 use Rattle.hls_serve_laws.specs.Linked.{Later, Linked}
-use Rattle.hls_serve_laws.specs.Sessions.{GoesOn}
 use Rattle.hls_serve_laws.proofs.Callers.{later_itself, linked_acted, linked_follows, linked_later}
 use Rattle.hls_serve.specs.declared.machine.Machine.{Machine}
 use Rattle.hls_serve.specs.declared.machine.State.{State}
 use Rattle.hls_serve.specs.declared.machine.State.TheVariants as states
 use Rattle.hls_serve.specs.declared.talk.Talk.{Talk}
-use Rattle.hls_serve.specs.Machine.{GoesOnIn, Holds, IsOver, Rests, SuitsIn, asked_in, asked_now, history_by, stage_of, total}
+use Rattle.hls_serve.specs.Machine.{GoesOnIn, Holds, SuitsIn, asked_in, asked_now, history_by, stage_of, total}
 use Rattle.hls_serve.specs.Talks.{HoldsOf, IsQuiet, IsSuited, history_of, received_in, sent_in}
 use Rattle.hls_serve.specs.Histories.{StaysQuiet}
-use Rattle.hls_serve.specs.Visits.{IsOver as IsOverStage}
 use Rattle.hls_serve.proofs.HoldLaws.{holds_at, holds_ended, holds_more, holds_sent, served_of}
 use Rattle.hls_serve.proofs.PassLaws.{usable_after}
 
@@ -59,6 +57,10 @@ total_same t n state asked =
 pub quiet_history : (t n : Talk) (unread now : List ℕ) → IsQuiet t n → StaysQuiet (history_of t unread) (history_of n now)
 quiet_history t n unread now quiet =
     record { received = received_same t n quiet.came; ended = quiet.ended; sent = sent_same t n quiet.gone }
+
+-- .. while its machine makes steps
+pub quiet_on : (s t : Talk) (m : Machine) → IsQuiet s t → m.renditions ≡ t.machine.renditions → IsQuiet s (record t { machine = m })
+quiet_on s t m quiet is = record { came = quiet.came; ended = quiet.ended; gone = quiet.gone; renditions = is ∙ quiet.renditions }
 
 pub open_of : (ended : Bool) → IsFalse ended → ended ≡ false
 open_of true never = absurd (cc)
@@ -168,23 +170,5 @@ talk_served t unread h =
 
 -- ---- stages
 
-pub goes_in : (s : State) → GoesOn (stage_of s) → GoesOnIn s
-goes_in states.Head going = tt
-goes_in (states.Drop d) going = tt
-goes_in (states.Feed f) going = tt
-goes_in (states.Over end) going = absurd going
-
 pub fresh : (t : Talk) → t.machine.state ≡ states.Head → GoesOnIn t.machine.state
 fresh t is = subst (λ (s : State). GoesOnIn s) (sym is) tt
-
-pub over_stage : (s : State) → IsOver s → IsOverStage (stage_of s)
-over_stage states.Head over = absurd over
-over_stage (states.Drop d) over = absurd over
-over_stage (states.Feed f) over = absurd over
-over_stage (states.Over end) over = tt
-
-pub rests_visit : (t : Talk) (unread now : List ℕ) → now ≡ unread → Rests t.ended t.machine unread
-    → (0 < length t.machine.output) ⊎ (IsOverStage (stage_of t.machine.state) ⊎ (IsFalse t.ended × (length now < 16384)))
-rests_visit t unread now same (inl waits) = inl waits
-rests_visit t unread now same (inr (inl over)) = inr (inl (over_stage t.machine.state over))
-rests_visit t unread now same (inr (inr room)) = inr (inr (room.0, subst (λ (x : List ℕ). length x < 16384) (sym same) room.1))

@@ -11,21 +11,18 @@ use Rattle.hls_http_laws.specs.Reply.{fault_status, is_success, no_memory_to}
 use Rattle.hls_core_laws.specs.declared.event.Event.TheVariants.{Finish}
 use Rattle.hls_core_laws.specs.declared.refusal.Refusal.{Refusal}
 use Rattle.hls_core_laws.specs.declared.refusal.Refusal.TheVariants.{Memory}
-use Rattle.hls_core_laws.specs.State.{State}
 use Rattle.hls_turn.specs.declared.done.Done.{Done as Moved}
 use Rattle.hls_catchup.specs.declared.fault.JobFault.{JobFault}
 use Rattle.hls_catchup.specs.declared.jobs.job.Job.{Job}
-use Rattle.hls_catchup.specs.Jobs.Shared.{HasCounted}
-use Rattle.hls_serve_laws.specs.Acts.{Act, ActsInVain, IsVain, Looks, Submits}
+use Rattle.hls_serve_laws.specs.Acts.{Act, ActsInVain, IsVain, Submits}
 use Rattle.hls_serve_laws.specs.JobTable.{IsTold}
 use Rattle.hls_serve_laws.specs.declared.route.Route.{Route}
-use Rattle.hls_serve_laws.specs.Heard.{Asks, Due, Request, Finishes, IsDue, IsDueWithoutHead, IsSkipped, Serves, ServesAllowed, ServesBy, ServesJob, ShowsJob, ShowsStatus, due_for, first_of, job_at, to_head, taken_answer}
+use Rattle.hls_serve_laws.specs.Heard.{Asks, Due, Request, Finishes, IsDue, IsDueWithoutHead, IsSkipped, Serves, ServesAllowed, ServesBy, ServesJob, ShowsJob, due_for, first_of, job_at, to_head, taken_answer}
 use Rattle.hls_serve_laws.specs.Ingest.{Progress, counts_text}
-use Rattle.hls_serve_laws.specs.Replies.{Answer, answer_text, fault_answer, finish_answer, status_answer, text_answer}
+use Rattle.hls_serve_laws.specs.Replies.{Answer, answer_text, fault_answer, finish_answer, text_answer}
 use Rattle.hls_serve_laws.specs.Routes.{allows, removes}
 use Rattle.hls_serve.specs.declared.ending.Ending.{Ending}
 use Rattle.hls_serve.specs.Turns.{IsMade, IsResponse, Makes, Replies, end_by, made_due, memory_due, reply_due}
-use Rattle.hls_serve.proofs.PassLaws.{looked_idly}
 
 -- ---- replies
 
@@ -101,11 +98,6 @@ is_refusal faults.Full = refl
 nothing_asked : (a : List Act) → ActsInVain a a
 nothing_asked a = record { acts = []; grown = sym (append-nil a); each = All-nil IsVain }
 
--- with no act
-pub plain_made : {E : Type 0} (Is : Answer → Type 0) (a : List Act) (x : Answer) (made : Result Answer E) → Is x → IfOk made (λ y. y ≡ x) → Makes Is a a made
-plain_made Is a x (Ok y) is same = subst Is (sym same) is
-plain_made Is a x (Err e) is same = inl (nothing_asked a)
-
 pub finish_made : {E : Type 0} (a b : List Act) (r : ℕ) (done : Result Moved Refusal) (made : Result Answer E) → Submits a (Finish r) done b → done ≢ Err Memory
     → IfOk made (λ x. x ≡ finish_answer done) → Makes (Finishes a r b) a b made
 finish_made a b r done (Ok x) submits told same = (done, submits, told, same)
@@ -121,11 +113,6 @@ pub job_made : {E : Type 0} (q : Asks) (route : Route) (id : ℕ) (a : List Act)
     → IfOk made (λ x. ServesJob q route id x (removes route q.method)) → Makes (IsResponse q route a a) a a made
 job_made q route id a (Ok x) of_job serves = subst (λ (job : Option ℕ). ServesBy q route a x a job) (sym of_job) (refl, serves)
 job_made q route id a (Err e) of_job serves = inl (nothing_asked a)
-
-pub status_made : {E : Type 0} (a b : List Act) (s : State) (jobs : ℕ) (made : Result Answer E) → Looks a s b → HasCounted jobs
-    → IfOk made (λ x. x ≡ status_answer s jobs) → Makes (ShowsStatus a b) a b made
-status_made a b s jobs (Ok x) looks counts is = (jobs, counts, (s, looks, is))
-status_made a b s jobs (Err e) looks counts is = inl (looked_idly a b s looks)
 
 pub shown_job : {E : Type 0} (id : ℕ) (shown : Job → Option Answer) (told : Result Job JobFault) (job : Job) (made : Result Answer E) → told ≡ Ok job → IsTold id told
     → IfOk made (λ a. Some a ≡ shown job) → IfOk made (ShowsJob id shown)

@@ -9,6 +9,7 @@ use Rattle.hls_turn.specs.Passes.{Known}
 use Rattle.hls_serve_laws.specs.declared.ingest.Intake.TheVariants as came
 use Rattle.hls_serve_laws.specs.Acts.{Act}
 use Rattle.hls_serve_laws.specs.Connections.{Exchange, History, Serves, Stage, Between, Within, Over, IsBetween, Stands, acts_of, output, text_of}
+use Rattle.hls_serve_laws.specs.Sessions.{GoesOn}
 use Rattle.hls_serve.specs.declared.call.Call.{Call}
 use Rattle.hls_serve.specs.declared.ending.Ending.{Ending}
 use Rattle.hls_serve.specs.declared.ending.Ending.TheVariants as own
@@ -120,14 +121,13 @@ waited_head empty false = states.Head
 waited_head true true = states.Over own.Closed
 waited_head false true = states.Over own.CutShort
 
-abbrev pub IsOver : State → Type 0
-IsOver (states.Over end) = Unit {0}
-IsOver state = ⊥
+abbrev pub IsOver : Stage → Type 0
+IsOver (Over end) = Unit {0}
+IsOver stage = ⊥
 
 abbrev pub GoesOnIn : State → Type 0
-GoesOnIn (states.Over end) = ⊥
-GoesOnIn state = Unit {0}
+GoesOnIn state = GoesOn (stage_of state)
 
 -- something waits to be handed out, or all is over, or more is to be read and there is room for it
 abbrev pub Rests : Bool → Machine → List ℕ → Type 0
-Rests ended m unread = (0 < length m.output) ⊎ (IsOver m.state ⊎ (IsFalse ended × (length unread < 16384)))
+Rests ended m unread = (0 < length m.output) ⊎ (IsOver (stage_of m.state) ⊎ (IsFalse ended × (length unread < 16384)))

@@ -1,7 +1,7 @@
 -- What is told of a visit: all that came of it, and what its keeper has to know.
-use Rattle.std.specs.Prelude.{◌≡◌, ◌⊎◌, ◌<◌, ℕ, List, [], length, Option, IsFalse}
+use Rattle.std.specs.Prelude.{◌≡◌, ◌⊎◌, ◌<◌, ℕ, length, Option, IsFalse}
 use Rattle.hls_turn.specs.Passes.{Known}
-use Rattle.hls_serve_laws.specs.Connections.{History, Stage, Between, Over}
+use Rattle.hls_serve_laws.specs.Connections.{History, Stage, Between}
 use Rattle.hls_serve_laws.specs.Sessions.{GoesOn}
 use Rattle.hls_serve_laws.specs.Linked.{Later}
 use Rattle.hls_serve.specs.declared.machine.State.{State}
@@ -10,7 +10,7 @@ use Rattle.hls_serve.specs.declared.news.News.{News}
 use Rattle.hls_serve.specs.declared.visit.Standing.{Standing}
 use Rattle.hls_serve.specs.declared.visit.Standing.TheVariants as standings
 use Rattle.hls_serve.specs.declared.visit.Visit.{Visit}
-use Rattle.hls_serve.specs.Machine.{failure_in, stage_of}
+use Rattle.hls_serve.specs.Machine.{IsOver, failure_in, stage_of}
 use Rattle.hls_serve.specs.Places.{talk_of, unread_of}
 use Rattle.hls_serve.specs.Talks.{IsSuited, history_of}
 
@@ -30,10 +30,6 @@ renditions_of v = (talk_of v.place).machine.renditions
 -- more is to be read: nothing waits, all is not over, and there is room
 abbrev pub WantsRead : Visit → Type 0
 WantsRead v = IsFalse (history v).ended × (length (history v).pending ≡ 0) × GoesOn (stage v) × (length (history v).unread < 65536)
-
-abbrev pub IsOver : Stage → Type 0
-IsOver (Over end) = Unit {0}
-IsOver stage = ⊥
 
 -- nothing more is to be done: something waits, or all is over, or more is to be read and there is room for it
 abbrev pub Rests : Visit → Type 0

@@ -81,6 +81,10 @@ IsToReply Is More = Unit {0}
 IsToReply Is Wait = Unit {0}
 IsToReply Is (Over result) = Is result
 
+-- what comes of it at a front, whatever came before
+abbrev pub DropsFrom : Dropping → List ℕ → Dropping → List ℕ → Next DropEnd → Type 0
+DropsFrom old unread new rest next = (count : ℕ) (stream first : List ℕ) → IsDropping count stream first old unread → DropsOn count stream first new rest next
+
 -- ---- an encoder's body
 
 pub record IsFeeding (count : ℕ) (stream first : List ℕ) (f : Feeding) (unread : List ℕ) : Type 0 where
@@ -104,3 +108,7 @@ abbrev pub FeedsOn : ℕ → List ℕ → List ℕ → Feeding → List ℕ → 
 FeedsOn count stream first f unread More = IsFeeding count stream first f unread
 FeedsOn count stream first f unread Wait = IsFeeding count stream first f unread × (length unread < 16384) × IsOpen f.body unread
 FeedsOn count stream first f unread (Over result) = IsFedUp count stream first f unread result
+
+-- what comes of it at a front, whatever came before
+abbrev pub FeedsFrom : Feeding → List ℕ → Feeding → List ℕ → Next Intake → Type 0
+FeedsFrom old unread new rest next = (count : ℕ) (stream first : List ℕ) → IsFeeding count stream first old unread → FeedsOn count stream first new rest next

@@ -2,7 +2,7 @@
 
 ghost use Rattle.std.specs.Prelude.{◌≡◌, ◌≢◌, ◌<◌, ℕ, List, length};
 ghost use Rattle.hls_serve.specs.declared.next.Next.TheVariants as nexts;
-ghost use Rattle.hls_serve.specs.Within.{DropsOn, IsDropping, IsToDrop, IsToReply};
+ghost use Rattle.hls_serve.specs.Within.{DropsFrom, IsToDrop, IsToReply};
 
 use crate::call::Call;
 use crate::next::Next;
@@ -24,14 +24,14 @@ impl Dropping {
         requires over { self.now.body ≡ Body.Length 0 }
         ensures ends { result ≢ nexts.Wait }
         ensures replied { IsToReply IsToDrop result }
-        ensures drops { (count : ℕ) (stream first unread : List ℕ) → IsDropping count stream first self.now unread → DropsOn count stream first self.now unread result }
+        ensures drops { (unread : List ℕ) → DropsFrom self.now unread self.now unread result }
     {
         Next::Over(Ok(()))
     }
 
     /// Drops what stands at the input's front.
     pub fn step(&mut self, input: &mut Input) -> Next<DropEnd>
-        ensures drops { (count : ℕ) (stream first : List ℕ) → IsDropping count stream first self.old input.old.unread → DropsOn count stream first self.new input.new.unread result }
+        ensures drops { DropsFrom self.old input.old.unread self.new input.new.unread result }
         ensures replied { IsToReply IsToDrop result }
         ensures waits { result ≡ nexts.Wait → length input.new.unread < 16384 }
         ensures room { input.new.room ≡ input.old.room }

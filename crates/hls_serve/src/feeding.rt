@@ -6,7 +6,7 @@ ghost use Rattle.hls_http.specs.Bodies.{IsLastAlone};
 ghost use Rattle.hls_serve_laws.specs.Acts.{Acted};
 ghost use Rattle.hls_serve.specs.Taken.{IsUsable};
 ghost use Rattle.hls_serve.specs.declared.next.Next.TheVariants as nexts;
-ghost use Rattle.hls_serve.specs.Within.{FeedsOn, IsFeeding, IsToFeed, IsToReply};
+ghost use Rattle.hls_serve.specs.Within.{FeedsFrom, IsToFeed, IsToReply};
 
 use crate::call::Call;
 use crate::ingest::{Encoder, Taken};
@@ -33,7 +33,7 @@ impl Feeding {
         requires over { self.now.body ≡ Body.Length 0 }
         ensures ends { result ≢ nexts.Wait }
         ensures replied { IsToReply IsToFeed result }
-        ensures feeds { (count : ℕ) (stream first unread : List ℕ) → IsFeeding count stream first self.now unread → FeedsOn count stream first self.now unread result }
+        ensures feeds { (unread : List ℕ) → FeedsFrom self.now unread self.now unread result }
     {
         match end(&self.reader) {
             Ok(()) => Next::Over(Ok(())),
@@ -58,7 +58,7 @@ impl Feeding {
         ensures replied { IsToReply IsToFeed result }
         ensures waits { result ≡ nexts.Wait → length input.new.unread < 16384 }
         ensures leads { Acted (K.known keeper.old) self.old.taken.acts (K.known keeper.new) self.new.taken.acts }
-        ensures feeds { (count : ℕ) (stream first : List ℕ) → IsFeeding count stream first self.old input.old.unread → FeedsOn count stream first self.new input.new.unread result }
+        ensures feeds { FeedsFrom self.old input.old.unread self.new input.new.unread result }
         ensures room { input.new.room ≡ input.old.room }
         ensures call { self.new.call ≡ self.old.call }
         ensures rendition { self.new.rendition ≡ self.old.rendition }
@@ -81,7 +81,7 @@ impl Feeding {
         ensures replied { IsToReply IsToFeed result }
         ensures waits { result ≡ nexts.Wait → length input.new.unread < 16384 }
         ensures leads { Acted (K.known keeper.old) self.old.taken.acts (K.known keeper.new) self.new.taken.acts }
-        ensures feeds { (count : ℕ) (stream first : List ℕ) → IsFeeding count stream first self.old input.old.unread → FeedsOn count stream first self.new input.new.unread result }
+        ensures feeds { FeedsFrom self.old input.old.unread self.new input.new.unread result }
         ensures room { input.new.room ≡ input.old.room }
         ensures call { self.new.call ≡ self.old.call }
         ensures rendition { self.new.rendition ≡ self.old.rendition }

@@ -53,13 +53,11 @@ fn with_init(counts: Counts, done: Done) -> Counts
     match done {
         Done::New { .. } => Counts {
             inits: counts.inits.saturating_add(1),
-            units: counts.units,
-            repeats: counts.repeats,
+            ..counts
         },
         Done::Repeat => Counts {
-            inits: counts.inits,
-            units: counts.units,
             repeats: counts.repeats.saturating_add(1),
+            ..counts
         },
     }
 }
@@ -69,14 +67,12 @@ fn with_unit(counts: Counts, done: Done) -> Counts
 {
     match done {
         Done::New { .. } => Counts {
-            inits: counts.inits,
             units: counts.units.saturating_add(1),
-            repeats: counts.repeats,
+            ..counts
         },
         Done::Repeat => Counts {
-            inits: counts.inits,
-            units: counts.units,
             repeats: counts.repeats.saturating_add(1),
+            ..counts
         },
     }
 }

@@ -67,37 +67,22 @@ fn live(count: usize, text: &[u8]) -> Option<Route>
     if text == b"master.m3u8".as_slice() {
         return Some(Route::LiveMaster);
     }
-    match before(b".m3u8", text) {
-        Some(number) => Some(Route::LiveList(rendition(count, number)?)),
-        None => None,
-    }
+    let number = before(b".m3u8", text)?;
+    Some(Route::LiveList(rendition(count, number)?))
 }
 
 fn media(count: usize, text: &[u8]) -> Option<Route>
     ensures { result ≡ spec.media_route count text.now }
 {
-    match before(b".mp4", text) {
-        Some(number) => Some(Route::Media(rendition(count, number)?)),
-        None => None,
-    }
+    let number = before(b".mp4", text)?;
+    Some(Route::Media(rendition(count, number)?))
 }
 
 fn media_file(count: usize, name: &[u8]) -> Option<JobFile>
     ensures { result ≡ spec.media_file count name.now }
 {
-    match before(b".mp4", name) {
-        Some(number) => Some(JobFile::Media(rendition(count, number)?)),
-        None => None,
-    }
-}
-
-fn list_file(count: usize, name: &[u8]) -> Option<JobFile>
-    ensures { result ≡ spec.list_file count name.now }
-{
-    match before(b".m3u8", name) {
-        Some(number) => Some(JobFile::List(rendition(count, number)?)),
-        None => media_file(count, name),
-    }
+    let number = before(b".mp4", name)?;
+    Some(JobFile::Media(rendition(count, number)?))
 }
 
 /// A file of a job by its name.
@@ -110,18 +95,9 @@ fn file(count: usize, name: &[u8]) -> Option<JobFile>
     if name == b"certificate.txt".as_slice() {
         return Some(JobFile::Certificate);
     }
-    list_file(count, name)
-}
-
-fn file_route(id: Option<u64>, file: Option<JobFile>) -> Option<Route>
-    ensures { result ≡ spec.file_route id file }
-{
-    match id {
-        Some(id) => match file {
-            Some(file) => Some(Route::JobFile(id, file)),
-            None => None,
-        },
-        None => None,
+    match before(b".m3u8", name) {
+        Some(number) => Some(JobFile::List(rendition(count, number)?)),
+        None => media_file(count, name),
     }
 }
 
@@ -138,11 +114,11 @@ fn job_route(count: usize, text: &[u8]) -> Option<Route>
     ensures { result ≡ spec.job_route count text.now }
 {
     match slash(text) {
-        Some(slash) => file_route(job(&text[..slash]), file(count, &text[slash + 1..])),
-        None => match job(text) {
-            Some(id) => Some(Route::Job(id)),
-            None => None,
-        },
+        Some(slash) => {
+            let id = job(&text[..slash])?;
+            Some(Route::JobFile(id, file(count, &text[slash + 1..])?))
+        }
+        None => Some(Route::Job(job(text)?)),
     }
 }
 
@@ -174,10 +150,7 @@ fn folder(count: usize, path: &[u8]) -> Option<Route>
     if let Some(text) = behind(b"/media/", path) {
         return media(count, text);
     }
-    match behind(b"/job/", path) {
-        Some(text) => job_route(count, text),
-        None => None,
-    }
+    job_route(count, behind(b"/job/", path)?)
 }
 
 /// What a path names in a channel of `count` renditions.

@@ -10,22 +10,18 @@ use Rattle.hls_serve.specs.Machine.{asked_in, total}
 use Rattle.hls_serve.specs.Talking.{EndsIn}
 use Rattle.hls_serve.proofs.HoldLaws.{asked_same}
 use Rattle.hls_serve.proofs.SessionLaws.{counts_own, ends_itself, goes_on, read_none, read_quiet, rests_open, written_none, written_quiet}
-use Rattle.hls_serve.proofs.TalkLaws.{received_same, sent_same, suited_same, total_same}
+use Rattle.hls_serve.proofs.TalkLaws.{suited_same, total_same}
 use Rattle.hls_serve.proofs.session.turn.Goals as goal
 
 -- ---- the connection goes on
 
 pub returns-then-advance-clause-reads : goal.returns-then-advance-clause-reads
 returns-then-advance-clause-reads g c =
-    let t = c.args.talk.now in
-    let n = c.advance.new.self in
-    read_none t n (g.R.Read.remaining (reader_of c.args.session.now.source)) (received_same t n c.advance.ensures.quiet.came) c.advance.ensures.quiet.ended
+    read_none c.args.talk.now c.advance.new.self (g.R.Read.remaining (reader_of c.args.session.now.source)) c.advance.ensures.quiet.came c.advance.ensures.quiet.ended
 
 pub returns-then-advance-clause-written : goal.returns-then-advance-clause-written
 returns-then-advance-clause-written g c =
-    let t = c.args.talk.now in
-    let n = c.advance.new.self in
-    written_none t n (g.W.Write.contents (inside_of c.args.session.now.writer)) _ (sent_same t n c.advance.ensures.quiet.gone)
+    written_none c.args.talk.now c.advance.new.self (g.W.Write.contents (inside_of c.args.session.now.writer)) _ c.advance.ensures.quiet.gone
 
 -- ---- what waits is handed out
 
@@ -49,36 +45,28 @@ returns-then-not-is_empty-clause-holds g c = λ h. c.hand_out.ensures.holds c.ad
 
 pub returns-then-not-is_empty-clause-reads : goal.returns-then-not-is_empty-clause-reads
 returns-then-not-is_empty-clause-reads g c =
-    let t = c.args.talk.now in
-    let n = c.hand_out.new.talk in
     let stays = c.hand_out.ensures.stays in
     let quiet = c.advance.ensures.quiet in
-    read_none t n (g.R.Read.remaining (reader_of c.args.session.now.source)) (received_same t n (stays.came ∙ quiet.came)) (stays.ended ∙ quiet.ended)
+    read_none c.args.talk.now c.hand_out.new.talk (g.R.Read.remaining (reader_of c.args.session.now.source)) (stays.came ∙ quiet.came) (stays.ended ∙ quiet.ended)
 
 pub returns-then-not-is_empty-clause-written : goal.returns-then-not-is_empty-clause-written
 returns-then-not-is_empty-clause-written g c =
-    let t = c.args.talk.now in
-    let u = c.advance.new.self in
-    written_quiet t u c.hand_out.new.talk (g.W.Write.contents (inside_of c.args.session.now.writer)) _ c.hand_out.result (sent_same t u c.advance.ensures.quiet.gone) c.hand_out.ensures.written
+    written_quiet c.args.talk.now c.advance.new.self c.hand_out.new.talk (g.W.Write.contents (inside_of c.args.session.now.writer)) _ c.hand_out.result c.advance.ensures.quiet.gone c.hand_out.ensures.written
 
 -- ---- all is over
-
-pub returns-in-Over-clause-reads : goal.returns-in-Over-clause-reads
-returns-in-Over-clause-reads g c =
-    let t = c.args.talk.now in
-    let n = c.advance.new.self in
-    read_none t n (g.R.Read.remaining (reader_of c.args.session.now.source)) (received_same t n c.advance.ensures.quiet.came) c.advance.ensures.quiet.ended
-
-pub returns-in-Over-clause-written : goal.returns-in-Over-clause-written
-returns-in-Over-clause-written g c =
-    let t = c.args.talk.now in
-    let n = c.advance.new.self in
-    written_none t n (g.W.Write.contents (inside_of c.args.session.now.writer)) _ (sent_same t n c.advance.ensures.quiet.gone)
 
 pub returns-in-Over-clause-ends : goal.returns-in-Over-clause-ends
 returns-in-Over-clause-ends g c =
     let m = c.advance.new.self.machine in
     subst (λ (e : SessionEnd). EndsIn (Some e) m) (sym c.end.ensures) (ends_itself m c.in-Over.end c.in-Over.is (eqb-true (length m.output) 0 (sym c.if-not-is_empty.ensures)))
+
+pub returns-in-Over-clause-reads : goal.returns-in-Over-clause-reads
+returns-in-Over-clause-reads g c =
+    read_none c.args.talk.now c.advance.new.self (g.R.Read.remaining (reader_of c.args.session.now.source)) c.advance.ensures.quiet.came c.advance.ensures.quiet.ended
+
+pub returns-in-Over-clause-written : goal.returns-in-Over-clause-written
+returns-in-Over-clause-written g c =
+    written_none c.args.talk.now c.advance.new.self (g.W.Write.contents (inside_of c.args.session.now.writer)) _ c.advance.ensures.quiet.gone
 
 pub returns-in-Over-clause-counts : goal.returns-in-Over-clause-counts
 returns-in-Over-clause-counts g c =
@@ -113,16 +101,12 @@ returns-clause-holds g c = λ h. c.take_more.ensures.holds (c.advance.ensures.ho
 
 pub returns-clause-reads : goal.returns-clause-reads
 returns-clause-reads g c =
-    let t = c.args.talk.now in
-    let u = c.advance.new.self in
     let quiet = c.advance.ensures.quiet in
-    read_quiet t u c.take_more.new.talk (g.R.Read.remaining (reader_of c.args.session.now.source)) _ (received_same t u quiet.came) quiet.ended c.take_more.ensures.reads
+    read_quiet c.args.talk.now c.advance.new.self c.take_more.new.talk (g.R.Read.remaining (reader_of c.args.session.now.source)) _ quiet.came quiet.ended c.take_more.ensures.reads
 
 pub returns-clause-written : goal.returns-clause-written
 returns-clause-written g c =
-    let t = c.args.talk.now in
-    let n = c.take_more.new.talk in
-    written_none t n (g.W.Write.contents (inside_of c.args.session.now.writer)) _ (sent_same t n (c.take_more.ensures.gone ∙ c.advance.ensures.quiet.gone))
+    written_none c.args.talk.now c.take_more.new.talk (g.W.Write.contents (inside_of c.args.session.now.writer)) _ (c.take_more.ensures.gone ∙ c.advance.ensures.quiet.gone)
 
 pub returns-clause-renditions : goal.returns-clause-renditions
 returns-clause-renditions g c = ap (λ (k : Machine). k.renditions) c.take_more.ensures.machine ∙ c.advance.ensures.quiet.renditions

@@ -2,4 +2,4 @@ use Rattle.hls_serve.proofs.WithinLaws.{drop_all}
 use Rattle.hls_serve.proofs.dropping.Dropping.over.Goals as goal
 
 pub returns-clause-drops : goal.returns-clause-drops
-returns-clause-drops c = λ count stream first unread x. drop_all x c.requires.over
+returns-clause-drops c = λ unread count stream first x. drop_all x c.requires.over

@@ -8,6 +8,9 @@ use Rattle.hls_serve.proofs.dropping.Dropping.step.Goals as goal
 pub returns-then-eq-clause-waits : goal.returns-then-eq-clause-waits
 returns-then-eq-clause-waits c = λ is. absurd (c.over.ensures.ends is)
 
+pub returns-then-eq-clause-drops : goal.returns-then-eq-clause-drops
+returns-then-eq-clause-drops c = λ count stream first x. c.over.ensures.drops c.args.input.now.unread count stream first x
+
 pub returns-then-size-self-clause-drops : goal.returns-then-size-self-clause-drops
 returns-then-size-self-clause-drops c = λ count stream first x.
     let found = rw c.in-Ok-Frame.field-0-is at c.in-Ok-Frame.ensures in

@@ -4,7 +4,7 @@ use Rattle.hls_serve.proofs.WithinLaws.{feed_broken, feed_frame, frame_at}
 use Rattle.hls_serve.proofs.feeding.Feeding.step.Goals as goal
 
 pub returns-then-eq-clause-feeds : goal.returns-then-eq-clause-feeds
-returns-then-eq-clause-feeds g c = λ count stream first x. c.over.ensures.feeds count stream first c.args.input.now.unread x
+returns-then-eq-clause-feeds g c = λ count stream first x. c.over.ensures.feeds c.args.input.now.unread count stream first x
 
 pub returns-in-Ok-Frame-clause-feeds : goal.returns-in-Ok-Frame-clause-feeds
 returns-in-Ok-Frame-clause-feeds g c = λ count stream first x.

@@ -2,12 +2,12 @@ use Rattle.std.proofs.Common.{Bool, inr, rules, subst, sym, []}
 use Rattle.hls_serve.specs.declared.ending.Ending.TheVariants as own
 use Rattle.hls_serve.specs.declared.machine.State.TheVariants as states
 use Rattle.hls_serve.specs.Machine.{Holds, asked_in, history_by}
-use Rattle.hls_serve.proofs.HoldLaws.{drop_cut, drop_goes, drop_replied, holds_at, suits_behind}
+use Rattle.hls_serve.proofs.HoldLaws.{body_replied, drop_cut, holds_at, stands_so, suits_behind}
 use Rattle.hls_serve.proofs.PassLaws.{valid_acted}
 use Rattle.hls_serve.proofs.machine.Machine.drop_on.Goals as goal
 
 pub returns-in-More-clause-goes : goal.returns-in-More-clause-goes
-returns-in-More-clause-goes g c = λ received sent h. drop_goes (λ stream first x. c.in-More.ensures.drops c.args.self.now.renditions stream first x) h
+returns-in-More-clause-goes g c = λ received sent h. stands_so (states.Drop c.step.new.self) h (c.in-More.ensures.drops c.args.self.now.renditions h.rest h.text h.stands.0, h.stands.1)
 
 pub returns-then-ended-clause-goes : goal.returns-then-ended-clause-goes
 returns-then-ended-clause-goes g c = λ received sent h.
@@ -15,10 +15,11 @@ returns-then-ended-clause-goes g c = λ received sent h.
     let yes = c.if-ended.true in
     let at = subst (λ (e : Bool). Holds m.renditions (states.Drop c.args.dropping) (history_by received e c.args.input.now.unread (asked_in m) sent m.output)) yes h in
     subst (λ (e : Bool). Holds m.renditions (states.Over own.CutShort) (history_by received e c.step.new.input.unread (asked_in m) sent m.output)) (sym yes)
-    (drop_cut (λ stream first x. let w = c.in-Wait.ensures.drops m.renditions stream first x in (w.0, w.2)) at)
+    (let w = c.in-Wait.ensures.drops m.renditions at.rest at.text at.stands.0 in drop_cut at w.0 w.2)
 
 pub returns-else-ended-clause-goes : goal.returns-else-ended-clause-goes
-returns-else-ended-clause-goes g c = λ received sent h. drop_goes (λ stream first x. (c.in-Wait.ensures.drops c.args.self.now.renditions stream first x).0) h
+returns-else-ended-clause-goes g c = λ received sent h.
+    stands_so (states.Drop c.step.new.self) h ((c.in-Wait.ensures.drops c.args.self.now.renditions h.rest h.text h.stands.0).0, h.stands.1)
 
 pub returns-else-ended-clause-rests : goal.returns-else-ended-clause-rests
 returns-else-ended-clause-rests g c = λ stops. inr (inr (search rules, c.step.ensures.waits c.in-Wait.is))
@@ -30,8 +31,7 @@ pub returns-in-Over-clause-goes : goal.returns-in-Over-clause-goes
 returns-in-Over-clause-goes g c = λ received sent h.
     let n = c.args.self.now.renditions in
     holds_at c.close.new.self c.close.ensures.renditions c.close.ensures.state c.close.ensures.asked c.close.ensures.output
-    (drop_replied c.requires.sent
-    (λ stream first x. c.answer_dropped-made.ensures.replies n stream first c.step.new.input.unread (c.in-Over.ensures.drops n stream first x)) h)
+    (body_replied c.requires.sent h h.stands.1 (c.answer_dropped-made.ensures.replies n h.rest h.text c.step.new.input.unread (c.in-Over.ensures.drops n h.rest h.text h.stands.0)))
 
 pub returns-in-Over-clause-suits : goal.returns-in-Over-clause-suits
 returns-in-Over-clause-suits g c =

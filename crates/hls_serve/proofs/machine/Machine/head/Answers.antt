@@ -5,7 +5,7 @@ use Rattle.hls_http.specs.Heads.{IsHead}
 use Rattle.hls_http.specs.Texts.{Texts}
 use Rattle.hls_serve.specs.declared.machine.State.{State}
 use Rattle.hls_serve.specs.Machine.{Holds, asked_in, history_by}
-use Rattle.hls_serve.proofs.HoldLaws.{asked_same, head_found, head_refused, holds_at}
+use Rattle.hls_serve.proofs.HoldLaws.{head_found, head_refuses}
 use Rattle.hls_serve.proofs.machine.Machine.head.Goals as goal
 
 pub returns-in-Ok-clause-goes : goal.returns-in-Ok-clause-goes
@@ -23,21 +23,15 @@ returns-in-Ok-clause-goes g c = λ received sent h.
 
 pub returns-in-Err-Hopeless-clause-goes : goal.returns-in-Err-Hopeless-clause-goes
 returns-in-Err-Hopeless-clause-goes g c = λ received sent h.
-    let m = c.args.self.now in
-    let unread = c.args.input.now.unread in
     let never = rw (c.in-Err-Hopeless.field-0-is, c.unread.ensures.unread) at c.in-Err-Hopeless.ensures in
-    let at = subst (λ (s : State). Holds m.renditions s (history_by received c.args.ended unread (asked_in m) sent m.output)) c.requires.head h in
-    holds_at c.answer.new.self c.answer.ensures.renditions c.answer.ensures.state (asked_same m c.answer.new.self c.answer.ensures.asked) c.answer.ensures.output
-    (head_refused m.renditions received sent c.args.ended (asked_in m) m.output c.refuse_head-made.result.output unread c.refuse_head-made.result.end http.BadHead c.requires.sent at
-    (λ due is. inl (never, is)) c.refuse_head-made.ensures)
+    let n = c.answer.ensures in
+    head_refuses c.args.self.now c.answer.new.self received sent c.args.ended c.refuse_head-made.result.output c.args.input.now.unread c.refuse_head-made.result.end http.BadHead
+    c.requires.head c.requires.sent n.renditions n.state n.asked n.output (λ due is. inl (never, is)) c.refuse_head-made.ensures h
 
 pub returns-in-Err-TooLarge-clause-goes : goal.returns-in-Err-TooLarge-clause-goes
 returns-in-Err-TooLarge-clause-goes g c = λ received sent h.
-    let m = c.args.self.now in
-    let unread = c.args.input.now.unread in
     let large = rw (c.in-Err-TooLarge.field-0-is, c.unread.ensures.unread) at c.in-Err-TooLarge.ensures in
-    let at = subst (λ (s : State). Holds m.renditions s (history_by received c.args.ended unread (asked_in m) sent m.output)) c.requires.head h in
-    holds_at c.answer-in-Err-TooLarge.new.self c.answer-in-Err-TooLarge.ensures.renditions c.answer-in-Err-TooLarge.ensures.state
-    (asked_same m c.answer-in-Err-TooLarge.new.self c.answer-in-Err-TooLarge.ensures.asked) c.answer-in-Err-TooLarge.ensures.output
-    (head_refused m.renditions received sent c.args.ended (asked_in m) m.output c.refuse_head-made-in-Err-TooLarge.result.output unread c.refuse_head-made-in-Err-TooLarge.result.end http.HeadTooLarge c.requires.sent at
-    (λ due is. inr (large, is)) c.refuse_head-made-in-Err-TooLarge.ensures)
+    let n = c.answer-in-Err-TooLarge.ensures in
+    head_refuses c.args.self.now c.answer-in-Err-TooLarge.new.self received sent c.args.ended c.refuse_head-made-in-Err-TooLarge.result.output c.args.input.now.unread
+    c.refuse_head-made-in-Err-TooLarge.result.end http.HeadTooLarge c.requires.head c.requires.sent n.renditions n.state n.asked n.output (λ due is. inr (large, is))
+    c.refuse_head-made-in-Err-TooLarge.ensures h

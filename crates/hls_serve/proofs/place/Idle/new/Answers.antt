@@ -1,8 +1,5 @@
-use Rattle.std.proofs.Common.{ℕ, List, drop, take, flat_map, ap, refl}
+use Rattle.std.proofs.Common.{ℕ, List, drop, take, flat_map, ap}
 use Rattle.hls_http.specs.Texts.{Texts}
-use Rattle.hls_serve.specs.declared.place.Place.TheVariants as places
-use Rattle.hls_serve.specs.Places.{talk_of}
-use Rattle.hls_serve.proofs.TalkLaws.{talk_new}
 use Rattle.hls_serve.proofs.place.Idle.new.Goals as goal
 
 pub returns-clause-received : goal.returns-clause-received

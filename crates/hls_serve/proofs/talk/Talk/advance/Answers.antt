@@ -3,7 +3,7 @@ use Rattle.hls_serve_laws.proofs.Callers.{acted_follows, acted_none, acted_on}
 use Rattle.hls_serve.specs.declared.talk.Talk.{Talk}
 use Rattle.hls_serve.specs.Machine.{total}
 use Rattle.hls_serve.specs.Talks.{received_in, sent_in}
-use Rattle.hls_serve.proofs.TalkLaws.{suited_acted, suited_valid}
+use Rattle.hls_serve.proofs.TalkLaws.{quiet_on, suited_acted, suited_valid}
 use Rattle.hls_serve.proofs.talk.Talk.advance.Goals as goal
 
 pub loop-init : goal.loop-init
@@ -26,18 +26,12 @@ loop-preserved g c =
     let n : Talk = record t { machine = c.step.new.self } in
     let a = g.K.Keeper.known c.loop.keeper in
     let b = g.K.Keeper.known c.step.new.keeper in
-    let before = c.loop.invariant in
     record {
-      suits = suited_acted a b t n before.suits c.step.ensures.leads c.step.ensures.renditions c.step.ensures.suits.1;
-      holds = λ h. c.step.ensures.goes (received_in t) (sent_in t) (before.holds h);
-      acted = acted_on (g.K.Keeper.known c.args.keeper.now) a b (total c.args.self.now.machine) (total t.machine) (total n.machine) before.acted c.step.ensures.leads;
-      quiet = record {
-        came = before.quiet.came;
-        ended = before.quiet.ended;
-        gone = before.quiet.gone;
-        renditions = c.step.ensures.renditions ∙ before.quiet.renditions;
-      };
-      room = c.step.ensures.room ∙ before.room;
+      suits = suited_acted a b t n c.loop.invariant.suits c.step.ensures.leads c.step.ensures.renditions c.step.ensures.suits.1;
+      holds = λ h. c.step.ensures.goes (received_in t) (sent_in t) (c.loop.invariant.holds h);
+      acted = acted_on (g.K.Keeper.known c.args.keeper.now) a b (total c.args.self.now.machine) (total t.machine) (total n.machine) c.loop.invariant.acted c.step.ensures.leads;
+      quiet = quiet_on c.args.self.now t c.step.new.self c.loop.invariant.quiet c.step.ensures.renditions;
+      room = c.step.ensures.room ∙ c.loop.invariant.room;
     }
 
 pub returns-then-not-step : goal.returns-then-not-step
@@ -55,12 +49,7 @@ returns-then-not-step g c =
       later = (acted_follows first b (total old.machine) (total n.machine) (suited_valid first old c.requires.suits) acted).1;
       holds = λ h. c.step.ensures.goes (received_in t) (sent_in t) (before.holds h);
       acted = acted;
-      quiet = record {
-        came = before.quiet.came;
-        ended = before.quiet.ended;
-        gone = before.quiet.gone;
-        renditions = c.step.ensures.renditions ∙ before.quiet.renditions;
-      };
+      quiet = quiet_on c.args.self.now t c.step.new.self before.quiet c.step.ensures.renditions;
       rests = λ stops. c.step.ensures.rests c.if-not-step.true;
       room = c.step.ensures.room ∙ before.room;
     }

@@ -1,16 +1,13 @@
-use Rattle.std.proofs.Common.{refl}
 use Rattle.std.proofs.Math.Logic.{∥∥₁_map}
 use Rattle.hls_serve.specs.Places.{talk_of, unread_of}
-use Rattle.hls_serve.proofs.TalkLaws.{quiet_history, rests_visit}
+use Rattle.hls_serve.proofs.TalkLaws.{quiet_history}
 use Rattle.hls_serve.proofs.visit.Visit.advance.Goals as goal
 
 pub invariant_of-self : goal.invariant_of-self
 invariant_of-self g c = record { holds = ∥∥₁_map c.args.self.now.holds c.advance.ensures.holds }
 
 pub returns-clause-rests : goal.returns-clause-rests
-returns-clause-rests g c = λ stops.
-    let place = c.advance.new.self in
-    rests_visit (talk_of place) (unread_of place) (unread_of place) refl (c.advance.ensures.rests stops)
+returns-clause-rests g c = c.advance.ensures.rests
 
 pub returns-clause-quiet : goal.returns-clause-quiet
 returns-clause-quiet g c =
