@@ -1,8 +1,11 @@
 //! Texts of this writer, of other makers and of strangers, read.
 
+ghost use Rattle.std.specs.Prelude.{◌≤◌, ◌<◌, ◌^◌, length, string_bytes, IfOk};
+
 use super::texts::{LIVE, ONE_UNIT, head};
 use hls_m3u8::{ByteRange, Kind, ListFault, MediaPlaylist, read_media};
 use std::alloc::Global;
+use std::fmt;
 use std::process::Abort;
 use std::test::Fail;
 
@@ -14,69 +17,87 @@ fn kind_name(kind: Option<Kind>) -> &'static str {
     }
 }
 
-// A range as `length@offset`, or nothing.
-fn range_text(alloc: Global, range: Option<ByteRange>) -> Result<String, Fail> {
-    match range {
-        None => Ok(String::new(alloc)),
-        Some(bytes) => Ok(format!(in alloc; " {}@{}", bytes.length, bytes.offset)?),
+/// A range as `length@offset` behind a blank, or nothing.
+#[derive(Clone, Copy)]
+struct Range(Option<ByteRange>);
+
+impl fmt::Display for Range {
+    fn fmt<W: fmt::Write>(&self, f: &mut fmt::Formatter<W>) -> fmt::Result {
+        match self.0 {
+            None => Ok(()),
+            Some(bytes) => write!(f, " {}@{}", bytes.length, bytes.offset),
+        }
     }
 }
 
-// A date in microseconds and a blank, or nothing.
-fn date_text(alloc: Global, date: Option<i64>) -> Result<String, Fail> {
-    match date {
-        None => Ok(String::new(alloc)),
-        Some(us) => Ok(format!(in alloc; "at {us} ")?),
+/// A date in microseconds and a blank, or nothing.
+#[derive(Clone, Copy)]
+struct Date(Option<i64>);
+
+impl fmt::Display for Date {
+    fn fmt<W: fmt::Write>(&self, f: &mut fmt::Formatter<W>) -> fmt::Result {
+        match self.0 {
+            None => Ok(()),
+            Some(us) => write!(f, "at {us} "),
+        }
     }
 }
 
-// All that a list holds, a line for its tags and one for each segment.
-fn shown(alloc: Global, list: &MediaPlaylist) -> Result<String, Fail> {
-    let mut out = format!(in alloc;
-        "{} {} {} {} {} {}",
-        list.version,
-        list.target,
-        list.media_sequence,
-        list.discontinuity_sequence,
-        kind_name(list.kind),
-        list.ended
-    )?;
-    if let Some(map) = &list.map {
-        out.push_str(" ")?;
-        out.push_str(map.uri.as_str())?;
-        out.push_str(range_text(alloc, map.range)?.as_str())?;
+/// All that a list holds, a line for its tags and one for each segment.
+#[derive(Clone, Copy)]
+struct Shown<'a>(&'a MediaPlaylist);
+
+impl<'a> fmt::Display for Shown<'a> {
+    fn fmt<W: fmt::Write>(&self, f: &mut fmt::Formatter<W>) -> fmt::Result {
+        let list = self.0;
+        write!(f, "{} {} ", list.version, list.target)?;
+        write!(
+            f,
+            "{} {} ",
+            list.media_sequence, list.discontinuity_sequence
+        )?;
+        write!(f, "{} {}", kind_name(list.kind), list.ended)?;
+        if let Some(map) = &list.map {
+            write!(f, " {}{}", map.uri.as_str(), Range(map.range))?;
+        }
+        for segment in &list.segments {
+            let mark = if segment.mark { "mark " } else { "" };
+            write!(f, "\n{mark}{}{} ", Date(segment.date), segment.us)?;
+            write!(f, "{}{}", segment.uri.as_str(), Range(segment.range))?;
+        }
+        Ok(())
     }
-    for segment in &list.segments {
-        let mark = if segment.mark { "mark " } else { "" };
-        out.push_str("\n")?;
-        out.push_str(mark)?;
-        out.push_str(date_text(alloc, segment.date)?.as_str())?;
-        let length = format!(in alloc; "{} ", segment.us)?;
-        out.push_str(length.as_str())?;
-        out.push_str(segment.uri.as_str())?;
-        out.push_str(range_text(alloc, segment.range)?.as_str())?;
-    }
-    Ok(out)
 }
 
 // What a text is read as: its list, or its refusal.
-fn answer(alloc: Global, text: &[u8]) -> Result<String, Fail> {
+fn answer(alloc: Global, text: &[u8]) -> Result<String, Fail>
+    ensures { IfOk result (λ told. length (string_bytes told) < 2 ^ 64) }
+{
     match read_media(alloc, text) {
-        Ok(list) => shown(alloc, &list),
+        Ok(list) => Ok(format!(in alloc; "{}", Shown(&list))?),
         Err(ListFault::BadTag { line }) => Ok(format!(in alloc; "BadTag {line}")?),
         Err(fault) => Ok(String::from_str(alloc, fault.name())?),
     }
 }
 
+/// A text is read as that.
+fn is_read(rt: &impl Abort, alloc: Global, text: &[u8], want: &str) -> Result<(), Fail>
+    ensures { 0 ≤ length text.now }
+{
+    let got = answer(alloc, text)?;
+    assert_eq!(rt; got.as_str(), want);
+    Ok(())
+}
+
 /// The pieces of a text, one after the other, are read as that.
-fn reads(rt: &impl Abort, alloc: Global, pieces: &[&str], want: &str) -> Result<(), Fail> {
+fn reads(rt: &impl Abort, alloc: Global, pieces: &[&str], want: &str) -> Result<(), Fail>
+    ensures { 0 ≤ length pieces.now }
+{
     let mut text = String::new(alloc);
     for piece in pieces {
         text.push_str(piece)?;
     }
-    let got = answer(alloc, text.as_bytes())?;
-    assert_eq!(rt; got.as_str(), want, "of {text}");
-    Ok(())
+    is_read(rt, alloc, text.as_bytes(), want)
 }
 
 /// The segment of one unit's list.
@@ -169,55 +190,70 @@ fn live_after_slide(rt: HostRuntime) -> Result<(), Fail> {
     )
 }
 
-#[test]
-fn values_of_tags(rt: HostRuntime) -> Result<(), Fail> {
-    for (line, want) in [
-        ("#EXT-X-VERSION:000000000000007", "7 6 0 0 live false"),
-        ("#EXT-X-VERSION", "BadTag 3"),
-        ("#EXT-X-VERSION:", "BadTag 3"),
-        ("#EXT-X-VERSION:1000000000000000", "BadTag 3"),
-        ("#EXT-X-TARGETDURATION:7", "BadTag 3"),
-        ("#EXT-X-PLAYLIST-TYPE:EVENT", "1 6 0 0 event false"),
-        ("#EXT-X-PLAYLIST-TYPE:event", "BadTag 3"),
-        ("#EXT-X-ENDLIST:", "BadTag 3"),
-        ("#EXT-X-KEY:METHOD=NONE", "BadTag 3"),
-        ("#EXT-X-KEYFORMAT:1", "1 6 0 0 live false"),
-        ("#EXT-X-STREAM-INF", "BadTag 3"),
-        ("#EXTM3U", "1 6 0 0 live false"),
-        ("#EXT-X-BYTERANGE:0@1", "BadTag 3"),
-        ("#EXT-X-BYTERANGE:1@", "BadTag 3"),
-        ("#EXT-X-MAP:URI=\"\"", "1 6 0 0 live false "),
-        (
-            "#EXT-X-MAP:A=b,URI=\"a,b\",C=\"=,\"",
-            "1 6 0 0 live false a,b",
-        ),
-        ("#EXT-X-MAP:URI=\"a\",", "BadTag 3"),
-        ("#EXT-X-MAP:URI=a", "BadTag 3"),
-        ("#EXT-X-MAP:URI=\"a\",URI=\"a\"", "BadTag 3"),
-        ("#EXT-X-MAP:URI=\"a\",BYTERANGE=\"5\"", "BadTag 3"),
-        ("#EXT-X-MAP:URI=\"a\",BYTERANGE=\"0@0\"", "BadTag 3"),
-        ("#EXT-X-MAP:URI=\"a\",B=", "BadTag 3"),
-        ("#EXT-X-MAP:URI=\"a\",=b", "BadTag 3"),
-        ("#EXT-X-MAP:URI=\"a\"b", "BadTag 3"),
-    ] {
-        reads(&rt, rt.alloc(), &[TAGS, line, "\n"], want)?;
+/// The tags of a list and each of these lines, between two texts, are read as that.
+fn are_read(
+    rt: &impl Abort,
+    alloc: Global,
+    before: &str,
+    lines: &[(&str, &str)],
+    behind: &str,
+) -> Result<(), Fail>
+    ensures { 0 ≤ length lines.now }
+{
+    for (line, want) in lines {
+        reads(rt, alloc, &[TAGS, before, line, behind], want)?;
     }
     Ok(())
 }
 
 #[test]
+fn values_of_tags(rt: HostRuntime) -> Result<(), Fail> {
+    are_read(&rt, rt.alloc(), "", &VALUES, "\n")
+}
+
+/// Lines among the tags, and what is read.
+const VALUES: [(&str, &str); 24] = [
+    ("#EXT-X-VERSION:000000000000007", "7 6 0 0 live false"),
+    ("#EXT-X-VERSION", "BadTag 3"),
+    ("#EXT-X-VERSION:", "BadTag 3"),
+    ("#EXT-X-VERSION:1000000000000000", "BadTag 3"),
+    ("#EXT-X-TARGETDURATION:7", "BadTag 3"),
+    ("#EXT-X-PLAYLIST-TYPE:EVENT", "1 6 0 0 event false"),
+    ("#EXT-X-PLAYLIST-TYPE:event", "BadTag 3"),
+    ("#EXT-X-ENDLIST:", "BadTag 3"),
+    ("#EXT-X-KEY:METHOD=NONE", "BadTag 3"),
+    ("#EXT-X-KEYFORMAT:1", "1 6 0 0 live false"),
+    ("#EXT-X-STREAM-INF", "BadTag 3"),
+    ("#EXTM3U", "1 6 0 0 live false"),
+    ("#EXT-X-BYTERANGE:0@1", "BadTag 3"),
+    ("#EXT-X-BYTERANGE:1@", "BadTag 3"),
+    ("#EXT-X-MAP:URI=\"\"", "1 6 0 0 live false "),
+    (
+        "#EXT-X-MAP:A=b,URI=\"a,b\",C=\"=,\"",
+        "1 6 0 0 live false a,b",
+    ),
+    ("#EXT-X-MAP:URI=\"a\",", "BadTag 3"),
+    ("#EXT-X-MAP:URI=a", "BadTag 3"),
+    ("#EXT-X-MAP:URI=\"a\",URI=\"a\"", "BadTag 3"),
+    ("#EXT-X-MAP:URI=\"a\",BYTERANGE=\"5\"", "BadTag 3"),
+    ("#EXT-X-MAP:URI=\"a\",BYTERANGE=\"0@0\"", "BadTag 3"),
+    ("#EXT-X-MAP:URI=\"a\",B=", "BadTag 3"),
+    ("#EXT-X-MAP:URI=\"a\",=b", "BadTag 3"),
+    ("#EXT-X-MAP:URI=\"a\"b", "BadTag 3"),
+];
+
+const BEHIND_A_SEGMENT: [(&str, &str); 6] = [
+    ("#EXT-X-MEDIA-SEQUENCE:1", "BadTag 5"),
+    ("#EXT-X-DISCONTINUITY-SEQUENCE:1", "BadTag 5"),
+    ("#EXT-X-MAP:URI=\"a\"", "BadTag 5"),
+    ("#EXT-X-VERSION:3", "3 6 0 0 live false\n1000000 a"),
+    ("b", "MissingTag"),
+    ("#EXT-X-DISCONTINUITY\n#EXT-X-DISCONTINUITY", "BadTag 6"),
+];
+
+#[test]
 fn tags_behind_a_segment(rt: HostRuntime) -> Result<(), Fail> {
-    for (line, want) in [
-        ("#EXT-X-MEDIA-SEQUENCE:1", "BadTag 5"),
-        ("#EXT-X-DISCONTINUITY-SEQUENCE:1", "BadTag 5"),
-        ("#EXT-X-MAP:URI=\"a\"", "BadTag 5"),
-        ("#EXT-X-VERSION:3", "3 6 0 0 live false\n1000000 a"),
-        ("b", "MissingTag"),
-        ("#EXT-X-DISCONTINUITY\n#EXT-X-DISCONTINUITY", "BadTag 6"),
-    ] {
-        reads(&rt, rt.alloc(), &[TAGS, "#EXTINF:1\na\n", line], want)?;
-    }
-    Ok(())
+    are_read(&rt, rt.alloc(), "#EXTINF:1\na\n", &BEHIND_A_SEGMENT, "")
 }
 
 /// Lines before a segment, and how what is read of it begins.
@@ -301,11 +337,8 @@ fn date_twice(rt: HostRuntime) -> Result<(), Fail> {
 
 #[test]
 fn bytes_that_are_no_text(rt: HostRuntime) -> Result<(), Fail> {
-    let marked = answer(rt.alloc(), b"\xef\xbb\xbf#EXTM3U\n")?;
-    assert_eq!(rt; marked.as_str(), "Utf8");
-    let cut = answer(rt.alloc(), b"#EXTM3U\n\xc3")?;
-    assert_eq!(rt; cut.as_str(), "Utf8");
-    Ok(())
+    is_read(&rt, rt.alloc(), b"\xef\xbb\xbf#EXTM3U\n", "Utf8")?;
+    is_read(&rt, rt.alloc(), b"#EXTM3U\n\xc3", "Utf8")
 }
 
 /// Lists as others write them, and what is read.

@@ -1,6 +1,6 @@
 //! Texts from outside, byte for byte.
 
-ghost use Rattle.std.specs.Prelude.{All, IfOk};
+ghost use Rattle.std.specs.Prelude.{◌<◌, ◌^◌, length, All, IfOk};
 ghost use Rattle.hls_m3u8.specs.HasText.{IsDate, IsSegment};
 
 use super::texts::{LIVE, ONE_UNIT, head};
@@ -74,44 +74,34 @@ fn segments_of(
     Ok(segments)
 }
 
-// The text of a list of VOD over `uri`, whose init section has 600 bytes.
-#[tactic(auto, using(hls_m3u8::proofs::Building::vod_has_text))]
-fn vod_text(
+// The text of a list over `uri`, whose init section has 600 bytes: of VOD, or a live one of which one segment was removed.
+#[tactic(auto, using(hls_m3u8::proofs::Building::vod_has_text, hls_m3u8::proofs::Building::live_has_text))]
+fn text_of(
     rt: &impl Abort,
     alloc: Global,
     uri: &'static str,
     items: &[(bool, Option<i64>, u64, u64, u64)],
-) -> Result<Vec<u8>, AllocError> {
+    live: bool,
+) -> Result<Vec<u8>, AllocError>
+    ensures { IfOk result (λ text. length text.items < 2 ^ 64) }
+{
     assert!(rt; is_uri(uri));
     let name = ByteStr::from_static(uri);
     let segments = segments_of(rt, alloc, &name, items)?;
-    let list = MediaPlaylist::vod(6, name, 600, segments);
-    write_media(alloc, &list)
-}
-
-// The same for a live list of which one segment was removed.
-#[tactic(auto, using(hls_m3u8::proofs::Building::live_has_text))]
-fn live_text(
-    rt: &impl Abort,
-    alloc: Global,
-    uri: &'static str,
-    items: &[(bool, Option<i64>, u64, u64, u64)],
-) -> Result<Vec<u8>, AllocError> {
-    assert!(rt; is_uri(uri));
-    let name = ByteStr::from_static(uri);
-    let segments = segments_of(rt, alloc, &name, items)?;
-    let list = MediaPlaylist::live(6, 1, 0, name, 600, segments, false);
-    write_media(alloc, &list)
+    if live {
+        write_media(
+            alloc,
+            &MediaPlaylist::live(6, 1, 0, name, 600, segments, false),
+        )
+    } else {
+        write_media(alloc, &MediaPlaylist::vod(6, name, 600, segments))
+    }
 }
 
 #[test]
 fn one_unit(rt: HostRuntime) -> Result<(), Fail> {
-    let text = vod_text(
-        &rt,
-        rt.alloc(),
-        "media.mp4",
-        &[(false, None, 4000000, 1000, 600)],
-    )?;
+    let items = [(false, None, 4000000, 1000, 600)];
+    let text = text_of(&rt, rt.alloc(), "media.mp4", &items, false)?;
     assert_eq!(rt; text.as_slice(), ONE_UNIT.as_bytes());
     assert_eq!(rt; text.capacity(), text.len(), "the buffer is sized once");
     Ok(())
@@ -124,7 +114,7 @@ fn marks_and_lengths(rt: HostRuntime) -> Result<(), Fail> {
         (true, None, 6499999, 999999999999999, 601),
         (false, None, 9007199254740991, 10, 999999999999999),
     ];
-    let text = vod_text(&rt, rt.alloc(), "a b,\u{e9}\u{20ac}.mp4", &items)?;
+    let text = text_of(&rt, rt.alloc(), "a b,\u{e9}\u{20ac}.mp4", &items, false)?;
     assert_eq!(rt;
         text.as_slice(),
         "#EXTM3U
@@ -160,7 +150,7 @@ fn live_after_slide(rt: HostRuntime) -> Result<(), Fail> {
         (false, None, 5000000, 1000, 3600),
         (false, None, 4000000, 1000, 4600),
     ];
-    let text = live_text(&rt, rt.alloc(), "/media/0.mp4", &items)?;
+    let text = text_of(&rt, rt.alloc(), "/media/0.mp4", &items, true)?;
     assert_eq!(rt; text.as_slice(), LIVE.as_bytes());
     Ok(())
 }
@@ -173,7 +163,7 @@ fn dates(rt: HostRuntime) -> Result<(), Fail> {
         (true, Some(230852591254740000), 4000000, 1000, 2600),
         (true, Some(0), 4000000, 1000, 3600),
     ];
-    let text = vod_text(&rt, rt.alloc(), "media.mp4", &items)?;
+    let text = text_of(&rt, rt.alloc(), "media.mp4", &items, false)?;
     let behind = text.as_slice().strip_prefix(head().as_bytes());
     assert_eq!(rt;
         behind,
