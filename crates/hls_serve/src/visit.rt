@@ -45,7 +45,7 @@ pub enum Standing {
 /// hand its `output` out while it `wants_write`; a connection that came to its `end` has nothing more to do but to hand that out.
 ///
 /// It is lent the keeper of its channel at each `advance`; the same keeper may serve others between. While it is idle it holds no
-/// memory but its own 24 bytes, and nothing of what it handed out.
+/// memory but its own 16 bytes, and nothing of what it handed out.
 #[derive(Drop)]
 pub struct Visit {
     alloc: Global,
