@@ -3,8 +3,17 @@
 ghost use Rattle.std.specs.Prelude.{◌≡◌};
 ghost use Rattle.hls_boxes_laws.specs.Name.{name_of};
 
-use hls_faults::name_among;
 use thiserror::Error;
+
+/// The name of a variant, among all that its type has. It is `hls_faults`' macro once more: with that crate below this one the
+/// longest chain of crates would be longer.
+macro_rules! name_among {
+    ($fault:expr; $type:ident: $($variant:ident),*) => {
+        match $fault {
+            $($type::$variant { .. } => stringify!($variant)),*
+        }
+    };
+}
 
 /// Why a stream can't be cut further. All but `Truncated` and `Memory` are faults of the first box
 /// header that shows one, and stay for ever; the tests are made in the order `OpenEnded`, `BadSize`,

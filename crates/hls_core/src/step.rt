@@ -122,7 +122,19 @@ fn accept(
     if snapshot.is_full() {
         return Err(Refusal::LedgerFull);
     }
-    keep(snapshot, alloc, by, rendition, old, recording, facts, bytes)
+    let unit = Unit {
+        rendition,
+        facts,
+        bytes,
+    };
+    keep(snapshot, alloc, by, unit, old, recording)
+}
+
+/// A unit that is to be kept, and of which rendition it is.
+struct Unit {
+    rendition: usize,
+    facts: Facts,
+    bytes: Bytes,
 }
 
 /// Keeps a unit that no test but those of its length and of memory can refuse.
@@ -130,21 +142,24 @@ fn keep(
     snapshot: &Snapshot,
     alloc: Global,
     by: u16,
-    rendition: usize,
+    unit: Unit,
     old: &Side,
     recording: &Recording,
-    facts: Facts,
-    bytes: Bytes,
 ) -> Result<Stepped, Refusal>
-    requires fits { IsFitting snapshot.now (Accept rendition facts bytes) }
+    requires fits { IsFitting snapshot.now (Accept unit.rendition unit.facts unit.bytes) }
     requires valid { IsState snapshot.now }
-    requires at { IsAt snapshot.now rendition old.now }
+    requires at { IsAt snapshot.now unit.rendition old.now }
     requires begun { old.now.recording ≡ Some recording.now }
-    requires apart { twin_of recording.now facts.start ≡ None }
+    requires apart { twin_of recording.now unit.facts.start ≡ None }
     requires going { old.now.finished ≡ false }
     requires room { length snapshot.now.log < log_limit }
-    ensures { Steps snapshot.now by (Accept rendition facts bytes) result }
+    ensures { Steps snapshot.now by (Accept unit.rendition unit.facts unit.bytes) result }
 {
+    let Unit {
+        rendition,
+        facts,
+        bytes,
+    } = unit;
     let recording = match recording.appended(alloc, facts, bytes) {
         Ok(recording) => recording,
         Err(RecordFault::Overlap) => return Err(Refusal::Overlap),
