@@ -1,7 +1,6 @@
 //! The tests, and what they share.
 
-mod places;
 mod recordings;
+mod refused;
 mod samples;
-mod steps;
 mod turns;

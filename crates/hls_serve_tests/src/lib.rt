@@ -1,5 +1,5 @@
-//! Tests of sessions: whole texts of requests over memory, and the bytes that are answered. They stand apart from
-//! `hls_serve`, so that its proof isn't made once more for them.
+//! Tests of sessions over memory: connections cut anywhere, calls that fail, memory that is refused. They stand apart from
+//! `hls_serve`, so that its proof isn't made once more for them; those of what whole sessions answer need none (`tests/calls`).
 #![tactic(auto)]
 
 #[cfg(test)]
@@ -13,23 +13,11 @@ mod failing;
 #[cfg(test)]
 mod fakes;
 #[cfg(test)]
-mod jobs;
-#[cfg(test)]
-mod media;
-#[cfg(test)]
-mod paths;
-#[cfg(test)]
-mod refusals;
-#[cfg(test)]
 mod refused;
 #[cfg(test)]
 mod refused_turn;
 #[cfg(test)]
 mod script;
-#[cfg(test)]
-mod sessions;
-#[cfg(test)]
-mod smuggling;
 #[cfg(test)]
 mod streams;
 #[cfg(test)]
