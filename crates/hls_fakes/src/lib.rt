@@ -1,14 +1,16 @@
-//! Readers and writers over memory for tests: in small steps, with one call that fails, without memory of their own; and outputs
-//! taken to their end.
+//! Readers and writers over memory for tests: in small steps, with one call that fails, without memory of their own; outputs
+//! taken to their end; and flags of other threads that are looked at until they are set.
 #![tactic(auto)]
 
 mod calls;
 mod drips;
+mod flags;
 mod outputs;
 mod page;
 mod sink;
 
 pub use drips::Drips;
+pub use flags::{LOOKS, is_set_at_last};
 pub use outputs::{goes_out, sent_of};
 pub use page::Page;
 pub use sink::Sink;

@@ -22,7 +22,6 @@ mod listings;
 #[cfg(test)]
 mod lists;
 #[cfg(test)]
-#[cfg(test)]
 mod places;
 #[cfg(test)]
 mod states;

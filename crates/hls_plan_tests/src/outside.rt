@@ -6,6 +6,7 @@ use hls_check_laws::PlaceTable;
 use hls_check_text::{read, write};
 use hls_plan::{certificate, plan};
 use std::alloc::Global;
+use std::process::Abort;
 use std::test::Fail;
 use std::thread::Threads;
 
@@ -96,148 +97,99 @@ fn answer(rt: &(impl Threads + Sync), alloc: Global, text: &str) -> Result<Verdi
     }
 }
 
-const CHANGED: [(&str, &str, &str, Result<Verdict, CertFault>); 26] = [
+/// What stands in a text, what is put in its place, and what both checkers say then.
+type Change = (&'static str, &'static str, Result<Verdict, CertFault>);
+
+const OF_FIVE_UNITS: [Change; 17] = [
+    ("end", "end", Ok(Verdict::Cut { cost: 1_000_000 })),
     (
-        FIVE_UNITS,
-        "end",
-        "end",
-        Ok(Verdict::Cut { cost: 1_000_000 }),
-    ),
-    (
-        FIVE_UNITS,
         "1 3000000 ",
         "1 3000001 ",
         Err(CertFault::TableNotSorted { place: 1 }),
     ),
     (
-        FIVE_UNITS,
         "3 7000000 7000000",
         "3 6000000 6000000",
         Err(CertFault::TableNotSorted { place: 3 }),
     ),
+    ("cut 1000000", "cut 1000001", Err(CertFault::PlanCost)),
+    ("plan 0 1 3 4", "plan 0 1 3", Err(CertFault::PlanEnds)),
     (
-        FIVE_UNITS,
-        "cut 1000000",
-        "cut 1000001",
-        Err(CertFault::PlanCost),
-    ),
-    (
-        FIVE_UNITS,
-        "plan 0 1 3 4",
-        "plan 0 1 3",
-        Err(CertFault::PlanEnds),
-    ),
-    (
-        FIVE_UNITS,
         "plan 0 1 3 4",
         "plan 0 1 0 4",
         Err(CertFault::PlanStep { p: 1, q: 0 }),
     ),
+    ("plan 0 1 3 4", "plan 0 2 3 4", Err(CertFault::PlanCost)),
+    ("price 0 0", "price 0 1", Err(CertFault::PriceStart)),
     (
-        FIVE_UNITS,
-        "plan 0 1 3 4",
-        "plan 0 2 3 4",
-        Err(CertFault::PlanCost),
-    ),
-    (
-        FIVE_UNITS,
-        "price 0 0",
-        "price 0 1",
-        Err(CertFault::PriceStart),
-    ),
-    (
-        FIVE_UNITS,
         "price 2 2000000\n",
         "",
         Err(CertFault::PriceStep { p: 0, q: 2 }),
     ),
     (
-        FIVE_UNITS,
         "price 3 1000000",
         "price 3 1000001",
         Err(CertFault::PriceStep { p: 1, q: 3 }),
     ),
     (
-        FIVE_UNITS,
         "price 4 1000000",
         "price 4 1000001",
         Err(CertFault::PlanCost),
     ),
+    ("price 4 1000000\n", "", Err(CertFault::PlanCost)),
+    ("end\n", "end", Err(CertFault::Form { line: 18 })),
+    ("end\n", "", Err(CertFault::Form { line: 18 })),
+    ("end\n", "end\nx", Err(CertFault::Form { line: 19 })),
+    ("CATE 1", "CATE 2", Err(CertFault::Form { line: 2 })),
+    (FIVE_UNITS, "", Err(CertFault::Form { line: 1 })),
+];
+
+const OF_CHARGED: [Change; 5] = [
+    ("end", "end", Ok(Verdict::Cut { cost: 9_000_000 })),
+    ("CATE 2", "CATE 1", Err(CertFault::Form { line: 2 })),
+    ("rule 2 3000000", "rule 2 0", Err(CertFault::PlanCost)),
+    ("plan 0 2 4", "plan 0 1 3 4", Err(CertFault::PlanCost)),
     (
-        FIVE_UNITS,
-        "price 4 1000000\n",
-        "",
-        Err(CertFault::PlanCost),
-    ),
-    (
-        FIVE_UNITS,
-        "end\n",
-        "end",
-        Err(CertFault::Form { line: 18 }),
-    ),
-    (FIVE_UNITS, "end\n", "", Err(CertFault::Form { line: 18 })),
-    (
-        FIVE_UNITS,
-        "end\n",
-        "end\nx",
-        Err(CertFault::Form { line: 19 }),
-    ),
-    (
-        FIVE_UNITS,
-        "CATE 1",
-        "CATE 2",
-        Err(CertFault::Form { line: 2 }),
-    ),
-    (FIVE_UNITS, FIVE_UNITS, "", Err(CertFault::Form { line: 1 })),
-    (CHARGED, "end", "end", Ok(Verdict::Cut { cost: 9_000_000 })),
-    (
-        CHARGED,
-        "CATE 2",
-        "CATE 1",
-        Err(CertFault::Form { line: 2 }),
-    ),
-    (
-        CHARGED,
-        "rule 2 3000000",
-        "rule 2 0",
-        Err(CertFault::PlanCost),
-    ),
-    (
-        CHARGED,
-        "plan 0 2 4",
-        "plan 0 1 3 4",
-        Err(CertFault::PlanCost),
-    ),
-    (
-        CHARGED,
         "price 2 5000000",
         "price 2 5000001",
         Err(CertFault::PriceStep { p: 0, q: 2 }),
     ),
-    (NO_CUT, "end", "end", Ok(Verdict::NoCut)),
-    (NO_CUT, "closed 0\n", "", Err(CertFault::PriceStart)),
+];
+
+const OF_NO_CUT: [Change; 4] = [
+    ("end", "end", Ok(Verdict::NoCut)),
+    ("closed 0\n", "", Err(CertFault::PriceStart)),
     (
-        NO_CUT,
         "closed 0\n",
         "closed 0\nclosed 1\n",
         Err(CertFault::EndReached),
     ),
     (
-        NO_CUT,
         "1 7000000 7000000",
         "1 6000000 6000000",
         Err(CertFault::PriceStep { p: 0, q: 1 }),
     ),
 ];
 
-#[test]
-fn a_changed_text_is_answered(rt: HostRuntime) -> Result<(), Fail> {
-    let alloc = rt.alloc();
-    for (text, old, new, wanted) in CHANGED {
-        let changed = text.replacen(alloc, old, new, 1)?;
-        assert_eq!(rt; answer(&rt, alloc, changed.as_str()), wanted, "{old} {new}");
+/// The text with each of these changes is answered so.
+fn are_answered<R: Abort + Threads + Sync>(
+    rt: &R,
+    alloc: Global,
+    text: &str,
+    changes: &[Change],
+) -> Result<(), Fail> {
+    for (old, new, wanted) in changes {
+        let changed = text.replacen(alloc, *old, new, 1)?;
+        assert_eq!(rt; answer(rt, alloc, changed.as_str()), *wanted, "{old} {new}");
     }
     Ok(())
+}
+
+#[test]
+fn a_changed_text_is_answered(rt: HostRuntime) -> Result<(), Fail> {
+    are_answered(&rt, rt.alloc(), FIVE_UNITS, &OF_FIVE_UNITS)?;
+    are_answered(&rt, rt.alloc(), CHARGED, &OF_CHARGED)?;
+    are_answered(&rt, rt.alloc(), NO_CUT, &OF_NO_CUT)
 }
 
 /// Lines by the number of the one in whose place they are wrong.

@@ -27,19 +27,6 @@ fn recorded(alloc: Global, units: &[(u32, u32)]) -> Result<Arc<Snapshot>, Sample
     with_units(alloc, &*opened(alloc)?, 0, units)
 }
 
-const TEN_UNITS: [(u32, u32); 10] = [
-    (0, 4),
-    (4, 8),
-    (8, 12),
-    (12, 16),
-    (16, 20),
-    (20, 24),
-    (24, 28),
-    (28, 32),
-    (32, 36),
-    (36, 40),
-];
-
 /// After a slide by four segments and a trim of their four units.
 fn trimmed(alloc: Global, snapshot: &Snapshot) -> Result<Arc<Snapshot>, SampleFault>
     ensures { IfOk result (λ s. length snapshot.now.log ≤ length s.value.log) }

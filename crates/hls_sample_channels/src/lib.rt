@@ -10,4 +10,4 @@ mod states;
 pub use events::{accept_event, begin_event};
 pub use fault::SampleFault;
 pub use opening::{SECOND, opened, opened_with, rendition};
-pub use states::{begun, finished, stepped, with_unit, with_units};
+pub use states::{TEN_UNITS, begun, finished, stepped, with_unit, with_units};

@@ -75,6 +75,20 @@ pub fn with_units(
     Ok(state)
 }
 
+/// Ten units of four seconds.
+pub const TEN_UNITS: [(u32, u32); 10] = [
+    (0, 4),
+    (4, 8),
+    (8, 12),
+    (12, 16),
+    (16, 20),
+    (20, 24),
+    (24, 28),
+    (28, 32),
+    (32, 36),
+    (36, 40),
+];
+
 /// With a rendition that has begun at its end.
 pub fn finished(
     alloc: Global,

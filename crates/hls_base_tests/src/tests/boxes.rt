@@ -1,5 +1,7 @@
 //! Streams by the sample builders, and the faults of single headers.
 
+ghost use Rattle.std.specs.Prelude.{◌≡◌, ◌≤◌, ◌<◌, ◌^◌, length, IfOk};
+
 use hls_boxes::UnitReader;
 use hls_boxes_laws::fault::BoxFault;
 use hls_boxes_laws::part::Part;
@@ -9,7 +11,9 @@ use std::process::Abort;
 use std::test::Fail;
 
 /// Feeds a piece. Where memory is refused and the reader is as it was, it does so once more.
-fn fed(reader: &mut UnitReader, piece: &[u8]) -> Result<(), BoxFault> {
+fn fed(reader: &mut UnitReader, piece: &[u8]) -> Result<(), BoxFault>
+    ensures { 0 ≤ length piece.now }
+{
     let before = reader.finish();
     match reader.feed(piece) {
         Err(BoxFault::Memory) if reader.finish() == before => reader.feed(piece),
@@ -26,56 +30,68 @@ fn taken(reader: &mut UnitReader) -> Result<Option<Part>, AllocError> {
     }
 }
 
-fn is_init(part: &Option<Part>, bytes: &[u8]) -> bool {
-    match part {
-        Some(Part::Init(found)) => found.as_slice() == bytes,
+/// What is to come out of a reader.
+#[derive(Clone, Copy)]
+enum Next<'a> {
+    Init(&'a [u8]),
+    Unit(&'a [u8]),
+    Nothing,
+}
+
+/// Whether that comes out next.
+fn gives(reader: &mut UnitReader, next: Next<'_>) -> bool
+    ensures { result ≡ result }
+{
+    match (taken(reader), next) {
+        (Ok(Some(Part::Init(found))), Next::Init(bytes)) => found.as_slice() == bytes,
+        (Ok(Some(Part::Unit(found))), Next::Unit(bytes)) => found.as_slice() == bytes,
+        (Ok(None), Next::Nothing) => true,
         _ => false,
     }
 }
 
-fn is_unit(part: &Option<Part>, bytes: &[u8]) -> bool {
-    match part {
-        Some(Part::Unit(found)) => found.as_slice() == bytes,
-        _ => false,
-    }
+/// Whether nothing more comes out of a stream that is whole.
+fn is_at_its_end(reader: &mut UnitReader) -> bool
+    ensures { result ≡ result }
+{
+    gives(reader, Next::Nothing) && reader.finish().is_ok()
 }
 
 /// An init section and a unit come out, and nothing is left.
-fn takes_both(
-    rt: &impl Abort,
-    reader: &mut UnitReader,
-    init: &[u8],
-    unit: &[u8],
-) -> Result<(), Fail> {
-    assert!(rt; is_init(&taken(reader)?, init));
-    assert!(rt; is_unit(&taken(reader)?, unit));
-    assert!(rt; taken(reader)?.is_none());
-    assert!(rt; reader.finish().is_ok());
-    Ok(())
+fn gives_both(rt: &impl Abort, reader: &mut UnitReader, init: &[u8], unit: &[u8])
+    ensures { 0 ≤ length init.now }
+{
+    assert!(rt; gives(reader, Next::Init(init)));
+    assert!(rt; gives(reader, Next::Unit(unit)));
+    assert!(rt; is_at_its_end(reader));
 }
 
 /// The same in pieces of one length, and cut in two at every place.
-fn reads_in_pieces(rt: &impl Abort, alloc: Global, init: &[u8], unit: &[u8]) -> Result<(), Fail> {
+fn reads_in_pieces(rt: &impl Abort, alloc: Global, init: &[u8], unit: &[u8]) -> Result<(), Fail>
+    ensures { 0 ≤ length init.now }
+{
     let text = joined(alloc, &[init, unit])?;
     for len in [1, 7, 600, 4096] {
         let mut reader = UnitReader::new(alloc);
         for piece in text.chunks(len) {
             assert!(rt; fed(&mut reader, piece).is_ok());
         }
-        takes_both(rt, &mut reader, init, unit)?;
+        gives_both(rt, &mut reader, init, unit);
     }
     let mut reader = UnitReader::new(alloc);
     for at in 0..=text.len() {
         if let Some((front, rest)) = text.split_at_checked(at) {
             assert!(rt; fed(&mut reader, front).is_ok());
             assert!(rt; fed(&mut reader, rest).is_ok());
-            takes_both(rt, &mut reader, init, unit)?;
+            gives_both(rt, &mut reader, init, unit);
         }
     }
     Ok(())
 }
 
-fn joined(alloc: Global, pieces: &[&[u8]]) -> Result<Vec<u8>, AllocError> {
+fn joined(alloc: Global, pieces: &[&[u8]]) -> Result<Vec<u8>, AllocError>
+    ensures { IfOk result (λ bytes. length bytes.items < 2 ^ 64) }
+{
     let mut text = Vec::new(alloc);
     for piece in pieces {
         text.extend_from_slice(piece)?;
@@ -92,23 +108,32 @@ fn an_init_and_a_unit(rt: HostRuntime) -> Result<(), Fail> {
 }
 
 /// An init section behind a `free` box whose size has 64 bits.
-fn init_after_free(alloc: Global) -> Result<Vec<u8>, AllocError> {
-    let mut text = Vec::new(alloc);
-    text.extend_from_slice(
-        b"\x00\x00\x00\x01free\x00\x00\x00\x00\x00\x00\x00\x14\xaa\xaa\xaa\xaa",
-    )?;
-    text.extend_from_slice(&init_bytes(alloc, b"vide", 90000)?)?;
-    Ok(text)
+fn init_after_free(alloc: Global) -> Result<Vec<u8>, AllocError>
+    ensures { IfOk result (λ bytes. length bytes.items < 2 ^ 64) }
+{
+    let init = init_bytes(alloc, b"vide", 90000)?;
+    joined(
+        alloc,
+        &[
+            b"\x00\x00\x00\x01free\x00\x00\x00\x00\x00\x00\x00\x14\xaa\xaa\xaa\xaa",
+            &init,
+        ],
+    )
 }
 
 /// A `styp`, a `moof` and an `mdat`, the latter two with sizes of 64 bits, and a `free` between.
-fn unit_with_styp(alloc: Global) -> Result<Vec<u8>, AllocError> {
-    let mut text = Vec::new(alloc);
-    text.extend_from_slice(b"\x00\x00\x00\x18stypmsdh\x00\x00\x00\x00msdhmsix")?;
-    text.extend_from_slice(b"\x00\x00\x00\x01moof\x00\x00\x00\x00\x00\x00\x00\x18")?;
-    text.extend_from_slice(b"\x00\x00\x00\x08mfhd\x00\x00\x00\x09free\xaa")?;
-    text.extend_from_slice(b"\x00\x00\x00\x01mdat\x00\x00\x00\x00\x00\x00\x00\x13\x01\x02\x03")?;
-    Ok(text)
+fn unit_with_styp(alloc: Global) -> Result<Vec<u8>, AllocError>
+    ensures { IfOk result (λ bytes. length bytes.items < 2 ^ 64) }
+{
+    joined(
+        alloc,
+        &[
+            b"\x00\x00\x00\x18stypmsdh\x00\x00\x00\x00msdhmsix",
+            b"\x00\x00\x00\x01moof\x00\x00\x00\x00\x00\x00\x00\x18",
+            b"\x00\x00\x00\x08mfhd\x00\x00\x00\x09free\xaa",
+            b"\x00\x00\x00\x01mdat\x00\x00\x00\x00\x00\x00\x00\x13\x01\x02\x03",
+        ],
+    )
 }
 
 #[test]
@@ -168,63 +193,74 @@ fn faults_of_headers(rt: HostRuntime) {
 
 /// All memory here is the reader's, so this is the test to run with each allocation refused in turn.
 #[test]
-fn refused_memory_loses_nothing(rt: HostRuntime) -> Result<(), Fail> {
+fn refused_memory_loses_nothing(rt: HostRuntime) {
     let mut reader = UnitReader::new(rt.alloc());
     for piece in b"\x00\x00\x00\x09moov\x01\x00\x00\x00\x08moof\x00\x00\x00\x0amdat\x02\x03".chunks(
         7,
     ) {
         assert!(rt; fed(&mut reader, piece).is_ok());
     }
-    takes_both(
+    gives_both(
         &rt,
         &mut reader,
         b"\x00\x00\x00\x09moov\x01",
         b"\x00\x00\x00\x08moof\x00\x00\x00\x0amdat\x02\x03",
-    )
+    );
 }
 
 /// The memory for whole parts has to grow in the midst of this piece.
 #[test]
-fn refused_memory_between_parts(rt: HostRuntime) -> Result<(), Fail> {
+fn refused_memory_between_parts(rt: HostRuntime) {
     let mut reader = UnitReader::new(rt.alloc());
     let piece =
         b"\x00\x00\x00\x08moov\x00\x00\x00\x09moov\x01\x00\x00\x00\x09moov\x02\x00\x00\x00\x09moov\x03\x00\x00\x00\x09moov\x04\x00\x00\x00\x09moov\x05";
     assert!(rt; fed(&mut reader, piece).is_ok());
-    assert!(rt; is_init(&taken(&mut reader)?, b"\x00\x00\x00\x08moov"));
+    assert!(rt; gives(&mut reader, Next::Init(b"\x00\x00\x00\x08moov")));
     for last in 1..=5 {
         let init = [0, 0, 0, 9, b'm', b'o', b'o', b'v', last];
-        assert!(rt; is_init(&taken(&mut reader)?, &init));
+        assert!(rt; gives(&mut reader, Next::Init(&init)));
     }
-    assert!(rt; taken(&mut reader)?.is_none());
-    assert!(rt; reader.finish().is_ok());
-    Ok(())
+    assert!(rt; is_at_its_end(&mut reader));
 }
 
-fn small_unit(alloc: Global, number: u16) -> Result<Vec<u8>, AllocError> {
-    joined(
-        alloc,
-        &[
-            b"\x00\x00\x00\x08moof\x00\x00\x00\x0amdat",
-            &number.to_be_bytes(),
-        ],
-    )
+/// A unit of 18 bytes, of which the last two are its number.
+fn small_unit(number: u16) -> [u8; 18] {
+    let mut unit = *b"\x00\x00\x00\x08moof\x00\x00\x00\x0amdat\x00\x00";
+    unit[16..].copy_from_slice(&number.to_be_bytes());
+    unit
+}
+
+fn small_units(alloc: Global) -> Result<Vec<u8>, AllocError>
+    ensures { IfOk result (λ bytes. length bytes.items < 2 ^ 64) }
+{
+    let mut text = Vec::new(alloc);
+    for number in 0..5000 {
+        text.extend_from_slice(&small_unit(number))?;
+    }
+    Ok(text)
 }
 
 #[test]
 fn many_small_units_in_one_piece(rt: HostRuntime) -> Result<(), Fail> {
-    let alloc = rt.alloc();
-    let mut text = Vec::new(alloc);
-    for number in 0..5000 {
-        text.extend_from_slice(&small_unit(alloc, number)?)?;
-    }
-    let mut reader = UnitReader::new(alloc);
+    let text = small_units(rt.alloc())?;
+    let mut reader = UnitReader::new(rt.alloc());
     assert!(rt; fed(&mut reader, &text).is_ok());
     for number in 0..5000 {
-        assert!(rt; is_unit(&taken(&mut reader)?, &small_unit(alloc, number)?));
+        assert!(rt; gives(&mut reader, Next::Unit(&small_unit(number))));
     }
-    assert!(rt; taken(&mut reader)?.is_none());
-    assert!(rt; reader.finish().is_ok());
+    assert!(rt; is_at_its_end(&mut reader));
     Ok(())
+}
+
+/// An init section and a unit come out that were fed before a fault, and the fault stays.
+fn gives_before_a_fault(rt: &impl Abort, alloc: Global, init: &[u8], unit: &[u8], text: &[u8]) {
+    let mut reader = UnitReader::new(alloc);
+    assert_eq!(rt; fed(&mut reader, text), Err(BoxFault::MdatAlone));
+    assert!(rt; gives(&mut reader, Next::Init(init)));
+    assert_eq!(rt; reader.feed(b"\x00"), Err(BoxFault::MdatAlone));
+    assert!(rt; gives(&mut reader, Next::Unit(unit)));
+    assert!(rt; gives(&mut reader, Next::Nothing));
+    assert_eq!(rt; reader.finish(), Err(BoxFault::MdatAlone));
 }
 
 #[test]
@@ -232,18 +268,30 @@ fn parts_before_a_fault(rt: HostRuntime) -> Result<(), Fail> {
     let alloc = rt.alloc();
     let init = init_bytes(alloc, b"soun", 48000)?;
     let unit = unit_bytes(alloc, 0, 192512, true, 1000)?;
-    let text = joined(
-        alloc,
-        &[init.as_slice(), unit.as_slice(), b"\x00\x00\x00\x0cmdat"],
-    )?;
-    let mut reader = UnitReader::new(alloc);
-    assert_eq!(rt; fed(&mut reader, text.as_slice()), Err(BoxFault::MdatAlone));
-    assert!(rt; is_init(&taken(&mut reader)?, init.as_slice()));
-    assert_eq!(rt; reader.feed(b"\x00"), Err(BoxFault::MdatAlone));
-    assert!(rt; is_unit(&taken(&mut reader)?, unit.as_slice()));
-    assert!(rt; taken(&mut reader)?.is_none());
-    assert_eq!(rt; reader.finish(), Err(BoxFault::MdatAlone));
+    let text = joined(alloc, &[init.as_slice(), &unit, b"\x00\x00\x00\x0cmdat"])?;
+    gives_before_a_fault(&rt, alloc, &init, &unit, &text);
     Ok(())
+}
+
+/// Whether a beginning of the samples is fed, says whether it ends at a box's end, and gives what parts are whole.
+fn is_begun(alloc: Global, front: &[u8], init: &[u8], unit: &[u8]) -> bool {
+    let len = front.len();
+    let mut reader = UnitReader::new(alloc);
+    let whole = matches!(len, 0 | 16 | 379 | 600 | 1600);
+    if fed(&mut reader, front).is_err() || reader.finish().is_ok() != whole {
+        return false;
+    }
+    let first = if len < 600 {
+        Next::Nothing
+    } else {
+        Next::Init(init)
+    };
+    let second = if len < 1600 {
+        Next::Nothing
+    } else {
+        Next::Unit(unit)
+    };
+    gives(&mut reader, first) && gives(&mut reader, second)
 }
 
 /// The boxes of the samples end at 16, 379 and 600, and at 700 and 1600.
@@ -252,41 +300,29 @@ fn every_shorter_beginning(rt: HostRuntime) -> Result<(), Fail> {
     let alloc = rt.alloc();
     let init = init_bytes(alloc, b"vide", 90000)?;
     let unit = unit_bytes(alloc, 0, 360000, true, 1000)?;
-    let text = joined(alloc, &[init.as_slice(), unit.as_slice()])?;
+    let text = joined(alloc, &[init.as_slice(), &unit])?;
     for len in 0..=text.len() {
-        if let Some((front, _)) = text.split_at_checked(len) {
-            let mut reader = UnitReader::new(alloc);
-            assert!(rt; fed(&mut reader, front).is_ok());
-            let whole = matches!(len, 0 | 16 | 379 | 600 | 1600);
-            assert_eq!(rt; reader.finish().is_ok(), whole, "after {len} bytes");
-            assert_eq!(rt;
-                taken(&mut reader)?.is_some(),
-                len >= 600,
-                "after {len} bytes"
-            );
-            assert_eq!(rt;
-                taken(&mut reader)?.is_some(),
-                len >= 1600,
-                "after {len} bytes"
-            );
-        }
+        let front = text.get(..len).unwrap_or(b"");
+        assert!(rt; is_begun(alloc, front, &init, &unit), "after {len} bytes");
     }
     Ok(())
 }
 
+const NAMES: [(BoxFault, &str); 7] = [
+    (BoxFault::BadSize, "BadSize"),
+    (BoxFault::TooLarge, "TooLarge"),
+    (BoxFault::OpenEnded, "OpenEnded"),
+    (BoxFault::MdatAlone, "MdatAlone"),
+    (BoxFault::MoofWithoutMdat, "MoofWithoutMdat"),
+    (BoxFault::Truncated, "Truncated"),
+    (BoxFault::Memory, "Memory"),
+];
+
 #[test]
 fn names_and_texts(rt: HostRuntime) -> Result<(), Fail> {
-    for fault in [
-        BoxFault::BadSize,
-        BoxFault::TooLarge,
-        BoxFault::OpenEnded,
-        BoxFault::MdatAlone,
-        BoxFault::MoofWithoutMdat,
-        BoxFault::Truncated,
-        BoxFault::Memory,
-    ] {
-        let text = format!(in rt.alloc(); "{fault}")?;
-        assert_eq!(rt; text.as_str(), fault.name());
+    for (fault, name) in NAMES {
+        assert_eq!(rt; fault.name(), name);
+        assert_eq!(rt; format!(in rt.alloc(); "{fault}")?.as_str(), name);
     }
     Ok(())
 }

@@ -1,6 +1,6 @@
 //! Connections of one worker, over sockets, with a host that hands back what it receives.
 
-ghost use Rattle.std.specs.Prelude.{◌≤◌};
+ghost use Rattle.std.specs.Prelude.{◌≡◌, ◌≤◌};
 
 use hls_loop::{Door, End, Host, Post, widen, work};
 use hls_pace::Stage;
@@ -8,7 +8,6 @@ use std::alloc::Global;
 use std::io::{self, ErrorKind, Read, Write};
 use std::net::{Net, Shutdown, SocketAddr, TcpListener, TcpStream};
 use std::sync::Wait;
-use std::test::Fail;
 use std::thread::{self, Threads};
 use std::time::{Clock, Duration};
 
@@ -108,23 +107,40 @@ impl Host for Mirror {
 }
 
 /// A client of the worker's, which waits for ten seconds at most.
-fn client<R: Net<Stream = TcpStream>>(rt: &R, address: SocketAddr) -> io::Result<TcpStream> {
+fn client<R: Net<Stream = TcpStream>>(rt: &R, address: SocketAddr) -> io::Result<TcpStream>
+    ensures { result ≡ result }
+{
     let stream = TcpStream::connect(rt, address)?;
     stream.set_read_timeout(Some(Duration::from_secs(10)))?;
     Ok(stream)
 }
 
 /// Whether a byte that is sent comes back.
-fn is_handed_back(stream: &TcpStream, byte: u8) -> io::Result<bool> {
+fn is_handed_back(stream: &TcpStream, byte: u8) -> bool
+    ensures { result ≡ result }
+{
     let mut stream = stream;
     let mut back = [0; 4];
-    let _ = stream.write(&[byte])?;
-    let count = stream.read(&mut back)?;
-    Ok(count == 1 && back[0] == byte)
+    match (stream.write(&[byte]), stream.read(&mut back)) {
+        (Ok(_), Ok(count)) => count == 1 && back[0] == byte,
+        _ => false,
+    }
+}
+
+/// Whether a byte that there is no memory for is answered so.
+fn is_refused(stream: &TcpStream) -> bool {
+    let mut stream = stream;
+    let mut back = [0; 4];
+    match (stream.write(&[TOO_MUCH]), stream.read(&mut back)) {
+        (Ok(_), Ok(count)) => count == 4 && back == *b"none",
+        _ => false,
+    }
 }
 
 /// Whether the connection ends, with no byte before.
-fn is_ended(stream: &TcpStream) -> bool {
+fn is_ended(stream: &TcpStream) -> bool
+    ensures { result ≡ result }
+{
     let mut stream = stream;
     let mut back = [0; 4];
     match stream.read(&mut back) {
@@ -148,45 +164,66 @@ enum Scene {
     NoMemory,
 }
 
+impl Scene {
+    /// How many places the worker has, and how many connections it takes.
+    fn size(self) -> (u64, u64) {
+        match self {
+            Scene::Turns => (8, 3),
+            Scene::Full => (2, 3),
+            _ => (8, 1),
+        }
+    }
+}
+
+/// Whether three clients, of which the first is there, are each handed back what they send in turns.
+fn take_turns<R: Net<Stream = TcpStream>>(
+    rt: &R,
+    address: SocketAddr,
+    first: &TcpStream,
+) -> io::Result<bool> {
+    let second = client(rt, address)?;
+    let third = client(rt, address)?;
+    for byte in 2..9 {
+        let right = is_handed_back(first, byte)
+            && is_handed_back(&second, byte | 16)
+            && is_handed_back(&third, byte | 32);
+        if !right {
+            return Ok(false);
+        }
+    }
+    Ok(true)
+}
+
+/// Whether the first of three clients goes, which is idle for the longest time.
+fn give_way<R: Net<Stream = TcpStream>>(
+    rt: &R,
+    address: SocketAddr,
+    first: &TcpStream,
+) -> io::Result<bool> {
+    let second = client(rt, address)?;
+    let before = is_handed_back(&second, 2);
+    let third = client(rt, address)?;
+    let after = is_handed_back(&third, 3);
+    Ok(before && after && is_ended(first) && is_handed_back(&second, 4))
+}
+
 /// Whether the clients of a scene see what they are to see. All of them close at the end.
 fn is_right<R: Net<Stream = TcpStream>>(
     rt: &R,
     address: SocketAddr,
     scene: Scene,
-) -> io::Result<bool> {
+) -> io::Result<bool>
+    ensures { result ≡ result }
+{
     let first = client(rt, address)?;
-    if !is_handed_back(&first, 1)? {
+    if !is_handed_back(&first, 1) {
         return Ok(false);
     }
     match scene {
-        Scene::Turns => {
-            let second = client(rt, address)?;
-            let third = client(rt, address)?;
-            for byte in 2..9 {
-                let right = is_handed_back(&first, byte)?
-                    && is_handed_back(&second, byte | 16)?
-                    && is_handed_back(&third, byte | 32)?;
-                if !right {
-                    return Ok(false);
-                }
-            }
-            Ok(true)
-        }
-        Scene::Full => {
-            let second = client(rt, address)?;
-            let before = is_handed_back(&second, 2)?;
-            let third = client(rt, address)?;
-            let after = is_handed_back(&third, 3)?;
-            Ok(before && after && is_ended(&first) && is_handed_back(&second, 4)?)
-        }
+        Scene::Turns => take_turns(rt, address, &first),
+        Scene::Full => give_way(rt, address, &first),
         Scene::Silence => Ok(is_ended(&first)),
-        Scene::NoMemory => {
-            let mut stream = &first;
-            let mut back = [0; 4];
-            let _ = stream.write(&[TOO_MUCH])?;
-            let count = stream.read(&mut back)?;
-            Ok(count == 4 && back == *b"none" && is_ended(&first))
-        }
+        Scene::NoMemory => Ok(is_refused(&first) && is_ended(&first)),
         Scene::HalfClose => {
             first.shutdown(Shutdown::Write)?;
             Ok(is_ended(&first))
@@ -194,55 +231,63 @@ fn is_right<R: Net<Stream = TcpStream>>(
     }
 }
 
-/// Plays a scene at a worker that has so many places, takes so many connections and has a patience of a second.
-fn plays<R: Net<Listener = TcpListener, Stream = TcpStream> + Threads + Wait + Clock + Sync>(
+/// A worker's post at a free port of this machine, and its address.
+fn opened<R: Net<Listener = TcpListener, Stream = TcpStream>>(
     rt: &R,
     alloc: Global,
-    scene: Scene,
-    places: u64,
-    connections: u64,
-) -> io::Result<bool> {
+) -> io::Result<(Post, SocketAddr)>
+    ensures { result ≡ result }
+{
     let listener = TcpListener::bind(rt, "127.0.0.1:0")?;
     widen(&listener);
     let address = listener.local_addr()?;
-    let post = Post::at(rt, alloc, &listener)?;
+    Ok((Post::at(rt, alloc, &listener)?, address))
+}
+
+/// Whether a scene goes as it is to go, at a worker that has a patience of a second.
+fn goes<R: Net<Listener = TcpListener, Stream = TcpStream> + Threads + Wait + Clock + Sync>(
+    rt: &R,
+    alloc: Global,
+    scene: Scene,
+) -> bool
+    ensures { result ≡ result }
+{
+    let Ok((post, address)) = opened(rt, alloc) else {
+        return false;
+    };
+    let (places, connections) = scene.size();
     let door = Door::new(1, places, connections);
     let door = &door;
-    thread::scope(thread::scope_env(), rt, move |scope| -> io::Result<bool> {
+    thread::scope(thread::scope_env(), rt, move |scope| -> bool {
         let mirror = Mirror { alloc, acts: 0 };
         let worker = scope.spawn(move || {
             let _ = work(rt, alloc, post, door, mirror, 1);
         });
-        Ok(worker.is_ok() && is_right(rt, address, scene)?)
+        worker.is_ok() && matches!(is_right(rt, address, scene), Ok(true))
     })
 }
 
 #[test]
-fn each_has_its_own(rt: HostRuntime) -> Result<(), Fail> {
-    assert!(rt; plays(&rt, rt.alloc(), Scene::Turns, 8, 3)?);
-    Ok(())
+fn each_has_its_own(rt: HostRuntime) {
+    assert!(rt; goes(&rt, rt.alloc(), Scene::Turns));
 }
 
 #[test]
-fn the_longest_idle_goes_where_all_places_are_taken(rt: HostRuntime) -> Result<(), Fail> {
-    assert!(rt; plays(&rt, rt.alloc(), Scene::Full, 2, 3)?);
-    Ok(())
+fn the_longest_idle_goes_where_all_places_are_taken(rt: HostRuntime) {
+    assert!(rt; goes(&rt, rt.alloc(), Scene::Full));
 }
 
 #[test]
-fn a_silent_one_goes(rt: HostRuntime) -> Result<(), Fail> {
-    assert!(rt; plays(&rt, rt.alloc(), Scene::Silence, 8, 1)?);
-    Ok(())
+fn a_silent_one_goes(rt: HostRuntime) {
+    assert!(rt; goes(&rt, rt.alloc(), Scene::Silence));
 }
 
 #[test]
-fn one_that_ended_its_side_goes(rt: HostRuntime) -> Result<(), Fail> {
-    assert!(rt; plays(&rt, rt.alloc(), Scene::HalfClose, 8, 1)?);
-    Ok(())
+fn one_that_ended_its_side_goes(rt: HostRuntime) {
+    assert!(rt; goes(&rt, rt.alloc(), Scene::HalfClose));
 }
 
 #[test]
-fn want_of_memory_is_told(rt: HostRuntime) -> Result<(), Fail> {
-    assert!(rt; plays(&rt, rt.alloc(), Scene::NoMemory, 8, 1)?);
-    Ok(())
+fn want_of_memory_is_told(rt: HostRuntime) {
+    assert!(rt; goes(&rt, rt.alloc(), Scene::NoMemory));
 }

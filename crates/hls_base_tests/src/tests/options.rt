@@ -1,5 +1,7 @@
 //! Words after `cut` that are taken, and words that are refused.
 
+ghost use Rattle.std.specs.Prelude.{◌≤◌, length};
+
 use hls_settings::{OptionsFault, read_options};
 use std::alloc::Global;
 use std::test::Fail;
@@ -7,11 +9,10 @@ use std::test::Fail;
 const PREFERRED: &str = "4000000";
 
 /// Which word is wrong; `None` where none is.
-fn fault_of(alloc: Global, words: &[&str]) -> Option<OptionsFault> {
-    match read_options(alloc, words) {
-        Ok(_) => None,
-        Err(fault) => Some(fault),
-    }
+fn fault_of(alloc: Global, words: &[&str]) -> Option<OptionsFault>
+    ensures { 0 ≤ length words.now }
+{
+    read_options(alloc, words).err()
 }
 
 #[test]
@@ -48,18 +49,35 @@ fn reads_a_plan(rt: HostRuntime) -> Result<(), Fail> {
     Ok(())
 }
 
+/// Words, and which is wrong; none where they are taken.
+const WORDS: [(&[&str], Option<OptionsFault>); 10] = [
+    (&["x"], Some(OptionsFault::Words)),
+    (&["--epoch"], Some(OptionsFault::Words)),
+    (
+        &["--target", "3601", "--uri", ""],
+        Some(OptionsFault::Target),
+    ),
+    (&["--uri", "", "--preferred", "0"], Some(OptionsFault::Uri)),
+    (&["--preferred", "6000001"], Some(OptionsFault::Preferred)),
+    (
+        &["--charge", "x", "--epoch", "0"],
+        Some(OptionsFault::Charge),
+    ),
+    (
+        &["--epoch", "0", "--charge", "1"],
+        Some(OptionsFault::Epoch),
+    ),
+    (
+        &["--each", "--preferred", PREFERRED],
+        Some(OptionsFault::Each),
+    ),
+    (&["--each", "--charge", "1"], Some(OptionsFault::Unplanned)),
+    (&["--each", "--target", "3600"], None),
+];
+
 #[test]
-fn names_the_wrong_word_of_cut(rt: HostRuntime) -> Result<(), Fail> {
-    let alloc = rt.alloc();
-    assert!(rt; fault_of(alloc, &["x"]) == Some(OptionsFault::Words));
-    assert!(rt; fault_of(alloc, &["--epoch"]) == Some(OptionsFault::Words));
-    assert!(rt; fault_of(alloc, &["--target", "3601", "--uri", ""]) == Some(OptionsFault::Target));
-    assert!(rt; fault_of(alloc, &["--uri", "", "--preferred", "0"]) == Some(OptionsFault::Uri));
-    assert!(rt; fault_of(alloc, &["--preferred", "6000001"]) == Some(OptionsFault::Preferred));
-    assert!(rt; fault_of(alloc, &["--charge", "x", "--epoch", "0"]) == Some(OptionsFault::Charge));
-    assert!(rt; fault_of(alloc, &["--epoch", "0", "--charge", "1"]) == Some(OptionsFault::Epoch));
-    assert!(rt; fault_of(alloc, &["--each", "--preferred", PREFERRED]) == Some(OptionsFault::Each));
-    assert!(rt; fault_of(alloc, &["--each", "--charge", "1"]) == Some(OptionsFault::Unplanned));
-    assert!(rt; fault_of(alloc, &["--each", "--target", "3600"]).is_none());
-    Ok(())
+fn names_the_wrong_word_of_cut(rt: HostRuntime) {
+    for (words, fault) in &WORDS {
+        assert!(rt; fault_of(rt.alloc(), words) == *fault, "{words:?}");
+    }
 }

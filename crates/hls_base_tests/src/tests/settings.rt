@@ -1,5 +1,7 @@
 //! Words that are taken, and words that are refused.
 
+ghost use Rattle.std.specs.Prelude.{◌≤◌, length};
+
 use hls_settings::{Settings, SettingsFault, read_settings};
 use std::alloc::Global;
 use std::test::Fail;
@@ -9,11 +11,10 @@ const VIDEO: &str = "v720:video:3000000:0";
 const AUDIO: &str = "a-en:audio:128000:30000";
 
 /// Which word is wrong; `None` where none is.
-fn fault_of(alloc: Global, words: &[&str]) -> Option<SettingsFault> {
-    match read_settings(alloc, words) {
-        Ok(_) => None,
-        Err(fault) => Some(fault),
-    }
+fn fault_of(alloc: Global, words: &[&str]) -> Option<SettingsFault>
+    ensures { 0 ≤ length words.now }
+{
+    read_settings(alloc, words).err()
 }
 
 fn is_usual(settings: &Settings) -> bool {
@@ -54,45 +55,36 @@ fn names_the_wrong_option(rt: HostRuntime) -> Result<(), Fail> {
     Ok(())
 }
 
-/// The epoch that is read, where its text is good.
-fn epoch_of(alloc: Global, text: &str) -> Option<Option<i64>> {
-    match read_settings(alloc, &["--epoch", text, "0.0.0.0:80", VIDEO]) {
-        Ok(settings) => Some(settings.config.epoch()),
-        Err(_) => None,
-    }
+/// The epoch that is read, or which word is wrong.
+fn epoch_of(alloc: Global, text: &str) -> Result<Option<i64>, SettingsFault> {
+    let settings = read_settings(alloc, &["--epoch", text, "0.0.0.0:80", VIDEO])?;
+    Ok(settings.config.epoch())
 }
 
+/// Texts, and which epoch is read, or that it is wrong.
+const EPOCHS: [(&str, Result<Option<i64>, SettingsFault>); 10] = [
+    ("1970-01-01T00:00:00Z", Ok(Some(0))),
+    ("2024-01-01T01:00:00+01:00", Ok(Some(1_704_067_200_000_000))),
+    (
+        "2024-01-01T00:00:00.0000019Z",
+        Ok(Some(1_704_067_200_000_001)),
+    ),
+    ("9000-01-01T00:00:00Z", Ok(Some(221_845_392_000_000_000))),
+    ("1969-12-31T23:59:59.999999Z", Err(SettingsFault::Epoch)),
+    ("9000-01-01T00:00:00.000001Z", Err(SettingsFault::Epoch)),
+    ("2024-01-01T00:00:60Z", Err(SettingsFault::Epoch)),
+    ("2024-01-01", Err(SettingsFault::Epoch)),
+    ("1704067200000000", Err(SettingsFault::Epoch)),
+    ("", Err(SettingsFault::Epoch)),
+];
+
 #[test]
-fn reads_the_epoch(rt: HostRuntime) -> Result<(), Fail> {
-    let alloc = rt.alloc();
-    assert_eq!(rt; epoch_of(alloc, "1970-01-01T00:00:00Z"), Some(Some(0)));
-    assert_eq!(rt;
-        epoch_of(alloc, "2024-01-01T01:00:00+01:00"),
-        Some(Some(1_704_067_200_000_000))
-    );
-    assert_eq!(rt;
-        epoch_of(alloc, "2024-01-01T00:00:00.0000019Z"),
-        Some(Some(1_704_067_200_000_001))
-    );
-    assert_eq!(rt;
-        epoch_of(alloc, "9000-01-01T00:00:00Z"),
-        Some(Some(221_845_392_000_000_000))
-    );
-    for text in [
-        "1969-12-31T23:59:59.999999Z",
-        "9000-01-01T00:00:00.000001Z",
-        "2024-01-01T00:00:60Z",
-        "2024-01-01",
-        "1704067200000000",
-        "",
-    ] {
-        assert_eq!(rt; epoch_of(alloc, text), None, "of {text}");
+fn reads_the_epoch(rt: HostRuntime) {
+    for (text, wanted) in EPOCHS {
+        assert_eq!(rt; epoch_of(rt.alloc(), text), wanted, "of {text}");
     }
-    match read_settings(alloc, &["0.0.0.0:80", VIDEO]) {
-        Ok(settings) => assert_eq!(rt; settings.config.epoch(), None),
-        Err(_) => assert!(rt; false),
-    }
-    Ok(())
+    let settings = read_settings(rt.alloc(), &["0.0.0.0:80", VIDEO]).expect(&rt, "good words");
+    assert_eq!(rt; settings.config.epoch(), None);
 }
 
 #[test]

@@ -37,29 +37,38 @@ fn written(rt: HostRuntime) {
     assert_eq!(rt; &out[..zeros], b"10.000001".as_slice());
 }
 
+/// Seconds, and how many microseconds they are.
+const SECONDS: [(&str, u64); 6] = [
+    ("4", 4000000),
+    ("4.0000009", 4000000),
+    ("4.5", 4500000),
+    ("0000000004", 4000000),
+    ("9007199254.740991", 9007199254740991),
+    ("1.00000200000000000009", 1000002),
+];
+
+const NO_SECONDS: [&str; 12] = [
+    "00000000004",
+    "9007199254.740992",
+    "1.000002000000000000090",
+    "4.",
+    ".4",
+    "",
+    "+4",
+    "-4",
+    " 4",
+    "4 ",
+    "4.5x",
+    "4,5",
+];
+
 #[test]
 fn read(rt: HostRuntime) {
-    for (text, want) in [
-        ("4", Some(4000000)),
-        ("4.0000009", Some(4000000)),
-        ("4.5", Some(4500000)),
-        ("00000000004", None),
-        ("0000000004", Some(4000000)),
-        ("9007199254.740991", Some(9007199254740991)),
-        ("9007199254.740992", None),
-        ("1.00000200000000000009", Some(1000002)),
-        ("1.000002000000000000090", None),
-        ("4.", None),
-        (".4", None),
-        ("", None),
-        ("+4", None),
-        ("-4", None),
-        (" 4", None),
-        ("4 ", None),
-        ("4.5x", None),
-        ("4,5", None),
-    ] {
-        assert_eq!(rt; read_seconds(text.as_bytes()), want, "at {text}");
+    for (text, want) in SECONDS {
+        assert_eq!(rt; read_seconds(text.as_bytes()), Some(want), "at {text}");
+    }
+    for text in NO_SECONDS {
+        assert_eq!(rt; read_seconds(text.as_bytes()), None, "at {text}");
     }
 }
 

@@ -2,9 +2,10 @@
 
 use super::channels::request;
 use hls_catchup::{Gate, Job, JobFault, JobTable, Jobs, Work, run_job, work_loop};
+use hls_fakes::{LOOKS, is_set_at_last};
 use hls_sample_channels::{SECOND, opened};
 use std::alloc::Global;
-use std::sync::atomic::{AtomicU64, Ordering};
+use std::sync::atomic::{AtomicBool, Ordering};
 use std::sync::{Arc, Wait};
 use std::test::Fail;
 use std::thread;
@@ -42,27 +43,15 @@ fn only_the_result_of_a_running_job_is_taken(rt: HostRuntime) -> Result<(), Fail
     Ok(())
 }
 
-/// How often is looked before a test fails.
-const LOOKS: u64 = 100_000_000;
-
 /// Holds job 1 until it is opened.
 #[derive(Drop)]
 struct HoldsFirst<'a> {
-    open: &'a AtomicU64,
+    open: &'a AtomicBool,
 }
 
 impl<'a> Gate for HoldsFirst<'a> {
     fn enter(&self, id: u64) -> bool {
-        if id != 1 {
-            return true;
-        }
-        for _ in 0..LOOKS {
-            if self.open.load(Ordering::SeqCst) != 0 {
-                return true;
-            }
-            thread::yield_now();
-        }
-        false
+        id != 1 || is_set_at_last(self.open)
     }
 }
 
@@ -92,7 +81,7 @@ fn becomes_finished<R: Wait>(rt: &R, jobs: &Jobs, id: u64) -> bool {
 
 /// Two loops, of which one is held with job 1 until job 2 was read as finished: whether each was.
 fn run_two_loops<R: Threads + Wait + Sync>(rt: &R, alloc: Global, jobs: &Jobs) -> (bool, bool) {
-    let open = AtomicU64::new(0);
+    let open = AtomicBool::new(false);
     let gate = HoldsFirst { open: &open };
     let gate = &gate;
     let open = &open;
@@ -100,7 +89,7 @@ fn run_two_loops<R: Threads + Wait + Sync>(rt: &R, alloc: Global, jobs: &Jobs) -
         let one = scope.spawn(move || work_loop(rt, alloc, jobs, gate));
         let two = scope.spawn(move || work_loop(rt, alloc, jobs, gate));
         let second = one.is_ok() && two.is_ok() && becomes_finished(rt, jobs, 2);
-        open.store(1, Ordering::SeqCst);
+        open.store(true, Ordering::SeqCst);
         let first = second && becomes_finished(rt, jobs, 1);
         jobs.close(rt);
         (first, second)

@@ -1,7 +1,7 @@
 //! Requests that are refused, and what is read of a reply's bytes.
 
 use super::channels::{recorded, request};
-use hls_catchup::{CatchFault, CostRule, Request, answer, reply_piece, reply_total, table_of};
+use hls_catchup::{CostRule, Request, answer, reply_piece, reply_total, table_of};
 use hls_core::snapshot::Snapshot;
 use hls_sample_channels::{SECOND, SampleFault, begun, finished, opened, with_unit};
 use hls_samples::unit_bytes;
@@ -23,48 +23,36 @@ fn short_units(alloc: Global) -> Result<Arc<Snapshot>, SampleFault> {
 
 /// Whether the channel is over, what is asked of it (start, stop, preferred length and charge), and how many places the request's
 /// table has, or the first cause why there is none.
-const ASKED: [(bool, (u64, u64, u64, u64), Result<usize, CatchFault>); 13] = [
-    (false, (1, 1, 0, MOST + 1), Err(CatchFault::BadRange)),
-    (false, (1, 0, 1, MOST), Err(CatchFault::BadRange)),
-    (
-        false,
-        (0, 20_384_001, 0, MOST + 1),
-        Err(CatchFault::BadPreferred),
-    ),
+const ASKED: [(bool, (u64, u64, u64, u64), Result<usize, &str>); 13] = [
+    (false, (1, 1, 0, MOST + 1), Err("BadRange")),
+    (false, (1, 0, 1, MOST), Err("BadRange")),
+    (false, (0, 20_384_001, 0, MOST + 1), Err("BadPreferred")),
     (
         false,
         (4_000_000, 4_001_000, 6_000_001, MOST),
-        Err(CatchFault::BadPreferred),
+        Err("BadPreferred"),
     ),
-    (
-        false,
-        (0, 20_384_001, 1, MOST + 1),
-        Err(CatchFault::BadCharge),
-    ),
+    (false, (0, 20_384_001, 1, MOST + 1), Err("BadCharge")),
     (
         false,
         (3_999_999, 20_384_001, 1, MOST),
-        Err(CatchFault::BeforeRecording),
+        Err("BeforeRecording"),
     ),
     (
         true,
         (3_999_999, 20_385_001, 1, MOST),
-        Err(CatchFault::BeforeRecording),
+        Err("BeforeRecording"),
     ),
-    (
-        false,
-        (4_000_000, 20_384_001, 1, MOST),
-        Err(CatchFault::NotYet),
-    ),
+    (false, (4_000_000, 20_384_001, 1, MOST), Err("NotYet")),
     (
         true,
         (4_000_000, 20_385_001, 1, MOST),
-        Err(CatchFault::AfterRecording),
+        Err("AfterRecording"),
     ),
     (
         false,
         (4_000_000, 20_384_000, 1, MOST),
-        Err(CatchFault::ProgrammeTooLong),
+        Err("ProgrammeTooLong"),
     ),
     (false, (4_001_000, 20_384_000, 1, 0), Ok(16384)),
     (true, (20_380_000, 20_385_000, 6_000_000, MOST), Ok(6)),
@@ -86,7 +74,7 @@ fn refuses_the_first_cause(rt: HostRuntime) -> Result<(), Fail> {
         let snapshot = if ended { &over } else { &state };
         let found = match table_of(alloc, snapshot, asked) {
             Ok(table) => Ok(table.len()),
-            Err(fault) => Err(fault),
+            Err(fault) => Err(fault.name()),
         };
         assert_eq!(rt;
             found,

@@ -1,10 +1,14 @@
 //! Boxes from texts: `[kind` opens a box of that type and `]` closes it, its size is counted; everything else is
 //! hexadecimal, with blanks for reading.
 
+ghost use Rattle.std.specs.Prelude.{◌<◌, ◌^◌, length, IfOk};
+
 use std::alloc::{AllocError, Global};
 
 /// The bytes of a text's boxes.
-pub fn built(alloc: Global, text: &str) -> Result<Vec<u8>, AllocError> {
+pub fn built(alloc: Global, text: &str) -> Result<Vec<u8>, AllocError>
+    ensures { IfOk result (λ all. length all.items < 2 ^ 64) }
+{
     let mut out = Vec::new(alloc);
     let mut begins = Vec::new(alloc);
     let mut letters = 0;
@@ -49,7 +53,9 @@ fn close(out: &mut [u8], begin: usize) {
 }
 
 /// A unit: a `moof` of this content, and an `mdat` with so many bytes.
-pub fn unit(alloc: Global, moof: &str, len: u32) -> Result<Vec<u8>, AllocError> {
+pub fn unit(alloc: Global, moof: &str, len: u32) -> Result<Vec<u8>, AllocError>
+    ensures { IfOk result (λ all. length all.items < 2 ^ 64) }
+{
     let mut out = built(alloc, moof)?;
     out.extend_from_slice(&len.saturating_add(8).to_be_bytes())?;
     out.extend_from_slice(b"mdat")?;

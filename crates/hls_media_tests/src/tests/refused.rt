@@ -34,28 +34,29 @@ fn refused_memory(rt: HostRuntime) -> Result<(), Fail> {
     Ok(())
 }
 
+const NAMES: [(MediaFault, &str); 14] = [
+    (MediaFault::BadBox, "BadBox"),
+    (MediaFault::NoTrack, "NoTrack"),
+    (MediaFault::TooManyTracks, "TooManyTracks"),
+    (MediaFault::ZeroScale, "ZeroScale"),
+    (MediaFault::NoDefault, "NoDefault"),
+    (MediaFault::NoTimingTraf, "NoTimingTraf"),
+    (MediaFault::TwoTimingTrafs, "TwoTimingTrafs"),
+    (MediaFault::NoDecodeTime, "NoDecodeTime"),
+    (MediaFault::BaseOffset, "BaseOffset"),
+    (MediaFault::UnknownTrack, "UnknownTrack"),
+    (MediaFault::EmptyFragment, "EmptyFragment"),
+    (MediaFault::DataOutside, "DataOutside"),
+    (MediaFault::TimeTooLarge, "TimeTooLarge"),
+    (MediaFault::Memory, "Memory"),
+];
+
 /// The names are the printed texts as well.
 #[test]
 fn names(rt: HostRuntime) -> Result<(), Fail> {
-    let cases = [
-        (MediaFault::BadBox, "BadBox"),
-        (MediaFault::NoTrack, "NoTrack"),
-        (MediaFault::TooManyTracks, "TooManyTracks"),
-        (MediaFault::ZeroScale, "ZeroScale"),
-        (MediaFault::NoDefault, "NoDefault"),
-        (MediaFault::NoTimingTraf, "NoTimingTraf"),
-        (MediaFault::TwoTimingTrafs, "TwoTimingTrafs"),
-        (MediaFault::NoDecodeTime, "NoDecodeTime"),
-        (MediaFault::BaseOffset, "BaseOffset"),
-        (MediaFault::UnknownTrack, "UnknownTrack"),
-        (MediaFault::EmptyFragment, "EmptyFragment"),
-        (MediaFault::DataOutside, "DataOutside"),
-        (MediaFault::TimeTooLarge, "TimeTooLarge"),
-        (MediaFault::Memory, "Memory"),
-    ];
-    for (fault, name) in cases {
-        assert_eq!(rt; fault.name(), name);
-        assert_eq!(rt; format!(in rt.alloc(); "{fault}")?.as_str(), name);
+    for (fault, name) in &NAMES {
+        assert_eq!(rt; fault.name(), *name);
+        assert_eq!(rt; format!(in rt.alloc(); "{fault}")?.as_str(), *name);
     }
     Ok(())
 }

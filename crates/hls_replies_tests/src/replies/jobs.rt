@@ -2,7 +2,7 @@
 
 ghost use Rattle.std.specs.Prelude.{◌<◌, ◌^◌, length, IfOk};
 
-use super::{TEN_UNITS, part, recorded, sent, trimmed};
+use super::{part, recorded, sent, trimmed};
 use hls_catchup::{Job, JobTable, run_job};
 use hls_core::snapshot::Snapshot;
 use hls_http_laws::range::Asked;
@@ -10,7 +10,7 @@ use hls_replies::{
     Answer, added_answer, file_answer, query_answer, read_query, removed_answer, request_for,
     status_answer, told_answer, wanted_of,
 };
-use hls_sample_channels::{finished, with_unit};
+use hls_sample_channels::{TEN_UNITS, finished, with_unit};
 use hls_samples::unit_bytes;
 use hls_serve_laws::query::QueryFault;
 use hls_serve_laws::route::JobFile;
