@@ -26,20 +26,12 @@ ghost use Rattle.std.specs.Prelude.{◌≡◌};
 ghost use Rattle.std.specs.Process.{exit_status};
 ghost use Rattle.hls_origin.specs.Status.{check_status, cut_status, explain_status, lint_status, serve_status, usage_status};
 
-mod check;
-mod cut;
-mod lint;
-mod pieces;
-mod reading;
 mod serve;
 mod version;
 
-use crate::check::run::{CheckEnd, run_check};
-use crate::cut::fault::CutFault;
-use crate::cut::run::{CutEnd, run_cut};
-use crate::lint::run::{LintEnd, run_lint};
 use crate::serve::run::{ServeEnd, run_serve};
 use crate::version::{TOOLCHAIN, VERSION};
+use hls_commands::{CheckEnd, CutEnd, CutFault, LintEnd, run_check, run_cut, run_lint};
 use hls_io::Counted;
 use hls_origin_listing::ListFault;
 use hls_refusals::{ExplainEnd, MEANINGS, run_explain};

@@ -1,0 +1,52 @@
+-- For the proofs of this crate; no public clause cites it.
+-- What the parts of a run of `check` pass on to each other.
+use Rattle.std.specs.Prelude.{◌≡◌, ℕ, List, ◌++◌, Option, Some, None, Result, Ok, Err}
+use Rattle.hls_check_laws.specs.declared.cert_fault.CertFault.{CertFault}
+use Rattle.hls_check_laws.specs.declared.cert_fault.CertFault.TheVariants.{Memory}
+use Rattle.hls_check_laws.specs.declared.verdict.Verdict.{Verdict}
+use Rattle.hls_check_text.specs.Wrong.{IsGoodText}
+use Rattle.hls_io.specs.Rose.{Rose}
+use Rattle.hls_commands.specs.declared.check.run.CheckEnd.{CheckEnd}
+use Rattle.hls_commands.specs.declared.check.run.CheckEnd.TheVariants.{Yes, Refused, ReadFailed, WriteFailed}
+use Rattle.hls_commands.specs.Beginning.{IsBeginning}
+use Rattle.hls_commands.specs.CheckAnswer.{AnswerOf, printed}
+use Rattle.hls_commands.specs.CheckRun.{AnswersStream}
+
+-- the answer to a text; want of memory only of a certificate's
+abbrev pub AnswersText : List ℕ → Result Verdict CertFault → Type 0
+AnswersText bytes (Err Memory) = IsGoodText bytes
+AnswersText bytes answer = AnswerOf bytes answer
+
+-- a stream's answer, or none where a read failed
+abbrev pub Tells : List ℕ → List ℕ → Option (Result Verdict CertFault) → Type 0
+Tells stream rest None = Unit {0}
+Tells stream rest (Some answer) = AnswersStream stream rest answer
+
+pub record TellsAnswer (stream : List ℕ) (left : Option (List ℕ)) (told : Option (Result Verdict CertFault)) : Type 0 where
+  pub taken : List ℕ
+  pub rest : List ℕ
+  pub left_is : left ≡ Some rest
+  pub split : stream ≡ taken ++ rest
+  pub tells : Tells stream rest told
+
+abbrev pub CountsTelling : Option (Result Verdict CertFault) → ℕ → ℕ → Type 0
+CountsTelling None old new = Rose old new
+CountsTelling (Some answer) old new = new ≡ old
+
+-- An answer's line is written, whole or up to a failed write; it is a yes exactly where it is a cut
+-- or that there is none.
+abbrev pub Prints : Result Verdict CertFault → List ℕ → CheckEnd → Type 0
+Prints (Ok verdict) text Yes = text ≡ printed (Ok verdict)
+Prints (Err f) text Refused = text ≡ printed (Err f)
+Prints answer text (WriteFailed told) = (told ≡ answer) × IsBeginning text (printed answer)
+Prints answer text end = ⊥
+
+pub record PrintsAnswer (answer : Result Verdict CertFault) (held : List ℕ) (contents : Option (List ℕ)) (end : CheckEnd) : Type 0 where
+  pub text : List ℕ
+  pub contents_are : contents ≡ Some (held ++ text)
+  pub prints : Prints answer text end
+
+abbrev pub CountsPrinting : CheckEnd → ℕ → ℕ → Type 0
+CountsPrinting (WriteFailed answer) old new = Rose old new
+CountsPrinting ReadFailed old new = ⊥
+CountsPrinting end old new = new ≡ old

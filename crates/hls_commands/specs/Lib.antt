@@ -1,0 +1,16 @@
+pub mod Accepts
+pub mod Beginning
+pub mod Channel
+pub mod CheckAnswer
+pub mod CheckParts
+pub mod CheckRun
+pub mod FaultName
+pub mod Gather
+pub mod LintAnswer
+pub mod LintParts
+pub mod LintRun
+pub mod Reads
+pub mod Recorded
+pub mod Run
+pub mod RunParts
+pub mod Then

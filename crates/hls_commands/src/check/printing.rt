@@ -1,0 +1,92 @@
+//! The line of an answer. It takes no memory.
+ghost use Rattle.std.specs.Prelude.{◌≡◌, ◌+◌, ◌≤◌, ◌++◌, [], ◌∷◌};
+ghost use Rattle.arrayvec.specs.ArrayString.{array_string_len};
+ghost use Rattle.hls_text.specs.Numbers.{spaced};
+ghost use Rattle.hls_commands.specs.CheckAnswer.{answer_words, fault_numbers, printed};
+
+use arrayvec::ArrayString;
+use hls_check_laws::{CertFault, Verdict};
+
+/// Room for any line: two words of at most 22 bytes together, two numbers of at most 20 digits, each
+/// with a space before it, and the line feed.
+pub const LINE_LEN: usize = 65;
+
+/// Adds a space and a number.
+pub fn push_number(line: &mut ArrayString<LINE_LEN>, number: u64)
+    requires { array_string_len line.old + 21 ≤ LINE_LEN }
+    ensures bytes { line.new.bytes ≡ line.old.bytes ++ spaced (number ∷ []) }
+    ensures len { array_string_len line.new ≤ array_string_len line.old + 21 }
+{
+    line.push_str(" ");
+    line.push_str(itoa::Buffer::new().format(number));
+}
+
+/// Adds two numbers, each with a space before it.
+fn push_pair(line: &mut ArrayString<LINE_LEN>, first: usize, second: usize)
+    requires { array_string_len line.old + 42 ≤ LINE_LEN }
+    ensures bytes { line.new.bytes ≡ line.old.bytes ++ spaced (first ∷ second ∷ []) }
+    ensures len { array_string_len line.new ≤ array_string_len line.old + 42 }
+{
+    push_number(line, first as u64);
+    push_number(line, second as u64);
+}
+
+/// Adds a fault's numbers, each with a space before it.
+fn push_numbers(line: &mut ArrayString<LINE_LEN>, fault: CertFault)
+    requires { array_string_len line.old + 42 ≤ LINE_LEN }
+    ensures bytes { line.new.bytes ≡ line.old.bytes ++ spaced (fault_numbers fault) }
+    ensures len { array_string_len line.new ≤ array_string_len line.old + 42 }
+{
+    match fault {
+        CertFault::Form { line: number } => push_number(line, number as u64),
+        CertFault::TableNotSorted { place } => push_number(line, place as u64),
+        CertFault::PlanStep { p, q } => push_pair(line, p, q),
+        CertFault::PriceStep { p, q } => push_pair(line, p, q),
+        CertFault::PlanEnds
+        | CertFault::PlanCost
+        | CertFault::PriceStart
+        | CertFault::EndReached
+        | CertFault::Memory => {}
+    }
+}
+
+/// The words of a fault.
+fn fault_words(fault: CertFault) -> ArrayString<LINE_LEN>
+    ensures bytes { result.bytes ≡ answer_words (Err fault) }
+    ensures len { array_string_len result + 1 ≤ LINE_LEN }
+{
+    let mut line = ArrayString::new();
+    line.push_str("refused ");
+    line.push_str(fault.name());
+    push_numbers(&mut line, fault);
+    line
+}
+
+/// The words of a verdict.
+fn verdict_words(verdict: Verdict) -> ArrayString<LINE_LEN>
+    ensures bytes { result.bytes ≡ answer_words (Ok verdict) }
+    ensures len { array_string_len result + 1 ≤ LINE_LEN }
+{
+    let mut line = ArrayString::new();
+    match verdict {
+        Verdict::Cut { cost } => {
+            line.push_str("cut");
+            push_number(&mut line, cost);
+        }
+        Verdict::NoCut => line.push_str("none"),
+    }
+    line
+}
+
+/// The line of an answer: `cut` and the cost in microseconds, `none`, or `refused`, the fault's name
+/// and its numbers.
+pub fn answer_line(answer: Result<Verdict, CertFault>) -> ArrayString<LINE_LEN>
+    ensures { result.bytes ≡ printed answer }
+{
+    let mut line = match answer {
+        Ok(verdict) => verdict_words(verdict),
+        Err(fault) => fault_words(fault),
+    };
+    line.push_str("\n");
+    line
+}

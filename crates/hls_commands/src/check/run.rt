@@ -1,0 +1,93 @@
+//! `check`, from the bytes in to the bytes out.
+ghost use Rattle.hls_io.specs.Counted.{failures_of};
+ghost use Rattle.hls_io.specs.Streams.{FromInput, Through, ToOutput};
+ghost use Rattle.hls_commands.specs.CheckParts.{AnswersText, CountsPrinting, CountsTelling, PrintsAnswer, TellsAnswer};
+ghost use Rattle.hls_commands.specs.CheckRun.{CountsFailures, Runs};
+
+use crate::check::printing::answer_line;
+use crate::reading::{Unread, read_whole};
+use hls_check_laws::{CertFault, Verdict};
+use hls_io::{Counted, write_whole};
+use std::alloc::Global;
+use std::io::{Read, Write};
+use std::thread::Threads;
+
+/// How `check` ended.
+#[derive(Clone, Copy, Debug, PartialEq, Eq)]
+pub enum CheckEnd {
+    /// The certificate is good, and its verdict was written: status 0.
+    Yes,
+    /// The certificate was refused, and why was written: status 1.
+    Refused,
+    /// A read failed, and nothing was written: status 1.
+    ReadFailed,
+    /// A write of the line of this answer failed: status 1.
+    WriteFailed(Result<Verdict, CertFault>),
+}
+
+/// The answer to a text.
+fn answer_text(
+    rt: &(impl Threads + Sync),
+    alloc: Global,
+    bytes: &[u8],
+) -> Result<Verdict, CertFault>
+    ensures { AnswersText bytes.now result }
+{
+    match hls_check_text::read(alloc, bytes) {
+        Ok(certificate) => hls_check::check_rows(rt, alloc, &certificate),
+        Err(fault) => Err(fault),
+    }
+}
+
+/// The answer to the whole of a stream; None where a read failed.
+fn answer_stream<R: Read>(
+    rt: &(impl Threads + Sync),
+    alloc: Global,
+    input: &mut Counted<R>,
+) -> Option<Result<Verdict, CertFault>>
+    ensures tells { FromInput R.remaining input.old input.new TellsAnswer result }
+    ensures counts { CountsTelling result (failures_of input.old) (failures_of input.new) }
+{
+    match read_whole(alloc, input, None) {
+        Ok(bytes) => Some(answer_text(rt, alloc, &bytes)),
+        Err(Unread::ReadFailed) => None,
+        Err(Unread::Memory) => Some(Err(CertFault::Memory)),
+    }
+}
+
+/// Writes the line of an answer, which is whole before the first write.
+fn print_answer<W: Write>(output: &mut Counted<W>, answer: Result<Verdict, CertFault>) -> CheckEnd
+    ensures prints { ToOutput W.contents output.old output.new (PrintsAnswer answer) result }
+    ensures counts { CountsPrinting result (failures_of output.old) (failures_of output.new) }
+{
+    let line = answer_line(answer);
+    if !write_whole(output, line.as_str().as_bytes()) {
+        return CheckEnd::WriteFailed(answer);
+    }
+    match answer {
+        Ok(_) => CheckEnd::Yes,
+        Err(_) => CheckEnd::Refused,
+    }
+}
+
+/// Reads a certificate's text to the reader's end, and writes the answer to it as one line: `cut`
+/// and the cost in microseconds where it is a good certificate of a cut, `none` where it is a good
+/// one of no cut, else `refused`, the name of its first fault, and the fault's numbers.
+///
+/// Nothing is written before the whole line is there. `refused Memory` is the answer only where memory
+/// was refused, and may then come before the reader's end; writing it takes no memory. Where a write
+/// fails, the end tells the answer whose line wasn't written whole.
+pub fn run_check<R: Read, W: Write>(
+    rt: &(impl Threads + Sync),
+    alloc: Global,
+    input: &mut Counted<R>,
+    output: &mut Counted<W>,
+) -> CheckEnd
+    ensures runs { Through R.remaining input.old input.new W.contents output.old output.new Runs result }
+    ensures counts { CountsFailures result (failures_of input.old) (failures_of input.new) (failures_of output.old) (failures_of output.new) }
+{
+    match answer_stream(rt, alloc, input) {
+        Some(answer) => print_answer(output, answer),
+        None => CheckEnd::ReadFailed,
+    }
+}

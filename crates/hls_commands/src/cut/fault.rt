@@ -1,0 +1,72 @@
+//! Why `cut` refuses a stream.
+ghost use Rattle.std.specs.Prelude.{◌≡◌};
+ghost use Rattle.hls_commands.specs.FaultName.{fault_of, name_of};
+ghost use Rattle.hls_commands.specs.declared.cut.fault.CutFault.TheVariants.{Memory};
+
+use hls_feed::{StreamFault, Untaken};
+use hls_origin_listing::ListFault;
+use std::alloc::{AllocError, AllocFailed};
+use thiserror::Error;
+
+/// Why `cut` refuses a stream, or couldn't read or write.
+#[derive(Clone, Copy, Debug, PartialEq, Eq, Error)]
+pub enum CutFault {
+    /// The stream is refused: it can't be cut into parts, or ends inside a part; an init section or
+    /// a unit is no good; or the channel refuses what comes, or the end before any init section.
+    #[error("{0}")]
+    Stream(StreamFault),
+    /// The recorded stream can't be listed.
+    #[error("{0}")]
+    Listing(ListFault),
+    /// A read failed.
+    #[error("ReadFailed")]
+    ReadFailed,
+    /// A write failed.
+    #[error("WriteFailed")]
+    WriteFailed,
+    /// Memory ran out.
+    #[error("Memory")]
+    Memory,
+}
+
+impl CutFault {
+    /// The variant's name, or that of the fault that it holds, as the program prints it.
+    pub fn name(&self) -> &'static str
+        ensures { result.now ≡ name_of self.now }
+    {
+        match self {
+            CutFault::Stream(fault) => fault.name(),
+            CutFault::Listing(fault) => fault.name(),
+            CutFault::ReadFailed => "ReadFailed",
+            CutFault::WriteFailed => "WriteFailed",
+            CutFault::Memory => "Memory",
+        }
+    }
+}
+
+impl From<Untaken> for CutFault {
+    ghost from_gives = { λ untaken fault. fault ≡ fault_of untaken };
+
+    fn from(untaken: Untaken) -> CutFault {
+        match untaken {
+            Untaken::Refused(fault) => CutFault::Stream(fault),
+            Untaken::Memory => CutFault::Memory,
+        }
+    }
+}
+
+impl From<AllocError> for CutFault {
+    ghost from_gives = { λ _ fault. fault ≡ Memory };
+
+    fn from(_error: AllocError) -> CutFault {
+        CutFault::Memory
+    }
+}
+
+impl<T: Drop> From<AllocFailed<T>> for CutFault {
+    ghost from_gives = { λ _ fault. fault ≡ Memory };
+
+    fn from(_error: AllocFailed<T>) -> CutFault {
+        CutFault::Memory
+    }
+}

@@ -1,0 +1,179 @@
+//! The recorder: it takes a stream into a channel of one rendition, part by part.
+ghost use Rattle.std.specs.Prelude.{◌≡◌, length, IfOk};
+ghost use Rattle.hls_media_laws.specs.Inits.{init_of};
+ghost use Rattle.hls_media_laws.specs.UnitFacts.{facts};
+ghost use Rattle.hls_core_laws.specs.Moves.{IsFitting};
+ghost use Rattle.hls_core_laws.specs.Runs.{first_state};
+ghost use Rattle.hls_core.specs.Reads.{recording_of};
+ghost use Rattle.hls_feed.specs.declared.fault.StreamFault.TheVariants.{Media};
+ghost use Rattle.hls_commands.specs.Accepts.{Becomes, Means};
+ghost use Rattle.hls_commands.specs.Recorded.{ended, stepped, with_part};
+ghost use Rattle.hls_commands.specs.Then.{or_refused_as};
+
+use bytes::Bytes;
+use hls_boxes_laws::part::Part;
+use hls_core::config::Config;
+use hls_core::snapshot::Snapshot;
+use hls_core::step::step;
+use hls_core::stepped::Stepped;
+use hls_core_laws::event::Event;
+use hls_core_laws::refusal::Refusal;
+use hls_feed::{StreamFault, Taker, Untaken};
+use hls_media::{read_facts, read_init};
+use hls_media_laws::fault::MediaFault;
+use hls_media_laws::init::Init;
+use std::alloc::{AllocError, Global};
+use std::marker::Model;
+use std::sync::Arc;
+
+/// The number of the one worker whose events these are.
+const WORKER: u16 = 0;
+
+/// The number of the one rendition.
+pub const RENDITION: usize = 0;
+
+/// Takes a stream into a channel of one rendition. A contract sees it as the channel's state.
+#[derive(Drop)]
+pub struct Recorder {
+    snapshot: Arc<Snapshot>,
+}
+
+impl Model for Recorder {
+    ghost use Rattle.std.specs.Prelude.{◌≡◌, length};
+    ghost use Rattle.hls_core_laws.specs.State.{State};
+
+    ghost Value = { State };
+
+    ghost view = { λ r. r.snapshot.value };
+
+    ghost invariant = { λ r. length r.snapshot.value.config.renditions ≡ 1 };
+}
+
+/// What the bytes of an init section mean.
+fn meaning_of(alloc: Global, bytes: &[u8]) -> Result<Init, Untaken>
+    ensures { Means (or_refused_as Media (init_of bytes.now)) result }
+{
+    match read_init(alloc, bytes) {
+        Ok(meaning) => Ok(meaning),
+        Err(MediaFault::Memory) => Err(Untaken::Memory),
+        Err(fault) => Err(Untaken::Refused(StreamFault::Media(fault))),
+    }
+}
+
+impl Recorder {
+    /// A channel of this configuration, with nothing recorded.
+    pub fn new(alloc: Global, config: Config) -> Result<Recorder, AllocError>
+        requires { length config.renditions ≡ 1 }
+        ensures { IfOk result (λ recorder. recorder ≡ first_state config) }
+    {
+        let snapshot = Arc::new(alloc, Snapshot::first(alloc, config)?)?;
+        Ok(Recorder { snapshot })
+    }
+
+    /// The channel as it is recorded so far.
+    pub fn snapshot(&self) -> &Snapshot
+        ensures value { result.now ≡ self.now }
+        ensures one { length self.now.config.renditions ≡ 1 }
+    {
+        &self.snapshot
+    }
+
+    /// Takes an event; one that comes again adds nothing.
+    fn take(&mut self, alloc: Global, event: Event) -> Result<(), Untaken>
+        requires { IsFitting self.old event }
+        ensures { Becomes (stepped self.old event) self.new result }
+    {
+        match step(&self.snapshot, alloc, WORKER, event) {
+            Ok(Stepped::New(next)) => {
+                self.snapshot = next;
+                Ok(())
+            }
+            Ok(Stepped::Repeat) => Ok(()),
+            Err(Refusal::Memory) => Err(Untaken::Memory),
+            Err(refusal) => Err(Untaken::Refused(StreamFault::Core(refusal))),
+        }
+    }
+
+    /// Takes an init section.
+    fn accept_init(&mut self, alloc: Global, bytes: Bytes) -> Result<(), Untaken>
+        ensures { Becomes (with_part self.old (Part.Init bytes)) self.new result }
+    {
+        let init = match meaning_of(alloc, &bytes) {
+            Ok(init) => init,
+            Err(fault) => return Err(fault),
+        };
+        let event = Event::Begin {
+            rendition: RENDITION,
+            init,
+            bytes,
+        };
+        self.take(alloc, event)
+    }
+
+    /// Takes a unit.
+    fn accept_unit(&mut self, alloc: Global, bytes: Bytes) -> Result<(), Untaken>
+        ensures { Becomes (with_part self.old (Part.Unit bytes)) self.new result }
+    {
+        let Some(recording) = self.snapshot.recording(RENDITION) else {
+            return Err(Untaken::Refused(StreamFault::Core(Refusal::NoInit)));
+        };
+        let facts = match read_facts(recording.init(), &bytes) {
+            Ok(facts) => facts,
+            Err(fault) => return Err(Untaken::Refused(StreamFault::Media(fault))),
+        };
+        let event = Event::Accept {
+            rendition: RENDITION,
+            facts,
+            bytes,
+        };
+        self.take(alloc, event)
+    }
+
+    /// Ends the stream: no unit will come any more.
+    #[tactic(auto, unfolding(crate::specs::Recorded::ended))]
+    pub fn finish(&mut self, alloc: Global) -> Result<(), Untaken>
+        ensures { Becomes (ended self.old) self.new result }
+    {
+        let event = Event::Finish {
+            rendition: RENDITION,
+        };
+        self.take(alloc, event)
+    }
+}
+
+/// Takes the parts of a stream into a recorder.
+#[derive(Clone, Copy)]
+pub struct Recording {
+    /// Where memory is taken.
+    pub alloc: Global,
+}
+
+impl Taker for Recording {
+    ghost use Rattle.hls_core_laws.specs.State.{State};
+    ghost use Rattle.hls_commands.specs.Recorded.{PartComes};
+
+    type Kept = ();
+
+    type Channel = Recorder;
+
+    ghost Progress = { State };
+
+    ghost progress = { λ kept recorder. recorder };
+
+    ghost fits = { λ recording kept recorder. Unit {0} };
+
+    ghost comes = { λ recording. PartComes };
+
+    ghost goes = { λ kept recorder later now. Unit {0} };
+
+    ghost stays = { λ kept recorder. tt };
+
+    ghost goes_on = { λ kept recorder later now last then first second. tt };
+
+    fn take(&self, _kept: &mut (), recorder: &mut Recorder, part: Part) -> Result<(), Untaken> {
+        match part {
+            Part::Init(bytes) => recorder.accept_init(self.alloc, bytes),
+            Part::Unit(bytes) => recorder.accept_unit(self.alloc, bytes),
+        }
+    }
+}

@@ -1,0 +1,169 @@
+//! The line that is said of a media playlist.
+ghost use Rattle.std.specs.Prelude.{◌≡◌, ◌+◌, ◌≤◌, ◌++◌, [], ◌∷◌, Ok, Err, OnOk, IfOk};
+ghost use Rattle.arrayvec.specs.ArrayString.{array_string_len};
+ghost use Rattle.hls_m3u8.specs.Playlist.{playlist_of};
+ghost use Rattle.hls_text.specs.Numbers.{spaced};
+ghost use Rattle.hls_time.specs.Seconds.{seconds_text};
+ghost use Rattle.hls_commands.specs.LintAnswer.{count_words, end_words, extent, fault_lines, field, header, kind_words, length_words};
+ghost use Rattle.hls_commands.specs.LintAnswer.{longest, printed, sequences, total_us};
+
+use crate::check::printing::{LINE_LEN, push_number};
+use arrayvec::ArrayString;
+use hls_m3u8::{Kind, ListFault, MediaPlaylist, Segment};
+use hls_time::write_seconds;
+use std::alloc::{AllocError, Global};
+
+/// The longest time that is told, in microseconds.
+const LONGEST: u64 = (1 << 53) - 1;
+
+/// The segments' lengths together in microseconds, or the longest time that is told.
+fn total_us(segments: &[Segment]) -> u64
+    ensures { result ≡ total_us segments.now }
+{
+    let mut total = 0u64;
+    for segment in segments {
+        total = total.saturating_add(segment.us).min(LONGEST);
+    }
+    total
+}
+
+/// Adds a label and a number.
+fn push_field(out: &mut Vec<u8>, label: &[u8], number: u64) -> Result<(), AllocError>
+    ensures { OnOk result (out.new.items ≡ out.old.items ++ field label.now number) }
+{
+    out.extend_from_slice(label)?;
+    out.extend_from_slice(itoa::Buffer::new().format(number).as_bytes())?;
+    Ok(())
+}
+
+/// Adds a time in seconds.
+fn push_seconds(out: &mut Vec<u8>, us: u64) -> Result<(), AllocError>
+    requires { us ≤ longest }
+    ensures { OnOk result (out.new.items ≡ out.old.items ++ seconds_text us) }
+{
+    let mut seconds = [0; 24];
+    let len = write_seconds(us, &mut seconds);
+    out.extend_from_slice(&seconds[..len])?;
+    Ok(())
+}
+
+/// Adds how many segments there are.
+fn push_count(out: &mut Vec<u8>, segments: &[Segment]) -> Result<(), AllocError>
+    ensures { OnOk result (out.new.items ≡ out.old.items ++ count_words segments.now) }
+{
+    push_field(out, b"media playlist: ", segments.len() as u64)
+}
+
+/// Adds how long they are.
+fn push_length(out: &mut Vec<u8>, us: u64) -> Result<(), AllocError>
+    requires { us ≤ longest }
+    ensures { OnOk result (out.new.items ≡ out.old.items ++ length_words us) }
+{
+    out.extend_from_slice(b" segments, ")?;
+    push_seconds(out, us)?;
+    Ok(())
+}
+
+/// Adds how many segments there are, and how long they are.
+fn push_extent(out: &mut Vec<u8>, segments: &[Segment]) -> Result<(), AllocError>
+    ensures { OnOk result (out.new.items ≡ out.old.items ++ extent segments.now) }
+{
+    push_count(out, segments)?;
+    push_length(out, total_us(segments))?;
+    out.extend_from_slice(b" seconds")?;
+    Ok(())
+}
+
+/// Adds the target duration and the version.
+fn push_header(out: &mut Vec<u8>, list: &MediaPlaylist) -> Result<(), AllocError>
+    ensures { OnOk result (out.new.items ≡ out.old.items ++ header (playlist_of list.now)) }
+{
+    push_field(out, b", target ", list.target)?;
+    push_field(out, b", version ", list.version)?;
+    Ok(())
+}
+
+/// Adds the two sequence numbers.
+fn push_sequences(out: &mut Vec<u8>, list: &MediaPlaylist) -> Result<(), AllocError>
+    ensures { OnOk result (out.new.items ≡ out.old.items ++ sequences (playlist_of list.now)) }
+{
+    push_field(out, b", media sequence ", list.media_sequence)?;
+    push_field(
+        out,
+        b", discontinuity sequence ",
+        list.discontinuity_sequence,
+    )?;
+    Ok(())
+}
+
+/// Adds the four numbers of a list.
+fn push_numbers(out: &mut Vec<u8>, list: &MediaPlaylist) -> Result<(), AllocError>
+    ensures { OnOk result (out.new.items ≡ out.old.items ++ (header (playlist_of list.now) ++ sequences (playlist_of list.now))) }
+{
+    push_header(out, list)?;
+    push_sequences(out, list)?;
+    Ok(())
+}
+
+/// Adds what kind of list it is.
+fn push_kind(out: &mut Vec<u8>, kind: Option<Kind>) -> Result<(), AllocError>
+    ensures { OnOk result (out.new.items ≡ out.old.items ++ kind_words kind) }
+{
+    match kind {
+        None => out.extend_from_slice(b", live"),
+        Some(Kind::Vod) => out.extend_from_slice(b", VOD"),
+        Some(Kind::Event) => out.extend_from_slice(b", EVENT"),
+    }
+}
+
+/// Adds whether the list has ended.
+fn push_end(out: &mut Vec<u8>, ended: bool) -> Result<(), AllocError>
+    ensures { OnOk result (out.new.items ≡ out.old.items ++ end_words ended) }
+{
+    if ended {
+        out.extend_from_slice(b", ended")?;
+    }
+    Ok(())
+}
+
+/// The line of a list.
+pub fn list_line(alloc: Global, list: &MediaPlaylist) -> Result<Vec<u8>, AllocError>
+    ensures { IfOk result (λ line. line.items ≡ printed (Ok (playlist_of list.now))) }
+{
+    let mut out = Vec::new(alloc);
+    push_extent(&mut out, list.segments.as_slice())?;
+    push_numbers(&mut out, list)?;
+    push_kind(&mut out, list.kind)?;
+    push_end(&mut out, list.ended)?;
+    out.push(b'\n')?;
+    Ok(out)
+}
+
+/// Adds the number of the line that is refused, with a space before it.
+fn push_fault_line(line: &mut ArrayString<LINE_LEN>, fault: ListFault)
+    requires { array_string_len line.old + 21 ≤ LINE_LEN }
+    ensures bytes { line.new.bytes ≡ line.old.bytes ++ spaced (fault_lines fault) }
+    ensures len { array_string_len line.new ≤ array_string_len line.old + 21 }
+{
+    match fault {
+        ListFault::BadTag { line: number } => push_number(line, number as u64),
+        ListFault::NotM3u
+        | ListFault::Utf8
+        | ListFault::MissingTag
+        | ListFault::TooLong
+        | ListFault::Memory => {}
+    }
+}
+
+/// The line of a refusal: `refused`, the fault's name, and the number of the line in the playlist's text where it has one.
+/// It takes no memory.
+pub fn fault_line(fault: ListFault) -> ArrayString<LINE_LEN>
+    ensures { result.bytes ≡ printed (Err fault) }
+{
+    let mut line = ArrayString::new();
+    line.push_str("refused ");
+    line.push_str(fault.name());
+    push_fault_line(&mut line, fault);
+    line.push_str("\n");
+    line
+}

@@ -1,0 +1,98 @@
+//! `lint`, from the bytes in to the bytes out.
+ghost use Rattle.hls_io.specs.Counted.{failures_of};
+ghost use Rattle.hls_io.specs.Streams.{FromInput, Through, ToOutput};
+ghost use Rattle.hls_commands.specs.LintParts.{CountsTelling, CountsText, IsLine, PrintsText, TellsLine, done_of, line_bytes};
+ghost use Rattle.hls_commands.specs.LintRun.{CountsFailures, Runs};
+
+use crate::lint::printing::{fault_line, list_line};
+use crate::reading::{Unread, read_whole};
+use hls_io::{Counted, write_whole};
+use hls_m3u8::{ListFault, TEXT_LIMIT, read_media};
+use std::alloc::Global;
+use std::io::{Read, Write};
+
+/// How many bytes of a text are held: one more than the most that `read_media` takes, so that a longer text is refused for
+/// its length.
+const HELD_BYTES: usize = TEXT_LIMIT + 1;
+
+/// How `lint` ended.
+#[derive(Clone, Copy, Debug, PartialEq, Eq)]
+pub enum LintEnd {
+    /// The text is a media playlist, and what it is was written: status 0.
+    Readable,
+    /// The text was refused, and why was written: status 1.
+    Refused,
+    /// A read failed, and nothing was written: status 1.
+    ReadFailed,
+    /// A write of the line failed: status 1.
+    WriteFailed,
+}
+
+/// The line of a text, or why it is refused.
+fn text_line(alloc: Global, text: &[u8]) -> Result<Vec<u8>, ListFault>
+    ensures { IsLine text.now result }
+{
+    match read_media(alloc, text) {
+        Ok(list) => Ok(list_line(alloc, &list)?),
+        Err(fault) => Err(fault),
+    }
+}
+
+/// The line of the whole of a stream; None where a read failed.
+fn stream_line<R: Read>(alloc: Global, input: &mut Counted<R>) -> Option<Result<Vec<u8>, ListFault>>
+    ensures tells { FromInput R.remaining input.old input.new TellsLine result }
+    ensures counts { CountsTelling result (failures_of input.old) (failures_of input.new) }
+{
+    match read_whole(alloc, input, Some(HELD_BYTES)) {
+        Ok(text) => Some(text_line(alloc, &text)),
+        Err(Unread::ReadFailed) => None,
+        Err(Unread::Memory) => Some(Err(ListFault::Memory)),
+    }
+}
+
+/// Writes a text, and ends as `done` says unless a write failed.
+fn print_text<W: Write>(output: &mut Counted<W>, text: &[u8], done: LintEnd) -> LintEnd
+    ensures prints { ToOutput W.contents output.old output.new (PrintsText text.now done) result }
+    ensures counts { CountsText done result (failures_of output.old) (failures_of output.new) }
+{
+    if write_whole(output, text) {
+        done
+    } else {
+        LintEnd::WriteFailed
+    }
+}
+
+/// Writes a line, which is whole before the first write.
+fn print_line<W: Write>(output: &mut Counted<W>, line: Result<Vec<u8>, ListFault>) -> LintEnd
+    ensures prints { ToOutput W.contents output.old output.new (PrintsText (line_bytes line) (done_of line)) result }
+    ensures counts { CountsText (done_of line) result (failures_of output.old) (failures_of output.new) }
+{
+    match line {
+        Ok(line) => print_text(output, line.as_slice(), LintEnd::Readable),
+        Err(fault) => {
+            let line = fault_line(fault);
+            print_text(output, line.as_str().as_bytes(), LintEnd::Refused)
+        }
+    }
+}
+
+/// Reads a media playlist's text to the reader's end, and writes one line: what the list is where the text is readable as one
+/// (RFC 8216 section 4), else `refused`, the name of its first fault, and the number of the line that has it where there is
+/// one.
+///
+/// No more of the text is held than the reader of playlists takes, and one byte. Nothing is written before the whole line is
+/// there. `refused Memory` is the answer only where memory was refused, and may then come before the reader's end; writing
+/// it takes no memory.
+pub fn run_lint<R: Read, W: Write>(
+    alloc: Global,
+    input: &mut Counted<R>,
+    output: &mut Counted<W>,
+) -> LintEnd
+    ensures runs { Through R.remaining input.old input.new W.contents output.old output.new Runs result }
+    ensures counts { CountsFailures result (failures_of input.old) (failures_of input.new) (failures_of output.old) (failures_of output.new) }
+{
+    match stream_line(alloc, input) {
+        Some(line) => print_line(output, line),
+        None => LintEnd::ReadFailed,
+    }
+}

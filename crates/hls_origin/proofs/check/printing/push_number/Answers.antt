@@ -1,5 +1,0 @@
-use Rattle.hls_origin.proofs.PrintLaws.{one_number}
-use Rattle.hls_origin.proofs.check.printing.push_number.Goals as goal
-
-pub returns-clause-bytes : goal.returns-clause-bytes
-returns-clause-bytes c = one_number _ _ _ _ c.args.number c.push_str.ensures.bytes c.push_str-2.ensures.bytes c.format.ensures.text

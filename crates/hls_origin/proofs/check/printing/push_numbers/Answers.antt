@@ -1,6 +1,0 @@
-use Rattle.std.proofs.Common.{arith}
-use Rattle.hls_origin.proofs.PrintLaws.{no_numbers}
-use Rattle.hls_origin.proofs.check.printing.push_numbers.Goals as goal
-
-pub returns-in-PlanEnds : goal.returns-in-PlanEnds
-returns-in-PlanEnds c = record { bytes = no_numbers _ c.args.fault c.in-PlanEnds.is; len = omega arith }
