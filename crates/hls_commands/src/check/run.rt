@@ -76,7 +76,8 @@ fn print_answer<W: Write>(output: &mut Counted<W>, answer: Result<Verdict, CertF
 ///
 /// Nothing is written before the whole line is there. `refused Memory` is the answer only where memory
 /// was refused, and may then come before the reader's end; writing it takes no memory. Where a write
-/// fails, the end tells the answer whose line wasn't written whole.
+/// fails, the end tells the answer whose line wasn't written whole. A large certificate is checked on several threads, where
+/// they can be started. May wait for them.
 pub fn run_check<R: Read, W: Write>(
     rt: &(impl Threads + Sync),
     alloc: Global,

@@ -104,10 +104,11 @@ fn run<R: Read, W: Write>(
     }
 }
 
-/// Does what the words after `cut` ask for: reads a stream of one rendition, and writes its playlist
-/// (RFC 8216 section 4) or the certificate of its least plan.
+/// Does what the words after `cut` ask for: reads a stream of one rendition, fragmented MP4 in pieces of any lengths, and
+/// writes its playlist (RFC 8216 section 4) or the certificate of its least plan.
 ///
-/// Without a preferred length each place begins a segment; with one the plan is least, and `NoCut`
+/// The words are those behind `cut`, each as the system gave it; a wrong one ends with `Usage` before anything is read or
+/// written. Without a preferred length each place begins a segment; with one the plan is least, and `NoCut`
 /// tells that there is none. Reading ends at the reader's end, a failed call or the first refusal
 /// in the stream's order; at the end stands `Truncated` before `NoInit` before `LedgerFull` before
 /// `NoPlace` before `ProgrammeTooLong` before `NotAllowed`. Nothing is written before the whole
