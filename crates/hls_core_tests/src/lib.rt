@@ -1,4 +1,4 @@
-//! Tests of a channel from its recordings to the turn that threads take: recordings, common places, steps.
+//! Tests of a channel: recordings and steps that are refused memory.
 #![tactic(auto)]
 
 #[cfg(test)]

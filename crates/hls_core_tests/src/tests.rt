@@ -3,4 +3,4 @@
 mod recordings;
 mod refused;
 mod samples;
-mod turns;
+mod two_units;
