@@ -1,12 +1,4 @@
-//! The tests, and what they share.
+//! The tests.
 
 mod boxes;
-mod instants;
-mod io;
 mod loops;
-mod options;
-mod pace;
-mod samples;
-mod settings;
-mod text;
-mod time;

@@ -1,4 +1,4 @@
-//! Tests of catch-up: answers, the lists of a channel, jobs and their files, and what `cut` lists.
+//! Tests of catch-up: runs of events and requests, and requests for memory that are refused.
 #![tactic(auto)]
 
 #[cfg(test)]

@@ -1,4 +1,4 @@
-//! Tests of init sections and units, by values from the standard's tables and from real encoders.
+//! Tests of init sections and units: requests for memory that are refused.
 #![tactic(auto)]
 
 #[cfg(test)]

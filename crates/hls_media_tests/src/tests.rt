@@ -1,8 +1,3 @@
-//! The tests, and what they share.
+//! The tests.
 
-mod built;
-mod counts;
-mod inits;
-mod real;
 mod refused;
-mod units;
