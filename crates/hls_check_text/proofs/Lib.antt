@@ -8,5 +8,5 @@ pub mod Wrongs
 mod LineKinds
 mod PlaceTexts
 mod Claims
-mod Written
+pub mod Written
 mod Scans

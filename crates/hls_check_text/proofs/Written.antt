@@ -2,7 +2,7 @@
 use Rattle.std.proofs.Common.{◌≡◌, refl, sym, ◌∙◌, ap, ℕ, ◌+◌, ◌<◌, ◌≤◌, arith, List, [], ◌∷◌, ◌++◌, length, map, drop, get_or, codes, Bool, true, false, Option, Some, None, add-one, append_assoc, append-nil}
 use Rattle.std.specs.Fmt.{decimal}
 use Rattle.std.proofs.Math.Seq.{drop-cons}
-use Rattle.std.proofs.lemmas.List.{drop_all}
+use Rattle.std.proofs.lemmas.List.{drop_all, map-append}
 use Rattle.hls_check_laws.specs.declared.spot.Spot.{Spot}
 use Rattle.hls_check_laws.specs.Tables.{Table}
 use Rattle.hls_check_laws.specs.Certificates.{Printed, Shown, CutShown, NoneShown}
@@ -245,20 +245,41 @@ pub rule_written : (old : List ℕ) (charge : ℕ) (a b : List ℕ) → a ≡ ol
     b ≡ a ++ joined (charge_line charge ∷ []) → b ≡ old ++ joined (ruled_header_line ∷ charge_line charge ∷ [])
 rule_written old charge a b a_is b_is = lines_more old a b (ruled_header_line ∷ []) (charge_line charge ∷ []) a_is b_is
 
-pub table_written : (old : List ℕ) (t : Table) (a b c d e f : List ℕ) → a ≡ old ++ joined (rule_lines t.goal.rule) →
+pub head_written : (old : List ℕ) (t : Table) (a b c d e : List ℕ) → a ≡ old ++ joined (rule_lines t.goal.rule) →
     b ≡ a ++ joined (target_line t.goal.target ∷ []) → c ≡ b ++ joined (preferred_line t.goal.preferred ∷ []) →
     d ≡ c ++ joined (renditions_line t.renditions ∷ []) → e ≡ d ++ joined (places_line (length t.places) ∷ []) →
-    f ≡ e ++ joined (map place_line t.places) → f ≡ old ++ joined (table_lines t)
-unfolding table_lines
-table_written old t a b c d e f a_is b_is c_is d_is e_is f_is =
-    lines_more old e f (head_lines t.goal t.renditions (length t.places)) (map place_line t.places)
-    (lines_more old a e (rule_lines t.goal.rule)
+    e ≡ old ++ joined (head_lines t.goal t.renditions (length t.places))
+head_written old t a b c d e a_is b_is c_is d_is e_is =
+    lines_more old a e (rule_lines t.goal.rule)
     (target_line t.goal.target ∷ preferred_line t.goal.preferred ∷ renditions_line t.renditions ∷ places_line (length t.places) ∷ []) a_is
     (lines_more a d e (target_line t.goal.target ∷ preferred_line t.goal.preferred ∷ renditions_line t.renditions ∷ []) (places_line (length t.places) ∷ [])
     (lines_more a c d (target_line t.goal.target ∷ preferred_line t.goal.preferred ∷ []) (renditions_line t.renditions ∷ [])
-    (lines_more a b c (target_line t.goal.target ∷ []) (preferred_line t.goal.preferred ∷ []) b_is c_is) d_is) e_is)) f_is
+    (lines_more a b c (target_line t.goal.target ∷ []) (preferred_line t.goal.preferred ∷ []) b_is c_is) d_is) e_is)
+
+pub table_written : (old : List ℕ) (t : Table) (e f : List ℕ) → e ≡ old ++ joined (head_lines t.goal t.renditions (length t.places)) →
+    f ≡ e ++ joined (map place_line t.places) → f ≡ old ++ joined (table_lines t)
+unfolding table_lines
+table_written old t e f e_is f_is = lines_more old e f (head_lines t.goal t.renditions (length t.places)) (map place_line t.places) e_is f_is
 
 pub text_written : (c : Printed) (s : Shown) (a b : List ℕ) → c.shown ≡ s → a ≡ joined (table_lines c.table) → b ≡ a ++ joined (shown_lines s) → b ≡ text c
 unfolding text lines
 text_written c s a b is a_is b_is =
     lines_more [] a b (table_lines c.table) (shown_lines s) a_is b_is ∙ ap (λ (z : Shown). joined (table_lines c.table ++ shown_lines z)) (sym is)
+
+-- the head, and then the places and the claim, however far they are written
+pub text_parts : (c : Printed) → text c ≡ joined (head_lines c.table.goal c.table.renditions (length c.table.places)) ++ joined (map place_line c.table.places ++ shown_lines c.shown)
+unfolding text lines table_lines
+text_parts c =
+    let head = head_lines c.table.goal c.table.renditions (length c.table.places) in
+    ap joined (append_assoc head (map place_line c.table.places) (shown_lines c.shown))
+    ∙ joined-append head (map place_line c.table.places ++ shown_lines c.shown)
+
+-- some places more are written
+pub places_parts : (old new : List ℕ) (front rest : List (List Spot)) (behind : List (List ℕ)) → new ≡ old ++ joined (map place_line front)
+    → new ++ joined (map place_line rest ++ behind) ≡ old ++ joined (map place_line (front ++ rest) ++ behind)
+places_parts old new front rest behind written =
+    ap (λ (t : List ℕ). t ++ joined (map place_line rest ++ behind)) written
+    ∙ append_assoc old (joined (map place_line front)) (joined (map place_line rest ++ behind))
+    ∙ ap (λ (t : List ℕ). old ++ t) (sym (joined-append (map place_line front) (map place_line rest ++ behind)))
+    ∙ ap (λ (ls : List (List ℕ)). old ++ joined ls) (sym (append_assoc (map place_line front) (map place_line rest) behind))
+    ∙ ap (λ (ls : List (List ℕ)). old ++ joined (ls ++ behind)) (sym (map-append place_line front rest))

@@ -13,4 +13,4 @@ mod wrong_line;
 
 pub use reader::read;
 pub use scan::first_wrong;
-pub use write_text::write;
+pub use write_text::{push_claim, push_head, push_places, write};

@@ -5,7 +5,7 @@ ghost use Rattle.std.specs.Fmt.{decimal};
 ghost use Rattle.hls_text.specs.Lines.{joined};
 ghost use Rattle.hls_text.specs.Numbers.{words, spaced, number_line};
 ghost use Rattle.hls_check_laws.specs.Certificates.{CutShown, NoneShown, shown_by};
-ghost use Rattle.hls_check_text.specs.Text.{after_fragment, place_numbers, place_line, plan_line, price_line, closed_line, priced, priced_from, members_from, rule_lines, table_lines, shown_lines, text, IsShowable};
+ghost use Rattle.hls_check_text.specs.Text.{after_fragment, head_lines, place_numbers, place_line, plan_line, price_line, closed_line, priced, priced_from, members_from, rule_lines, table_lines, shown_lines, text, IsShowable};
 
 use hls_check_laws::{Certificate, Claim, CostRule, PrintedTable, Spot, Spots};
 use std::alloc::{AllocError, Global};
@@ -106,8 +106,8 @@ fn push_place(out: &mut Vec<u8>, place: &Spots) -> Result<(), AllocError>
     Ok(())
 }
 
-// The places' lines.
-fn push_places(out: &mut Vec<u8>, places: &[Spots]) -> Result<(), AllocError>
+/// The places' lines.
+pub fn push_places(out: &mut Vec<u8>, places: &[Spots]) -> Result<(), AllocError>
     ensures { IfOk result (λ _. out.new.items ≡ out.old.items ++ joined (map place_line places.now)) }
 {
     for place in places {
@@ -205,9 +205,9 @@ fn push_rule(out: &mut Vec<u8>, rule: CostRule) -> Result<(), AllocError>
     }
 }
 
-// The lines of a table.
-fn push_table(out: &mut Vec<u8>, table: &PrintedTable) -> Result<(), AllocError>
-    ensures { IfOk result (λ _. out.new.items ≡ out.old.items ++ joined (table_lines table.now)) }
+/// The lines before the first place's. A certificate is written in parts by them, the places' lines, and the claim's.
+pub fn push_head(out: &mut Vec<u8>, table: &PrintedTable) -> Result<(), AllocError>
+    ensures { IfOk result (λ _. out.new.items ≡ out.old.items ++ joined (head_lines table.now.goal table.now.renditions (length table.now.places))) }
 {
     let goal = table.goal();
     push_rule(out, goal.rule)?;
@@ -215,6 +215,14 @@ fn push_table(out: &mut Vec<u8>, table: &PrintedTable) -> Result<(), AllocError>
     push_number_line(out, b"preferred ", goal.preferred)?;
     push_number_line(out, b"renditions ", table.renditions() as u64)?;
     push_number_line(out, b"places ", table.len() as u64)?;
+    Ok(())
+}
+
+// The lines of a table.
+fn push_table(out: &mut Vec<u8>, table: &PrintedTable) -> Result<(), AllocError>
+    ensures { IfOk result (λ _. out.new.items ≡ out.old.items ++ joined (table_lines table.now)) }
+{
+    push_head(out, table)?;
     push_places(out, table.places())?;
     Ok(())
 }
@@ -246,8 +254,16 @@ fn push_none(out: &mut Vec<u8>, closed: &[bool]) -> Result<(), AllocError>
     Ok(())
 }
 
+/// The lines of what a certificate claims.
+pub fn push_claim(out: &mut Vec<u8>, certificate: &Certificate) -> Result<(), AllocError>
+    ensures { IfOk result (λ _. out.new.items ≡ out.old.items ++ joined (shown_lines certificate.now.shown)) }
+{
+    let _ = certificate.table();
+    push_shown(out, certificate.claim())
+}
+
 // The lines of a claim.
-fn push_claim(out: &mut Vec<u8>, claim: &Claim) -> Result<(), AllocError>
+fn push_shown(out: &mut Vec<u8>, claim: &Claim) -> Result<(), AllocError>
     requires { IsShowable claim.now }
     ensures { IfOk result (λ _. out.new.items ≡ out.old.items ++ joined (shown_lines (shown_by claim.now))) }
 {
@@ -263,6 +279,6 @@ pub fn write(alloc: Global, certificate: &Certificate) -> Result<Vec<u8>, AllocE
 {
     let mut out = Vec::new(alloc);
     push_table(&mut out, certificate.table())?;
-    push_claim(&mut out, certificate.claim())?;
+    push_claim(&mut out, certificate)?;
     Ok(out)
 }
