@@ -4,3 +4,4 @@ pub mod Valid
 pub mod Calls
 pub mod Keeps
 pub mod Lists
+pub mod CertificateTexts

@@ -14,5 +14,6 @@ mod Spans
 mod Plays
 mod Names
 mod LiveLists
+mod LiveTexts
 mod JobLemmas
 pub mod Callers

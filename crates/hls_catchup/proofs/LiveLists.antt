@@ -5,10 +5,9 @@ use Rattle.std.proofs.lemmas.Bool.{cases_Bool, lt-ltb, ltb-true, cond-true, cond
 use Rattle.hls_media_laws.specs.InitData.{InitData}
 use Rattle.hls_record.specs.Recorded.{Recorded}
 use Rattle.hls_places_laws.specs.declared.line.segment.Segment as live_line
-use Rattle.hls_places_laws.specs.Line.Live.{Live, segments_of, has_ended}
+use Rattle.hls_places_laws.specs.Line.Live.{Live, segments_of}
 use Rattle.hls_m3u8.specs.declared.playlist.Segment.{Segment}
 use Rattle.hls_m3u8.specs.Playlist.{Playlist}
-use Rattle.hls_m3u8.specs.Forms.{live_list}
 use Rattle.hls_lists_laws.specs.Segments.{Cutting}
 use Rattle.hls_core_laws.specs.Channel.{Lane}
 use Rattle.hls_core_laws.specs.State.{State, Held, no_held, channel}
@@ -19,6 +18,7 @@ use Rattle.hls_catchup.proofs.Cited.{at_beside, at_or, closed-some, has-begun}
 use Rattle.hls_core.specs.Reads.{recorded_from, recorded_at, recording_of}
 use Rattle.hls_lists_laws.specs.Live.{live_uri, listed, list_over, has_closed, list_in, live_list_of}
 use Rattle.hls_catchup.specs.Lists.{cutting}
+use Rattle.hls_catchup.specs.LiveTexts.{list_with}
 
 -- no segment was closed
 unclosed : (s : State) → (line s).removed + length (segments_of (line s)) ≡ 0 → has_closed (line s) ≡ false
@@ -58,9 +58,7 @@ unbegun s state r is = unbegun-in s state r (slice_get (channel s).lanes r) refl
 
 -- the list of one that has
 abbrev pub list_by : State → ℕ → Recorded → Playlist
-list_by s r recorded =
-    live_list s.config.target (line s).removed (line s).breaks (live_uri r) (length recorded.head)
-    (map (listed (cutting s.config.epoch recorded r (live_uri r) 0)) (segments_of (line s))) (has_ended (line s))
+list_by s r recorded = list_with s recorded (live_uri r) (map (listed (cutting s.config.epoch recorded r (live_uri r) 0)) (segments_of (line s)))
 
 list-is : (s : State) (r : ℕ) (l : Lane) (h : Held) (init : InitData) (recorded : Recorded) → l.size ≡ length h.head →
     recorded_from (Some init) l h ≡ Some recorded → list_over s.config.epoch r l (line s) ≡ list_by s r recorded
@@ -89,20 +87,16 @@ pub listed-by : (s : State) → IsState s → (r : ℕ) (recorded : Recorded) �
     0 < (line s).removed + length (segments_of (line s)) → live_list_of s r ≡ Some (list_by s r recorded)
 listed-by s state r recorded is some = by-lane s state r (slice_get (channel s).lanes r) recorded refl is some
 
--- a list made of a line's parts
-pub list-made : (s : State) (r : ℕ) (recorded : Recorded) (live : Live) (epoch : Option ℤ) (target removed breaks : ℕ) (uri : List ℕ) (size : ℕ) (segments : List Segment) (ended : Bool) →
-    live ≡ line s → epoch ≡ s.config.epoch → target ≡ s.config.target → removed ≡ live.removed → breaks ≡ live.breaks → uri ≡ live_uri r → size ≡ length recorded.head →
-    segments ≡ map (listed (cutting epoch recorded r uri 0)) (segments_of live) → ended ≡ has_ended live →
-    live_list target removed breaks uri size segments ended ≡ list_by s r recorded
-list-made s r recorded live epoch target removed breaks uri size segments ended live_is epoch_is target_is removed_is breaks_is uri_is size_is segments_are ended_is =
-    let now : removed ≡ (line s).removed = removed_is ∙ ap (λ (l : Live). l.removed) live_is in
-    let marks : breaks ≡ (line s).breaks = breaks_is ∙ ap (λ (l : Live). l.breaks) live_is in
-    let over : ended ≡ has_ended (line s) = ended_is ∙ ap has_ended live_is in
+-- a list made of a line's segments
+pub list-made : (s : State) (r : ℕ) (recorded : Recorded) (live : Live) (epoch : Option ℤ) (uri : List ℕ) (segments : List Segment) →
+    live ≡ line s → epoch ≡ s.config.epoch → uri ≡ live_uri r →
+    segments ≡ map (listed (cutting epoch recorded r uri 0)) (segments_of live) → list_with s recorded uri segments ≡ list_by s r recorded
+list-made s r recorded live epoch uri segments live_is epoch_is uri_is segments_are =
     let all : segments ≡ map (listed (cutting s.config.epoch recorded r (live_uri r) 0)) (segments_of (line s)) =
     segments_are ∙ (ap (λ (e : Option ℤ). map (listed (cutting e recorded r uri 0)) (segments_of live)) epoch_is
     ∙ ap (λ (u : List ℕ). map (listed (cutting s.config.epoch recorded r u 0)) (segments_of live)) uri_is
     ∙ ap (λ (l : Live). map (listed (cutting s.config.epoch recorded r (live_uri r) 0)) (segments_of l)) live_is) in
-    λ k. live_list (target_is k) (now k) (marks k) (uri_is k) (size_is k) (all k) (over k)
+    λ k. list_with s recorded (uri_is k) (all k)
 
 -- one segment more
 pub one_listed_more : (cut : Cutting) (before more : List Segment) (walk rest : List live_line.Segment) (x : live_line.Segment) (segment : Segment)

@@ -10,4 +10,5 @@ pub mod Kept
 pub mod Shared
 pub mod Standing
 pub mod Files
+pub mod CertificateTexts
 pub mod Line

@@ -1,5 +1,6 @@
 pub mod FaultName
 pub mod Lists
+pub mod LiveTexts
 pub mod Accepted
 pub mod Answers
 pub mod Requests

@@ -4,6 +4,7 @@
 //! A job's answer is right for the snapshot and the request that it holds: its type says so, under the lock and out of it.
 
 pub mod answered;
+pub mod certificate_text;
 pub mod files;
 pub mod finished;
 pub mod gate;

@@ -9,6 +9,7 @@ ghost use Rattle.hls_core_laws.specs.Config.{IsEpoch};
 ghost use Rattle.hls_core_laws.specs.IsState.{IsState};
 ghost use Rattle.hls_lists_laws.specs.Live.{listed, live_list_of};
 ghost use Rattle.hls_catchup.specs.Lists.{cutting};
+ghost use Rattle.hls_catchup.specs.LiveTexts.{list_with};
 
 use crate::resource::resource_uri;
 use crate::segments::segment_between;
@@ -38,17 +39,30 @@ pub fn live_playlist(
         return Ok(None);
     }
     let uri = resource_uri(alloc, "/media/", rendition)?;
-    let config = snapshot.config();
-    let segments = live_segments(alloc, recording, config.epoch(), rendition, &uri, line)?;
-    Ok(Some(MediaPlaylist::live(
-        config.target(),
+    let epoch = snapshot.config().epoch();
+    let segments = live_segments(alloc, recording, epoch, rendition, &uri, line)?;
+    Ok(Some(list_with(snapshot, recording, uri, segments)))
+}
+
+/// The live list over a recording, at a URI, with these segments.
+pub(crate) fn list_with(
+    snapshot: &Snapshot,
+    recording: &Recording,
+    uri: ByteStr,
+    segments: Vec<Segment>,
+) -> MediaPlaylist
+    ensures { playlist_of result ≡ list_with snapshot.now recording.now uri segments.items }
+{
+    let line = snapshot.line();
+    MediaPlaylist::live(
+        snapshot.config().target(),
         line.removed(),
         line.removed_breaks(),
         uri,
         recording.head().len() as u64,
         segments,
         line.ended(),
-    )))
+    )
 }
 
 /// The kept segments of the live line in one rendition, with ranges in its recording.
@@ -73,7 +87,7 @@ fn live_segments(
 }
 
 /// A segment of the live line in one rendition, with its range in the recording.
-fn listed(
+pub(crate) fn listed(
     recording: &Recording,
     epoch: Option<i64>,
     rendition: usize,

@@ -36,13 +36,7 @@ returns-clause-list c =
       ap (λ (l : Live). l.removed) c.line-line.ensures.value,
       ap (λ (l : Live). length (segments_of l)) c.line-line.ensures.value,
     ) in
-    let made = list-made c.args.snapshot.now c.args.rendition c.in-Some.recording.now c.line-line.result.now
-    c.epoch.result c.target.result c.removed.result c.removed_breaks.result _ c.len.result _ c.ended.result
-    c.line-line.ensures.value
-    (c.epoch.ensures.value ∙ ap (λ (x : ConfigData). x.epoch) c.config-config.ensures.value)
-    (c.target.ensures.value ∙ ap (λ (x : ConfigData). x.target) c.config-config.ensures.value)
-    c.removed.ensures c.removed_breaks.ensures c.in_ok-uri.ensures
-    (c.len.ensures.value ∙ ap length c.head.ensures)
-    c.in_ok-segments.ensures c.ended.ensures in
-    ap (λ (x : Playlist). Some x) (c.live.ensures ∙ made)
+    let made = list-made c.args.snapshot.now c.args.rendition c.in-Some.recording.now c.line-line.result.now c.epoch-epoch.result _ _
+    c.line-line.ensures.value (c.epoch-epoch.ensures.value ∙ ap (λ (x : ConfigData). x.epoch) c.config.ensures.value) c.in_ok-uri.ensures c.in_ok-segments.ensures in
+    ap (λ (x : Playlist). Some x) (c.list_with.ensures ∙ made)
     ∙ sym (listed-by c.args.snapshot.now c.recording.ensures.valid c.args.rendition c.in-Some.recording.now is closed)

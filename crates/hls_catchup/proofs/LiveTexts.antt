@@ -1,0 +1,209 @@
+-- The text of a live list that is written in parts.
+use Rattle.std.proofs.Common.{◌≡◌, ◌∙◌, ◌⊎◌, ℕ, zero, suc, ◌+◌, ◌-◌, ◌<◌, ◌≤◌, ◌^◌, ℤ, Bool, true, false, List, [], ◌∷◌, ◌++◌, length, map, drop, get_or, All, Option, Some, None, if◌then◌else◌, inl, inr, arith, refl, sym, ap, subst, append_assoc, add-one}
+use Rattle.std.proofs.lemmas.Bool.{cases_lt}
+use Rattle.std.proofs.lemmas.List.{drop-map, drop_all, length-drop, length-map}
+use Rattle.std.proofs.lemmas.List.Elements.{All-drop, All-head}
+use Rattle.std.specs.Prelude.{slice_get, option_map}
+use Rattle.hls_check_laws.specs.Tables.{spot_in}
+use Rattle.hls_blocks.specs.Numbered.{Numbered, rest_at}
+use Rattle.hls_record.specs.Recorded.{Recorded}
+use Rattle.hls_places_laws.specs.declared.line.segment.Segment as live_line
+use Rattle.hls_places_laws.specs.Line.Live.{Live, segments_of, has_ended}
+use Rattle.hls_m3u8.specs.declared.playlist.Segment.{Segment}
+use Rattle.hls_m3u8.specs.HasText.{IsDate, IsSegment, resource}
+use Rattle.hls_m3u8.specs.Lines.{joined, segment_lines, all_segment_lines, head_lines, end_lines, media_text}
+use Rattle.hls_m3u8.specs.Playlist.{Playlist}
+use Rattle.hls_m3u8.proofs.Joined.{joined_append}
+use Rattle.hls_core_laws.specs.Channel.{Lane}
+use Rattle.hls_core_laws.specs.State.{State, channel}
+use Rattle.hls_core_laws.specs.IsState.{IsState}
+use Rattle.hls_core_laws.specs.Line.{line}
+use Rattle.hls_core.specs.Reads.{recording_of}
+use Rattle.hls_lists_laws.specs.Live.{live_cutting, live_uri, listed, list_over, has_closed, list_in, live_list_of}
+use Rattle.hls_catchup.specs.Lists.{cutting}
+use Rattle.hls_catchup.specs.LiveTexts.{Has, HasBy, Reaches, ReachesBy, left_by, left_of, list_with}
+use Rattle.hls_catchup.proofs.Cited.{live-lists-have-texts, starts-small}
+use Rattle.hls_catchup.proofs.LiveLists.{list_by, listed-by, unbegun, unlisted}
+
+-- ---- lists
+
+-- behind the next item
+drop-suc : {X : Type 0} (xs : List X) (k : ℕ) (x : X) (rest : List X) → drop k xs ≡ x ∷ rest → drop (suc k) xs ≡ rest
+drop-suc xs zero x rest is = ap (λ ys. drop (suc zero) ys) is
+drop-suc [] (suc k) x rest is = cc
+drop-suc (y ∷ xs) (suc k) x rest is = drop-suc xs k x rest is
+
+pub drop-next : {X : Type 0} (xs : List X) (k : ℕ) (x : X) (rest : List X) → drop k xs ≡ x ∷ rest → drop (k + 1) xs ≡ rest
+drop-next xs k x rest is = ap (λ n. drop n xs) (add-one k) ∙ drop-suc xs k x rest is
+
+pub within : {X : Type 0} (xs : List X) (k : ℕ) (x : X) (rest : List X) → drop k xs ≡ x ∷ rest → k + 1 ≤ length xs
+within xs k x rest is = omega (arith, length-drop k xs, ap length is)
+
+pub all-of : {X : Type 0} (xs : List X) (k : ℕ) → drop k xs ≡ [] → length xs ≤ k
+all-of xs k is = omega (arith, length-drop k xs, ap length is)
+
+-- ---- a state's list, of a rendition that was begun
+
+unlisted-has : (s : State) (r k : ℕ) → live_list_of s r ≡ None → Has s r k → ⊥
+unlisted-has s r k is has = subst (λ list. HasBy list k) is has
+
+pub has-begun-it : (s : State) → IsState s → (r k : ℕ) → recording_of s r ≡ None → Has s r k → ⊥
+has-begun-it s state r k none has = unlisted-has s r k (unbegun s state r none) has
+
+pub list-is : (s : State) → IsState s → (r k : ℕ) (recorded : Recorded) → recording_of s r ≡ Some recorded → Has s r k → live_list_of s r ≡ Some (list_by s r recorded)
+list-is s state r k recorded is has =
+    elim (cases_lt 0 ((line s).removed + length (segments_of (line s)))) [
+      | inl some ↦ listed-by s state r recorded is some
+      | inr none ↦ absurd (unlisted-has s r k (unlisted s r (omega (arith, none))) has)
+    ]
+
+-- ---- its text
+
+-- the next segment is written
+next-lines : (all : List Segment) (ended : Bool) (k : ℕ) (y : Segment) (tail : List Segment) (before after : List ℕ) → drop k all ≡ y ∷ tail
+    → after ≡ before ++ joined (segment_lines y)
+    → after ++ joined (all_segment_lines (drop (k + 1) all) ++ end_lines ended) ≡ before ++ joined (all_segment_lines (drop k all) ++ end_lines ended)
+next-lines all ended k y tail before after here written =
+    let rest = all_segment_lines (drop (k + 1) all) in
+    let e = end_lines ended in
+    ap (λ (t : List ℕ). t ++ joined (rest ++ e)) written
+    ∙ append_assoc before (joined (segment_lines y)) (joined (rest ++ e))
+    ∙ ap (λ (t : List ℕ). before ++ t) (sym (joined_append (segment_lines y) (rest ++ e)))
+    ∙ ap (λ (ls : List (List ℕ)). before ++ joined ls) (sym (append_assoc (segment_lines y) rest e))
+    ∙ ap (λ (ss : List Segment). before ++ joined ((segment_lines y ++ all_segment_lines ss) ++ e)) (drop-next all k y tail here)
+    ∙ ap (λ (ss : List Segment). before ++ joined (all_segment_lines ss ++ e)) (sym here)
+
+module _ (s : State) (state : IsState s) (r : ℕ) (recorded : Recorded) (k : ℕ) (x : live_line.Segment) (rest : List live_line.Segment)
+    (there : live_list_of s r ≡ Some (list_by s r recorded)) (walk : drop k (segments_of (line s)) ≡ x ∷ rest) where
+  abbrev cut_of : live_line.Segment → Segment
+  cut_of y = listed (cutting s.config.epoch recorded r (live_uri r) 0) y
+
+  abbrev whole : List Segment
+  whole = map cut_of (segments_of (line s))
+
+  next-is : drop k whole ≡ cut_of x ∷ map cut_of rest
+  next-is = drop-map cut_of k (segments_of (line s)) ∙ ap (map cut_of) walk
+
+  pub one-written : (made : Segment) (before after : List ℕ) → made ≡ cut_of x → after ≡ before ++ joined (segment_lines made)
+      → after ++ left_of s r (k + 1) ≡ before ++ left_of s r k
+  one-written made before after is written =
+      ap (λ list. after ++ left_by list (k + 1)) there
+      ∙ next-lines whole (has_ended (line s)) k (cut_of x) (map cut_of rest) before after next-is
+      (written ∙ ap (λ (y : Segment). before ++ joined (segment_lines y)) is)
+      ∙ sym (ap (λ list. before ++ left_by list k) there)
+
+  pub has-next : Has s r (k + 1)
+  has-next = subst (λ list. HasBy list (k + 1)) (sym there) (omega (arith, within (segments_of (line s)) k x rest walk, length-map (segments_of (line s)) cut_of))
+
+  good : IsSegment (live_uri r) (cut_of x)
+  good =
+      let P : Segment → Type 0 = IsSegment (live_uri r) in
+      let all : All P whole = (live-lists-have-texts s r (list_by s r recorded) state there).segments in
+      All-head P (cut_of x) (map cut_of rest) (subst (All P) next-is (All-drop P k whole all))
+
+  pub few : (made : Segment) → made ≡ cut_of x → made.us < 2 ^ 53
+  few made is = subst (λ (y : Segment). y.us < 2 ^ 53) (sym is) good.length
+
+  pub dated : (made : Segment) → made ≡ cut_of x → IsDate made.date
+  dated made is = subst (λ (y : Segment). IsDate y.date) (sym is) good.date
+
+  pub starts : (spot_in x.from.spots r).start < 2 ^ 53
+  starts =
+      let P : live_line.Segment → Type 0 = λ y. (spot_in y.from.spots r).start < 2 ^ 53 in
+      All-head P x rest (subst (All P) walk (All-drop P k (segments_of (line s)) (starts-small s state r)))
+
+-- a segment that was made of its parts
+pub cut-is : (s : State) (r : ℕ) (recorded : Recorded) (epoch : Option ℤ) (uri : List ℕ) (x : live_line.Segment) (made : Segment) → epoch ≡ s.config.epoch → uri ≡ live_uri r
+    → made ≡ listed (cutting epoch recorded r uri 0) x → made ≡ listed (cutting s.config.epoch recorded r (live_uri r) 0) x
+cut-is s r recorded epoch uri x made epoch_is uri_is is = is ∙ (λ i. listed (cutting (epoch_is i) recorded r (uri_is i) 0) x)
+
+-- the count of those that were written, among the line's
+pub counts : (s : State) (r k : ℕ) (recorded : Recorded) → live_list_of s r ≡ Some (list_by s r recorded) → Has s r k → k ≤ length (segments_of (line s))
+counts s r k recorded there has =
+    omega (arith, subst (λ list. HasBy list k) there has, length-map (segments_of (line s)) (listed (cutting s.config.epoch recorded r (live_uri r) 0)))
+
+-- all of them are written
+pub reaches-all : (s : State) (r stop k : ℕ) (recorded : Recorded) → live_list_of s r ≡ Some (list_by s r recorded) → length (segments_of (line s)) ≤ k → Reaches s r stop k
+reaches-all s r stop k recorded there all =
+    subst (λ list. ReachesBy list stop k) (sym there)
+    (inr (omega (arith, all, length-map (segments_of (line s)) (listed (cutting s.config.epoch recorded r (live_uri r) 0)))))
+
+-- as many as were asked for are
+pub reaches-stop : (s : State) (r stop k : ℕ) (recorded : Recorded) → live_list_of s r ≡ Some (list_by s r recorded) → stop ≤ k → Reaches s r stop k
+reaches-stop s r stop k recorded there far = subst (λ list. ReachesBy list stop k) (sym there) (inl far)
+
+-- ---- its beginning
+
+pub begun-text : (s : State) (r : ℕ) (recorded : Recorded) (uri text : List ℕ) (list : Playlist) → live_list_of s r ≡ Some (list_by s r recorded) → uri ≡ live_uri r
+    → list ≡ list_with s recorded uri [] → text ≡ joined (head_lines list) → Some (text ++ left_of s r 0) ≡ option_map media_text (live_list_of s r)
+unfolding media_text
+begun-text s r recorded uri text list there uri_is list_is written =
+    let whole = list_by s r recorded in
+    let head : text ≡ joined (head_lines whole) =
+    written ∙ ap (λ (p : Playlist). joined (head_lines p)) list_is ∙ ap (λ (u : List ℕ). joined (head_lines (list_with s recorded u []))) uri_is in
+    let all : text ++ left_by (Some whole) 0 ≡ media_text whole =
+    ap (λ (t : List ℕ). t ++ joined (all_segment_lines whole.segments ++ end_lines whole.ended)) head
+    ∙ sym (joined_append (head_lines whole) (all_segment_lines whole.segments ++ end_lines whole.ended)) in
+    ap (λ list. Some (text ++ left_by list 0)) there ∙ ap Some all ∙ sym (ap (option_map media_text) there)
+
+pub has-none : (s : State) (r : ℕ) (recorded : Recorded) → live_list_of s r ≡ Some (list_by s r recorded) → Has s r 0
+has-none s r recorded there = subst (λ list. HasBy list 0) (sym there) (omega arith)
+
+-- ---- its end
+
+ended-in : (epoch : Option ℤ) (r : ℕ) (o : Option Lane) (live : Live) (list : Playlist) → list_in epoch r o live ≡ Some list → list.ended ≡ has_ended live
+ended-in epoch r None live list is = cc
+ended-in epoch r (Some l) live list is = by (has_closed live) is
+  where
+    some-is : (a b : Playlist) → Some a ≡ Some b → a ≡ b
+    some-is a b e = cc
+
+    by : (closed : Bool) → (if closed then Some (list_over epoch r l live) else None) ≡ Some list → list.ended ≡ has_ended live
+    by true is = ap (λ (p : Playlist). p.ended) (sym (some-is (list_over epoch r l live) list is))
+    by false is = cc
+
+-- with the end's line all is written
+pub ended-text : (s : State) (r written stop k : ℕ) (old text all : List ℕ) → length (segments_of (line s)) ≤ stop → Reaches s r stop k → Has s r k
+    → text ++ left_of s r k ≡ old ++ left_of s r written → all ≡ text ++ joined (end_lines (has_ended (line s))) → all ≡ old ++ left_of s r written
+ended-text s r written stop k old text all far reaches has goes is = by (live_list_of s r) refl
+  where
+    longs : (list : Playlist) → live_list_of s r ≡ Some list → length list.segments ≡ length (segments_of (line s))
+    longs list there = long-in s.config.epoch r (slice_get (channel s).lanes r) (line s) list there
+      where
+        long-in : (epoch : Option ℤ) (r : ℕ) (o : Option Lane) (live : Live) (list : Playlist) → list_in epoch r o live ≡ Some list
+            → length list.segments ≡ length (segments_of live)
+        long-in epoch r None live list is = cc
+        long-in epoch r (Some l) live list is = so (has_closed live) is
+          where
+            some-is : (a b : Playlist) → Some a ≡ Some b → a ≡ b
+            some-is a b e = cc
+
+            so : (closed : Bool) → (if closed then Some (list_over epoch r l live) else None) ≡ Some list → length list.segments ≡ length (segments_of live)
+            so true is =
+                ap (λ (p : Playlist). length p.segments) (sym (some-is (list_over epoch r l live) list is))
+                ∙ length-map (segments_of live) (listed (live_cutting epoch r l))
+            so false is = cc
+
+    by : (o : Option Playlist) → live_list_of s r ≡ o → all ≡ old ++ left_of s r written
+    by None there = absurd (unlisted-has s r k there has)
+    by (Some list) there =
+        let long = longs list there in
+        let past : length list.segments ≤ k = whole (subst (λ l. ReachesBy l stop k) there reaches) in
+        let left : left_of s r k ≡ joined (end_lines (has_ended (line s))) =
+        ap (λ l. left_by l k) there
+        ∙ ap (λ (ss : List Segment). joined (all_segment_lines ss ++ end_lines list.ended)) (drop_all k list.segments past)
+        ∙ ap (λ (e : Bool). joined (end_lines e)) (ended-in s.config.epoch r (slice_get (channel s).lanes r) (line s) list there) in
+        is ∙ ap (λ (t : List ℕ). text ++ t) (sym left) ∙ goes
+      where
+        whole : (stop ≤ k) ⊎ (length list.segments ≤ k) → length list.segments ≤ k
+        whole (inl reached) = omega (arith, reached, far, longs list there)
+        whole (inr reached) = reached
+
+-- ---- the walk
+
+pub walk-begins : (live : Live) (s : State) (list : Numbered live_line.Segment) (first k : ℕ) (walk : List live_line.Segment) → live ≡ line s
+    → list ≡ record { first = live.removed; items = segments_of live } → first ≡ list.first → walk ≡ rest_at list (first + k) → drop k (segments_of (line s)) ≡ walk
+walk-begins live s list first k walk live_is list_is first_is walk_is =
+    let n : (first + k) - list.first ≡ k = omega (arith, first_is) in
+    sym (walk_is ∙ ap (λ (m : ℕ). drop m list.items) n ∙ ap (λ (l : Numbered live_line.Segment). drop k l.items) list_is
+    ∙ ap (λ (l : Live). drop k (segments_of l)) live_is)

@@ -1,0 +1,149 @@
+//! The text of a rendition's live list, written in parts: a long list takes a tenth of a second, and others have their turn between.
+
+ghost use Rattle.std.specs.Prelude.{◌≡◌, ◌++◌, IfOk};
+ghost use Rattle.std.specs.Option.{option_map};
+ghost use Rattle.hls_m3u8.specs.Lines.{media_text};
+ghost use Rattle.hls_lists_laws.specs.Live.{live_list_of};
+ghost use Rattle.hls_catchup.specs.LiveTexts.{Has, Reaches, left_of};
+
+use crate::live::{list_with, listed};
+use crate::resource::resource_uri;
+use hls_core::snapshot::Snapshot;
+use hls_m3u8::{push_end, push_head, push_segment};
+use std::alloc::{AllocError, Global};
+use std::marker::Model;
+use std::sync::Arc;
+
+/// How many segments are written in one part: a few milliseconds' work.
+const PART: u64 = 4096;
+
+/// Room for the bytes of a usual head. A longer text takes more as it grows.
+const HEAD_ROOM: usize = 256;
+
+/// And for those of a usual segment.
+const SEGMENT_ROOM: usize = 128;
+
+/// The text of a rendition's live list in a state, which it shares, of which some is written. A clause sees the whole text.
+#[derive(Drop)]
+pub struct LiveText {
+    snapshot: Arc<Snapshot>,
+    rendition: usize,
+    /// How many of the list's segments are written.
+    written: u64,
+    text: Vec<u8>,
+}
+
+impl Model for LiveText {
+    ghost use Rattle.std.specs.Prelude.{ℕ, List};
+    ghost use Rattle.hls_catchup.specs.LiveTexts.{IsWritten, whole};
+
+    ghost Value = { List ℕ };
+
+    ghost view = { whole };
+
+    ghost invariant = { IsWritten };
+}
+
+/// Writes the segments from number `written` of the list on, up to the one before `stop`; how many are written then.
+fn push_listed(
+    alloc: Global,
+    text: &mut Vec<u8>,
+    snapshot: &Snapshot,
+    rendition: usize,
+    written: u64,
+    stop: u64,
+) -> Result<u64, AllocError>
+    requires { Has snapshot.now rendition written }
+    ensures text { IfOk result (λ k. text.new.items ++ left_of snapshot.now rendition k ≡ text.old.items ++ left_of snapshot.now rendition written) }
+    ensures has { IfOk result (λ k. Has snapshot.now rendition k) }
+    ensures reaches { IfOk result (λ k. Reaches snapshot.now rendition stop k) }
+{
+    let Some(recording) = snapshot.recording(rendition) else {
+        unreachable!();
+    };
+    let epoch = snapshot.config().epoch();
+    let uri = resource_uri(alloc, "/media/", rendition)?;
+    let segments = snapshot.line().segments();
+    let _ = segments.next();
+    let mut next = written;
+    for segment in segments.iter_from(segments.first() + written) {
+        if next >= stop {
+            return Ok(next);
+        }
+        push_segment(text, &listed(recording, epoch, rendition, &uri, segment)?)?;
+        next += 1;
+    }
+    Ok(next)
+}
+
+/// Room for the text of a list of so many segments.
+fn room_for(count: u64) -> usize {
+    (count as usize)
+        .saturating_mul(SEGMENT_ROOM)
+        .saturating_add(HEAD_ROOM)
+}
+
+impl LiveText {
+    /// The text of a rendition's live list, of which the head is written. None until a segment was ever closed, and where the
+    /// channel has no such rendition.
+    pub fn new(
+        alloc: Global,
+        snapshot: Arc<Snapshot>,
+        rendition: usize,
+    ) -> Result<Option<LiveText>, AllocError>
+        ensures { IfOk result (λ found. found ≡ option_map media_text (live_list_of snapshot.value rendition)) }
+    {
+        let Some(recording) = snapshot.recording(rendition) else {
+            return Ok(None);
+        };
+        let segments = snapshot.line().segments();
+        if segments.next() == 0 {
+            return Ok(None);
+        }
+        let room = room_for(segments.next() - segments.first());
+        let uri = resource_uri(alloc, "/media/", rendition)?;
+        let list = list_with(&snapshot, recording, uri, Vec::new(alloc));
+        let mut text = Vec::with_capacity(alloc, room)?;
+        push_head(&mut text, &list)?;
+        Ok(Some(LiveText {
+            snapshot,
+            rendition,
+            written: 0,
+            text,
+        }))
+    }
+
+    /// Writes some of the segments that are left. Whether more may be left. Where memory is wanted, the text isn't to be finished.
+    pub fn make(&mut self, alloc: Global) -> Result<bool, AllocError>
+        ensures { IfOk result (λ more. self.new ≡ self.old) }
+    {
+        let stop = self.written.saturating_add(PART);
+        self.written = push_listed(
+            alloc,
+            &mut self.text,
+            &self.snapshot,
+            self.rendition,
+            self.written,
+            stop,
+        )?;
+        Ok(self.written == stop)
+    }
+
+    /// The text, with all that was left.
+    pub fn finish(self, alloc: Global) -> Result<Vec<u8>, AllocError>
+        ensures { IfOk result (λ text. text.items ≡ self) }
+    {
+        let LiveText {
+            snapshot,
+            rendition,
+            written,
+            text,
+        } = self;
+        let mut text = text;
+        let line = snapshot.line();
+        let stop = line.segments().next();
+        let _ = push_listed(alloc, &mut text, &snapshot, rendition, written, stop)?;
+        push_end(&mut text, line.ended())?;
+        Ok(text)
+    }
+}
