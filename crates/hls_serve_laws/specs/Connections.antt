@@ -3,16 +3,19 @@ use Rattle.std.specs.Prelude.{◌≡◌, ◌⊎◌, ◌<◌, ℕ, Bool, true, fa
 use Rattle.httparse.specs.Grammar.{RequestHead}
 use Rattle.hls_feed.specs.Streams.{IsTaken}
 use Rattle.hls_http_laws.specs.declared.body.Body.{Body}
+use Rattle.hls_http_laws.specs.declared.body.Body.TheVariants.{Length}
 use Rattle.hls_http_laws.specs.declared.end.SessionEnd.{SessionEnd}
 use Rattle.hls_http_laws.specs.declared.end.SessionEnd.TheVariants as ends
 use Rattle.hls_http_laws.specs.declared.plan.Plan.{Plan}
 use Rattle.hls_http_laws.specs.declared.plan.Plan.TheVariants.{Refuse, Feed, Skip}
 use Rattle.hls_http_laws.specs.Bodies.{Runs, IsOpen}
 use Rattle.hls_http_laws.specs.Heads.{ReadsSmall, IsUnfinished}
+use Rattle.hls_serve_laws.specs.declared.route.Route.{Route}
 use Rattle.hls_serve_laws.specs.declared.route.Route.TheVariants as routes
 use Rattle.hls_serve_laws.specs.Acts.{Act}
-use Rattle.hls_serve_laws.specs.Heard.{Due, Heard, RefusesHead, first_of, request_of}
+use Rattle.hls_serve_laws.specs.Heard.{Due, Heard, RefusesHead, Request, Responds, first_of, request_of}
 use Rattle.hls_serve_laws.specs.Ingest.{PartComes, Progress, begun}
+use Rattle.hls_serve_laws.specs.Replies.{Answer}
 
 -- ---- requests that were answered
 
@@ -51,20 +54,28 @@ pub record History : Type 0 where
 abbrev pub output : History → List ℕ
 output h = h.sent ++ h.pending
 
--- where it stands: between two requests, within the body of one, or at its end
+-- where it stands: between two requests, within one, or at its end
 pub data Stage : Type 0 where
   Between : Stage
   Within : Stage
   Over : (end : SessionEnd) → Stage
 
--- what was asked for a body of which so much content came: nothing where it is dropped
-abbrev pub IsAsked : ℕ → RequestHead → Body → List ℕ → List Act → Type 0
-IsAsked count h body content acts =
-    (((request_of count h).plan ≡ Skip body) × (acts ≡ []))
+-- what was asked for the answer to a request whose body was dropped whole, while its reply is still being made
+pub record IsForAnswer (request : Request) (last : Body) (acts : List Act) : Type 0 where
+  pub whole : last ≡ Length 0
+  pub route : Route
+  pub route_is : request.asks.route ≡ Some route
+  pub answer : Answer
+  pub responds : Responds request.asks route [] (Some answer) acts
+
+-- what was asked for a body of which so much content came: where it is dropped nothing, and behind its end what the answer tells of
+abbrev pub IsAsked : ℕ → RequestHead → Body → List ℕ → Body → List Act → Type 0
+IsAsked count h body content last acts =
+    (((request_of count h).plan ≡ Skip body) × ((acts ≡ []) ⊎ IsForAnswer (request_of count h) last acts))
     ⊎ (((request_of count h).plan ≡ Feed body)
     × ((r : ℕ) × ((request_of count h).asks.route ≡ Some (routes.Ingest r)) × ((y : Progress) × IsTaken (PartComes r) begun content y × (acts ≡ y.acts))))
 
--- a request whose body is being read
+-- a request whose body is being read, or whose reply is being made
 pub record IsWithin (count : ℕ) (stream : List ℕ) (acts : List Act) (text unread : List ℕ) : Type 0 where
   pub head : RequestHead
   pub behind : List ℕ
@@ -73,7 +84,7 @@ pub record IsWithin (count : ℕ) (stream : List ℕ) (acts : List Act) (text un
   pub content : List ℕ
   pub last : Body
   pub runs : Runs body behind content last unread
-  pub asked : IsAsked count head body content acts
+  pub asked : IsAsked count head body content last acts
   pub text_is : text ≡ first_of head (request_of count head).plan
 
 -- .. of which no more comes
