@@ -1,4 +1,4 @@
--- What the body of an answer stands in: a text, a recording, or a job's resource, each in slices.
+-- What the body of an answer stands in: a text, a recording, or a job's resource, each in slices; or a text that is still being made.
 use Rattle.std.specs.Prelude.{ℕ, ◌-◌, ◌≤◌, nat_lt, cond, List, [], ◌∷◌, length, Option, Some, None, Result, Ok, Err}
 use Rattle.hls_record.specs.Recorded.{Recorded, offset_at, total_of}
 use Rattle.hls_core.specs.Reads.{recording_of}
@@ -15,6 +15,8 @@ use Rattle.hls_replies.specs.declared.media.Recorded.{Recorded as Kept}
 use Rattle.hls_replies.specs.declared.resource.Programme.{Programme as Made}
 use Rattle.hls_replies.specs.declared.body.Body.{Body}
 use Rattle.hls_replies.specs.declared.body.Body.TheVariants as bodies
+use Rattle.hls_replies.specs.declared.content.Content.{Content}
+use Rattle.hls_replies.specs.declared.content.Content.TheVariants as contents
 use Rattle.hls_replies.specs.declared.answer.Answer.TheInside.{Inside}
 
 -- ---- of a recording
@@ -72,5 +74,11 @@ slices_of (bodies.Text text) = text.items ∷ []
 slices_of (bodies.Recorded kept) = recorded_slices kept
 slices_of (bodies.Programme made) = programme_slices made
 
+-- the bytes that are there, or the whole text
+abbrev pub content_of : Content → List ℕ
+content_of (contents.Whole media) = media
+content_of (contents.List text) = text
+content_of (contents.Certificate text) = text
+
 abbrev pub seen : Inside → Answer
-seen a = record { status = a.status; kind = a.kind; field = extra_line a.extra; body = a.body }
+seen a = record { status = a.status; kind = a.kind; field = extra_line a.extra; body = content_of a.body }

@@ -1,21 +1,24 @@
 //! An answer: a reply but for `Connection`.
 
-ghost use Rattle.std.specs.Prelude.{◌≡◌};
+ghost use Rattle.std.specs.Prelude.{◌≡◌, IfOk};
 ghost use Rattle.hls_http_laws.specs.Reply.{extra_line};
+ghost use Rattle.hls_replies.specs.Contents.{content_of};
 
 use crate::body::Body;
+use crate::content::Content;
 use hls_http_laws::reply::{Extra, Kind, ReplyHead, Status};
 use hls_output::Media;
+use std::alloc::{AllocError, Global};
 use std::marker::Model;
 
 /// A reply but for `Connection`: its status, the type of its body, the one field that only some replies have, and its body,
-/// which stays where it stands.
+/// which stays where it stands. Some of a long text may still be to be made: a clause sees all of it.
 #[derive(Drop)]
 pub struct Answer {
     status: Status,
     kind: Kind,
     extra: Extra<'static>,
-    body: Media<Body>,
+    body: Content,
 }
 
 impl Model for Answer {
@@ -38,12 +41,23 @@ impl Answer {
     ) -> Answer
         ensures { result ≡ record { status = status; kind = kind; field = extra_line extra.entry; body = body.items } }
     {
-        let len = body.len() as u64;
+        Answer::of_content(status, kind, extra, Content::of_text(body))
+    }
+
+    /// An answer of which some may still be to be made.
+    pub(crate) fn of_content(
+        status: Status,
+        kind: Kind,
+        extra: Extra<'static>,
+        body: Content,
+    ) -> Answer
+        ensures { result ≡ record { status = status; kind = kind; field = extra_line extra.entry; body = content_of body } }
+    {
         Answer {
             status,
             kind,
             extra,
-            body: Media::new(Body::Text(body), 0, 0, len),
+            body,
         }
     }
 
@@ -51,12 +65,7 @@ impl Answer {
     pub(crate) fn of_media(status: Status, extra: Extra<'static>, body: Media<Body>) -> Answer
         ensures { result ≡ record { status = status; kind = Kind.Media; field = extra_line extra.entry; body = body } }
     {
-        Answer {
-            status,
-            kind: Kind::Media,
-            extra,
-            body,
-        }
+        Answer::of_content(status, Kind::Media, extra, Content::Whole(body))
     }
 
     /// Its status.
@@ -81,10 +90,34 @@ impl Answer {
         }
     }
 
-    /// Its body.
-    pub(crate) fn into_body(self) -> Media<Body>
-        ensures { result ≡ self.body }
+    /// Whether nothing of its body is still to be made.
+    pub fn is_made(&self) -> bool {
+        self.body.is_made()
+    }
+
+    /// The same answer, with one more part of its body made, where some was still to be made. It takes some milliseconds at most.
+    pub fn make(self, alloc: Global) -> Result<Answer, AllocError>
+        ensures { IfOk result (λ answer. answer ≡ self) }
     {
-        self.body
+        let Answer {
+            status,
+            kind,
+            extra,
+            body,
+        } = self;
+        let body = body.make(alloc)?;
+        Ok(Answer {
+            status,
+            kind,
+            extra,
+            body,
+        })
+    }
+
+    /// Its body, with what was still to be made.
+    pub(crate) fn into_body(self, alloc: Global) -> Result<Media<Body>, AllocError>
+        ensures { IfOk result (λ body. body ≡ self.body) }
+    {
+        self.body.finish(alloc)
     }
 }

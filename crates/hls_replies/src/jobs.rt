@@ -3,13 +3,15 @@
 ghost use Rattle.std.specs.Prelude.{◌≡◌, IfOk, Ok, Some};
 ghost use Rattle.hls_serve_laws.specs.JobReplies as spec;
 ghost use Rattle.hls_serve_laws.specs.JobReplies.{withheld_answer};
+ghost use Rattle.hls_serve_laws.specs.Replies.{text_answer};
 
 use crate::answer::Answer;
+use crate::content::Content;
 use crate::playlists::playlist_or_none;
 use crate::resource::resource_answer;
 use crate::texts::{fault_answer, refusal_answer, text_answer};
 use hls_catchup::{
-    Job, JobFault, Withheld, certificate_text, job_line, master_text, playlist_text, reply_in,
+    CertificateText, Job, JobFault, Withheld, job_line, master_text, playlist_text, reply_in,
 };
 use hls_http_laws::fault::HttpFault;
 use hls_http_laws::range::Asked;
@@ -91,6 +93,19 @@ fn withheld_answer(alloc: Global, why: Withheld) -> Result<Answer, AllocError>
     }
 }
 
+/// A certificate, of which some may still be to be made.
+fn certificate_answer(text: CertificateText) -> Result<Answer, AllocError>
+    ensures { IfOk result (λ a. a ≡ text_answer Status.Done text) }
+{
+    let content = Content::of_certificate(text)?;
+    Ok(Answer::of_content(
+        Status::Done,
+        Kind::Text,
+        Extra::Nothing,
+        content,
+    ))
+}
+
 /// A file of a job: a playlist, a certificate, or a part of a rendition's resource, each from the job's own reply. 409 where
 /// the job isn't finished; 404 where it was refused, and where there is no cut but for the certificate. A job that failed for
 /// memory is answered as want of memory is.
@@ -112,6 +127,9 @@ pub fn file_answer(
             playlist_or_none(alloc, playlist_text(alloc, reply, rendition)?)
         }
         JobFile::Media(rendition) => resource_answer(alloc, job, rendition, asked),
-        JobFile::Certificate => Ok(text_answer(Status::Done, certificate_text(alloc, reply)?)),
+        JobFile::Certificate => match CertificateText::new(alloc, job)? {
+            Some(text) => certificate_answer(text),
+            None => unreachable!(),
+        },
     }
 }

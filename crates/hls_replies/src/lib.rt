@@ -14,6 +14,7 @@ pub use texts::{fault_answer, finish_answer, method_answer, refused_answer, take
 
 mod answer;
 mod body;
+mod content;
 mod jobs;
 mod media;
 mod playlists;

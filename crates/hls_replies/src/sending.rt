@@ -10,7 +10,7 @@ use hls_output::Output;
 use std::alloc::{AllocError, Global};
 
 /// An answer's reply, to be sent part by part; to HEAD without its body. A body goes out from where it stands: memory is taken
-/// for the head and the small slices that go out together.
+/// for the head and the small slices that go out together, and for what of it is still to be made.
 pub fn output_of(
     alloc: Global,
     answer: Answer,
@@ -20,5 +20,6 @@ pub fn output_of(
     ensures { IfOk result (λ output. output ≡ answer_text answer closing to_head) }
 {
     let head = answer.head(closing);
-    reply_output(alloc, &head, answer.into_body(), to_head)
+    let body = answer.into_body(alloc)?;
+    reply_output(alloc, &head, body, to_head)
 }

@@ -4,6 +4,7 @@
 ghost use Rattle.std.specs.Prelude.{◌+◌, ◌<◌, ◌≤◌, ◌^◌, length, IfOk};
 
 mod jobs;
+mod parts;
 mod queries;
 mod refused;
 mod refused_jobs;
@@ -65,11 +66,11 @@ fn a_live_list_and_what_is_gone(rt: HostRuntime) -> Result<(), Fail> {
     let alloc = rt.alloc();
     let units = [(0, 4), (4, 8), (8, 13), (13, 18), (18, 22), (22, 26)];
     let state = stepped(alloc, &*recorded(alloc, &units)?, Event::Slide { count: 1 })?;
-    let list = list_answer(alloc, &state, 0)?;
+    let list = list_answer(alloc, state, 0)?;
     assert!(rt; sent(alloc, list, false, false)?.as_slice() == LIVE);
     let gone = fault_answer(alloc, HttpFault::Gone)?;
     assert!(rt; sent(alloc, gone, true, false)?.as_slice() == GONE);
-    let none = list_answer(alloc, &*opened(alloc)?, 0)?;
+    let none = list_answer(alloc, opened(alloc)?, 0)?;
     assert!(rt; sent(alloc, none, false, false)?.ends_with(b"\r\n\r\nrefused NotFound\n"));
     Ok(())
 }

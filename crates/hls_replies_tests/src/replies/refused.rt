@@ -63,7 +63,7 @@ fn answer(alloc: Global, snapshot: &Arc<Snapshot>, act: Act) -> Result<Answer, A
     match act {
         Act::Status => status_answer(alloc, snapshot, 0),
         Act::Master => master_answer(alloc, snapshot),
-        Act::List => list_answer(alloc, snapshot, 0),
+        Act::List => list_answer(alloc, Arc::try_clone(snapshot)?, 0),
         Act::Part => part(alloc, snapshot, Asked::Between(0, 7)),
         Act::Outside => part(alloc, snapshot, Asked::From(2600)),
         Act::Taken => taken_answer(alloc, COUNTS),
