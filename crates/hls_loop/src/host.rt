@@ -34,7 +34,8 @@ pub trait Host {
     fn begin(&self) -> Self::Visit
         ensures { suits self.now result };
 
-    /// Answers what was read of a peer's. Whether there may be more to do at once. Whom the host suited before, it suits.
+    /// Answers what was read of a peer's. Whether there may be more to do at once, when the others of its worker have had their turn.
+    /// Whom the host suited before, it suits.
     fn advance(&mut self, visit: &mut Self::Visit, peer: SocketAddr) -> bool
         requires suits { suits self.old visit.old }
         ensures suits { suits self.new visit.new }

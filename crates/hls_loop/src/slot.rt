@@ -31,6 +31,8 @@ pub(crate) enum Turn {
 enum Step {
     /// So many bytes moved, and there may be more to do.
     On(usize),
+    /// It paused, so that the others of its worker have their turn.
+    Pause,
     /// Nothing goes on before the system tells.
     Wait,
     /// The connection came to its end by itself.
@@ -163,7 +165,10 @@ fn step_on<H: Host>(slot: &mut Slot<H::Visit>, host: &mut H, now: u64) -> Step
     if let Some(end) = host.end(&slot.visit) {
         return Step::End(end);
     }
-    if host.advance(&mut slot.visit, slot.peer) || !host.wants_read(&slot.visit) {
+    if host.advance(&mut slot.visit, slot.peer) {
+        return Step::Pause;
+    }
+    if !host.wants_read(&slot.visit) {
         return Step::On(0);
     }
     read(slot, host, now)
@@ -179,6 +184,10 @@ fn go_on<H: Host>(slot: &mut Slot<H::Visit>, host: &mut H, now: u64) -> Turn
     for _ in 0..MOST_STEPS {
         match step_on(slot, host, now) {
             Step::On(bytes) => moved = moved.saturating_add(bytes),
+            Step::Pause => {
+                slot.pace = slot.pace.entered(host.stage(&slot.visit), now);
+                return Turn::Again;
+            }
             Step::Wait => {
                 slot.pace = slot.pace.entered(host.stage(&slot.visit), now);
                 return Turn::Parked;

@@ -1,7 +1,7 @@
 -- What a connection has done of late, and when that takes too long. Times are milliseconds of one clock; patience is in seconds.
-use Rattle.std.specs.Prelude.{ℕ, ◌+◌, ◌-◌, ◌*◌, ◌^◌, Bool, cond, ◌&&◌, ◌||◌, nat_lt, nat_le, min}
+use Rattle.std.specs.Prelude.{ℕ, ◌+◌, ◌-◌, ◌*◌, ◌^◌, Bool, false, cond, ◌&&◌, ◌||◌, nat_lt, nat_le, min}
 use Rattle.hls_pace.specs.declared.pace.Stage.{Stage}
-use Rattle.hls_pace.specs.declared.pace.Stage.TheVariants.{Idle, Head, Feeding, Dropping, Replying, Lingering}
+use Rattle.hls_pace.specs.declared.pace.Stage.TheVariants.{Idle, Head, Feeding, Dropping, Making, Replying, Lingering}
 use Rattle.hls_pace.specs.declared.pace.Pace.{Pace}
 
 -- what begins now
@@ -25,13 +25,14 @@ abbrev pub lags : ℕ → Pace → ℕ → Bool
 lags patience pace now = is_counted patience pace now && nat_lt pace.bytes (now - pace.since)
 
 -- what goes on takes too long. An idle peer and an encoder are given up for silence alone; a head goes by its time, ten seconds
--- or the patience where that is less; a body that is dropped and a reply by their rate too; what is sent behind the last reply
+-- or the patience where that is less; a body that is dropped and a reply by their rate too, but not while that is made; what is sent behind the last reply
 -- is heard for two seconds, and without a byte for a quarter of one
 abbrev pub is_over_in : Stage → ℕ → Pace → ℕ → Bool
 is_over_in Idle patience pace now = is_silent patience pace now
 is_over_in Head patience pace now = nat_le (min (patience * 1000) 10000) (now - pace.since)
 is_over_in Feeding patience pace now = is_silent patience pace now
 is_over_in Dropping patience pace now = is_silent patience pace now || lags patience pace now
+is_over_in Making patience pace now = false
 is_over_in Replying patience pace now = is_silent patience pace now || lags patience pace now
 is_over_in Lingering patience pace now = nat_le 2000 (now - pace.since) || nat_le 250 (now - pace.moved)
 
@@ -48,6 +49,7 @@ renewed_in Idle patience now pace = pace
 renewed_in Head patience now pace = pace
 renewed_in Feeding patience now pace = pace
 renewed_in Dropping patience now pace = counted_anew patience now pace
+renewed_in Making patience now pace = pace
 renewed_in Replying patience now pace = counted_anew patience now pace
 renewed_in Lingering patience now pace = pace
 

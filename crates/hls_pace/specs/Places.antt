@@ -1,7 +1,7 @@
 -- Which connection gives way where all places are taken: the longest idle, then the youngest head that isn't whole, else nobody.
 use Rattle.std.specs.Prelude.{ℕ, Bool, true, false, cond, nat_lt, Option, Some, None}
 use Rattle.hls_pace.specs.declared.pace.Stage.{Stage}
-use Rattle.hls_pace.specs.declared.pace.Stage.TheVariants.{Idle, Head, Feeding, Dropping, Replying, Lingering}
+use Rattle.hls_pace.specs.declared.pace.Stage.TheVariants.{Idle, Head, Feeding, Dropping, Making, Replying, Lingering}
 use Rattle.hls_pace.specs.declared.pace.Pace.{Pace}
 
 abbrev pub may_go_in : Stage → Bool
@@ -9,6 +9,7 @@ may_go_in Idle = true
 may_go_in Head = true
 may_go_in Feeding = false
 may_go_in Dropping = false
+may_go_in Making = false
 may_go_in Replying = false
 may_go_in Lingering = false
 

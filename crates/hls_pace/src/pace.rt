@@ -23,6 +23,8 @@ pub enum Stage {
     Feeding,
     /// A body is dropped.
     Dropping,
+    /// A reply is made, which is no doing of the peer's.
+    Making,
     /// A reply waits to be taken, or 100 Continue (RFC 9110 15.2.1).
     Replying,
     /// The last reply went out, and what the peer still sends is dropped (RFC 9112 9.6).
@@ -97,7 +99,7 @@ impl Pace {
 
     /// Whether it takes too long, by a patience in seconds: a head that isn't whole in ten seconds, or in the patience where that
     /// is less; silence for as long as the patience; and fewer than 1000 bytes a second over that time of a reply or of a body
-    /// that is dropped. An encoder's body may be as slow as its encoder.
+    /// that is dropped. An encoder's body may be as slow as its encoder; and while a reply is made nobody waits for the peer.
     pub fn is_over(self, patience: u64, now: u64) -> bool
         requires { patience ≤ 3600 }
         ensures { result ≡ is_over patience self now }
@@ -107,6 +109,7 @@ impl Pace {
             Stage::Head => now.saturating_sub(self.since) >= (patience * 1000).min(LONGEST_HEAD),
             Stage::Feeding => self.is_silent(patience, now),
             Stage::Dropping => self.is_silent(patience, now) || self.lags(patience, now),
+            Stage::Making => false,
             Stage::Replying => self.is_silent(patience, now) || self.lags(patience, now),
             Stage::Lingering => {
                 now.saturating_sub(self.since) >= LONGEST_REST

@@ -20,7 +20,8 @@ use std::net::SocketAddr;
 use std::sync::Wait;
 use std::time::Clock;
 
-/// From which time on a reply is told that took it to make, in milliseconds: for so long the others of its worker have waited.
+/// From which time on a turn that made a reply is told, in milliseconds: for so long the others of its worker have waited. A long text
+/// is made in many turns.
 const LONG: u64 = 50;
 
 /// Who serves the connections of a worker: a station of the channel, and what is told of them.
@@ -147,6 +148,7 @@ impl<'a, R: Wait + Clock + Eprint> Host for Reception<'a, R> {
             Standing::Head => Stage::Head,
             Standing::Dropping => Stage::Dropping,
             Standing::Feeding => Stage::Feeding,
+            Standing::Making => Stage::Making,
             Standing::Replying => Stage::Replying,
             Standing::Over => Stage::Lingering,
         }
