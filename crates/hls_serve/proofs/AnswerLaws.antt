@@ -1,5 +1,5 @@
 -- A request is heard once no more of its body is read.
-use Rattle.std.proofs.Common.{◌≡◌, ◌∙◌, ◌⊎◌, ℕ, Bool, false, true, not, List, [], ◌++◌, Option, Some, Result, Ok, Err, inl, inr, refl, sym, ap, subst}
+use Rattle.std.proofs.Common.{◌≡◌, ◌∙◌, ◌⊎◌, ℕ, Bool, false, true, not, List, [], ◌++◌, Option, Some, IfOk, Result, Ok, Err, inl, inr, refl, sym, ap, subst}
 use Rattle.hls_http_laws.specs.declared.body.Body.{Body}
 use Rattle.hls_http_laws.specs.declared.body.Body.TheVariants.{Size}
 use Rattle.hls_http_laws.specs.declared.plan.Plan.{Plan}
@@ -17,16 +17,17 @@ use Rattle.hls_serve_laws.specs.declared.ingest.Intake.TheVariants as came
 use Rattle.hls_serve_laws.specs.declared.route.Route.{Route}
 use Rattle.hls_serve_laws.specs.declared.route.Route.TheVariants as routes
 use Rattle.hls_serve_laws.specs.Acts.{Act}
-use Rattle.hls_serve_laws.specs.Heard.{Due, Drops, FeedsBy, FollowsBy, Heard, IsDue, IsFed, IsSkipped, SkipsBy, asks_of, first_of, request_of, to_head}
+use Rattle.hls_serve_laws.specs.Heard.{Asks, Due, Drops, FeedsBy, FollowsBy, Heard, IsDue, IsFed, IsSkipped, SkipsBy, asks_of, first_of, request_of, to_head}
 use Rattle.hls_serve_laws.specs.Ingest.{BodyComes, Progress}
 use Rattle.hls_serve_laws.specs.Replies.{Answer, fault_answer}
 use Rattle.hls_serve.specs.declared.call.Call.{Call}
 use Rattle.hls_serve.specs.declared.ending.Ending.{Ending}
 use Rattle.hls_serve.specs.declared.dropping.Dropping.{Dropping}
 use Rattle.hls_serve.specs.declared.feeding.Feeding.{Feeding}
+use Rattle.hls_serve.specs.declared.making.Making.{Making}
 use Rattle.hls_serve.specs.Taken.{progress_of}
 use Rattle.hls_serve.specs.Turns.{IsMade, IsResponse, Makes, Replies, memory_due}
-use Rattle.hls_serve.specs.Within.{HasBody, IsDropped, IsFedUp, IsToDrop, IsToFeed, RepliesTo}
+use Rattle.hls_serve.specs.Within.{HasBody, IsDropped, IsFedUp, IsMaking, IsToDrop, IsToFeed, RepliesTo}
 use Rattle.hls_serve.proofs.TurnLaws.{skipped_due}
 use Rattle.hls_serve.proofs.WithinLaws.{announced_size}
 
@@ -182,3 +183,49 @@ module _ {count : ℕ} {stream first : List ℕ} {d : Dropping} {unread : List �
       let bad : end ≡ bodies.BadFraming = subst IsToDrop is x.replied in
       replies_dropped x acts text over (IsDue request.head request.plan (fault_answer http.BadFraming) true)
       (λ due due_is. subst (λ (r : Result (Unit {0}) DropEnd). IsSkipped request d.route acts due r) (sym (is ∙ ap (λ (e : BodyEnd). Err (drops.Stopped e)) bad)) (none, due_is)) r
+
+  -- .. where this was made
+  pub dropped_now : {E : Type 0} (before acts : List Act) → result ≡ Ok tt → before ≡ [] → (made known : Result Answer E) → made ≡ known → (text : List ℕ) (end : Option Ending)
+      → Makes (IsResponse (asks_of count x.at.head) d.route before acts) before acts made
+      → ((xs : List ℕ) → Replies (IsMade xs known (says_close x.at.head false) (to_head x.at.head)) text end xs) → RepliesTo count stream first acts unread text end
+  dropped_now before acts is none made known same text end makes replies =
+      dropped_ok before acts is none known text end (subst (λ m. Makes (IsResponse (asks_of count x.at.head) d.route before acts) before acts m) same makes) replies
+
+  -- an answer of which some is still to be made
+  pub dropped_later : {E : Type 0} (before acts : List Act) → result ≡ Ok tt → before ≡ [] → (made : Result Answer E) (a : Answer) → made ≡ Ok a
+      → Makes (IsResponse (asks_of count x.at.head) d.route before acts) before acts made
+      → IsMaking count stream first (record { dropping = d; acts = acts; answer = a }) unread
+  dropped_later before acts is none made a made_is makes =
+      let q = asks_of count x.at.head in
+      let of_answer = subst (λ m. Makes (IsResponse q d.route before acts) before acts m) made_is makes in
+      record {
+        dropped = record {
+          at = x.at;
+          route = x.route;
+          dropped = subst (λ (r : Result (Unit {0}) DropEnd). Drops x.at.content d.body unread r) is x.dropped;
+          replied = tt;
+        };
+        answers = subst (λ (b : List Act). IsResponse q d.route b acts a) none of_answer;
+      }
+
+-- ---- an answer that is made in parts
+
+-- one part more is made of it
+pub making_goes : {count : ℕ} {stream first : List ℕ} {m : Making} {unread : List ℕ} (x : IsMaking count stream first m unread) (a : Answer) → a ≡ m.answer
+    → IsMaking count stream first (record { dropping = m.dropping; acts = m.acts; answer = a }) unread
+making_goes {count} {m} x a is =
+    record { dropped = x.dropped; answers = subst (λ (b : Answer). IsResponse (asks_of count x.dropped.at.head) m.dropping.route [] m.acts b) (sym is) x.answers }
+
+-- all of it is made, or memory was wanted
+pub making_replied : {E : Type 0} {count : ℕ} {stream first : List ℕ} {m : Making} {unread : List ℕ} (x : IsMaking count stream first m unread) (made : Result Answer E)
+    → IfOk made (λ a. a ≡ m.answer) → (text : List ℕ) (end : Option Ending)
+    → ((xs : List ℕ) → Replies (IsMade xs made (says_close x.dropped.at.head false) (to_head x.dropped.at.head)) text end xs)
+    → RepliesTo count stream first m.acts unread text end
+making_replied {E} {count} {stream} {first} {m} {unread} x made same text end replies = dropped_ok x.dropped [] m.acts refl refl made text end (makes made same) replies
+  where
+    q : Asks
+    q = asks_of count x.dropped.at.head
+
+    makes : (made : Result Answer E) → IfOk made (λ a. a ≡ m.answer) → Makes (IsResponse q m.dropping.route [] m.acts) [] m.acts made
+    makes (Ok a) same = subst (λ (b : Answer). IsResponse q m.dropping.route [] m.acts b) (sym same) x.answers
+    makes (Err e) same = inr (m.answer, x.answers)

@@ -32,6 +32,7 @@ use Rattle.hls_serve.specs.declared.ending.Ending.TheVariants as own
 use Rattle.hls_serve.specs.declared.dropping.Dropping.{Dropping}
 use Rattle.hls_serve.specs.declared.feeding.Feeding.{Feeding}
 use Rattle.hls_serve.specs.declared.ingest.Taken.{Taken}
+use Rattle.hls_serve.specs.declared.making.Making.{Making}
 use Rattle.http_server.specs.declared.log.Log.{Log}
 use Rattle.hls_serve.specs.declared.machine.Machine.{Machine}
 use Rattle.hls_serve.specs.declared.machine.State.{State}
@@ -39,7 +40,7 @@ use Rattle.hls_serve.specs.declared.machine.State.TheVariants as states
 use Rattle.hls_serve.specs.Machine.{AtHead, GoesOnIn, Holds, HoldsAt, StandsIn, SuitsIn, asked_in, asked_now, history_by, stage_of, state_behind, total}
 use Rattle.hls_serve.specs.Taken.{progress_of}
 use Rattle.hls_serve.specs.Turns.{IsCall, Replies, end_by}
-use Rattle.hls_serve.specs.Within.{HasBody, IsDropping, IsFeeding, RepliesTo}
+use Rattle.hls_serve.specs.Within.{HasBody, IsDropping, IsFeeding, IsMaking, RepliesTo}
 use Rattle.hls_serve.proofs.TurnLaws.{replies_as}
 
 yes : IsTrue true
@@ -245,7 +246,7 @@ module _ (count : ℕ) (received sent : List ℕ) (ended : Bool) (asked : List A
 -- ---- a body
 
 abbrev within : {count : ℕ} {stream first : List ℕ} {call : Call} {plan : Body → Plan} {last : Body} {unread : List ℕ} (acts : List Act) (at : HasBody count stream first call plan last unread)
-    → IsAsked count at.head at.body at.content acts → IsWithin count stream acts first unread
+    → IsAsked count at.head at.body at.content last acts → IsWithin count stream acts first unread
 within {stream} {last} {unread} acts at asked = record {
   head = at.head;
   behind = at.behind;
@@ -259,10 +260,24 @@ within {stream} {last} {unread} acts at asked = record {
 }
 
 abbrev within_drop : {count : ℕ} {stream first : List ℕ} {d : Dropping} {unread : List ℕ} → IsDropping count stream first d unread → IsWithin count stream [] first unread
-within_drop x = within [] x.at (inl (x.at.plan_is, refl))
+within_drop x = within [] x.at (inl (x.at.plan_is, inl refl))
 
 abbrev within_feed : {count : ℕ} {stream first : List ℕ} {f : Feeding} {unread : List ℕ} → IsFeeding count stream first f unread → IsWithin count stream f.taken.acts first unread
 within_feed {f} x = within f.taken.acts x.at (inr (x.at.plan_is, (f.rendition, sym x.at.is_call.route ∙ x.route, (progress_of f.taken, x.reached.taken, refl))))
+
+abbrev within_make : {count : ℕ} {stream first : List ℕ} {m : Making} {unread : List ℕ} → IsMaking count stream first m unread → IsWithin count stream m.acts first unread
+within_make {m} x =
+    let at = x.dropped.at in
+    within m.acts at (inl (
+      at.plan_is,
+      inr (record {
+        whole = x.dropped.dropped.0;
+        route = m.dropping.route;
+        route_is = sym at.is_call.route ∙ x.dropped.route;
+        answer = m.answer;
+        responds = x.answers;
+      }),
+    ))
 
 -- nothing was asked for the body beside what its state says
 only_over : (asked : List Act) (over : List Exchange) (acts : List Act) → asked ≡ acts_of over ++ acts → acts ≡ [] → asked ≡ acts_of over
@@ -322,6 +337,8 @@ served_of count received sent ended state asked pending unread h = by state h
         so (states.Drop d) h [] (append-nil asked ∙ h.asked_is ∙ ap (λ (t : List Act). acts_of h.over ++ t) h.stands.1) (within_drop h.stands.0)
     by (states.Feed f) h =
         so (states.Feed f) h f.taken.acts (ap (λ (t : List Act). t ++ f.taken.acts) (only_over asked h.over h.acts h.asked_is h.stands.1)) (within_feed h.stands.0)
+    by (states.Make m) h =
+        so (states.Make m) h m.acts (ap (λ (t : List Act). t ++ m.acts) (only_over asked h.over h.acts h.asked_is h.stands.1)) (within_make h.stands.0)
     by (states.Over end) h = so (states.Over end) h h.acts (append-nil asked ∙ h.asked_is) h.stands
 
 -- ---- more is received, and handed out
@@ -349,6 +366,9 @@ stands_more (states.Drop d) count stream acts text unread more going s =
     (record { at = body_more more s.0.at; route = s.0.route; all = s.0.all }, s.1)
 stands_more (states.Feed f) count stream acts text unread more going s =
     (record { at = body_more more s.0.at; route = s.0.route; reached = s.0.reached }, s.1)
+stands_more (states.Make m) count stream acts text unread more going s =
+    let d = s.0.dropped in
+    (record { dropped = record { at = body_more more d.at; route = d.route; dropped = d.dropped; replied = tt }; answers = s.0.answers }, s.1)
 stands_more (states.Over end) count stream acts text unread more going s = absurd going
 
 pub holds_more : {count : ℕ} {received sent : List ℕ} {state : State} {asked : List Act} {pending unread : List ℕ} (more : List ℕ) → GoesOnIn state
@@ -371,6 +391,7 @@ stands_ended : (state : State) (count : ℕ) (stream : List ℕ) (acts : List Ac
 stands_ended states.Head count stream acts text unread going s = s
 stands_ended (states.Drop d) count stream acts text unread going s = s
 stands_ended (states.Feed f) count stream acts text unread going s = s
+stands_ended (states.Make m) count stream acts text unread going s = s
 stands_ended (states.Over end) count stream acts text unread going s = absurd going
 
 pub holds_ended : {count : ℕ} {received sent : List ℕ} {state : State} {asked : List Act} {pending unread : List ℕ} → GoesOnIn state

@@ -175,6 +175,7 @@ pub goes_on : (s : State) → ((end : Ending) → s ≡ states.Over end → ⊥)
 goes_on states.Head never = tt
 goes_on (states.Drop d) never = tt
 goes_on (states.Feed f) never = tt
+goes_on (states.Make m) never = tt
 goes_on (states.Over end) never = never end refl
 
 -- it waits since nothing is to be handed out and the input goes on; there is room

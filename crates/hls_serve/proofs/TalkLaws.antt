@@ -114,6 +114,7 @@ suits_in : (a b : Known) (state : State) → IsState b.seen → Later a b → Su
 suits_in a b states.Head valid later suits = tt
 suits_in a b (states.Drop d) valid later suits = suits
 suits_in a b (states.Feed f) valid later suits = usable_after f.rendition a b f.taken.init valid later.follows suits
+suits_in a b (states.Make m) valid later suits = tt
 suits_in a b (states.Over end) valid later suits = tt
 
 pub suited_later : (a b : Known) (t : Talk) → IsSuited a t → Later a b → IsSuited b t

@@ -21,17 +21,18 @@ use Rattle.hls_serve.specs.Endings.{end_of}
 use Rattle.hls_serve.specs.Taken.{IsUsable}
 use Rattle.hls_serve.specs.Told.{news_of}
 use Rattle.hls_serve.specs.Turns.{IsCall}
-use Rattle.hls_serve.specs.Within.{DropsBody, IsDropping, IsFeeding}
+use Rattle.hls_serve.specs.Within.{DropsBody, IsDropping, IsFeeding, IsMaking}
 
 -- what was asked for the requests that are over
 abbrev pub asked_in : Machine → List Act
 asked_in m = flat_map (λ acts. acts.0) m.asked.items
 
--- what was asked for the body that is being read
+-- what was asked for the body that is being read, or the answer that is being made
 abbrev pub asked_now : State → List Act
 asked_now states.Head = []
 asked_now (states.Drop d) = []
 asked_now (states.Feed f) = f.taken.acts
+asked_now (states.Make m) = m.acts
 asked_now (states.Over end) = []
 
 -- all that was asked
@@ -43,6 +44,7 @@ abbrev pub stage_of : State → Stage
 stage_of states.Head = Between
 stage_of (states.Drop d) = Within
 stage_of (states.Feed f) = Within
+stage_of (states.Make m) = Within
 stage_of (states.Over end) = Over (end_of end)
 
 -- what the state says of the stream behind the requests that were answered
@@ -50,6 +52,7 @@ abbrev pub StandsIn : State → ℕ → Bool → List ℕ → List Act → List 
 StandsIn states.Head count ended stream acts text unread = IsBetween stream acts text unread
 StandsIn (states.Drop d) count ended stream acts text unread = IsDropping count stream text d unread × (acts ≡ [])
 StandsIn (states.Feed f) count ended stream acts text unread = IsFeeding count stream text f unread × (acts ≡ [])
+StandsIn (states.Make m) count ended stream acts text unread = IsMaking count stream text m unread × (acts ≡ [])
 StandsIn (states.Over end) count ended stream acts text unread = Stands (Over (end_of end)) count ended stream acts text unread
 
 -- what was received and handed out, and what was asked for the requests that are over

@@ -45,13 +45,18 @@ abbrev pub IsFed : State → Type 0
 IsFed (states.Feed f) = Unit {0}
 IsFed state = ⊥
 
+abbrev pub IsMaking : State → Type 0
+IsMaking (states.Make m) = Unit {0}
+IsMaking state = ⊥
+
 -- where nothing waits to be handed out: for a request, of which nothing came or something, for more of a body that is dropped or an
--- encoder's, or for nothing more
+-- encoder's, or for nothing: a reply is being made, or all is over
 abbrev pub StandsSo : Standing → Visit → Type 0
 StandsSo standings.Idle v = (stage v ≡ Between) × (length (history v).unread ≡ 0)
 StandsSo standings.Head v = (stage v ≡ Between) × (0 < length (history v).unread)
 StandsSo standings.Dropping v = IsDropped (state_of v)
 StandsSo standings.Feeding v = IsFed (state_of v)
+StandsSo standings.Making v = IsMaking (state_of v)
 StandsSo standings.Replying v = ⊥
 StandsSo standings.Over v = IsOver (stage v)
 

@@ -1,6 +1,6 @@
 -- For the proofs of this crate; no public clause cites it.
 -- A request whose body is being read, and what comes next of it.
-use Rattle.std.specs.Prelude.{◌≡◌, ℕ, ◌+◌, ◌<◌, false, not, List, ◌++◌, length, Option, Some, Result, Ok, Err}
+use Rattle.std.specs.Prelude.{◌≡◌, ℕ, ◌+◌, ◌<◌, false, not, List, [], ◌++◌, length, Option, Some, Result, Ok, Err}
 use Rattle.httparse.specs.Grammar.{RequestHead}
 use Rattle.hls_feed.specs.Streams.{Reached}
 use Rattle.hls_http_laws.specs.declared.body.Body.{Body}
@@ -17,17 +17,21 @@ use Rattle.hls_serve_laws.specs.declared.ingest.Intake.{Intake}
 use Rattle.hls_serve_laws.specs.declared.ingest.Intake.TheVariants as came
 use Rattle.hls_serve_laws.specs.declared.route.Route.TheVariants as routes
 use Rattle.hls_serve_laws.specs.Acts.{Act}
-use Rattle.hls_serve_laws.specs.Heard.{Drops, Heard, first_of, request_of}
+use Rattle.hls_serve_laws.specs.Heard.{Drops, Heard, asks_of, first_of, request_of}
 use Rattle.hls_serve_laws.specs.Ingest.{BodyComes, PartComes, begun}
+use Rattle.hls_serve_laws.specs.Replies.{Answer}
 use Rattle.hls_serve_laws.specs.Routes.{feeds}
+use Rattle.hls_serve.specs.declared.answers.Answered.{Answered}
+use Rattle.hls_serve.specs.declared.answers.Answered.TheVariants.{Now, Later}
 use Rattle.hls_serve.specs.declared.call.Call.{Call}
 use Rattle.hls_serve.specs.declared.dropping.Dropping.{Dropping}
 use Rattle.hls_serve.specs.declared.ending.Ending.{Ending}
 use Rattle.hls_serve.specs.declared.feeding.Feeding.{Feeding}
+use Rattle.hls_serve.specs.declared.making.Making.{Making}
 use Rattle.hls_serve.specs.declared.next.Next.{Next}
 use Rattle.hls_serve.specs.declared.next.Next.TheVariants.{More, Wait, Over}
 use Rattle.hls_serve.specs.Taken.{progress_of}
-use Rattle.hls_serve.specs.Turns.{IsCall, Replies}
+use Rattle.hls_serve.specs.Turns.{IsCall, IsResponse, Replies}
 
 -- at the front of the stream, whatever follows it, stand a head, of which this was kept, and some of a body, which now stands so; this
 -- was written for it first
@@ -112,3 +116,15 @@ FeedsOn count stream first f unread (Over result) = IsFedUp count stream first f
 -- what comes of it at a front, whatever came before
 abbrev pub FeedsFrom : Feeding → List ℕ → Feeding → List ℕ → Next Intake → Type 0
 FeedsFrom old unread new rest next = (count : ℕ) (stream first : List ℕ) → IsFeeding count stream first old unread → FeedsOn count stream first new rest next
+
+-- ---- an answer that is made in parts
+
+-- a request whose body was dropped whole; for such an answer to it the keeper was asked this
+pub record IsMaking (count : ℕ) (stream first : List ℕ) (m : Making) (unread : List ℕ) : Type 0 where
+  pub dropped : IsDropped count stream first m.dropping unread (Ok tt)
+  pub answers : IsResponse (asks_of count dropped.at.head) m.dropping.route [] m.acts m.answer
+
+-- its reply, or an answer that is still being made
+abbrev pub AnswersTo : ℕ → List ℕ → List ℕ → Dropping → List Act → List ℕ → Answered → Type 0
+AnswersTo count stream first d acts unread (Now reply) = RepliesTo count stream first acts unread reply.output reply.end
+AnswersTo count stream first d acts unread (Later answer) = IsMaking count stream first (record { dropping = d; acts = acts; answer = answer }) unread

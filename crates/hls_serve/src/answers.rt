@@ -3,7 +3,7 @@
 ghost use Rattle.std.specs.Prelude.{◌≡◌, ℕ, List, []};
 ghost use Rattle.hls_serve_laws.specs.Acts.{Acted};
 ghost use Rattle.hls_serve.specs.Told.{news_of};
-ghost use Rattle.hls_serve.specs.Within.{DropsBody, IsDropped, IsFedUp, IsToDrop, IsToFeed, RepliesTo};
+ghost use Rattle.hls_serve.specs.Within.{AnswersTo, DropsBody, IsDropped, IsFedUp, IsToDrop, IsToFeed, RepliesTo};
 
 use crate::acts::Acts;
 use crate::dropping::Dropping;
@@ -13,9 +13,18 @@ use crate::news::{Ingested, News, Observer};
 use crate::reply::{Reply, refuse, reply_with};
 use crate::respond::respond;
 use hls_http::{DropEnd, HttpFault, is_over};
-use hls_replies::{refused_answer, taken_answer};
+use hls_replies::{Answer, refused_answer, taken_answer};
 use hls_serve_laws::ingest::Intake;
 use std::alloc::{AllocError, Global};
+
+/// What comes of a request whose body was dropped.
+#[derive(Drop)]
+pub(crate) enum Answered {
+    /// Its reply.
+    Now(Reply),
+    /// An answer of which some is still to be made.
+    Later(Answer),
+}
 
 /// To one whose body was dropped, or couldn't be.
 pub(crate) fn answer_dropped<K: Keeper, O: Observer>(
@@ -24,23 +33,32 @@ pub(crate) fn answer_dropped<K: Keeper, O: Observer>(
     keeper: &mut K,
     acts: &mut Acts,
     observer: &O,
-) -> Reply
+) -> Answered
     requires replied { IsToDrop dropped }
     requires dropped { DropsBody dropping.now }
     requires none { acts.old ≡ [] }
-    ensures replies { (count : ℕ) (stream first unread : List ℕ) → IsDropped count stream first dropping.now unread dropped
-        → RepliesTo count stream first acts.new unread result.output result.end }
+    ensures answers { (count : ℕ) (stream first unread : List ℕ) → IsDropped count stream first dropping.now unread dropped
+        → AnswersTo count stream first dropping.now acts.new unread result }
     ensures leads { Acted (K.known keeper.old) [] (K.known keeper.new) acts.new }
 {
     let alloc = keeper.alloc();
     let call = &dropping.call;
     match dropped {
-        Ok(()) => {
-            let made = respond(keeper, acts, call, dropping.route);
-            reply_with(alloc, observer, call, made, false)
+        Ok(()) => match respond(keeper, acts, call, dropping.route) {
+            Ok(answer) => {
+                if !answer.is_made() {
+                    return Answered::Later(answer);
+                }
+                Answered::Now(reply_with(alloc, observer, call, Ok(answer), false))
+            }
+            Err(error) => Answered::Now(reply_with(alloc, observer, call, Err(error), false)),
+        },
+        Err(DropEnd::TooLarge) => {
+            Answered::Now(refuse(alloc, observer, call, HttpFault::TooLarge, true))
         }
-        Err(DropEnd::TooLarge) => refuse(alloc, observer, call, HttpFault::TooLarge, true),
-        Err(DropEnd::Stopped(_)) => refuse(alloc, observer, call, HttpFault::BadFraming, true),
+        Err(DropEnd::Stopped(_)) => {
+            Answered::Now(refuse(alloc, observer, call, HttpFault::BadFraming, true))
+        }
     }
 }
 

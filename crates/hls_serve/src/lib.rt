@@ -17,6 +17,7 @@ pub mod ingest;
 pub mod keeper;
 pub mod laws;
 mod machine;
+mod making;
 pub mod news;
 mod next;
 pub mod path;

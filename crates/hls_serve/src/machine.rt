@@ -1,7 +1,7 @@
 //! The steps of a connection, each from one place in its stream to the next. No system call is made, and nobody is waited for but
 //! the keeper.
 
-ghost use Rattle.std.specs.Prelude.{◌≡◌, ◌↔◌, ◌++◌, ℕ, List, [], length, Bool, IsFalse};
+ghost use Rattle.std.specs.Prelude.{◌≡◌, ◌↔◌, ◌++◌, ℕ, List, [], length, Bool, IsFalse, true};
 ghost use Rattle.hls_core_laws.specs.IsState.{IsState};
 ghost use Rattle.hls_turn.specs.Passes.{Known};
 ghost use Rattle.hls_serve_laws.specs.Acts.{Acted};
@@ -14,16 +14,17 @@ ghost use Rattle.hls_serve.specs.Turns.{IsCall};
 ghost use Rattle.hls_serve.specs.Within.{DropsBody};
 
 use crate::acts::Acts;
-use crate::answers::{answer_dropped, answer_fed, ingested, tell_ingested};
+use crate::answers::{Answered, answer_dropped, answer_fed, ingested, tell_ingested};
 use crate::call::{Call, plan_of, read_call};
 use crate::dropping::Dropping;
 use crate::ending::Ending;
 use crate::feeding::Feeding;
 use crate::ingest::Taken;
 use crate::keeper::Keeper;
+use crate::making::Making;
 use crate::news::{News, Observer};
 use crate::next::Next;
-use crate::reply::{Reply, refuse, refuse_head};
+use crate::reply::{Reply, refuse, refuse_head, reply_with};
 use hls_boxes::UnitReader;
 use hls_http::{BodyEnd, HttpFault, Input, Look, Plan, announced, continues, find_head};
 use hls_http_laws::limits::MOST_DROPPED;
@@ -45,6 +46,8 @@ pub(crate) enum State {
     Drop(Dropping),
     /// Within an encoder's body.
     Feed(Feeding),
+    /// Behind a body that was dropped, while its answer is made.
+    Make(Making),
     /// At its end.
     Over(Ending),
 }
@@ -263,11 +266,54 @@ impl Machine {
             }
             Next::Over(result) => {
                 let mut acts = Acts::none();
-                let made = answer_dropped(&dropping, result, keeper, &mut acts, observer);
-                self.close(made, &acts);
+                match answer_dropped(&dropping, result, keeper, &mut acts, observer) {
+                    Answered::Now(made) => self.close(made, &acts),
+                    Answered::Later(answer) => {
+                        self.state = State::Make(Making {
+                            dropping,
+                            acts,
+                            answer,
+                        });
+                    }
+                }
                 true
             }
         }
+    }
+
+    /// Makes one more part of an answer; replies where none is left, or memory is wanted for one.
+    fn make_on<O: Observer>(&mut self, making: Making, alloc: Global, observer: &O) -> bool
+        requires sent { length self.old.output ≡ 0 }
+        ensures goes { (ended : Bool) (unread : List ℕ) → GoesFrom (states.Make making) ended self.old unread self.new unread }
+        ensures leads { (known : Known) → Acted known (asked_in self.old ++ making.acts) known (total self.new) }
+        ensures renditions { self.new.renditions ≡ self.old.renditions }
+        ensures usable { (known : Known) → SuitsIn known self.new.state }
+        ensures goes_on { result ≡ true }
+    {
+        let Making {
+            dropping,
+            acts,
+            answer,
+        } = making;
+        if answer.is_made() {
+            let made = reply_with(alloc, observer, &dropping.call, Ok(answer), false);
+            self.close(made, &acts);
+            return true;
+        }
+        match answer.make(alloc) {
+            Ok(answer) => {
+                self.state = State::Make(Making {
+                    dropping,
+                    acts,
+                    answer,
+                });
+            }
+            Err(error) => {
+                let made = reply_with(alloc, observer, &dropping.call, Err(error), false);
+                self.close(made, &acts);
+            }
+        }
+        true
     }
 
     /// Goes on with an encoder's body.
@@ -335,11 +381,17 @@ impl Machine {
             State::Head => self.head(input, ended, keeper.alloc(), observer),
             State::Drop(dropping) => self.drop_on(dropping, input, ended, keeper, observer),
             State::Feed(feeding) => self.feed_on(feeding, input, ended, keeper, observer),
+            State::Make(making) => self.make_on(making, keeper.alloc(), observer),
             State::Over(end) => {
                 self.state = State::Over(end);
                 false
             }
         }
+    }
+
+    /// Whether an answer is being made.
+    pub fn is_making(&self) -> bool {
+        matches!(self.state, State::Make(_))
     }
 
     /// Whether all is over.

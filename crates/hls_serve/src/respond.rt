@@ -51,7 +51,7 @@ fn show_list<K: Keeper>(
         acts.old acts.new result }
 {
     let state = look(keeper, acts)?;
-    list_answer(keeper.alloc(), &state, rendition)
+    list_answer(keeper.alloc(), state, rendition)
 }
 
 fn show_media<K: Keeper>(

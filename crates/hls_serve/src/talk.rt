@@ -19,7 +19,7 @@ use http_server::Log;
 use std::io;
 use std::io::Read;
 
-/// How many steps are made before others have their turn.
+/// How many steps are made before others have their turn, where none of them makes a part of an answer.
 const MOST_STEPS: u32 = 1024;
 
 /// A connection but for its input's buffer.
@@ -116,6 +116,9 @@ impl Talk {
         for _ in 0..MOST_STEPS {
             if !self.machine.step(input, self.ended, keeper, observer) {
                 return false;
+            }
+            if self.machine.is_making() {
+                return true;
             }
         }
         true

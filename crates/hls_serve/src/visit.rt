@@ -35,6 +35,8 @@ pub enum Standing {
     Dropping,
     /// For more of an encoder's body.
     Feeding,
+    /// For nothing: a reply is being made.
+    Making,
     /// That what it has to say is handed out.
     Replying,
     /// It is over, and all was handed out.
@@ -82,7 +84,8 @@ impl Visit {
     }
 
     /// Answers what was received, until something waits to be handed out, more is to be read, or all is over; and pauses behind so
-    /// many steps. Whether there may be more to do at once.
+    /// many steps, and behind each part of a reply that is made in parts. Whether there may be more to do at once, once others had
+    /// their turn.
     pub fn advance<K: Keeper, O: Observer>(&mut self, keeper: &mut K, observer: &O) -> bool
         requires suits { Suits (K.known keeper.old) self.old }
         ensures suits { Suits (K.known keeper.new) self.new }
@@ -169,6 +172,7 @@ impl Visit {
             State::Head => Standing::Head,
             State::Drop(_) => Standing::Dropping,
             State::Feed(_) => Standing::Feeding,
+            State::Make(_) => Standing::Making,
             State::Over(_) => Standing::Over,
         }
     }

@@ -24,16 +24,26 @@ returns-else-ended-clause-goes g c = λ received sent h.
 pub returns-else-ended-clause-rests : goal.returns-else-ended-clause-rests
 returns-else-ended-clause-rests g c = λ stops. inr (inr (search rules, c.step.ensures.waits c.in-Wait.is))
 
-pub answer_dropped-made-requires-clause-replied : goal.answer_dropped-made-requires-clause-replied
-answer_dropped-made-requires-clause-replied g c = c.in-Over.ensures.replied
+pub answer_dropped-requires-clause-replied : goal.answer_dropped-requires-clause-replied
+answer_dropped-requires-clause-replied g c = c.in-Over.ensures.replied
 
-pub returns-in-Over-clause-goes : goal.returns-in-Over-clause-goes
-returns-in-Over-clause-goes g c = λ received sent h.
+pub returns-in-Now-clause-goes : goal.returns-in-Now-clause-goes
+returns-in-Now-clause-goes g c = λ received sent h.
     let n = c.args.self.now.renditions in
     holds_at c.close.new.self c.close.ensures.renditions c.close.ensures.state c.close.ensures.asked c.close.ensures.output
-    (body_replied c.requires.sent h h.stands.1 (c.answer_dropped-made.ensures.replies n h.rest h.text c.step.new.input.unread (c.in-Over.ensures.drops n h.rest h.text h.stands.0)))
+    (body_replied c.requires.sent h h.stands.1 (c.in-Now.ensures.answers n h.rest h.text c.step.new.input.unread (c.in-Over.ensures.drops n h.rest h.text h.stands.0)))
 
-pub returns-in-Over-clause-suits : goal.returns-in-Over-clause-suits
-returns-in-Over-clause-suits g c =
-    let b = g.K.Keeper.known c.answer_dropped-made.new.keeper in
-    (valid_acted (g.K.Keeper.known c.args.keeper.now) b [] _ c.answer_dropped-made.ensures.leads c.requires.valid, suits_behind b _ c.close.new.self.state c.close.ensures.state)
+pub returns-in-Now-clause-suits : goal.returns-in-Now-clause-suits
+returns-in-Now-clause-suits g c =
+    let b = g.K.Keeper.known c.answer_dropped.new.keeper in
+    (valid_acted (g.K.Keeper.known c.args.keeper.now) b [] _ c.answer_dropped.ensures.leads c.requires.valid, suits_behind b _ c.close.new.self.state c.close.ensures.state)
+
+pub returns-in-Later-clause-goes : goal.returns-in-Later-clause-goes
+returns-in-Later-clause-goes g c = λ received sent h.
+    let n = c.args.self.now.renditions in
+    stands_so (states.Make (record { dropping = c.step.new.self; acts = c.answer_dropped.new.acts; answer = c.in-Later.answer })) h
+    (c.in-Later.ensures.answers n h.rest h.text c.step.new.input.unread (c.in-Over.ensures.drops n h.rest h.text h.stands.0), h.stands.1)
+
+pub returns-in-Later-clause-suits : goal.returns-in-Later-clause-suits
+returns-in-Later-clause-suits g c =
+    (valid_acted (g.K.Keeper.known c.args.keeper.now) (g.K.Keeper.known c.answer_dropped.new.keeper) [] _ c.answer_dropped.ensures.leads c.requires.valid, tt)

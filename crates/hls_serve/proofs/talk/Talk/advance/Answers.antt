@@ -54,6 +54,26 @@ returns-then-not-step g c =
       room = c.step.ensures.room ∙ before.room;
     }
 
+pub returns-then-is_making : goal.returns-then-is_making
+returns-then-is_making g c =
+    let t = c.loop.self in
+    let n : Talk = record t { machine = c.step.new.self } in
+    let first = g.K.Keeper.known c.args.keeper.now in
+    let a = g.K.Keeper.known c.loop.keeper in
+    let b = g.K.Keeper.known c.step.new.keeper in
+    let old = c.args.self.now in
+    let before = c.loop.invariant in
+    let acted = acted_on first a b (total old.machine) (total t.machine) (total n.machine) before.acted c.step.ensures.leads in
+    record {
+      suits = suited_acted a b t n before.suits c.step.ensures.leads c.step.ensures.renditions c.step.ensures.suits.1;
+      later = (acted_follows first b (total old.machine) (total n.machine) (suited_valid first old c.requires.suits) acted).1;
+      holds = λ h. c.step.ensures.goes (received_in t) (sent_in t) (before.holds h);
+      acted = acted;
+      quiet = quiet_on c.args.self.now t c.step.new.self before.quiet c.step.ensures.renditions;
+      rests = λ stops. absurd (cc);
+      room = c.step.ensures.room ∙ before.room;
+    }
+
 pub returns : goal.returns
 returns g c =
     let first = g.K.Keeper.known c.args.keeper.now in
