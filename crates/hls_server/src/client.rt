@@ -1,10 +1,11 @@
 //! Who is at the other end of a connection.
 
-use crate::lines::{Ingest, Name};
-use crate::log::tell;
+use crate::lines::{Ingest, method_name};
+use hls_house::{Name, tell};
 use hls_http::Method;
 use hls_http_laws::reply::Status;
 use hls_serve::news::{Ingested, News, Observer};
+use hls_serve::path::Path;
 use hls_serve_laws::route::Route;
 use hls_settings::Settings;
 use std::cell::Cell;
@@ -17,6 +18,12 @@ pub struct Answered {
     pub method: Method,
     pub route: Option<Route>,
     pub status: Status,
+}
+
+/// A reply that took so many milliseconds to make, while the others of its worker waited; told once a minute at most.
+pub fn tell_long_reply<E: Eprint>(rt: &E, milliseconds: u64, answered: Answered) {
+    let (method, path) = (method_name(answered.method), Path(answered.route));
+    let _ = eprintln!(rt; "serve: a reply took {milliseconds} ms to make: {method} {path}");
 }
 
 /// Who is at the other end of a connection, for one turn: an encoder's body that ended is told to the operator, and what came of a

@@ -2,7 +2,7 @@
 
 use crate::client::Answered;
 use crate::lines::Request;
-use crate::log::tell;
+use hls_house::tell;
 use hls_serve::visit::Visit;
 use std::io::Eprint;
 use std::net::SocketAddr;

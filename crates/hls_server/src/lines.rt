@@ -1,67 +1,13 @@
-//! The operator's lines, as texts.
+//! The operator's lines of clients, as texts.
 
-use hls_core_laws::rendition::Rendition;
+use hls_house::Name;
 use hls_http::{BodyEnd, Method};
 use hls_http_laws::reply::Status;
-use hls_instants::moment_text;
 use hls_serve::path::Path;
 use hls_serve_laws::ingest::{Counts, Intake};
 use hls_serve_laws::route::Route;
-use hls_settings::Settings;
 use std::fmt::{self, Display, Formatter, Write};
 use std::net::SocketAddr;
-
-/// A rendition's name or another text, which is ASCII.
-#[derive(Clone, Copy, Drop)]
-pub struct Name<'a>(pub &'a [u8]);
-
-impl<'a> Display for Name<'a> {
-    fn fmt<W: Write>(&self, f: &mut Formatter<W>) -> fmt::Result {
-        for byte in self.0 {
-            f.write_char(char::from(*byte))?;
-        }
-        Ok(())
-    }
-}
-
-/// Renditions' names, each behind a space.
-#[derive(Clone, Copy, Drop)]
-pub struct Names<'a>(pub &'a [Rendition]);
-
-impl<'a> Display for Names<'a> {
-    fn fmt<W: Write>(&self, f: &mut Formatter<W>) -> fmt::Result {
-        for rendition in self.0 {
-            let name = Name(&rendition.name);
-            write!(f, " {name}")?;
-        }
-        Ok(())
-    }
-}
-
-/// What is in force, by the options' words and in their units; an epoch is rounded down to milliseconds.
-#[derive(Clone, Copy, Drop)]
-pub struct Limits<'a>(pub &'a Settings);
-
-impl<'a> Display for Limits<'a> {
-    fn fmt<W: Write>(&self, f: &mut Formatter<W>) -> fmt::Result {
-        let timing = self.0.plain.timing;
-        let workers = self.0.plain.workers;
-        write!(
-            f,
-            "target {} preferred {} window {} keep {}",
-            timing.target, timing.preferred, timing.window, timing.keep
-        )?;
-        write!(
-            f,
-            " workers {} connections {} planners {} patience {}",
-            workers.workers, workers.connections, workers.planners, workers.patience
-        )?;
-        match self.0.config.epoch() {
-            None => Ok(()),
-            Some(epoch) => write!(f, " epoch {}", Name(&moment_text(epoch))),
-        }
-    }
-}
 
 /// How an encoder's body ended.
 fn ended_as(ended: Result<(), Intake>) -> (&'static str, &'static str) {

@@ -2,10 +2,9 @@
 
 ghost use Rattle.hls_serve.specs.Visits.{Suits, WantsRead, history};
 
-use crate::client::Client;
+use crate::client::{Client, tell_long_reply};
 use crate::guest::{Asked, Guest};
-use crate::log::{tell_failed_accept, tell_long_reply};
-use crate::told::{Told, is_told};
+use hls_house::{Told, is_told, tell_failed_accept};
 use hls_http::SessionEnd;
 use hls_http_laws::reply::no_memory_text;
 use hls_loop::{End, Host};

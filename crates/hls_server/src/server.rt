@@ -2,14 +2,13 @@
 
 ghost use Rattle.std.specs.Prelude.{◌≡◌, ◌+◌, ◌≤◌, All, max, min};
 
-use crate::house::keep_house;
-use crate::log::{Crew, Log, tell_ended_worker, tell_fewer_threads};
+use crate::household::Household;
 use crate::planner::plan_jobs;
 use crate::reception::Reception;
 use crate::room::{crew_of, places_of};
-use crate::told::Told;
 use hls_catchup::Jobs;
 use hls_core::snapshot::Snapshot;
+use hls_house::{Crew, Log, Told, keep_house, tell_ended_worker, tell_fewer_threads};
 use hls_loop::{Door, Post, open_files, widen, work};
 use hls_serve::channel::Channel;
 use hls_serve::station::Station;
@@ -183,7 +182,11 @@ fn run_threads<
     requires { All (λ p. p.turn ≡ channel.now.turn.now) passes.items }
 {
     let closed = AtomicBool::new(false);
-    let closed = &closed;
+    let household = Household {
+        jobs: channel.jobs,
+        closed: &closed,
+    };
+    let household = &household;
     let planners = site.settings.plain.workers.planners;
     thread::scope(
         thread::scope_env(),
@@ -200,7 +203,16 @@ fn run_threads<
             let keeper = scope.spawn(
                 move || -> ()
                     requires { last.turn ≡ channel.now.turn.now }
-                { keep_house(rt, site.alloc, channel, site.settings, closed, &mut last) },
+                {
+                    keep_house(
+                        rt,
+                        site.alloc,
+                        channel.turn,
+                        site.settings,
+                        household,
+                        &mut last,
+                    )
+                },
             );
             let workers = start_workers(scope, rt, channel, site, passes, room);
             let started = Crew {
@@ -213,7 +225,7 @@ fn run_threads<
                 worker.join(rt);
             }
             channel.jobs.close(rt);
-            closed.store(true, Ordering::SeqCst);
+            household.closed.store(true, Ordering::SeqCst);
             channel.turn.tell(rt);
             if started.workers == 0 {
                 return Err(AllocError);

@@ -1,104 +1,12 @@
 //! What the operator is told before the first connection is taken: settings that this machine can't keep to.
 
-ghost use Rattle.std.specs.Prelude.{◌≡◌, ◌≤◌, ◌^◌};
-ghost use Rattle.hls_server.specs.Starts.{memory_wanted};
-
-use crate::log::Log;
-use crate::rest::rest_length;
 use crate::room::places_of;
-use hls_core_laws::rendition::Rendition;
+use hls_house::{Log, tell_memory};
 use hls_loop::open_files;
-use hls_settings::{Settings, Timing, Workers};
-use hls_text::{MOST_DIGITS, read_number};
+use hls_settings::{Settings, Workers};
 use std::alloc::Global;
-use std::io::{Eprint, Read};
+use std::io::Eprint;
 use std::rt::Files;
-use std::{fs, str};
-
-/// Bytes of a megabyte, as sizes are told.
-const MEGABYTE: u64 = 1_000_000;
-
-/// Room for one of the system's tables.
-const ROOM: usize = 4096;
-
-/// The bytes of media that so many bits a second come to over what is kept, the window, two targets, and a rest from trims.
-fn memory_wanted(bits: u64, timing: Timing) -> u64
-    requires bits { bits ≤ 2 ^ 48 }
-    requires target { timing.target ≤ 3600 }
-    ensures { result ≡ memory_wanted bits timing }
-{
-    let behind = u128::from(timing.keep) + u128::from(timing.window);
-    let ahead = timing.target * 2_000_000 + rest_length(timing.keep) * 1000;
-    let bytes = u128::from(bits) * (behind + u128::from(ahead)) / 8_000_000;
-    u64::try_from(bytes).unwrap_or(u64::MAX)
-}
-
-/// The bits a second of all renditions, as their words say them.
-fn bits_of(renditions: &[Rendition]) -> u64
-    ensures { result ≤ 2 ^ 48 }
-{
-    let mut bits: u64 = 0;
-    for rendition in renditions {
-        bits = bits.saturating_add(rendition.bandwidth);
-    }
-    bits.min(1 << 48)
-}
-
-/// The text of a file, as far as there is room.
-fn text_of<'b, R: Files>(rt: &R, path: &str, room: &'b mut [u8]) -> Option<&'b str> {
-    let mut file = fs::open(rt, path).ok()?;
-    let len = file.read(room).ok()?;
-    str::from_utf8(room.get(..len)?).ok()
-}
-
-/// What stands behind a label at a line's begin, up to the next blank.
-fn word_behind<'t>(text: &'t str, label: &str) -> Option<&'t str> {
-    for line in text.lines() {
-        if let Some(rest) = line.strip_prefix(label) {
-            return rest.split_whitespace().next();
-        }
-    }
-    None
-}
-
-/// The number behind a label in a file; none where there is no number.
-fn number_in<R: Files>(rt: &R, path: &str, label: &str) -> Option<u64> {
-    let mut room = [0; ROOM];
-    let word = word_behind(text_of(rt, path, &mut room)?, label)?;
-    read_number(word.as_bytes(), MOST_DIGITS)
-}
-
-/// What the machine has, in bytes.
-fn machine_memory<R: Files>(rt: &R) -> Option<u64> {
-    Some(number_in(rt, "/proc/meminfo", "MemTotal:")?.saturating_mul(1024))
-}
-
-/// What the process's address space may come to, in bytes; none where it has no limit.
-fn address_space<R: Files>(rt: &R) -> Option<u64> {
-    number_in(rt, "/proc/self/limits", "Max address space")
-}
-
-/// What the process's control group may take, in bytes; none where it has no limit of its own (cgroups(7), version 2).
-fn group_memory<R: Files>(rt: &R, alloc: Global) -> Option<u64> {
-    let mut room = [0; ROOM];
-    let group = word_behind(text_of(rt, "/proc/self/cgroup", &mut room)?, "0::")?;
-    let path = format!(in alloc; "/sys/fs/cgroup{group}/memory.max").ok()?;
-    number_in(rt, path.as_str(), "")
-}
-
-/// Tells that more memory is wanted than there is.
-fn tell_memory<E: Eprint>(log: &Log<'_, E>, wanted: u64, what: &str, given: Option<u64>) {
-    let Some(given) = given else {
-        return;
-    };
-    if wanted <= given {
-        return;
-    }
-    let (level, wanted, given) = (log.warning(), wanted / MEGABYTE, given / MEGABYTE);
-    let _ = eprintln!(log.rt;
-        "{level}serve: these renditions want {wanted} MB for what --keep and --window say, and {what} {given} MB"
-    );
-}
 
 /// Tells that fewer connections are held than are wanted, since the process may have no more files open.
 fn tell_files<E: Eprint>(log: &Log<'_, E>, workers: Workers) {
@@ -116,25 +24,6 @@ fn tell_files<E: Eprint>(log: &Log<'_, E>, workers: Workers) {
 /// Tells of settings that can't be kept to: more connections than the process may have files, and more media kept than there is
 /// memory for, as far as the system says how much that is.
 pub fn tell_start<R: Eprint + Files>(log: &Log<'_, R>, alloc: Global, settings: &Settings) {
-    let rt = log.rt;
-    let renditions = settings.config.renditions();
     tell_files(log, settings.plain.workers);
-    let timing = settings.plain.timing;
-    if timing.target > 3600 {
-        return;
-    }
-    let wanted = memory_wanted(bits_of(renditions), timing);
-    tell_memory(log, wanted, "this machine has", machine_memory(rt));
-    tell_memory(
-        log,
-        wanted,
-        "this process's address space is limited to",
-        address_space(rt),
-    );
-    tell_memory(
-        log,
-        wanted,
-        "its control group has",
-        group_memory(rt, alloc),
-    );
+    tell_memory(log, alloc, settings);
 }

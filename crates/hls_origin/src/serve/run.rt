@@ -2,7 +2,8 @@
 ghost use Rattle.std.specs.Prelude.{map};
 ghost use Rattle.hls_origin.specs.ServeRun.{EndsServe};
 
-use hls_server::{Log, run_server, tell_listening, tell_start};
+use hls_house::{Log, tell_listening};
+use hls_server::{run_server, tell_start};
 use hls_settings::{Address, Settings, SettingsFault, read_settings};
 use std::alloc::{AllocError, Global};
 use std::convert::AsStr;

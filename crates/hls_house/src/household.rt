@@ -1,0 +1,12 @@
+//! What the housekeeper asks of the server around it.
+
+use std::sync::Wait;
+
+/// A server of a channel, as its housekeeper asks it.
+pub trait Household {
+    /// How many jobs of catch-up recordings there are, in any phase. May wait.
+    fn jobs<R: Wait>(&self, rt: &R) -> usize;
+
+    /// Whether all connections have ended: the round in which it has is the last one.
+    fn has_closed(&self) -> bool;
+}

@@ -1,7 +1,0 @@
-pub mod Bells
-pub mod Gauges
-pub mod Keeping
-pub mod Lags
-pub mod Rests
-pub mod Starts
-pub mod Uneven
