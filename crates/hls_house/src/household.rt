@@ -7,6 +7,6 @@ pub trait Household {
     /// How many jobs of catch-up recordings there are, in any phase. May wait.
     fn jobs<R: Wait>(&self, rt: &R) -> usize;
 
-    /// Whether all connections have ended: the round in which it has is the last one.
+    /// Whether all connections have ended. The round behind which they have is the housekeeper's last.
     fn has_closed(&self) -> bool;
 }

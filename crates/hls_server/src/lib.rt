@@ -7,7 +7,6 @@
 
 mod client;
 mod guest;
-mod household;
 mod lines;
 mod planner;
 mod reception;

@@ -2,13 +2,12 @@
 
 ghost use Rattle.std.specs.Prelude.{◌≡◌, ◌+◌, ◌≤◌, All, max, min};
 
-use crate::household::Household;
 use crate::planner::plan_jobs;
 use crate::reception::Reception;
 use crate::room::{crew_of, places_of};
 use hls_catchup::Jobs;
 use hls_core::snapshot::Snapshot;
-use hls_house::{Crew, Log, Told, keep_house, tell_ended_worker, tell_fewer_threads};
+use hls_house::{Crew, Household, Log, Told, keep_house, tell_ended_worker, tell_fewer_threads};
 use hls_loop::{Door, Post, open_files, widen, work};
 use hls_serve::channel::Channel;
 use hls_serve::station::Station;
@@ -31,6 +30,7 @@ pub const MOST_WORKERS: u64 = 63;
 struct Site<'a> {
     alloc: Global,
     settings: &'a Settings,
+    channel: &'a Channel<'a>,
     /// Where workers find connections.
     listener: &'a TcpListener,
     /// How many workers serve at most.
@@ -38,6 +38,18 @@ struct Site<'a> {
     /// What workers know of one another.
     door: &'a Door,
     told: &'a Told,
+    /// Whether all workers have ended.
+    closed: &'a AtomicBool,
+}
+
+impl<'a> Household for Site<'a> {
+    fn jobs<R: Wait>(&self, rt: &R) -> usize {
+        self.channel.jobs.len(rt)
+    }
+
+    fn has_closed(&self) -> bool {
+        self.closed.load(Ordering::SeqCst)
+    }
 }
 
 /// How many passes there are: one for each worker that is asked for, 1 to 63, and the housekeeper's.
@@ -89,32 +101,68 @@ pub fn run_server<
         connections.unwrap_or(u64::MAX),
     );
     let told = Told::new();
+    let closed = AtomicBool::new(false);
     let site = Site {
         alloc,
         settings,
+        channel: &channel,
         listener,
         crew,
         door: &door,
         told: &told,
+        closed: &closed,
     };
     widen(listener);
-    let ran = run_threads(rt, &channel, site, passes);
+    let ran = run_threads(rt, &site, passes);
     let _ = listener.set_nonblocking(false);
     ran
 }
 
 /// Serves connections on one thread; the operator is told where the system doesn't let it.
-fn serve<R: Wait + Clock + Eprint>(post: Post, site: Site<'_>, station: Station<'_, R>) {
-    let (rt, alloc) = (station.rt, station.alloc);
+fn serve<R: Wait + Clock + Eprint>(rt: &R, site: &Site<'_>, post: Post, pass: Pass)
+    requires { pass.turn ≡ site.now.channel.now.turn.now }
+{
     let reception = Reception {
-        station,
+        station: Station::new(rt, site.alloc, site.channel, pass),
         settings: site.settings,
         told: site.told,
     };
     let patience = site.settings.plain.workers.patience;
-    if let Err(error) = work(rt, alloc, post, site.door, reception, patience) {
+    if let Err(error) = work(rt, site.alloc, post, site.door, reception, patience) {
         tell_ended_worker(rt, error);
     }
+}
+
+/// Keeps house on one thread.
+fn keep<R: Wait + Clock + Eprint + Env>(rt: &R, site: &Site<'_>, pass: Pass)
+    requires { pass.turn ≡ site.now.channel.now.turn.now }
+{
+    let mut pass = pass;
+    keep_house(
+        rt,
+        site.alloc,
+        site.channel.turn,
+        site.settings,
+        site,
+        &mut pass,
+    );
+}
+
+/// Starts the thread that keeps house; whether it could be started.
+fn start_keeper<'s, E, R: Wait + Clock + Eprint + Env + Sync>(
+    scope: &Scope<'s, E>,
+    rt: &'s R,
+    site: &'s Site<'s>,
+    pass: Pass,
+) -> bool
+    requires { pass.turn ≡ site.now.channel.now.turn.now }
+{
+    let keeper = scope.spawn(
+        move || -> ()
+            requires { pass.turn ≡ site.now.channel.now.turn.now }
+        { keep(rt, site, pass) },
+    );
+    keeper.is_ok()
 }
 
 /// Starts a thread for each pass, which serves connections: those that there are then.
@@ -125,12 +173,11 @@ fn start_workers<
 >(
     scope: &Scope<'s, E>,
     rt: &'s R,
-    channel: &'s Channel<'s>,
-    site: Site<'s>,
+    site: &'s Site<'s>,
     passes: Vec<Pass>,
     started: Vec<JoinHandle<()>>,
 ) -> Vec<JoinHandle<()>>
-    requires { All (λ p. p.turn ≡ channel.now.turn.now) passes.items }
+    requires { All (λ p. p.turn ≡ site.now.channel.now.turn.now) passes.items }
 {
     let mut started = started;
     for pass in passes {
@@ -142,8 +189,8 @@ fn start_workers<
         };
         let worker = scope.spawn(
             move || -> ()
-                requires { pass.turn ≡ channel.now.turn.now }
-            { serve(post, site, Station::new(rt, site.alloc, channel, pass)) },
+                requires { pass.turn ≡ site.now.channel.now.turn.now }
+            { serve(rt, site, post, pass) },
         );
         if let Ok(worker) = worker {
             let _ = started.push(worker);
@@ -178,55 +225,36 @@ fn run_threads<
         + Eprint
         + Env
         + Sync,
->(rt: &R, channel: &Channel<'_>, site: Site<'_>, passes: Vec<Pass>) -> Result<(), AllocError>
-    requires { All (λ p. p.turn ≡ channel.now.turn.now) passes.items }
+>(rt: &R, site: &Site<'_>, passes: Vec<Pass>) -> Result<(), AllocError>
+    requires { All (λ p. p.turn ≡ site.now.channel.now.turn.now) passes.items }
 {
-    let closed = AtomicBool::new(false);
-    let household = Household {
-        jobs: channel.jobs,
-        closed: &closed,
-    };
-    let household = &household;
-    let planners = site.settings.plain.workers.planners;
     thread::scope(
         thread::scope_env(),
         rt,
         move |scope| -> Result<(), AllocError>
-            requires { All (λ p. p.turn ≡ channel.now.turn.now) passes.items }
+            requires { All (λ p. p.turn ≡ site.now.channel.now.turn.now) passes.items }
         {
             let room = Vec::with_capacity(site.alloc, passes.len())?;
             let mut passes = passes;
-            let Some(mut last) = passes.pop() else {
+            let Some(last) = passes.pop() else {
                 return Ok(());
             };
+            let (jobs, planners) = (site.channel.jobs, site.settings.plain.workers.planners);
             let wanted = Crew::whole(passes.len(), planners);
-            let keeper = scope.spawn(
-                move || -> ()
-                    requires { last.turn ≡ channel.now.turn.now }
-                {
-                    keep_house(
-                        rt,
-                        site.alloc,
-                        channel.turn,
-                        site.settings,
-                        household,
-                        &mut last,
-                    )
-                },
-            );
-            let workers = start_workers(scope, rt, channel, site, passes, room);
+            let keeps_house = start_keeper(scope, rt, site, last);
+            let workers = start_workers(scope, rt, site, passes, room);
             let started = Crew {
-                keeps_house: keeper.is_ok(),
+                keeps_house,
                 workers: workers.len() as u64,
-                planners: start_planners(scope, rt, site.alloc, channel.jobs, planners),
+                planners: start_planners(scope, rt, site.alloc, jobs, planners),
             };
             tell_fewer_threads(&Log::new(rt), started, wanted);
             for worker in workers {
                 worker.join(rt);
             }
-            channel.jobs.close(rt);
-            household.closed.store(true, Ordering::SeqCst);
-            channel.turn.tell(rt);
+            jobs.close(rt);
+            site.closed.store(true, Ordering::SeqCst);
+            site.channel.turn.tell(rt);
             if started.workers == 0 {
                 return Err(AllocError);
             }
