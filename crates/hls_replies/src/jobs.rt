@@ -98,12 +98,7 @@ fn certificate_answer(text: CertificateText) -> Result<Answer, AllocError>
     ensures { IfOk result (λ a. a ≡ text_answer Status.Done text) }
 {
     let content = Content::of_certificate(text)?;
-    Ok(Answer::of_content(
-        Status::Done,
-        Kind::Text,
-        Extra::Nothing,
-        content,
-    ))
+    Ok(Answer::of_content(Status::Done, Kind::Text, Extra::Nothing, content))
 }
 
 /// A file of a job: a playlist, a certificate, or a part of a rendition's resource, each from the job's own reply. 409 where
