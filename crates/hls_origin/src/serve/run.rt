@@ -4,8 +4,8 @@ ghost use Rattle.hls_origin.specs.ServeRun.{EndsServe};
 
 use hls_house::{Log, tell_listening};
 use hls_server::{run_server, tell_start};
-use hls_settings::{Address, Settings, SettingsFault, read_settings};
-use std::alloc::{AllocError, Global};
+use hls_settings::{Address, SettingsFault, read_settings};
+use std::alloc::Global;
 use std::convert::AsStr;
 use std::io::Eprint;
 use std::net::{Ipv4Addr, Net, SocketAddrV4, TcpListener, TcpStream};
@@ -32,30 +32,6 @@ fn socket_of(address: Address) -> SocketAddrV4 {
     SocketAddrV4::new(ip, address.port)
 }
 
-/// Says where it listens and what the machine has for it, and serves until the server ends.
-fn serve_on<R>(
-    rt: &R,
-    alloc: Global,
-    settings: &Settings,
-    listener: &TcpListener,
-) -> Result<(), AllocError>
-where
-    R: Net<Listener = TcpListener, Stream = TcpStream>
-        + Threads
-        + Wait
-        + Clock
-        + Eprint
-        + Env
-        + Files
-        + Sync,
-{
-    if let Ok(address) = listener.local_addr() {
-        tell_listening(rt, address, settings);
-    }
-    tell_start(&Log::new(rt), alloc, settings);
-    run_server(rt, alloc, settings, listener, None)
-}
-
 /// Reads the words, listens, and serves. It says on standard error where it listens, and what comes of each encoder's body.
 pub fn run_serve<'a, S: AsStr, R>(rt: &R, alloc: Global, words: &'a [S]) -> ServeEnd
 where
@@ -77,7 +53,11 @@ where
     let Ok(listener) = TcpListener::bind(rt, socket_of(settings.plain.address)) else {
         return ServeEnd::BindFailed;
     };
-    match serve_on(rt, alloc, &settings, &listener) {
+    if let Ok(address) = listener.local_addr() {
+        tell_listening(rt, address, &settings);
+    }
+    tell_start(&Log::new(rt), alloc, &settings);
+    match run_server(rt, alloc, &settings, &listener, None) {
         Ok(()) => ServeEnd::Done,
         Err(_) => ServeEnd::Memory,
     }
