@@ -1,9 +1,7 @@
-//! Tests of playlists: what is written and what is read, byte by byte.
+//! Tests of playlists that are read, line by line.
 #![tactic(auto)]
 
 #[cfg(test)]
 mod read;
 #[cfg(test)]
 mod texts;
-#[cfg(test)]
-mod written;
