@@ -1,5 +1,7 @@
-//! Tests of what a state or a job is replied as, byte by byte.
+//! Tests of what a state or a job is replied as where requests for memory are refused.
 #![tactic(auto)]
 
 #[cfg(test)]
-mod replies;
+mod refused;
+#[cfg(test)]
+mod refused_jobs;
