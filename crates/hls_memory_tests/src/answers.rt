@@ -1,6 +1,6 @@
 //! Answers about jobs and queries, and the replies that go out for them: where memory was wanted there is none.
 
-use crate::told::{Call, Told, are_ample, are_held};
+use crate::told::Told;
 use hls_catchup::JobFault;
 use hls_fakes::goes_out;
 use hls_replies::{Answer, added_answer, output_of, query_answer, removed_answer};
@@ -58,20 +58,19 @@ fn told(alloc: Global, act: Act, reply: &[u8]) -> Told {
     Told::answer(goes_out(output, reply))
 }
 
-impl Call for (Act, &'static [u8]) {
-    type Lent = ();
-
-    fn told(self, alloc: Global, _lent: &()) -> Told {
-        told(alloc, self.0, self.1)
+#[test]
+fn ample_memory_answers(rt: HostRuntime) {
+    let alloc = rt.alloc();
+    for (act, reply) in GIVEN {
+        assert_eq!(rt; told(alloc, act, reply), Told::Ample, "{act:?}");
     }
 }
 
 #[test]
-fn ample_memory_answers(rt: HostRuntime) {
-    are_ample(&rt, rt.alloc(), &GIVEN);
-}
-
-#[test]
 fn refused_memory_answers_once_more(rt: HostRuntime) {
-    are_held(&rt, rt.alloc(), &GIVEN);
+    let alloc = rt.alloc();
+    for (act, reply) in GIVEN {
+        let first = told(alloc, act, reply);
+        assert!(rt; first.is_held(told(alloc, act, reply)));
+    }
 }

@@ -1,7 +1,7 @@
 //! Tables of places, plans and certificates. Five places at 0, 3, 6, 7 and 11 s, whose least plan was worked out by hand, and
 //! two places too far apart for a plan.
 
-use crate::told::{Call, Made, Told, are_ample, are_held, made_at_last};
+use crate::told::Told;
 use hls_check::{check, check_rows};
 use hls_check_laws::{
     CertFault, Certificate, CostRule, Goal, PlaceTable, PrintedTable, Spot, Spots, Verdict,
@@ -59,6 +59,13 @@ fn table(alloc: Global, times: &[u64]) -> Option<PlaceTable> {
     PlaceTable::try_new(PrintedTable::try_new(GOAL, 1, places)?)
 }
 
+fn table_at_last(alloc: Global, times: &[u64]) -> Option<PlaceTable> {
+    match table(alloc, times) {
+        Some(table) => Some(table),
+        None => table(alloc, times),
+    }
+}
+
 fn is_place(spots: &Spots, number: usize, seconds: u64) -> bool {
     match spots.as_slice() {
         [only] => *only == spot(number, seconds),
@@ -69,12 +76,12 @@ fn is_place(spots: &Spots, number: usize, seconds: u64) -> bool {
 /// Whether it's the table of these times.
 fn is_table(table: &PrintedTable, times: &[u64]) -> bool {
     let places = table.places();
-    for (number, (place, seconds)) in (0..).zip(places.iter().zip(times)) {
-        if !is_place(place, number, *seconds) {
-            return false;
-        }
-    }
-    table.goal() == GOAL && table.renditions() == 1 && places.len() == times.len()
+    table.goal() == GOAL
+        && table.renditions() == 1
+        && places.len() == times.len()
+        && (0..).zip(places.iter().zip(times)).all(|(number, (place, seconds))| is_place(
+            place, number, *seconds,
+        ))
 }
 
 fn is_least(planned: &Planned) -> bool {
@@ -138,76 +145,69 @@ fn told_by(alloc: Global, table: &PlaceTable, act: Act) -> Told {
     }
 }
 
-impl Made for PlaceTable {
-    fn made(alloc: Global) -> Option<PlaceTable> {
-        table(alloc, &TIMES)
-    }
-}
-
-impl Call for Act {
-    type Lent = PlaceTable;
-
-    /// What is told of the five places, which stay as they were.
-    fn told(self, alloc: Global, table: &PlaceTable) -> Told {
-        let told = told_by(alloc, table, self);
-        if is_table(table.table(), &TIMES) {
-            told
-        } else {
-            Told::Astray
-        }
+/// What is told of the five places, which stay as they were.
+fn told(alloc: Global, table: &PlaceTable, act: Act) -> Told {
+    let told = told_by(alloc, table, act);
+    if is_table(table.table(), &TIMES) {
+        told
+    } else {
+        Told::Astray
     }
 }
 
 #[test]
 fn ample_memory_copies_and_plans(rt: HostRuntime) {
-    are_ample(&rt, rt.alloc(), &COPIES);
-    are_ample(&rt, rt.alloc(), &PLANS);
+    let alloc = rt.alloc();
+    let table = table(alloc, &TIMES).expect(&rt, "a table");
+    for act in COPIES {
+        assert_eq!(rt; told(alloc, &table, act), Told::Ample, "{act:?}");
+    }
+    for act in PLANS {
+        assert_eq!(rt; told(alloc, &table, act), Told::Ample, "{act:?}");
+    }
 }
 
 #[test]
 fn refused_memory_copies_tables_once_more(rt: HostRuntime) {
-    are_held(&rt, rt.alloc(), &COPIES);
-}
-
-/// The table of the two places.
-#[derive(Drop)]
-struct Far(PlaceTable);
-
-impl Made for Far {
-    fn made(alloc: Global) -> Option<Far> {
-        Some(Far(table(alloc, &FAR)?))
+    let alloc = rt.alloc();
+    let table = table_at_last(alloc, &TIMES).expect(&rt, "a table");
+    for act in COPIES {
+        let first = told(alloc, &table, act);
+        assert!(rt; first.is_held(told(alloc, &table, act)));
     }
 }
 
-/// A plan over the two places, between which there is none.
-#[derive(Clone, Copy, Debug)]
-struct PlanFar;
+#[test]
+fn refused_memory_plans_once_more(rt: HostRuntime) {
+    let alloc = rt.alloc();
+    let table = table_at_last(alloc, &TIMES).expect(&rt, "a table");
+    for act in PLANS {
+        let first = told(alloc, &table, act);
+        assert!(rt; first.is_held(told(alloc, &table, act)));
+    }
+}
 
-impl Call for PlanFar {
-    type Lent = Far;
-
-    fn told(self, alloc: Global, far: &Far) -> Told {
-        let table = &far.0;
-        match plan(alloc, table) {
-            Ok(planned) => Told::answer(is_none(&planned) && is_table(table.table(), &FAR)),
-            Err(_) => Told::wanted(is_table(table.table(), &FAR)),
-        }
+/// What is told of the two places, between which there is no plan.
+fn told_of_far(alloc: Global, table: &PlaceTable) -> Told {
+    match plan(alloc, table) {
+        Ok(planned) => Told::answer(is_none(&planned) && is_table(table.table(), &FAR)),
+        Err(_) => Told::wanted(is_table(table.table(), &FAR)),
     }
 }
 
 #[test]
 fn ample_memory_finds_no_plan(rt: HostRuntime) {
-    are_ample(&rt, rt.alloc(), &[PlanFar]);
+    let alloc = rt.alloc();
+    let table = table(alloc, &FAR).expect(&rt, "a table");
+    assert_eq!(rt; told_of_far(alloc, &table), Told::Ample);
 }
 
 #[test]
 fn refused_memory_is_no_closed_set(rt: HostRuntime) {
-    are_held(&rt, rt.alloc(), &[PlanFar]);
-}
-
-#[test]
-fn refused_memory_plans_once_more(rt: HostRuntime) {
-    are_held(&rt, rt.alloc(), &PLANS);
+    let alloc = rt.alloc();
+    let table = table_at_last(alloc, &FAR).expect(&rt, "a table");
+    let first = told_of_far(alloc, &table);
+    assert!(rt; first.is_held(told_of_far(alloc, &table)));
 }
 
 /// What is told of the text: that it is the certificate.
@@ -235,52 +235,43 @@ fn told_written(alloc: Global, certificate: &Certificate) -> Told {
     }
 }
 
-impl Made for Certificate {
-    fn made(alloc: Global) -> Option<Certificate> {
-        read(alloc, TEXT.as_bytes()).ok()
-    }
-}
-
-/// What takes memory beside a certificate.
-#[derive(Clone, Copy, Debug)]
-enum OfText {
-    Read,
-    Write,
-}
-
-impl Call for OfText {
-    type Lent = Certificate;
-
-    fn told(self, alloc: Global, certificate: &Certificate) -> Told {
-        match self {
-            OfText::Read => told_of_text(alloc),
-            OfText::Write => told_written(alloc, certificate),
-        }
-    }
-}
-
 #[test]
 fn ample_memory_reads_and_writes_certificates(rt: HostRuntime) {
-    are_ample(&rt, rt.alloc(), &[OfText::Read, OfText::Write]);
-    assert_eq!(rt; told_of_wrong_text(rt.alloc()), Told::Ample);
+    let alloc = rt.alloc();
+    assert_eq!(rt; told_of_text(alloc), Told::Ample);
+    assert_eq!(rt; told_of_wrong_text(alloc), Told::Ample);
+    let certificate = read(alloc, TEXT.as_bytes()).expect(&rt, "a certificate");
+    assert_eq!(rt; told_written(alloc, &certificate), Told::Ample);
 }
 
 #[test]
 fn refused_memory_reads_certificates_once_more(rt: HostRuntime) {
-    are_held(&rt, rt.alloc(), &[OfText::Read]);
-    assert_eq!(rt; told_of_wrong_text(rt.alloc()), Told::Ample);
+    let alloc = rt.alloc();
+    let first = told_of_text(alloc);
+    assert!(rt; first.is_held(told_of_text(alloc)));
+    assert!(rt; told_of_wrong_text(alloc) == Told::Ample);
+}
+
+fn certificate_at_last(alloc: Global) -> Option<Certificate> {
+    match read(alloc, TEXT.as_bytes()) {
+        Ok(certificate) => Some(certificate),
+        Err(_) => read(alloc, TEXT.as_bytes()).ok(),
+    }
 }
 
 #[test]
 fn refused_memory_writes_certificates_once_more(rt: HostRuntime) {
-    are_held(&rt, rt.alloc(), &[OfText::Write]);
+    let alloc = rt.alloc();
+    let certificate = certificate_at_last(alloc).expect(&rt, "a certificate");
+    let first = told_written(alloc, &certificate);
+    assert!(rt; first.is_held(told_written(alloc, &certificate)));
 }
 
 // It takes no memory but for the threads, without which it goes on in this one.
 #[test]
 fn refused_memory_checks_all_the_same(rt: HostRuntime) {
     let alloc = rt.alloc();
-    let certificate: Certificate = made_at_last(&rt, alloc);
+    let certificate = certificate_at_last(alloc).expect(&rt, "a certificate");
     let verdict = Ok(Verdict::Cut { cost: 1_000_000 });
     assert!(rt; check_rows(&rt, alloc, &certificate) == verdict);
 }

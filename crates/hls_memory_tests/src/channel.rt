@@ -1,33 +1,40 @@
 //! A channel of a video and perhaps an audio rendition in some of its states; none where memory was refused. Target 6 s,
 //! preferred length 4 s; its init sections have 600 bytes, and its units 4 s and 1000 bytes.
 
-ghost use Rattle.std.specs.Prelude.{◌≤◌, ◌<◌, ◌^◌, length, IfSome};
-ghost use Rattle.hls_core_laws.specs.State.{State};
+ghost use Rattle.std.specs.Prelude.{IfSome};
+ghost use Rattle.hls_media_laws.specs.Meaning.{IsInit};
 ghost use Rattle.hls_core_laws.specs.Moves.{IsFitting, IsFittingAsSeen};
 
-use crate::told::Made;
+use bytes::Bytes;
 use hls_core::config::Config;
 use hls_core::snapshot::Snapshot;
+use hls_core::step::step;
+use hls_core::stepped::Stepped;
 use hls_core_laws::event::Event;
 use hls_core_laws::rendition::Rendition;
-use hls_sample_channels::{accept_event, begin_event, opened, rendition};
+use hls_media::{read_facts, read_init};
+use hls_media_laws::init::Init;
+use hls_samples::{init_bytes, unit_bytes};
 use std::alloc::Global;
 use std::sync::Arc;
 
 pub const SECOND: u64 = 1_000_000;
 
+fn rendition(alloc: Global, name: &[u8], video: bool) -> Option<Rendition> {
+    Some(Rendition {
+        name: Bytes::copy_from_slice(alloc, name).ok()?,
+        video,
+        bandwidth: 3_000_000,
+        tolerance: 0,
+    })
+}
+
 /// A video rendition, and an audio one where two are asked for.
-pub fn renditions(alloc: Global, two: bool) -> Option<Vec<Rendition>>
-    ensures { IfSome result (λ renditions. length renditions.items < 2 ^ 64) }
-{
+pub fn renditions(alloc: Global, two: bool) -> Option<Vec<Rendition>> {
     let mut renditions = Vec::new(alloc);
-    renditions
-        .push(rendition(alloc, b"v1", true, 0).ok()?)
-        .ok()?;
+    renditions.push(rendition(alloc, b"v1", true)?).ok()?;
     if two {
-        renditions
-            .push(rendition(alloc, b"en", false, 0).ok()?)
-            .ok()?;
+        renditions.push(rendition(alloc, b"en", false)?).ok()?;
     }
     Some(renditions)
 }
@@ -37,18 +44,18 @@ pub fn config(alloc: Global, two: bool) -> Option<Config> {
 }
 
 /// The channel before anything came.
-pub fn opening(alloc: Global, two: bool) -> Option<Snapshot>
-    ensures { IfSome result (λ s. 0 ≤ length s.log) }
-{
+pub fn opening(alloc: Global, two: bool) -> Option<Snapshot> {
     Snapshot::first(alloc, config(alloc, two)?).ok()
 }
 
-/// The init section of a rendition.
-pub fn begin(alloc: Global, rendition: usize) -> Option<Event>
-    ensures fits { IfSome result (λ event. (s : State) → IsFitting s event) }
-    ensures seen { IfSome result (λ event. (s : State) → IsFittingAsSeen s event) }
+/// An init section, and its bytes.
+pub fn init(alloc: Global) -> Option<(Init, Bytes)>
+    ensures { IfSome result (λ r. IsInit r.1 r.0) }
 {
-    begin_event(alloc, rendition, b"vide", 90000).ok()
+    let bytes = init_bytes(alloc, b"vide", 90000).ok()?;
+    let init = read_init(alloc, &bytes).ok()?;
+    let bytes = Bytes::copy_from_slice(alloc, &bytes).ok()?;
+    Some((init, bytes))
 }
 
 /// The first rendition's unit of a number, from 0.
@@ -57,41 +64,70 @@ pub fn accept(alloc: Global, snapshot: &Snapshot, number: u32) -> Option<Event>
     ensures seen { IfSome result (λ event. IsFittingAsSeen snapshot.now event) }
 {
     let start = u64::from(number) * 360_000;
-    accept_event(alloc, snapshot, 0, start, 360_000).ok()
+    let bytes = unit_bytes(alloc, start, 360_000, true, 1000).ok()?;
+    let facts = read_facts(snapshot.recording(0)?.init(), &bytes).ok()?;
+    let bytes = Bytes::copy_from_slice(alloc, &bytes).ok()?;
+    Some(Event::Accept {
+        rendition: 0,
+        facts,
+        bytes,
+    })
 }
 
-/// Three units of one rendition, of which more may come: version 4.
-fn units(alloc: Global) -> Option<Arc<Snapshot>>
-    ensures { IfSome result (λ s. 0 ≤ length s.value.log) }
+/// The next snapshot; none where memory was refused, or the event isn't new.
+fn stepped(alloc: Global, snapshot: &Snapshot, event: Event) -> Option<Arc<Snapshot>>
+    requires { IsFitting snapshot.now event }
 {
-    let none = opened(alloc).ok()?;
-    hls_sample_channels::with_units(alloc, &none, 0, &[(0, 4), (4, 8), (8, 12)]).ok()
-}
-
-/// The same, finished: version 5.
-pub fn finished(alloc: Global) -> Option<Arc<Snapshot>>
-    ensures { IfSome result (λ s. 0 ≤ length s.value.log) }
-{
-    let units = units(alloc)?;
-    hls_sample_channels::finished(alloc, &units, 0).ok()
-}
-
-/// Three units of a rendition that has ended.
-#[derive(Drop)]
-pub struct Ended(pub Arc<Snapshot>);
-
-impl Made for Ended {
-    fn made(alloc: Global) -> Option<Ended> {
-        Some(Ended(finished(alloc)?))
+    match step(snapshot, alloc, 0, event) {
+        Ok(Stepped::New(next)) => Some(next),
+        _ => None,
     }
 }
 
-/// Three units of a rendition that goes on.
-#[derive(Drop)]
-pub struct Ongoing(pub Arc<Snapshot>);
+/// The first rendition begun.
+fn begun(alloc: Global) -> Option<Arc<Snapshot>> {
+    let none = opening(alloc, false)?;
+    let (init, bytes) = init(alloc)?;
+    let event = Event::Begin {
+        rendition: 0,
+        init,
+        bytes,
+    };
+    stepped(alloc, &none, event)
+}
 
-impl Made for Ongoing {
-    fn made(alloc: Global) -> Option<Ongoing> {
-        Some(Ongoing(units(alloc)?))
+fn with_unit(alloc: Global, snapshot: &Snapshot, number: u32) -> Option<Arc<Snapshot>> {
+    let event = accept(alloc, snapshot, number)?;
+    stepped(alloc, snapshot, event)
+}
+
+/// The first rendition begun, with so many units.
+pub fn with_units(alloc: Global, units: u32) -> Option<Arc<Snapshot>> {
+    let mut state = begun(alloc)?;
+    for number in 0..units {
+        state = with_unit(alloc, &state, number)?;
+    }
+    Some(state)
+}
+
+/// Three units of one rendition, finished: version 5.
+pub fn finished(alloc: Global) -> Option<Arc<Snapshot>> {
+    let units = with_units(alloc, 3)?;
+    stepped(alloc, &units, Event::Finish { rendition: 0 })
+}
+
+/// The same, made once more where memory was refused.
+pub fn finished_at_last(alloc: Global) -> Option<Arc<Snapshot>> {
+    match finished(alloc) {
+        Some(snapshot) => Some(snapshot),
+        None => finished(alloc),
+    }
+}
+
+/// Three units of one rendition of which more may come, made once more where memory was refused: version 4.
+pub fn units_at_last(alloc: Global) -> Option<Arc<Snapshot>> {
+    match with_units(alloc, 3) {
+        Some(snapshot) => Some(snapshot),
+        None => with_units(alloc, 3),
     }
 }

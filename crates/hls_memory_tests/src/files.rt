@@ -1,7 +1,7 @@
 //! The line and the files of a job for all of a channel of three units.
 
-use crate::channel::{SECOND, finished};
-use crate::told::{Call, Made, Told, are_ample, are_held};
+use crate::channel::{SECOND, finished_at_last};
+use crate::told::Told;
 use hls_catchup::{
     Job, JobTable, Reply, Request, certificate_text, job_line, master_text, playlist_text,
     reply_in, run_job,
@@ -36,6 +36,13 @@ fn job(alloc: Global, state: &Arc<Snapshot>) -> Option<Job> {
     match jobs.get(id) {
         Ok(Job::Finished(answered)) => Some(Job::Finished(answered)),
         _ => None,
+    }
+}
+
+fn job_at_last(alloc: Global, state: &Arc<Snapshot>) -> Option<Job> {
+    match job(alloc, state) {
+        Some(job) => Some(job),
+        None => job(alloc, state),
     }
 }
 
@@ -95,31 +102,31 @@ fn told_line(alloc: Global, job: &Job) -> Told {
     }
 }
 
-impl Made for Job {
-    fn made(alloc: Global) -> Option<Job> {
-        let state = finished(alloc)?;
-        job(alloc, &state)
-    }
-}
-
-impl Call for Act {
-    type Lent = Job;
-
-    fn told(self, alloc: Global, job: &Job) -> Told {
-        match (self, reply_in(job)) {
-            (Act::Line, Ok(_)) => told_line(alloc, job),
-            (_, Ok(reply)) => told_of_reply(alloc, reply, self),
-            (_, Err(_)) => Told::Astray,
-        }
+fn told(alloc: Global, job: &Job, act: Act) -> Told {
+    match (act, reply_in(job)) {
+        (Act::Line, Ok(_)) => told_line(alloc, job),
+        (_, Ok(reply)) => told_of_reply(alloc, reply, act),
+        (_, Err(_)) => Told::Astray,
     }
 }
 
 #[test]
 fn ample_memory_writes_the_files(rt: HostRuntime) {
-    are_ample(&rt, rt.alloc(), &ACTS);
+    let alloc = rt.alloc();
+    let state = finished_at_last(alloc).expect(&rt, "a channel");
+    let job = job(alloc, &state).expect(&rt, "a job");
+    for act in ACTS {
+        assert_eq!(rt; told(alloc, &job, act), Told::Ample, "{act:?}");
+    }
 }
 
 #[test]
 fn refused_memory_writes_the_files_once_more(rt: HostRuntime) {
-    are_held(&rt, rt.alloc(), &ACTS);
+    let alloc = rt.alloc();
+    let state = finished_at_last(alloc).expect(&rt, "a channel");
+    let job = job_at_last(alloc, &state).expect(&rt, "a job");
+    for act in ACTS {
+        let first = told(alloc, &job, act);
+        assert!(rt; first.is_held(told(alloc, &job, act)));
+    }
 }

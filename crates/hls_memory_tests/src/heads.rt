@@ -1,6 +1,6 @@
 //! Heads of replies and small replies: of one that wanted memory there is none, or the fixed reply where a session says it.
 
-use crate::told::{Call, Told, are_ample, are_held};
+use crate::told::Told;
 use hls_fakes::Page;
 use hls_http::{Input, Session, SessionEnd, Source, head_bytes, refusal_body, reply_output};
 use hls_http_laws::reply::{Extra, Kind, ReplyHead, Status, no_memory_head_text};
@@ -32,9 +32,14 @@ enum Act {
     Session,
 }
 
-const TEXTS: [Act; 4] = [Act::Bytes, Act::Refusal, Act::Output, Act::Session];
-
-const INPUTS: [Act; 2] = [Act::Source, Act::Input];
+const ACTS: [Act; 6] = [
+    Act::Bytes,
+    Act::Refusal,
+    Act::Source,
+    Act::Input,
+    Act::Output,
+    Act::Session,
+];
 
 /// How a session replies to HEAD.
 fn told_session(alloc: Global) -> Told {
@@ -50,44 +55,45 @@ fn told_session(alloc: Global) -> Told {
     }
 }
 
-impl Call for Act {
-    type Lent = ();
-
-    fn told(self, alloc: Global, _lent: &()) -> Told {
-        match self {
-            Act::Bytes => match head_bytes(alloc, &head(), 3) {
-                Ok(bytes) => Told::answer(bytes.as_slice() == HEAD),
-                Err(_) => Told::Wanted,
-            },
-            Act::Refusal => match refusal_body(alloc, "NotYet") {
-                Ok(bytes) => Told::answer(bytes.as_slice() == b"refused NotYet\n".as_slice()),
-                Err(_) => Told::Wanted,
-            },
-            Act::Source => match Source::new(alloc, b"abc".as_slice()) {
-                Ok(source) => Told::answer(source.held().is_empty()),
-                Err(_) => Told::Wanted,
-            },
-            Act::Input => match Input::new(alloc) {
-                Ok(input) => Told::answer(input.unread().is_empty()),
-                Err(_) => Told::Wanted,
-            },
-            Act::Output => match reply_output(alloc, &head(), Text::media(b"abc"), false) {
-                Ok(output) => Told::answer(output.chunk() == REPLY),
-                Err(_) => Told::Wanted,
-            },
-            Act::Session => told_session(alloc),
-        }
+fn told(alloc: Global, act: Act) -> Told {
+    match act {
+        Act::Bytes => match head_bytes(alloc, &head(), 3) {
+            Ok(bytes) => Told::answer(bytes.as_slice() == HEAD),
+            Err(_) => Told::Wanted,
+        },
+        Act::Refusal => match refusal_body(alloc, "NotYet") {
+            Ok(bytes) => Told::answer(bytes.as_slice() == b"refused NotYet\n".as_slice()),
+            Err(_) => Told::Wanted,
+        },
+        Act::Source => match Source::new(alloc, b"abc".as_slice()) {
+            Ok(source) => Told::answer(source.held().is_empty()),
+            Err(_) => Told::Wanted,
+        },
+        Act::Input => match Input::new(alloc) {
+            Ok(input) => Told::answer(input.unread().is_empty()),
+            Err(_) => Told::Wanted,
+        },
+        Act::Output => match reply_output(alloc, &head(), Text::media(b"abc"), false) {
+            Ok(output) => Told::answer(output.chunk() == REPLY),
+            Err(_) => Told::Wanted,
+        },
+        Act::Session => told_session(alloc),
     }
 }
 
 #[test]
 fn ample_memory_writes_heads(rt: HostRuntime) {
-    are_ample(&rt, rt.alloc(), &TEXTS);
-    are_ample(&rt, rt.alloc(), &INPUTS);
+    let alloc = rt.alloc();
+    for act in ACTS {
+        assert_eq!(rt; told(alloc, act), Told::Ample, "{act:?}");
+    }
 }
 
 #[test]
 fn refused_memory_writes_heads_once_more(rt: HostRuntime) {
-    are_held(&rt, rt.alloc(), &TEXTS);
-    are_held(&rt, rt.alloc(), &INPUTS);
+    let alloc = rt.alloc();
+    for act in ACTS {
+        let first = told(alloc, act);
+        assert!(rt; first.is_held(told(alloc, act)));
+    }
 }

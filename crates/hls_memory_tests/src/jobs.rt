@@ -1,12 +1,8 @@
 //! Jobs under a lock, and answers that are kept.
 
-use crate::channel::{Ended, SECOND};
-use crate::lists::is_master;
-use crate::told::{Call, Told, are_ample, are_held, made_at_last};
-use hls_catchup::{
-    Answered, CatchFault, Gate, Job, JobTable, Jobs, Reply, Request, answer, job_master, table_of,
-    work_loop,
-};
+use crate::channel::{SECOND, finished_at_last};
+use crate::told::Told;
+use hls_catchup::{Answered, Gate, Job, JobTable, Jobs, Request, work_loop};
 use hls_check_laws::CostRule;
 use hls_core::snapshot::Snapshot;
 use std::alloc::Global;
@@ -47,87 +43,28 @@ fn told_answered(alloc: Global, state: &Arc<Snapshot>) -> Told {
     }
 }
 
-fn told_jobs(alloc: Global) -> Told {
+fn told_table(alloc: Global) -> Told {
     match JobTable::new(alloc) {
         Ok(jobs) => Told::answer(jobs.len() == 0),
         Err(_) => Told::Wanted,
     }
 }
 
-/// The table that the request is answered from.
-fn told_places(alloc: Global, state: &Snapshot) -> Told {
-    match table_of(alloc, state, REQUEST) {
-        Ok(table) => Told::answer(table.len() == 4 && state.version() == 5),
-        Err(CatchFault::Memory) => Told::wanted(state.version() == 5),
-        Err(_) => Told::Astray,
-    }
-}
-
-/// The master playlist of a reply.
-fn told_of_reply(alloc: Global, reply: &Reply) -> Told {
-    match job_master(alloc, reply) {
-        Ok(list) => Told::answer(is_master(&list, "0.m3u8")),
-        Err(_) => Told::Wanted,
-    }
-}
-
-/// The same, where a reply that was refused memory still gives it.
-fn told_reply(alloc: Global, reply: &Reply) -> Told {
-    match told_of_reply(alloc, reply) {
-        Told::Wanted => Told::wanted(told_of_reply(alloc, reply) == Told::Ample),
-        told => told,
-    }
-}
-
-/// The master playlist of the reply to the request.
-fn told_master(alloc: Global, state: &Arc<Snapshot>) -> Told {
-    match answer(alloc, state, REQUEST) {
-        Ok(reply) => told_reply(alloc, &reply),
-        Err(CatchFault::Memory) => Told::Wanted,
-        Err(_) => Told::Astray,
-    }
-}
-
-/// What takes memory over the channel.
-#[derive(Clone, Copy, Debug)]
-enum Act {
-    Answer,
-    Jobs,
-    Places,
-    Master,
-}
-
-impl Call for Act {
-    type Lent = Ended;
-
-    fn told(self, alloc: Global, ended: &Ended) -> Told {
-        match self {
-            Act::Answer => told_answered(alloc, &ended.0),
-            Act::Jobs => told_jobs(alloc),
-            Act::Places => told_places(alloc, &ended.0),
-            Act::Master => told_master(alloc, &ended.0),
-        }
-    }
-}
-
 #[test]
 fn ample_memory_answers(rt: HostRuntime) {
-    are_ample(&rt, rt.alloc(), &[Act::Answer, Act::Jobs]);
+    let alloc = rt.alloc();
+    let state = finished_at_last(alloc).expect(&rt, "a channel");
+    assert_eq!(rt; told_answered(alloc, &state), Told::Ample);
+    assert_eq!(rt; told_table(alloc), Told::Ample);
 }
 
 #[test]
 fn refused_memory_is_no_answer(rt: HostRuntime) {
-    are_held(&rt, rt.alloc(), &[Act::Answer, Act::Jobs]);
-}
-
-#[test]
-fn ample_memory_lists_the_job(rt: HostRuntime) {
-    are_ample(&rt, rt.alloc(), &[Act::Places, Act::Master]);
-}
-
-#[test]
-fn refused_memory_lists_the_job_once_more(rt: HostRuntime) {
-    are_held(&rt, rt.alloc(), &[Act::Places, Act::Master]);
+    let alloc = rt.alloc();
+    let state = finished_at_last(alloc).expect(&rt, "a channel");
+    let first = told_answered(alloc, &state);
+    assert!(rt; first.is_held(told_answered(alloc, &state)));
+    assert!(rt; told_table(alloc).is_held(told_table(alloc)));
 }
 
 /// What the job of the next id comes to in a loop, and that it's gone once it was taken away.
@@ -161,19 +98,19 @@ fn jobs_at_last(alloc: Global) -> Option<Jobs> {
 #[test]
 fn ample_memory_works_jobs_off(rt: HostRuntime) {
     let alloc = rt.alloc();
-    let ended: Ended = made_at_last(&rt, alloc);
+    let state = finished_at_last(alloc).expect(&rt, "a channel");
     let jobs = jobs_at_last(alloc).expect(&rt, "jobs");
     // so that the loop ends where none waits
     jobs.close(&rt);
-    assert_eq!(rt; told_loop(&rt, alloc, &jobs, &ended.0, 1), Told::Ample);
+    assert_eq!(rt; told_loop(&rt, alloc, &jobs, &state, 1), Told::Ample);
 }
 
 #[test]
 fn refused_memory_fails_a_job_and_works_the_next_off(rt: HostRuntime) {
     let alloc = rt.alloc();
-    let ended: Ended = made_at_last(&rt, alloc);
+    let state = finished_at_last(alloc).expect(&rt, "a channel");
     let jobs = jobs_at_last(alloc).expect(&rt, "jobs");
     jobs.close(&rt);
-    let first = told_loop(&rt, alloc, &jobs, &ended.0, 1);
-    assert!(rt; first.is_held(told_loop(&rt, alloc, &jobs, &ended.0, 2)));
+    let first = told_loop(&rt, alloc, &jobs, &state, 1);
+    assert!(rt; first.is_held(told_loop(&rt, alloc, &jobs, &state, 2)));
 }

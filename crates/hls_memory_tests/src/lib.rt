@@ -22,6 +22,7 @@ mod listings;
 #[cfg(test)]
 mod lists;
 #[cfg(test)]
+#[cfg(test)]
 mod places;
 #[cfg(test)]
 mod states;

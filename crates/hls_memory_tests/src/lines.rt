@@ -1,6 +1,6 @@
 //! The live line, told three places 4 s apart and a closing one. Target 6 s, preferred length 4 s: each two make a segment.
 
-use crate::told::{Call, Made, Told, are_ample, are_held};
+use crate::told::Told;
 use hls_check_laws::{Spot, Spots};
 use hls_live::{LineFault, LiveLine};
 use hls_places_laws::Place;
@@ -47,6 +47,20 @@ fn line(alloc: Global, places: u64) -> Option<LiveLine> {
     Some(line)
 }
 
+fn line_at_last(alloc: Global, places: u64) -> Option<LiveLine> {
+    match line(alloc, places) {
+        Some(line) => Some(line),
+        None => line(alloc, places),
+    }
+}
+
+fn place_at_last(alloc: Global, number: u64) -> Option<Place> {
+    match place(alloc, number) {
+        Some(place) => Some(place),
+        None => place(alloc, number),
+    }
+}
+
 fn begins_at(place: &Place, number: u64) -> bool {
     place
         .spots
@@ -83,33 +97,16 @@ enum Act {
 
 const ACTS: [Act; 4] = [Act::Advance, Act::Tell, Act::Share, Act::Slide];
 
-/// A line of two segments, the closing place, and the line that has ended with it.
-#[derive(Drop)]
-struct Lines {
-    two: LiveLine,
-    last: Place,
-    ended: LiveLine,
-}
-
-impl Made for Lines {
-    fn made(alloc: Global) -> Option<Lines> {
-        let two = line(alloc, 3)?;
-        let last = place(alloc, 3)?;
-        let ended = advanced(alloc, &two, &last).ok()?;
-        Some(Lines { two, last, ended })
-    }
-}
-
-/// What is told of the lines and the closing place.
-fn told_by(alloc: Global, lines: &Lines, act: Act) -> Told {
+/// What is told of a line of two segments and the closing place, and of the ended line.
+fn told_by(alloc: Global, two: &LiveLine, ended: &LiveLine, last: &Place, act: Act) -> Told {
     let (told, from) = match act {
-        Act::Advance => (advanced(alloc, &lines.two, &lines.last), 0),
-        Act::Tell => (told_once(alloc, &lines.two, &lines.last), 0),
-        Act::Share => match lines.ended.share(alloc) {
+        Act::Advance => (advanced(alloc, two, last), 0),
+        Act::Tell => (told_once(alloc, two, last), 0),
+        Act::Share => match ended.share(alloc) {
             Ok(line) => (Ok(line), 0),
             Err(_) => (Err(LineFault::Memory), 0),
         },
-        Act::Slide => (lines.ended.slide(alloc, 1), 1),
+        Act::Slide => (ended.slide(alloc, 1), 1),
     };
     match told {
         Ok(line) => Told::answer(is_line(&line, from, 3, true)),
@@ -118,27 +115,39 @@ fn told_by(alloc: Global, lines: &Lines, act: Act) -> Told {
     }
 }
 
-impl Call for Act {
-    type Lent = Lines;
-
-    /// The same, where the lines stay as they were.
-    fn told(self, alloc: Global, lines: &Lines) -> Told {
-        let told = told_by(alloc, lines, self);
-        let stay = is_line(&lines.two, 0, 2, false) && is_line(&lines.ended, 0, 3, true);
-        if stay && begins_at(&lines.last, 3) {
-            told
-        } else {
-            Told::Astray
-        }
+/// The same, where the lines stay as they were.
+fn told(alloc: Global, two: &LiveLine, ended: &LiveLine, last: &Place, act: Act) -> Told {
+    let told = told_by(alloc, two, ended, last, act);
+    if is_line(two, 0, 2, false) && is_line(ended, 0, 3, true) && begins_at(last, 3) {
+        told
+    } else {
+        Told::Astray
     }
 }
 
 #[test]
 fn ample_memory_moves_the_line(rt: HostRuntime) {
-    are_ample(&rt, rt.alloc(), &ACTS);
+    let alloc = rt.alloc();
+    let two = line(alloc, 3).expect(&rt, "a line");
+    let ended = line(alloc, 4).expect(&rt, "an ended line");
+    let last = place(alloc, 3).expect(&rt, "a place");
+    for act in ACTS {
+        assert_eq!(rt;
+            told(alloc, &two, &ended, &last, act),
+            Told::Ample,
+            "{act:?}"
+        );
+    }
 }
 
 #[test]
 fn refused_memory_moves_the_line_once_more(rt: HostRuntime) {
-    are_held(&rt, rt.alloc(), &ACTS);
+    let alloc = rt.alloc();
+    let two = line_at_last(alloc, 3).expect(&rt, "a line");
+    let ended = line_at_last(alloc, 4).expect(&rt, "an ended line");
+    let last = place_at_last(alloc, 3).expect(&rt, "a place");
+    for act in ACTS {
+        let first = told(alloc, &two, &ended, &last, act);
+        assert!(rt; first.is_held(told(alloc, &two, &ended, &last, act)));
+    }
 }

@@ -2,8 +2,8 @@
 
 ghost use Rattle.hls_origin_listing.specs.Lists.{CanList};
 
-use crate::channel::Ended;
-use crate::told::{Call, Told, are_ample, are_held};
+use crate::channel::finished_at_last;
+use crate::told::Told;
 use hls_check_laws::CostRule;
 use hls_core::snapshot::Snapshot;
 use hls_m3u8::is_uri;
@@ -45,35 +45,26 @@ fn planned(certificate: bool) -> Listing
     }
 }
 
-/// What is printed.
-#[derive(Clone, Copy, Debug)]
-enum Act {
-    Each,
-    Planned,
-    Certificate,
-}
-
-const ACTS: [Act; 3] = [Act::Each, Act::Planned, Act::Certificate];
-
-impl Call for Act {
-    type Lent = Ended;
-
-    fn told(self, alloc: Global, ended: &Ended) -> Told {
-        let state = &ended.0;
-        match self {
-            Act::Each => told(alloc, state, Listing::Each, LIST),
-            Act::Planned => told(alloc, state, planned(false), LIST),
-            Act::Certificate => told(alloc, state, planned(true), CERTIFICATE),
-        }
-    }
-}
-
 #[test]
 fn ample_memory_prints(rt: HostRuntime) {
-    are_ample(&rt, rt.alloc(), &ACTS);
+    let alloc = rt.alloc();
+    let state = finished_at_last(alloc).expect(&rt, "a channel");
+    assert_eq!(rt; told(alloc, &state, Listing::Each, LIST), Told::Ample);
+    assert_eq!(rt; told(alloc, &state, planned(false), LIST), Told::Ample);
+    assert_eq!(rt;
+        told(alloc, &state, planned(true), CERTIFICATE),
+        Told::Ample
+    );
 }
 
 #[test]
 fn refused_memory_prints_once_more(rt: HostRuntime) {
-    are_held(&rt, rt.alloc(), &ACTS);
+    let alloc = rt.alloc();
+    let state = finished_at_last(alloc).expect(&rt, "a channel");
+    let first = told(alloc, &state, Listing::Each, LIST);
+    assert!(rt; first.is_held(told(alloc, &state, Listing::Each, LIST)));
+    let first = told(alloc, &state, planned(false), LIST);
+    assert!(rt; first.is_held(told(alloc, &state, planned(false), LIST)));
+    let first = told(alloc, &state, planned(true), CERTIFICATE);
+    assert!(rt; first.is_held(told(alloc, &state, planned(true), CERTIFICATE)));
 }

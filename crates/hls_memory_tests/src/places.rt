@@ -1,10 +1,10 @@
-//! A recording of three units of 4 s, its common places, and programmes.
+//! Common places and programmes, of three units of 4 s.
 
 ghost use Rattle.std.specs.Prelude.{IfSome};
 ghost use Rattle.hls_places_laws.specs.Order.{ArePlaces};
 
-use crate::channel::{Ended, SECOND};
-use crate::told::{Call, Told, are_ample, are_held};
+use crate::channel::{SECOND, finished_at_last};
+use crate::told::Told;
 use hls_check_laws::{CostRule, Goal, PlaceTable};
 use hls_places::{Cursor, Place, common, programme};
 use hls_places_laws::ProgrammeFault;
@@ -28,12 +28,10 @@ fn is_place(place: &Place, number: u64) -> bool {
 }
 
 fn are_places(places: &[Place]) -> bool {
-    for (number, place) in (0..).zip(places) {
-        if !is_place(place, number) {
-            return false;
-        }
-    }
     places.len() == 4
+        && (0..)
+            .zip(places)
+            .all(|(number, place)| is_place(place, number))
 }
 
 /// The places of the recording.
@@ -41,13 +39,6 @@ fn found(alloc: Global, recording: &Recording) -> Option<Vec<Place>>
     ensures { IfSome result (λ places. ArePlaces places.items) }
 {
     common(alloc, &[recording], &[0], &[true]).ok()
-}
-
-fn told_shared(alloc: Global, recording: &Recording) -> Told {
-    match recording.share(alloc) {
-        Ok(shared) => Told::answer(shared.count() == 3 && shared.total() == 3600),
-        Err(_) => Told::wanted(recording.count() == 3 && recording.total() == 3600),
-    }
 }
 
 fn told_common(alloc: Global, recording: &Recording) -> Told {
@@ -67,12 +58,12 @@ fn told_cursor(alloc: Global) -> Told {
 /// Whether it's the table of the places from 4 s to 12 s.
 fn is_programme(table: &PlaceTable) -> bool {
     let starts = [4 * SECOND, 8 * SECOND, 12 * SECOND];
-    for (spots, start) in table.places().iter().zip(&starts) {
-        if spots.as_slice().first().map(|spot| spot.start) != Some(*start) {
-            return false;
-        }
-    }
-    table.places().len() == 3
+    let places = table.places();
+    places.len() == 3
+        && places.iter().zip(&starts).all(|(spots, start)| spots
+            .as_slice()
+            .first()
+            .is_some_and(|spot| spot.start == *start))
 }
 
 /// The programme from 5 s to 9 s.
@@ -95,55 +86,42 @@ fn told_programme(alloc: Global, places: &[Place]) -> Told
     }
 }
 
-/// The programme over the places of the recording.
-fn told_cut(alloc: Global, recording: &Recording) -> Told {
-    match found(alloc, recording) {
-        Some(places) => told_programme(alloc, &places),
-        None => Told::Wanted,
-    }
-}
-
-/// What takes memory over the recording.
-#[derive(Clone, Copy, Debug)]
-enum Act {
-    Share,
-    Common,
-    Cursor,
-    Programme,
-}
-
-impl Call for Act {
-    type Lent = Ended;
-
-    fn told(self, alloc: Global, ended: &Ended) -> Told {
-        let Some(recording) = ended.0.recording(0) else {
-            return Told::Astray;
-        };
-        match self {
-            Act::Share => told_shared(alloc, recording),
-            Act::Common => told_common(alloc, recording),
-            Act::Cursor => told_cursor(alloc),
-            Act::Programme => told_cut(alloc, recording),
-        }
-    }
-}
-
 #[test]
 fn ample_memory_finds_places(rt: HostRuntime) {
-    are_ample(&rt, rt.alloc(), &[Act::Common, Act::Cursor, Act::Programme]);
+    let alloc = rt.alloc();
+    let state = finished_at_last(alloc).expect(&rt, "a channel");
+    let recording = state.recording(0).expect(&rt, "a recording");
+    assert_eq!(rt; told_common(alloc, recording), Told::Ample);
+    assert_eq!(rt; told_cursor(alloc), Told::Ample);
+    let places = found(alloc, recording).expect(&rt, "places");
+    assert_eq!(rt; told_programme(alloc, &places), Told::Ample);
 }
 
 #[test]
 fn refused_memory_finds_places_once_more(rt: HostRuntime) {
-    are_held(&rt, rt.alloc(), &[Act::Common, Act::Cursor]);
+    let alloc = rt.alloc();
+    let state = finished_at_last(alloc).expect(&rt, "a channel");
+    let recording = state.recording(0).expect(&rt, "a recording");
+    let first = told_common(alloc, recording);
+    assert!(rt; first.is_held(told_common(alloc, recording)));
+    assert!(rt; told_cursor(alloc).is_held(told_cursor(alloc)));
+}
+
+fn found_at_last(alloc: Global, recording: &Recording) -> Option<Vec<Place>>
+    ensures { IfSome result (λ places. ArePlaces places.items) }
+{
+    match found(alloc, recording) {
+        Some(places) => Some(places),
+        None => found(alloc, recording),
+    }
 }
 
 #[test]
 fn refused_memory_cuts_programmes_once_more(rt: HostRuntime) {
-    are_held(&rt, rt.alloc(), &[Act::Programme]);
-}
-
-#[test]
-fn refused_memory_shares_recordings_once_more(rt: HostRuntime) {
-    are_held(&rt, rt.alloc(), &[Act::Share]);
+    let alloc = rt.alloc();
+    let state = finished_at_last(alloc).expect(&rt, "a channel");
+    let recording = state.recording(0).expect(&rt, "a recording");
+    let places = found_at_last(alloc, recording).expect(&rt, "places");
+    let first = told_programme(alloc, &places);
+    assert!(rt; first.is_held(told_programme(alloc, &places)));
 }

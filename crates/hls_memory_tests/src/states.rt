@@ -1,7 +1,7 @@
 //! Configurations, events, and the states that they come to.
 
-use crate::channel::{begin, config, opening, renditions};
-use crate::told::{Call, Told, are_ample, are_held};
+use crate::channel::{config, finished_at_last, init, opening, renditions};
+use crate::told::Told;
 use hls_core::config::{Config, ConfigFault};
 use hls_core::replay::replay;
 use hls_core::snapshot::Snapshot;
@@ -63,8 +63,13 @@ fn told_replay(alloc: Global) -> Told {
     let Some(config) = config(alloc, true) else {
         return Told::Wanted;
     };
-    let Some(video) = begin(alloc, 0) else {
+    let Some((init, bytes)) = init(alloc) else {
         return Told::Wanted;
+    };
+    let video = Event::Begin {
+        rendition: 0,
+        init,
+        bytes,
     };
     let events = [
         (1, Event::Finish { rendition: 1 }),
@@ -85,8 +90,13 @@ fn told_replay(alloc: Global) -> Told {
 
 /// An event shared.
 fn told_shared(alloc: Global) -> Told {
-    let Some(event) = begin(alloc, 1) else {
+    let Some((init, bytes)) = init(alloc) else {
         return Told::Wanted;
+    };
+    let event = Event::Begin {
+        rendition: 1,
+        init,
+        bytes,
     };
     match event.share() {
         Ok(
@@ -101,45 +111,65 @@ fn told_shared(alloc: Global) -> Told {
     }
 }
 
-/// What takes memory.
 #[derive(Clone, Copy, Debug)]
 enum Act {
     Configure,
     Refuse,
     Open,
     Replay,
-    Share,
 }
 
-const OPENINGS: [Act; 4] = [Act::Configure, Act::Refuse, Act::Open, Act::Replay];
+const ACTS: [Act; 4] = [Act::Configure, Act::Refuse, Act::Open, Act::Replay];
 
-impl Call for Act {
-    type Lent = ();
-
-    fn told(self, alloc: Global, _lent: &()) -> Told {
-        match self {
-            Act::Configure => told_config(alloc),
-            Act::Refuse => told_preferred(alloc),
-            Act::Open => told_opening(alloc),
-            Act::Replay => told_replay(alloc),
-            Act::Share => told_shared(alloc),
-        }
+fn told(alloc: Global, act: Act) -> Told {
+    match act {
+        Act::Configure => told_config(alloc),
+        Act::Refuse => told_preferred(alloc),
+        Act::Open => told_opening(alloc),
+        Act::Replay => told_replay(alloc),
     }
 }
 
 #[test]
 fn ample_memory_opens_channels(rt: HostRuntime) {
-    are_ample(&rt, rt.alloc(), &OPENINGS);
-    assert!(rt; opening(rt.alloc(), false).is_some());
-    are_ample(&rt, rt.alloc(), &[Act::Share]);
+    let alloc = rt.alloc();
+    for act in ACTS {
+        assert_eq!(rt; told(alloc, act), Told::Ample, "{act:?}");
+    }
+    assert!(rt; opening(alloc, false).is_some());
+    assert_eq!(rt; told_shared(alloc), Told::Ample);
 }
 
 #[test]
 fn refused_memory_opens_channels_once_more(rt: HostRuntime) {
-    are_held(&rt, rt.alloc(), &OPENINGS);
+    let alloc = rt.alloc();
+    for act in ACTS {
+        let first = told(alloc, act);
+        assert!(rt; first.is_held(told(alloc, act)));
+    }
 }
 
 #[test]
 fn refused_memory_shares_events_once_more(rt: HostRuntime) {
-    are_held(&rt, rt.alloc(), &[Act::Share]);
+    let alloc = rt.alloc();
+    assert!(rt; told_shared(alloc).is_held(told_shared(alloc)));
+}
+
+/// A recording shared, of three units.
+fn told_recording(alloc: Global, state: &Snapshot) -> Told {
+    let Some(recording) = state.recording(0) else {
+        return Told::Astray;
+    };
+    match recording.share(alloc) {
+        Ok(shared) => Told::answer(shared.count() == 3 && shared.total() == 3600),
+        Err(_) => Told::wanted(recording.count() == 3 && recording.total() == 3600),
+    }
+}
+
+#[test]
+fn refused_memory_shares_recordings_once_more(rt: HostRuntime) {
+    let alloc = rt.alloc();
+    let state = finished_at_last(alloc).expect(&rt, "a channel");
+    let first = told_recording(alloc, &state);
+    assert!(rt; first.is_held(told_recording(alloc, &state)));
 }

@@ -1,9 +1,5 @@
 //! What calls tell of which any one request for memory may be refused.
 
-use std::alloc::Global;
-use std::fmt::Debug;
-use std::process::Abort;
-
 /// What a call told.
 #[derive(Clone, Copy, Debug, PartialEq, Eq, Drop)]
 pub enum Told {
@@ -35,51 +31,5 @@ impl Told {
             (Told::Wanted, Told::Ample) => true,
             _ => false,
         }
-    }
-}
-
-/// What calls are lent.
-pub trait Made: Drop {
-    /// It; none where memory was refused.
-    fn made(alloc: Global) -> Option<Self>;
-}
-
-impl Made for () {
-    fn made(_alloc: Global) -> Option<()> {
-        Some(())
-    }
-}
-
-/// A call that takes memory.
-pub trait Call: Copy + Debug {
-    /// What the call is lent.
-    type Lent: Made;
-
-    /// What it tells.
-    fn told(self, alloc: Global, lent: &Self::Lent) -> Told;
-}
-
-/// What calls are lent, made once more where memory was refused.
-pub fn made_at_last<M: Made>(rt: &impl Abort, alloc: Global) -> M {
-    match M::made(alloc) {
-        Some(made) => made,
-        None => M::made(alloc).expect(rt, "what calls are lent"),
-    }
-}
-
-/// Each call gives its answer.
-pub fn are_ample<C: Call>(rt: &impl Abort, alloc: Global, calls: &[C]) {
-    let lent = made_at_last::<C::Lent>(rt, alloc);
-    for call in calls {
-        assert_eq!(rt; call.told(alloc, &lent), Told::Ample, "{call:?}");
-    }
-}
-
-/// Each call, and the same call again, are held.
-pub fn are_held<C: Call>(rt: &impl Abort, alloc: Global, calls: &[C]) {
-    let lent = made_at_last::<C::Lent>(rt, alloc);
-    for call in calls {
-        let first = call.told(alloc, &lent);
-        assert!(rt; first.is_held(call.told(alloc, &lent)), "{call:?}");
     }
 }

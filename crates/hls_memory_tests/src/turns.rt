@@ -3,15 +3,16 @@
 
 ghost use Rattle.std.specs.Prelude.{◌≡◌};
 
-use crate::channel::{accept, begin, opening};
+use crate::channel::{accept, init, opening};
 use hls_core_laws::event::Event;
 use hls_core_laws::refusal::Refusal;
 use hls_turn::{Done, Pass, Turn};
 use std::alloc::Global;
 use std::sync::Wait;
+use std::test::Fail;
 
 /// What the passes bring.
-#[derive(Clone, Copy)]
+#[derive(Clone, Copy, Debug)]
 enum Act {
     Begin,
     Accept(u32),
@@ -31,8 +32,13 @@ fn brought<T: Wait>(
 {
     match act {
         Act::Begin => {
-            let Some(event) = begin(alloc, 0) else {
+            let Some((init, bytes)) = init(alloc) else {
                 return Err(Refusal::Memory);
+            };
+            let event = Event::Begin {
+                rendition: 0,
+                init,
+                bytes,
             };
             turn.submit(rt, alloc, pass, event)
         }
@@ -100,59 +106,76 @@ fn goes_through<T: Wait>(
     first == done && seen_at_last(rt, alloc, turn, other) == Some(to)
 }
 
-/// What a pass sees after each event.
-const SEEN: [Seen; 5] = [
-    (0, 0, 0, 0),
-    (1, 600, 1, 0),
-    (2, 1600, 2, 0),
-    (3, 2600, 2, 1),
-    (4, 2600, 2, 2),
-];
+/// Whether the first pass brings an init section and a unit, and the second one another unit and the end.
+fn all_go_through<T: Wait>(
+    rt: &T,
+    alloc: Global,
+    turn: &Turn,
+    first: &mut Pass,
+    second: &mut Pass,
+) -> bool
+    requires ours { first.old.turn ≡ turn.now }
+    requires others { second.old.turn ≡ turn.now }
+    ensures ours { first.new.turn ≡ turn.now }
+    ensures others { second.new.turn ≡ turn.now }
+{
+    let seen = [
+        (0, 0, 0, 0),
+        (1, 600, 1, 0),
+        (2, 1600, 2, 0),
+        (3, 2600, 2, 1),
+        (4, 2600, 2, 2),
+    ];
+    goes_through(rt, alloc, turn, first, second, Act::Begin, seen[0], seen[1])
+        && goes_through(
+            rt,
+            alloc,
+            turn,
+            first,
+            second,
+            Act::Accept(0),
+            seen[1],
+            seen[2],
+        )
+        && goes_through(
+            rt,
+            alloc,
+            turn,
+            second,
+            first,
+            Act::Accept(1),
+            seen[2],
+            seen[3],
+        )
+        && goes_through(
+            rt,
+            alloc,
+            turn,
+            second,
+            first,
+            Act::Finish,
+            seen[3],
+            seen[4],
+        )
+}
 
-/// Whether the first pass of a new turn brings an init section and a unit, and the second one another unit and the end; none
-/// where the turn was refused memory.
+/// Whether all go through a new turn; none where the turn was refused memory.
 fn goes_on<T: Wait>(rt: &T, alloc: Global) -> Option<bool> {
     let (turn, mut passes) = Turn::new(rt, alloc, opening(alloc, false)?, 2).ok()?;
-    let mut two = passes.pop()?;
-    let mut one = passes.pop()?;
-    let all = goes_through(
-        rt,
-        alloc,
-        &turn,
-        &mut one,
-        &mut two,
-        Act::Begin,
-        SEEN[0],
-        SEEN[1],
-    ) && goes_through(
-        rt,
-        alloc,
-        &turn,
-        &mut one,
-        &mut two,
-        Act::Accept(0),
-        SEEN[1],
-        SEEN[2],
-    ) && goes_through(
-        rt,
-        alloc,
-        &turn,
-        &mut two,
-        &mut one,
-        Act::Accept(1),
-        SEEN[2],
-        SEEN[3],
-    ) && goes_through(
-        rt,
-        alloc,
-        &turn,
-        &mut two,
-        &mut one,
-        Act::Finish,
-        SEEN[3],
-        SEEN[4],
-    );
-    Some(all)
+    let mut second = passes.pop()?;
+    let mut first = passes.pop()?;
+    Some(all_go_through(rt, alloc, &turn, &mut first, &mut second))
+}
+
+#[test]
+fn refused_memory_puts_the_state_back(rt: HostRuntime) -> Result<(), Fail> {
+    let alloc = rt.alloc();
+    let all = match goes_on(&rt, alloc) {
+        Some(all) => all,
+        None => goes_on(&rt, alloc).ok_or("no turn")?,
+    };
+    assert!(rt; all);
+    Ok(())
 }
 
 /// Whether two passes meet after an event of the first one; none where the turn, the event or the meeting was refused memory.
@@ -166,34 +189,13 @@ fn meets<T: Wait>(rt: &T, alloc: Global) -> Option<bool> {
     Some((met.version(), met.count_by(0), met.count_by(1)) == (1, 1, 0))
 }
 
-/// What is done with a turn and its two passes.
-#[derive(Clone, Copy)]
-enum Scene {
-    Bring,
-    Meet,
-}
-
-fn goes<T: Wait>(rt: &T, alloc: Global, scene: Scene) -> Option<bool> {
-    match scene {
-        Scene::Bring => goes_on(rt, alloc),
-        Scene::Meet => meets(rt, alloc),
-    }
-}
-
-/// Whether it goes as it is to go, in a second turn where the first was refused memory.
-fn goes_at_last<T: Wait>(rt: &T, alloc: Global, scene: Scene) -> bool {
-    match goes(rt, alloc, scene) {
-        Some(right) => right,
-        None => goes(rt, alloc, scene) == Some(true),
-    }
-}
-
 #[test]
-fn refused_memory_puts_the_state_back(rt: HostRuntime) {
-    assert!(rt; goes_at_last(&rt, rt.alloc(), Scene::Bring));
-}
-
-#[test]
-fn refused_memory_meets_once_more(rt: HostRuntime) {
-    assert!(rt; goes_at_last(&rt, rt.alloc(), Scene::Meet));
+fn refused_memory_meets_once_more(rt: HostRuntime) -> Result<(), Fail> {
+    let alloc = rt.alloc();
+    let met = match meets(&rt, alloc) {
+        Some(met) => met,
+        None => meets(&rt, alloc).ok_or("no turn")?,
+    };
+    assert!(rt; met);
+    Ok(())
 }

@@ -1,12 +1,13 @@
 //! Words that are read: those after `serve` and `cut`, the name of a refusal, the numbers of a line.
 
-use crate::told::{Call, Told, are_ample, are_held};
+use crate::told::Told;
 use hls_fakes::Page;
 use hls_io::Counted;
 use hls_refusals::{ExplainEnd, run_explain};
 use hls_settings::{OptionsFault, Settings, SettingsFault, read_options, read_settings};
 use hls_text::numbers_of;
 use std::alloc::Global;
+use std::process::Abort;
 
 const VIDEO: &str = "v720:video:3000000:0";
 
@@ -121,58 +122,66 @@ fn told_no_numbers(alloc: Global) -> Told {
     }
 }
 
-impl Call for Act {
-    type Lent = ();
-
-    fn told(self, alloc: Global, _lent: &()) -> Told {
-        let at = "127.0.0.1:80";
-        match self {
-            Act::Settings => told_settings(alloc),
-            Act::WrongOption => {
-                let words = ["--target", "0", at, VIDEO];
-                told_wrong(alloc, &words, SettingsFault::Target)
-            }
-            Act::WrongAddress => {
-                told_wrong(alloc, &["localhost:80", VIDEO], SettingsFault::Address)
-            }
-            Act::WrongRendition => {
-                told_wrong(alloc, &[at, VIDEO, VIDEO], SettingsFault::Rendition(1))
-            }
-            Act::Options => told_options(alloc),
-            Act::WrongOptions => told_unplanned(alloc),
-            Act::Meaning => told_meaning(alloc, Some(b"Gone"), b"Gone: it was trimmed.\n"),
-            Act::Names => told_meaning(alloc, None, b"Gone\nNotYet\n"),
-            Act::NoMeaning => told_unknown(alloc),
-            Act::Numbers => told_numbers(alloc),
-            Act::NoNumbers => told_no_numbers(alloc),
+fn told(alloc: Global, act: Act) -> Told {
+    let at = "127.0.0.1:80";
+    match act {
+        Act::Settings => told_settings(alloc),
+        Act::WrongOption => {
+            let words = ["--target", "0", at, VIDEO];
+            told_wrong(alloc, &words, SettingsFault::Target)
         }
+        Act::WrongAddress => { told_wrong(alloc, &["localhost:80", VIDEO], SettingsFault::Address) }
+        Act::WrongRendition => {
+            told_wrong(alloc, &[at, VIDEO, VIDEO], SettingsFault::Rendition(1))
+        }
+        Act::Options => told_options(alloc),
+        Act::WrongOptions => told_unplanned(alloc),
+        Act::Meaning => told_meaning(alloc, Some(b"Gone"), b"Gone: it was trimmed.\n"),
+        Act::Names => told_meaning(alloc, None, b"Gone\nNotYet\n"),
+        Act::NoMeaning => told_unknown(alloc),
+        Act::Numbers => told_numbers(alloc),
+        Act::NoNumbers => told_no_numbers(alloc),
+    }
+}
+
+fn assert_ample(rt: &impl Abort, alloc: Global, acts: &[Act]) {
+    for act in acts {
+        assert_eq!(rt; told(alloc, *act), Told::Ample, "{act:?}");
+    }
+}
+
+fn assert_held(rt: &impl Abort, alloc: Global, acts: &[Act]) {
+    for act in acts {
+        let first = told(alloc, *act);
+        assert!(rt; first.is_held(told(alloc, *act)));
     }
 }
 
 #[test]
 fn ample_memory_reads_words(rt: HostRuntime) {
-    are_ample(&rt, rt.alloc(), &OF_SETTINGS);
-    are_ample(&rt, rt.alloc(), &OF_OPTIONS);
-    are_ample(&rt, rt.alloc(), &OF_MEANINGS);
-    are_ample(&rt, rt.alloc(), &OF_NUMBERS);
+    let alloc = rt.alloc();
+    assert_ample(&rt, alloc, &OF_SETTINGS);
+    assert_ample(&rt, alloc, &OF_OPTIONS);
+    assert_ample(&rt, alloc, &OF_MEANINGS);
+    assert_ample(&rt, alloc, &OF_NUMBERS);
 }
 
 #[test]
 fn refused_memory_reads_settings_once_more(rt: HostRuntime) {
-    are_held(&rt, rt.alloc(), &OF_SETTINGS);
+    assert_held(&rt, rt.alloc(), &OF_SETTINGS);
 }
 
 #[test]
 fn refused_memory_reads_options_once_more(rt: HostRuntime) {
-    are_held(&rt, rt.alloc(), &OF_OPTIONS);
+    assert_held(&rt, rt.alloc(), &OF_OPTIONS);
 }
 
 #[test]
 fn refused_memory_explains_once_more(rt: HostRuntime) {
-    are_held(&rt, rt.alloc(), &OF_MEANINGS);
+    assert_held(&rt, rt.alloc(), &OF_MEANINGS);
 }
 
 #[test]
 fn refused_memory_reads_numbers_once_more(rt: HostRuntime) {
-    are_held(&rt, rt.alloc(), &OF_NUMBERS);
+    assert_held(&rt, rt.alloc(), &OF_NUMBERS);
 }
