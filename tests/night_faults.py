@@ -254,7 +254,7 @@ def few_descriptors(program, folder):
     origin = Poor(program, folder, ["--workers", "4"], ONE)
     found = []
     for _ in range(100):
-        found = [line for line in origin.lines() if line.endswith("that this process may have open: 20 are held")]
+        found = [line for line in origin.lines() if line.endswith("that this process may have open: 16 are held")]
         if found:
             break
         time.sleep(0.05)

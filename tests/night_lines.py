@@ -217,7 +217,7 @@ def told_at_the_start(program, folder):
     origin = LimitedOrigin(program, folder, [], THREE, name="limited")
     seen_once(origin, "a limit on the address space",
               r"serve: these renditions want 1\d{3} MB for what --keep and --window say, and this process's address space is limited to 1024 MB")
-    seen_once(origin, "a limit on open files", "serve: --connections 4096 wants more than the 1024 files that this process may have open: 968 are held")
+    seen_once(origin, "a limit on open files", "serve: --connections 4096 wants more than the 1024 files that this process may have open: 960 are held")
     origin.stop()
 
 

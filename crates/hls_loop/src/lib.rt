@@ -5,6 +5,7 @@
 //! is ever read is the system's, and in no clause.
 #![tactic(auto)]
 
+mod bell;
 mod door;
 mod host;
 mod listen;

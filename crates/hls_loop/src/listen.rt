@@ -51,15 +51,15 @@ pub fn open_files() -> u64 {
 }
 
 /// How many of the connections that are wanted a process holds that may have so many files open. A worker has its listener, its set
-/// of sockets, and the connection for which another gives way.
+/// of sockets, its bell, and the connection for which another gives way.
 pub fn held_of(files: u64, wanted: u64, workers: u64) -> u64
     requires { workers ≤ 63 }
     ensures { result ≡ held_of files wanted workers }
 {
-    wanted.min(files.saturating_sub(3 * workers + OTHERS).max(1))
+    wanted.min(files.saturating_sub(4 * workers + OTHERS).max(1))
 }
 
-/// How many of the workers that are wanted a process has that may have so many files open: with a fourth of its files at most, and
+/// How many of the workers that are wanted a process has that may have so many files open: with a third of its files at most, and
 /// one at least.
 pub fn workers_of(files: u64, wanted: u64) -> u64
     ensures { result ≤ wanted }

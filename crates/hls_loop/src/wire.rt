@@ -96,9 +96,9 @@ impl Wire {
         }
     }
 
-    /// Reads and drops what has come.
+    /// Reads and drops what has come: mostly nothing but the end, and so into few bytes, which are set to zero each time.
     pub fn drop_some(&mut self) -> Result<usize, Stop> {
-        let mut buffer = [0; 16384];
+        let mut buffer = [0; 1024];
         match self.read(&mut buffer) {
             Ok(count) => Ok(count),
             Err(error) => Err(stop_of(&error)),

@@ -3,7 +3,8 @@
 ghost use Rattle.std.specs.Prelude.{◌≡◌, ◌≤◌, IfOk};
 ghost use Rattle.hls_loop.specs.Suited.{SuitsAll};
 
-use crate::door::Door;
+use crate::bell::attend;
+use crate::door::{Door, NOBODY};
 use crate::host::Host;
 use crate::post::Post;
 use crate::slot::{Slot, Turn, take_turn};
@@ -22,6 +23,9 @@ use std::time::{Clock, Duration};
 /// The token of the listener.
 const DOOR: Token = Token(usize::MAX);
 
+/// The token of the worker's bell.
+const BELL: Token = Token(usize::MAX - 1);
+
 /// How many connections are accepted before those that are there have their turn: some of them are over by then.
 const MOST_ACCEPTS: usize = 8;
 
@@ -33,6 +37,9 @@ const SHORTEST_BEAT: u64 = 100;
 
 /// For how long a worker with more than its share lets the others take a connection, in milliseconds.
 const COURTESY: u64 = 2;
+
+/// And where all places are taken, for how long it lets another worker's connection give way first.
+const DEFERENCE: u64 = 5;
 
 /// How long a worker waits after a failed accept, or where all places are taken and nobody gives way, in milliseconds.
 const PAUSE: u64 = 10;
@@ -57,8 +64,12 @@ enum Waiting {
     Maybe,
     /// There may be one; the other workers go first until this time, as long as this one has more than its share.
     Others(u64),
+    /// There may be one; another worker's connection goes first in giving way for it, until this time.
+    First(u64),
     /// There may be one; it is left alone until this time.
     Later(u64),
+    /// This worker takes no more.
+    Never,
 }
 
 /// A worker: its connections, by the keys under which the system tells of them.
@@ -68,6 +79,8 @@ struct Worker<'a, H: Host> {
     poll: Poll,
     listener: TcpListener,
     door: &'a Door,
+    /// Which one of the door's workers it is.
+    place: usize,
     host: H,
     /// For how many seconds a connection may be silent, at most 3600.
     patience: u64,
@@ -101,13 +114,14 @@ impl<'a, H: Host + Drop> Worker<'a, H> {
     {
         let mut listener = listener;
         let patience = patience.min(3600);
-        poll.registry()
-            .register(&mut listener, DOOR, Interest::READABLE)?;
+        attend(&poll, &mut listener, DOOR)?;
+        let place = door.come(&poll, BELL)?;
         Ok(Worker {
             alloc,
             poll,
             listener,
             door,
+            place,
             host,
             patience,
             slots: Slab::new(alloc),
@@ -127,7 +141,7 @@ impl<'a, H: Host + Drop> Worker<'a, H> {
         ensures suits { SuitsAll H.suits self.new.host self.new.slots }
     {
         if self.slots.try_remove(key).is_some() {
-            self.door.leave();
+            self.door.leave(self.place, self.slots.len());
         }
     }
 
@@ -180,16 +194,41 @@ impl<'a, H: Host + Drop> Worker<'a, H> {
         }
     }
 
+    /// A connection came to the listener, of which the system may have told this worker alone.
+    fn hear_door(&mut self)
+        ensures host { self.new.host ≡ self.old.host }
+        ensures slots { self.new.slots ≡ self.old.slots }
+    {
+        match self.waiting {
+            Waiting::No => self.waiting = Waiting::Maybe,
+            Waiting::Others(_) => self.door.call(self.door.fewest(self.place)),
+            Waiting::First(_) => self.door.call(self.door.first(self.place)),
+            _ => {}
+        }
+    }
+
+    /// Another worker leaves a connection to this one.
+    fn hear_bell(&mut self)
+        ensures host { self.new.host ≡ self.old.host }
+        ensures slots { self.new.slots ≡ self.old.slots }
+    {
+        match self.waiting {
+            Waiting::No | Waiting::Others(_) | Waiting::First(_) => {
+                self.waiting = Waiting::Maybe;
+            }
+            _ => {}
+        }
+    }
+
     /// Goes on with what the system tells.
     fn hear(&mut self, event: &Event)
         requires suits { SuitsAll H.suits self.old.host self.old.slots }
         ensures suits { SuitsAll H.suits self.new.host self.new.slots }
     {
-        if event.token() == DOOR {
-            if self.waiting == Waiting::No {
-                self.waiting = Waiting::Maybe;
-            }
-            return;
+        match event.token() {
+            DOOR => return self.hear_door(),
+            BELL => return self.hear_bell(),
+            _ => {}
         }
         let key = event.token().0;
         if let Some(slot) = self.slots.get_mut(key) {
@@ -234,7 +273,7 @@ impl<'a, H: Host + Drop> Worker<'a, H> {
         let Ok(key) = self.slots.insert(slot) else {
             return None;
         };
-        self.door.enter();
+        self.door.enter(self.place, self.slots.len());
         Some(key)
     }
 
@@ -277,12 +316,34 @@ impl<'a, H: Host + Drop> Worker<'a, H> {
         found
     }
 
+    /// Tells the others who goes first of its own that may give way.
+    fn tell_rank(&self) {
+        let first = match self.yielding() {
+            Some((_, pace)) => rank(pace),
+            None => NOBODY,
+        };
+        self.door.tell(self.place, first);
+    }
+
     /// Leaves the door alone for so many milliseconds.
     fn leave_door(&mut self, time: u64)
         ensures host { self.new.host ≡ self.old.host }
         ensures slots { self.new.slots ≡ self.old.slots }
     {
         self.waiting = Waiting::Later(self.now.saturating_add(time));
+    }
+
+    /// Goes from the door for good, once it has taken as many connections as it takes.
+    fn leave_for_good(&mut self)
+        ensures host { self.new.host ≡ self.old.host }
+        ensures slots { self.new.slots ≡ self.old.slots }
+    {
+        if self.left > 0 || self.waiting == Waiting::Never {
+            return;
+        }
+        self.waiting = Waiting::Never;
+        let _ = self.poll.registry().deregister(&mut self.listener);
+        self.door.go(self.place);
     }
 
     /// Takes the next connection in, where there is one; then another gives way for it, where one is named.
@@ -311,18 +372,25 @@ impl<'a, H: Host + Drop> Worker<'a, H> {
     }
 
     /// Whether a connection that may be waiting is taken now. Who has more than a share lets the others go first for a while, or until
-    /// as many of its own are over.
-    fn is_next(&mut self) -> bool
+    /// as many of its own are over, and calls one of them for the first that it was told of.
+    fn is_next(&mut self, is_first: bool) -> bool
         ensures host { self.new.host ≡ self.old.host }
         ensures slots { self.new.slots ≡ self.old.slots }
     {
         match self.waiting {
-            Waiting::No => false,
+            Waiting::No | Waiting::Never => false,
             Waiting::Maybe => {
                 if !self.door.has_more(self.slots.len()) {
                     return true;
                 }
+                let other = self.door.fewest(self.place);
+                if other.is_none() {
+                    return true;
+                }
                 self.waiting = Waiting::Others(self.now.saturating_add(COURTESY));
+                if is_first {
+                    self.door.call(other);
+                }
                 false
             }
             Waiting::Others(time) => {
@@ -332,7 +400,7 @@ impl<'a, H: Host + Drop> Worker<'a, H> {
                 self.waiting = Waiting::Maybe;
                 true
             }
-            Waiting::Later(time) => {
+            Waiting::First(time) | Waiting::Later(time) => {
                 if self.now < time {
                     return false;
                 }
@@ -351,18 +419,20 @@ impl<'a, H: Host + Drop> Worker<'a, H> {
     {
         let Some((key, pace)) = self.yielding() else {
             let looked = self.slots.len() as u64 / LOOKED_AT;
+            self.door.tell(self.place, NOBODY);
+            self.door.call(self.door.first(self.place));
             self.leave_door(looked.saturating_add(PAUSE));
             return;
         };
-        if !waited && !self.door.goes_first(rank(pace)) {
-            self.leave_door(COURTESY);
+        self.door.tell(self.place, rank(pace));
+        let first = self.door.first(self.place);
+        if first.is_some() && !waited {
+            self.waiting = Waiting::First(self.now.saturating_add(DEFERENCE));
+            self.door.call(first);
             return;
         }
         self.accept(Some(key));
-        match self.yielding() {
-            Some((_, next)) => self.door.pass_on(rank(next)),
-            None => self.door.pass_on(u64::MAX),
-        }
+        self.tell_rank();
     }
 
     /// Takes some of the connections that are waiting. Where all places are taken and nobody gives way, they go on waiting.
@@ -370,9 +440,9 @@ impl<'a, H: Host + Drop> Worker<'a, H> {
         requires suits { SuitsAll H.suits self.old.host self.old.slots }
         ensures suits { SuitsAll H.suits self.new.host self.new.slots }
     {
-        for _ in 0..MOST_ACCEPTS {
-            let waited = matches!(self.waiting, Waiting::Later(_));
-            if self.left == 0 || !self.is_next() {
+        for count in 0..MOST_ACCEPTS {
+            let waited = matches!(self.waiting, Waiting::First(_) | Waiting::Later(_));
+            if self.left == 0 || !self.is_next(count == 0) {
                 return;
             }
             if self.door.is_full() {
@@ -419,6 +489,18 @@ impl<'a, H: Host + Drop> Worker<'a, H> {
         }
     }
 
+    /// Tells the others who goes first of its own, where all places are taken; where they aren't, that is found once they are.
+    fn renew_rank(&self) {
+        if self.waiting == Waiting::Never {
+            return;
+        }
+        if self.door.is_full() {
+            self.tell_rank();
+        } else {
+            self.door.forget(self.place);
+        }
+    }
+
     /// Looks through the connections for those that take too long, each time that the beat has passed.
     fn sweep(&mut self)
         requires suits { SuitsAll H.suits self.old.host self.old.slots }
@@ -431,6 +513,7 @@ impl<'a, H: Host + Drop> Worker<'a, H> {
         for key in 0..self.slots.capacity() {
             self.judge(key);
         }
+        self.renew_rank();
     }
 
     /// For how long the system is asked for news.
@@ -440,9 +523,9 @@ impl<'a, H: Host + Drop> Worker<'a, H> {
         }
         if self.left > 0 {
             match self.waiting {
-                Waiting::No => {}
+                Waiting::No | Waiting::Never => {}
                 Waiting::Maybe => return Some(Duration::from_millis(0)),
-                Waiting::Others(time) | Waiting::Later(time) => {
+                Waiting::Others(time) | Waiting::First(time) | Waiting::Later(time) => {
                     let left = time.saturating_sub(self.now);
                     return Some(Duration::from_millis(left.min(self.beat)));
                 }
@@ -479,6 +562,7 @@ impl<'a, H: Host + Drop> Worker<'a, H> {
         }
         self.go_on();
         self.accept_some();
+        self.leave_for_good();
         self.sweep();
     }
 
@@ -516,5 +600,8 @@ pub fn work<H: Host + Drop, R: Wait + Clock>(
         listener,
         events,
     } = post;
-    Worker::new(alloc, poll, listener, door, host, patience)?.serve(rt, events)
+    let mut worker = Worker::new(alloc, poll, listener, door, host, patience)?;
+    let served = worker.serve(rt, events);
+    door.go(worker.place);
+    served
 }

@@ -95,11 +95,10 @@ pub fn run_server<
         turn: &turn,
         jobs: &jobs,
     };
-    let door = Door::new(
-        crew,
-        places_of(workers, files),
-        connections.unwrap_or(u64::MAX),
-    );
+    let most = connections.unwrap_or(u64::MAX);
+    let Ok(door) = Door::new(alloc, crew, places_of(workers, files), most) else {
+        return Err(AllocError);
+    };
     let told = Told::new();
     let closed = AtomicBool::new(false);
     let site = Site {

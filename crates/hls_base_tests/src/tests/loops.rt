@@ -256,7 +256,9 @@ fn goes<R: Net<Listener = TcpListener, Stream = TcpStream> + Threads + Wait + Cl
         return false;
     };
     let (places, connections) = scene.size();
-    let door = Door::new(1, places, connections);
+    let Ok(door) = Door::new(alloc, 1, places, connections) else {
+        return false;
+    };
     let door = &door;
     thread::scope(thread::scope_env(), rt, move |scope| -> bool {
         let mirror = Mirror { alloc, acts: 0 };

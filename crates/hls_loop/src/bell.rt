@@ -1,0 +1,55 @@
+//! How a worker is told that a connection may be waiting: by the system, which tells one of them alone, or by another worker.
+
+use mio::net::TcpListener;
+use mio::unix::SourceFd;
+use mio::{Interest, Poll, Token};
+use os::FromRawFd;
+use std::io;
+use std::os::fd::{AsRawFd, OwnedFd};
+
+/// Of those who wait for a socket with this mark, the system wakes one, the first that isn't busy (epoll_ctl(2)).
+const EPOLLEXCLUSIVE: u32 = 1 << 28;
+
+/// A worker's bell: a counter of the system's that is never read, so that each ring is news (eventfd(2)).
+#[derive(Drop)]
+pub(crate) struct Bell {
+    counter: OwnedFd,
+}
+
+impl Bell {
+    /// A bell that nobody hears yet.
+    pub fn new() -> io::Result<Bell> {
+        let counter = libc::net::eventfd(0, libc::net::EFD_CLOEXEC | libc::net::EFD_NONBLOCK);
+        if counter < 0 {
+            return Err(io::Error::from_raw_os_error(os::errno()));
+        }
+        Ok(Bell {
+            counter: unsafe { OwnedFd::from_raw_fd(counter) },
+        })
+    }
+
+    /// Has each ring end the wait of a worker.
+    pub fn join(&self, poll: &Poll, token: Token) -> io::Result<()> {
+        let counter = self.counter.as_raw_fd();
+        poll.registry()
+            .register(&mut SourceFd(&counter), token, Interest::READABLE)
+    }
+
+    /// Its worker hears it at once, or once it waits again.
+    pub fn ring(&self) {
+        let _ = libc::write(self.counter.as_raw_fd(), &1u64.to_ne_bytes());
+    }
+}
+
+/// Has the system tell a worker of connections that come to a listener, where no other worker is told; all of them, where the
+/// system knows no such mark.
+pub(crate) fn attend(poll: &Poll, listener: &mut TcpListener, token: Token) -> io::Result<()> {
+    let news = libc::net::EPOLLIN | libc::net::EPOLLET | EPOLLEXCLUSIVE;
+    let (set, socket) = (poll.as_raw_fd(), listener.as_raw_fd());
+    let told = os::epoll_ctl(set, libc::net::EPOLL_CTL_ADD, socket, news, token.0 as u64);
+    if told == 0 {
+        return Ok(());
+    }
+    poll.registry()
+        .register(listener, token, Interest::READABLE)
+}
