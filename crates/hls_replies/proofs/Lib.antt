@@ -1,3 +1,4 @@
+pub mod Recents
 mod Wholes
 mod Parts
 mod Kept

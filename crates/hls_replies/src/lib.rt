@@ -8,6 +8,7 @@ pub use jobs::{added_answer, file_answer, query_answer, removed_answer, told_ans
 pub use media::media_answer;
 pub use playlists::{list_answer, master_answer};
 pub use query::{read_query, request_for, wanted_of};
+pub use recent::RecentLists;
 pub use sending::output_of;
 pub use standing::status_answer;
 pub use texts::{fault_answer, finish_answer, method_answer, refused_answer, taken_answer};
@@ -19,6 +20,7 @@ mod jobs;
 mod media;
 mod playlists;
 mod query;
+mod recent;
 mod resource;
 mod sending;
 mod standing;

@@ -17,7 +17,7 @@ use hls_m3u8::write_master;
 use std::alloc::{AllocError, Global};
 use std::sync::Arc;
 
-fn playlist_answer(content: Content) -> Answer
+pub(crate) fn playlist_answer(content: Content) -> Answer
     ensures { result ≡ playlist_answer (content_of content) }
 {
     Answer::of_content(Status::Done, Kind::Playlist, Extra::Nothing, content)

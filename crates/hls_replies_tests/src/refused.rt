@@ -8,8 +8,8 @@ use hls_feed::StreamFault;
 use hls_http_laws::fault::HttpFault;
 use hls_http_laws::range::Asked;
 use hls_replies::{
-    Answer, fault_answer, finish_answer, list_answer, master_answer, media_answer, method_answer,
-    output_of, read_query, refused_answer, status_answer, taken_answer,
+    Answer, RecentLists, fault_answer, finish_answer, list_answer, master_answer, media_answer,
+    method_answer, output_of, read_query, refused_answer, status_answer, taken_answer,
 };
 use hls_sample_channels::{opened, with_units};
 use hls_serve_laws::ingest::Counts;
@@ -39,6 +39,8 @@ enum Act {
     Status,
     Master,
     List,
+    /// The same list of those at hand, asked for once before.
+    Again,
     Part,
     Outside,
     Taken,
@@ -59,11 +61,18 @@ fn part(alloc: Global, snapshot: &Arc<Snapshot>, asked: Asked) -> Result<Answer,
     media_answer(alloc, Arc::try_clone(snapshot)?, 0, asked)
 }
 
+fn again(alloc: Global, snapshot: &Arc<Snapshot>) -> Result<Answer, AllocError> {
+    let mut lists = RecentLists::new(alloc);
+    let _ = lists.answer(Arc::try_clone(snapshot)?, 0)?;
+    lists.answer(Arc::try_clone(snapshot)?, 0)
+}
+
 fn answer(alloc: Global, snapshot: &Arc<Snapshot>, act: Act) -> Result<Answer, AllocError> {
     match act {
         Act::Status => status_answer(alloc, snapshot, 0),
         Act::Master => master_answer(alloc, snapshot),
         Act::List => list_answer(alloc, Arc::try_clone(snapshot)?, 0),
+        Act::Again => again(alloc, snapshot),
         Act::Part => part(alloc, snapshot, Asked::Between(0, 7)),
         Act::Outside => part(alloc, snapshot, Asked::From(2600)),
         Act::Taken => taken_answer(alloc, COUNTS),
@@ -120,7 +129,7 @@ const LIST: &[u8] =
     b"HTTP/1.1 200 OK\r\nContent-Type: application/vnd.apple.mpegurl\r\nContent-Length: 210\r\n\r\n#EXTM3U\n#EXT-X-VERSION:6\n#EXT-X-TARGETDURATION:6\n#EXT-X-MEDIA-SEQUENCE:0\n#EXT-X-DISCONTINUITY-SEQUENCE:0\n#EXT-X-MAP:URI=\"/media/0.mp4\",BYTERANGE=\"600@0\"\n#EXTINF:4.000000,\n#EXT-X-BYTERANGE:1000@600\n/media/0.mp4\n";
 
 /// Answers with their whole replies.
-const GIVEN: [(Act, &[u8]); 11] = [
+const GIVEN: [(Act, &[u8]); 12] = [
     (
         Act::Status,
         b"HTTP/1.1 200 OK\r\nContent-Type: text/plain\r\nContent-Length: 47\r\n\r\nversion 3\nplaces 2\nsegments 1\nremoved 0\njobs 0\n",
@@ -130,6 +139,7 @@ const GIVEN: [(Act, &[u8]); 11] = [
         b"HTTP/1.1 200 OK\r\nContent-Type: application/vnd.apple.mpegurl\r\nContent-Length: 74\r\n\r\n#EXTM3U\n#EXT-X-VERSION:6\n#EXT-X-STREAM-INF:BANDWIDTH=3000000\n/live/0.m3u8\n",
     ),
     (Act::List, LIST),
+    (Act::Again, LIST),
     (
         Act::Part,
         b"HTTP/1.1 206 Partial Content\r\nContent-Type: video/mp4\r\nContent-Length: 8\r\nContent-Range: bytes 0-7/2600\r\n\r\n\0\0\0\x10ftyp",

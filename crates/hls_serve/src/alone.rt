@@ -13,6 +13,7 @@ use hls_core::step::step;
 use hls_core::stepped::Stepped;
 use hls_core_laws::event::Event;
 use hls_core_laws::refusal::Refusal;
+use hls_replies::{Answer, list_answer};
 use hls_turn::Done;
 use std::alloc::{AllocError, Global};
 use std::sync::Arc;
@@ -68,6 +69,10 @@ impl Keeper for Alone {
 
     fn look(&mut self) -> Result<Arc<Snapshot>, AllocError> {
         Ok(Arc::try_clone(&self.snapshot)?)
+    }
+
+    fn list(&mut self, state: Arc<Snapshot>, rendition: usize) -> Result<Answer, AllocError> {
+        list_answer(self.alloc, state, rendition)
     }
 
     fn submit(&mut self, event: Event) -> Result<Done, Refusal> {

@@ -8,12 +8,15 @@ ghost use Rattle.hls_catchup.specs.Jobs.Shared.{HasCounted, HasRemoved};
 ghost use Rattle.hls_turn.specs.Passes.{Known};
 ghost use Rattle.hls_turn.specs.Calls.{LookedOn, Looks, Submits};
 ghost use Rattle.hls_serve_laws.specs.JobTable.{IsAdded, IsTold};
+ghost use Rattle.hls_serve_laws.specs.Playlists.{live_text};
+ghost use Rattle.hls_serve_laws.specs.Replies as replies;
 ghost use Rattle.hls_serve.specs.Meanwhile.{Met};
 
 use hls_catchup::{Job, JobFault, Request};
 use hls_core::snapshot::Snapshot;
 use hls_core_laws::event::Event;
 use hls_core_laws::refusal::Refusal;
+use hls_replies::Answer;
 use hls_turn::Done;
 use std::alloc::{AllocError, Global};
 use std::sync::Arc;
@@ -40,6 +43,13 @@ pub trait Keeper {
         ensures looked { LookedOn (known self.old) (known self.new) }
         ensures looks { IfOk result (λ s. Looks (known self.old) s.value (known self.new)) }
         ensures meanwhile { meanwhile (known self.old).seen (known self.new).seen };
+
+    /// The live list of a rendition in the state that the keeper saw last; of a long one some may still be to be made. 404 until a
+    /// segment was ever closed.
+    fn list(&mut self, state: Arc<Snapshot>, rendition: usize) -> Result<Answer, AllocError>
+        requires { state.value ≡ (known self.old).seen }
+        ensures known { known self.new ≡ known self.old }
+        ensures list { IfOk result (λ a. a ≡ replies.list_answer (live_text state.value rendition)) };
 
     /// Lets the current state meet the event as one of this keeper. The refusals are those of a step of the core.
     fn submit(&mut self, event: Event) -> Result<Done, Refusal>

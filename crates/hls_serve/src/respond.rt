@@ -23,9 +23,9 @@ use hls_core_laws::refusal::Refusal;
 use hls_http::HttpFault;
 use hls_http_laws::range::Asked;
 use hls_replies::{
-    Answer, added_answer, fault_answer, file_answer, finish_answer, list_answer, master_answer,
-    media_answer, method_answer, query_answer, removed_answer, request_for, status_answer,
-    told_answer, wanted_of,
+    Answer, added_answer, fault_answer, file_answer, finish_answer, master_answer, media_answer,
+    method_answer, query_answer, removed_answer, request_for, status_answer, told_answer,
+    wanted_of,
 };
 use hls_serve_laws::query::{Query, QueryFault};
 use hls_serve_laws::route::Route;
@@ -51,7 +51,7 @@ fn show_list<K: Keeper>(
         acts.old acts.new result }
 {
     let state = look(keeper, acts)?;
-    list_answer(keeper.alloc(), state, rendition)
+    keeper.list(state, rendition)
 }
 
 fn show_media<K: Keeper>(

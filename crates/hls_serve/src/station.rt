@@ -2,6 +2,7 @@
 
 ghost use Rattle.std.specs.Prelude.{◌≡◌};
 ghost use Rattle.hls_core_laws.specs.Follows.{Follows};
+ghost use Rattle.hls_replies.specs.Recent.{IsBehind};
 ghost use Rattle.hls_serve.specs.Counted.{SessionCounts};
 ghost use Rattle.hls_serve.specs.Exchanges.{Exchanges};
 
@@ -14,6 +15,7 @@ use hls_core::snapshot::Snapshot;
 use hls_core_laws::event::Event;
 use hls_core_laws::refusal::Refusal;
 use hls_http::{Session, SessionEnd};
+use hls_replies::{Answer, RecentLists};
 use hls_turn::{Done, Pass};
 use std::alloc::{AllocError, Global};
 use std::io::{Read, Write};
@@ -21,7 +23,7 @@ use std::sync::{Arc, Wait};
 
 /// A thread's place at a channel: the runtime by which it waits, its memory, the channel's turn and jobs, and a pass that came
 /// with the turn. What other passes bring meanwhile is seen at the next look or event; nothing is held of the turn or the jobs
-/// between two calls.
+/// between two calls but the texts of live lists that aren't long, of the state that was asked for one last.
 #[derive(Drop)]
 pub struct Station<'a, T: Wait> {
     /// By which it waits.
@@ -32,7 +34,9 @@ pub struct Station<'a, T: Wait> {
     pub channel: Channel<'a>,
     /// What it may do with the turn.
     pub pass: Pass,
+    lists: RecentLists,
     ghost ours: { pass.turn ≡ channel.turn.now },
+    ghost listed: { IsBehind lists pass.known.seen },
 }
 
 impl<'a, T: Wait> Station<'a, T> {
@@ -46,6 +50,7 @@ impl<'a, T: Wait> Station<'a, T> {
             alloc,
             channel: *channel,
             pass,
+            lists: RecentLists::new(alloc),
         }
     }
 }
@@ -65,6 +70,10 @@ impl<'a, T: Wait> Keeper for Station<'a, T> {
 
     fn look(&mut self) -> Result<Arc<Snapshot>, AllocError> {
         self.channel.turn.look(self.rt, self.alloc, &mut self.pass)
+    }
+
+    fn list(&mut self, state: Arc<Snapshot>, rendition: usize) -> Result<Answer, AllocError> {
+        self.lists.answer(state, rendition)
     }
 
     fn submit(&mut self, event: Event) -> Result<Done, Refusal> {

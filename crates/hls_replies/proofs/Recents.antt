@@ -1,0 +1,94 @@
+-- Of two states of one log that have had as many events the live lists are the same.
+use Rattle.std.proofs.Common.{◌≡◌, ◌∙◌, ℕ, ◌+◌, List, [], ◌∷◌, ◌++◌, length, ◌<◌, ◌≤◌, ◌⊎◌, inl, inr, Bool, true, false, Option, Some, None, refl, sym, ap, arith, subst, length-append, if◌then◌else◌}
+use Rattle.std.specs.Prelude.{All, slice_index_or}
+use Rattle.std.proofs.lemmas.List.{append-nil, get_or_default}
+use Rattle.std.proofs.lemmas.List.Elements.{All-append, All-cons, All-nil}
+use Rattle.hls_core_laws.specs.Config.{ConfigData}
+use Rattle.hls_core_laws.specs.declared.event.Entry.{Entry}
+use Rattle.hls_core_laws.specs.State.{State}
+use Rattle.hls_core_laws.specs.Follows.{Follows, Continues}
+use Rattle.hls_core_laws.proofs.Callers.{continues_of}
+use Rattle.hls_serve_laws.specs.Playlists.{live_text}
+use Rattle.hls_replies.specs.declared.recent.Recent.{Recent}
+use Rattle.hls_replies.specs.Recent.{AreOf, HasHad, IsBehind, IsOf, IsText}
+
+none_more : {A : Type 0} (xs ys rest : List A) → ys ≡ xs ++ rest → length xs ≡ length ys → ys ≡ xs
+none_more xs ys [] is same = is ∙ append-nil xs
+none_more xs ys (x ∷ rest) is same = absurd (omega (arith, same, ap length is, length-append xs (x ∷ rest)))
+
+-- a live list is of the configuration and the log alone
+abbrev text_by : ConfigData → List Entry → ℕ → Option (List ℕ)
+text_by config log rendition = live_text (record { config = config; log = log; bytes = [] }) rendition
+
+text_stays : (a b : State) (rendition : ℕ) → Follows a b → length a.log ≡ length b.log → live_text b rendition ≡ live_text a rendition
+text_stays a b rendition follows same =
+    let c = continues_of a b follows in
+    let log : b.log ≡ a.log = none_more a.log b.log c.rest c.log same in
+    ap (λ (config : ConfigData). text_by config b.log rendition) c.config ∙ ap (λ (log : List Entry). text_by a.config log rendition) log
+
+grows : (a b : State) → Follows a b → length a.log ≤ length b.log
+grows a b follows =
+    let c = continues_of a b follows in omega (arith, ap length c.log, length-append a.log c.rest)
+
+-- what is behind a state is behind those that follow it
+pub behind_on : (of : Option State) (a b : State) → IsBehind of a → Follows a b → IsBehind of b
+behind_on of a b behind follows s is =
+    let (few, shown) = behind s is in
+    let more = grows a b follows in
+    (omega (arith, few, more), λ same r. text_stays a b r follows (omega (arith, few, more, same)) ∙ shown (omega (arith, few, more, same)) r)
+
+pub behind_itself : (of : Option State) (b : State) → of ≡ Some b → IsBehind of b
+behind_itself of b is s there =
+    let same : s ≡ b = some_is s b (sym there ∙ is) in
+    (omega (arith, ap (λ (x : State). length x.log) same), λ equal r. ap (λ (x : State). live_text x r) (sym same))
+  where
+    some_is : (x y : State) → Some x ≡ Some y → x ≡ y
+    some_is x y e = cc
+
+kept_stays : (of : Option State) (version : ℕ) (b : State) → HasHad of version → IsBehind of b → version ≡ length b.log → (kept : Recent) → IsOf of kept → IsOf (Some b) kept
+kept_stays of version b had follows same kept (a, is, text) =
+    (b, refl, (follows a is).1 (sym (had a is) ∙ same) kept.rendition ∙ text)
+
+lists_stay : (of : Option State) (version : ℕ) (b : State) (lists : List Recent) → HasHad of version → IsBehind of b → version ≡ length b.log → All (IsOf of) lists → All (IsOf (Some b)) lists
+lists_stay of version b lists had follows same kept = λ k d within. kept_stays of version b had follows same (slice_index_or lists k d) (kept k d within)
+
+had_now : (b : State) (version : ℕ) → version ≡ length b.log → HasHad (Some b) version
+had_now b version same s is = cc
+
+lists_now : (of : Option State) (b : State) (old now : ℕ) (lists kept : List Recent) → AreOf of old lists → IsBehind of b → now ≡ length b.log
+    → ((now ≡ old) × (kept ≡ lists)) ⊎ (kept ≡ []) → All (IsOf (Some b)) kept
+lists_now of b old now lists kept are follows had (inl (same, is)) =
+    subst (λ (l : List Recent). All (IsOf (Some b)) l) (sym is) (lists_stay of old b lists are.0 follows (sym same ∙ had) are.1)
+lists_now of b old now lists kept are follows had (inr none) = subst (λ (l : List Recent). All (IsOf (Some b)) l) (sym none) (All-nil (IsOf (Some b)))
+
+-- behind a step to another state, or to the same
+pub gone_on : (of new : Option State) (b : State) (old now version : ℕ) (lists kept : List Recent) → AreOf of old lists → IsBehind of b → new ≡ Some b → now ≡ length b.log
+    → (version ≡ now) × (((now ≡ old) × (kept ≡ lists)) ⊎ (kept ≡ [])) → AreOf new version kept
+gone_on of new b old now version lists kept are follows noted had (is, how) =
+    subst (λ (o : Option State). AreOf o version kept) (sym noted) (had_now b version (is ∙ had), lists_now of b old now lists kept are follows had how)
+
+-- one list more, where there was memory
+pub pushed : (of : Option State) (b : Bool) (old new : List Recent) (x : Recent) → new ≡ (if b then old ++ x ∷ [] else old) → All (IsOf of) old → IsOf of x → All (IsOf of) new
+pushed of true old new x is all here =
+    subst (λ (l : List Recent). All (IsOf of) l) (sym is) (All-append (IsOf of) old (x ∷ []) all (All-cons (IsOf of) x [] here (All-nil (IsOf of))))
+pushed of false old new x is all here = subst (λ (l : List Recent). All (IsOf of) l) (sym is) all
+
+pub is_of : (of now : Option State) (x : Recent) (text : List ℕ) → of ≡ now → x.text.items ≡ text → IsText now x.rendition text → IsOf of x
+is_of of now x text same is (s, at, shown) = (s, same ∙ at, shown ∙ ap Some (sym is))
+
+-- what is found at a place
+pub text_at : (of : Option State) (lists : List Recent) (at : ℕ) (x y : Recent) (rendition : ℕ) (text : List ℕ) → at < length lists → All (IsOf of) lists
+    → x ≡ slice_index_or lists at x → (slice_index_or lists at x).rendition ≡ rendition → y ≡ slice_index_or lists at y → text ≡ (slice_index_or lists at y).text.items
+    → IsText of rendition text
+text_at of lists at x y rendition text within all x_is named y_is is =
+    let (s, there, shown) = all at y within in
+    let same : slice_index_or lists at y ≡ slice_index_or lists at x = get_or_default lists at y x within in
+    (s, there, ap (live_text s) (sym named ∙ ap (λ (k : Recent). k.rendition) (sym same)) ∙ shown ∙ ap Some (sym is))
+
+-- what is kept is shown in the state that is at hand
+pub shown_kept : (of : Option State) (b : State) (rendition : ℕ) (text : List ℕ) → of ≡ Some b → IsText of rendition text → live_text b rendition ≡ Some text
+shown_kept of b rendition text is (s, at, shown) =
+    let same : s ≡ b = some_is s b (sym at ∙ is) in subst (λ (x : State). live_text x rendition ≡ Some text) same shown
+  where
+    some_is : (x y : State) → Some x ≡ Some y → x ≡ y
+    some_is x y e = cc

@@ -1,0 +1,25 @@
+use Rattle.std.proofs.Common.{◌≡◌, ◌∙◌, ◌++◌, ◌∷◌, [], Some, length, inl, inr, ap, sym, subst}
+use Rattle.hls_core_laws.specs.State.{State}
+use Rattle.hls_replies.specs.declared.recent.RecentLists.TheInside.{Inside}
+use Rattle.hls_replies.specs.Recent.{IsBehind, state_noted}
+use Rattle.hls_replies.proofs.Recents.{gone_on}
+use Rattle.hls_replies.proofs.recent.RecentLists.go_on_to.Goals as goal
+use Rattle.hls_replies.proofs.recent.RecentLists.go_on_to.Goals.{then-version-self, else-version-self}
+
+pub invariant_of-self : goal.invariant_of-self
+invariant_of-self c =
+    let b = c.args.state.now.value in
+    let inside = c.self.inside in
+    let kept = c.if-version-self.self-inside in
+    let of = state_noted inside.of.items in
+    let follows : IsBehind of b = subst (λ o. IsBehind o b) (sym c.self.view_is) c.requires in
+    let had : c.version-version.result ≡ length b.log = c.version-version.ensures.value ∙ ap (λ (s : State). length s.log) c.deref.ensures in
+    let noted : state_noted c.and-self-inside.result.items ≡ Some b = ap state_noted (c.and-self-inside.ensures ∙ ap (λ l. l ++ (c.args.state.now, tt {0}) ∷ []) c.new.ensures) in
+    gone_on of _ b inside.version c.version-version.result kept.version inside.lists.items kept.lists.items c.self.invariant follows noted had
+    (elim c.if-version-self.branch [
+      | then-version-self w ↦ (ap (λ (i : Inside). i.version) w.self-inside-is, inr (ap (λ (i : Inside). i.lists.items) w.self-inside-is ∙ w.clear.ensures.items))
+      | else-version-self w ↦ (
+        ap (λ (i : Inside). i.version) w.self-inside-is ∙ sym w.if-version-self.false,
+        inl (w.if-version-self.false, ap (λ (i : Inside). i.lists.items) w.self-inside-is),
+      )
+    ])
