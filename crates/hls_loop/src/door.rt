@@ -55,7 +55,8 @@ pub struct Door {
 }
 
 impl Door {
-    /// For so many workers that hold so many connections in all, at least one; each takes so many before it ends.
+    /// For so many workers that hold so many connections in all, at least one; each takes so many before it ends. An error says that
+    /// memory is wanted, or that the process may have no more files open.
     pub fn new(alloc: Global, workers: u64, most: u64, connections: u64) -> io::Result<Door> {
         let mut desks = Vec::new(alloc);
         for _ in 0..workers.max(1) {
