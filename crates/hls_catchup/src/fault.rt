@@ -8,11 +8,11 @@ ghost use Rattle.hls_catchup.specs.declared.fault.JobFault.TheVariants as job_fa
 
 use hls_faults::{WantOfMemory, name_among};
 use std::alloc::AllocError;
+use std::fmt::{self, Display, Formatter, Write};
 use thiserror::Error;
 
 /// Why a request has no answer, in the order in which the causes are looked at.
 #[derive(Clone, Copy, Debug, PartialEq, Eq, Error)]
-#[error("{}", self.name())]
 pub enum CatchFault {
     /// The stop isn't after the start.
     BadRange,
@@ -41,6 +41,12 @@ impl CatchFault {
     }
 }
 
+impl Display for CatchFault {
+    fn fmt<W: Write>(&self, f: &mut Formatter<W>) -> fmt::Result {
+        f.write_str(self.name())
+    }
+}
+
 impl<E: WantOfMemory> From<E> for CatchFault {
     ghost from_gives = { λ _ e. e ≡ catch_fault.Memory };
 
@@ -51,7 +57,6 @@ impl<E: WantOfMemory> From<E> for CatchFault {
 
 /// Why a call on the job table is refused.
 #[derive(Clone, Copy, Debug, PartialEq, Eq, Error)]
-#[error("{}", self.name())]
 pub enum JobFault {
     /// All 64 places are taken, or the last id is used.
     TableFull,
@@ -76,6 +81,12 @@ impl JobFault {
         ensures { result.now ≡ job_fault_name self.now }
     {
         name_among!(self; JobFault: TableFull, UnknownJob, Stray, Memory)
+    }
+}
+
+impl Display for JobFault {
+    fn fmt<W: Write>(&self, f: &mut Formatter<W>) -> fmt::Result {
+        f.write_str(self.name())
     }
 }
 

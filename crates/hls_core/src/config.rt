@@ -10,6 +10,7 @@ use hls_check_laws::{RENDITION_LIMIT, TARGET_LIMIT};
 use hls_core_laws::rendition::Rendition;
 use hls_faults::name_among;
 use std::alloc::{AllocError, Global};
+use std::fmt::{self, Display, Formatter, Write};
 use std::marker::Model;
 use std::sync::Arc;
 use thiserror::Error;
@@ -19,7 +20,6 @@ pub const LAST_EPOCH: i64 = 221845392000000000;
 
 /// Why a channel can't be configured so.
 #[derive(Clone, Copy, Debug, PartialEq, Eq, Error)]
-#[error("{}", self.name())]
 pub enum ConfigFault {
     /// The target isn't 1 to 3600 seconds.
     BadTarget,
@@ -63,6 +63,12 @@ impl ConfigFault {
         ensures { result.now ≡ name_of self.now }
     {
         name_among!(self; ConfigFault: BadTarget, BadPreferred, BadRendition, BadEpoch, Memory)
+    }
+}
+
+impl Display for ConfigFault {
+    fn fmt<W: Write>(&self, f: &mut Formatter<W>) -> fmt::Result {
+        f.write_str(self.name())
     }
 }
 

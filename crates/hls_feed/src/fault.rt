@@ -7,19 +7,17 @@ use hls_boxes_laws::fault::BoxFault;
 use hls_core_laws::refusal::Refusal;
 use hls_media_laws::fault::MediaFault;
 use std::alloc::AllocError;
+use std::fmt::{self, Display, Formatter, Write};
 use thiserror::Error;
 
 /// Why a stream is refused: by its boxes, by what a part of it says, or by the channel's state.
 #[derive(Clone, Copy, Debug, PartialEq, Eq, Error)]
 pub enum StreamFault {
     /// It is no stream of boxes, or ends inside a part.
-    #[error("{0}")]
     Boxes(BoxFault),
     /// A part is no good init section or no good unit.
-    #[error("{0}")]
     Media(MediaFault),
     /// The channel refuses a part: `NoInit` for a unit before any init section, `InitChanged`, `Overlap`, ..
-    #[error("{0}")]
     Core(Refusal),
 }
 
@@ -33,6 +31,12 @@ impl StreamFault {
             StreamFault::Media(fault) => fault.name(),
             StreamFault::Core(refusal) => refusal.name(),
         }
+    }
+}
+
+impl Display for StreamFault {
+    fn fmt<W: Write>(&self, f: &mut Formatter<W>) -> fmt::Result {
+        f.write_str(self.name())
     }
 }
 

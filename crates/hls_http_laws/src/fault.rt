@@ -5,11 +5,11 @@ ghost use Rattle.hls_http_laws.specs.Reply.{fault_name, fault_status};
 
 use crate::reply::Status;
 use hls_faults::name_among;
+use std::fmt::{self, Display, Formatter, Write};
 use thiserror::Error;
 
 /// Why a request is refused, by what HTTP says of it. It is printed as its variant's name.
 #[derive(Clone, Copy, Debug, PartialEq, Eq, Error)]
-#[error("{}", self.name())]
 pub enum HttpFault {
     /// No bytes can follow that make what was read a head, or an HTTP/1.1 head hasn't exactly one Host: 400.
     BadHead,
@@ -60,5 +60,11 @@ impl HttpFault {
             HttpFault::Memory => Status::Unavailable,
             HttpFault::Full => Status::InsufficientStorage,
         }
+    }
+}
+
+impl Display for HttpFault {
+    fn fmt<W: Write>(&self, f: &mut Formatter<W>) -> fmt::Result {
+        f.write_str(self.name())
     }
 }

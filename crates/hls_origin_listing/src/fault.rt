@@ -5,11 +5,11 @@ ghost use Rattle.hls_origin_listing.specs.FaultName.{name_of};
 ghost use Rattle.hls_origin_listing.specs.declared.fault.ListFault.TheVariants.{Memory};
 
 use hls_faults::{WantOfMemory, name_among};
+use std::fmt::{self, Display, Formatter, Write};
 use thiserror::Error;
 
 /// Why a recorded stream isn't listed, in the order in which the causes are looked at.
 #[derive(Clone, Copy, Debug, PartialEq, Eq, Error)]
-#[error("{}", self.name())]
 pub enum ListFault {
     /// There are less than two places.
     NoPlace,
@@ -27,6 +27,12 @@ impl ListFault {
         ensures { result.now ≡ name_of self.now }
     {
         name_among!(self; ListFault: NoPlace, ProgrammeTooLong, NotAllowed, Memory)
+    }
+}
+
+impl Display for ListFault {
+    fn fmt<W: Write>(&self, f: &mut Formatter<W>) -> fmt::Result {
+        f.write_str(self.name())
     }
 }
 

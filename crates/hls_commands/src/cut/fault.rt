@@ -6,6 +6,7 @@ ghost use Rattle.hls_commands.specs.declared.cut.fault.CutFault.TheVariants.{Mem
 use hls_feed::{StreamFault, Untaken};
 use hls_origin_listing::ListFault;
 use std::alloc::{AllocError, AllocFailed};
+use std::fmt::{self, Display, Formatter, Write};
 use thiserror::Error;
 
 /// Why `cut` refuses a stream, or couldn't read or write.
@@ -13,19 +14,14 @@ use thiserror::Error;
 pub enum CutFault {
     /// The stream is refused: it can't be cut into parts, or ends inside a part; an init section or
     /// a unit is no good; or the channel refuses what comes, or the end before any init section.
-    #[error("{0}")]
     Stream(StreamFault),
     /// The recorded stream can't be listed.
-    #[error("{0}")]
     Listing(ListFault),
     /// A read failed.
-    #[error("ReadFailed")]
     ReadFailed,
     /// A write failed.
-    #[error("WriteFailed")]
     WriteFailed,
     /// Memory ran out.
-    #[error("Memory")]
     Memory,
 }
 
@@ -41,6 +37,12 @@ impl CutFault {
             CutFault::WriteFailed => "WriteFailed",
             CutFault::Memory => "Memory",
         }
+    }
+}
+
+impl Display for CutFault {
+    fn fmt<W: Write>(&self, f: &mut Formatter<W>) -> fmt::Result {
+        f.write_str(self.name())
     }
 }
 
