@@ -2,23 +2,17 @@
 
 ghost use Rattle.std.specs.Prelude.{◌≡◌, ◌≤◌, IfOk};
 
-use crate::asking::answered;
-use crate::streams::{put, stream};
 use bytes::Bytes;
 use hls_catchup::{JobFault, JobTable, run_job};
 use hls_core::config::Config;
 use hls_core::snapshot::Snapshot;
-use hls_core_laws::event::Event;
 use hls_core_laws::rendition::Rendition;
 use hls_serve::alone::Alone;
-use hls_serve::keeper::Keeper;
-use hls_turn::Done;
 use std::alloc::{AllocError, Global};
-use std::sync::{Arc, Wait};
-use std::test::Fail;
+use std::sync::Arc;
 
 /// A video rendition of 3 Mbit a second.
-fn video(alloc: Global) -> Result<Rendition, AllocError>
+pub fn video(alloc: Global) -> Result<Rendition, AllocError>
     ensures { IfOk result (λ rendition. rendition.tolerance ≡ 0) }
 {
     Ok(Rendition {
@@ -48,43 +42,6 @@ pub fn owned(alloc: Global, snapshot: Snapshot) -> Result<Alone, AllocError>
     })
 }
 
-/// A channel of one rendition, before anything came.
-pub fn opened(alloc: Global) -> Result<Alone, Fail>
-    ensures { IfOk result (λ own. own.number ≡ 0) }
-{
-    Ok(owned(alloc, opening(alloc, None).ok_or("no channel")?)?)
-}
-
-/// A channel of a video and an audio rendition, before anything came.
-pub fn video_and_audio(alloc: Global, tolerance: u64) -> Result<Alone, Fail>
-    ensures { IfOk result (λ own. own.number ≡ 0) }
-{
-    let audio = Rendition {
-        name: Bytes::copy_from_slice(alloc, b"en")?,
-        video: false,
-        bandwidth: 128_000,
-        tolerance,
-    };
-    let renditions = Vec::from_array(alloc, [video(alloc)?, audio])?;
-    let config = Config::new(alloc, 6, 4_000_000, renditions)?;
-    Ok(owned(alloc, Snapshot::first(alloc, config)?)?)
-}
-
-/// A channel of one rendition with the first units, and with an epoch or without one.
-pub fn with_units<T: Wait>(
-    rt: &T,
-    alloc: Global,
-    units: u32,
-    epoch: Option<i64>,
-) -> Result<Alone, Fail>
-    ensures { IfOk result (λ own. 0 ≤ own.number) }
-{
-    let mut own = owned(alloc, opening(alloc, epoch).ok_or("no channel")?)?;
-    let text = put(alloc, 0, "", &stream(alloc, units)?)?;
-    let _ = answered(rt, alloc, &mut own, &text)?;
-    Ok(own)
-}
-
 /// Runs all jobs that wait.
 pub fn run_all(alloc: Global, own: &mut Alone) -> Result<(), JobFault>
     ensures { 0 ≤ own.new.number }
@@ -96,16 +53,4 @@ pub fn run_all(alloc: Global, own: &mut Alone) -> Result<(), JobFault>
         own.jobs.finish(run_job(alloc, work))?;
     }
     Ok(())
-}
-
-/// Brings an event of upkeep; whether it was new.
-pub fn is_new(own: &mut Alone, event: Event) -> bool
-    ensures { 0 ≤ own.new.number }
-{
-    match event {
-        Event::Slide { .. } => {}
-        Event::Trim { .. } => {}
-        _ => return false,
-    }
-    matches!(own.submit(event), Ok(Done::New { .. }))
 }

@@ -1,17 +1,9 @@
-//! Tests of sessions over memory: connections cut anywhere, calls that fail, memory that is refused. They stand apart from
-//! `hls_serve`, so that its proof isn't made once more for them; those of what whole sessions answer need none (`tests/calls`).
+//! Tests of sessions over memory that is refused. They stand apart from `hls_serve`, so that its proof isn't made once more for
+//! them; those of what whole sessions answer, and of connections that are cut or whose calls fail, need none (`tests/calls`).
 #![tactic(auto)]
 
 #[cfg(test)]
-mod asking;
-#[cfg(test)]
 mod channels;
-#[cfg(test)]
-mod cut_short;
-#[cfg(test)]
-mod failing;
-#[cfg(test)]
-mod fakes;
 #[cfg(test)]
 mod refused;
 #[cfg(test)]
@@ -20,7 +12,5 @@ mod refused_turn;
 mod script;
 #[cfg(test)]
 mod streams;
-#[cfg(test)]
-mod visits;
 #[cfg(test)]
 mod went;

@@ -3,13 +3,8 @@
 
 ghost use Rattle.std.specs.Prelude.{◌≤◌, ◌<◌, ◌^◌, IfOk, length};
 
-use crate::asking::{answered, reply};
-use crate::channels::{opened, run_all};
 use crate::streams::{put, stream};
-use hls_serve::alone::Alone;
 use std::alloc::{AllocError, Global};
-use std::sync::Wait;
-use std::test::Fail;
 
 /// How many events the script comes to: an init section, three units, and an end.
 pub const EVENTS: u64 = 5;
@@ -113,6 +108,24 @@ pub fn media_reply(alloc: Global) -> Result<Vec<u8>, AllocError>
     Ok(reply)
 }
 
+/// A reply with a text, given without its last line end. The head is a status, with `; ` and a field behind it or none.
+pub fn reply(alloc: Global, head: &str, text: &str) -> Result<Vec<u8>, AllocError>
+    ensures { IfOk result (λ bytes. length bytes.items < 2 ^ 64) }
+{
+    let (status, field) = head.split_once("; ").unwrap_or((head, ""));
+    let end = if field.is_empty() { "" } else { "\r\n" };
+    let kind = if text.starts_with("#EXTM3U") {
+        "application/vnd.apple.mpegurl"
+    } else {
+        "text/plain"
+    };
+    let len = text.len().wrapping_add(1);
+    let reply = format!(in alloc;
+        "HTTP/1.1 {status}\r\nContent-Type: {kind}\r\nContent-Length: {len}\r\n{field}{end}\r\n{text}\n"
+    )?;
+    Ok(reply.into_bytes())
+}
+
 /// The replies to requests for a job's files.
 #[derive(Drop)]
 pub struct Files {
@@ -142,25 +155,4 @@ impl Files {
             &self.certificate,
         ]
     }
-}
-
-/// A channel to which the encoder has sent all, and whose job is finished.
-pub fn with_job<T: Wait>(rt: &T, alloc: Global) -> Result<Alone, Fail>
-    ensures { IfOk result (λ own. 0 ≤ own.number) }
-{
-    let mut own = opened(alloc)?;
-    let _ = answered(rt, alloc, &mut own, &encoder(alloc)?)?;
-    run_all(alloc, &mut own)?;
-    Ok(own)
-}
-
-/// Texts, one behind the other.
-pub fn joined(alloc: Global, texts: &[&[u8]]) -> Result<Vec<u8>, AllocError>
-    ensures { IfOk result (λ bytes. length bytes.items < 2 ^ 64) }
-{
-    let mut all = Vec::new(alloc);
-    for text in texts {
-        all.extend_from_slice(text)?;
-    }
-    Ok(all)
 }

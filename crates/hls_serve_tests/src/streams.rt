@@ -47,21 +47,3 @@ pub fn put(
     text.extend_from_slice(body)?;
     Ok(text)
 }
-
-/// A PUT of a body to the first rendition, in chunks of 7 bytes.
-pub fn put_in_chunks(alloc: Global, body: &[u8]) -> Result<Vec<u8>, AllocError>
-    ensures { IfOk result (λ bytes. length bytes.items < 2 ^ 64) }
-{
-    let mut text = Vec::from_slice(
-        alloc,
-        b"PUT /ingest/0 HTTP/1.1\r\nHost: a\r\nTransfer-Encoding: chunked\r\n\r\n",
-    )?;
-    for chunk in body.chunks(7) {
-        let size = format!(in alloc; "{:x}\r\n", chunk.len())?;
-        text.extend_from_slice(size.as_bytes())?;
-        text.extend_from_slice(chunk)?;
-        text.extend_from_slice(b"\r\n")?;
-    }
-    text.extend_from_slice(b"0\r\n\r\n")?;
-    Ok(text)
-}

@@ -1,6 +1,0 @@
-use Rattle.hls_serve.specs.Owned.{known_of}
-use Rattle.hls_serve.specs.Visits.{Suits}
-use Rattle.hls_serve_tests.proofs.visits.handed_out.Given as goal
-
-abbrev pub invariant-loop : goal.invariant-loop
-invariant-loop l = Suits (known_of l.own) l.visit
