@@ -1,7 +1,7 @@
 -- What the housekeeper did, one thing after the other.
 use Rattle.std.proofs.Common.{ℕ, List, [], ◌∷◌, ◌++◌, inl, inr, refl, sym, subst}
-use Rattle.hls_turn.specs.Passes.{Known}
-use Rattle.hls_turn.specs.Calls.{LookedOn}
+use Rattle.hls_core_laws.specs.Known.{Known}
+use Rattle.hls_core_laws.specs.Known.{LookedOn}
 use Rattle.hls_house.specs.Keeping.{Brings, KeepsThrough, KeepsUp}
 
 pub kept_still : (window keep : ℕ) (a : Known) → KeepsUp window keep a a

@@ -5,9 +5,9 @@ use Rattle.hls_core_laws.specs.declared.event.Event.TheVariants.{Trim}
 use Rattle.hls_core_laws.specs.declared.refusal.Refusal.{Refusal}
 use Rattle.hls_core_laws.specs.State.{State}
 use Rattle.hls_core.specs.Upkeeps.{IsUpkeepOf}
-use Rattle.hls_turn.specs.declared.done.Done.{Done}
-use Rattle.hls_turn.specs.Passes.{Known}
-use Rattle.hls_turn.specs.Calls.{LookedOn, Submits}
+use Rattle.hls_core_laws.specs.declared.done.Done.{Done}
+use Rattle.hls_core_laws.specs.Known.{Known}
+use Rattle.hls_core_laws.specs.Known.{LookedOn, Submits}
 use Rattle.hls_house.specs.declared.house.Round.{Round}
 use Rattle.hls_house.specs.declared.house.Round.TheVariants.{Kept, Trimmed, Waits}
 

@@ -2,7 +2,7 @@
 
 ghost use Rattle.std.specs.Prelude.{◌≡◌, IfOk, Some};
 ghost use Rattle.hls_core.specs.Upkeeps.{IsUpkeepOf};
-ghost use Rattle.hls_turn.specs.Calls.{LookedOn};
+ghost use Rattle.hls_core_laws.specs.Known.{LookedOn};
 ghost use Rattle.hls_house.specs.Keeping.{Brings, EndsRound, KeepsUp};
 
 use crate::due::is_due;

@@ -11,6 +11,7 @@ ghost use Rattle.hls_serve_laws.specs.Replies.{text_answer};
 ghost use Rattle.hls_serve_laws.specs.Routes.{methods_of};
 
 use crate::answer::Answer;
+use hls_core_laws::done::Done;
 use hls_core_laws::refusal::Refusal;
 use hls_feed::StreamFault;
 use hls_http::refusal_body;
@@ -19,7 +20,6 @@ use hls_http_laws::reply::{Extra, Kind, Status};
 use hls_serve_laws::fault::{core_status, status_of};
 use hls_serve_laws::ingest::Counts;
 use hls_serve_laws::route::Route;
-use hls_turn::Done;
 use std::alloc::{AllocError, Global};
 
 /// An answer whose body is a text.

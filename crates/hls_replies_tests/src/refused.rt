@@ -15,7 +15,7 @@ use hls_sample_channels::{opened, with_units};
 use hls_serve_laws::ingest::Counts;
 use hls_serve_laws::query::{Moment, Query};
 use hls_serve_laws::route::Route;
-use hls_turn::Done;
+use hls_core_laws::done::Done;
 use std::alloc::{AllocError, Global};
 use std::sync::Arc;
 

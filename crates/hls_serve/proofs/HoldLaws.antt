@@ -20,7 +20,7 @@ use Rattle.hls_http_laws.specs.Order.{continues}
 use Rattle.hls_http.specs.Drained.{announced_by}
 use Rattle.hls_serve_laws.specs.declared.route.Route.{Route}
 use Rattle.hls_serve_laws.specs.declared.route.Route.TheVariants as routes
-use Rattle.hls_turn.specs.Passes.{Known}
+use Rattle.hls_core_laws.specs.Known.{Known}
 use Rattle.hls_serve_laws.specs.Acts.{Act}
 use Rattle.hls_serve_laws.specs.Heard.{Due, FollowsBy, Heard, IsDue, IsDueWithoutHead, RefusesHead, first_of, request_of}
 use Rattle.hls_serve_laws.specs.Connections.{Exchange, Serves, Over, IsAsked, IsWithin, EndsByReply, Stands, IsServed, acts_of, text_of, due_in}

@@ -14,7 +14,7 @@ use Rattle.hls_core_laws.specs.IsState.{IsState}
 use Rattle.hls_core_laws.specs.Moves.{IsFittingAsSeen}
 use Rattle.hls_core_laws.specs.Follows.{Follows}
 use Rattle.hls_core_laws.proofs.Callers.{inits_stay}
-use Rattle.hls_turn.specs.Passes.{Known}
+use Rattle.hls_core_laws.specs.Known.{Known}
 use Rattle.hls_boxes_laws.specs.declared.part.Part.TheVariants as parts
 use Rattle.hls_serve_laws.specs.Acts.{Act, Acted, ActsInVain, IsVain, Leads, Looked, Looks, Submitted, Submits}
 use Rattle.hls_serve_laws.specs.Ingest.{Progress, FindsInit, PartComes}

@@ -8,7 +8,7 @@ use Rattle.hls_io.specs.Writing.{Writes}
 use Rattle.hls_http.proofs.Callers.{writes_whole}
 use Rattle.hls_http_laws.specs.declared.end.SessionEnd.{SessionEnd}
 use Rattle.hls_http_laws.specs.declared.end.SessionEnd.TheVariants as ends
-use Rattle.hls_turn.specs.Passes.{Known}
+use Rattle.hls_core_laws.specs.Known.{Known}
 use Rattle.hls_serve_laws.specs.Acts.{Act, Acted, Chain}
 use Rattle.hls_serve_laws.specs.Connections.{History, IsServed, Stage, Between, Within, Over}
 use Rattle.hls_serve_laws.specs.Sessions.{EndsSo, GoesOn, Session}

@@ -5,7 +5,7 @@ use Rattle.std.proofs.Math.Seq.{drop-append_seam}
 use Rattle.http_server.specs.declared.log.Log.{Log}
 use Rattle.hls_core_laws.specs.IsState.{IsState}
 use Rattle.hls_http.specs.Texts.{Texts}
-use Rattle.hls_turn.specs.Passes.{Known}
+use Rattle.hls_core_laws.specs.Known.{Known}
 use Rattle.hls_serve_laws.specs.Acts.{Act, Acted}
 use Rattle.hls_serve_laws.specs.Connections.{IsServed}
 use Rattle.hls_serve_laws.specs.Linked.{Later, Linked}

@@ -11,7 +11,7 @@ use Rattle.hls_http_laws.specs.Reply.{fault_status, is_success, no_memory_to}
 use Rattle.hls_core_laws.specs.declared.event.Event.TheVariants.{Finish}
 use Rattle.hls_core_laws.specs.declared.refusal.Refusal.{Refusal}
 use Rattle.hls_core_laws.specs.declared.refusal.Refusal.TheVariants.{Memory}
-use Rattle.hls_turn.specs.declared.done.Done.{Done as Moved}
+use Rattle.hls_core_laws.specs.declared.done.Done.{Done as Moved}
 use Rattle.hls_catchup.specs.declared.fault.JobFault.{JobFault}
 use Rattle.hls_catchup.specs.declared.jobs.job.Job.{Job}
 use Rattle.hls_serve_laws.specs.Acts.{Act, ActsInVain, IsVain, Submits}

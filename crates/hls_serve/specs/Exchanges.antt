@@ -4,7 +4,7 @@ use Rattle.hls_io.specs.Counted.{inside_of}
 use Rattle.hls_http_laws.specs.declared.end.SessionEnd.{SessionEnd}
 use Rattle.hls_http.specs.declared.session.Session.{Session}
 use Rattle.hls_http.specs.Source.{held_of, reader_of}
-use Rattle.hls_turn.specs.Passes.{Known}
+use Rattle.hls_core_laws.specs.Known.{Known}
 use Rattle.hls_serve_laws.specs.Sessions as spec
 
 -- where the input that is still to come is known, and what the writer holds, they are a session's, from what its keeper knew before it

@@ -5,7 +5,7 @@ use Rattle.httparse.specs.Grammar.{RequestHead}
 use Rattle.hls_core_laws.specs.IsState.{IsState}
 use Rattle.hls_http_laws.specs.Heads.{ReadsSmall}
 use Rattle.hls_http.specs.declared.body.BodyEnd.TheVariants as bodies
-use Rattle.hls_turn.specs.Passes.{Known}
+use Rattle.hls_core_laws.specs.Known.{Known}
 use Rattle.hls_serve_laws.specs.declared.ingest.Intake.TheVariants as came
 use Rattle.hls_serve_laws.specs.Acts.{Act}
 use Rattle.hls_serve_laws.specs.Connections.{Exchange, History, Serves, Stage, Between, Within, Over, IsBetween, Stands, acts_of, output, text_of}

@@ -3,7 +3,7 @@ use Rattle.hls_core_laws.specs.declared.event.Event.{Event}
 use Rattle.hls_core_laws.specs.State.{State}
 use Rattle.hls_core_laws.specs.Outcome.{Outcome}
 use Rattle.hls_core_laws.specs.Moves.{Moves}
-use Rattle.hls_turn.specs.Passes.{Known}
+use Rattle.hls_core_laws.specs.Known.{Known}
 
 -- the event met a state to which others led meanwhile from the one that the pass had seen, and by the moves' relation it led
 -- on to the one that the pass has now seen

@@ -5,7 +5,7 @@ use Rattle.hls_core_laws.specs.declared.event.Event.{Event}
 use Rattle.hls_core_laws.specs.declared.refusal.Refusal.{Refusal}
 use Rattle.std.specs.declared.sync.Arc.{Arc}
 use Rattle.hls_core_laws.specs.State.{State}
-use Rattle.hls_turn.specs.declared.done.Done.{Done}
+use Rattle.hls_core_laws.specs.declared.done.Done.{Done}
 use Rattle.hls_serve_laws.specs.Acts.{Act, Looked, LookedInVain, Submitted, Looks}
 use Rattle.hls_serve.specs.declared.acts.Noted.{Noted}
 use Rattle.hls_serve.specs.declared.acts.Noted.TheVariants as noted

@@ -9,7 +9,7 @@ use Rattle.hls_core_laws.specs.declared.refusal.Refusal.TheVariants.{NoInit, Mem
 use Rattle.hls_feed.specs.declared.fault.StreamFault.TheVariants.{Core}
 use Rattle.hls_feed.specs.declared.fault.Untaken.{Untaken}
 use Rattle.hls_feed.specs.declared.fault.Untaken.TheVariants as untaken
-use Rattle.hls_turn.specs.Passes.{Known}
+use Rattle.hls_core_laws.specs.Known.{Known}
 use Rattle.hls_serve_laws.specs.Acts.{ActsInVain}
 use Rattle.hls_serve_laws.specs.Ingest.{Progress, FindsInit, IsTooEarly}
 use Rattle.hls_serve.specs.declared.ingest.Taken.{Taken}

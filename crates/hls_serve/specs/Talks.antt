@@ -2,7 +2,7 @@
 -- A connection but for its input: all that came of it, by its notes.
 use Rattle.std.specs.Prelude.{◌≡◌, ℕ, List, flat_map, length, take, drop}
 use Rattle.hls_core_laws.specs.IsState.{IsState}
-use Rattle.hls_turn.specs.Passes.{Known}
+use Rattle.hls_core_laws.specs.Known.{Known}
 use Rattle.hls_serve_laws.specs.Connections.{History}
 use Rattle.hls_serve_laws.specs.Linked.{Linked}
 use Rattle.hls_serve.specs.declared.talk.Talk.{Talk}

@@ -1,6 +1,6 @@
 -- What is told of a visit: all that came of it, and what its keeper has to know.
 use Rattle.std.specs.Prelude.{◌≡◌, ◌⊎◌, ◌<◌, ℕ, length, Option, IsFalse}
-use Rattle.hls_turn.specs.Passes.{Known}
+use Rattle.hls_core_laws.specs.Known.{Known}
 use Rattle.hls_serve_laws.specs.Connections.{History, Stage, Between}
 use Rattle.hls_serve_laws.specs.Sessions.{GoesOn}
 use Rattle.hls_serve_laws.specs.Linked.{Later}

@@ -9,9 +9,9 @@ ghost use Rattle.hls_serve.specs.Taken.{IsUsable};
 
 use crate::keeper::Keeper;
 use hls_core::snapshot::Snapshot;
+use hls_core_laws::done::Done;
 use hls_core_laws::event::Event;
 use hls_core_laws::refusal::Refusal;
-use hls_turn::Done;
 use http_server::Log;
 use std::alloc::AllocError;
 use std::marker::Model;

@@ -2,7 +2,7 @@
 
 ghost use Rattle.std.specs.Prelude.{◌≡◌};
 ghost use Rattle.hls_core_laws.specs.Moves.{IsFittingAsSeen};
-ghost use Rattle.hls_turn.specs.Calls.{Submits};
+ghost use Rattle.hls_core_laws.specs.Known.{Submits};
 ghost use Rattle.hls_serve.specs.Meanwhile.{Met};
 ghost use Rattle.hls_serve.specs.Owned.{known_of};
 
@@ -11,10 +11,10 @@ use hls_catchup::{Job, JobFault, JobTable, Request};
 use hls_core::snapshot::Snapshot;
 use hls_core::step::step;
 use hls_core::stepped::Stepped;
+use hls_core_laws::done::Done;
 use hls_core_laws::event::Event;
 use hls_core_laws::refusal::Refusal;
 use hls_replies::{Answer, list_answer};
-use hls_turn::Done;
 use std::alloc::{AllocError, Global};
 use std::sync::Arc;
 

@@ -9,6 +9,7 @@ use crate::acts::{Acts, look, submit};
 use crate::keeper::Keeper;
 use bytes::Bytes;
 use hls_boxes::Part;
+use hls_core_laws::done::Done;
 use hls_core_laws::event::Event;
 use hls_core_laws::refusal::Refusal;
 use hls_feed::{StreamFault, Taker, Untaken};
@@ -16,7 +17,6 @@ use hls_media::{read_facts, read_init};
 use hls_media_laws::fault::MediaFault;
 use hls_media_laws::init::Init;
 use hls_serve_laws::ingest::Counts;
-use hls_turn::Done;
 use std::marker::PhantomData;
 
 /// What was taken of a body, and the rendition's init section once it was looked for.

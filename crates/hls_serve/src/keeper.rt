@@ -5,8 +5,8 @@ ghost use Rattle.hls_core_laws.specs.IsState.{IsState};
 ghost use Rattle.hls_core_laws.specs.Moves.{IsFittingAsSeen};
 ghost use Rattle.hls_core_laws.specs.State.{State};
 ghost use Rattle.hls_catchup.specs.Jobs.Shared.{HasCounted, HasRemoved};
-ghost use Rattle.hls_turn.specs.Passes.{Known};
-ghost use Rattle.hls_turn.specs.Calls.{LookedOn, Looks, Submits};
+ghost use Rattle.hls_core_laws.specs.Known.{Known};
+ghost use Rattle.hls_core_laws.specs.Known.{LookedOn, Looks, Submits};
 ghost use Rattle.hls_serve_laws.specs.JobTable.{IsAdded, IsTold};
 ghost use Rattle.hls_serve_laws.specs.Playlists.{live_text};
 ghost use Rattle.hls_serve_laws.specs.Replies as replies;
@@ -14,10 +14,10 @@ ghost use Rattle.hls_serve.specs.Meanwhile.{Met};
 
 use hls_catchup::{Job, JobFault, Request};
 use hls_core::snapshot::Snapshot;
+use hls_core_laws::done::Done;
 use hls_core_laws::event::Event;
 use hls_core_laws::refusal::Refusal;
 use hls_replies::Answer;
-use hls_turn::Done;
 use std::alloc::{AllocError, Global};
 use std::sync::Arc;
 

@@ -3,7 +3,7 @@
 
 ghost use Rattle.std.specs.Prelude.{◌≡◌, ◌↔◌, ◌++◌, ℕ, List, [], length, Bool, IsFalse, true};
 ghost use Rattle.hls_core_laws.specs.IsState.{IsState};
-ghost use Rattle.hls_turn.specs.Passes.{Known};
+ghost use Rattle.hls_core_laws.specs.Known.{Known};
 ghost use Rattle.hls_serve_laws.specs.Acts.{Acted};
 ghost use Rattle.hls_serve.specs.declared.machine.State.TheVariants as states;
 ghost use Rattle.hls_serve.specs.Machine.{Goes, GoesBehind, GoesFrom, GoesOnIn, Rests, Suits, SuitsIn, asked_in, asked_now, failure_in, state_behind, total, waited_head};

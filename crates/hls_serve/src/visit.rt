@@ -3,7 +3,7 @@
 ghost use Rattle.std.specs.Prelude.{◌≡◌, ◌≤◌, ◌<◌, ◌↔◌, ℕ, List, length, IsTrue, IsFalse, IfOk, IfSome, IfNone, OnErr};
 ghost use Rattle.std.specs.Io.KnownBytes.{Consumes, IsAtEnd, Keeps};
 ghost use Rattle.bytes.specs.Unread.{IsChunkOf};
-ghost use Rattle.hls_turn.specs.Passes.{Known};
+ghost use Rattle.hls_core_laws.specs.Known.{Known};
 ghost use Rattle.hls_serve_laws.specs.Acts.{Acted};
 ghost use Rattle.hls_serve_laws.specs.Connections.{IsServed, Over};
 ghost use Rattle.hls_serve_laws.specs.Linked.{Later};

@@ -9,9 +9,9 @@ use Rattle.hls_core_laws.specs.Outcome.{Outcome, New, Repeated, Refused}
 use Rattle.hls_core_laws.specs.State.{State}
 use Rattle.hls_core_laws.proofs.Callers.{state_of}
 use Rattle.hls_core_laws.proofs.Callers.{follows_itself, follows_through, moves_follow, seen_suffices}
-use Rattle.hls_turn.specs.declared.done.Done.{Done}
-use Rattle.hls_turn.specs.Calls as calls
-use Rattle.hls_turn.specs.Passes.{Known}
+use Rattle.hls_core_laws.specs.declared.done.Done.{Done}
+use Rattle.hls_core_laws.specs.Known as calls
+use Rattle.hls_core_laws.specs.Known.{Known}
 use Rattle.hls_serve_laws.specs.Acts.{Act, Acted, Chain, Leads, Looked, LookedInVain, Submitted}
 use Rattle.hls_serve_laws.specs.Linked.{Later, Linked}
 

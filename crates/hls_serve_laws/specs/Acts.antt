@@ -5,9 +5,9 @@ use Rattle.hls_core_laws.specs.declared.refusal.Refusal.{Refusal}
 use Rattle.hls_core_laws.specs.declared.refusal.Refusal.TheVariants.{Memory}
 use Rattle.hls_core_laws.specs.Moves.{IsFittingAsSeen}
 use Rattle.hls_core_laws.specs.State.{State}
-use Rattle.hls_turn.specs.declared.done.Done.{Done}
-use Rattle.hls_turn.specs.Passes.{Known}
-use Rattle.hls_turn.specs.Calls as calls
+use Rattle.hls_core_laws.specs.declared.done.Done.{Done}
+use Rattle.hls_core_laws.specs.Known.{Known}
+use Rattle.hls_core_laws.specs.Known as calls
 
 -- a look, and the state that it showed; a look that showed none, for want of memory; an event, and what came of it
 pub data Act : Type 0 where

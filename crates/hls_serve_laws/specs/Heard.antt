@@ -8,7 +8,7 @@ use Rattle.hls_core_laws.specs.declared.refusal.Refusal.TheVariants.{Memory}
 use Rattle.hls_core_laws.specs.State.{State}
 use Rattle.hls_feed.specs.declared.fault.StreamFault.{StreamFault}
 use Rattle.hls_feed.specs.Names.{name_of}
-use Rattle.hls_turn.specs.declared.done.Done.{Done}
+use Rattle.hls_core_laws.specs.declared.done.Done.{Done}
 use Rattle.hls_http_laws.specs.declared.body.Body.{Body}
 use Rattle.hls_http_laws.specs.declared.body.Body.TheVariants.{Length, Size}
 use Rattle.hls_http_laws.specs.declared.fault.HttpFault.{HttpFault}

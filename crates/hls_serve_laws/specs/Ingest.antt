@@ -19,8 +19,8 @@ use Rattle.hls_core_laws.specs.declared.refusal.Refusal.{Refusal}
 use Rattle.hls_core_laws.specs.declared.refusal.Refusal.TheVariants.{NoInit, Memory}
 use Rattle.hls_core_laws.specs.State.{State}
 use Rattle.hls_core.specs.Reads.{recording_of}
-use Rattle.hls_turn.specs.declared.done.Done.{Done}
-use Rattle.hls_turn.specs.declared.done.Done.TheVariants as done
+use Rattle.hls_core_laws.specs.declared.done.Done.{Done}
+use Rattle.hls_core_laws.specs.declared.done.Done.TheVariants as done
 use Rattle.hls_http_laws.specs.declared.body.Body.{Body}
 use Rattle.hls_http_laws.specs.declared.body.Body.TheVariants.{Length, Size, Data, Trailers}
 use Rattle.hls_http_laws.specs.Bodies.{IsBroken, IsOpen}

@@ -3,7 +3,7 @@ use Rattle.std.specs.Prelude.{◌≡◌, List, [], ◌∷◌, ◌++◌}
 use Rattle.hls_core_laws.specs.declared.event.Logged.{Logged}
 use Rattle.hls_core_laws.specs.Follows.{Follows}
 use Rattle.hls_core_laws.specs.IsState.{IsState}
-use Rattle.hls_turn.specs.Passes.{Known}
+use Rattle.hls_core_laws.specs.Known.{Known}
 use Rattle.hls_serve_laws.specs.Acts.{Act, Acted, Leads}
 
 -- what a keeper knows later: it has its number, has perhaps seen a state that follows, and has perhaps brought more events

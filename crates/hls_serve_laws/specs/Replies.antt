@@ -22,8 +22,8 @@ use Rattle.hls_core_laws.specs.State.{State}
 use Rattle.hls_core_laws.specs.Line.{line}
 use Rattle.hls_core_laws.specs.Places.{kept_places}
 use Rattle.hls_core.specs.Reads.{recording_of}
-use Rattle.hls_turn.specs.declared.done.Done.{Done as Moved}
-use Rattle.hls_turn.specs.declared.done.Done.TheVariants as moved
+use Rattle.hls_core_laws.specs.declared.done.Done.{Done as Moved}
+use Rattle.hls_core_laws.specs.declared.done.Done.TheVariants as moved
 use Rattle.hls_serve_laws.specs.declared.route.Route.{Route}
 use Rattle.hls_serve_laws.specs.Faults.{core_status}
 use Rattle.hls_serve_laws.specs.Routes.{methods_of}

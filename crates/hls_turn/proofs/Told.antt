@@ -11,10 +11,11 @@ use Rattle.hls_core_laws.specs.Workers.{events_by}
 use Rattle.hls_core_laws.specs.Config.{ConfigData}
 use Rattle.hls_core_laws.proofs.Callers.{state_of, continues_of, follows_itself, moves_follow, seen_suffices, workers_apart}
 use Rattle.hls_turn.specs.declared.view.View.{View}
-use Rattle.hls_turn.specs.declared.done.Done.{Done}
+use Rattle.hls_core_laws.specs.declared.done.Done.{Done}
 use Rattle.hls_turn.specs.Rule.{Takes, FollowsSeen, after_put, MayPut}
-use Rattle.hls_turn.specs.Passes.{Known, PassData, IsPass, known_by, seen_by, renditions_seen}
-use Rattle.hls_turn.specs.Calls.{Answers, Submits, Looked, LooksAt}
+use Rattle.hls_core_laws.specs.Known.{Answers, Known, Submits}
+use Rattle.hls_turn.specs.Passes.{PassData, IsPass, known_by, seen_by, renditions_seen}
+use Rattle.hls_turn.specs.Calls.{Looked, LooksAt}
 
 -- what is taken follows what the pass has seen
 pub taken_follows : (v : View) (s : State) (w : View) → IsPass v → Takes v s w → Follows (seen_by v) s

@@ -1,16 +1,11 @@
 -- What a pass is to its callers: the turn that it came with, its number, the state that it saw last, and the events that it brought.
-use Rattle.std.specs.Prelude.{◌≡◌, ℕ, List, [], Some, None, length, unwrap_or}
+use Rattle.std.specs.Prelude.{◌≡◌, ℕ, [], Some, None, length, unwrap_or}
 use Rattle.atomic_table.specs.Seated.{TableId}
-use Rattle.hls_core_laws.specs.declared.event.Logged.{Logged}
 use Rattle.hls_core_laws.specs.State.{State}
 use Rattle.hls_core_laws.specs.IsState.{IsState}
+use Rattle.hls_core_laws.specs.Known.{Known}
 use Rattle.hls_core_laws.specs.Workers.{events_by}
 use Rattle.hls_turn.specs.declared.view.View.{View}
-
-pub record Known : Type 0 where
-  pub number : ℕ
-  pub seen : State
-  pub mine : List Logged
 
 pub record PassData : Type 0 where
   pub turn : TableId

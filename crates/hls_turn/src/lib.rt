@@ -4,12 +4,11 @@
 //! that is one event further; so all events stand in one log, whatever the threads do.
 #![tactic(auto)]
 
-mod done;
 mod pass;
 mod queue;
 mod turn;
 mod view;
 
-pub use done::Done;
+pub use hls_core_laws::done::Done;
 pub use pass::Pass;
 pub use turn::Turn;

@@ -2,9 +2,9 @@
 ghost use Rattle.std.specs.Prelude.{◌≡◌, ◌<◌, ◌≤◌, true, All, IfOk, length, map, take, Some};
 ghost use Rattle.std.specs.List.{AllZip};
 ghost use Rattle.hls_core_laws.specs.Moves.{IsFittingAsSeen};
-ghost use Rattle.hls_turn.specs.Calls.{LookedOn, Looks, Submits, opening_passes, Looked, LooksAt, MeetsAt, SettledAt, last_seen};
+ghost use Rattle.hls_core_laws.specs.Known.{LookedOn, Looks, Submits};
+ghost use Rattle.hls_turn.specs.Calls.{opening_passes, Looked, LooksAt, MeetsAt, SettledAt, last_seen};
 
-use crate::done::Done;
 use crate::pass::Pass;
 use crate::queue::{Queue, put, take};
 use crate::view::Beside;
@@ -12,6 +12,7 @@ use hls_core::follows::follows;
 use hls_core::snapshot::Snapshot;
 use hls_core::step::step;
 use hls_core::stepped::Stepped;
+use hls_core_laws::done::Done;
 use hls_core_laws::event::Event;
 use hls_core_laws::refusal::Refusal;
 use std::alloc::{AllocError, Global};

@@ -4,7 +4,8 @@ use Rattle.std.proofs.lemmas.List.{map-append}
 use Rattle.std.proofs.lemmas.List.Elements.{All-set}
 use Rattle.hls_core_laws.specs.State.{State}
 use Rattle.hls_turn.specs.Passes.{PassData}
-use Rattle.hls_turn.specs.Calls.{Looks, Looked, LooksAt}
+use Rattle.hls_core_laws.specs.Known.{Looks}
+use Rattle.hls_turn.specs.Calls.{Looked, LooksAt}
 use Rattle.hls_turn.proofs.Pairs.{zip_self, zip_all, zip_map, zip_put, zip_more, drop_set, drop_one, put_map}
 use Rattle.hls_turn.proofs.Told.{looked_self, looks_looked}
 use Rattle.hls_turn.proofs.turn.Turn.look_with.Goals as goal

@@ -7,7 +7,7 @@ use Rattle.hls_core_laws.specs.Moves.{IsFitting, IsFittingAsSeen}
 use Rattle.hls_core.specs.declared.stepped.Stepped.{Stepped}
 use Rattle.hls_core.specs.Steps.{Steps}
 use Rattle.hls_turn.specs.Passes.{PassData, known_by}
-use Rattle.hls_turn.specs.Calls.{Submits}
+use Rattle.hls_core_laws.specs.Known.{Submits}
 use Rattle.hls_turn.proofs.Told.{fits_met, submits, moves_at, refused_at, may_put_new, new_is_pass}
 use Rattle.hls_turn.proofs.turn.Turn.submit.Goals as goal
 
