@@ -1,7 +1,6 @@
 //! How a worker is told that a connection may be waiting: by the system, which tells one of them alone, or by another worker.
 
 use mio::net::TcpListener;
-use mio::unix::SourceFd;
 use mio::{Interest, Poll, Token};
 use os::FromRawFd;
 use std::io;
@@ -9,6 +8,18 @@ use std::os::fd::{AsRawFd, OwnedFd};
 
 /// Of those who wait for a socket with this mark, the system wakes one, the first that isn't busy (epoll_ctl(2)).
 const EPOLLEXCLUSIVE: u32 = 1 << 28;
+
+/// The error of the call that failed last.
+fn last_error() -> io::Error {
+    io::Error::from_raw_os_error(os::errno())
+}
+
+/// Has the system tell a worker of a file each time that something comes to it, with a mark or with none (0); false where it refuses.
+fn add(poll: &Poll, file: i32, mark: u32, token: Token) -> bool {
+    let news = libc::net::EPOLLIN | libc::net::EPOLLET | mark;
+    let set = poll.as_raw_fd();
+    os::epoll_ctl(set, libc::net::EPOLL_CTL_ADD, file, news, token.0 as u64) == 0
+}
 
 /// A worker's bell: a counter of the system's that is never read, so that each ring is news (eventfd(2)).
 #[derive(Drop)]
@@ -21,7 +32,7 @@ impl Bell {
     pub fn new() -> io::Result<Bell> {
         let counter = libc::net::eventfd(0, libc::net::EFD_CLOEXEC | libc::net::EFD_NONBLOCK);
         if counter < 0 {
-            return Err(io::Error::from_raw_os_error(os::errno()));
+            return Err(last_error());
         }
         Ok(Bell {
             counter: unsafe { OwnedFd::from_raw_fd(counter) },
@@ -30,9 +41,10 @@ impl Bell {
 
     /// Has each ring end the wait of a worker.
     pub fn join(&self, poll: &Poll, token: Token) -> io::Result<()> {
-        let counter = self.counter.as_raw_fd();
-        poll.registry()
-            .register(&mut SourceFd(&counter), token, Interest::READABLE)
+        if add(poll, self.counter.as_raw_fd(), 0, token) {
+            return Ok(());
+        }
+        Err(last_error())
     }
 
     /// Its worker hears it at once, or once it waits again.
@@ -44,10 +56,7 @@ impl Bell {
 /// Has the system tell a worker of connections that come to a listener, where no other worker is told; all of them, where the
 /// system knows no such mark.
 pub(crate) fn attend(poll: &Poll, listener: &mut TcpListener, token: Token) -> io::Result<()> {
-    let news = libc::net::EPOLLIN | libc::net::EPOLLET | EPOLLEXCLUSIVE;
-    let (set, socket) = (poll.as_raw_fd(), listener.as_raw_fd());
-    let told = os::epoll_ctl(set, libc::net::EPOLL_CTL_ADD, socket, news, token.0 as u64);
-    if told == 0 {
+    if add(poll, listener.as_raw_fd(), EPOLLEXCLUSIVE, token) {
         return Ok(());
     }
     poll.registry()

@@ -38,6 +38,15 @@ impl Desk {
             rank: AtomicU64::new(NOBODY),
         })
     }
+
+    /// How many connections it holds; as many as there can be where it takes none.
+    fn load(&self) -> u64 {
+        if self.open.load(Ordering::SeqCst) {
+            self.held.load(Ordering::SeqCst)
+        } else {
+            u64::MAX
+        }
+    }
 }
 
 /// What the workers of one listener know of one another.
@@ -105,9 +114,9 @@ impl Door {
     pub(crate) fn fewest(&self, place: usize) -> Option<usize> {
         let (mut found, mut least) = (None, u64::MAX);
         for (other, desk) in self.desks.iter().enumerate() {
-            let held = desk.held.load(Ordering::SeqCst);
-            if other != place && held < least && desk.open.load(Ordering::SeqCst) {
-                (found, least) = (Some(other), held);
+            let load = desk.load();
+            if other != place && load < least {
+                (found, least) = (Some(other), load);
             }
         }
         found

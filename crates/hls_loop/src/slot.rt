@@ -1,6 +1,6 @@
 //! A connection that a worker holds, from its accept to its end.
 
-ghost use Rattle.std.specs.Prelude.{◌≡◌};
+ghost use Rattle.std.specs.Prelude.{◌≡◌, ◌≤◌};
 ghost use Rattle.hls_loop.specs.Suited.{SuitsOn};
 
 use crate::host::{End, Host};
@@ -16,7 +16,7 @@ const MOST_STEPS: usize = 64;
 const MOST_MOVED: usize = 1_048_576;
 
 /// How a connection stands behind its turn.
-#[derive(Clone, Copy, Debug, PartialEq, Eq, Drop)]
+#[derive(Clone, Copy, PartialEq, Eq, Drop)]
 pub(crate) enum Turn {
     /// It goes on once the system tells of its socket.
     Parked,
@@ -27,7 +27,7 @@ pub(crate) enum Turn {
 }
 
 /// What comes of one step of a turn.
-#[derive(Clone, Copy, Debug, PartialEq, Eq, Drop)]
+#[derive(Clone, Copy, Drop)]
 enum Step {
     /// So many bytes moved, and there may be more to do.
     On(usize),
@@ -86,6 +86,38 @@ impl<V> Slot<V> {
         if bytes > 0 {
             self.pace = self.pace.after_bytes(bytes as u64, now);
         }
+    }
+
+    /// Whether it takes too long, by what is known of it: then its socket is tried once more. Of one that doesn't the bytes are counted
+    /// anew in time; where the process stood still its time begins anew.
+    pub fn is_late(&mut self, patience: u64, now: u64, stood_still: bool) -> bool
+        requires { patience ≤ 3600 }
+        ensures { self.new.visit ≡ self.old.visit }
+    {
+        if stood_still {
+            self.pace = Pace::begun(self.pace.stage, now);
+            return false;
+        }
+        if self.pace.is_over(patience, now) {
+            self.wire.try_again();
+            return true;
+        }
+        self.pace = self.pace.renewed(patience, now);
+        false
+    }
+
+    /// Behind a turn that ends so: it stands in the row of those that go on at the next round no more than once.
+    fn stand(&mut self, turn: Turn) -> Turn
+        ensures { self.new.visit ≡ self.old.visit }
+    {
+        if turn != Turn::Again {
+            return turn;
+        }
+        if self.queued {
+            return Turn::Parked;
+        }
+        self.queued = true;
+        Turn::Again
     }
 
     /// Behind the connection's own end.
@@ -174,6 +206,15 @@ fn step_on<H: Host>(slot: &mut Slot<H::Visit>, host: &mut H, now: u64) -> Step
     read(slot, host, now)
 }
 
+/// Gives a connection up for which memory is wanted, and says so.
+fn starve<H: Host>(slot: &mut Slot<H::Visit>, host: &H, now: u64) -> Turn
+    ensures { slot.new.visit ≡ slot.old.visit }
+{
+    let _ = slot.wire.send(host.no_memory());
+    host.give_up(&slot.visit, slot.peer);
+    slot.end(End::Said, now)
+}
+
 /// Lets a connection go on as far as its socket and a share of time allow.
 fn go_on<H: Host>(slot: &mut Slot<H::Visit>, host: &mut H, now: u64) -> Turn
     requires suits { H.suits host.old slot.old.visit }
@@ -182,28 +223,19 @@ fn go_on<H: Host>(slot: &mut Slot<H::Visit>, host: &mut H, now: u64) -> Turn
 {
     let mut moved: usize = 0;
     for _ in 0..MOST_STEPS {
-        match step_on(slot, host, now) {
+        let step = step_on(slot, host, now);
+        slot.pace = slot.pace.entered(host.stage(&slot.visit), now);
+        match step {
             Step::On(bytes) => moved = moved.saturating_add(bytes),
-            Step::Pause => {
-                slot.pace = slot.pace.entered(host.stage(&slot.visit), now);
-                return Turn::Again;
-            }
-            Step::Wait => {
-                slot.pace = slot.pace.entered(host.stage(&slot.visit), now);
-                return Turn::Parked;
-            }
+            Step::Pause => return Turn::Again,
+            Step::Wait => return Turn::Parked,
             Step::End(end) => return slot.end(end, now),
-            Step::Starved => {
-                let _ = slot.wire.send(host.no_memory());
-                host.give_up(&slot.visit, slot.peer);
-                return slot.end(End::Said, now);
-            }
+            Step::Starved => return starve(slot, host, now),
             Step::Lost => {
                 host.give_up(&slot.visit, slot.peer);
                 return Turn::Closed;
             }
         }
-        slot.pace = slot.pace.entered(host.stage(&slot.visit), now);
         if moved >= MOST_MOVED {
             return Turn::Again;
         }
@@ -211,14 +243,16 @@ fn go_on<H: Host>(slot: &mut Slot<H::Visit>, host: &mut H, now: u64) -> Turn
     Turn::Again
 }
 
-/// Lets a connection have its turn.
+/// Lets a connection have its turn; how it stands then, and whether it waits for its next one already.
 pub(crate) fn take_turn<H: Host>(slot: &mut Slot<H::Visit>, host: &mut H, now: u64) -> Turn
     requires suits { H.suits host.old slot.old.visit }
     ensures suits { H.suits host.new slot.new.visit }
     ensures others { SuitsOn H.suits host.old host.new }
 {
-    if slot.pace.stage == Stage::Lingering {
-        return drop_rest(&mut slot.wire, &mut slot.pace, now);
-    }
-    go_on(slot, host, now)
+    let turn = if slot.pace.stage == Stage::Lingering {
+        drop_rest(&mut slot.wire, &mut slot.pace, now)
+    } else {
+        go_on(slot, host, now)
+    };
+    slot.stand(turn)
 }

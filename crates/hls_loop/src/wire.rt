@@ -4,13 +4,14 @@ ghost use Rattle.std.specs.Prelude.{◌≤◌, length, IfOk};
 
 use mio::event::Event;
 use mio::net::TcpStream;
+use mio::{Interest, Poll, Token};
 use std::io::{self, ErrorKind, Read, Write};
 
 /// The most bytes of one write: a longer one keeps the others of its worker waiting.
 const MOST_WRITTEN: usize = 262_144;
 
 /// Why a call on a socket moved nothing.
-#[derive(Clone, Copy, Debug, PartialEq, Eq, Drop)]
+#[derive(Clone, Copy, PartialEq, Eq, Drop)]
 pub(crate) enum Stop {
     /// Nothing moves now.
     Nothing,
@@ -54,6 +55,14 @@ impl Wire {
             ends: false,
             is_at_end: false,
         }
+    }
+
+    /// Has the system tell of the socket; false where it refuses.
+    pub fn join(&mut self, poll: &Poll, token: Token) -> bool {
+        let both = Interest::READABLE | Interest::WRITABLE;
+        poll.registry()
+            .register(&mut self.stream, token, both)
+            .is_ok()
     }
 
     /// Notes what the system tells.

@@ -11,7 +11,7 @@ use crate::slot::{Slot, Turn, take_turn};
 use hls_pace::{Pace, Stage, milliseconds, yields};
 use mio::event::Event;
 use mio::net::{TcpListener, TcpStream};
-use mio::{Events, Interest, Poll, Token};
+use mio::{Events, Poll, Token};
 use slab::Slab;
 use std::alloc::Global;
 use std::io::{self, ErrorKind};
@@ -56,7 +56,7 @@ fn rank(pace: Pace) -> u64 {
 }
 
 /// Whether a connection may be waiting at the listener.
-#[derive(Clone, Copy, Debug, PartialEq, Eq, Drop)]
+#[derive(Clone, Copy, PartialEq, Eq, Drop)]
 enum Waiting {
     /// None was told of since an accept found none.
     No,
@@ -70,6 +70,40 @@ enum Waiting {
     Later(u64),
     /// This worker takes no more.
     Never,
+}
+
+impl Waiting {
+    /// Whether the worker looks for a connection at this time, as far as its share lets it.
+    fn is_due(self, now: u64, has_more: bool) -> bool {
+        match self {
+            Waiting::No | Waiting::Never => false,
+            Waiting::Maybe => true,
+            Waiting::Others(time) => now >= time || !has_more,
+            Waiting::First(time) | Waiting::Later(time) => now >= time,
+        }
+    }
+
+    /// For how many milliseconds a connection that may be waiting is left alone.
+    fn time_left(self, now: u64) -> Option<u64> {
+        match self {
+            Waiting::No | Waiting::Never => None,
+            Waiting::Maybe => Some(0),
+            Waiting::Others(time) | Waiting::First(time) | Waiting::Later(time) => {
+                Some(time.saturating_sub(now))
+            }
+        }
+    }
+
+    /// Whether the door was left alone until a time for another reason than the worker's share.
+    fn has_waited(self) -> bool {
+        matches!(self, Waiting::First(_) | Waiting::Later(_))
+    }
+}
+
+/// A worker comes to the door, and is told of connections there; which one it is.
+fn come(poll: &Poll, listener: &mut TcpListener, door: &Door) -> io::Result<usize> {
+    attend(poll, listener, DOOR)?;
+    door.come(poll, BELL)
 }
 
 /// A worker: its connections, by the keys under which the system tells of them.
@@ -114,8 +148,7 @@ impl<'a, H: Host + Drop> Worker<'a, H> {
     {
         let mut listener = listener;
         let patience = patience.min(3600);
-        attend(&poll, &mut listener, DOOR)?;
-        let place = door.come(&poll, BELL)?;
+        let place = come(&poll, &mut listener, door)?;
         Ok(Worker {
             alloc,
             poll,
@@ -164,18 +197,10 @@ impl<'a, H: Host + Drop> Worker<'a, H> {
         requires suits { SuitsAll H.suits self.old.host self.old.slots }
         ensures suits { SuitsAll H.suits self.new.host self.new.slots }
     {
-        let Some(slot) = self.slots.get_mut(key) else {
-            return Turn::Parked;
-        };
-        let stands = take_turn(slot, &mut self.host, self.now);
-        if stands != Turn::Again {
-            return stands;
+        match self.slots.get_mut(key) {
+            Some(slot) => take_turn(slot, &mut self.host, self.now),
+            None => Turn::Parked,
         }
-        if slot.queued {
-            return Turn::Parked;
-        }
-        slot.queued = true;
-        Turn::Again
     }
 
     /// Lets a connection have its turn.
@@ -259,16 +284,24 @@ impl<'a, H: Host + Drop> Worker<'a, H> {
         }
     }
 
-    /// Takes a new connection in, and says under which key; `None` where it can't be held.
-    fn place(&mut self, stream: TcpStream, peer: SocketAddr) -> Option<usize>
+    /// Makes room for one more connection where there is none: by an eighth and not by as much again, since what an idle connection
+    /// costs is its slot.
+    fn make_room(&mut self)
         requires suits { SuitsAll H.suits self.old.host self.old.slots }
         ensures suits { SuitsAll H.suits self.new.host self.new.slots }
     {
         let held = self.slots.len();
         if held == self.slots.capacity() {
-            // by an eighth and not by as much again: what an idle connection costs is its slot
             let _ = self.slots.reserve_exact(held / 8 + 16);
         }
+    }
+
+    /// Takes a new connection in, and says under which key; `None` where it can't be held.
+    fn place(&mut self, stream: TcpStream, peer: SocketAddr) -> Option<usize>
+        requires suits { SuitsAll H.suits self.old.host self.old.slots }
+        ensures suits { SuitsAll H.suits self.new.host self.new.slots }
+    {
+        self.make_room();
         let slot = Slot::new(self.host.begin(), stream, peer, self.now);
         let Ok(key) = self.slots.insert(slot) else {
             return None;
@@ -282,14 +315,10 @@ impl<'a, H: Host + Drop> Worker<'a, H> {
         requires suits { SuitsAll H.suits self.old.host self.old.slots }
         ensures suits { SuitsAll H.suits self.new.host self.new.slots }
     {
-        let Some(slot) = self.slots.get_mut(key) else {
-            return false;
-        };
-        let both = Interest::READABLE | Interest::WRITABLE;
-        let registry = self.poll.registry();
-        registry
-            .register(&mut slot.wire.stream, Token(key), both)
-            .is_ok()
+        match self.slots.get_mut(key) {
+            Some(slot) => slot.wire.join(&self.poll, Token(key)),
+            None => false,
+        }
     }
 
     /// Takes a new connection in, and lets it begin.
@@ -371,64 +400,78 @@ impl<'a, H: Host + Drop> Worker<'a, H> {
         }
     }
 
+    /// Lets the others go first for a while, where there are any that take connections, and calls one of them for the first connection
+    /// that it was told of; whether it does.
+    fn lets_others(&mut self, is_first: bool) -> bool
+        ensures host { self.new.host ≡ self.old.host }
+        ensures slots { self.new.slots ≡ self.old.slots }
+    {
+        let other = self.door.fewest(self.place);
+        if other.is_none() {
+            return false;
+        }
+        self.waiting = Waiting::Others(self.now.saturating_add(COURTESY));
+        if is_first {
+            self.door.call(other);
+        }
+        true
+    }
+
     /// Whether a connection that may be waiting is taken now. Who has more than a share lets the others go first for a while, or until
     /// as many of its own are over, and calls one of them for the first that it was told of.
     fn is_next(&mut self, is_first: bool) -> bool
         ensures host { self.new.host ≡ self.old.host }
         ensures slots { self.new.slots ≡ self.old.slots }
     {
-        match self.waiting {
-            Waiting::No | Waiting::Never => false,
-            Waiting::Maybe => {
-                if !self.door.has_more(self.slots.len()) {
-                    return true;
-                }
-                let other = self.door.fewest(self.place);
-                if other.is_none() {
-                    return true;
-                }
-                self.waiting = Waiting::Others(self.now.saturating_add(COURTESY));
-                if is_first {
-                    self.door.call(other);
-                }
-                false
-            }
-            Waiting::Others(time) => {
-                if self.now < time && self.door.has_more(self.slots.len()) {
-                    return false;
-                }
-                self.waiting = Waiting::Maybe;
-                true
-            }
-            Waiting::First(time) | Waiting::Later(time) => {
-                if self.now < time {
-                    return false;
-                }
-                self.waiting = Waiting::Maybe;
-                true
-            }
+        let has_more = self.door.has_more(self.slots.len());
+        if !self.waiting.is_due(self.now, has_more) {
+            return false;
         }
+        if has_more && self.waiting == Waiting::Maybe && self.lets_others(is_first) {
+            return false;
+        }
+        self.waiting = Waiting::Maybe;
+        true
+    }
+
+    /// Where none of its own gives way, calls the worker whose connection goes first, if there is any, and leaves the door alone: for
+    /// longer than for a failed accept, since a look at many takes its time.
+    fn leave_to_others(&mut self)
+        ensures host { self.new.host ≡ self.old.host }
+        ensures slots { self.new.slots ≡ self.old.slots }
+    {
+        let looked = self.slots.len() as u64 / LOOKED_AT;
+        self.door.tell(self.place, NOBODY);
+        self.door.call(self.door.first(self.place));
+        self.leave_door(looked.saturating_add(PAUSE));
+    }
+
+    /// Lets another worker's connection give way for a while, where one goes before all of its own; whether it does.
+    fn lets_first(&mut self) -> bool
+        ensures host { self.new.host ≡ self.old.host }
+        ensures slots { self.new.slots ≡ self.old.slots }
+    {
+        let first = self.door.first(self.place);
+        if first.is_none() {
+            return false;
+        }
+        self.waiting = Waiting::First(self.now.saturating_add(DEFERENCE));
+        self.door.call(first);
+        true
     }
 
     /// Takes a connection in where all places are taken: for it the longest idle one gives way, or the youngest head, of all
     /// workers'. Where that is another worker's the door is left alone for a while, and who has left it alone for that long takes
-    /// its own; where nobody gives way, for longer, since a look at many takes its time.
+    /// its own; it is left alone too where nobody gives way.
     fn accept_full(&mut self, waited: bool)
         requires suits { SuitsAll H.suits self.old.host self.old.slots }
         ensures suits { SuitsAll H.suits self.new.host self.new.slots }
     {
         let Some((key, pace)) = self.yielding() else {
-            let looked = self.slots.len() as u64 / LOOKED_AT;
-            self.door.tell(self.place, NOBODY);
-            self.door.call(self.door.first(self.place));
-            self.leave_door(looked.saturating_add(PAUSE));
-            return;
+            return self.leave_to_others();
         };
         self.door.tell(self.place, rank(pace));
-        let first = self.door.first(self.place);
-        if first.is_some() && !waited {
-            self.waiting = Waiting::First(self.now.saturating_add(DEFERENCE));
-            self.door.call(first);
+        if !waited && self.lets_first() {
             return;
         }
         self.accept(Some(key));
@@ -441,7 +484,7 @@ impl<'a, H: Host + Drop> Worker<'a, H> {
         ensures suits { SuitsAll H.suits self.new.host self.new.slots }
     {
         for count in 0..MOST_ACCEPTS {
-            let waited = matches!(self.waiting, Waiting::First(_) | Waiting::Later(_));
+            let waited = self.waiting.has_waited();
             if self.left == 0 || !self.is_next(count == 0) {
                 return;
             }
@@ -459,19 +502,10 @@ impl<'a, H: Host + Drop> Worker<'a, H> {
         requires suits { SuitsAll H.suits self.old.host self.old.slots }
         ensures suits { SuitsAll H.suits self.new.host self.new.slots }
     {
-        let Some(slot) = self.slots.get_mut(key) else {
-            return false;
-        };
-        if self.stood_still {
-            slot.pace = Pace::begun(slot.pace.stage, self.now);
-            return false;
+        match self.slots.get_mut(key) {
+            Some(slot) => slot.is_late(self.patience, self.now, self.stood_still),
+            None => false,
         }
-        if slot.pace.is_over(self.patience, self.now) {
-            slot.wire.try_again();
-            return true;
-        }
-        slot.pace = slot.pace.renewed(self.patience, self.now);
-        false
     }
 
     /// Gives a connection up that takes too long. It is tried once more before: its bytes may have come while the process stood
@@ -521,15 +555,10 @@ impl<'a, H: Host + Drop> Worker<'a, H> {
         if !self.again.is_empty() {
             return Some(Duration::from_millis(0));
         }
-        if self.left > 0 {
-            match self.waiting {
-                Waiting::No | Waiting::Never => {}
-                Waiting::Maybe => return Some(Duration::from_millis(0)),
-                Waiting::Others(time) | Waiting::First(time) | Waiting::Later(time) => {
-                    let left = time.saturating_sub(self.now);
-                    return Some(Duration::from_millis(left.min(self.beat)));
-                }
-            }
+        if self.left > 0
+            && let Some(time) = self.waiting.time_left(self.now)
+        {
+            return Some(Duration::from_millis(time.min(self.beat)));
         }
         if self.slots.is_empty() {
             return None;
@@ -566,6 +595,11 @@ impl<'a, H: Host + Drop> Worker<'a, H> {
         self.sweep();
     }
 
+    /// Whether as many connections have come and gone as it takes.
+    fn is_done(&self) -> bool {
+        self.left == 0 && self.slots.is_empty()
+    }
+
     /// Serves until so many connections have come and gone. May wait.
     fn serve<R: Wait + Clock>(&mut self, rt: &R, events: Events) -> io::Result<()>
         requires suits { SuitsAll H.suits self.old.host self.old.slots }
@@ -573,7 +607,7 @@ impl<'a, H: Host + Drop> Worker<'a, H> {
     {
         let mut events = events;
         for _ in rt.forever() {
-            if self.left == 0 && self.slots.is_empty() {
+            if self.is_done() {
                 return Ok(());
             }
             let pause = self.pause();
