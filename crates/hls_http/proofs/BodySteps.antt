@@ -1,5 +1,5 @@
 -- Steps of a body in what is held, and in what follows.
-use Rattle.std.proofs.Common.{◌≡◌, ◌∙◌, ℕ, ◌+◌, ◌≤◌, ◌<◌, List, [], ◌∷◌, ◌++◌, ◌⊎◌, inl, inr, Option, Some, length, take, drop, refl, sym, ap, subst, arith, append-nil, length-append, length-take}
+use Rattle.std.proofs.Common.{◌≡◌, ◌∙◌, ℕ, ◌≤◌, ◌<◌, List, [], ◌++◌, Option, Some, length, take, drop, refl, sym, ap, subst, arith, append-nil, length-append, length-take}
 use Rattle.std.specs.Io.KnownBytes.{prepend_known}
 use Rattle.std.proofs.lemmas.List.{length-map}
 use Rattle.httparse.specs.declared.spans.HeaderSpan.{HeaderSpan}
@@ -9,7 +9,7 @@ use Rattle.httparse.proofs.GrammarLemmas.{ReadsSection-append, section_unique}
 use Rattle.httparse.proofs.ChunkLemmas.{ReadsChunkLine-append, chunk_line_unique}
 use Rattle.hls_http_laws.specs.declared.body.Body.{Body}
 use Rattle.hls_http_laws.specs.declared.body.Body.TheVariants.{Length, Size, Data, Trailers}
-use Rattle.hls_http_laws.specs.Bodies.{after_line, TakesData, EndsData, Steps, RunsIn, Runs, HasNoStep, Goes}
+use Rattle.hls_http_laws.specs.Bodies.{after_line, Steps, Runs, HasNoStep, Goes}
 use Rattle.hls_http_laws.proofs.Callers.{Leaves, runs_join, runs_leave, runs_stay, some_line, some_section}
 use Rattle.hls_http.specs.declared.input.Filled.{Filled}
 use Rattle.hls_http.specs.Bodies.{IsLastAlone}

@@ -1,11 +1,7 @@
 -- What stands in a buffer, when some of it is taken and when more comes.
-use Rattle.std.proofs.Common.{◌≡◌, ◌∙◌, ℕ, ◌+◌, ◌-◌, ◌≤◌, ◌<◌, List, [], ◌++◌, Option, Some, None, length, take, drop, slice_range, take-add, length-take, refl, sym, ap, subst, arith, append-nil}
-use Rattle.std.specs.Io.KnownBytes.{Keeps}
-use Rattle.std.proofs.KnownBytes.{Consumes-kept, Consumes-nil}
+use Rattle.std.proofs.Common.{◌≡◌, ◌∙◌, ℕ, ◌+◌, ◌-◌, ◌≤◌, List, [], ◌++◌, length, take, drop, slice_range, take-add, length-take, sym, ap, subst, arith, append-nil}
 use Rattle.std.proofs.lemmas.List.{drop-drop, drop-take, take-take}
 use Rattle.hls_http.specs.Texts.{Texts, after_take}
-use Rattle.hls_http.specs.declared.input.Filled.TheVariants.{Failed}
-use Rattle.hls_http.specs.Input.{Reads}
 
 held_drop : (buffer : List ℕ) (start end len : ℕ) → start + len ≤ end → slice_range buffer (start + len) end ≡ drop len (slice_range buffer start end)
 held_drop buffer start end len h =

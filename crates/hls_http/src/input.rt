@@ -61,6 +61,14 @@ impl Model for Input {
     ghost invariant = { λ i. (i.from ≤ i.start) × (i.start ≤ i.end) × (i.end ≤ vec_len i.buffer) × (vec_len i.buffer ≤ 65536) };
 }
 
+/// So many zeros. No other function sees the table itself, whose bytes a proof would go through.
+fn zeros(count: usize) -> &'static [u8]
+    requires { count ≤ 65536 }
+    ensures { length result.now ≡ count }
+{
+    &ZEROS[..count]
+}
+
 /// Makes room behind what stands from one place of the buffer to another, and says where it then stands. It is moved to the
 /// buffer's front only where there is no room, or nothing stands there.
 fn make_room(buffer: &mut [u8], start: usize, end: usize) -> (usize, usize)
@@ -154,7 +162,7 @@ impl Input {
             return Ok(());
         }
         let room = (len * 4).clamp(FIRST, BUFFER);
-        let grown = self.buffer.extend_from_slice(&ZEROS[..room - len]);
+        let grown = self.buffer.extend_from_slice(zeros(room - len));
         if self.end - self.start < len {
             return Ok(());
         }

@@ -1,7 +1,7 @@
-use Rattle.std.proofs.Common.{◌∙◌, ◌<◌, ◌++◌, ℕ, List, [], length, length-take, sym, ap, subst, arith, refl, take}
+use Rattle.std.proofs.Common.{◌∙◌, ◌<◌, ◌++◌, ℕ, List, [], length, length-take, sym, ap, subst, arith, rules, refl, take}
 use Rattle.hls_io.specs.Counted.{failures_of, inside_of}
 use Rattle.hls_http_laws.specs.Bodies.{Goes, IsOpen}
-use Rattle.hls_http.specs.declared.input.Filled.TheVariants.{AtEnd, Failed}
+use Rattle.hls_http.specs.declared.input.Filled.TheVariants.{More, AtEnd, Failed}
 use Rattle.hls_http.specs.Source.{held_of}
 use Rattle.hls_http.proofs.BodySteps.{goes_filled, goes_none, goes_then, last_alone}
 use Rattle.hls_http.proofs.HeadLaws.{at_end, none_came}
@@ -51,3 +51,27 @@ returns-in-Failed-clause-passes g c = λ rest known.
       goes_filled c.args.body.now c.loop-source.body (held_of c.args.source.now ++ rest) [] (held_of c.loop-source.source) (held_of c.fill.new.self) _ _ Failed (c.loop-source.invariant.goes rest known) r,
       subst (λ (xs : List ℕ). IsOpen c.loop-source.body xs) (sym same) wait.1,
     )
+
+pub returns-then-eq-clause-passes : goal.returns-then-eq-clause-passes
+returns-then-eq-clause-passes g c = λ rest known. (search rules, c.loop-source.invariant.goes rest known)
+
+pub returns-in-Err-Bad-clause-passes : goal.returns-in-Err-Bad-clause-passes
+returns-in-Err-Bad-clause-passes g c = λ rest known. (c.loop-source.invariant.goes rest known, rw (c.in-Err-Bad.field-0-is, c.held.ensures) at c.in-Err-Bad.ensures)
+
+pub loop-source-preserved : goal.loop-source-preserved
+loop-source-preserved g c = record {
+  goes = λ rest known.
+      goes_filled c.args.body.now c.loop-source.body (held_of c.args.source.now ++ rest) [] (held_of c.loop-source.source) (held_of c.fill.new.self) _ _ More
+      (c.loop-source.invariant.goes rest known) c.in-More.ensures.reads;
+  quiet = c.in-More.ensures.counts ∙ c.loop-source.invariant.quiet;
+}
+
+pub fill-requires : goal.fill-requires
+fill-requires g c =
+    let wait = rw (c.in-Err-Wait.field-0-is, c.held.ensures) at c.in-Err-Wait.ensures in
+    omega (arith, wait.0)
+
+pub take-requires : goal.take-requires
+take-requires g c =
+    let step = rw (c.in-Ok-Piece.field-0-is, c.held.ensures) at c.in-Ok-Piece.ensures in
+    step.1

@@ -1,4 +1,4 @@
-use Rattle.std.proofs.Common.{◌∙◌, ◌++◌, ℕ, List, [], take, drop, ap, append-nil}
+use Rattle.std.proofs.Common.{◌∙◌, ◌++◌, ℕ, List, take, drop, ap, append-nil}
 use Rattle.hls_http.proofs.Buffers.{count_of, held_more, held_none}
 use Rattle.hls_http.proofs.input.read_on.Goals as goal
 
