@@ -2,3 +2,4 @@ mod Runs
 mod Chained
 mod Held
 mod Last
+mod Leaves
