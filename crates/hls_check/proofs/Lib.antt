@@ -4,3 +4,4 @@ pub mod OneAnswer
 mod ClosedPrices
 mod Blocks
 mod FirstBlocks
+mod Seen

@@ -1,28 +1,40 @@
-use Rattle.std.proofs.Common.{refl, arith, inl, inr}
-use Rattle.std.proofs.lemmas.Bool.{cases_eq}
+use Rattle.std.proofs.Common.{refl, arith}
+use Rattle.hls_check_laws.specs.Certificates.{shown_by}
+use Rattle.hls_check.specs.Rows.{KeepsTo}
+use Rattle.hls_check.proofs.Seen.{no_columns, more_columns, cut_at, found_of_rows}
 use Rattle.hls_check.proofs.rows.first_of_block.Goals as goal
+
+pub loop-q-init : goal.loop-q-init
+loop-q-init c = record {
+  within = omega arith;
+  so_far = no_columns c.args.table.now (shown_by c.args.claim.now) c.args.first c.min-end.result;
+  found = rw c.len-count.ensures.len at c.min-end.ensures;
+  floor = c.floor_of-floor.ensures;
+}
+
+pub loop-q-preserved-in_default : goal.loop-q-preserved-in_default
+loop-q-preserved-in_default c =
+    let now = c.loop-q.invariant in
+    record {
+      within = now.within;
+      so_far = more_columns (KeepsTo c.args.table.now (shown_by c.args.claim.now)) c.args.first c.loop-q.end c.loop-q.q now.so_far c.in_default.ensures;
+      found = now.found;
+      floor = now.floor;
+    }
 
 pub loop-q-preserved : goal.loop-q-preserved
 loop-q-preserved c =
     let now = c.loop-q.invariant in
-    let here = c.in-Some.ensures in
+    let cut = cut_at c.args.table.now (shown_by c.args.claim.now) c.args.first c.loop-q.end c.in-Some.p c.loop-q.q c.floor_of-floor.result.price c.floor_of-floor.result.start
+    now.within now.so_far now.floor c.in-Some.ensures in
     record {
-      within = omega (arith, here.below, now.within);
-      so_far = λ i j from below to.
-          elim (cases_eq j c.loop-q.q) [
-            | inl same ↦ rw same (here.column i from below)
-            | inr other ↦ now.so_far i j from (omega (arith, here.below)) (omega arith)
-          ];
-      found = (
-        refl,
-        record {
-          from = here.from;
-          below = omega (arith, here.below, now.within);
-          in_row = record {
-            broken = here.broken;
-            before = λ j to. now.so_far c.in-Some.p j here.from here.below to;
-          };
-        },
-      );
-      floor = λ p v from below. now.floor p v from (omega (arith, here.below));
+      within = cut.within;
+      so_far = cut.so_far;
+      found = (refl, cut.found);
+      floor = cut.floor;
     }
+
+pub returns : goal.returns
+returns c =
+    found_of_rows c.args.table.now (shown_by c.args.claim.now) c.args.first c.loop-q.end c.loop-q.q c.loop-q.found (rw c.len-count.ensures.len at c.loop-q-test.false)
+    c.loop-q.invariant.so_far c.loop-q.invariant.found

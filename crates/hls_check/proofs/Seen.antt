@@ -1,0 +1,101 @@
+-- The lemmas on a search through the steps: what it has seen is good, and the next step, column or block too.
+use Rattle.std.proofs.Common.{◌≡◌, ℕ, ◌+◌, ◌<◌, ◌≤◌, ◌↔◌, length, min, Bool, true, false, Option, Some, None, refl, inl, inr, arith}
+use Rattle.std.proofs.lemmas.Bool.{cases_lt, cases_eq}
+use Rattle.std.specs.Prelude.{IsTrue, MatchOption}
+use Rattle.std.specs.Bool.{MatchBool}
+use Rattle.hls_check_laws.specs.Tables.{Table}
+use Rattle.hls_check_laws.specs.Steps.{Allowed, cost}
+use Rattle.hls_check_laws.specs.Certificates.{Shown, Keeps, price_at}
+use Rattle.hls_check.specs.Rows.{prices_shown, KeepsTo, RowsKeep, ColumnKeeps, IsFirstOfColumn, IsFirstFound, IsFloor, IsFoundOfRows}
+
+-- a place without a price keeps to every step from it
+pub unpriced : (t : Table) (shown : Shown) (p q : ℕ) → price_at (prices_shown shown) p ≡ None → KeepsTo t shown p q
+unpriced t shown p q none = λ forward allowed. rw none tt
+
+-- a price that is kept to
+pub kept : (t : Table) (shown : Shown) (p q price between : ℕ) (to : Option ℕ) → Some price ≡ price_at (prices_shown shown) p
+    → between ≡ cost t p q → to ≡ price_at (prices_shown shown) q → Keeps between (Some price) to → KeepsTo t shown p q
+kept t shown p q price between to from_is between_is to_is keeps = λ forward allowed. (rw (from_is, between_is, to_is) at keeps)
+
+-- one that isn't, by whether the step is allowed
+pub unkept : (t : Table) (shown : Shown) (p q price between : ℕ) (to : Option ℕ) (step : Bool) → p < q → Some price ≡ price_at (prices_shown shown) p
+    → between ≡ cost t p q → to ≡ price_at (prices_shown shown) q → (Keeps between (Some price) to → IsTrue false) → (IsTrue step ↔ Allowed t p q)
+    → MatchBool step (KeepsTo t shown p q → ⊥) (KeepsTo t shown p q)
+unkept t shown p q price between to true forward from_is between_is to_is breaks is_step =
+    λ keeps. let no : false ≡ true = breaks (rw (from_is, between_is, to_is) (keeps forward (is_step.0 refl))) in cc
+unkept t shown p q price between to false forward from_is between_is to_is breaks is_step =
+    λ forward allowed. let no : false ≡ true = is_step.1 allowed in cc
+
+-- one place more of a column
+pub more_places : (P : ℕ → Type 0) (first p : ℕ) → ((i : ℕ) → first ≤ i → i < p → P i) → P p → (i : ℕ) → first ≤ i → i < p + 1 → P i
+more_places P first p before here i from below = elim (cases_eq i p) [ inl same ↦ rw same here | inr other ↦ before i from (omega arith) ]
+
+-- one column more
+pub more_columns : (P : ℕ → ℕ → Type 0) (first end q : ℕ) → ((i j : ℕ) → first ≤ i → i < end → j < q → P i j)
+    → ((i : ℕ) → first ≤ i → i < end → P i q) → (i j : ℕ) → first ≤ i → i < end → j < q + 1 → P i j
+more_columns P first end q before here i j from below to =
+    elim (cases_eq j q) [ inl same ↦ rw same (here i from below) | inr other ↦ before i j from below (omega arith) ]
+
+-- one block more
+pub more_rows : (t : Table) (shown : Shown) (first end next : ℕ) → RowsKeep t shown first end → RowsKeep t shown end next → RowsKeep t shown first next
+more_rows t shown first end next before here i j from below = elim (cases_lt i end) [ inl low ↦ before i j from low | inr high ↦ here i j high below ]
+
+-- from the places from q on no step leads forward to q
+pub whole_column : (t : Table) (shown : Shown) (first end q before : ℕ) (found : Option ℕ) → before ≡ min end q
+    → MatchOption found (ColumnKeeps t shown first before q) (IsFirstOfColumn t shown first before q)
+    → MatchOption found (ColumnKeeps t shown first end q) (IsFirstOfColumn t shown first end q)
+whole_column t shown first end q before None before_is keeps = λ i from below forward. keeps i from (omega arith) forward
+whole_column t shown first end q before (Some p) before_is is = record {
+  from = is.from;
+  below = omega (arith, is.below);
+  broken = is.broken;
+  column = is.column;
+}
+
+-- before the first column none is seen
+pub no_columns : (t : Table) (shown : Shown) (first end : ℕ) → (i j : ℕ) → first ≤ i → i < end → j < first + 1 → KeepsTo t shown i j
+no_columns t shown first end i j from below to = λ forward. absurd (omega arith)
+
+-- what is seen of a block's rows once a step from place p is found, which is the least place that one leads from
+pub record IsCut (t : Table) (shown : Shown) (first p q price start : ℕ) : Type 0 where
+  pub within : p ≤ first + 32
+  pub so_far : (i j : ℕ) → first ≤ i → i < p → j < q + 1 → KeepsTo t shown i j
+  pub found : IsFirstFound t shown first p q
+  pub floor : IsFloor t shown first p price start
+
+pub cut_at : (t : Table) (shown : Shown) (first end p q price start : ℕ) → end ≤ first + 32
+    → ((i j : ℕ) → first ≤ i → i < end → j < q → KeepsTo t shown i j) → IsFloor t shown first end price start
+    → IsFirstOfColumn t shown first end q p → IsCut t shown first p q price start
+cut_at t shown first end p q price start within so_far floor here =
+    let below : p < end = here.below in
+    record {
+      within = omega arith;
+      so_far = more_columns (KeepsTo t shown) first p q (λ i j from under. so_far i j from (omega arith)) here.column;
+      found = record {
+        from = here.from;
+        below = omega arith;
+        in_row = record {
+          broken = here.broken;
+          before = λ j to. so_far p j here.from below to;
+        };
+      };
+      floor = λ i v from under. floor i v from (omega arith);
+    }
+
+-- what a search through all columns of a block has found
+pub found_of_rows : (t : Table) (shown : Shown) (first end q : ℕ) (found : Option (ℕ × ℕ)) → length t.places ≤ q
+    → ((i j : ℕ) → first ≤ i → i < end → j < q → KeepsTo t shown i j)
+    → MatchOption found (end ≡ min (length t.places) (first + 32)) (λ step. (step.0 ≡ end) × IsFirstFound t shown first step.0 step.1)
+    → IsFoundOfRows t shown first (first + 32) found
+found_of_rows t shown first end q None past so_far all =
+    λ i j from below forward allowed. so_far i j from (omega (arith, allowed.from)) (omega (arith, allowed.to)) forward allowed
+found_of_rows t shown first end q (Some step) past so_far is = record {
+  from = is.1.from;
+  below = is.1.below;
+  in_row = is.1.in_row;
+  rows = λ i j from below forward allowed. so_far i j from (omega (arith, is.0)) (omega (arith, allowed.to)) forward allowed;
+}
+
+-- no step leads from behind the last place
+pub all_rows : (t : Table) (shown : Shown) (first : ℕ) → length t.places ≤ first → RowsKeep t shown 0 first → (p q : ℕ) → KeepsTo t shown p q
+all_rows t shown first past rows p q = λ forward allowed. rows p q (omega arith) (omega (arith, allowed.from)) forward allowed
