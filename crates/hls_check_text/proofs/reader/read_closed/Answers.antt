@@ -1,8 +1,12 @@
-use Rattle.std.proofs.Common.{ℕ, ◌≡◌, ◌≤◌, ◌-◌, List, [], ◌∷◌, ◌++◌, length, take, replicate, vec_len, Bool, true, false, subst, ap, ◌∙◌, arith, rules}
+use Rattle.std.proofs.Common.{ℕ, ◌≡◌, ◌+◌, ◌^◌, ◌<◌, ◌≤◌, ◌-◌, List, [], ◌∷◌, ◌++◌, length, take, replicate, vec_len, Bool, true, false, subst, ap, ◌∙◌, Fits, w64, arith, rules}
 use Rattle.hls_check_text.specs.Stages.{IsClosedLine}
 use Rattle.std.proofs.lemmas.Bool.{iff_false}
 use Rattle.hls_check_text.proofs.Claims.{padded, closed_form, no_member_read, member_missing, member_end, member_bad, member_more}
 use Rattle.hls_check_text.proofs.reader.read_closed.Goals as goal
+
+-- a line more is counted within the room that the text was given
+room : (first passed whole rest : ℕ) → passed + rest ≤ first + whole → first + whole + 1 < 2 ^ 64 → Fits w64 (passed + 1)
+room first passed whole rest shorter fits = omega arith
 
 pub loop-line-init : goal.loop-line-init
 loop-line-init c = rw c.new-closed.ensures.items (no_member_read c.args.count c.args.text.now c.args.first)
@@ -48,3 +52,18 @@ returns-then-is_word-clause-form c =
     let len : vec_len c.loop-line.closed ≡ length c.loop-line.closed.items = search rules in
     closed_form c.args.count c.loop-line.closed.items c.resize.new.self.items c.loop-line.invariant.within
     (subst (λ (n : ℕ). c.resize.new.self.items ≡ take c.args.count c.loop-line.closed.items ++ replicate (c.args.count - n) false) len c.in_ok-resize.ensures.items)
+
+pub overflow_add-passed : goal.overflow_add-passed
+overflow_add-passed c = room c.args.first c.loop-line.passed (length c.args.text.now) (length c.loop-line.rest.now) c.loop-line.invariant.shorter c.requires.room
+
+pub overflow_add-result : goal.overflow_add-result
+overflow_add-result c = room c.args.first c.loop-line.passed (length c.args.text.now) (length c.loop-line.rest.now) c.loop-line.invariant.shorter c.requires.room
+
+pub overflow_add-result-then-is_word : goal.overflow_add-result-then-is_word
+overflow_add-result-then-is_word c = room c.args.first c.loop-line.passed (length c.args.text.now) (length c.loop-line.rest.now) c.loop-line.invariant.shorter c.requires.room
+
+pub overflow_add-result-in_default-closed_in : goal.overflow_add-result-in_default-closed_in
+overflow_add-result-in_default-closed_in c = room c.args.first c.loop-line.passed (length c.args.text.now) (length c.loop-line.rest.now) c.loop-line.invariant.shorter c.requires.room
+
+pub loop-line-smaller : goal.loop-line-smaller
+loop-line-smaller c = c.in-Some.ensures.shorter

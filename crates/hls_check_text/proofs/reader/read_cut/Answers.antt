@@ -1,10 +1,25 @@
-use Rattle.std.proofs.Common.{[], ◌≡◌, ◌+◌, ◌<◌, length, Err, sym, arith, rules}
+use Rattle.std.proofs.Common.{ℕ, [], ◌≡◌, ◌+◌, ◌^◌, ◌<◌, ◌≤◌, length, Err, sym, Fits, w64, arith, rules}
 use Rattle.std.proofs.lemmas.Bool.Decides.{nat_tests}
 use Rattle.hls_check_laws.specs.Certificates.{CutShown}
 use Rattle.hls_check_text.specs.Stages.{IsAt, AtPrice, Builds, printed}
 use Rattle.hls_check_text.proofs.Wrongs.{wrong_behind}
 use Rattle.hls_check_text.proofs.Claims.{plan_stops, plan_passed, prices_passed, read_whole}
 use Rattle.hls_check_text.proofs.reader.read_cut.Goals as goal
+
+-- the lines that are counted, within the room that the text was given: that of the plan, and one behind the prices
+plan_counted : (passed whole : ℕ) → passed + whole + 1 < 2 ^ 64 → Fits w64 (passed + 1)
+plan_counted passed whole fits = omega arith
+
+end_counted : (passed whole after read rest : ℕ) → passed + whole + 1 < 2 ^ 64 → after < whole → read + rest ≤ passed + 1 + after → Fits w64 (read + 1)
+end_counted passed whole after read rest fits shorter behind = omega arith
+
+pub overflow_add-passed : goal.overflow_add-passed
+overflow_add-passed c = plan_counted c.args.passed (length c.args.text.now) c.requires.room
+
+pub overflow_add-result : goal.overflow_add-result
+overflow_add-result c =
+    end_counted c.args.passed (length c.args.text.now) (length c.in_ok-plan.after_plan.now) c.in_ok-prices.read (length c.in_ok-prices.rest.now)
+    c.requires.room c.in_ok-plan.ensures.shorter c.in_ok-prices.ensures.shorter
 
 pub returns-in_err-plan : goal.returns-in_err-plan
 returns-in_err-plan c = λ bytes at.

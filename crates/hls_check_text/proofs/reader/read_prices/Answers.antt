@@ -1,8 +1,12 @@
-use Rattle.std.proofs.Common.{ℕ, ◌≡◌, ◌≤◌, ◌-◌, List, [], ◌∷◌, ◌++◌, length, take, replicate, vec_len, Option, Some, None, subst, ap, ◌∙◌, arith, rules}
+use Rattle.std.proofs.Common.{ℕ, ◌≡◌, ◌+◌, ◌^◌, ◌<◌, ◌≤◌, ◌-◌, List, [], ◌∷◌, ◌++◌, length, take, replicate, vec_len, Option, Some, None, subst, ap, ◌∙◌, Fits, w64, arith, rules}
 use Rattle.hls_check_text.specs.Stages.{IsPriceLine}
 use Rattle.std.proofs.lemmas.Bool.{iff_false}
 use Rattle.hls_check_text.proofs.Claims.{padded, prices_form, no_price_read, price_missing, price_end, price_bad, price_more}
 use Rattle.hls_check_text.proofs.reader.read_prices.Goals as goal
+
+-- a line more is counted within the room that the text was given
+room : (first passed whole rest : ℕ) → passed + rest ≤ first + whole → first + whole + 1 < 2 ^ 64 → Fits w64 (passed + 1)
+room first passed whole rest shorter fits = omega arith
 
 pub loop-line-init : goal.loop-line-init
 loop-line-init c = rw c.new-prices.ensures.items (no_price_read c.args.count c.args.text.now c.args.first)
@@ -48,3 +52,18 @@ returns-then-is_word-clause-form c =
     let len : vec_len c.loop-line.prices ≡ length c.loop-line.prices.items = search rules in
     prices_form c.args.count c.loop-line.prices.items c.resize.new.self.items c.loop-line.invariant.within c.loop-line.invariant.small
     (subst (λ (n : ℕ). c.resize.new.self.items ≡ take c.args.count c.loop-line.prices.items ++ replicate (c.args.count - n) None) len c.in_ok-resize.ensures.items)
+
+pub overflow_add-passed : goal.overflow_add-passed
+overflow_add-passed c = room c.args.first c.loop-line.passed (length c.args.text.now) (length c.loop-line.rest.now) c.loop-line.invariant.shorter c.requires.room
+
+pub overflow_add-result : goal.overflow_add-result
+overflow_add-result c = room c.args.first c.loop-line.passed (length c.args.text.now) (length c.loop-line.rest.now) c.loop-line.invariant.shorter c.requires.room
+
+pub overflow_add-result-then-is_word : goal.overflow_add-result-then-is_word
+overflow_add-result-then-is_word c = room c.args.first c.loop-line.passed (length c.args.text.now) (length c.loop-line.rest.now) c.loop-line.invariant.shorter c.requires.room
+
+pub overflow_add-result-in_default-price_in : goal.overflow_add-result-in_default-price_in
+overflow_add-result-in_default-price_in c = room c.args.first c.loop-line.passed (length c.args.text.now) (length c.loop-line.rest.now) c.loop-line.invariant.shorter c.requires.room
+
+pub loop-line-smaller : goal.loop-line-smaller
+loop-line-smaller c = c.in-Some.ensures.shorter
