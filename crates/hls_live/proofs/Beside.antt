@@ -13,12 +13,13 @@ use Rattle.hls_live.specs.declared.sums.Sums.{Sums}
 use Rattle.hls_live.specs.Sums.{IsLonger, IsSumsTo, AreSums, last_of, lengths_of, marks_of, IsNext}
 use Rattle.hls_check_laws.specs.Steps.{cost_limit}
 
+pub at-there : {A : Type 0} (xs : List A) (m : ℕ) → m < length xs → (x : A) × (slice_get xs m ≡ Some x)
+at-there [] m within = absurd (omega (arith, within))
+at-there (x ∷ xs) zero within = (x, refl)
+at-there (x ∷ xs) (suc m) within = at-there xs m (omega (arith, within))
+
 at-last : {A : Type 0} (xs : List A) (m : ℕ) → length xs ≡ suc m → (x : A) × (slice_get xs m ≡ Some x)
-at-last [] m count = absurd (omega (arith, count))
-at-last (x ∷ []) zero count = (x, refl)
-at-last (x ∷ []) (suc m) count = absurd (omega (arith, count))
-at-last (x ∷ y ∷ xs) zero count = absurd (omega (arith, count))
-at-last (x ∷ y ∷ xs) (suc m) count = at-last (y ∷ xs) m (omega (arith, count))
+at-last xs m count = at-there xs m (omega (arith, count))
 
 no-items : {A : Type 0} (xs : List A) → length xs ≡ 0 → xs ≡ []
 no-items [] count = refl

@@ -1,3 +1,4 @@
+pub mod Keeps
 pub mod Reaches
 pub mod Sums
 pub mod Sound

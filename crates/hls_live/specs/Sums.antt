@@ -36,7 +36,11 @@ abbrev pub marks_of : ℕ → Option Sums → ℕ
 marks_of breaks None = breaks
 marks_of breaks (Some s) = s.marks
 
+-- with a segment more
+pub record IsBehind (before : List ℕ) (marked : ℕ) (segment : Segment) (next : Sums) : Type 0 where
+  pub lengths : IsLonger before segment next.lengths.items
+  pub marks : next.marks ≡ marked + (if segment.mark then 1 else 0)
+
 -- what stands beside a segment behind them
-pub record IsNext (breaks : ℕ) (sums : List Sums) (segment : Segment) (next : Sums) : Type 0 where
-  pub lengths : IsLonger (lengths_of (last_of sums)) segment next.lengths.items
-  pub marks : next.marks ≡ marks_of breaks (last_of sums) + (if segment.mark then 1 else 0)
+abbrev pub IsNext : ℕ → List Sums → Segment → Sums → Type 0
+IsNext breaks sums segment next = IsBehind (lengths_of (last_of sums)) (marks_of breaks (last_of sums)) segment next

@@ -7,6 +7,7 @@ use Rattle.hls_places_laws.specs.declared.line.opening.Opening.{Opening}
 use Rattle.hls_places_laws.specs.Line.Cuts.{resumed, begun_anew}
 use Rattle.hls_places_laws.specs.Line.Told.{Told, closed_with, told_with, tried}
 use Rattle.hls_places_laws.specs.Line.Live.{Live}
+use Rattle.hls_live.specs.declared.kept.Kept.{Kept}
 
 -- a place out of reach begins the line anew
 abbrev pub told_by : Aim → ℕ → List Segment → Option Opening → Option Place → Place → Told
@@ -18,6 +19,15 @@ told_once live q = told_by live.aim live.removed live.told.line.segments live.to
 
 abbrev pub with_told : Live → Told → Live
 with_told live told = record { aim = live.aim; told = told; removed = live.removed; breaks = live.breaks }
+
+-- with other segments
+abbrev pub with_kept : Live → Kept → Live
+with_kept live kept = record {
+  aim = live.aim;
+  told = record { line = record { segments = kept.segments.items; open_at = live.told.line.open_at }; best = live.told.best };
+  removed = kept.segments.first;
+  breaks = kept.breaks;
+}
 
 -- once its open segment ends at a place, where the next one begins
 abbrev pub with_closed : Live → Opening → Place → Live

@@ -4,6 +4,7 @@
 pub use hls_places_laws::{Aim, LineFault, Opening, Segment};
 pub use line::LiveLine;
 
+mod kept;
 mod line;
 mod reach;
 mod sums;

@@ -1,22 +1,21 @@
 //! The live line as a value: each call that changes it gives a new one, and every old one stays as it was.
-ghost use Rattle.std.specs.Prelude.{◌≡◌, ◌↔◌, ℕ, ◌+◌, ◌-◌, ◌^◌, ◌<◌, ◌≤◌, true, if◌then◌else◌, length, slice_index, slice_get, IfOk, IsTrue, Some, None};
+ghost use Rattle.std.specs.Prelude.{◌≡◌, ◌↔◌, ◌+◌, ◌<◌, ◌≤◌, true, [], length, IfOk, IsTrue, Some, None};
 ghost use Rattle.std.specs.Option.{option_copied};
-ghost use Rattle.hls_blocks.specs.Numbered.{next_of, list_limit};
+ghost use Rattle.hls_blocks.specs.Numbered.{list_limit};
 ghost use Rattle.hls_places_laws.specs.declared.place.Place.{Place};
 ghost use Rattle.hls_places_laws.specs.Line.Steps.{is_allowed};
 ghost use Rattle.hls_places_laws.specs.Line.Cuts.{segment_to};
 ghost use Rattle.hls_places_laws.specs.Line.Told.{told_with, has_earlier};
-ghost use Rattle.hls_places_laws.specs.Line.Lengths.{length_in, left_in, is_long, renditions_of};
+ghost use Rattle.hls_places_laws.specs.Line.Lengths.{left_in, is_long, renditions_of};
 ghost use Rattle.hls_places_laws.specs.Line.Live.{fresh, front_of, has_ended, moved, goes_on, slid, slides, may_slide};
 ghost use Rattle.hls_places_laws.specs.Line.Answers.{IsAnswer};
 ghost use Rattle.hls_places_laws.specs.Line.Upkeep.{LineLeaves, IsMostSlide};
-ghost use Rattle.hls_live.specs.Sums.{last_of, lengths_of, marks_of, IsNext};
-ghost use Rattle.hls_live.specs.Tries.{told_once, with_closed, with_told};
+ghost use Rattle.hls_live.specs.Sound.{AreKept};
+ghost use Rattle.hls_live.specs.Tries.{told_once, with_closed, with_kept, with_told};
 ghost use Rattle.hls_check_laws.specs.Tables.{target_limit};
-ghost use Rattle.hls_check_laws.specs.Steps.{cost_limit};
 
+use crate::kept::Kept;
 use crate::reach::{Reach, is_at_gap, is_too_far, reached};
-use crate::sums::{Sums, longer};
 use hls_blocks::Shared;
 use hls_places_laws::{Aim, LineFault, Opening, Place, Segment};
 use std::alloc::{AllocError, Global};
@@ -29,9 +28,7 @@ use std::marker::Model;
 #[derive(Drop)]
 pub struct LiveLine {
     aim: Aim,
-    segments: Shared<Segment>,
-    sums: Shared<Sums>,
-    breaks: u64,
+    kept: Kept,
     open_at: Option<Opening>,
     best: Option<Place>,
 }
@@ -56,9 +53,7 @@ impl LiveLine {
     {
         LiveLine {
             aim: Aim { target, preferred },
-            segments: Shared::empty(alloc),
-            sums: Shared::empty(alloc),
-            breaks: 0,
+            kept: Kept::nothing(alloc),
             open_at: None,
             best: None,
         }
@@ -68,28 +63,28 @@ impl LiveLine {
     pub fn segments(&self) -> &Shared<Segment>
         ensures { result.now ≡ record { first = self.now.removed; items = self.now.told.line.segments } }
     {
-        &self.segments
+        &self.kept.segments
     }
 
     /// How many segments were removed: the media sequence number (RFC 8216 section 4.3.3.2).
     pub fn removed(&self) -> u64
         ensures { result ≡ self.now.removed }
     {
-        self.segments.first()
+        self.kept.first()
     }
 
     /// How many of those had a mark: the discontinuity sequence number (RFC 8216 section 4.3.3.3).
     pub fn removed_breaks(&self) -> u64
         ensures { result ≡ self.now.breaks }
     {
-        self.breaks
+        self.kept.breaks
     }
 
     /// Where the line begins: at the first segment that is kept, else at the open place.
     pub fn front(&self) -> Option<&Place>
         ensures { option_copied result ≡ front_of self.now }
     {
-        if let Some(segment) = self.segments.get(self.segments.first()) {
+        if let Some(segment) = self.kept.segments.get(self.kept.first()) {
             return Some(&segment.from);
         }
         match &self.open_at {
@@ -112,14 +107,7 @@ impl LiveLine {
     pub fn share(&self, alloc: Global) -> Result<LiveLine, AllocError>
         ensures { IfOk result (λ line. line ≡ self.now) }
     {
-        Ok(LiveLine {
-            aim: self.aim,
-            segments: self.segments.share(alloc)?,
-            sums: self.sums.share(alloc)?,
-            breaks: self.breaks,
-            open_at: shared_opening(&self.open_at)?,
-            best: shared_place(&self.best)?,
-        })
+        self.with_kept(self.kept.share(alloc)?)
     }
 
     /// The line after one more place. Errors in order: Ended where the closing place has come already; Memory.
@@ -197,7 +185,7 @@ impl LiveLine {
         ensures value { result ≡ length self.now.told.line.segments }
         ensures bound { result ≤ list_limit }
     {
-        self.segments.next() - self.segments.first()
+        self.kept.count()
     }
 
     /// Whether so much is left without the first `n` segments.
@@ -244,8 +232,8 @@ impl LiveLine {
         requires there { 0 < r → r < renditions_of self.now.told.line.open_at }
         ensures { result ≡ left_in r self.now.told.line.segments n }
     {
-        let last = sums_at(&self.sums, self.sums.next() - 1);
-        let past = sums_at(&self.sums, self.sums.first() + (n - 1));
+        let last = self.kept.sums_at(self.kept.next() - 1);
+        let past = self.kept.sums_at(self.kept.first() + (n - 1));
         last.lengths[r] - past.lengths[r]
     }
 
@@ -255,13 +243,18 @@ impl LiveLine {
         requires within { n ≤ length self.now.told.line.segments }
         ensures { IfOk result (λ line. line ≡ slid n self.now) }
     {
-        let first = self.segments.next() - (self.count() - n);
-        let breaks = sums_at(&self.sums, first - 1).marks;
+        self.with_kept(self.kept.without(alloc, n)?)
+    }
+
+    /// The line with other segments, the open place and the best one the same.
+    fn with_kept(&self, kept: Kept) -> Result<LiveLine, AllocError>
+        requires kept { AreKept (renditions_of self.now.told.line.open_at) kept }
+        requires no_segment { self.now.told.line.open_at ≡ None → kept.segments.items ≡ [] }
+        ensures { IfOk result (λ line. line ≡ with_kept self.now kept) }
+    {
         Ok(LiveLine {
             aim: self.aim,
-            segments: self.segments.dropped_front(alloc, first)?,
-            sums: self.sums.dropped_front(alloc, first)?,
-            breaks,
+            kept,
             open_at: shared_opening(&self.open_at)?,
             best: shared_place(&self.best)?,
         })
@@ -298,9 +291,7 @@ impl LiveLine {
     {
         Ok(LiveLine {
             aim: self.aim,
-            segments: self.segments.share(alloc)?,
-            sums: self.sums.share(alloc)?,
-            breaks: self.breaks,
+            kept: self.kept.share(alloc)?,
             open_at: Some(opening),
             best,
         })
@@ -310,7 +301,7 @@ impl LiveLine {
     fn is_marked(&self, opening: &Opening) -> bool
         ensures { result ≡ (segment_to (has_earlier self.now.removed self.now.told.line.segments) opening.now opening.now.place).mark }
     {
-        if self.segments.next() == 0 {
+        if self.kept.next() == 0 {
             return false;
         }
         opening.anew || is_at_gap(&opening.place)
@@ -323,68 +314,25 @@ impl LiveLine {
         requires reached { is_allowed self.now.aim opening.now.place to.now ≡ true }
         ensures { IfOk result (λ line. line ≡ with_closed self.now opening.now to.now) }
     {
-        let segment = Segment {
-            from: opening.place.share()?,
-            to: to.share()?,
-            mark: self.is_marked(opening),
-        };
-        let sums = sums_with(alloc, &self.sums, self.breaks, &segment)?;
+        let segment = segment_between(&opening.place, to, self.is_marked(opening))?;
         Ok(LiveLine {
             aim: self.aim,
-            segments: self.segments.pushed(alloc, segment)?,
-            sums: self.sums.pushed(alloc, sums)?,
-            breaks: self.breaks,
+            kept: self.kept.with(alloc, segment)?,
             open_at: Some(opening_at(to, false)?),
             best: None,
         })
     }
 }
 
-/// What stands beside the segment of number `n`.
-fn sums_at(sums: &Shared<Sums>, n: u64) -> &Sums
-    requires low { sums.now.first ≤ n }
-    requires high { n < next_of sums.now }
-    ensures { slice_get sums.now.items (n - sums.now.first) ≡ Some result.now }
+/// A segment from one place to another.
+fn segment_between(from: &Place, to: &Place, mark: bool) -> Result<Segment, AllocError>
+    ensures { IfOk result (λ segment. segment ≡ record { from = from.now; to = to.now; mark = mark }) }
 {
-    let Some(found) = sums.get(n) else {
-        unreachable!()
-    };
-    found
-}
-
-/// What stands beside a segment behind these.
-fn sums_with(
-    alloc: Global,
-    sums: &Shared<Sums>,
-    breaks: u64,
-    segment: &Segment,
-) -> Result<Sums, AllocError>
-    requires few { marks_of breaks (last_of sums.now.items) ≤ list_limit }
-    requires past { (r : ℕ) → slice_index (lengths_of (last_of sums.now.items)) r ≤ 2 ^ 60 }
-    requires short { (r : ℕ) → length_in r segment.now ≤ cost_limit }
-    ensures { IfOk result (IsNext breaks sums.now.items segment.now) }
-{
-    if sums.first() == sums.next() {
-        return Ok(Sums {
-            lengths: longer(alloc, &[], segment)?,
-            marks: counted(breaks, segment.mark),
-        });
-    }
-    let Some(last) = sums.get(sums.next() - 1) else {
-        unreachable!()
-    };
-    Ok(Sums {
-        lengths: longer(alloc, last.lengths.as_slice(), segment)?,
-        marks: counted(last.marks, segment.mark),
+    Ok(Segment {
+        from: from.share()?,
+        to: to.share()?,
+        mark,
     })
-}
-
-/// One mark more, if there is one.
-fn counted(marks: u64, mark: bool) -> u64
-    requires { marks ≤ list_limit }
-    ensures { result ≡ marks + (if mark then 1 else 0) }
-{
-    if mark { marks + 1 } else { marks }
 }
 
 /// An open place.

@@ -7,7 +7,7 @@ ghost use Rattle.hls_live.specs.Reaches.{reach_of};
 use hls_check_laws::pair_allowed;
 use hls_places_laws::{Aim, Place};
 
-#[derive(Clone, Copy, Debug, PartialEq, Eq)]
+#[derive(Clone, Copy)]
 pub enum Reach {
     /// Some fragment isn't greater than the open place's.
     Skipped,

@@ -7,13 +7,20 @@ use crate::reach::length_between;
 use hls_places_laws::Segment;
 use std::alloc::{AllocError, Global};
 
-#[derive(Debug, Drop)]
+#[derive(Drop)]
 pub struct Sums {
     /// One length for each rendition, in microseconds.
     pub lengths: Vec<u64>,
 
     /// Marks are counted from the first segment ever.
     pub marks: u64,
+}
+
+/// The length in rendition `r`, 0 where there is none.
+fn length_at(lengths: &[u64], r: usize) -> u64
+    ensures { result ≡ slice_index lengths.now r }
+{
+    if r < lengths.len() { lengths[r] } else { 0 }
 }
 
 /// The lengths before, and a segment more in each rendition; none is 0.
@@ -24,8 +31,7 @@ pub fn longer(alloc: Global, before: &[u64], segment: &Segment) -> Result<Vec<u6
     let renditions = segment.from.spots.len();
     let mut lengths = Vec::with_capacity(alloc, renditions)?;
     for r in 0..renditions {
-        let past = if r < before.len() { before[r] } else { 0 };
-        lengths.push(past + length_between(&segment.from, &segment.to, r))?;
+        lengths.push(length_at(before, r) + length_between(&segment.from, &segment.to, r))?;
     }
     Ok(lengths)
 }

@@ -2,7 +2,7 @@ use Rattle.std.proofs.Common.{ℕ, zero, suc, ◌<◌, length, arith, ap, subst,
 use Rattle.std.proofs.lemmas.List.{get_or_default}
 use Rattle.hls_places_laws.specs.Line.Lengths.{left_in, renditions_of}
 use Rattle.hls_places_laws.specs.Line.Live.{Live}
-use Rattle.hls_live.proofs.Keeps.{left-told, renditions-some}
+use Rattle.hls_live.proofs.Keeps.{are-beside, left-told, renditions-some}
 use Rattle.hls_live.proofs.line.LiveLine.left.Goals as goal
 
 -- a rendition of the line: the first is there while segments are kept
@@ -10,24 +10,30 @@ is-there : (r renditions : ℕ) → 0 < renditions → (0 < r → r < renditions
 is-there zero renditions some there = some
 is-there (suc r) renditions some there = there (omega arith)
 
+pub sums_at-last-requires-clause-beside : goal.sums_at-last-requires-clause-beside
+sums_at-last-requires-clause-beside c = are-beside _ _ c.self.invariant.kept
+
+pub sums_at-past-requires-clause-beside : goal.sums_at-past-requires-clause-beside
+sums_at-past-requires-clause-beside c = are-beside _ _ c.self.invariant.kept
+
 pub index-requires : goal.index-requires
 index-requires c =
     let few = ap (λ (x : Live). length x.told.line.segments) c.self.view_is in
     let there = ap (λ (x : Live). renditions_of x.told.line.open_at) c.self.view_is in
-    let some = renditions-some c.self.inside.open_at c.self.inside.segments.items c.self.invariant.no_segment c.self.invariant.some
+    let some = renditions-some c.self.inside.open_at c.self.inside.kept.segments.items c.self.invariant.no_segment c.self.invariant.some
     (omega (arith, few, c.requires.some, c.requires.within)) in
     let r-there = is-there c.args.r _ (subst (λ (n : ℕ). 0 < n) there some) c.requires.there in
-    let to = c.self.invariant.sums.each _ _ c.sums_at-last.ensures in
+    let to = c.self.invariant.kept.sums.each _ _ c.sums_at-last.ensures in
     omega (arith, to.lengths, there, r-there, c.sums_at-last.result.now.lengths.ok.0)
 
 pub index-requires-2 : goal.index-requires-2
 index-requires-2 c =
     let few = ap (λ (x : Live). length x.told.line.segments) c.self.view_is in
     let there = ap (λ (x : Live). renditions_of x.told.line.open_at) c.self.view_is in
-    let some = renditions-some c.self.inside.open_at c.self.inside.segments.items c.self.invariant.no_segment c.self.invariant.some
+    let some = renditions-some c.self.inside.open_at c.self.inside.kept.segments.items c.self.invariant.no_segment c.self.invariant.some
     (omega (arith, few, c.requires.some, c.requires.within)) in
     let r-there = is-there c.args.r _ (subst (λ (n : ℕ). 0 < n) there some) c.requires.there in
-    let to = c.self.invariant.sums.each _ _ c.sums_at-past.ensures in
+    let to = c.self.invariant.kept.sums.each _ _ c.sums_at-past.ensures in
     omega (arith, to.lengths, there, r-there, c.sums_at-past.result.now.lengths.ok.0)
 
 pub overflow_sub-result : goal.overflow_sub-result
@@ -35,14 +41,14 @@ overflow_sub-result c =
     let i = c.self.inside in
     let few = ap (λ (x : Live). length x.told.line.segments) c.self.view_is in
     let there = ap (λ (x : Live). renditions_of x.told.line.open_at) c.self.view_is in
-    let some = renditions-some c.self.inside.open_at c.self.inside.segments.items c.self.invariant.no_segment c.self.invariant.some
+    let some = renditions-some c.self.inside.open_at c.self.inside.kept.segments.items c.self.invariant.no_segment c.self.invariant.some
     (omega (arith, few, c.requires.some, c.requires.within)) in
     let r-there = is-there c.args.r _ (subst (λ (n : ℕ). 0 < n) there some) c.requires.there in
     let s = c.sums_at-past.result.now in
     let t = c.sums_at-last.result.now in
-    let s_long = c.self.invariant.sums.each _ _ c.sums_at-past.ensures in
-    let t_long = c.self.invariant.sums.each _ _ c.sums_at-last.ensures in
-    let told = left-told i c.args.r c.args.n _ _ s t c.self.invariant c.requires.some (omega (arith, few, c.requires.within))
+    let s_long = c.self.invariant.kept.sums.each _ _ c.sums_at-past.ensures in
+    let t_long = c.self.invariant.kept.sums.each _ _ c.sums_at-last.ensures in
+    let told = left-told _ i.kept c.args.r c.args.n _ _ s t c.self.invariant.kept c.requires.some (omega (arith, few, c.requires.within))
     (omega (arith, there, r-there)) (omega (arith, c.first.ensures.value)) c.sums_at-past.ensures
     (omega (arith, c.next.ensures.value)) c.sums_at-last.ensures in
     let past = c.index-2.ensures ∙ get_or_default s.lengths.items c.args.r _ 0 (omega (arith, s_long.lengths, there, r-there)) in
@@ -54,15 +60,15 @@ returns c =
     let i = c.self.inside in
     let few = ap (λ (x : Live). length x.told.line.segments) c.self.view_is in
     let there = ap (λ (x : Live). renditions_of x.told.line.open_at) c.self.view_is in
-    let some = renditions-some c.self.inside.open_at c.self.inside.segments.items c.self.invariant.no_segment c.self.invariant.some
+    let some = renditions-some c.self.inside.open_at c.self.inside.kept.segments.items c.self.invariant.no_segment c.self.invariant.some
     (omega (arith, few, c.requires.some, c.requires.within)) in
     let r-there = is-there c.args.r _ (subst (λ (n : ℕ). 0 < n) there some) c.requires.there in
     let left = ap (λ (x : Live). left_in c.args.r x.told.line.segments c.args.n) c.self.view_is in
     let s = c.sums_at-past.result.now in
     let t = c.sums_at-last.result.now in
-    let s_long = c.self.invariant.sums.each _ _ c.sums_at-past.ensures in
-    let t_long = c.self.invariant.sums.each _ _ c.sums_at-last.ensures in
-    let told = left-told i c.args.r c.args.n _ _ s t c.self.invariant c.requires.some (omega (arith, few, c.requires.within))
+    let s_long = c.self.invariant.kept.sums.each _ _ c.sums_at-past.ensures in
+    let t_long = c.self.invariant.kept.sums.each _ _ c.sums_at-last.ensures in
+    let told = left-told _ i.kept c.args.r c.args.n _ _ s t c.self.invariant.kept c.requires.some (omega (arith, few, c.requires.within))
     (omega (arith, there, r-there)) (omega (arith, c.first.ensures.value)) c.sums_at-past.ensures
     (omega (arith, c.next.ensures.value)) c.sums_at-last.ensures in
     let past = c.index-2.ensures ∙ get_or_default s.lengths.items c.args.r _ 0 (omega (arith, s_long.lengths, there, r-there)) in

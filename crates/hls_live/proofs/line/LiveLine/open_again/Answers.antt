@@ -9,7 +9,7 @@ use Rattle.hls_live.proofs.line.LiveLine.open_again.Goals as goal
 pub invariant_of-result : goal.invariant_of-result
 invariant_of-result c =
     let opening = c.args.opening in
-    opened-sound c.self.inside _ _ opening c.args.best c.self.invariant c.in_ok-share.ensures c.in_ok-share-2.ensures c.requires.some
+    opened-sound c.self.inside _ opening c.args.best c.self.invariant c.in_ok-share.ensures c.requires.some
     (subst (λ (x : Live). 0 < length x.told.line.segments → length opening.place.spots ≡ renditions_of x.told.line.open_at)
     (sym c.self.view_is) c.requires.same)
     (subst (λ (x : Live). (b : Place) → c.args.best ≡ Some b → is_allowed x.aim opening.place b ≡ true) (sym c.self.view_is) c.requires.best)
