@@ -120,8 +120,10 @@ impl Kept {
         requires { AreBeside self.now }
         ensures { option_copied result ≡ last_of self.now.sums.items }
     {
-        // Where there is none, that is below the first, or 0 where none was ever there.
-        self.sums.get(self.next().saturating_sub(1))
+        if self.count() == 0 {
+            return None;
+        }
+        Some(self.sums_at(self.next() - 1))
     }
 
     /// What is to stand beside a segment behind these.
