@@ -2,4 +2,5 @@ mod Charges
 mod Examples
 mod OptionWords
 mod Says
+mod Values
 mod Words

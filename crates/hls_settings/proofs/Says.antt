@@ -1,9 +1,12 @@
 -- Words of renditions, one after the other.
-use Rattle.std.proofs.Common.{◌≡◌, ℕ, zero, suc, ◌+◌, ◌<◌, List, [], ◌∷◌, ◌++◌, Bor, Option, Some, None, length, get_or, map, take, drop, ap, ap₂, arith, add-one}
+use Rattle.std.proofs.Common.{◌≡◌, ℕ, zero, suc, ◌+◌, ◌<◌, List, [], ◌∷◌, ◌++◌, Bor, Option, Some, None, length, get_or, map, take, drop, slice_get, option_map, Err, ap, ap₂, sym, subst, ◌∙◌, arith, add-one}
+use Rattle.std.proofs.lemmas.Option.{slice_get-map, slice_get-get_or}
 use Rattle.clap.specs.Words.{Text}
 use Rattle.hls_core_laws.specs.declared.rendition.Rendition.{Rendition}
+use Rattle.hls_settings.specs.declared.fault.SettingsFault.{SettingsFault}
+use Rattle.hls_settings.specs.declared.fault.SettingsFault.TheVariants as faults
 use Rattle.hls_settings.specs.Renditions.{rendition_of}
-use Rattle.hls_settings.specs.Reading.{Say}
+use Rattle.hls_settings.specs.Reading.{ReadsRendition, ReadsRenditions, Say}
 
 -- one word more
 more : (words : List (Bor Text)) (renditions : List Rendition) (n : ℕ) (d : Bor Text) (r : Rendition) → n < length words → rendition_of (get_or words n d).now ≡ Some r
@@ -19,3 +22,18 @@ more (w ∷ ws) (x ∷ xs) (suc n) d r below is said =
 pub say_more : (words : List (Bor Text)) (renditions : List Rendition) (n : ℕ) (d : Bor Text) (r : Rendition) → n < length words → rendition_of (get_or words n d).now ≡ Some r
     → Say (take n (map (λ w. w.now) words)) renditions → Say (take (n + 1) (map (λ w. w.now) words)) (renditions ++ r ∷ [])
 say_more words renditions n d r below is said = rw add-one (more words renditions n d r below is said)
+
+-- a word that says no rendition, or want of memory, after words that say these
+pub unread_at : (words : List (Bor Text)) (renditions : List Rendition) (n m : ℕ) (d : Bor Text) (fault : SettingsFault) → n < length words → m ≡ n → Say (take n (map (λ w. w.now) words)) renditions
+    → ReadsRendition m (get_or words n d).now (Err fault) → ReadsRenditions (map (λ w. w.now) words) (Err fault)
+unread_at words renditions n m d (faults.Rendition k) below same said unread =
+    let k_is_n : k ≡ n = unread.0 ∙ same in
+    record {
+      renditions = renditions;
+      front = subst (λ (i : ℕ). Say (take i (map (λ w. w.now) words)) renditions) (sym k_is_n) said;
+      word = (get_or words n d).now;
+      is = ap (slice_get (map (λ w. w.now) words)) k_is_n ∙ slice_get-map (λ (w : Bor Text). w.now) words n ∙ ap (option_map (λ (w : Bor Text). w.now)) (slice_get-get_or words n d below);
+      unread = unread.1;
+    }
+unread_at words renditions n m d faults.Memory below same said unread = tt
+unread_at words renditions n m d _ below same said unread = absurd unread

@@ -1,13 +1,21 @@
 -- The words after `serve` as `clap` reads them: options with a value each, an address, and words of renditions.
-use Rattle.std.specs.Prelude.{List, Some, true, codes, option_map}
+use Rattle.std.specs.Prelude.{List, [], ◌∷◌, Some, true, codes, option_map, Result}
 use Rattle.clap.specs.Words.{App, Row, Rule, Text, all_of, first_of, first_value, matched_of, new_app, new_rule, raw_values, with_rule}
 use Rattle.clap.specs.declared.parser.matches.Found.{Found}
 use Rattle.clap.specs.declared.builder.action.ArgAction.TheVariants.{Append}
-use Rattle.hls_settings.specs.Settings.{Texts}
+use Rattle.hls_settings.specs.Settings.{Texts, timing_of, workers_of}
+use Rattle.hls_settings.specs.declared.fault.SettingsFault.{SettingsFault}
+use Rattle.hls_settings.specs.declared.timing.Timing.{Timing}
+use Rattle.hls_settings.specs.declared.workers.Workers.{Workers}
 
 -- an option that takes a value, by its long name
 abbrev pub value_rule : Text → Rule
 value_rule name = record (new_rule name) { long = Some name }
+
+-- a command with such options more. For the code alone
+abbrev pub with_values : App → List Text → App
+with_values app [] = app
+with_values app (n ∷ ns) = with_values (with_rule app (value_rule n)) ns
 
 -- words that stand one after the other
 abbrev pub words_rule : Text → Rule
@@ -48,6 +56,15 @@ texts_in found = record {
   address = first_value found (codes "address");
   renditions = option_map raw_values (matched_of found (codes "renditions"));
 }
+
+-- the lengths of time and the workers among what was found. For the code alone
+abbrev pub timing_found : Found → Result Timing SettingsFault
+timing_found found =
+    timing_of (first_value found (codes "target")) (first_value found (codes "preferred")) (first_value found (codes "window")) (first_value found (codes "keep"))
+
+abbrev pub workers_found : Found → Result Workers SettingsFault
+workers_found found =
+    workers_of (first_value found (codes "workers")) (first_value found (codes "connections")) (first_value found (codes "planners")) (first_value found (codes "patience"))
 
 -- the texts of the words
 abbrev pub texts_of : List Row → Texts

@@ -2,8 +2,9 @@
 use Rattle.std.specs.Prelude.{◌≡◌, ℕ, ℤ, ◌*◌, List, [], ◌∷◌, Option, Some, None, Result, Ok, Err, Bool, false, not, ◌≤◌, ◌&&◌, ◌||◌, cond, codes, is_some}
 use Rattle.std.specs.Prelude.{nat_lt, nat_le, option_and_then}
 use Rattle.std.specs.Str.{bytes_eq}
-use Rattle.clap.specs.Words.{App, Row, Rule, Text, fault_of, first_of, matches_of, new_app, new_rule, with_rule}
+use Rattle.clap.specs.Words.{App, Row, Rule, Text, fault_of, first_of, first_value, found_of, matches_of, new_app, new_rule, with_rule}
 use Rattle.clap.specs.Kinds.{Kinds}
+use Rattle.clap.specs.declared.parser.matches.ArgMatches.{ArgMatches}
 use Rattle.clap.specs.declared.builder.action.ArgAction.TheVariants.{SetTrue}
 use Rattle.clap.specs.declared.error.kind.ErrorKind.{ErrorKind}
 use Rattle.clap.specs.declared.error.kind.ErrorKind.TheVariants as kinds
@@ -127,6 +128,17 @@ choice_in each preferred certificate target uri charge epoch =
     or_wrong faults.Target (target_in target) (λ t. or_wrong faults.Uri (uri_in uri) (λ u. or_wrong faults.Preferred (preferred_in t preferred) (λ p.
     or_wrong faults.Charge (charge_in charge) (λ c. or_wrong faults.Epoch (epoch_in epoch) (λ e. chosen t u p c e (is_set each) (is_set certificate))))))
 
+-- whether the options that are given stand together. For the code alone
+abbrev pub check_together : Bool → Bool → Bool → Bool → Result (Unit {0}) OptionsFault
+check_together each preferred certificate charge =
+    cond (stands_alone each preferred certificate) (cond (is_planned preferred certificate charge) (Ok tt) (Err faults.Unplanned)) (Err faults.Each)
+
+-- the choice with this target duration and URI, by the values of the other options. For the code alone
+abbrev pub choice_after : ℕ → List ℕ → (List ℕ → Option Text) → Result Choice OptionsFault
+choice_after target uri value =
+    or_wrong faults.Preferred (preferred_in target (value (codes "preferred"))) (λ p. or_wrong faults.Charge (charge_in (value (codes "charge"))) (λ c.
+    or_wrong faults.Epoch (epoch_in (value (codes "epoch"))) (λ e. chosen target uri p c e (is_set (value (codes "each"))) (is_set (value (codes "certificate"))))))
+
 abbrev pub unless_refused : Kinds → Result Choice OptionsFault → Result Choice OptionsFault
 unless_refused [] choice = choice
 unless_refused (k ∷ ks) choice = Err faults.Words
@@ -153,3 +165,8 @@ ReadsOptions words result = options_of words ≡ result
 abbrev pub refused_option : ErrorKind → OptionsFault
 refused_option kinds.OutOfMemory = faults.Memory
 refused_option _ = faults.Words
+
+-- what `clap` finds in the words leads to the options that they give. For the code alone
+abbrev pub FindsOptions : List Text → Result ArgMatches OptionsFault → Type 0
+FindsOptions words (Ok matches) = choice_by (first_value (found_of matches)) ≡ options_of words
+FindsOptions words (Err fault) = ReadsOptions words (Err fault)

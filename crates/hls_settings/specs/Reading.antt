@@ -1,7 +1,8 @@
 -- What reading the words after `serve` gives.
 use Rattle.std.specs.Prelude.{◌≡◌, ◌⊎◌, ℕ, ℤ, List, [], ◌∷◌, map, take, slice_get, Option, Some, None, Result, Ok, Err, Vec}
 use Rattle.std.specs.declared.alloc.Global.{Global}
-use Rattle.clap.specs.Words.{Text, fault_of, matches_of}
+use Rattle.clap.specs.Words.{Text, fault_of, found_of, matches_of}
+use Rattle.clap.specs.declared.parser.matches.ArgMatches.{ArgMatches}
 use Rattle.clap.specs.Kinds.{Kinds}
 use Rattle.clap.specs.declared.error.kind.ErrorKind.{ErrorKind}
 use Rattle.clap.specs.declared.error.kind.ErrorKind.TheVariants as kinds
@@ -15,7 +16,7 @@ use Rattle.hls_settings.specs.declared.fault.SettingsFault.TheVariants as faults
 use Rattle.hls_settings.specs.declared.plain.Plain.{Plain}
 use Rattle.hls_settings.specs.declared.timing.Timing.{Timing}
 use Rattle.hls_settings.specs.declared.settings.Settings.{Settings}
-use Rattle.hls_settings.specs.Command.{serve_app, texts_of}
+use Rattle.hls_settings.specs.Command.{serve_app, texts_in, texts_of}
 use Rattle.hls_settings.specs.Renditions.{rendition_of}
 use Rattle.hls_settings.specs.Settings.{Texts, plain_of}
 
@@ -35,6 +36,13 @@ pub record IsFirstUnread (words : List Text) (n : ℕ) : Type 0 where
   pub word : Text
   pub is : slice_get words n ≡ Some word
   pub unread : rendition_of word ≡ None
+
+-- the rendition of the n-th word. For the code alone
+abbrev pub ReadsRendition : ℕ → Text → Result Rendition SettingsFault → Type 0
+ReadsRendition n word (Ok rendition) = rendition_of word ≡ Some rendition
+ReadsRendition n word (Err (faults.Rendition m)) = (m ≡ n) × (rendition_of word ≡ None)
+ReadsRendition n word (Err faults.Memory) = Unit {0}
+ReadsRendition n word (Err _) = ⊥
 
 abbrev pub ReadsRenditions : List Text → Result (Vec Rendition Global) SettingsFault → Type 0
 ReadsRenditions words (Ok renditions) = Say words renditions.items
@@ -85,3 +93,8 @@ Reads words result = (result ≡ Err faults.Memory) ⊎ SetsIn (fault_of serve_a
 abbrev pub refused_by : ErrorKind → SettingsFault
 refused_by kinds.OutOfMemory = faults.Memory
 refused_by _ = faults.Words
+
+-- what `clap` finds in the words leads to the settings that they give. For the code alone
+abbrev pub Finds : List Text → Result ArgMatches SettingsFault → Type 0
+Finds words (Ok matches) = (result : Result Settings SettingsFault) → SetsBy (plain_of (texts_in (found_of matches))) (words_of (texts_in (found_of matches)).renditions) result → Reads words result
+Finds words (Err fault) = Reads words (Err fault)

@@ -1,10 +1,24 @@
 //! The words as `clap` reads them.
-ghost use Rattle.std.specs.Prelude.{◌≡◌, IfOk, false};
+ghost use Rattle.std.specs.Prelude.{◌≡◌, IfOk, false, map};
 ghost use Rattle.clap.specs.Words.{app_of, rule_of, with_rule};
-ghost use Rattle.hls_settings.specs.Command.{channel_app, options_app, serve_app, timing_app, value_rule};
+ghost use Rattle.hls_settings.specs.Command.{serve_app, value_rule, with_values};
 
 use clap::{Arg, ArgAction, Command};
 use std::alloc::{AllocError, Global};
+
+/// The options, each with a value.
+const OPTIONS: [&str; 10] = [
+    "target",
+    "preferred",
+    "window",
+    "keep",
+    "epoch",
+    "workers",
+    "connections",
+    "planners",
+    "patience",
+    "log",
+];
 
 /// An option that takes a value, by its long name.
 pub fn valued<'a>(alloc: Global, name: &'a str) -> Arg<'a>
@@ -15,44 +29,35 @@ pub fn valued<'a>(alloc: Global, name: &'a str) -> Arg<'a>
 }
 
 /// A command with one argument more.
-fn with<'a>(command: Command<'a>, arg: Arg<'a>) -> Result<Command<'a>, AllocError>
+pub fn with<'a>(command: Command<'a>, arg: Arg<'a>) -> Result<Command<'a>, AllocError>
     requires { arg.global ≡ false }
     ensures { IfOk result (λ made. app_of made ≡ with_rule (app_of command.entry) (rule_of arg.entry)) }
 {
     command.arg(arg)
 }
 
-fn timing<'a>(alloc: Global) -> Result<Command<'a>, AllocError>
-    ensures { IfOk result (λ made. app_of made ≡ timing_app) }
+/// A command with options more that take a value each, by their long names.
+pub fn with_values<'a>(
+    alloc: Global,
+    command: Command<'a>,
+    names: &[&'a str],
+) -> Result<Command<'a>, AllocError>
+    ensures { IfOk result (λ made. app_of made ≡ with_values (app_of command.entry) (map (λ n. n.now) names.entry.now)) }
 {
-    let command = Command::new(alloc, "serve").no_binary_name(true);
-    let command = with(command, valued(alloc, "target"))?;
-    let command = with(command, valued(alloc, "preferred"))?;
-    let command = with(command, valued(alloc, "window"))?;
-    with(command, valued(alloc, "keep"))
-}
-
-fn channel<'a>(alloc: Global) -> Result<Command<'a>, AllocError>
-    ensures { IfOk result (λ made. app_of made ≡ channel_app) }
-{
-    with(timing(alloc)?, valued(alloc, "epoch"))
-}
-
-fn options<'a>(alloc: Global) -> Result<Command<'a>, AllocError>
-    ensures { IfOk result (λ made. app_of made ≡ options_app) }
-{
-    let command = with(channel(alloc)?, valued(alloc, "workers"))?;
-    let command = with(command, valued(alloc, "connections"))?;
-    let command = with(command, valued(alloc, "planners"))?;
-    let command = with(command, valued(alloc, "patience"))?;
-    with(command, valued(alloc, "log"))
+    let mut command = command;
+    for name in names {
+        command = with(command, valued(alloc, name))?;
+    }
+    Ok(command)
 }
 
 /// The command as `clap` reads it.
 pub fn command<'a>(alloc: Global) -> Result<Command<'a>, AllocError>
     ensures { IfOk result (λ made. app_of made ≡ serve_app) }
 {
-    let command = with(options(alloc)?, Arg::new(alloc, "address"))?;
+    let command = Command::new(alloc, "serve").no_binary_name(true);
+    let command = with_values(alloc, command, &OPTIONS)?;
+    let command = with(command, Arg::new(alloc, "address"))?;
     let words = Arg::new(alloc, "renditions").action(ArgAction::Append);
     with(command, words)
 }

@@ -1,6 +1,6 @@
 //! Numbers among the words of the command line, and words cut at a mark.
 ghost use Rattle.std.specs.Prelude.{◌≡◌, ◌<◌, ◌≤◌, IfSome, option_map};
-ghost use Rattle.hls_settings.specs.Numbers.{cut_at, number_in, within};
+ghost use Rattle.hls_settings.specs.Numbers.{cut_at, given_in, number_in, within};
 
 use hls_text::{MOST_DIGITS, read_number};
 
@@ -23,6 +23,19 @@ pub fn number_in(least: u64, most: u64, default: u64, text: Option<&str>) -> Opt
     match text {
         None => within(least, most, default),
         Some(text) => within(least, most, read_number(text.as_bytes(), MOST_DIGITS)?),
+    }
+}
+
+/// An option's number, where it is given; `None` where it isn't within its bounds.
+pub fn given_in(least: u64, most: u64, text: Option<&str>) -> Option<Option<u64>>
+    ensures { result ≡ given_in least most (option_map (λ t. t.now) text.entry) }
+{
+    match text {
+        None => Some(None),
+        Some(text) => {
+            let number = read_number(text.as_bytes(), MOST_DIGITS)?;
+            Some(Some(within(least, most, number)?))
+        }
     }
 }
 

@@ -4,16 +4,16 @@ ghost use Rattle.clap.specs.Words.{app_of, first_value, found_of, kind_of, rule_
 ghost use Rattle.hls_check_laws.specs.Tables.{charge_limit, charge_of, rule_of as cost_rule_of, target_limit};
 ghost use Rattle.hls_core_laws.specs.Config.{IsEpoch, IsTarget};
 ghost use Rattle.hls_m3u8.specs.Uri.{IsUri};
-ghost use Rattle.hls_settings.specs.Options.{IsCharge, IsPreferredOf, ReadsOptions, charge_in, checked_uri, choice_by, cut_app, flag_rule, is_planned, is_set, preferred_in, refused_option, stands_alone, target_in, uri_in};
+ghost use Rattle.hls_settings.specs.Options.{FindsOptions, IsCharge, IsPreferredOf, ReadsOptions, charge_in, check_together, checked_uri, choice_after, choice_by, cut_app, flag_rule, is_planned, is_set, preferred_in, refused_option, stands_alone, target_in, uri_in};
 
-use crate::command::valued;
+use crate::command::{valued, with, with_values};
 use crate::epoch::read_epoch;
+use crate::number::{given_in, number_in};
 use crate::options_fault::OptionsFault;
 use clap::error::ErrorKind;
 use clap::{Arg, ArgAction, ArgMatches, Command, Error};
 use hls_check_laws::{CHARGE_LIMIT, CostRule, TARGET_LIMIT};
 use hls_m3u8::is_uri;
-use hls_text::{MOST_DIGITS, read_number};
 use std::alloc::{AllocError, Global};
 use std::convert::AsStr;
 use std::marker::Model;
@@ -104,22 +104,18 @@ fn flag<'a>(alloc: Global, name: &'a str) -> Arg<'a>
     ensures rule { rule_of result ≡ flag_rule name.entry.now }
     ensures local { result.global ≡ false }
 {
-    Arg::new(alloc, name).long(name).action(ArgAction::SetTrue)
+    valued(alloc, name).action(ArgAction::SetTrue)
 }
 
 /// The command as `clap` reads it.
 fn cut_command<'a>(alloc: Global) -> Result<Command<'a>, AllocError>
     ensures { IfOk result (λ made. app_of made ≡ cut_app) }
 {
-    Command::new(alloc, "cut")
-        .no_binary_name(true)
-        .arg(flag(alloc, "each"))?
-        .arg(valued(alloc, "preferred"))?
-        .arg(flag(alloc, "certificate"))?
-        .arg(valued(alloc, "target"))?
-        .arg(valued(alloc, "uri"))?
-        .arg(valued(alloc, "charge"))?
-        .arg(valued(alloc, "epoch"))
+    let command = Command::new(alloc, "cut").no_binary_name(true);
+    let command = with(command, flag(alloc, "each"))?;
+    let command = with(command, valued(alloc, "preferred"))?;
+    let command = with(command, flag(alloc, "certificate"))?;
+    with_values(alloc, command, &["target", "uri", "charge", "epoch"])
 }
 
 /// The target duration that was given, or the default; `None` where it isn't 1 to 3600 seconds.
@@ -127,15 +123,7 @@ fn target_of(text: Option<&str>) -> Option<u64>
     ensures value { result ≡ target_in (option_map (λ t. t.now) text.entry) }
     ensures in_range { IfSome result (λ target. (1 ≤ target) × (target ≤ target_limit)) }
 {
-    let Some(text) = text else {
-        return Some(DEFAULT_TARGET);
-    };
-    let target = read_number(text.as_bytes(), MOST_DIGITS)?;
-    if target >= 1 && target <= TARGET_LIMIT {
-        Some(target)
-    } else {
-        None
-    }
+    number_in(1, TARGET_LIMIT, DEFAULT_TARGET, text)
 }
 
 /// The preferred length that was given, if one was; `None` where it isn't 1 microsecond to the
@@ -145,15 +133,7 @@ fn preferred_of(target: u64, text: Option<&str>) -> Option<Option<u64>>
     ensures value { result ≡ preferred_in target (option_map (λ t. t.now) text.entry) }
     ensures in_range { IfSome result (IsPreferredOf target) }
 {
-    let Some(text) = text else {
-        return Some(None);
-    };
-    let length = read_number(text.as_bytes(), MOST_DIGITS)?;
-    if length >= 1 && length <= target * 1_000_000 {
-        Some(Some(length))
-    } else {
-        None
-    }
+    given_in(1, target * 1_000_000, text)
 }
 
 /// The charge that was given, if one was; `None` where it is above 3600000000 µs.
@@ -161,15 +141,7 @@ fn charge_of(text: Option<&str>) -> Option<Option<u64>>
     ensures value { result ≡ charge_in (option_map (λ t. t.now) text.entry) }
     ensures in_range { IfSome result IsCharge }
 {
-    let Some(text) = text else {
-        return Some(None);
-    };
-    let charge = read_number(text.as_bytes(), MOST_DIGITS)?;
-    if charge <= CHARGE_LIMIT {
-        Some(Some(charge))
-    } else {
-        None
-    }
+    given_in(0, CHARGE_LIMIT, text)
 }
 
 /// The URI, where it can stand in a playlist.
@@ -185,7 +157,10 @@ fn uri_of<'a>(text: Option<&'a str>) -> Option<&'a str>
     ensures value { option_map (λ u. u.now) result ≡ uri_in (option_map (λ t. t.now) text.entry) }
     ensures good { IfSome result (λ u. IsUri u.now) }
 {
-    checked_uri(text.unwrap_or("media.mp4"))
+    match text {
+        Some(uri) => checked_uri(uri),
+        None => checked_uri("media.mp4"),
+    }
 }
 
 /// Whether an option without a value was given, by the text that `clap` has for it.
@@ -212,6 +187,57 @@ fn is_planned(preferred: bool, certificate: bool, charge: bool) -> bool
     !((certificate || charge) && !preferred)
 }
 
+/// Whether the options that are given stand together, or which of them doesn't.
+fn check_together(
+    each: bool,
+    preferred: bool,
+    certificate: bool,
+    charge: bool,
+) -> Result<(), OptionsFault>
+    ensures { result ≡ check_together each preferred certificate charge }
+{
+    if !stands_alone(each, preferred, certificate) {
+        return Err(OptionsFault::Each);
+    }
+    if !is_planned(preferred, certificate, charge) {
+        return Err(OptionsFault::Unplanned);
+    }
+    Ok(())
+}
+
+/// The options with this target duration and URI, or which of the others is wrong first.
+fn options_with<'a>(
+    matches: &ArgMatches<'a>,
+    target: u64,
+    uri: &'a str,
+) -> Result<Options<'a>, OptionsFault>
+    requires least { 1 ≤ target }
+    requires most { target ≤ target_limit }
+    requires good { IsUri uri.now }
+    ensures { result ≡ choice_after target uri.entry.now (first_value (found_of matches.now)) }
+{
+    let Some(preferred) = preferred_of(target, matches.get_str("preferred")) else {
+        return Err(OptionsFault::Preferred);
+    };
+    let Some(charge) = charge_of(matches.get_str("charge")) else {
+        return Err(OptionsFault::Charge);
+    };
+    let Some(epoch) = read_epoch(matches.get_str("epoch")) else {
+        return Err(OptionsFault::Epoch);
+    };
+    let each = is_set(matches.get_str("each"));
+    let certificate = is_set(matches.get_str("certificate"));
+    check_together(each, preferred.is_some(), certificate, charge.is_some())?;
+    Ok(Options {
+        target,
+        uri,
+        preferred,
+        charge,
+        epoch,
+        certificate,
+    })
+}
+
 /// The options among what `clap` found, or which of them is wrong first.
 fn options_in<'a>(matches: &ArgMatches<'a>) -> Result<Options<'a>, OptionsFault>
     ensures { result ≡ choice_by (first_value (found_of matches.now)) }
@@ -222,32 +248,7 @@ fn options_in<'a>(matches: &ArgMatches<'a>) -> Result<Options<'a>, OptionsFault>
     let Some(uri) = uri_of(matches.get_str("uri")) else {
         return Err(OptionsFault::Uri);
     };
-    let Some(preferred) = preferred_of(target, matches.get_str("preferred")) else {
-        return Err(OptionsFault::Preferred);
-    };
-    let Some(charge) = charge_of(matches.get_str("charge")) else {
-        return Err(OptionsFault::Charge);
-    };
-    let Some(epoch) = read_epoch(matches.get_str("epoch")) else {
-        return Err(OptionsFault::Epoch);
-    };
-    let planned = preferred.is_some();
-    let each = is_set(matches.get_str("each"));
-    let certificate = is_set(matches.get_str("certificate"));
-    if !stands_alone(each, planned, certificate) {
-        return Err(OptionsFault::Each);
-    }
-    if !is_planned(planned, certificate, charge.is_some()) {
-        return Err(OptionsFault::Unplanned);
-    }
-    Ok(Options {
-        target,
-        uri,
-        preferred,
-        charge,
-        epoch,
-        certificate,
-    })
+    options_with(matches, target, uri)
 }
 
 /// Why `clap` took no options.
@@ -261,6 +262,19 @@ fn refused(error: &Error) -> OptionsFault
     }
 }
 
+/// What `clap` finds in the words, or why it takes none.
+fn find_options<'a, S: AsStr>(alloc: Global, words: &'a [S]) -> Result<ArgMatches<'a>, OptionsFault>
+    ensures { FindsOptions (map S.text words.entry.now) result }
+{
+    let Ok(command) = cut_command(alloc) else {
+        return Err(OptionsFault::Memory);
+    };
+    match command.try_get_matches_from(words) {
+        Ok(matches) => Ok(matches),
+        Err(error) => Err(refused(&error)),
+    }
+}
+
 /// Reads the words after `cut`. The first that is wrong is told, in the order of the variants of `OptionsFault`; `Memory` comes
 /// only where a growth was refused.
 pub fn read_options<'a, S: AsStr>(
@@ -269,11 +283,6 @@ pub fn read_options<'a, S: AsStr>(
 ) -> Result<Options<'a>, OptionsFault>
     ensures { ReadsOptions (map S.text words.entry.now) result }
 {
-    let Ok(command) = cut_command(alloc) else {
-        return Err(OptionsFault::Memory);
-    };
-    match command.try_get_matches_from(words) {
-        Ok(matches) => options_in(&matches),
-        Err(error) => Err(refused(&error)),
-    }
+    let matches = find_options(alloc, words)?;
+    options_in(&matches)
 }

@@ -1,9 +1,9 @@
 //! All that stands apart from the renditions.
-ghost use Rattle.std.specs.Prelude.{◌≡◌, IfOk};
+ghost use Rattle.std.specs.Prelude.{◌≡◌, IfOk, Some};
 ghost use Rattle.hls_core_laws.specs.Config.{IsEpoch, IsTarget, IsPreferred};
-ghost use Rattle.clap.specs.Words.{first_value, found_of};
-ghost use Rattle.hls_settings.specs.Settings.{address_in, log_of, plain_of, text_of};
-ghost use Rattle.hls_settings.specs.Command.{texts_in};
+ghost use Rattle.clap.specs.Words.{found_of};
+ghost use Rattle.hls_settings.specs.Settings.{address_in, log_of, plain_from, plain_of, text_of};
+ghost use Rattle.hls_settings.specs.Command.{texts_in, timing_found, workers_found};
 
 use crate::address::{Address, read_address};
 use crate::epoch::read_epoch;
@@ -40,26 +40,41 @@ fn address_in(text: Option<&str>) -> Option<Address>
     read_address(text?)
 }
 
-/// What was given but for the renditions, or what of it is wrong first.
-pub fn read_plain(matches: &ArgMatches) -> Result<Plain, SettingsFault>
-    ensures valid { IfOk result (λ p. IsTarget p.timing.target × IsPreferred p.timing.target p.timing.preferred × IsEpoch p.epoch) }
-    ensures value { result ≡ plain_of (texts_in (found_of matches.now)) }
+/// The lengths of time among what `clap` found.
+fn timing_in(matches: &ArgMatches) -> Result<Timing, SettingsFault>
+    ensures valid { IfOk result (λ t. IsTarget t.target × IsPreferred t.target t.preferred) }
+    ensures value { result ≡ timing_found (found_of matches.now) }
 {
-    let timing = read_timing(
+    read_timing(
         matches.get_str("target"),
         matches.get_str("preferred"),
         matches.get_str("window"),
         matches.get_str("keep"),
-    )?;
-    let Some(epoch) = read_epoch(matches.get_str("epoch")) else {
-        return Err(SettingsFault::Epoch);
-    };
-    let workers = read_workers(
+    )
+}
+
+/// The workers among what `clap` found.
+fn workers_in(matches: &ArgMatches) -> Result<Workers, SettingsFault>
+    ensures { result ≡ workers_found (found_of matches.now) }
+{
+    read_workers(
         matches.get_str("workers"),
         matches.get_str("connections"),
         matches.get_str("planners"),
         matches.get_str("patience"),
-    )?;
+    )
+}
+
+/// What was given with these lengths of time and this epoch, or what of the rest is wrong first.
+fn plain_with(
+    matches: &ArgMatches,
+    timing: Timing,
+    epoch: Option<i64>,
+) -> Result<Plain, SettingsFault>
+    ensures kept { IfOk result (λ p. (p.timing ≡ timing) × (p.epoch ≡ epoch)) }
+    ensures value { result ≡ plain_from timing (Some epoch) (texts_in (found_of matches.now)) }
+{
+    let workers = workers_in(matches)?;
     let Some(logs_requests) = read_log(matches.get_str("log")) else {
         return Err(SettingsFault::Log);
     };
@@ -73,4 +88,16 @@ pub fn read_plain(matches: &ArgMatches) -> Result<Plain, SettingsFault>
         logs_requests,
         address,
     })
+}
+
+/// What was given but for the renditions, or what of it is wrong first.
+pub fn read_plain(matches: &ArgMatches) -> Result<Plain, SettingsFault>
+    ensures valid { IfOk result (λ p. IsTarget p.timing.target × IsPreferred p.timing.target p.timing.preferred × IsEpoch p.epoch) }
+    ensures value { result ≡ plain_of (texts_in (found_of matches.now)) }
+{
+    let timing = timing_in(matches)?;
+    let Some(epoch) = read_epoch(matches.get_str("epoch")) else {
+        return Err(SettingsFault::Epoch);
+    };
+    plain_with(matches, timing, epoch)
 }

@@ -4,7 +4,7 @@ ghost use Rattle.clap.specs.Words.{found_of, matched_of, raw_values};
 ghost use Rattle.hls_core_laws.specs.Config.{IsEpoch, IsTarget, IsPreferred};
 ghost use Rattle.hls_settings.specs.Command.{texts_in};
 ghost use Rattle.clap.specs.Words.{kind_of};
-ghost use Rattle.hls_settings.specs.Reading.{Configures, Reads, ReadsRenditions, Sets, SetsBy, refused_by, words_of};
+ghost use Rattle.hls_settings.specs.Reading.{Configures, Finds, Reads, ReadsRendition, ReadsRenditions, Sets, SetsBy, refused_by, words_of};
 ghost use Rattle.hls_settings.specs.Settings.{plain_of};
 
 use crate::command::command;
@@ -27,18 +27,26 @@ pub struct Settings {
     pub config: Config,
 }
 
+/// The rendition that a word says, which is the n-th.
+fn read_rendition(alloc: Global, n: usize, word: &str) -> Result<Rendition, SettingsFault>
+    ensures { ReadsRendition n word.now result }
+{
+    let Some(word) = read_word(word) else {
+        return Err(SettingsFault::Rendition(n));
+    };
+    match named(alloc, word) {
+        Ok(rendition) => Ok(rendition),
+        Err(_) => Err(SettingsFault::Memory),
+    }
+}
+
 /// The renditions that the words say, in their order.
 fn read_renditions(alloc: Global, words: &[&str]) -> Result<Vec<Rendition>, SettingsFault>
     ensures { ReadsRenditions (map (λ w. w.now) words.now) result }
 {
     let mut renditions = Vec::new(alloc);
-    for (n, word) in words.iter().enumerate() {
-        let Some(word) = read_word(word) else {
-            return Err(SettingsFault::Rendition(n));
-        };
-        let Ok(rendition) = named(alloc, word) else {
-            return Err(SettingsFault::Memory);
-        };
+    for word in words {
+        let rendition = read_rendition(alloc, renditions.len(), word)?;
         let Ok(()) = renditions.push(rendition) else {
             return Err(SettingsFault::Memory);
         };
@@ -102,17 +110,28 @@ fn refused(error: &Error) -> SettingsFault
     }
 }
 
+/// What `clap` finds in the words, or why it takes none.
+fn find_settings<'a, S: AsStr>(
+    alloc: Global,
+    words: &'a [S],
+) -> Result<ArgMatches<'a>, SettingsFault>
+    ensures { Finds (map S.text words.entry.now) result }
+{
+    let Ok(command) = command(alloc) else {
+        return Err(SettingsFault::Memory);
+    };
+    match command.try_get_matches_from(words) {
+        Ok(matches) => Ok(matches),
+        Err(error) => Err(refused(&error)),
+    }
+}
+
 /// Reads the words after `serve`: options, then the address `a.b.c.d:port`, then a word `name:kind:bandwidth:tolerance` for
 /// each rendition. The first word that is wrong is told, in the order of the variants of `SettingsFault`; `Memory` comes only
 /// where a growth was refused.
 pub fn read_settings<'a, S: AsStr>(alloc: Global, words: &'a [S]) -> Result<Settings, SettingsFault>
     ensures { Reads (map S.text words.entry.now) result }
 {
-    let Ok(command) = command(alloc) else {
-        return Err(SettingsFault::Memory);
-    };
-    match command.try_get_matches_from(words) {
-        Ok(matches) => settings_in(alloc, &matches),
-        Err(error) => Err(refused(&error)),
-    }
+    let matches = find_settings(alloc, words)?;
+    settings_in(alloc, &matches)
 }

@@ -1,9 +1,17 @@
-use Rattle.std.proofs.Common.{◌∙◌, ap, sym, arith, Some}
-use Rattle.hls_settings.proofs.Says.{say_more}
+use Rattle.std.proofs.Common.{◌≡◌, Err, rules, length, ap, arith, length-append}
+use Rattle.hls_core_laws.specs.declared.rendition.Rendition.{Rendition}
+use Rattle.hls_settings.proofs.Says.{say_more, unread_at}
 use Rattle.hls_settings.proofs.settings.read_renditions.Goals as goal
 
-pub loop-n-preserved : goal.loop-n-preserved
-loop-n-preserved c = record {
-  said = rw c.in-Ok-push.ensures.items (say_more c.args.words.now c.loop-n.renditions.items c.loop-n.n _ c.in-Ok.rendition (grind arith)
-      (sym c.in-Some.ensures ∙ ap Some (sym c.in-Ok.ensures)) c.loop-n.invariant.said);
+pub loop-word-preserved : goal.loop-word-preserved
+loop-word-preserved c = record {
+  all = omega (arith, ap length c.in-Ok.ensures.items, length-append {A = Rendition});
+  said = rw c.in-Ok.ensures.items (say_more c.args.words.now c.loop-word.renditions.items c.loop-word.word-index _ c.in_ok-rendition.rendition (omega arith)
+      c.in_ok-rendition.ensures c.loop-word.invariant.said);
 }
+
+pub returns-in_err-rendition : goal.returns-in_err-rendition
+returns-in_err-rendition c =
+    let is : c.from_residual.result ≡ Err c.in_err-rendition.field-0.0 = search rules in
+    rw is (unread_at c.args.words.now c.loop-word.renditions.items c.loop-word.word-index c.len.result _ c.in_err-rendition.field-0.0
+    (omega arith) (omega arith) c.loop-word.invariant.said c.in_err-rendition.ensures)

@@ -1,8 +1,9 @@
-use Rattle.std.proofs.Common.{map, take}
+use Rattle.std.proofs.Common.{◌≡◌, length, map, take}
 use Rattle.hls_settings.specs.Reading.{Say}
 use Rattle.hls_settings.proofs.settings.read_renditions.Given as goal
 
-abbrev pub invariant-loop-n : goal.invariant-loop-n
-invariant-loop-n l = record {
-  said : Say (take l.n (map (λ w. w.now) l.words)) l.renditions.items;
+abbrev pub invariant-loop-word : goal.invariant-loop-word
+invariant-loop-word l = record {
+  all : length l.renditions.items ≡ l.word-index;
+  said : Say (take l.word-index (map (λ w. w.now) l.words)) l.renditions.items;
 }

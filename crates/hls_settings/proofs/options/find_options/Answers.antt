@@ -1,14 +1,14 @@
-use Rattle.std.proofs.Common.{◌≡◌, ◌∙◌, ap, sym}
+use Rattle.std.proofs.Common.{◌≡◌, ◌∙◌, ap}
 use Rattle.clap.specs.Words.{is_simple_and_free, app_of}
-use Rattle.hls_settings.proofs.OptionWords.{cut_is_simple_and_free, reads_options, taken_words, refused_words}
+use Rattle.hls_settings.proofs.OptionWords.{cut_is_simple_and_free, taken_words, refused_words}
 use Rattle.hls_settings.specs.Options.{cut_app}
-use Rattle.hls_settings.proofs.options.read_options.Goals as goal
+use Rattle.hls_settings.proofs.options.find_options.Goals as goal
 
 pub returns-in-Ok-try_get_matches_from : goal.returns-in-Ok-try_get_matches_from
 returns-in-Ok-try_get_matches_from g c =
     let app_is : app_of c.in-Ok.command ≡ cut_app = c.in-Ok.ensures in
-    reads_options _ _ (sym (c.options_in.ensures ∙ taken_words _ _ c.in-Ok-try_get_matches_from.matches app_is c.in-Ok-try_get_matches_from.ensures.matches
-    (c.in-Ok-try_get_matches_from.ensures.kinds (ap is_simple_and_free app_is ∙ cut_is_simple_and_free))))
+    taken_words _ _ c.in-Ok-try_get_matches_from.matches app_is c.in-Ok-try_get_matches_from.ensures.matches
+    (c.in-Ok-try_get_matches_from.ensures.kinds (ap is_simple_and_free app_is ∙ cut_is_simple_and_free))
 
 pub returns-in-Err : goal.returns-in-Err
 returns-in-Err g c =

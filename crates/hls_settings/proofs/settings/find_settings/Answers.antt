@@ -2,13 +2,13 @@ use Rattle.std.proofs.Common.{◌≡◌, ◌∙◌, ap}
 use Rattle.clap.specs.Words.{is_simple_and_free, app_of}
 use Rattle.hls_settings.proofs.Words.{serve_is_simple_and_free, taken_words, refused_words}
 use Rattle.hls_settings.specs.Command.{serve_app}
-use Rattle.hls_settings.proofs.settings.read_settings.Goals as goal
+use Rattle.hls_settings.proofs.settings.find_settings.Goals as goal
 
 pub returns-in-Ok-try_get_matches_from : goal.returns-in-Ok-try_get_matches_from
 returns-in-Ok-try_get_matches_from g c =
     let app_is : app_of c.in-Ok.command ≡ serve_app = c.in-Ok.ensures in
-    taken_words _ _ c.in-Ok-try_get_matches_from.matches _ app_is c.in-Ok-try_get_matches_from.ensures.matches
-    (c.in-Ok-try_get_matches_from.ensures.kinds (ap is_simple_and_free app_is ∙ serve_is_simple_and_free)) c.settings_in.ensures
+    λ result. taken_words _ _ c.in-Ok-try_get_matches_from.matches result app_is c.in-Ok-try_get_matches_from.ensures.matches
+    (c.in-Ok-try_get_matches_from.ensures.kinds (ap is_simple_and_free app_is ∙ serve_is_simple_and_free))
 
 pub returns-in-Err : goal.returns-in-Err
 returns-in-Err g c =
