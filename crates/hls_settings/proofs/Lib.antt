@@ -1,6 +1,6 @@
+mod Building
 mod Charges
 mod Examples
 mod OptionWords
 mod Says
-mod Values
 mod Words

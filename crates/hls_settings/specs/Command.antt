@@ -1,5 +1,5 @@
 -- The words after `serve` as `clap` reads them: options with a value each, an address, and words of renditions.
-use Rattle.std.specs.Prelude.{List, [], ◌∷◌, Some, true, codes, option_map, Result}
+use Rattle.std.specs.Prelude.{List, Some, true, codes, option_map, Result}
 use Rattle.clap.specs.Words.{App, Row, Rule, Text, all_of, first_of, first_value, matched_of, new_app, new_rule, raw_values, with_rule}
 use Rattle.clap.specs.declared.parser.matches.Found.{Found}
 use Rattle.clap.specs.declared.builder.action.ArgAction.TheVariants.{Append}
@@ -11,11 +11,6 @@ use Rattle.hls_settings.specs.declared.workers.Workers.{Workers}
 -- an option that takes a value, by its long name
 abbrev pub value_rule : Text → Rule
 value_rule name = record (new_rule name) { long = Some name }
-
--- a command with such options more. For the code alone
-abbrev pub with_values : App → List Text → App
-with_values app [] = app
-with_values app (n ∷ ns) = with_values (with_rule app (value_rule n)) ns
 
 -- words that stand one after the other
 abbrev pub words_rule : Text → Rule

@@ -6,3 +6,4 @@ pub mod Settings
 pub mod Command
 pub mod Reading
 pub mod Options
+pub mod Building

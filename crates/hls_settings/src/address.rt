@@ -1,6 +1,7 @@
 //! Where the server listens.
-ghost use Rattle.std.specs.Prelude.{◌≡◌, option_map};
-ghost use Rattle.hls_settings.specs.Addresses.{address_of, last_octet_of, octet_of, small_of};
+ghost use Rattle.std.specs.Prelude.{◌≡◌, ◌<◌, option_map};
+ghost use Rattle.hls_settings.specs.Addresses.{address_of, numbered, small_of};
+ghost use Rattle.hls_settings.specs.Numbers.{cut_at};
 
 use crate::number::cut_at;
 use hls_text::{MOST_DIGITS, is_plain, read_number};
@@ -33,19 +34,12 @@ fn read_port(port: &str) -> Option<u16>
     u16::try_from(read_number(port.as_bytes(), MOST_DIGITS)?).ok()
 }
 
-/// A number before the next dot, and what follows.
-fn take_octet(text: &str) -> Option<(u8, &str)>
-    ensures { option_map (λ found. (found.0, found.1.now)) result ≡ octet_of text.now }
+/// A number before the next such mark, and what follows.
+fn take_octet(text: &str, mark: char) -> Option<(u8, &str)>
+    requires { mark < 128 }
+    ensures { option_map (λ found. (found.0, found.1.now)) result ≡ numbered 255 (cut_at mark text.now) }
 {
-    let (number, rest) = cut_at(text, '.')?;
-    Some((read_octet(number)?, rest))
-}
-
-/// A number before the colon, and what follows.
-fn take_last_octet(text: &str) -> Option<(u8, &str)>
-    ensures { option_map (λ found. (found.0, found.1.now)) result ≡ last_octet_of text.now }
-{
-    let (number, rest) = cut_at(text, ':')?;
+    let (number, rest) = cut_at(text, mark)?;
     Some((read_octet(number)?, rest))
 }
 
@@ -54,10 +48,10 @@ fn take_last_octet(text: &str) -> Option<(u8, &str)>
 pub fn read_address(text: &str) -> Option<Address>
     ensures { result ≡ address_of text.now }
 {
-    let (a, rest) = take_octet(text)?;
-    let (b, rest) = take_octet(rest)?;
-    let (c, rest) = take_octet(rest)?;
-    let (d, rest) = take_last_octet(rest)?;
+    let (a, rest) = take_octet(text, '.')?;
+    let (b, rest) = take_octet(rest, '.')?;
+    let (c, rest) = take_octet(rest, '.')?;
+    let (d, rest) = take_octet(rest, ':')?;
     Some(Address {
         a,
         b,

@@ -1,52 +1,65 @@
 //! The words as `clap` reads them.
 ghost use Rattle.std.specs.Prelude.{◌≡◌, IfOk, false, map};
-ghost use Rattle.clap.specs.Words.{app_of, rule_of, with_rule};
-ghost use Rattle.hls_settings.specs.Command.{serve_app, value_rule, with_values};
+ghost use Rattle.clap.specs.Words.{app_of, new_app, rule_of, with_rule};
+ghost use Rattle.hls_settings.specs.Building.{option_rule, with_options};
+ghost use Rattle.hls_settings.specs.Command.{serve_app, without_name};
 
 use clap::{Arg, ArgAction, Command};
 use std::alloc::{AllocError, Global};
 
-/// The options, each with a value.
-const OPTIONS: [&str; 10] = [
-    "target",
-    "preferred",
-    "window",
-    "keep",
-    "epoch",
-    "workers",
-    "connections",
-    "planners",
-    "patience",
-    "log",
+/// The options by their long names, and whether each takes a value.
+const OPTIONS: [(&str, bool); 10] = [
+    ("target", true),
+    ("preferred", true),
+    ("window", true),
+    ("keep", true),
+    ("epoch", true),
+    ("workers", true),
+    ("connections", true),
+    ("planners", true),
+    ("patience", true),
+    ("log", true),
 ];
 
-/// An option that takes a value, by its long name.
-pub fn valued<'a>(alloc: Global, name: &'a str) -> Arg<'a>
-    ensures rule { rule_of result ≡ value_rule name.entry.now }
+/// An option by its long name, which takes a value or none.
+fn option<'a>(alloc: Global, name: &'a str, takes_value: bool) -> Arg<'a>
+    ensures rule { rule_of result ≡ option_rule name.entry.now takes_value }
     ensures local { result.global ≡ false }
 {
-    Arg::new(alloc, name).long(name)
+    let option = Arg::new(alloc, name).long(name);
+    if takes_value {
+        option
+    } else {
+        option.action(ArgAction::SetTrue)
+    }
 }
 
 /// A command with one argument more.
-pub fn with<'a>(command: Command<'a>, arg: Arg<'a>) -> Result<Command<'a>, AllocError>
+fn with<'a>(command: Command<'a>, arg: Arg<'a>) -> Result<Command<'a>, AllocError>
     requires { arg.global ≡ false }
     ensures { IfOk result (λ made. app_of made ≡ with_rule (app_of command.entry) (rule_of arg.entry)) }
 {
     command.arg(arg)
 }
 
-/// A command with options more that take a value each, by their long names.
-pub fn with_values<'a>(
-    alloc: Global,
-    command: Command<'a>,
-    names: &[&'a str],
-) -> Result<Command<'a>, AllocError>
-    ensures { IfOk result (λ made. app_of made ≡ with_values (app_of command.entry) (map (λ n. n.now) names.entry.now)) }
+/// A command of such a name, with which its words don't begin.
+fn named<'a>(alloc: Global, name: &'a str) -> Command<'a>
+    ensures { app_of result ≡ without_name (new_app name.entry.now) }
 {
-    let mut command = command;
-    for name in names {
-        command = with(command, valued(alloc, name))?;
+    Command::new(alloc, name).no_binary_name(true)
+}
+
+/// A command of such a name with these options: their long names, and whether each takes a value.
+pub fn with_options<'a>(
+    alloc: Global,
+    name: &'a str,
+    options: &[(&'a str, bool)],
+) -> Result<Command<'a>, AllocError>
+    ensures { IfOk result (λ made. app_of made ≡ with_options (without_name (new_app name.entry.now)) (map (λ o. (o.0.now, o.1)) options.entry.now)) }
+{
+    let mut command = named(alloc, name);
+    for (long, takes_value) in options {
+        command = with(command, option(alloc, long, *takes_value))?;
     }
     Ok(command)
 }
@@ -55,8 +68,7 @@ pub fn with_values<'a>(
 pub fn command<'a>(alloc: Global) -> Result<Command<'a>, AllocError>
     ensures { IfOk result (λ made. app_of made ≡ serve_app) }
 {
-    let command = Command::new(alloc, "serve").no_binary_name(true);
-    let command = with_values(alloc, command, &OPTIONS)?;
+    let command = with_options(alloc, "serve", &OPTIONS)?;
     let command = with(command, Arg::new(alloc, "address"))?;
     let words = Arg::new(alloc, "renditions").action(ArgAction::Append);
     with(command, words)

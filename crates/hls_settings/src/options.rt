@@ -1,22 +1,33 @@
 //! What the words after `cut` ask for.
-ghost use Rattle.std.specs.Prelude.{◌≡◌, ◌≤◌, map, option_map, IfOk, IfSome, false};
-ghost use Rattle.clap.specs.Words.{app_of, first_value, found_of, kind_of, rule_of};
+ghost use Rattle.std.specs.Prelude.{◌≡◌, ◌≤◌, map, option_map, IfOk, IfSome};
+ghost use Rattle.clap.specs.Words.{app_of, first_value, found_of, kind_of};
 ghost use Rattle.hls_check_laws.specs.Tables.{charge_limit, charge_of, rule_of as cost_rule_of, target_limit};
 ghost use Rattle.hls_core_laws.specs.Config.{IsEpoch, IsTarget};
 ghost use Rattle.hls_m3u8.specs.Uri.{IsUri};
-ghost use Rattle.hls_settings.specs.Options.{FindsOptions, IsCharge, IsPreferredOf, ReadsOptions, charge_in, check_together, checked_uri, choice_after, choice_by, cut_app, flag_rule, is_planned, is_set, preferred_in, refused_option, stands_alone, target_in, uri_in};
+ghost use Rattle.hls_settings.specs.Options.{FindsOptions, IsCharge, IsPreferredOf, ReadsOptions, charge_in, check_together, checked_uri, choice_after, choice_by, cut_app, is_planned, is_set, preferred_in, refused_option, stands_alone, target_in, uri_in};
 
-use crate::command::{valued, with, with_values};
+use crate::command::with_options;
 use crate::epoch::read_epoch;
 use crate::number::{given_in, number_in};
 use crate::options_fault::OptionsFault;
 use clap::error::ErrorKind;
-use clap::{Arg, ArgAction, ArgMatches, Command, Error};
+use clap::{ArgMatches, Command, Error};
 use hls_check_laws::{CHARGE_LIMIT, CostRule, TARGET_LIMIT};
 use hls_m3u8::is_uri;
 use std::alloc::{AllocError, Global};
 use std::convert::AsStr;
 use std::marker::Model;
+
+/// The options by their long names, and whether each takes a value.
+const OPTIONS: [(&str, bool); 7] = [
+    ("each", false),
+    ("preferred", true),
+    ("certificate", false),
+    ("target", true),
+    ("uri", true),
+    ("charge", true),
+    ("epoch", true),
+];
 
 /// The target duration where the words name none, in seconds.
 const DEFAULT_TARGET: u64 = 6;
@@ -99,23 +110,11 @@ impl<'a> Options<'a> {
     }
 }
 
-/// An option that takes none, by its long name.
-fn flag<'a>(alloc: Global, name: &'a str) -> Arg<'a>
-    ensures rule { rule_of result ≡ flag_rule name.entry.now }
-    ensures local { result.global ≡ false }
-{
-    valued(alloc, name).action(ArgAction::SetTrue)
-}
-
 /// The command as `clap` reads it.
 fn cut_command<'a>(alloc: Global) -> Result<Command<'a>, AllocError>
     ensures { IfOk result (λ made. app_of made ≡ cut_app) }
 {
-    let command = Command::new(alloc, "cut").no_binary_name(true);
-    let command = with(command, flag(alloc, "each"))?;
-    let command = with(command, valued(alloc, "preferred"))?;
-    let command = with(command, flag(alloc, "certificate"))?;
-    with_values(alloc, command, &["target", "uri", "charge", "epoch"])
+    with_options(alloc, "cut", &OPTIONS)
 }
 
 /// The target duration that was given, or the default; `None` where it isn't 1 to 3600 seconds.

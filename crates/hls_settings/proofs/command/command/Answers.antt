@@ -1,16 +1,14 @@
-use Rattle.std.proofs.Common.{◌≡◌, List, [], ◌∷◌, ◌∙◌, ap, ap₂, codes, rules}
+use Rattle.std.proofs.Common.{◌≡◌, ◌∙◌, ap₂, codes, rules}
 use Rattle.std.proofs.lemmas.Result.{IfOk-weaker}
-use Rattle.clap.specs.Words.{App, Text, app_of, rule_of, with_rule}
-use Rattle.clap.specs.Simple.{app_of_fields, new_rule}
-use Rattle.hls_settings.specs.Command.{channel_app, named_app, options_app, serve_app, timing_app, with_values, without_name, words_rule}
+use Rattle.clap.specs.Words.{app_of, rule_of, with_rule}
+use Rattle.clap.specs.Simple.{new_rule}
+use Rattle.hls_settings.specs.Command.{channel_app, options_app, serve_app, timing_app, words_rule}
 use Rattle.hls_settings.proofs.command.command.Goals as goal
 
 pub returns : goal.returns
 unfolding serve_app options_app channel_app timing_app
 returns c =
-    let start : app_of c.no_binary_name-command.result ≡ named_app = ap app_of_fields c.no_binary_name-command.ensures ∙ ap without_name c.new.ensures.app in
-    let names : List Text = codes "target" ∷ codes "preferred" ∷ codes "window" ∷ codes "keep" ∷ codes "epoch" ∷ codes "workers" ∷ codes "connections" ∷ codes "planners" ∷ codes "patience" ∷ codes "log" ∷ [] in
-    let options : app_of c.in_ok-command.command ≡ options_app = c.in_ok-command.ensures ∙ ap (λ (a : App). with_values a names) start in
-    let address : app_of c.in_ok-command-2.command ≡ with_rule options_app (new_rule (codes "address")) = c.in_ok-command-2.ensures ∙ ap₂ with_rule options c.new-2.ensures.rule in
+    let options : app_of c.in_ok-command.command ≡ options_app = c.in_ok-command.ensures in
+    let address : app_of c.in_ok-command-2.command ≡ with_rule options_app (new_rule (codes "address")) = c.in_ok-command-2.ensures ∙ ap₂ with_rule options c.new.ensures.rule in
     let words : rule_of c.action-words.result ≡ words_rule (codes "renditions") = search rules in
     IfOk-weaker c.with-2.result _ _ (λ made h. h ∙ ap₂ with_rule address words) c.with-2.ensures

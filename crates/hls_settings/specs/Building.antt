@@ -1,0 +1,15 @@
+-- Commands of `clap` by a table of their options. For the code alone.
+use Rattle.std.specs.Prelude.{List, [], ◌∷◌, Bool, true, false}
+use Rattle.clap.specs.Words.{App, Rule, Text, with_rule}
+use Rattle.hls_settings.specs.Command.{value_rule}
+use Rattle.hls_settings.specs.Options.{flag_rule}
+
+-- an option that takes a value or none
+abbrev pub option_rule : Text → Bool → Rule
+option_rule name true = value_rule name
+option_rule name false = flag_rule name
+
+-- a command with such options more: their long names, and whether each takes a value
+abbrev pub with_options : App → List (Text × Bool) → App
+with_options app [] = app
+with_options app (o ∷ os) = with_options (with_rule app (option_rule o.0 o.1)) os
