@@ -1,6 +1,6 @@
 //! The words as `clap` reads them.
 ghost use Rattle.std.specs.Prelude.{◌≡◌, IfOk, false, map};
-ghost use Rattle.clap.specs.Words.{app_of, new_app, rule_of, with_rule};
+ghost use Rattle.clap.specs.Words.{app_of, new_app, rule_of};
 ghost use Rattle.hls_settings.specs.Building.{option_rule, with_options};
 ghost use Rattle.hls_settings.specs.Command.{serve_app, without_name};
 
@@ -34,14 +34,6 @@ fn option<'a>(alloc: Global, name: &'a str, takes_value: bool) -> Arg<'a>
     }
 }
 
-/// A command with one argument more.
-fn with<'a>(command: Command<'a>, arg: Arg<'a>) -> Result<Command<'a>, AllocError>
-    requires { arg.global ≡ false }
-    ensures { IfOk result (λ made. app_of made ≡ with_rule (app_of command.entry) (rule_of arg.entry)) }
-{
-    command.arg(arg)
-}
-
 /// A command of such a name, with which its words don't begin.
 fn named<'a>(alloc: Global, name: &'a str) -> Command<'a>
     ensures { app_of result ≡ without_name (new_app name.entry.now) }
@@ -59,7 +51,7 @@ pub fn with_options<'a>(
 {
     let mut command = named(alloc, name);
     for (long, takes_value) in options {
-        command = with(command, option(alloc, long, *takes_value))?;
+        command = command.arg(option(alloc, long, *takes_value))?;
     }
     Ok(command)
 }
@@ -69,7 +61,7 @@ pub fn command<'a>(alloc: Global) -> Result<Command<'a>, AllocError>
     ensures { IfOk result (λ made. app_of made ≡ serve_app) }
 {
     let command = with_options(alloc, "serve", &OPTIONS)?;
-    let command = with(command, Arg::new(alloc, "address"))?;
+    let command = command.arg(Arg::new(alloc, "address"))?;
     let words = Arg::new(alloc, "renditions").action(ArgAction::Append);
-    with(command, words)
+    command.arg(words)
 }

@@ -9,6 +9,6 @@ pub returns : goal.returns
 unfolding serve_app options_app channel_app timing_app
 returns c =
     let options : app_of c.in_ok-command.command ≡ options_app = c.in_ok-command.ensures in
-    let address : app_of c.in_ok-command-2.command ≡ with_rule options_app (new_rule (codes "address")) = c.in_ok-command-2.ensures ∙ ap₂ with_rule options c.new.ensures.rule in
+    let address : app_of c.in_ok-command-2.command ≡ with_rule options_app (new_rule (codes "address")) = c.in_ok-command-2.ensures.shape c.new.ensures.optional.1 ∙ ap₂ with_rule options c.new.ensures.rule in
     let words : rule_of c.action-words.result ≡ words_rule (codes "renditions") = search rules in
-    IfOk-weaker c.with-2.result _ _ (λ made h. h ∙ ap₂ with_rule address words) c.with-2.ensures
+    IfOk-weaker c.arg-2.result _ _ (λ made h. h.shape (search rules) ∙ ap₂ with_rule address words) c.arg-2.ensures
