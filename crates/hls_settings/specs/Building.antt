@@ -1,7 +1,7 @@
 -- Commands of `clap` by a table of their options. For the code alone.
 use Rattle.std.specs.Prelude.{List, [], ◌∷◌, Bool, true, false}
-use Rattle.clap.specs.Words.{App, Rule, Text, with_rule}
-use Rattle.hls_settings.specs.Command.{value_rule}
+use Rattle.clap.specs.Words.{App, Rule, Text, new_app, with_rule}
+use Rattle.hls_settings.specs.Command.{value_rule, without_name}
 use Rattle.hls_settings.specs.Options.{flag_rule}
 
 -- an option that takes a value or none
@@ -13,3 +13,7 @@ option_rule name false = flag_rule name
 abbrev pub with_options : App → List (Text × Bool) → App
 with_options app [] = app
 with_options app (o ∷ os) = with_options (with_rule app (option_rule o.0 o.1)) os
+
+-- a command of such a name, with which its words don't begin
+abbrev pub command_with : Text → List (Text × Bool) → App
+command_with name os = with_options (without_name (new_app name)) os

@@ -1,7 +1,7 @@
 //! The words as `clap` reads them.
 ghost use Rattle.std.specs.Prelude.{◌≡◌, IfOk, false, map};
 ghost use Rattle.clap.specs.Words.{app_of, new_app, rule_of};
-ghost use Rattle.hls_settings.specs.Building.{option_rule, with_options};
+ghost use Rattle.hls_settings.specs.Building.{command_with, option_rule};
 ghost use Rattle.hls_settings.specs.Command.{serve_app, without_name};
 
 use clap::{Arg, ArgAction, Command};
@@ -47,7 +47,7 @@ pub fn with_options<'a>(
     name: &'a str,
     options: &[(&'a str, bool)],
 ) -> Result<Command<'a>, AllocError>
-    ensures { IfOk result (λ made. app_of made ≡ with_options (without_name (new_app name.entry.now)) (map (λ o. (o.0.now, o.1)) options.entry.now)) }
+    ensures { IfOk result (λ made. app_of made ≡ command_with name.entry.now (map (λ o. (o.0.now, o.1)) options.entry.now)) }
 {
     let mut command = named(alloc, name);
     for (long, takes_value) in options {
