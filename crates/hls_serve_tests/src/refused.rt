@@ -9,8 +9,7 @@ use crate::channels::{opening, owned, run_all};
 use crate::script::{
     EVENTS, FILE_NAMES, Files, GONE, delete, encoder, encoder_replies, get_file, get_files,
 };
-use crate::went::{Went, judged, status_of};
-use hls_catchup::Job;
+use crate::went::{Ran, Went, judged, ran_as, status_of};
 use hls_fakes::Page;
 use hls_http::Session;
 use hls_serve::alone::Alone;
@@ -47,6 +46,11 @@ fn look_at_failed<T: Wait>(rt: &T, alloc: Global, own: &mut Alone, id: u32) -> O
     Some(Went::Wanted.and(gone))
 }
 
+/// How the job of an id is found once it was run.
+fn ran_at(own: &Alone, id: u32) -> Ran {
+    ran_as(&own.jobs.get(u64::from(id)))
+}
+
 /// How the job of an id is found once it was run, and goes.
 fn look_at_job<T: Wait>(
     rt: &T,
@@ -57,10 +61,10 @@ fn look_at_job<T: Wait>(
 ) -> Option<Went>
     ensures { 0 ≤ own.new.number }
 {
-    match own.jobs.get(u64::from(id)) {
-        Ok(Job::Finished(_)) => {}
-        Ok(Job::Failed) => return look_at_failed(rt, alloc, own, id),
-        _ => return Some(Went::Astray),
+    match ran_at(own, id) {
+        Ran::Finished => {}
+        Ran::Failed => return look_at_failed(rt, alloc, own, id),
+        Ran::Astray => return Some(Went::Astray),
     }
     let text = get_files(alloc, id).ok()?;
     let went = hold(rt, alloc, own, &text, &files.replies());
@@ -110,16 +114,23 @@ fn send<T: Wait>(
 }
 
 /// Sends the script twice to a new channel: how that went, and whether the channel has what it is to have after each time;
-/// none where the channel or a text was refused memory.
+/// none where a text was refused memory.
+fn send_both<T: Wait>(rt: &T, alloc: Global, own: &mut Alone, files: &Files) -> Option<(Went, bool)>
+    ensures { 0 ≤ own.new.number }
+{
+    let (first, is_added) = send(rt, alloc, own, 1, files)?;
+    let stays = holds_what_it_counts(own);
+    let id = if is_added { 2 } else { 1 };
+    let (second, _) = send(rt, alloc, own, id, files)?;
+    let is_whole = holds_what_it_counts(own) && own.snapshot.version() == EVENTS;
+    Some((first.and(second), stays && is_whole))
+}
+
+/// The same of a channel that it makes; none where that was refused memory, too.
 fn send_twice<T: Wait>(rt: &T, alloc: Global) -> Option<(Went, bool)> {
     let files = Files::new(alloc).ok()?;
     let mut own = owned(alloc, opening(alloc, None)?).ok()?;
-    let (first, is_added) = send(rt, alloc, &mut own, 1, &files)?;
-    let stays = holds_what_it_counts(&own);
-    let id = if is_added { 2 } else { 1 };
-    let (second, _) = send(rt, alloc, &mut own, id, &files)?;
-    let is_whole = holds_what_it_counts(&own) && own.snapshot.version() == EVENTS;
-    Some((first.and(second), stays && is_whole))
+    send_both(rt, alloc, &mut own, &files)
 }
 
 #[test]

@@ -5,8 +5,8 @@ use crate::channels::opening;
 use crate::script::{
     EVENTS, FILE_NAMES, Files, GONE, delete, encoder, encoder_replies, get_file, get_files,
 };
-use crate::went::{Went, judged, status_of};
-use hls_catchup::{Gate, Job, Jobs, work_loop};
+use crate::went::{Ran, Went, judged, ran_as, status_of};
+use hls_catchup::{Gate, Jobs, work_loop};
 use hls_fakes::Page;
 use hls_http::Session;
 use hls_serve::channel::Channel;
@@ -50,12 +50,17 @@ fn look_at_failed<T: Wait>(station: &mut Station<'_, T>, id: u32) -> Option<Went
     Some(Went::Wanted.and(gone))
 }
 
+/// How the job of an id is found once it was run.
+fn ran_at<T: Wait>(station: &Station<'_, T>, id: u32) -> Ran {
+    ran_as(&station.job(u64::from(id)))
+}
+
 /// How the job of an id is found once it was run, and goes.
 fn look_at_job<T: Wait>(station: &mut Station<'_, T>, id: u32, files: &Files) -> Option<Went> {
-    match station.job(u64::from(id)) {
-        Ok(Job::Finished(_)) => {}
-        Ok(Job::Failed) => return look_at_failed(station, id),
-        _ => return Some(Went::Astray),
+    match ran_at(station, id) {
+        Ran::Finished => {}
+        Ran::Failed => return look_at_failed(station, id),
+        Ran::Astray => return Some(Went::Astray),
     }
     let text = get_files(station.alloc, id).ok()?;
     let went = hold(station, &text, &files.replies());

@@ -2,12 +2,14 @@
 
 ghost use Rattle.std.specs.Prelude.{◌<◌, ◌^◌, IfOk, length};
 
+use hls_catchup::{Job, JobFault};
 use hls_http::SessionEnd;
 use std::alloc::{AllocError, Global};
 
-/// The fixed reply to want of memory.
-const NO_MEMORY: &[u8] =
-    b"HTTP/1.1 503 Service Unavailable\r\nContent-Type: text/plain\r\nContent-Length: 15\r\nConnection: close\r\n\r\nrefused Memory\n";
+/// The fixed reply to want of memory. (A constant would stand in the proof of each function that names it, byte by byte.)
+fn no_memory() -> &'static [u8] {
+    b"HTTP/1.1 503 Service Unavailable\r\nContent-Type: text/plain\r\nContent-Length: 15\r\nConnection: close\r\n\r\nrefused Memory\n"
+}
 
 /// How sessions went.
 #[derive(Clone, Copy, PartialEq)]
@@ -31,6 +33,15 @@ impl Went {
     }
 }
 
+/// How a session went that ended with this in place of a reply.
+fn cut_off(rest: &[u8], end: SessionEnd) -> Went {
+    if rest == no_memory() && end == SessionEnd::Refused {
+        Went::Wanted
+    } else {
+        Went::Astray
+    }
+}
+
 /// How a session went that was to give these replies. Where memory is wanted, whole replies are followed by the fixed one, and
 /// the session ends.
 pub fn judged(out: &[u8], end: SessionEnd, replies: &[&[u8]]) -> Went {
@@ -38,19 +49,31 @@ pub fn judged(out: &[u8], end: SessionEnd, replies: &[&[u8]]) -> Went {
     for reply in replies {
         match rest.strip_prefix(reply) {
             Some(behind) => rest = behind,
-            None => {
-                return if rest == NO_MEMORY && end == SessionEnd::Refused {
-                    Went::Wanted
-                } else {
-                    Went::Astray
-                };
-            }
+            None => return cut_off(rest, end),
         }
     }
     if rest.is_empty() && end == SessionEnd::Closed {
         Went::Ample
     } else {
         Went::Astray
+    }
+}
+
+/// How a job is found once it was run.
+#[derive(Clone, Copy)]
+pub enum Ran {
+    Finished,
+    /// For memory.
+    Failed,
+    Astray,
+}
+
+/// How this job was found.
+pub fn ran_as(job: &Result<Job, JobFault>) -> Ran {
+    match job {
+        Ok(Job::Finished(_)) => Ran::Finished,
+        Ok(Job::Failed) => Ran::Failed,
+        _ => Ran::Astray,
     }
 }
 
