@@ -1,5 +1,5 @@
 -- The live list of a state, by the recording of a rendition.
-use Rattle.std.proofs.Common.{◌≡◌, ℕ, ◌+◌, ◌<◌, ℤ, List, [], ◌∷◌, ◌++◌, append_assoc, length, map, Option, Some, None, Bool, false, arith, refl, sym, ap, inl, inr, ◌∙◌}
+use Rattle.std.proofs.Common.{◌≡◌, ℕ, ◌+◌, ◌<◌, ℤ, List, [], ◌∷◌, ◌++◌, append_assoc, length, map, Option, Some, None, false, arith, refl, sym, ap, inl, inr, ◌∙◌}
 use Rattle.std.specs.Prelude.{slice_get}
 use Rattle.std.proofs.lemmas.Bool.{cases_Bool, lt-ltb, ltb-true, cond-true, cond-false}
 use Rattle.hls_media_laws.specs.InitData.{InitData}
@@ -18,7 +18,7 @@ use Rattle.hls_catchup.proofs.Cited.{at_beside, at_or, closed-some, has-begun}
 use Rattle.hls_core.specs.Reads.{recorded_from, recorded_at, recording_of}
 use Rattle.hls_lists_laws.specs.Live.{live_uri, listed, list_over, has_closed, list_in, live_list_of}
 use Rattle.hls_catchup.specs.Lists.{cutting}
-use Rattle.hls_catchup.specs.LiveTexts.{list_with}
+use Rattle.hls_catchup.specs.LiveTexts.{list_by, list_with}
 
 -- no segment was closed
 unclosed : (s : State) → (line s).removed + length (segments_of (line s)) ≡ 0 → has_closed (line s) ≡ false
@@ -57,9 +57,6 @@ pub unbegun : (s : State) → IsState s → (r : ℕ) → recording_of s r ≡ N
 unbegun s state r is = unbegun-in s state r (slice_get (channel s).lanes r) refl is
 
 -- the list of one that has
-abbrev pub list_by : State → ℕ → Recorded → Playlist
-list_by s r recorded = list_with s recorded (live_uri r) (map (listed (cutting s.config.epoch recorded r (live_uri r) 0)) (segments_of (line s)))
-
 list-is : (s : State) (r : ℕ) (l : Lane) (h : Held) (init : InitData) (recorded : Recorded) → l.size ≡ length h.head →
     recorded_from (Some init) l h ≡ Some recorded → list_over s.config.epoch r l (line s) ≡ list_by s r recorded
 list-is s r l h init recorded size is =

@@ -1,6 +1,5 @@
 -- The text of a live list that is written in parts.
-use Rattle.std.proofs.Common.{◌≡◌, ◌∙◌, ◌⊎◌, ℕ, zero, suc, ◌+◌, ◌-◌, ◌<◌, ◌≤◌, ◌^◌, ℤ, Bool, true, false, List, [], ◌∷◌, ◌++◌, length, map, drop, get_or, All, Option, Some, None, if◌then◌else◌, inl, inr, arith, refl, sym, ap, subst, append_assoc, add-one}
-use Rattle.std.proofs.lemmas.Bool.{cases_lt}
+use Rattle.std.proofs.Common.{◌≡◌, ◌∙◌, ◌⊎◌, ℕ, zero, suc, ◌+◌, ◌-◌, ◌<◌, ◌≤◌, ◌^◌, ℤ, Bool, true, false, List, [], ◌∷◌, ◌++◌, length, map, drop, All, Option, Some, None, if◌then◌else◌, inl, inr, arith, refl, sym, ap, subst, append_assoc, add-one}
 use Rattle.std.proofs.lemmas.List.{drop-map, drop_all, length-drop, length-map}
 use Rattle.std.proofs.lemmas.List.Elements.{All-drop, All-head}
 use Rattle.std.specs.Prelude.{slice_get, option_map}
@@ -10,7 +9,7 @@ use Rattle.hls_record.specs.Recorded.{Recorded}
 use Rattle.hls_places_laws.specs.declared.line.segment.Segment as live_line
 use Rattle.hls_places_laws.specs.Line.Live.{Live, segments_of, has_ended}
 use Rattle.hls_m3u8.specs.declared.playlist.Segment.{Segment}
-use Rattle.hls_m3u8.specs.HasText.{IsDate, IsSegment, resource}
+use Rattle.hls_m3u8.specs.HasText.{IsDate, IsSegment}
 use Rattle.hls_m3u8.specs.Lines.{joined, segment_lines, all_segment_lines, head_lines, end_lines, media_text}
 use Rattle.hls_m3u8.specs.Playlist.{Playlist}
 use Rattle.hls_m3u8.proofs.Joined.{joined_append}
@@ -18,12 +17,10 @@ use Rattle.hls_core_laws.specs.Channel.{Lane}
 use Rattle.hls_core_laws.specs.State.{State, channel}
 use Rattle.hls_core_laws.specs.IsState.{IsState}
 use Rattle.hls_core_laws.specs.Line.{line}
-use Rattle.hls_core.specs.Reads.{recording_of}
 use Rattle.hls_lists_laws.specs.Live.{live_cutting, live_uri, listed, list_over, has_closed, list_in, live_list_of}
 use Rattle.hls_catchup.specs.Lists.{cutting}
-use Rattle.hls_catchup.specs.LiveTexts.{Has, HasBy, Reaches, ReachesBy, left_by, left_of, list_with}
+use Rattle.hls_catchup.specs.LiveTexts.{Has, HasBy, Reaches, ReachesBy, left_by, left_of, list_by, list_with}
 use Rattle.hls_catchup.proofs.Cited.{live-lists-have-texts, starts-small}
-use Rattle.hls_catchup.proofs.LiveLists.{list_by, listed-by, unbegun, unlisted}
 
 -- ---- lists
 
@@ -42,20 +39,10 @@ within xs k x rest is = omega (arith, length-drop k xs, ap length is)
 pub all-of : {X : Type 0} (xs : List X) (k : ℕ) → drop k xs ≡ [] → length xs ≤ k
 all-of xs k is = omega (arith, length-drop k xs, ap length is)
 
--- ---- a state's list, of a rendition that was begun
+-- ---- a state's list
 
-unlisted-has : (s : State) (r k : ℕ) → live_list_of s r ≡ None → Has s r k → ⊥
+pub unlisted-has : (s : State) (r k : ℕ) → live_list_of s r ≡ None → Has s r k → ⊥
 unlisted-has s r k is has = subst (λ list. HasBy list k) is has
-
-pub has-begun-it : (s : State) → IsState s → (r k : ℕ) → recording_of s r ≡ None → Has s r k → ⊥
-has-begun-it s state r k none has = unlisted-has s r k (unbegun s state r none) has
-
-pub list-is : (s : State) → IsState s → (r k : ℕ) (recorded : Recorded) → recording_of s r ≡ Some recorded → Has s r k → live_list_of s r ≡ Some (list_by s r recorded)
-list-is s state r k recorded is has =
-    elim (cases_lt 0 ((line s).removed + length (segments_of (line s)))) [
-      | inl some ↦ listed-by s state r recorded is some
-      | inr none ↦ absurd (unlisted-has s r k (unlisted s r (omega (arith, none))) has)
-    ]
 
 -- ---- its text
 
@@ -146,8 +133,13 @@ begun-text s r recorded uri text list there uri_is list_is written =
     ∙ sym (joined_append (head_lines whole) (all_segment_lines whole.segments ++ end_lines whole.ended)) in
     ap (λ list. Some (text ++ left_by list 0)) there ∙ ap Some all ∙ sym (ap (option_map media_text) there)
 
-pub has-none : (s : State) (r : ℕ) (recorded : Recorded) → live_list_of s r ≡ Some (list_by s r recorded) → Has s r 0
-has-none s r recorded there = subst (λ list. HasBy list 0) (sym there) (omega arith)
+-- a head is written of a list alone
+pub has-none : (s : State) (r : ℕ) (text : List ℕ) → Some text ≡ option_map media_text (live_list_of s r) → Has s r 0
+has-none s r text is = by (live_list_of s r) is
+  where
+    by : (o : Option Playlist) → Some text ≡ option_map media_text o → HasBy o 0
+    by None none = absurd (cc)
+    by (Some list) some = omega arith
 
 -- ---- its end
 

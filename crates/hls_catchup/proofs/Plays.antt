@@ -14,7 +14,7 @@ use Rattle.hls_catchup.specs.declared.fault.CatchFault.{CatchFault}
 use Rattle.hls_catchup.specs.declared.actions.Action.{Action}
 use Rattle.hls_catchup.specs.declared.actions.Action.TheVariants as action
 use Rattle.hls_catchup.specs.Replies.{ReplyData}
-use Rattle.hls_catchup.specs.Plays.{events_in, requests_in, state_before, IsAnswered, IsPlayed, IsRunTo}
+use Rattle.hls_catchup.specs.Plays.{events_in, requests_in, state_before, HasAnswerBehind, IsAnswered, IsPlayed, IsRunTo}
 
 events_in-append : (xs ys : List Action) → events_in (xs ++ ys) ≡ events_in xs ++ events_in ys
 events_in-append [] ys = refl
@@ -106,10 +106,10 @@ last_answer (x ∷ answers) a zero is = absurd (omega arith)
 last_answer (x ∷ answers) a (suc m) is = last_answer answers a m (omega arith)
 
 -- a request's action
-pub ask_played : (config : ConfigData) (actions : List Action) (i : ℕ) (state : State) (answers : List (Result ReplyData CatchFault)) (a : Action)
+ask_answered : (config : ConfigData) (actions : List Action) (i : ℕ) (state : State) (answers : List (Result ReplyData CatchFault)) (a : Action)
     (request : Request) (answer : Result ReplyData CatchFault) → i < length actions → a ≡ get_or actions i a → a ≡ action.Ask request →
     IsPlayedTo config actions i state answers → IsAnswered state request (Some answer) → IsPlayedTo config actions (i + 1) state (answers ++ answer ∷ [])
-ask_played config actions i state answers a request answer within is kind before answered =
+ask_answered config actions i state answers a request answer within is kind before answered =
     let here = action_at actions i a within is in
     let upto : events_in (take (i + 1) actions) ≡ events_in (take i actions) =
     ap events_in (here.upto ∙ ap (λ (x : Action). take i actions ++ x ∷ []) kind) ∙ events_in-append (take i actions) (action.Ask request ∷ [])
@@ -148,6 +148,12 @@ ask_played config actions i state answers a request answer within is kind before
                 subst (λ (n : ℕ). IsAnswered (state_before config actions n) other (slice_get (answers ++ answer ∷ []) (length (requests_in (take n actions))))) (sym same) his)
           ];
     }
+
+pub ask_played : (config : ConfigData) (actions : List Action) (i : ℕ) (state : State) (answers more : List (Result ReplyData CatchFault)) (a : Action)
+    (request : Request) → i < length actions → a ≡ get_or actions i a → a ≡ action.Ask request →
+    IsPlayedTo config actions i state answers → HasAnswerBehind state request answers more → IsPlayedTo config actions (i + 1) state more
+ask_played config actions i state answers more a request within is kind before has =
+    subst (IsPlayedTo config actions (i + 1) state) (sym has.behind) (ask_answered config actions i state answers a request has.answer within is kind before has.right)
 
 pub all_played : (config : ConfigData) (actions : List Action) (i : ℕ) (state : State) (answers : List (Result ReplyData CatchFault)) →
     length actions ≤ i → IsPlayedTo config actions i state answers → IsPlayed config actions state answers

@@ -1,6 +1,6 @@
 -- The slices of a resource, and where a byte stands in them.
-use Rattle.std.proofs.Common.{◌≡◌, ◌∙◌, ℕ, zero, suc, ◌+◌, ◌-◌, ◌<◌, ◌≤◌, List, [], ◌∷◌, ◌++◌, length, take, drop, get_or, Option, Some, None, refl, sym, ap, subst, inl, inr, arith, zero-add, add-one, length-append, length-take, length-drop}
-use Rattle.std.specs.Prelude.{slice_get, unwrap_or}
+use Rattle.std.proofs.Common.{◌≡◌, ◌∙◌, ℕ, zero, suc, ◌+◌, ◌-◌, ◌<◌, ◌≤◌, List, [], ◌∷◌, ◌++◌, length, take, drop, get_or, Option, refl, sym, ap, subst, inl, inr, arith, zero-add, add-one, length-append, length-take, length-drop}
+use Rattle.std.specs.Prelude.{unwrap_or}
 use Rattle.std.specs.List.{concat}
 use Rattle.std.proofs.lemmas.Bool.{cases_lt, le-ltb}
 use Rattle.std.proofs.lemmas.List.{get_or-drop, get_or-take, get_or_past, take-take, take_all}
@@ -11,7 +11,7 @@ use Rattle.hls_record.specs.Search.{Stands}
 use Rattle.hls_record.specs.Valid.{IsRecorded}
 use Rattle.hls_lists_laws.specs.Jobs.{bytes_between, units_between}
 use Rattle.hls_catchup.proofs.Cited.{bytes_are}
-use Rattle.hls_catchup.specs.Resources.{IsPlaceOf, FindsPlace}
+use Rattle.hls_catchup.specs.Resources.{IsPlaceOf}
 use Rattle.hls_catchup.proofs.Offsets.{bytes_are_offsets, offsets_add}
 use Rattle.hls_catchup.proofs.Pieces.{have_lengths}
 

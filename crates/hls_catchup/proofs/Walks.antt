@@ -1,5 +1,5 @@
 -- The kept ones along places, and the last of them by a time.
-use Rattle.std.proofs.Common.{◌≡◌, ℕ, zero, suc, ◌+◌, ◌-◌, ◌<◌, ◌≤◌, List, [], ◌∷◌, length, drop, Option, Some, None, true, false, cond, arith, refl, sym, ap, subst, inl, inr, ◌⊎◌, ◌∙◌, ◌++◌, take, length-append, append_assoc}
+use Rattle.std.proofs.Common.{◌≡◌, ℕ, zero, suc, ◌+◌, ◌-◌, ◌<◌, ◌≤◌, List, [], ◌∷◌, length, Some, None, true, false, arith, refl, sym, ap, subst, inl, inr, ◌∙◌, ◌++◌, take, length-append, append_assoc}
 use Rattle.std.specs.Prelude.{nat_lt, nat_le, slice_get}
 use Rattle.std.proofs.lemmas.Bool.{cases_Bool, cond-true, cond-false, cond_both, lt-ltb, le-ltb}
 use Rattle.hls_check_laws.specs.declared.spot.Spot.{Spot}

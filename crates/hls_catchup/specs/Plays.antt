@@ -1,5 +1,5 @@
 -- Runs of events and requests: where they end, and how each request is answered.
-use Rattle.std.specs.Prelude.{◌≡◌, ℕ, List, [], ◌∷◌, length, take, slice_get, Option, Some, None, Result, Err}
+use Rattle.std.specs.Prelude.{◌≡◌, ℕ, List, [], ◌∷◌, ◌++◌, length, take, slice_get, Option, Some, None, Result, Err}
 use Rattle.hls_core_laws.specs.declared.event.Event.{Event}
 use Rattle.hls_core_laws.specs.Config.{ConfigData}
 use Rattle.hls_core_laws.specs.State.{State}
@@ -32,6 +32,12 @@ abbrev pub IsAnswered : State → Request → Option (Result ReplyData CatchFaul
 IsAnswered s request None = ⊥
 IsAnswered s request (Some (Err Memory)) = ⊥
 IsAnswered s request (Some answer) = IsReplyTo s request answer
+
+-- one answer more, the right one
+pub record HasAnswerBehind (s : State) (request : Request) (before after : List (Result ReplyData CatchFault)) : Type 0 where
+  pub answer : Result ReplyData CatchFault
+  pub behind : after ≡ before ++ answer ∷ []
+  pub right : IsAnswered s request (Some answer)
 
 -- the last state, and in order one answer for each request, from the state before it
 pub record IsPlayed (config : ConfigData) (actions : List Action) (last : State) (answers : List (Result ReplyData CatchFault)) : Type 0 where

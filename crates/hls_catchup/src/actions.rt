@@ -2,7 +2,7 @@
 
 ghost use Rattle.std.specs.Prelude.{◌≡◌, Some, IfOk};
 ghost use Rattle.hls_core_laws.specs.Runs.{first_state, AreFitting};
-ghost use Rattle.hls_catchup.specs.Plays.{events_in, IsAnswered, IsPlayed};
+ghost use Rattle.hls_catchup.specs.Plays.{events_in, HasAnswerBehind, IsAnswered, IsPlayed};
 
 use crate::fault::CatchFault;
 use crate::reply::{Reply, answer};
@@ -38,10 +38,23 @@ pub fn play(
     for action in actions {
         match action {
             Action::Event(by, event) => state = next(alloc, state, *by, event)?,
-            Action::Ask(request) => answers.push(answered(alloc, &state, *request)?)?,
+            Action::Ask(request) => push_answer(alloc, &mut answers, &state, *request)?,
         }
     }
     Ok((state, answers))
+}
+
+/// Puts the answer to a request behind the others.
+fn push_answer(
+    alloc: Global,
+    answers: &mut Vec<Result<Reply, CatchFault>>,
+    state: &Arc<Snapshot>,
+    request: Request,
+) -> Result<(), AllocError>
+    ensures { IfOk result (λ done. HasAnswerBehind state.now.value request answers.old.items answers.new.items) }
+{
+    answers.push(answered(alloc, state, request)?)?;
+    Ok(())
 }
 
 /// The answer to a request, where no memory was refused.

@@ -13,7 +13,7 @@ use hls_record::Recording;
 use std::alloc::{AllocError, Global};
 
 /// What a programme was cut into. The certificate holds the programme's table and the plan, or the closed set.
-#[derive(Debug, Drop)]
+#[derive(Drop)]
 pub enum Cutout {
     /// A least plan: one playlist for each rendition, in order.
     Cut {

@@ -1,6 +1,6 @@
 //! The common places with no trimmed fragment.
 
-ghost use Rattle.std.specs.Prelude.{◌≡◌, ◌≤◌, length, take, IfOk};
+ghost use Rattle.std.specs.Prelude.{◌≡◌, ◌≤◌, [], length, take, IfOk};
 ghost use Rattle.hls_core_laws.specs.IsState.{IsState};
 ghost use Rattle.hls_core_laws.specs.Places.{sources};
 ghost use Rattle.hls_places_laws.specs.Sources.{AreSources};
@@ -81,14 +81,24 @@ impl<'a> KeptPlaces<'a> {
         ensures { IfOk result (λ spots. spots.items ≡ spots_of (take count (kept_from self.now from))) }
     {
         let mut spots = Vec::with_capacity(alloc, count)?;
+        self.push_spots(&mut spots, from, count)?;
+        Ok(spots)
+    }
+
+    /// Puts these copies in a list of none.
+    fn push_spots(&self, spots: &mut Vec<Spots>, from: u64, count: usize) -> Result<(), AllocError>
+        requires from { from ≤ length self.now.items }
+        requires none { spots.old.items ≡ [] }
+        ensures { IfOk result (λ done. spots.new.items ≡ spots_of (take count (kept_from self.now from))) }
+    {
         for place in self.places.iter_from(from) {
             if spots.len() >= count {
-                return Ok(spots);
+                return Ok(());
             }
             if self.has(place) {
                 spots.push(place.spots.share()?)?;
             }
         }
-        Ok(spots)
+        Ok(())
     }
 }

@@ -1,6 +1,6 @@
 //! The live list of a rendition.
 
-ghost use Rattle.std.specs.Prelude.{◌≡◌, ◌<◌, ◌^◌, map, All, IfOk};
+ghost use Rattle.std.specs.Prelude.{◌≡◌, ◌<◌, ◌^◌, map, All, IfOk, MatchOption, None, Some};
 ghost use Rattle.std.specs.Option.{option_map};
 ghost use Rattle.hls_check_laws.specs.Tables.{spot_in};
 ghost use Rattle.hls_places_laws.specs.Line.Live.{segments_of};
@@ -9,7 +9,7 @@ ghost use Rattle.hls_core_laws.specs.Config.{IsEpoch};
 ghost use Rattle.hls_core_laws.specs.IsState.{IsState};
 ghost use Rattle.hls_lists_laws.specs.Live.{listed, live_list_of};
 ghost use Rattle.hls_catchup.specs.Lists.{cutting};
-ghost use Rattle.hls_catchup.specs.LiveTexts.{list_with};
+ghost use Rattle.hls_catchup.specs.LiveTexts.{list_by, list_with};
 
 use crate::resource::resource_uri;
 use crate::segments::segment_between;
@@ -31,17 +31,27 @@ pub fn live_playlist(
     ensures list { IfOk result (λ found. option_map playlist_of found ≡ live_list_of snapshot.now rendition) }
     ensures valid { IsState snapshot.now }
 {
-    let line = snapshot.line();
-    let Some(recording) = snapshot.recording(rendition) else {
+    let Some(recording) = recording_listed(snapshot, rendition) else {
         return Ok(None);
     };
-    if line.segments().next() == 0 {
-        return Ok(None);
-    }
     let uri = resource_uri(alloc, "/media/", rendition)?;
     let epoch = snapshot.config().epoch();
-    let segments = live_segments(alloc, recording, epoch, rendition, &uri, line)?;
+    let segments = live_segments(alloc, recording, epoch, rendition, &uri, snapshot.line())?;
     Ok(Some(list_with(snapshot, recording, uri, segments)))
+}
+
+/// The recording of a rendition that has a live list.
+pub(crate) fn recording_listed(snapshot: &Snapshot, rendition: usize) -> Option<&Recording>
+    ensures list { MatchOption result (live_list_of snapshot.now rendition ≡ None) (λ recording. live_list_of snapshot.now rendition ≡ Some (list_by snapshot.now rendition recording.now)) }
+    ensures valid { IsState snapshot.now }
+{
+    let Some(recording) = snapshot.recording(rendition) else {
+        return None;
+    };
+    if snapshot.line().segments().next() == 0 {
+        return None;
+    }
+    Some(recording)
 }
 
 /// The live list over a recording, at a URI, with these segments.

@@ -6,7 +6,7 @@ ghost use Rattle.hls_m3u8.specs.Lines.{media_text};
 ghost use Rattle.hls_lists_laws.specs.Live.{live_list_of};
 ghost use Rattle.hls_catchup.specs.LiveTexts.{Has, Reaches, left_of};
 
-use crate::live::{list_with, listed};
+use crate::live::{list_with, listed, recording_listed};
 use crate::resource::resource_uri;
 use hls_core::snapshot::Snapshot;
 use hls_m3u8::{push_end, push_head, push_segment};
@@ -58,7 +58,7 @@ fn push_listed(
     ensures has { IfOk result (λ k. Has snapshot.now rendition k) }
     ensures reaches { IfOk result (λ k. Reaches snapshot.now rendition stop k) }
 {
-    let Some(recording) = snapshot.recording(rendition) else {
+    let Some(recording) = recording_listed(snapshot, rendition) else {
         unreachable!();
     };
     let epoch = snapshot.config().epoch();
@@ -83,6 +83,26 @@ fn room_for(count: u64) -> usize {
         .saturating_add(HEAD_ROOM)
 }
 
+/// The head of the text of a rendition's live list. None where there is no list.
+fn head_of(
+    alloc: Global,
+    snapshot: &Snapshot,
+    rendition: usize,
+) -> Result<Option<Vec<u8>>, AllocError>
+    ensures { IfOk result (λ head. option_map (λ text. text.items ++ left_of snapshot.now rendition 0) head ≡ option_map media_text (live_list_of snapshot.now rendition)) }
+{
+    let Some(recording) = recording_listed(snapshot, rendition) else {
+        return Ok(None);
+    };
+    let segments = snapshot.line().segments();
+    let room = room_for(segments.next() - segments.first());
+    let uri = resource_uri(alloc, "/media/", rendition)?;
+    let list = list_with(snapshot, recording, uri, Vec::new(alloc));
+    let mut text = Vec::with_capacity(alloc, room)?;
+    push_head(&mut text, &list)?;
+    Ok(Some(text))
+}
+
 impl LiveText {
     /// The text of a rendition's live list, of which the head is written. None until a segment was ever closed, and where the
     /// channel has no such rendition.
@@ -93,18 +113,9 @@ impl LiveText {
     ) -> Result<Option<LiveText>, AllocError>
         ensures { IfOk result (λ found. found ≡ option_map media_text (live_list_of snapshot.value rendition)) }
     {
-        let Some(recording) = snapshot.recording(rendition) else {
+        let Some(text) = head_of(alloc, &snapshot, rendition)? else {
             return Ok(None);
         };
-        let segments = snapshot.line().segments();
-        if segments.next() == 0 {
-            return Ok(None);
-        }
-        let room = room_for(segments.next() - segments.first());
-        let uri = resource_uri(alloc, "/media/", rendition)?;
-        let list = list_with(&snapshot, recording, uri, Vec::new(alloc));
-        let mut text = Vec::with_capacity(alloc, room)?;
-        push_head(&mut text, &list)?;
         Ok(Some(LiveText {
             snapshot,
             rendition,

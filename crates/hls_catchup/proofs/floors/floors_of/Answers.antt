@@ -1,4 +1,4 @@
-use Rattle.std.proofs.Common.{◌≡◌, ◌≤◌, ◌∷◌, ◌++◌, [], ℕ, List, length, take, arith, ap, sym, ◌∙◌}
+use Rattle.std.proofs.Common.{◌≡◌, ◌∷◌, ◌++◌, [], ℕ, List, length, take, arith, ap, sym, ◌∙◌}
 use Rattle.std.proofs.lemmas.List.{length-map, length-set, take_more, take_more_set, take_all}
 use Rattle.hls_core_laws.specs.State.{channel}
 use Rattle.hls_core_laws.specs.Places.{floor_of, floors}

@@ -1,4 +1,4 @@
-use Rattle.std.proofs.Common.{◌≡◌, ◌<◌, ◌^◌, ◌∷◌, All, subst}
+use Rattle.std.proofs.Common.{◌<◌, ◌^◌, ◌∷◌, All, subst}
 use Rattle.std.proofs.lemmas.List.Elements.{All-tail}
 use Rattle.hls_check_laws.specs.Tables.{spot_in}
 use Rattle.hls_places_laws.specs.declared.line.segment.Segment as live_line

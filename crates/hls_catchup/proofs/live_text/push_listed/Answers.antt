@@ -1,16 +1,12 @@
-use Rattle.std.proofs.Common.{◌≡◌, ◌∙◌, Some, None, ap}
-use Rattle.hls_core.specs.Reads.{recording_of}
+use Rattle.std.proofs.Common.{◌∙◌, ap}
 use Rattle.hls_core_laws.specs.Config.{ConfigData}
 use Rattle.hls_core_laws.specs.Line.{line}
 use Rattle.hls_places_laws.specs.Line.Live.{segments_of}
-use Rattle.hls_catchup.proofs.LiveTexts.{all-of, cut-is, dated, drop-next, few, has-begun-it, has-next, list-is, one-written, reaches-all, starts}
+use Rattle.hls_catchup.proofs.LiveTexts.{all-of, cut-is, dated, drop-next, few, has-next, one-written, reaches-all, starts, unlisted-has}
 use Rattle.hls_catchup.proofs.live_text.push_listed.Goals as goal
 
 pub unreachable-requires : goal.unreachable-requires
-unreachable-requires c =
-    let value = c.in_default.ensures.value in
-    let none : recording_of c.args.snapshot.now c.args.rendition ≡ None = cc in
-    has-begun-it c.args.snapshot.now c.recording.ensures.valid c.args.rendition c.args.written none c.requires
+unreachable-requires c = unlisted-has c.args.snapshot.now c.args.rendition c.args.written c.in_default.ensures.list c.requires
 
 pub listed-requires-clause-start : goal.listed-requires-clause-start
 listed-requires-clause-start c =
@@ -18,10 +14,8 @@ listed-requires-clause-start c =
     let r = c.args.rendition in
     let k = c.loop-segment.next in
     let recorded = c.in-Some.recording.now in
-    let value = c.in-Some.ensures.value in
-    let is : recording_of s r ≡ Some recorded = cc in
-    let state = c.recording.ensures.valid in
-    let there = list-is s state r k recorded is c.loop-segment.invariant.has in
+    let state = c.recording_listed.ensures.valid in
+    let there = c.in-Some.ensures.list in
     let walk = c.loop-segment.invariant.walk ∙ c.in-Some-segment.ensures.steps in
     starts s state r recorded k c.in-Some-segment.segment.now c.next-in-loop-segment.new.self there walk
 
@@ -31,10 +25,8 @@ push_segment-requires-clause-length c =
     let r = c.args.rendition in
     let k = c.loop-segment.next in
     let recorded = c.in-Some.recording.now in
-    let value = c.in-Some.ensures.value in
-    let is : recording_of s r ≡ Some recorded = cc in
-    let state = c.recording.ensures.valid in
-    let there = list-is s state r k recorded is c.loop-segment.invariant.has in
+    let state = c.recording_listed.ensures.valid in
+    let there = c.in-Some.ensures.list in
     let walk = c.loop-segment.invariant.walk ∙ c.in-Some-segment.ensures.steps in
     let made = cut-is s r recorded c.epoch-epoch.result c.in_ok-uri.uri c.in-Some-segment.segment.now c.in_ok-listed.field-0
     (c.epoch-epoch.ensures.value ∙ ap (λ (x : ConfigData). x.epoch) c.config.ensures.value) c.in_ok-uri.ensures c.in_ok-listed.ensures in
@@ -46,10 +38,8 @@ push_segment-requires-clause-date c =
     let r = c.args.rendition in
     let k = c.loop-segment.next in
     let recorded = c.in-Some.recording.now in
-    let value = c.in-Some.ensures.value in
-    let is : recording_of s r ≡ Some recorded = cc in
-    let state = c.recording.ensures.valid in
-    let there = list-is s state r k recorded is c.loop-segment.invariant.has in
+    let state = c.recording_listed.ensures.valid in
+    let there = c.in-Some.ensures.list in
     let walk = c.loop-segment.invariant.walk ∙ c.in-Some-segment.ensures.steps in
     let made = cut-is s r recorded c.epoch-epoch.result c.in_ok-uri.uri c.in-Some-segment.segment.now c.in_ok-listed.field-0
     (c.epoch-epoch.ensures.value ∙ ap (λ (x : ConfigData). x.epoch) c.config.ensures.value) c.in_ok-uri.ensures c.in_ok-listed.ensures in
@@ -61,10 +51,8 @@ loop-segment-preserved c =
     let r = c.args.rendition in
     let k = c.loop-segment.next in
     let recorded = c.in-Some.recording.now in
-    let value = c.in-Some.ensures.value in
-    let is : recording_of s r ≡ Some recorded = cc in
-    let state = c.recording.ensures.valid in
-    let there = list-is s state r k recorded is c.loop-segment.invariant.has in
+    let state = c.recording_listed.ensures.valid in
+    let there = c.in-Some.ensures.list in
     let walk = c.loop-segment.invariant.walk ∙ c.in-Some-segment.ensures.steps in
     let made = cut-is s r recorded c.epoch-epoch.result c.in_ok-uri.uri c.in-Some-segment.segment.now c.in_ok-listed.field-0
     (c.epoch-epoch.ensures.value ∙ ap (λ (x : ConfigData). x.epoch) c.config.ensures.value) c.in_ok-uri.ensures c.in_ok-listed.ensures in
@@ -83,8 +71,5 @@ returns-clause-reaches c =
     let r = c.args.rendition in
     let k = c.loop-segment.next in
     let recorded = c.in-Some.recording.now in
-    let value = c.in-Some.ensures.value in
-    let is : recording_of s r ≡ Some recorded = cc in
-    let state = c.recording.ensures.valid in
-    let there = list-is s state r k recorded is c.loop-segment.invariant.has in
+    let there = c.in-Some.ensures.list in
     reaches-all s r c.args.stop k recorded there (all-of (segments_of (line s)) k (c.loop-segment.invariant.walk ∙ c.in-None.ensures.steps.0))

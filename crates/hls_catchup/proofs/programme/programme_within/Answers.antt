@@ -1,6 +1,6 @@
-use Rattle.std.proofs.Common.{◌≡◌, ℕ, ◌≤◌, length, arith, sym, subst}
+use Rattle.std.proofs.Common.{◌≡◌, ◌≤◌, length, arith, sym, subst}
 use Rattle.hls_places_laws.specs.Firsts.{first_after}
-use Rattle.hls_catchup.specs.Kept.{Kept, kept_in, all_kept, IsLastBy}
+use Rattle.hls_catchup.specs.Kept.{Kept, all_kept, IsLastBy}
 use Rattle.hls_catchup.proofs.Walks.{last-is, none-is}
 use Rattle.hls_catchup.proofs.Tables.{none_before, past_all, too_long, programme_there}
 use Rattle.hls_catchup.proofs.programme.programme_within.Goals as goal

@@ -2,7 +2,7 @@ use Rattle.std.proofs.Common.{◌≡◌, ◌-◌, ◌++◌, length, take}
 use Rattle.hls_places_laws.specs.Order.{spots_of}
 use Rattle.hls_places_laws.specs.Programmes.{kept}
 use Rattle.hls_catchup.specs.Kept.{kept_from}
-use Rattle.hls_catchup.proofs.kept.KeptPlaces.spots.Given as goal
+use Rattle.hls_catchup.proofs.kept.KeptPlaces.push_spots.Given as goal
 
 abbrev pub invariant-loop-place : goal.invariant-loop-place
 invariant-loop-place l = record {

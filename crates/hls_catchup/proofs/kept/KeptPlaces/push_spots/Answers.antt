@@ -5,7 +5,7 @@ use Rattle.hls_places_laws.specs.Order.{spots_of}
 use Rattle.hls_places_laws.specs.Programmes.{is_kept, kept}
 use Rattle.hls_catchup.specs.Kept.{kept_from}
 use Rattle.hls_catchup.proofs.Walks.{one_copy_more}
-use Rattle.hls_catchup.proofs.kept.KeptPlaces.spots.Goals as goal
+use Rattle.hls_catchup.proofs.kept.KeptPlaces.push_spots.Goals as goal
 
 pub loop-place-preserved-in_ok-push : goal.loop-place-preserved-in_ok-push
 loop-place-preserved-in_ok-push c =
