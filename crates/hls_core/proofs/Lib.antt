@@ -1,5 +1,6 @@
 mod Cited
 mod Names
+mod Runs
 mod Taken
 mod Goes
 mod Compared
