@@ -1,7 +1,7 @@
 -- What the code has found out of an event makes it New, and the side that it puts in makes the state that the move says.
 use Rattle.std.proofs.Common.{arith, ◌≡◌, ℕ, ◌+◌, ◌-◌, ◌^◌, ◌<◌, ◌≤◌, Bool, true, false, List, [], ◌∷◌, ◌++◌, Option, Some, None, length, refl, sym, ap, subst, ◌∙◌}
 use Rattle.std.specs.Prelude.{slice_get, slice_set, nat_le}
-use Rattle.std.proofs.lemmas.Bool.{le-ltb, lt-leb, leb-false}
+use Rattle.std.proofs.lemmas.Bool.{le-ltb, lt-ltb, lt-leb, leb-false}
 use Rattle.hls_media_laws.specs.InitData.{InitData}
 use Rattle.hls_media_laws.specs.declared.facts.Facts.{Facts}
 use Rattle.hls_media_laws.specs.Meaning.{IsInit}
@@ -17,7 +17,8 @@ use Rattle.hls_core_laws.specs.Line.{line}
 use Rattle.hls_core.proofs.Cited.{front_within, sources_trim, at_or, set_same, units_are_logged, advanced_state, advanced_continues, sources_count, source_of}
 use Rattle.std.proofs.lemmas.Option.{slice_get_within}
 use Rattle.hls_core_laws.specs.IsState.{IsState}
-use Rattle.hls_core_laws.specs.Outcome.{New, outcome_of, held, accept, accept_beside, accept_later, trim_limit}
+use Rattle.hls_core_laws.specs.declared.refusal.Refusal.TheVariants.{UnknownRendition, NoInit, Overlap, Finished, LedgerFull}
+use Rattle.hls_core_laws.specs.Outcome.{New, Refused, outcome_of, held, accept, accept_beside, accept_later, trim_limit}
 use Rattle.hls_core_laws.specs.Moves.{logged, entry_of, advanced, more_bytes, less_bytes, IsFitting}
 use Rattle.hls_record.specs.Valid.{IsRecorded}
 use Rattle.hls_core_laws.specs.Follows.{Continues}
@@ -101,6 +102,12 @@ begin_goes s by r old init bytes state at first room read good =
     }
 
 -- Accept
+pub accept_unknown : (s : State) (r : ℕ) (f : Facts) (bytes : List ℕ) → slice_get (channel s).lanes r ≡ None → outcome_of s (Accept r f bytes) ≡ Refused UnknownRendition
+accept_unknown s r f bytes none = ap (λ (l : Option Lane). accept l (held s r) f bytes (length s.log)) none
+
+pub accept_unbegun : (s : State) (r : ℕ) (old : Side) (f : Facts) (bytes : List ℕ) → IsAt s r old → old.recording ≡ None → outcome_of s (Accept r f bytes) ≡ Refused NoInit
+accept_unbegun s r old f bytes at none = ap (λ (l : Option Lane). accept l (held s r) f bytes (length s.log)) (lane_at s r old None at none)
+
 accept_chain : (s : State) (r : ℕ) (old : Side) (rec : Recorded) (f : Facts) (bytes : List ℕ) → IsAt s r old → old.recording ≡ Some rec → twin_of rec f.start ≡ None → outcome_of s (Accept r f bytes) ≡ accept_later (lane_from (Some rec) old.finished) f (length s.log)
 accept_chain s r old rec f bytes at begun apart =
     let at_lane = lane_at s r old (Some rec) at begun in
@@ -108,6 +115,18 @@ accept_chain s r old rec f bytes at begun apart =
     ap (λ (l : Option Lane). accept l (held s r) f bytes (length s.log)) at_lane
     ∙ ap (λ (h : Held). accept (Some (lane_from (Some rec) old.finished)) h f bytes (length s.log)) held_was
     ∙ ap (λ (twin : Option (List ℕ)). accept_beside twin (lane_from (Some rec) old.finished) f bytes (length s.log)) apart
+
+pub accept_before : (s : State) (r : ℕ) (old : Side) (rec : Recorded) (f : Facts) (bytes : List ℕ) → IsAt s r old → old.recording ≡ Some rec → twin_of rec f.start ≡ None → f.start < last_end rec.facts → outcome_of s (Accept r f bytes) ≡ Refused Overlap
+accept_before s r old rec f bytes at begun apart before =
+    accept_chain s r old rec f bytes at begun apart ∙ rw (lt-ltb f.start (last_end rec.facts) before) refl
+
+pub accept_finished : (s : State) (r : ℕ) (old : Side) (rec : Recorded) (f : Facts) (bytes : List ℕ) → IsAt s r old → old.recording ≡ Some rec → twin_of rec f.start ≡ None → last_end rec.facts ≤ f.start → old.finished ≡ true → outcome_of s (Accept r f bytes) ≡ Refused Finished
+accept_finished s r old rec f bytes at begun apart later finished =
+    accept_chain s r old rec f bytes at begun apart ∙ rw (le-ltb f.start (last_end rec.facts) later, finished) refl
+
+pub accept_full : (s : State) (r : ℕ) (old : Side) (rec : Recorded) (f : Facts) (bytes : List ℕ) → IsAt s r old → old.recording ≡ Some rec → twin_of rec f.start ≡ None → last_end rec.facts ≤ f.start → old.finished ≡ false → nat_le 4194304 (length s.log) ≡ true → outcome_of s (Accept r f bytes) ≡ Refused LedgerFull
+accept_full s r old rec f bytes at begun apart later open_ended full =
+    accept_chain s r old rec f bytes at begun apart ∙ rw (le-ltb f.start (last_end rec.facts) later, open_ended, full) refl
 
 pub accept_new : (s : State) (r : ℕ) (old : Side) (rec : Recorded) (f : Facts) (bytes : List ℕ) → IsAt s r old → old.recording ≡ Some rec → twin_of rec f.start ≡ None → last_end rec.facts ≤ f.start → old.finished ≡ false → length s.log < 4194304 → total_of rec + f.len ≤ 2 ^ 40 → outcome_of s (Accept r f bytes) ≡ New
 accept_new s r old rec f bytes at begun apart later open_ended room small =
