@@ -1,10 +1,10 @@
 -- From the steps of a call to what it says of its pass.
-use Rattle.std.proofs.Common.{◌≡◌, ℕ, length, Option, Result, [], ◌∷◌, ◌++◌, inr, sym, refl, ap, ◌∙◌, subst}
+use Rattle.std.proofs.Common.{◌≡◌, ℕ, length, Option, Result, [], ◌∷◌, ◌++◌, inl, inr, sym, refl, ap, ◌∙◌, subst}
 use Rattle.hls_core_laws.specs.declared.event.Event.{Event}
 use Rattle.hls_core_laws.specs.declared.refusal.Refusal.{Refusal}
 use Rattle.hls_core_laws.specs.State.{State}
 use Rattle.hls_core_laws.specs.IsState.{IsState}
-use Rattle.hls_core_laws.specs.Outcome.{Outcome, New, Refused}
+use Rattle.hls_core_laws.specs.Outcome.{Outcome, New}
 use Rattle.hls_core_laws.specs.Moves.{Moves, IsFitting, IsFittingAsSeen, logged}
 use Rattle.hls_core_laws.specs.Follows.{Follows}
 use Rattle.hls_core_laws.specs.Workers.{events_by}
@@ -48,9 +48,13 @@ new_is_mine v w met after event takes moves = (workers_apart met after v.number 
 pub moves_at : (a b after : State) (m n : ℕ) (event : Event) (outcome : Outcome) → a ≡ b → n ≡ m → Moves a m event outcome after → Moves b n event outcome after
 moves_at a b after m n event outcome states numbers moves = subst (λ (y : State × ℕ). Moves y.0 y.1 event outcome after) (λ i. (states i, sym numbers i)) moves
 
--- the same refusal
-pub refused_at : (a b : State) (m n : ℕ) (event : Event) (r : Refusal) → a ≡ b → n ≡ m → Moves a m event (Refused r) a → Moves b n event (Refused r) b
-refused_at a b m n event r states numbers moves = subst (λ (y : State × ℕ). Moves y.0 y.1 event (Refused r) y.0) (λ i. (states i, sym numbers i)) moves
+-- the same where nothing moved
+pub unmoved_at : (a b : State) (m n : ℕ) (event : Event) (outcome : Outcome) → a ≡ b → n ≡ m → Moves a m event outcome a → Moves b n event outcome b
+unmoved_at a b m n event outcome states numbers moves = subst (λ (y : State × ℕ). Moves y.0 y.1 event outcome y.0) (λ i. (states i, sym numbers i)) moves
+
+-- who took the state may put it back
+pub may_put_back : (v w : View) (met : State) → Takes v met w → MayPut w met
+may_put_back v w met takes = inr (met, ap (λ (y : View). y.holds) takes.view_is, inl refl)
 
 -- who took the state may put the one after a new event in
 pub may_put_new : (v w : View) (met after : State) (event : Event) → Takes v met w → IsState met → IsFitting met event → Moves met v.number event New after → MayPut w after
@@ -82,3 +86,8 @@ pub new_is_pass : (v w u : View) (met after : State) (event : Event) → IsPass 
 new_is_pass v w u met after event pass takes fits moves put =
     let moved = moves_follow met after v.number event New (met_is_state v met w pass takes) fits moves in
     (put_is_pass w u after put moved.0, put_renditions v w u met after pass takes moved.1 put)
+
+-- and when it put back what it took, that
+pub back_is_pass : (v w u : View) (met : State) → IsPass v → Takes v met w → u ≡ after_put w met → IsPass u × (renditions_seen u ≡ renditions_seen v)
+back_is_pass v w u met pass takes put =
+    (put_is_pass w u met put (met_is_state v met w pass takes), put_renditions v w u met met pass takes (follows_itself met) put)
