@@ -1,18 +1,17 @@
 -- What holds of a connection, from one step to the next.
-use Rattle.std.proofs.Common.{◌≡◌, ◌∙◌, ◌⊎◌, ℕ, zero, ◌+◌, Bool, true, false, List, [], ◌∷◌, ◌++◌, length, flat_map, Option, Some, None, IsTrue, inl, inr, refl, sym, ap, subst, arith, append_assoc, append-nil, rules}
+use Rattle.std.proofs.Common.{◌≡◌, ◌<◌, ◌==◌, ◌∙◌, ◌⊎◌, ℕ, zero, ◌+◌, Bool, true, false, List, [], ◌∷◌, ◌++◌, length, flat_map, Option, Some, None, IsTrue, inl, inr, refl, sym, ap, subst, arith, append_assoc, append-nil, rules}
 use Rattle.std.proofs.lemmas.Grind.{flat_map-append}
 use Rattle.httparse.specs.Grammar.{RequestHead}
 use Rattle.hls_feed.specs.Streams.{Reached}
 use Rattle.hls_feed.proofs.Callers.{reached_none}
 use Rattle.hls_http_laws.specs.declared.body.Body.{Body}
-use Rattle.hls_http_laws.specs.declared.end.SessionEnd.TheVariants as ends
 use Rattle.hls_http_laws.specs.declared.fault.HttpFault.{HttpFault}
 use Rattle.hls_http_laws.specs.declared.plan.Plan.{Plan}
 use Rattle.hls_http_laws.specs.declared.plan.Plan.TheVariants.{Refuse, Feed, Skip}
 use Rattle.hls_http_laws.specs.Bodies.{IsOpen, Runs}
-use Rattle.hls_http_laws.specs.Heads.{ReadsSmall}
+use Rattle.hls_http_laws.specs.Heads.{IsUnfinished, ReadsSmall}
 use Rattle.hls_http_laws.proofs.Callers.{heads_stay}
-use Rattle.std.proofs.lemmas.Bool.{cond-false}
+use Rattle.std.proofs.lemmas.Bool.{cond-false, eqb-false, eqb-true}
 use Rattle.std.proofs.Math.Bool.{and-false}
 use Rattle.hls_http_laws.specs.Fields.{expects}
 use Rattle.hls_http_laws.specs.Requests.{fields_of}
@@ -23,7 +22,7 @@ use Rattle.hls_serve_laws.specs.declared.route.Route.TheVariants as routes
 use Rattle.hls_core_laws.specs.Known.{Known}
 use Rattle.hls_serve_laws.specs.Acts.{Act}
 use Rattle.hls_serve_laws.specs.Heard.{Due, FollowsBy, Heard, IsDue, IsDueWithoutHead, RefusesHead, first_of, request_of}
-use Rattle.hls_serve_laws.specs.Connections.{Exchange, Serves, Over, IsAsked, IsWithin, EndsByReply, Stands, IsServed, acts_of, text_of, due_in}
+use Rattle.hls_serve_laws.specs.Connections.{Exchange, Serves, IsAsked, IsBetween, IsCutShort, IsWithin, EndsByReply, Stands, IsServed, acts_of, text_of, due_in}
 use Rattle.hls_serve_laws.specs.Ingest.{PartComes, Progress, begun}
 use Rattle.hls_serve_laws.specs.Replies.{fault_answer}
 use Rattle.hls_serve.specs.declared.call.Call.{Call}
@@ -37,7 +36,7 @@ use Rattle.http_server.specs.declared.log.Log.{Log}
 use Rattle.hls_serve.specs.declared.machine.Machine.{Machine}
 use Rattle.hls_serve.specs.declared.machine.State.{State}
 use Rattle.hls_serve.specs.declared.machine.State.TheVariants as states
-use Rattle.hls_serve.specs.Machine.{AtHead, GoesOnIn, Holds, HoldsAt, StandsIn, SuitsIn, asked_in, asked_now, history_by, stage_of, state_behind, total}
+use Rattle.hls_serve.specs.Machine.{AtHead, GoesOnIn, Holds, HoldsAt, StandsIn, SuitsIn, asked_in, asked_now, history_by, stage_of, state_behind, total, waited_head}
 use Rattle.hls_serve.specs.Taken.{progress_of}
 use Rattle.hls_serve.specs.Turns.{IsCall, Replies, end_by}
 use Rattle.hls_serve.specs.Within.{HasBody, IsDropping, IsFeeding, IsMaking, RepliesTo}
@@ -284,11 +283,19 @@ only_over : (asked : List Act) (over : List Exchange) (acts : List Act) → aske
 only_over asked over acts is empty = is ∙ ap (λ (t : List Act). acts_of over ++ t) empty ∙ append-nil (acts_of over)
 
 -- the requests that are over were answered as before, and then it stands so
-pub stands_so : {count : ℕ} {received sent : List ℕ} {ended now : Bool} {old : State} {asked : List Act} {pending unread rest : List ℕ} (new : State)
-    (h : Holds count old (history_by received ended unread asked sent pending)) → StandsIn new count now h.rest h.acts h.text rest
-    → Holds count new (history_by received now rest asked sent pending)
-stands_so new h stands =
-    record { over = h.over; rest = h.rest; serves = h.serves; acts = h.acts; asked_is = h.asked_is; text = h.text; written = h.written; stands = stands }
+pub stands_so : {count : ℕ} {received sent : List ℕ} {ended now : Bool} {old state new : State} {asked : List Act} {pending unread rest : List ℕ} → state ≡ new
+    → (h : Holds count old (history_by received ended unread asked sent pending)) → StandsIn new count now h.rest h.acts h.text rest
+    → Holds count state (history_by received now rest asked sent pending)
+stands_so {count} {received} {sent} {ended} {now} {old} {state} {new} {asked} {pending} {unread} {rest} is h stands = record {
+  over = h.over;
+  rest = h.rest;
+  serves = h.serves;
+  acts = h.acts;
+  asked_is = h.asked_is;
+  text = h.text;
+  written = h.written;
+  stands = subst (λ (s : State). StandsIn s count now h.rest h.acts h.text rest) (sym is) stands;
+}
 
 -- the reply to a body
 pub body_replied : {count : ℕ} {received sent : List ℕ} {ended : Bool} {old : State} {asked : List Act} {pending unread rest text : List ℕ} {acts : List Act} {end : Option Ending} → length pending ≡ 0
@@ -298,15 +305,21 @@ body_replied {count} {received} {sent} {ended} {old} {asked} {pending} {unread} 
     replied count received sent ended asked acts text rest end h.over h.rest h.text h.serves (only_over asked h.over h.acts h.asked_is nothing) (all_sent sent pending _ empty h.written) replies
 
 -- the input's end cuts a body short
-module _ {count : ℕ} {received sent : List ℕ} {asked : List Act} {pending unread rest : List ℕ} where
-  pub drop_cut : {d g : Dropping} (h : Holds count (states.Drop d) (history_by received true unread asked sent pending)) → IsDropping count h.rest h.text g rest → IsOpen g.body rest
-      → Holds count (states.Over own.CutShort) (history_by received true rest asked sent pending)
-  drop_cut h x unfinished =
-      stands_so (states.Over own.CutShort) h
-      (subst (λ (t : List Act). Stands (Over ends.CutShort) count true h.rest t h.text rest) (sym h.stands.1) (yes, inr (record { within = within_drop x; unfinished = unfinished })))
+cut : {count : ℕ} {ended : Bool} {state : State} {stream : List ℕ} {acts : List Act} {text unread : List ℕ} → state ≡ states.Over own.CutShort → ended ≡ true
+    → IsCutShort count stream acts text unread → StandsIn state count ended stream acts text unread
+cut {count} {ended} {state} {stream} {acts} {text} {unread} is end short =
+    subst (λ (s : State). StandsIn s count ended stream acts text unread) (sym is) (subst (λ (b : Bool). IsTrue b) (sym end) yes, inr short)
 
-  pub feed_cut : {f g : Feeding} (h : Holds count (states.Feed f) (history_by received true unread asked sent pending)) → IsFeeding count h.rest h.text g rest → IsOpen g.body rest
-      → Holds count (states.Over own.CutShort) (history_by received true rest (asked ++ g.taken.acts) sent pending)
+module _ {count : ℕ} {received sent : List ℕ} {ended : Bool} {state : State} {asked : List Act} {pending unread rest : List ℕ} (is : state ≡ states.Over own.CutShort)
+    (end : ended ≡ true) where
+  pub drop_cut : {d g : Dropping} (h : Holds count (states.Drop d) (history_by received ended unread asked sent pending)) → IsDropping count h.rest h.text g rest → IsOpen g.body rest
+      → Holds count state (history_by received ended rest asked sent pending)
+  drop_cut h x unfinished =
+      stands_so {new = state} refl h
+      (subst (λ (t : List Act). StandsIn state count ended h.rest t h.text rest) (sym h.stands.1) (cut is end (record { within = within_drop x; unfinished = unfinished })))
+
+  pub feed_cut : {f g : Feeding} (h : Holds count (states.Feed f) (history_by received ended unread asked sent pending)) → IsFeeding count h.rest h.text g rest → IsOpen g.body rest
+      → Holds count state (history_by received ended rest (asked ++ g.taken.acts) sent pending)
   feed_cut {f} {g} h x unfinished = record {
     over = h.over;
     rest = h.rest;
@@ -315,7 +328,7 @@ module _ {count : ℕ} {received sent : List ℕ} {asked : List Act} {pending un
     asked_is = ap (λ (t : List Act). t ++ g.taken.acts) (only_over asked h.over h.acts h.asked_is h.stands.1);
     text = h.text;
     written = h.written;
-    stands = (yes, inr (record { within = within_feed x; unfinished = unfinished }));
+    stands = cut is end (record { within = within_feed x; unfinished = unfinished });
   }
 
 -- ---- what holds, in the words of connections
@@ -397,7 +410,7 @@ stands_ended (states.Over end) count stream acts text unread going s = absurd go
 pub holds_ended : {count : ℕ} {received sent : List ℕ} {state : State} {asked : List Act} {pending unread : List ℕ} → GoesOnIn state
     → Holds count state (history_by received false unread asked sent pending) → Holds count state (history_by received true unread asked sent pending)
 holds_ended {count} {received} {sent} {state} {asked} {pending} {unread} going h =
-    stands_so state h (stands_ended state count h.rest h.acts h.text unread going h.stands)
+    stands_so {new = state} refl h (stands_ended state count h.rest h.acts h.text unread going h.stands)
 
 -- so much of what waits was handed out
 pub holds_sent : {count : ℕ} {received sent : List ℕ} {ended : Bool} {state : State} {asked : List Act} {pending unread : List ℕ} (gone waits : List ℕ) → pending ≡ gone ++ waits
@@ -434,21 +447,37 @@ head_refuses m n received sent ended text unread end fault head empty count stat
     let at = subst (λ (s : State). Holds m.renditions s (history_by received ended unread (asked_in m) sent m.output)) head h in
     holds_at n count state (asked_same m n asked) output (head_refused m.renditions received sent ended (asked_in m) m.output text unread end fault empty at refuses r)
 
+-- no head stands at the front yet
+pub head_waits : (m n : Machine) (received sent : List ℕ) (ended empty : Bool) (unread : List ℕ) → m.state ≡ states.Head → n.renditions ≡ m.renditions → n.state ≡ waited_head empty ended
+    → n.asked ≡ m.asked → n.output ≡ m.output → empty ≡ (length unread == 0) → IsUnfinished unread → HoldsAt received ended sent m unread → HoldsAt received ended sent n unread
+head_waits m n received sent ended empty unread head count state asked output is unfinished h =
+    let at = subst (λ (s : State). Holds m.renditions s (history_by received ended unread (asked_in m) sent m.output)) head h in
+    holds_at n count state (asked_same m n asked) output (stands_so {new = waited_head empty ended} refl at (by empty ended at.rest at.acts at.text (sym is) at.stands))
+  where
+    by : (empty ended : Bool) (stream : List ℕ) (acts : List Act) (text : List ℕ) → (length unread == 0) ≡ empty → IsBetween stream acts text unread
+        → StandsIn (waited_head empty ended) m.renditions ended stream acts text unread
+    by empty false stream acts text is s = s
+    by true true stream acts text is s = inl (yes, sym s.0 ∙ none unread (eqb-true (length unread) 0 is), s)
+    by false true stream acts text is s =
+        (yes, inl (subst IsUnfinished s.0 unfinished, subst (λ (t : List ℕ). 0 < length t) s.0 (omega (arith, eqb-false (length unread) 0 is)), s))
+
 -- one request's acts more
 pub asked_more : {B : Type 0} (old new : List (List Act × B)) (acts : List Act) (u : B) → new ≡ old ++ (acts, u) ∷ [] → flat_map (λ x. x.0) new ≡ flat_map (λ x. x.0) old ++ acts
 asked_more old new acts u is = ap (flat_map (λ x. x.0)) is ∙ flat_push (λ x. x.0) old (acts, u)
 
 -- behind a reply
-now_behind : (end : Option Ending) → asked_now (state_behind end) ≡ []
+pub now_behind : (end : Option Ending) → asked_now (state_behind end) ≡ []
 now_behind None = refl
 now_behind (Some end) = refl
 
-pub total_behind : (m : Machine) (end : Option Ending) (acts : List Act) → m.state ≡ state_behind end → asked_in m ≡ acts → total m ≡ acts
-total_behind m end acts state asked =
-    ap (λ (t : List Act). t ++ asked_now m.state) asked ∙ ap (λ (s : State). acts ++ asked_now s) state ∙ ap (λ (t : List Act). acts ++ t) (now_behind end) ∙ append-nil acts
+pub total_fresh : (m : Machine) (acts : List Act) → asked_now m.state ≡ [] → asked_in m ≡ acts → total m ≡ acts
+total_fresh m acts fresh asked = ap (λ (t : List Act). t ++ asked_now m.state) asked ∙ ap (λ (t : List Act). acts ++ t) fresh ∙ append-nil acts
+
+pub suits_as : (known : Known) {state new : State} → state ≡ new → SuitsIn known new → SuitsIn known state
+suits_as known is suits = subst (λ (s : State). SuitsIn known s) (sym is) suits
 
 pub suits_behind : (known : Known) (end : Option Ending) (state : State) → state ≡ state_behind end → SuitsIn known state
-suits_behind known end state is = subst (λ (s : State). SuitsIn known s) (sym is) (by end)
+suits_behind known end state is = suits_as known is (by end)
   where
     by : (end : Option Ending) → SuitsIn known (state_behind end)
     by None = tt

@@ -20,6 +20,8 @@ use Rattle.hls_serve_laws.specs.Acts.{Act, Acted, ActsInVain, IsVain, Leads, Loo
 use Rattle.hls_serve_laws.specs.Ingest.{Progress, FindsInit, PartComes}
 use Rattle.hls_serve_laws.proofs.Callers.{acted_follows}
 use Rattle.hls_serve.specs.declared.acts.Noted.{Noted}
+use Rattle.hls_serve.specs.declared.machine.State as states
+use Rattle.hls_serve.specs.Machine.{asked_now}
 use Rattle.hls_serve.specs.Noted.{act_in}
 use Rattle.hls_serve.specs.Taken.{Finds, HasInit, IsUsable, told_as}
 
@@ -98,6 +100,13 @@ noted_one old new x seen is was = ap (map act_in) is ∙ map-append act_in old (
 pub acted_behind : (front : List Act) (a b : Known) (before after : List Act) → Acted a before b after → Acted a (front ++ before) b (front ++ after)
 acted_behind front a b before after (acts, is, chain) =
     (acts, ap (λ (t : List Act). front ++ t) is ∙ sym (append_assoc front before acts), chain)
+
+pub acted_to : (front : List Act) (a b : Known) (before : List Act) {after all : List Act} → all ≡ front ++ after → Acted a before b after → Acted a (front ++ before) b all
+acted_to front a b before {after} is acted = subst (λ (acts : List Act). Acted a (front ++ before) b acts) (sym is) (acted_behind front a b before after acted)
+
+-- .. in a state by its name
+pub acted_in : (front : List Act) (a b : Known) (before : List Act) {state new : states.State} → state ≡ new → Acted a before b (asked_now new) → Acted a (front ++ before) b (front ++ asked_now state)
+acted_in front a b before is acted = subst (λ (s : states.State). Acted a (front ++ before) b (front ++ asked_now s)) (sym is) (acted_behind front a b before _ acted)
 
 -- what was seen is still a state
 pub valid_acted : (a b : Known) (before after : List Act) → Acted a before b after → IsState a.seen → IsState b.seen

@@ -15,7 +15,6 @@ use Rattle.hls_serve_laws.specs.Sessions.{EndsSo, GoesOn, Session}
 use Rattle.hls_serve.specs.declared.ending.Ending.{Ending}
 use Rattle.hls_serve.specs.declared.ending.Ending.TheVariants as own
 use Rattle.hls_serve.specs.declared.machine.Machine.{Machine}
-use Rattle.hls_serve.specs.declared.machine.State.{State}
 use Rattle.hls_serve.specs.declared.machine.State.TheVariants as states
 use Rattle.hls_serve.specs.declared.talk.Talk.{Talk}
 use Rattle.hls_serve.specs.Counted.{CountsSession}
@@ -170,13 +169,6 @@ counts_own own.Refused reads writes = (refl, refl)
 counts_own own.CutShort reads writes = (refl, refl)
 
 -- ---- a connection that waits for more
-
-pub goes_on : (s : State) → ((end : Ending) → s ≡ states.Over end → ⊥) → GoesOnIn s
-goes_on states.Head never = tt
-goes_on (states.Drop d) never = tt
-goes_on (states.Feed f) never = tt
-goes_on (states.Make m) never = tt
-goes_on (states.Over end) never = never end refl
 
 -- it waits since nothing is to be handed out and the input goes on; there is room
 pub rests_open : (ended : Bool) (m : Machine) (unread : List ℕ) → length m.output ≡ 0 → GoesOnIn m.state → Rests ended m unread → (ended ≡ false) × (length unread < 16384)

@@ -3,12 +3,14 @@
 use Rattle.std.specs.Prelude.{◌≡◌, ◌⊎◌, ℕ, ◌<◌, Bool, true, false, List, [], ◌++◌, length, flat_map, Option, Some, None, Err, IsFalse}
 use Rattle.httparse.specs.Grammar.{RequestHead}
 use Rattle.hls_core_laws.specs.IsState.{IsState}
+use Rattle.hls_http_laws.specs.declared.fault.HttpFault.{HttpFault}
 use Rattle.hls_http_laws.specs.Heads.{ReadsSmall}
 use Rattle.hls_http.specs.declared.body.BodyEnd.TheVariants as bodies
 use Rattle.hls_core_laws.specs.Known.{Known}
 use Rattle.hls_serve_laws.specs.declared.ingest.Intake.TheVariants as came
 use Rattle.hls_serve_laws.specs.Acts.{Act}
 use Rattle.hls_serve_laws.specs.Connections.{Exchange, History, Serves, Stage, Between, Within, Over, IsBetween, Stands, acts_of, output, text_of}
+use Rattle.hls_serve_laws.specs.Heard.{Due, IsDueWithoutHead, RefusesHead}
 use Rattle.hls_serve_laws.specs.Sessions.{GoesOn}
 use Rattle.hls_serve.specs.declared.call.Call.{Call}
 use Rattle.hls_serve.specs.declared.ending.Ending.{Ending}
@@ -98,6 +100,10 @@ pub record AtHead (count : ℕ) (received sent : List ℕ) (asked : List Act) (c
 abbrev pub GoesBehind : Call → Bool → Machine → Machine → List ℕ → Type 0
 GoesBehind call ended old new unread =
     (received sent : List ℕ) → AtHead old.renditions received sent (asked_in old) call unread → HoldsAt received ended sent new unread
+
+-- with this at the front, such a fault's reply is due
+abbrev pub Refuses : HttpFault → List ℕ → Type 0
+Refuses fault unread = (due : Due) → IsDueWithoutHead fault due → RefusesHead unread due
 
 -- the keeper suits the machine: it has seen a state, with the init section under which a body is read
 abbrev pub SuitsIn : Known → State → Type 0

@@ -19,7 +19,6 @@ use Rattle.hls_serve_laws.specs.declared.route.Route.TheVariants as routes
 use Rattle.hls_serve_laws.specs.Acts.{Act}
 use Rattle.hls_serve_laws.specs.Heard.{Drops, Heard, asks_of, first_of, request_of}
 use Rattle.hls_serve_laws.specs.Ingest.{BodyComes, PartComes, begun}
-use Rattle.hls_serve_laws.specs.Replies.{Answer}
 use Rattle.hls_serve_laws.specs.Routes.{feeds}
 use Rattle.hls_serve.specs.declared.answers.Answered.{Answered}
 use Rattle.hls_serve.specs.declared.answers.Answered.TheVariants.{Now, Later}

@@ -1,12 +1,12 @@
 //! The steps of a connection, each from one place in its stream to the next. No system call is made, and nobody is waited for but
 //! the keeper.
 
-ghost use Rattle.std.specs.Prelude.{◌≡◌, ◌↔◌, ◌++◌, ℕ, List, [], length, Bool, IsFalse, true};
+ghost use Rattle.std.specs.Prelude.{◌≡◌, ◌↔◌, ◌++◌, ℕ, List, [], length, Bool, IsFalse, IfNone, IfSome, true};
 ghost use Rattle.hls_core_laws.specs.IsState.{IsState};
 ghost use Rattle.hls_core_laws.specs.Known.{Known};
 ghost use Rattle.hls_serve_laws.specs.Acts.{Acted};
 ghost use Rattle.hls_serve.specs.declared.machine.State.TheVariants as states;
-ghost use Rattle.hls_serve.specs.Machine.{Goes, GoesBehind, GoesFrom, GoesOnIn, Rests, Suits, SuitsIn, asked_in, asked_now, failure_in, state_behind, total, waited_head};
+ghost use Rattle.hls_serve.specs.Machine.{Goes, GoesBehind, GoesFrom, GoesOnIn, Refuses, Rests, Suits, SuitsIn, asked_in, asked_now, failure_in, state_behind, total, waited_head};
 ghost use Rattle.httparse.specs.Grammar.{RequestHead};
 ghost use Rattle.hls_serve_laws.specs.Heard.{first_of};
 ghost use Rattle.hls_serve.specs.Taken.{IsUsable};
@@ -62,11 +62,21 @@ pub(crate) struct Machine {
     pub asked: Log<Acts, ()>,
 }
 
-/// Puts what waits in the place of nothing.
-fn put(output: &mut Output<Body>, other: Output<Body>)
-    ensures { output.new ≡ other }
+/// Puts this in the place of what stood there, which is dropped here alone.
+fn put<T: Drop>(place: &mut T, other: T)
+    ensures { place.new ≡ other }
 {
-    *output = other;
+    *place = other;
+}
+
+/// Where a connection stands behind a reply.
+fn behind(end: Option<Ending>) -> State
+    ensures { result ≡ state_behind end }
+{
+    match end {
+        None => State::Head,
+        Some(end) => State::Over(end),
+    }
 }
 
 impl Machine {
@@ -91,12 +101,26 @@ impl Machine {
         ensures state { self.new.state ≡ state_behind made.end }
         ensures asked { self.new.asked ≡ self.old.asked }
         ensures renditions { self.new.renditions ≡ self.old.renditions }
+        ensures fresh { asked_now self.new.state ≡ [] }
+        ensures usable { (known : Known) → SuitsIn known self.new.state }
     {
         put(&mut self.output, made.output);
-        self.state = match made.end {
-            None => State::Head,
-            Some(end) => State::Over(end),
-        };
+        let next = behind(made.end);
+        put(&mut self.state, next);
+    }
+
+    /// Refuses what can't become a head.
+    fn refuse<O: Observer>(&mut self, alloc: Global, observer: &O, fault: HttpFault)
+        requires head { self.old.state ≡ State.Head }
+        requires sent { length self.old.output ≡ 0 }
+        ensures goes { (ended : Bool) (unread : List ℕ) → Refuses fault unread → Goes ended self.old unread self.new unread }
+        ensures asked { self.new.asked ≡ self.old.asked }
+        ensures renditions { self.new.renditions ≡ self.old.renditions }
+        ensures fresh { asked_now self.new.state ≡ [] }
+        ensures usable { (known : Known) → SuitsIn known self.new.state }
+    {
+        let made = refuse_head(alloc, observer, fault);
+        self.answer(made);
     }
 
     /// No head stands at the front yet: waits for more, or ends with the input.
@@ -109,11 +133,12 @@ impl Machine {
         ensures stops { IsFalse result }
     {
         if ended {
-            self.state = State::Over(if empty {
+            let end = if empty {
                 Ending::Closed
             } else {
                 Ending::CutShort
-            });
+            };
+            put(&mut self.state, State::Over(end));
         }
         false
     }
@@ -149,25 +174,27 @@ impl Machine {
             Plan::Feed(body) => match call.route {
                 Some(Route::Ingest(rendition)) => {
                     self.write_first(&call, plan);
-                    self.state = State::Feed(Feeding {
+                    let feeding = Feeding {
                         call,
                         rendition,
                         body,
                         reader: UnitReader::new(alloc),
                         taken: Taken::none(),
-                    });
+                    };
+                    put(&mut self.state, State::Feed(feeding));
                 }
                 _ => unreachable!(),
             },
             Plan::Skip(body) => match call.route {
                 Some(route) => {
                     self.write_first(&call, plan);
-                    self.state = State::Drop(Dropping {
+                    let dropping = Dropping {
                         call,
                         route,
                         body,
                         room: MOST_DROPPED - announced(body),
-                    });
+                    };
+                    put(&mut self.state, State::Drop(dropping));
                 }
                 None => unreachable!(),
             },
@@ -204,13 +231,11 @@ impl Machine {
                 true
             }
             Err(Look::Hopeless) => {
-                let made = refuse_head(alloc, observer, HttpFault::BadHead);
-                self.answer(made);
+                self.refuse(alloc, observer, HttpFault::BadHead);
                 true
             }
             Err(Look::TooLarge) => {
-                let made = refuse_head(alloc, observer, HttpFault::HeadTooLarge);
-                self.answer(made);
+                self.refuse(alloc, observer, HttpFault::HeadTooLarge);
                 true
             }
             Err(Look::Partial) => {
@@ -225,7 +250,9 @@ impl Machine {
         ensures output { self.new.output ≡ made.output }
         ensures state { self.new.state ≡ state_behind made.end }
         ensures asked { asked_in self.new ≡ asked_in self.old ++ acts.now }
+        ensures total { total self.new ≡ asked_in self.old ++ acts.now }
         ensures renditions { self.new.renditions ≡ self.old.renditions }
+        ensures usable { (known : Known) → SuitsIn known self.new.state }
     {
         self.asked = self.asked.and(acts, &());
         self.answer(made);
@@ -253,15 +280,15 @@ impl Machine {
         let mut dropping = dropping;
         match dropping.step(input) {
             Next::More => {
-                self.state = State::Drop(dropping);
+                put(&mut self.state, State::Drop(dropping));
                 true
             }
             Next::Wait => {
                 if ended {
-                    self.state = State::Over(Ending::CutShort);
+                    put(&mut self.state, State::Over(Ending::CutShort));
                     return false;
                 }
-                self.state = State::Drop(dropping);
+                put(&mut self.state, State::Drop(dropping));
                 false
             }
             Next::Over(result) => {
@@ -269,11 +296,12 @@ impl Machine {
                 match answer_dropped(&dropping, result, keeper, &mut acts, observer) {
                     Answered::Now(made) => self.close(made, &acts),
                     Answered::Later(answer) => {
-                        self.state = State::Make(Making {
+                        let making = Making {
                             dropping,
                             acts,
                             answer,
-                        });
+                        };
+                        put(&mut self.state, State::Make(making));
                     }
                 }
                 true
@@ -302,11 +330,12 @@ impl Machine {
         }
         match answer.make(alloc) {
             Ok(answer) => {
-                self.state = State::Make(Making {
+                let making = Making {
                     dropping,
                     acts,
                     answer,
-                });
+                };
+                put(&mut self.state, State::Make(making));
             }
             Err(error) => {
                 let made = reply_with(alloc, observer, &dropping.call, Err(error), false);
@@ -337,17 +366,17 @@ impl Machine {
         let mut feeding = feeding;
         match feeding.step(input, keeper) {
             Next::More => {
-                self.state = State::Feed(feeding);
+                put(&mut self.state, State::Feed(feeding));
                 true
             }
             Next::Wait => {
                 if ended {
                     tell_ingested(&feeding, Err(Intake::Stopped(BodyEnd::CutShort)), observer);
                     self.asked = self.asked.and(&feeding.taken.acts, &());
-                    self.state = State::Over(Ending::CutShort);
+                    put(&mut self.state, State::Over(Ending::CutShort));
                     return false;
                 }
-                self.state = State::Feed(feeding);
+                put(&mut self.state, State::Feed(feeding));
                 false
             }
             Next::Over(result) => {
@@ -383,7 +412,7 @@ impl Machine {
             State::Feed(feeding) => self.feed_on(feeding, input, ended, keeper, observer),
             State::Make(making) => self.make_on(making, keeper.alloc(), observer),
             State::Over(end) => {
-                self.state = State::Over(end);
+                put(&mut self.state, State::Over(end));
                 false
             }
         }
@@ -399,6 +428,17 @@ impl Machine {
         ensures { IsFalse result ↔ GoesOnIn self.now.state }
     {
         matches!(self.state, State::Over(_))
+    }
+
+    /// How the connection ended by itself, where it did.
+    pub fn ending(&self) -> Option<Ending>
+        ensures over { IfSome result (λ end. self.now.state ≡ State.Over end) }
+        ensures goes_on { IfNone result (GoesOnIn self.now.state) }
+    {
+        match self.state {
+            State::Over(end) => Some(end),
+            _ => None,
+        }
     }
 
     /// What is to be told where a read failed: that no more comes of an encoder's body, where one is read.

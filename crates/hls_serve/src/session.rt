@@ -11,7 +11,6 @@ ghost use Rattle.hls_serve.specs.Talking.{CountsTurn, EndsIn, HasRead, HasWritte
 ghost use Rattle.hls_serve.specs.Talks.{HoldsOf, IsSuited};
 
 use crate::keeper::Keeper;
-use crate::machine::State;
 use crate::news::Observer;
 use crate::talk::Talk;
 use hls_http::{Counted, Filled, Session, SessionEnd, Source, write_whole};
@@ -92,7 +91,7 @@ fn turn<K: Keeper, O: Observer, R: Read, W: Write>(
     if !talk.machine.output.is_empty() {
         return hand_out(talk, &mut session.writer);
     }
-    if let State::Over(end) = talk.machine.state {
+    if let Some(end) = talk.machine.ending() {
         return Some(end.end());
     }
     take_more(talk, &mut session.source, observer)

@@ -150,9 +150,9 @@ impl Visit {
         let Place::Busy(busy) = &self.place else {
             return None;
         };
-        match busy.talk.machine.state {
-            State::Over(end) => Some(end.end()),
-            _ => None,
+        match busy.talk.machine.ending() {
+            Some(end) => Some(end.end()),
+            None => None,
         }
     }
 

@@ -9,7 +9,7 @@ use Rattle.hls_serve.specs.Counted.{CountsSession}
 use Rattle.hls_serve.specs.Machine.{asked_in, total}
 use Rattle.hls_serve.specs.Talking.{EndsIn}
 use Rattle.hls_serve.proofs.HoldLaws.{asked_same}
-use Rattle.hls_serve.proofs.SessionLaws.{counts_own, ends_itself, goes_on, read_none, read_quiet, rests_open, written_none, written_quiet}
+use Rattle.hls_serve.proofs.SessionLaws.{counts_own, ends_itself, read_none, read_quiet, rests_open, written_none, written_quiet}
 use Rattle.hls_serve.proofs.TalkLaws.{suited_same, total_same}
 use Rattle.hls_serve.proofs.session.turn.Goals as goal
 
@@ -55,24 +55,24 @@ returns-then-not-is_empty-clause-written g c =
 
 -- ---- all is over
 
-pub returns-in-Over-clause-ends : goal.returns-in-Over-clause-ends
-returns-in-Over-clause-ends g c =
+pub returns-in-Some-clause-ends : goal.returns-in-Some-clause-ends
+returns-in-Some-clause-ends g c =
     let m = c.advance.new.self.machine in
-    subst (λ (e : SessionEnd). EndsIn (Some e) m) (sym c.end.ensures) (ends_itself m c.in-Over.end c.in-Over.is (eqb-true (length m.output) 0 (sym c.if-not-is_empty.ensures)))
+    subst (λ (e : SessionEnd). EndsIn (Some e) m) (sym c.end.ensures) (ends_itself m c.in-Some.end c.in-Some.ensures.over (eqb-true (length m.output) 0 (sym c.if-not-is_empty.ensures)))
 
-pub returns-in-Over-clause-reads : goal.returns-in-Over-clause-reads
-returns-in-Over-clause-reads g c =
+pub returns-in-Some-clause-reads : goal.returns-in-Some-clause-reads
+returns-in-Some-clause-reads g c =
     read_none c.args.talk.now c.advance.new.self (g.R.Read.remaining (reader_of c.args.session.now.source)) c.advance.ensures.quiet.came c.advance.ensures.quiet.ended
 
-pub returns-in-Over-clause-written : goal.returns-in-Over-clause-written
-returns-in-Over-clause-written g c =
+pub returns-in-Some-clause-written : goal.returns-in-Some-clause-written
+returns-in-Some-clause-written g c =
     written_none c.args.talk.now c.advance.new.self (g.W.Write.contents (inside_of c.args.session.now.writer)) _ c.advance.ensures.quiet.gone
 
-pub returns-in-Over-clause-counts : goal.returns-in-Over-clause-counts
-returns-in-Over-clause-counts g c =
+pub returns-in-Some-clause-counts : goal.returns-in-Some-clause-counts
+returns-in-Some-clause-counts g c =
     let old = c.args.session.now in
     subst (λ (e : SessionEnd). CountsSession e (read_failures old.source) (read_failures old.source) (failures_of old.writer) (failures_of old.writer)) (sym c.end.ensures)
-    (counts_own c.in-Over.end (read_failures old.source) (failures_of old.writer))
+    (counts_own c.in-Some.end (read_failures old.source) (failures_of old.writer))
 
 -- ---- more is read
 
@@ -80,7 +80,7 @@ pub take_more-requires : goal.take_more-requires
 take_more-requires g c =
     let n = c.advance.new.self in
     let empty = eqb-true (length n.machine.output) 0 (sym c.if-not-is_empty.ensures) in
-    let going = goes_on n.machine.state c.in_default.not-Over in
+    let going = c.in_default.ensures.goes_on in
     let rests = rests_open n.ended n.machine c.advance.new.input.unread empty going (c.advance.ensures.rests c.if-advance.false) in
     record { few = omega (arith, rests.1); sent = empty; unended = rests.0; goes_on = going }
 

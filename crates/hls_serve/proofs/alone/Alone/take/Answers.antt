@@ -1,6 +1,6 @@
 use Rattle.std.proofs.Common.{inl, refl, subst}
 use Rattle.hls_core_laws.specs.State.{State}
-use Rattle.hls_core_laws.specs.Outcome.{Refused}
+use Rattle.hls_core_laws.specs.Outcome.{Refused, Repeated}
 use Rattle.hls_core_laws.specs.Moves.{Moves}
 use Rattle.hls_serve.proofs.alone.Alone.take.Goals as goal
 
@@ -21,4 +21,15 @@ returns-in-Err-clause-met c = record {
   outcome = Refused c.in-Err.refusal;
   between = refl;
   moves = subst (λ (s : State). Moves s c.args.self.now.number c.args.event (Refused c.in-Err.refusal) s) c.deref-2.ensures c.in-Err.ensures;
+}
+
+pub returns-in-Ok-Repeat-clause-submits : goal.returns-in-Ok-Repeat-clause-submits
+returns-in-Ok-Repeat-clause-submits c = record {
+  number = refl;
+  met = c.args.self.now.snapshot.value;
+  outcome = Repeated;
+  follows = inl refl;
+  entries = refl;
+  moves = subst (λ (s : State). Moves s c.args.self.now.number c.args.event Repeated s) c.deref-2.ensures (rw c.in-Ok-Repeat.field-0-is at c.in-Ok-Repeat.ensures);
+  answers = (refl, refl);
 }

@@ -37,3 +37,10 @@ returns-else-size-self-clause-drops c = λ count stream first x.
 pub returns-in-Err-Bad-clause-drops : goal.returns-in-Err-Bad-clause-drops
 returns-in-Err-Bad-clause-drops c = λ count stream first x.
     drop_broken x (rw (c.in-Err-Bad.field-0-is, c.unread.ensures.unread) at c.in-Err-Bad.ensures)
+
+pub returns-in-Err-Wait-clause-waits : goal.returns-in-Err-Wait-clause-waits
+returns-in-Err-Wait-clause-waits c = λ is. (rw (c.in-Err-Wait.field-0-is, c.unread.ensures.unread) at c.in-Err-Wait.ensures).0
+
+pub returns-in-Err-Wait-clause-drops : goal.returns-in-Err-Wait-clause-drops
+returns-in-Err-Wait-clause-drops c = λ count stream first x.
+    let w = rw (c.in-Err-Wait.field-0-is, c.unread.ensures.unread) at c.in-Err-Wait.ensures in (x, w.0, w.1)

@@ -1,25 +1,20 @@
-use Rattle.std.proofs.Common.{Bool, inr, rules, subst, sym, []}
-use Rattle.hls_serve.specs.declared.ending.Ending.TheVariants as own
-use Rattle.hls_serve.specs.declared.machine.State.TheVariants as states
-use Rattle.hls_serve.specs.Machine.{Holds, asked_in, history_by}
-use Rattle.hls_serve.proofs.HoldLaws.{body_replied, drop_cut, holds_at, stands_so, suits_behind}
+use Rattle.std.proofs.Common.{inr, rules, subst, sym, []}
+use Rattle.hls_serve.specs.declared.machine.State.{State}
+use Rattle.hls_serve.specs.Machine.{SuitsIn}
+use Rattle.hls_serve.proofs.HoldLaws.{body_replied, drop_cut, holds_at, stands_so}
 use Rattle.hls_serve.proofs.PassLaws.{valid_acted}
 use Rattle.hls_serve.proofs.machine.Machine.drop_on.Goals as goal
 
 pub returns-in-More-clause-goes : goal.returns-in-More-clause-goes
-returns-in-More-clause-goes g c = λ received sent h. stands_so (states.Drop c.step.new.self) h (c.in-More.ensures.drops c.args.self.now.renditions h.rest h.text h.stands.0, h.stands.1)
+returns-in-More-clause-goes g c = λ received sent h. stands_so c.put.ensures h (c.in-More.ensures.drops c.args.self.now.renditions h.rest h.text h.stands.0, h.stands.1)
 
 pub returns-then-ended-clause-goes : goal.returns-then-ended-clause-goes
 returns-then-ended-clause-goes g c = λ received sent h.
-    let m = c.args.self.now in
-    let yes = c.if-ended.true in
-    let at = subst (λ (e : Bool). Holds m.renditions (states.Drop c.args.dropping) (history_by received e c.args.input.now.unread (asked_in m) sent m.output)) yes h in
-    subst (λ (e : Bool). Holds m.renditions (states.Over own.CutShort) (history_by received e c.step.new.input.unread (asked_in m) sent m.output)) (sym yes)
-    (let w = c.in-Wait.ensures.drops m.renditions at.rest at.text at.stands.0 in drop_cut at w.0 w.2)
+    let w = c.in-Wait.ensures.drops c.args.self.now.renditions h.rest h.text h.stands.0 in drop_cut c.put-then-ended.ensures c.if-ended.true h w.0 w.2
 
 pub returns-else-ended-clause-goes : goal.returns-else-ended-clause-goes
 returns-else-ended-clause-goes g c = λ received sent h.
-    stands_so (states.Drop c.step.new.self) h ((c.in-Wait.ensures.drops c.args.self.now.renditions h.rest h.text h.stands.0).0, h.stands.1)
+    stands_so c.put-in-Wait.ensures h ((c.in-Wait.ensures.drops c.args.self.now.renditions h.rest h.text h.stands.0).0, h.stands.1)
 
 pub returns-else-ended-clause-rests : goal.returns-else-ended-clause-rests
 returns-else-ended-clause-rests g c = λ stops. inr (inr (search rules, c.step.ensures.waits c.in-Wait.is))
@@ -36,14 +31,15 @@ returns-in-Now-clause-goes g c = λ received sent h.
 pub returns-in-Now-clause-suits : goal.returns-in-Now-clause-suits
 returns-in-Now-clause-suits g c =
     let b = g.K.Keeper.known c.answer_dropped.new.keeper in
-    (valid_acted (g.K.Keeper.known c.args.keeper.now) b [] _ c.answer_dropped.ensures.leads c.requires.valid, suits_behind b _ c.close.new.self.state c.close.ensures.state)
+    (valid_acted (g.K.Keeper.known c.args.keeper.now) b [] _ c.answer_dropped.ensures.leads c.requires.valid, c.close.ensures.usable b)
 
 pub returns-in-Later-clause-goes : goal.returns-in-Later-clause-goes
 returns-in-Later-clause-goes g c = λ received sent h.
     let n = c.args.self.now.renditions in
-    stands_so (states.Make (record { dropping = c.step.new.self; acts = c.answer_dropped.new.acts; answer = c.in-Later.answer })) h
+    stands_so c.put-in-Later.ensures h
     (c.in-Later.ensures.answers n h.rest h.text c.step.new.input.unread (c.in-Over.ensures.drops n h.rest h.text h.stands.0), h.stands.1)
 
 pub returns-in-Later-clause-suits : goal.returns-in-Later-clause-suits
 returns-in-Later-clause-suits g c =
-    (valid_acted (g.K.Keeper.known c.args.keeper.now) (g.K.Keeper.known c.answer_dropped.new.keeper) [] _ c.answer_dropped.ensures.leads c.requires.valid, tt)
+    let b = g.K.Keeper.known c.answer_dropped.new.keeper in
+    (valid_acted (g.K.Keeper.known c.args.keeper.now) b [] _ c.answer_dropped.ensures.leads c.requires.valid, subst (λ (s : State). SuitsIn b s) (sym c.put-in-Later.ensures) tt)

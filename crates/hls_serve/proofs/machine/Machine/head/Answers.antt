@@ -1,11 +1,10 @@
-use Rattle.std.proofs.Common.{◌∙◌, inl, inr, List, ℕ, sym, ap, subst}
-use Rattle.hls_http_laws.specs.declared.fault.HttpFault.TheVariants as http
+use Rattle.std.proofs.Common.{◌==◌, ◌∙◌, inl, inr, List, ℕ, length, sym, ap, subst}
 use Rattle.hls_http_laws.specs.Heads.{ReadsSmall}
 use Rattle.hls_http.specs.Heads.{IsHead}
 use Rattle.hls_http.specs.Texts.{Texts}
 use Rattle.hls_serve.specs.declared.machine.State.{State}
 use Rattle.hls_serve.specs.Machine.{Holds, asked_in, history_by}
-use Rattle.hls_serve.proofs.HoldLaws.{head_found, head_refuses}
+use Rattle.hls_serve.proofs.HoldLaws.{head_found, head_waits}
 use Rattle.hls_serve.proofs.machine.Machine.head.Goals as goal
 
 pub returns-in-Ok-clause-goes : goal.returns-in-Ok-clause-goes
@@ -22,16 +21,26 @@ returns-in-Ok-clause-goes g c = λ received sent h.
     (head_found m.renditions received sent c.args.ended (asked_in m) m.output unread c.take.new.self.unread c.read_call-call.result found.1.tree c.requires.sent at reads call)
 
 pub returns-in-Err-Hopeless-clause-goes : goal.returns-in-Err-Hopeless-clause-goes
-returns-in-Err-Hopeless-clause-goes g c = λ received sent h.
+returns-in-Err-Hopeless-clause-goes g c =
     let never = rw (c.in-Err-Hopeless.field-0-is, c.unread.ensures.unread) at c.in-Err-Hopeless.ensures in
-    let n = c.answer.ensures in
-    head_refuses c.args.self.now c.answer.new.self received sent c.args.ended c.refuse_head-made.result.output c.args.input.now.unread c.refuse_head-made.result.end http.BadHead
-    c.requires.head c.requires.sent n.renditions n.state n.asked n.output (λ due is. inl (never, is)) c.refuse_head-made.ensures h
+    c.refuse.ensures.goes c.args.ended c.args.input.now.unread (λ due is. inl (never, is))
 
 pub returns-in-Err-TooLarge-clause-goes : goal.returns-in-Err-TooLarge-clause-goes
-returns-in-Err-TooLarge-clause-goes g c = λ received sent h.
+returns-in-Err-TooLarge-clause-goes g c =
     let large = rw (c.in-Err-TooLarge.field-0-is, c.unread.ensures.unread) at c.in-Err-TooLarge.ensures in
-    let n = c.answer-in-Err-TooLarge.ensures in
-    head_refuses c.args.self.now c.answer-in-Err-TooLarge.new.self received sent c.args.ended c.refuse_head-made-in-Err-TooLarge.result.output c.args.input.now.unread
-    c.refuse_head-made-in-Err-TooLarge.result.end http.HeadTooLarge c.requires.head c.requires.sent n.renditions n.state n.asked n.output (λ due is. inr (large, is))
-    c.refuse_head-made-in-Err-TooLarge.ensures h
+    c.refuse-in-Err-TooLarge.ensures.goes c.args.ended c.args.input.now.unread (λ due is. inr (large, is))
+
+pub returns-in-Err-Partial-clause-goes : goal.returns-in-Err-Partial-clause-goes
+returns-in-Err-Partial-clause-goes g c = λ received sent h.
+    let n = c.wait_head.ensures in
+    let seen = c.unread-in-Err-Partial.ensures.unread in
+    let empty = c.is_empty-empty.ensures ∙ ap (λ (t : List ℕ). length t == 0) seen in
+    let unfinished = rw (c.in-Err-Partial.field-0-is, c.unread.ensures.unread) at c.in-Err-Partial.ensures in
+    head_waits c.args.self.now c.wait_head.new.self received sent c.args.ended c.is_empty-empty.result c.args.input.now.unread c.requires.head n.renditions n.state n.asked n.output
+    empty unfinished h
+
+pub returns-in-Err-Hopeless-clause-usable : goal.returns-in-Err-Hopeless-clause-usable
+returns-in-Err-Hopeless-clause-usable g c = λ known valid. c.refuse.ensures.usable known
+
+pub returns-in-Err-TooLarge-clause-usable : goal.returns-in-Err-TooLarge-clause-usable
+returns-in-Err-TooLarge-clause-usable g c = λ known valid. c.refuse-in-Err-TooLarge.ensures.usable known

@@ -1,5 +1,4 @@
 use Rattle.std.proofs.Common.{Ok, Err, refl}
-use Rattle.hls_serve.specs.declared.machine.State.TheVariants as states
 use Rattle.hls_serve.proofs.AnswerLaws.{making_goes, making_replied}
 use Rattle.hls_serve.proofs.HoldLaws.{body_replied, holds_at, stands_so}
 use Rattle.hls_serve.proofs.machine.Machine.make_on.Goals as goal
@@ -13,8 +12,7 @@ returns-then-is_made-clause-goes g c = λ ended unread received sent h.
 
 pub returns-in-Ok-clause-goes : goal.returns-in-Ok-clause-goes
 returns-in-Ok-clause-goes g c = λ ended unread received sent h.
-    stands_so (states.Make (record { dropping = c.args.making.dropping; acts = c.args.making.acts; answer = c.in-Ok.answer })) h
-    (making_goes h.stands.0 c.in-Ok.answer c.in-Ok.ensures, h.stands.1)
+    stands_so c.put.ensures h (making_goes h.stands.0 c.in-Ok.answer c.in-Ok.ensures, h.stands.1)
 
 pub returns-in-Err-clause-goes : goal.returns-in-Err-clause-goes
 returns-in-Err-clause-goes g c = λ ended unread received sent h.
