@@ -3,3 +3,4 @@ mod Good
 mod Whole
 mod Singles
 mod ListTexts
+mod ListedPlans

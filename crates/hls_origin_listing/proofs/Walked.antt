@@ -1,5 +1,5 @@
 -- Places one after another, as a walk meets them.
-use Rattle.std.proofs.Common.{◌≡◌, ℕ, zero, suc, ◌+◌, ◌-◌, ◌<◌, Bool, false, List, [], ◌∷◌, length, drop, refl, sym, ap, ◌∙◌, arith, inl, inr, subst, add-one, ◌++◌, append_assoc, append-nil}
+use Rattle.std.proofs.Common.{◌≡◌, ℕ, zero, suc, ◌+◌, ◌<◌, Bool, false, List, [], ◌∷◌, length, drop, refl, sym, ap, ◌∙◌, arith, inl, inr, subst, add-one, ◌++◌, append_assoc, append-nil}
 use Rattle.std.specs.List.{range_with_len}
 use Rattle.std.specs.Prelude.{All}
 use Rattle.std.proofs.lemmas.Bool.{cases_lt}
@@ -46,17 +46,13 @@ pub along_each : (cut : Cutting) (first : List Spot) (rest : List (List Spot)) �
     along cut false first rest ≡ segments_of cut (first ∷ rest) (each_place (first ∷ rest))
 along_each cut first rest = along_from cut (first ∷ rest) 0 false rest refl
 
--- what a list has from its first number on, which is 0
-pub from_first : (items walk : List Place) (first : ℕ) → walk ≡ drop (0 - first) items → first ≡ 0 → walk ≡ items
-from_first items walk first is zero_is = is ∙ ap (λ (n : ℕ). drop (0 - n) items) zero_is
-
 -- a walk's first place has one spot, and so have the others
-pub ones_of : (items : List Place) (first : Place) (rest walk : List Place) → items ≡ first ∷ rest → walk ≡ rest →
-    All (IsPlaceOf 1) (spots_of items) → IsPlaceOf 1 first.spots × All (IsPlaceOf 1) (spots_of walk)
-ones_of items first rest walk is same ones =
+pub ones_of : (items : List Place) (first : Place) (rest : List Place) → items ≡ first ∷ rest →
+    All (IsPlaceOf 1) (spots_of items) → IsPlaceOf 1 first.spots × All (IsPlaceOf 1) (spots_of rest)
+ones_of items first rest is ones =
     let split : All (IsPlaceOf 1) (first.spots ∷ spots_of rest) = subst (λ (ps : List Place). All (IsPlaceOf 1) (spots_of ps)) is ones in (
       All-head (IsPlaceOf 1) first.spots (spots_of rest) split,
-      subst (λ (ps : List Place). All (IsPlaceOf 1) (spots_of ps)) (sym same) (All-tail (IsPlaceOf 1) first.spots (spots_of rest) split),
+      All-tail (IsPlaceOf 1) first.spots (spots_of rest) split,
     )
 
 -- one segment more
@@ -71,13 +67,12 @@ one_more cut made more mark next from walk to rest segment whole is pushed here 
     ∙ ap (λ (ps : List Place). made ++ along cut mark from (spots_of ps)) (sym is) ∙ before
 
 -- all segments
-pub all_made : (cut : Cutting) (items : List Place) (first : Place) (rest walk left : List Place) (made : List Segment) (mark : Bool) (from : List Spot) →
-    items ≡ first ∷ rest → walk ≡ rest → left ≡ [] →
-    made ++ along cut mark from (spots_of left) ≡ along cut false first.spots (spots_of walk) →
+pub all_made : (cut : Cutting) (items : List Place) (first : Place) (rest left : List Place) (made : List Segment) (mark : Bool) (from : List Spot) →
+    items ≡ first ∷ rest → left ≡ [] →
+    made ++ along cut mark from (spots_of left) ≡ along cut false first.spots (spots_of rest) →
     made ≡ segments_of cut (spots_of items) (each_place (spots_of items))
-all_made cut items first rest walk left made mark from is same over done =
+all_made cut items first rest left made mark from is over done =
     sym (append-nil made) ∙ ap (λ (ps : List Place). made ++ along cut mark from (spots_of ps)) (sym over) ∙ done
-    ∙ ap (λ (ps : List Place). along cut false first.spots (spots_of ps)) same
     ∙ along_each cut first.spots (spots_of rest)
     ∙ ap (λ (ps : List Place). segments_of cut (spots_of ps) (each_place (spots_of ps))) (sym is)
 

@@ -15,3 +15,4 @@ mod segments;
 mod steps;
 mod table;
 mod text;
+mod walk;

@@ -1,6 +1,6 @@
 //! `cut --preferred`: the playlist of a least plan, or its certificate.
 
-ghost use Rattle.std.specs.Prelude.{◌≡◌, ◌≤◌, length, IfOk};
+ghost use Rattle.std.specs.Prelude.{◌≡◌, ◌≤◌, length, Ok, IfOk};
 ghost use Rattle.hls_m3u8.specs.Uri.{IsUri};
 ghost use Rattle.hls_record.specs.Valid.{IsRecorded};
 ghost use Rattle.hls_check_laws.specs.Tables.{IsGoal, IsTable, table_of};
@@ -92,6 +92,30 @@ fn certified(alloc: Global, table: PlaceTable, planned: Planned) -> Result<Liste
     }
 }
 
+/// What a least plan of a table gives: its playlist, or its certificate.
+fn planned(
+    alloc: Global,
+    recording: &Recording,
+    epoch: Option<i64>,
+    uri: &str,
+    table: PlaceTable,
+    certificate: bool,
+) -> Result<Listed, AllocError>
+    requires epoch { IsEpoch epoch }
+    requires recorded { IsRecorded recording.now }
+    requires table { IsTable table }
+    requires uri { IsUri uri.now }
+    requires ever { end_fragment table 0 ≤ length recording.now.facts }
+    ensures { IfOk result (λ listed. ListsPlanned certificate table epoch recording.now uri.now (Ok listed)) }
+{
+    let planned = plan(alloc, &table)?;
+    if certificate {
+        certified(alloc, table, planned)
+    } else {
+        played(alloc, recording, epoch, uri, &table, &planned)
+    }
+}
+
 /// What a least plan of all places gives, of which there are at least two: its playlist, or its certificate.
 pub fn list_planned(
     alloc: Global,
@@ -114,10 +138,5 @@ pub fn list_planned(
         return Err(ListFault::ProgrammeTooLong);
     }
     let table = whole_table(alloc, goal, places)?;
-    let planned = plan(alloc, &table)?;
-    if certificate {
-        Ok(certified(alloc, table, planned)?)
-    } else {
-        Ok(played(alloc, recording, epoch, uri, &table, &planned)?)
-    }
+    Ok(planned(alloc, recording, epoch, uri, table, certificate)?)
 }

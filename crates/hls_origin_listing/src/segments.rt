@@ -6,6 +6,7 @@ ghost use Rattle.hls_places_laws.specs.Order.{spots_of};
 ghost use Rattle.hls_core_laws.specs.Config.{IsEpoch};
 ghost use Rattle.hls_origin_listing.specs.Each.{each_segment};
 
+use crate::walk::{next_place, walk_of};
 use bytes::ByteStr;
 use hls_blocks::Shared;
 use hls_catchup::{is_break, segment_between};
@@ -29,13 +30,13 @@ pub fn each_segment(
     ensures { IfOk result (λ v. v.items ≡ each_segment epoch recording.now uri.now (spots_of places.now.items)) }
 {
     let mut segments = Vec::new(alloc);
-    let mut walk = places.iter_from(0);
-    let Some(first) = walk.next() else {
+    let mut walk = walk_of(places);
+    let Some(first) = next_place(&mut walk) else {
         return Ok(segments);
     };
     let mut from = first;
     let mut mark = false;
-    for to in walk {
+    while let Some(to) = next_place(&mut walk) {
         segments.push(segment_between(
             recording,
             epoch,

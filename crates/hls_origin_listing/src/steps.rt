@@ -5,6 +5,7 @@ ghost use Rattle.hls_blocks.specs.Numbered.{list_limit};
 ghost use Rattle.hls_places_laws.specs.Order.{spots_of};
 ghost use Rattle.hls_origin_listing.specs.Each.{AllReach, IsFirstRefused};
 
+use crate::walk::{next_place, walk_of};
 use hls_blocks::Shared;
 use hls_places::{Place, pair_allowed};
 
@@ -14,13 +15,13 @@ pub fn first_refused(target: u64, places: &Shared<Place>) -> Option<usize>
     requires few { length places.now.items ≤ list_limit }
     ensures { MatchOption result (AllReach target (spots_of places.now.items)) (IsFirstRefused target (spots_of places.now.items)) }
 {
-    let mut walk = places.iter_from(0);
-    let Some(first) = walk.next() else {
+    let mut walk = walk_of(places);
+    let Some(first) = next_place(&mut walk) else {
         return None;
     };
     let mut from = first;
     let mut place = 0;
-    for to in walk {
+    while let Some(to) = next_place(&mut walk) {
         if !pair_allowed(target, from, to) {
             return Some(place);
         }

@@ -4,6 +4,7 @@ ghost use Rattle.std.specs.Prelude.{◌≡◌, ◌≤◌, length, IfOk};
 ghost use Rattle.hls_check_laws.specs.Tables.{IsGoal, IsTable, table_of, place_limit};
 ghost use Rattle.hls_places_laws.specs.Order.{spots_of, renditions_in, ArePlaces};
 
+use crate::walk::{next_place, walk_of};
 use hls_blocks::Shared;
 use hls_check_laws::{Goal, PlaceTable, PrintedTable};
 use hls_places::Place;
@@ -24,7 +25,8 @@ pub fn whole_table(
     ensures valid { IfOk result IsTable }
 {
     let mut spots = Vec::new(alloc);
-    for place in places.iter_from(0) {
+    let mut walk = walk_of(places);
+    while let Some(place) = next_place(&mut walk) {
         spots.push(place.spots.share()?)?;
     }
     Ok(PlaceTable::new(PrintedTable::new(goal, 1, spots)))

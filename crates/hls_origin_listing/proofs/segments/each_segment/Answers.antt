@@ -1,15 +1,13 @@
-use Rattle.std.proofs.Common.{◌≡◌, refl, sym, ◌∙◌, ap}
+use Rattle.std.proofs.Common.{refl, sym, ◌∙◌, ap}
 use Rattle.hls_catchup.specs.Lists.{cutting}
 use Rattle.hls_lists_laws.specs.Segments.{segment_between}
-use Rattle.hls_origin_listing.proofs.Walked.{from_first, ones_of, one_more, all_made}
+use Rattle.hls_origin_listing.proofs.Walked.{ones_of, one_more, all_made}
 use Rattle.hls_origin_listing.proofs.segments.each_segment.Goals as goal
 
 pub loop-to-init : goal.loop-to-init
 loop-to-init c =
-    let items : c.iter_from-walk.result ≡ c.args.places.now.items =
-    from_first c.args.places.now.items c.iter_from-walk.result c.args.places.now.first c.iter_from-walk.ensures.rest c.requires.first in
-    let ones = ones_of c.args.places.now.items c.in-Some.first.now c.next.new.self c.into_iter-to-iterator.result
-    (sym items ∙ c.in-Some.ensures.steps) c.into_iter-to-iterator.ensures.into_iter_gives c.requires.single in
+    let ones = ones_of c.args.places.now.items c.in-Some.first.now c.next_place.new.walk
+    (sym c.walk_of-walk.ensures ∙ c.in-Some.ensures) c.requires.single in
     record {
       one = ones.0;
       ones = ones.1;
@@ -18,21 +16,19 @@ loop-to-init c =
 
 pub loop-to-preserved : goal.loop-to-preserved
 loop-to-preserved c =
-    let ones = ones_of c.loop-to.to-iterator c.in-Some-to.to.now c.next-in-loop-to.new.self c.next-in-loop-to.new.self
-    c.in-Some-to.ensures.steps refl c.loop-to.invariant.ones in
-    let made = c.segment_between.ensures ∙ ap (λ u. segment_between (cutting c.args.epoch c.args.recording.now 0 u 0) c.loop-to.mark c.loop-to.from.now.spots c.in-Some-to.to.now.spots) c.in_ok-clone.ensures.cases in
+    let ones = ones_of c.loop-to.walk c.in-Some-next_place.to.now c.next_place-in-loop-to.new.walk
+    c.in-Some-next_place.ensures c.loop-to.invariant.ones in
+    let made = c.segment_between.ensures ∙ ap (λ u. segment_between (cutting c.args.epoch c.args.recording.now 0 u 0) c.loop-to.mark c.loop-to.from.now.spots c.in-Some-next_place.to.now.spots) c.in_ok-clone.ensures.cases in
     record {
       one = ones.0;
       ones = ones.1;
       done = one_more (cutting c.args.epoch c.args.recording.now 0 c.args.uri.now 0) c.loop-to.segments.items c.push.new.self.items c.loop-to.mark c.is_break-mark.result
-          c.loop-to.from.now.spots c.loop-to.to-iterator c.in-Some-to.to.now c.next-in-loop-to.new.self c.segment_between.result _
-          c.in-Some-to.ensures.steps c.in_ok-push.ensures.items made c.is_break-mark.ensures c.loop-to.invariant.done;
+          c.loop-to.from.now.spots c.loop-to.walk c.in-Some-next_place.to.now c.next_place-in-loop-to.new.walk c.segment_between.result _
+          c.in-Some-next_place.ensures c.in_ok-push.ensures.items made c.is_break-mark.ensures c.loop-to.invariant.done;
     }
 
 pub returns : goal.returns
 returns c =
-    let items : c.iter_from-walk.result ≡ c.args.places.now.items =
-    from_first c.args.places.now.items c.iter_from-walk.result c.args.places.now.first c.iter_from-walk.ensures.rest c.requires.first in
-    all_made (cutting c.args.epoch c.args.recording.now 0 c.args.uri.now 0) c.args.places.now.items c.in-Some.first.now c.next.new.self c.into_iter-to-iterator.result
-    c.loop-to.to-iterator c.loop-to.segments.items c.loop-to.mark c.loop-to.from.now.spots
-    (sym items ∙ c.in-Some.ensures.steps) c.into_iter-to-iterator.ensures.into_iter_gives c.in-None.ensures.steps.0 c.loop-to.invariant.done
+    all_made (cutting c.args.epoch c.args.recording.now 0 c.args.uri.now 0) c.args.places.now.items c.in-Some.first.now c.next_place.new.walk
+    c.loop-to.walk c.loop-to.segments.items c.loop-to.mark c.loop-to.from.now.spots
+    (sym c.walk_of-walk.ensures ∙ c.in-Some.ensures) c.in_default-next_place.ensures.0 c.loop-to.invariant.done

@@ -1,4 +1,4 @@
-use Rattle.std.proofs.Common.{◌≡◌, ◌++◌, All, false}
+use Rattle.std.proofs.Common.{◌≡◌, ◌++◌, All, false, length}
 use Rattle.hls_check_laws.specs.Tables.{IsPlaceOf}
 use Rattle.hls_places_laws.specs.Order.{spots_of}
 use Rattle.hls_catchup.specs.Lists.{cutting}
@@ -8,7 +8,10 @@ use Rattle.hls_origin_listing.proofs.segments.each_segment.Given as goal
 abbrev pub invariant-loop-to : goal.invariant-loop-to
 invariant-loop-to l = record {
   one : IsPlaceOf 1 l.from.spots;
-  ones : All (IsPlaceOf 1) (spots_of l.to-iterator);
-  done : l.segments.items ++ along (cutting l.epoch l.recording 0 l.uri 0) l.mark l.from.spots (spots_of l.to-iterator)
-      ≡ along (cutting l.epoch l.recording 0 l.uri 0) false l.initial.from.spots (spots_of l.initial.to-iterator);
+  ones : All (IsPlaceOf 1) (spots_of l.walk);
+  done : l.segments.items ++ along (cutting l.epoch l.recording 0 l.uri 0) l.mark l.from.spots (spots_of l.walk)
+      ≡ along (cutting l.epoch l.recording 0 l.uri 0) false l.initial.from.spots (spots_of l.initial.walk);
 }
+
+abbrev pub decreases-loop-to : goal.decreases-loop-to
+decreases-loop-to l = length l.walk

@@ -12,9 +12,9 @@ overflow_add-place c = omega (arith, c.loop-to.invariant.count, c.requires.few)
 
 pub loop-to-preserved : goal.loop-to-preserved
 loop-to-preserved c =
-    let next = next_place c.args.places.now.items c.loop-to.to-iterator c.next-in-loop-to.new.self c.loop-to.place c.in-Some-to.to.now
-    c.loop-to.invariant.left c.in-Some-to.ensures.steps in
-    let long : length c.loop-to.to-iterator ≡ length (c.in-Some-to.to.now ∷ c.next-in-loop-to.new.self) = ap length c.in-Some-to.ensures.steps in
+    let next = next_place c.args.places.now.items c.loop-to.walk c.next_place-in-loop-to.new.walk c.loop-to.place c.in-Some-next_place.to.now
+    c.loop-to.invariant.left c.in-Some-next_place.ensures in
+    let long : length c.loop-to.walk ≡ length (c.in-Some-next_place.to.now ∷ c.next_place-in-loop-to.new.walk) = ap length c.in-Some-next_place.ensures in
     let places = spots_of c.args.places.now.items in
     let step = subst (λ (p : List Spot). IsPlaceStep c.args.target p (place_at places (c.loop-to.place + 1))) (sym c.loop-to.invariant.here)
     (subst (λ (q : List Spot). IsPlaceStep c.args.target c.loop-to.from.now.spots q) (sym next.0) (c.pair_allowed.ensures.0 c.if-not-pair_allowed.false)) in
@@ -28,5 +28,5 @@ loop-to-preserved c =
 pub returns : goal.returns
 returns c = λ i within.
     let count = length_spots c.args.places.now.items in
-    let over : length c.loop-to.to-iterator ≡ 0 = ap length c.in-None.ensures.steps.0 in
+    let over : length c.loop-to.walk ≡ 0 = ap length c.in_default-next_place.ensures.0 in
     c.loop-to.invariant.before i (omega (arith, count, over, within, c.loop-to.invariant.count))

@@ -10,7 +10,7 @@ pub new-requires-2 : goal.new-requires-2
 new-requires-2 c =
     let made : c.loop-place.spots.items ≡ spots_of c.args.places.now.items =
     sym (append-nil c.loop-place.spots.items)
-    ∙ ap (λ (ps : List Place). c.loop-place.spots.items ++ spots_of ps) (sym c.in-None.ensures.steps.0) ∙ c.loop-place.invariant in
+    ∙ ap (λ (ps : List Place). c.loop-place.spots.items ++ spots_of ps) (sym c.in_default.ensures.0) ∙ c.loop-place.invariant in
     let table : c.new.result ≡ table_of c.args.goal 1 (spots_of c.args.places.now.items) =
     c.new.ensures ∙ ap (table_of c.args.goal 1) made in
     subst IsOrderly (sym table) (whole_is_orderly c.args.goal c.args.places.now.items c.requires.places c.requires.single)
