@@ -4,7 +4,7 @@ ghost use Rattle.std.specs.Prelude.{◌≡◌, nat_lt};
 ghost use Rattle.hls_house.specs.Uneven.{is_in, left_out, missing};
 
 /// The units of rendition 0 from one on and below another, by their numbers.
-#[derive(Clone, Copy, Debug, Default, Drop)]
+#[derive(Clone, Copy, Default, Drop)]
 pub struct Span {
     pub from: u64,
     pub to: u64,
@@ -17,21 +17,38 @@ const FEW: usize = 5;
 pub fn missing(units: &[u64], places: &[u64]) -> usize
     ensures { result ≡ missing places.now units.now }
 {
-    units.iter().filter(|unit| !places.contains(*unit)).count()
+    let mut count = 0;
+    for unit in units {
+        if !places.contains(unit) {
+            count += 1;
+        }
+    }
+    count
 }
 
 /// Whether a unit lies in one of the spans.
 fn is_in(unit: u64, spans: &[Span]) -> bool
     ensures { result ≡ is_in spans.now unit }
 {
-    spans.iter().any(|span| span.from <= unit && unit < span.to)
+    for span in spans {
+        if span.from <= unit && unit < span.to {
+            return true;
+        }
+    }
+    false
 }
 
 /// How many of these units lie in none of the spans.
 pub fn left_out(units: &[u64], spans: &[Span]) -> usize
     ensures { result ≡ left_out spans.now units.now }
 {
-    units.iter().filter(|unit| !is_in(**unit, spans)).count()
+    let mut count = 0;
+    for unit in units {
+        if !is_in(*unit, spans) {
+            count += 1;
+        }
+    }
+    count
 }
 
 /// Whether so many missing places are told: fewer than 95 of the last hundred became places.
