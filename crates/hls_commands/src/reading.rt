@@ -10,7 +10,7 @@ use std::alloc::Global;
 use std::io::Read;
 
 /// Why a stream wasn't read to its end.
-#[derive(Clone, Copy, Debug, PartialEq, Eq)]
+#[derive(Clone, Copy)]
 pub enum Unread {
     /// A read failed.
     ReadFailed,
