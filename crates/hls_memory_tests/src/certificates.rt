@@ -27,8 +27,9 @@ const PRICES: [Option<u64>; 5] = [
     Some(1_000_000),
 ];
 
-const TEXT: &str =
-    "HLS-CUT-CERTIFICATE 1\ntarget 6\npreferred 4000000\nrenditions 1\nplaces 5\n0 0 0 0 0\n1 3000000 3000000 0 0\n2 6000000 6000000 0 0\n3 7000000 7000000 0 0\n4 11000000 11000000 0 0\ncut 1000000\nplan 0 1 3 4\nprice 0 0\nprice 1 1000000\nprice 2 2000000\nprice 3 1000000\nprice 4 1000000\nend\n";
+fn text() -> &'static [u8] {
+    b"HLS-CUT-CERTIFICATE 1\ntarget 6\npreferred 4000000\nrenditions 1\nplaces 5\n0 0 0 0 0\n1 3000000 3000000 0 0\n2 6000000 6000000 0 0\n3 7000000 7000000 0 0\n4 11000000 11000000 0 0\ncut 1000000\nplan 0 1 3 4\nprice 0 0\nprice 1 1000000\nprice 2 2000000\nprice 3 1000000\nprice 4 1000000\nend\n"
+}
 
 /// What segments are to be like.
 const GOAL: Goal = Goal {
@@ -73,15 +74,25 @@ fn is_place(spots: &Spots, number: usize, seconds: u64) -> bool {
     }
 }
 
+fn are_places(places: &[Spots], times: &[u64]) -> bool {
+    if places.len() != times.len() {
+        return false;
+    }
+    for number in 0..times.len() {
+        if !is_place(&places[number], number, times[number]) {
+            return false;
+        }
+    }
+    true
+}
+
 /// Whether it's the table of these times.
 fn is_table(table: &PrintedTable, times: &[u64]) -> bool {
-    let places = table.places();
-    table.goal() == GOAL
-        && table.renditions() == 1
-        && places.len() == times.len()
-        && (0..).zip(places.iter().zip(times)).all(|(number, (place, seconds))| is_place(
-            place, number, *seconds,
-        ))
+    table.goal() == GOAL && table.renditions() == 1 && are_places(table.places(), times)
+}
+
+fn is_five(table: &PrintedTable) -> bool {
+    is_table(table, &TIMES)
 }
 
 fn is_least(planned: &Planned) -> bool {
@@ -100,106 +111,88 @@ fn is_none(planned: &Planned) -> bool {
     }
 }
 
+fn is_cut(verdict: Result<Verdict, CertFault>) -> bool {
+    verdict == Ok(Verdict::Cut { cost: 1_000_000 })
+}
+
 /// Whether it's the certificate of the text.
 fn is_read(certificate: &Certificate) -> bool {
-    is_table(certificate.table(), &TIMES)
-        && check(certificate) == Ok(Verdict::Cut { cost: 1_000_000 })
+    is_five(certificate.table()) && is_cut(check(certificate))
 }
 
-/// What takes memory over a table.
-#[derive(Clone, Copy, Debug)]
-enum Act {
-    Copy,
-    Print,
-    Plan,
-    PlanCounted,
+fn told_copied(alloc: Global, table: &PlaceTable) -> Told {
+    let told = match table.table().copied(alloc) {
+        Ok(copy) => Told::answer(is_five(&copy)),
+        Err(_) => Told::Wanted,
+    };
+    told.kept(is_five(table.table()))
 }
 
-const COPIES: [Act; 2] = [Act::Copy, Act::Print];
+fn told_printed(alloc: Global, table: &PlaceTable) -> Told {
+    let told = match table.printed(alloc) {
+        Ok(copy) => Told::answer(is_five(&copy)),
+        Err(_) => Told::Wanted,
+    };
+    told.kept(is_five(table.table()))
+}
 
-const PLANS: [Act; 2] = [Act::Plan, Act::PlanCounted];
+fn told_planned(alloc: Global, table: &PlaceTable) -> Told {
+    let told = match plan(alloc, table) {
+        Ok(planned) => Told::answer(is_least(&planned)),
+        Err(_) => Told::Wanted,
+    };
+    told.kept(is_five(table.table()))
+}
 
 fn told_counted(alloc: Global, table: &PlaceTable) -> Told {
     let mut ticks = Ticks::new();
-    match plan_counted(alloc, table, &mut ticks) {
-        Ok(planned) => Told::answer(is_least(&planned) && ticks.count() <= 10),
-        Err(_) => Told::wanted(ticks.count() <= 10),
-    }
-}
-
-fn told_by(alloc: Global, table: &PlaceTable, act: Act) -> Told {
-    match act {
-        Act::Copy => match table.table().copied(alloc) {
-            Ok(copy) => Told::answer(is_table(&copy, &TIMES)),
-            Err(_) => Told::Wanted,
-        },
-        Act::Print => match table.printed(alloc) {
-            Ok(copy) => Told::answer(is_table(&copy, &TIMES)),
-            Err(_) => Told::Wanted,
-        },
-        Act::Plan => match plan(alloc, table) {
-            Ok(planned) => Told::answer(is_least(&planned)),
-            Err(_) => Told::Wanted,
-        },
-        Act::PlanCounted => told_counted(alloc, table),
-    }
-}
-
-/// What is told of the five places, which stay as they were.
-fn told(alloc: Global, table: &PlaceTable, act: Act) -> Told {
-    let told = told_by(alloc, table, act);
-    if is_table(table.table(), &TIMES) {
-        told
-    } else {
-        Told::Astray
-    }
+    let told = match plan_counted(alloc, table, &mut ticks) {
+        Ok(planned) => Told::answer(is_least(&planned)),
+        Err(_) => Told::Wanted,
+    };
+    told.kept(ticks.count() <= 10).kept(is_five(table.table()))
 }
 
 #[test]
 fn ample_memory_copies_and_plans(rt: HostRuntime) {
     let alloc = rt.alloc();
     let table = table(alloc, &TIMES).expect(&rt, "a table");
-    for act in COPIES {
-        assert_eq!(rt; told(alloc, &table, act), Told::Ample, "{act:?}");
-    }
-    for act in PLANS {
-        assert_eq!(rt; told(alloc, &table, act), Told::Ample, "{act:?}");
-    }
+    assert!(rt; told_copied(alloc, &table).is_ample());
+    assert!(rt; told_printed(alloc, &table).is_ample());
+    assert!(rt; told_planned(alloc, &table).is_ample());
+    assert!(rt; told_counted(alloc, &table).is_ample());
 }
 
 #[test]
 fn refused_memory_copies_tables_once_more(rt: HostRuntime) {
     let alloc = rt.alloc();
     let table = table_at_last(alloc, &TIMES).expect(&rt, "a table");
-    for act in COPIES {
-        let first = told(alloc, &table, act);
-        assert!(rt; first.is_held(told(alloc, &table, act)));
-    }
+    assert!(rt; told_copied(alloc, &table).is_held(told_copied(alloc, &table)));
+    assert!(rt; told_printed(alloc, &table).is_held(told_printed(alloc, &table)));
 }
 
 #[test]
 fn refused_memory_plans_once_more(rt: HostRuntime) {
     let alloc = rt.alloc();
     let table = table_at_last(alloc, &TIMES).expect(&rt, "a table");
-    for act in PLANS {
-        let first = told(alloc, &table, act);
-        assert!(rt; first.is_held(told(alloc, &table, act)));
-    }
+    assert!(rt; told_planned(alloc, &table).is_held(told_planned(alloc, &table)));
+    assert!(rt; told_counted(alloc, &table).is_held(told_counted(alloc, &table)));
 }
 
 /// What is told of the two places, between which there is no plan.
 fn told_of_far(alloc: Global, table: &PlaceTable) -> Told {
-    match plan(alloc, table) {
-        Ok(planned) => Told::answer(is_none(&planned) && is_table(table.table(), &FAR)),
-        Err(_) => Told::wanted(is_table(table.table(), &FAR)),
-    }
+    let told = match plan(alloc, table) {
+        Ok(planned) => Told::answer(is_none(&planned)),
+        Err(_) => Told::Wanted,
+    };
+    told.kept(is_table(table.table(), &FAR))
 }
 
 #[test]
 fn ample_memory_finds_no_plan(rt: HostRuntime) {
     let alloc = rt.alloc();
     let table = table(alloc, &FAR).expect(&rt, "a table");
-    assert_eq!(rt; told_of_far(alloc, &table), Told::Ample);
+    assert!(rt; told_of_far(alloc, &table).is_ample());
 }
 
 #[test]
@@ -212,16 +205,21 @@ fn refused_memory_is_no_closed_set(rt: HostRuntime) {
 
 /// What is told of the text: that it is the certificate.
 fn told_of_text(alloc: Global) -> Told {
-    match read(alloc, TEXT.as_bytes()) {
+    match read(alloc, text()) {
         Ok(certificate) => Told::answer(is_read(&certificate)),
         Err(CertFault::Memory) => Told::Wanted,
         Err(_) => Told::Astray,
     }
 }
 
+/// The text without the end of its last line.
+fn wrong_text() -> &'static [u8] {
+    text().strip_suffix(b"\n").unwrap_or(b"")
+}
+
 /// What is told of the text with a wrong last line, for which no memory is taken.
 fn told_of_wrong_text(alloc: Global) -> Told {
-    match read(alloc, TEXT.trim_end_matches('\n').as_bytes()) {
+    match read(alloc, wrong_text()) {
         Err(CertFault::Form { line }) => Told::answer(line == 18),
         _ => Told::Astray,
     }
@@ -229,34 +227,38 @@ fn told_of_wrong_text(alloc: Global) -> Told {
 
 /// What the certificate is written as, and that it stays.
 fn told_written(alloc: Global, certificate: &Certificate) -> Told {
-    match write(alloc, certificate) {
-        Ok(text) => { Told::answer(text.as_slice() == TEXT.as_bytes() && is_read(certificate)) }
-        Err(_) => Told::wanted(is_read(certificate)),
+    let told = match write(alloc, certificate) {
+        Ok(written) => Told::answer(written.as_slice() == text()),
+        Err(_) => Told::Wanted,
+    };
+    told.kept(is_read(certificate))
+}
+
+fn certificate(alloc: Global) -> Option<Certificate> {
+    read(alloc, text()).ok()
+}
+
+fn certificate_at_last(alloc: Global) -> Option<Certificate> {
+    match certificate(alloc) {
+        Some(certificate) => Some(certificate),
+        None => certificate(alloc),
     }
 }
 
 #[test]
 fn ample_memory_reads_and_writes_certificates(rt: HostRuntime) {
     let alloc = rt.alloc();
-    assert_eq!(rt; told_of_text(alloc), Told::Ample);
-    assert_eq!(rt; told_of_wrong_text(alloc), Told::Ample);
-    let certificate = read(alloc, TEXT.as_bytes()).expect(&rt, "a certificate");
-    assert_eq!(rt; told_written(alloc, &certificate), Told::Ample);
+    assert!(rt; told_of_text(alloc).is_ample());
+    assert!(rt; told_of_wrong_text(alloc).is_ample());
+    let certificate = certificate(alloc).expect(&rt, "a certificate");
+    assert!(rt; told_written(alloc, &certificate).is_ample());
 }
 
 #[test]
 fn refused_memory_reads_certificates_once_more(rt: HostRuntime) {
     let alloc = rt.alloc();
-    let first = told_of_text(alloc);
-    assert!(rt; first.is_held(told_of_text(alloc)));
-    assert!(rt; told_of_wrong_text(alloc) == Told::Ample);
-}
-
-fn certificate_at_last(alloc: Global) -> Option<Certificate> {
-    match read(alloc, TEXT.as_bytes()) {
-        Ok(certificate) => Some(certificate),
-        Err(_) => read(alloc, TEXT.as_bytes()).ok(),
-    }
+    assert!(rt; told_of_text(alloc).is_held(told_of_text(alloc)));
+    assert!(rt; told_of_wrong_text(alloc).is_ample());
 }
 
 #[test]
@@ -272,6 +274,5 @@ fn refused_memory_writes_certificates_once_more(rt: HostRuntime) {
 fn refused_memory_checks_all_the_same(rt: HostRuntime) {
     let alloc = rt.alloc();
     let certificate = certificate_at_last(alloc).expect(&rt, "a certificate");
-    let verdict = Ok(Verdict::Cut { cost: 1_000_000 });
-    assert!(rt; check_rows(&rt, alloc, &certificate) == verdict);
+    assert!(rt; is_cut(check_rows(&rt, alloc, &certificate)));
 }

@@ -29,12 +29,17 @@ fn rendition(alloc: Global, name: &[u8], video: bool) -> Option<Rendition> {
     })
 }
 
+/// Adds a rendition to others.
+fn add(alloc: Global, renditions: &mut Vec<Rendition>, name: &[u8], video: bool) -> Option<()> {
+    renditions.push(rendition(alloc, name, video)?).ok()
+}
+
 /// A video rendition, and an audio one where two are asked for.
 pub fn renditions(alloc: Global, two: bool) -> Option<Vec<Rendition>> {
     let mut renditions = Vec::new(alloc);
-    renditions.push(rendition(alloc, b"v1", true)?).ok()?;
+    add(alloc, &mut renditions, b"v1", true)?;
     if two {
-        renditions.push(rendition(alloc, b"en", false)?).ok()?;
+        add(alloc, &mut renditions, b"en", false)?;
     }
     Some(renditions)
 }
@@ -63,9 +68,10 @@ pub fn accept(alloc: Global, snapshot: &Snapshot, number: u32) -> Option<Event>
     ensures fits { IfSome result (λ event. IsFitting snapshot.now event) }
     ensures seen { IfSome result (λ event. IsFittingAsSeen snapshot.now event) }
 {
+    let recording = snapshot.recording(0)?;
     let start = u64::from(number) * 360_000;
     let bytes = unit_bytes(alloc, start, 360_000, true, 1000).ok()?;
-    let facts = read_facts(snapshot.recording(0)?.init(), &bytes).ok()?;
+    let facts = read_facts(recording.init(), &bytes).ok()?;
     let bytes = Bytes::copy_from_slice(alloc, &bytes).ok()?;
     Some(Event::Accept {
         rendition: 0,

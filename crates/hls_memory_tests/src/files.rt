@@ -3,8 +3,8 @@
 use crate::channel::{SECOND, finished_at_last};
 use crate::told::Told;
 use hls_catchup::{
-    Job, JobTable, Reply, Request, certificate_text, job_line, master_text, playlist_text,
-    reply_in, run_job,
+    Job, JobTable, Request, certificate_text, job_line, master_text, playlist_text, reply_in,
+    run_job,
 };
 use hls_check_laws::CostRule;
 use hls_core::snapshot::Snapshot;
@@ -13,13 +13,17 @@ use std::sync::Arc;
 
 const LINE: &str = "cut 0 version 5\n";
 
-const MASTER: &str = "#EXTM3U\n#EXT-X-VERSION:6\n#EXT-X-STREAM-INF:BANDWIDTH=3000000\n0.m3u8\n";
+fn master() -> &'static [u8] {
+    b"#EXTM3U\n#EXT-X-VERSION:6\n#EXT-X-STREAM-INF:BANDWIDTH=3000000\n0.m3u8\n"
+}
 
-const LIST: &str =
-    "#EXTM3U\n#EXT-X-VERSION:6\n#EXT-X-TARGETDURATION:6\n#EXT-X-MEDIA-SEQUENCE:0\n#EXT-X-DISCONTINUITY-SEQUENCE:0\n#EXT-X-PLAYLIST-TYPE:VOD\n#EXT-X-MAP:URI=\"0.mp4\",BYTERANGE=\"600@0\"\n#EXTINF:4.000000,\n#EXT-X-BYTERANGE:1000@600\n0.mp4\n#EXTINF:4.000000,\n#EXT-X-BYTERANGE:1000@1600\n0.mp4\n#EXTINF:4.000000,\n#EXT-X-BYTERANGE:1000@2600\n0.mp4\n#EXT-X-ENDLIST\n";
+fn playlist() -> &'static [u8] {
+    b"#EXTM3U\n#EXT-X-VERSION:6\n#EXT-X-TARGETDURATION:6\n#EXT-X-MEDIA-SEQUENCE:0\n#EXT-X-DISCONTINUITY-SEQUENCE:0\n#EXT-X-PLAYLIST-TYPE:VOD\n#EXT-X-MAP:URI=\"0.mp4\",BYTERANGE=\"600@0\"\n#EXTINF:4.000000,\n#EXT-X-BYTERANGE:1000@600\n0.mp4\n#EXTINF:4.000000,\n#EXT-X-BYTERANGE:1000@1600\n0.mp4\n#EXTINF:4.000000,\n#EXT-X-BYTERANGE:1000@2600\n0.mp4\n#EXT-X-ENDLIST\n"
+}
 
-const CERTIFICATE: &str =
-    "HLS-CUT-CERTIFICATE 1\ntarget 6\npreferred 4000000\nrenditions 1\nplaces 4\n0 0 0 0 0\n1 4000000 4000000 0 0\n2 8000000 8000000 0 0\n3 12000000 12000000 0 0\ncut 0\nplan 0 1 2 3\nprice 0 0\nprice 1 0\nprice 2 0\nprice 3 0\nend\n";
+fn certificate() -> &'static [u8] {
+    b"HLS-CUT-CERTIFICATE 1\ntarget 6\npreferred 4000000\nrenditions 1\nplaces 4\n0 0 0 0 0\n1 4000000 4000000 0 0\n2 8000000 8000000 0 0\n3 12000000 12000000 0 0\ncut 0\nplan 0 1 2 3\nprice 0 0\nprice 1 0\nprice 2 0\nprice 3 0\nend\n"
+}
 
 /// A job that has an answer; none where memory was refused.
 fn job(alloc: Global, state: &Arc<Snapshot>) -> Option<Job> {
@@ -46,51 +50,51 @@ fn job_at_last(alloc: Global, state: &Arc<Snapshot>) -> Option<Job> {
     }
 }
 
-/// What takes memory of a job.
-#[derive(Clone, Copy, Debug)]
-enum Act {
-    Line,
-    Master,
-    List,
-    NoList,
-    Certificate,
-}
-
-const ACTS: [Act; 5] = [
-    Act::Line,
-    Act::Master,
-    Act::List,
-    Act::NoList,
-    Act::Certificate,
-];
-
-fn is_text(text: &Option<Vec<u8>>, wanted: &str) -> bool {
+fn is_text(text: &Option<Vec<u8>>, wanted: &[u8]) -> bool {
     match text {
-        Some(text) => text.as_slice() == wanted.as_bytes(),
+        Some(text) => text.as_slice() == wanted,
         None => false,
     }
 }
 
-fn told_of_reply(alloc: Global, reply: &Reply, act: Act) -> Told {
-    match act {
-        Act::Line => Told::Astray,
-        Act::Master => match master_text(alloc, reply) {
-            Ok(text) => Told::answer(is_text(&text, MASTER)),
-            Err(_) => Told::Wanted,
-        },
-        Act::List => match playlist_text(alloc, reply, 0) {
-            Ok(text) => Told::answer(is_text(&text, LIST)),
-            Err(_) => Told::Wanted,
-        },
-        // no memory is taken where there is no such rendition
-        Act::NoList => match playlist_text(alloc, reply, 1) {
-            Ok(text) => Told::answer(text.is_none()),
-            Err(_) => Told::Astray,
-        },
-        Act::Certificate => match certificate_text(alloc, reply) {
-            Ok(text) => Told::answer(text.as_slice() == CERTIFICATE.as_bytes()),
-            Err(_) => Told::Wanted,
-        },
+fn told_master(alloc: Global, job: &Job) -> Told {
+    let Ok(reply) = reply_in(job) else {
+        return Told::Astray;
+    };
+    match master_text(alloc, reply) {
+        Ok(text) => Told::answer(is_text(&text, master())),
+        Err(_) => Told::Wanted,
+    }
+}
+
+fn told_playlist(alloc: Global, job: &Job) -> Told {
+    let Ok(reply) = reply_in(job) else {
+        return Told::Astray;
+    };
+    match playlist_text(alloc, reply, 0) {
+        Ok(text) => Told::answer(is_text(&text, playlist())),
+        Err(_) => Told::Wanted,
+    }
+}
+
+/// What is told of a rendition that isn't there, for which no memory is taken.
+fn told_no_playlist(alloc: Global, job: &Job) -> Told {
+    let Ok(reply) = reply_in(job) else {
+        return Told::Astray;
+    };
+    match playlist_text(alloc, reply, 1) {
+        Ok(text) => Told::answer(text.is_none()),
+        Err(_) => Told::Astray,
+    }
+}
+
+fn told_certificate(alloc: Global, job: &Job) -> Told {
+    let Ok(reply) = reply_in(job) else {
+        return Told::Astray;
+    };
+    match certificate_text(alloc, reply) {
+        Ok(text) => Told::answer(text.as_slice() == certificate()),
+        Err(_) => Told::Wanted,
     }
 }
 
@@ -102,22 +106,16 @@ fn told_line(alloc: Global, job: &Job) -> Told {
     }
 }
 
-fn told(alloc: Global, job: &Job, act: Act) -> Told {
-    match (act, reply_in(job)) {
-        (Act::Line, Ok(_)) => told_line(alloc, job),
-        (_, Ok(reply)) => told_of_reply(alloc, reply, act),
-        (_, Err(_)) => Told::Astray,
-    }
-}
-
 #[test]
 fn ample_memory_writes_the_files(rt: HostRuntime) {
     let alloc = rt.alloc();
     let state = finished_at_last(alloc).expect(&rt, "a channel");
     let job = job(alloc, &state).expect(&rt, "a job");
-    for act in ACTS {
-        assert_eq!(rt; told(alloc, &job, act), Told::Ample, "{act:?}");
-    }
+    assert!(rt; told_line(alloc, &job).is_ample());
+    assert!(rt; told_master(alloc, &job).is_ample());
+    assert!(rt; told_playlist(alloc, &job).is_ample());
+    assert!(rt; told_no_playlist(alloc, &job).is_ample());
+    assert!(rt; told_certificate(alloc, &job).is_ample());
 }
 
 #[test]
@@ -125,8 +123,9 @@ fn refused_memory_writes_the_files_once_more(rt: HostRuntime) {
     let alloc = rt.alloc();
     let state = finished_at_last(alloc).expect(&rt, "a channel");
     let job = job_at_last(alloc, &state).expect(&rt, "a job");
-    for act in ACTS {
-        let first = told(alloc, &job, act);
-        assert!(rt; first.is_held(told(alloc, &job, act)));
-    }
+    assert!(rt; told_line(alloc, &job).is_held(told_line(alloc, &job)));
+    assert!(rt; told_master(alloc, &job).is_held(told_master(alloc, &job)));
+    assert!(rt; told_playlist(alloc, &job).is_held(told_playlist(alloc, &job)));
+    assert!(rt; told_no_playlist(alloc, &job).is_held(told_no_playlist(alloc, &job)));
+    assert!(rt; told_certificate(alloc, &job).is_held(told_certificate(alloc, &job)));
 }

@@ -29,18 +29,25 @@ fn is_answered(answered: &Answered) -> bool {
     answered.snapshot().version() == 5 && answered.request() == REQUEST && answered.result().is_ok()
 }
 
+/// What is told of an answer that is kept once more.
+fn told_again(answered: &Answered) -> Told {
+    let told = match answered.again() {
+        Ok(again) => Told::answer(is_answered(&again)),
+        Err(_) => Told::Wanted,
+    };
+    told.kept(is_answered(answered))
+}
+
 /// What is answered of the channel, and kept once more.
 fn told_answered(alloc: Global, state: &Arc<Snapshot>) -> Told {
     let Ok(share) = Arc::try_clone(state) else {
         return Told::Wanted;
     };
-    let Ok(answered) = Answered::of(alloc, share, REQUEST) else {
-        return Told::wanted(state.version() == 5);
+    let told = match Answered::of(alloc, share, REQUEST) {
+        Ok(answered) => told_again(&answered),
+        Err(_) => Told::Wanted,
     };
-    match answered.again() {
-        Ok(again) => Told::answer(is_answered(&answered) && is_answered(&again)),
-        Err(_) => Told::wanted(is_answered(&answered)),
-    }
+    told.kept(state.version() == 5)
 }
 
 fn told_table(alloc: Global) -> Told {
@@ -54,8 +61,8 @@ fn told_table(alloc: Global) -> Told {
 fn ample_memory_answers(rt: HostRuntime) {
     let alloc = rt.alloc();
     let state = finished_at_last(alloc).expect(&rt, "a channel");
-    assert_eq!(rt; told_answered(alloc, &state), Told::Ample);
-    assert_eq!(rt; told_table(alloc), Told::Ample);
+    assert!(rt; told_answered(alloc, &state).is_ample());
+    assert!(rt; told_table(alloc).is_ample());
 }
 
 #[test]
@@ -65,6 +72,11 @@ fn refused_memory_is_no_answer(rt: HostRuntime) {
     let first = told_answered(alloc, &state);
     assert!(rt; first.is_held(told_answered(alloc, &state)));
     assert!(rt; told_table(alloc).is_held(told_table(alloc)));
+}
+
+/// Whether it's the only job, and gone once it was taken away.
+fn is_only_job<T: Wait>(rt: &T, jobs: &Jobs, id: u64) -> bool {
+    jobs.len(rt) == 1 && jobs.remove(rt, id) == Ok(()) && jobs.len(rt) == 0
 }
 
 /// What the job of the next id comes to in a loop, and that it's gone once it was taken away.
@@ -81,11 +93,7 @@ fn told_loop<T: Wait>(rt: &T, alloc: Global, jobs: &Jobs, state: &Arc<Snapshot>,
         Ok(Job::Failed) => Told::wanted(state.version() == 5),
         _ => Told::Astray,
     };
-    if jobs.len(rt) == 1 && jobs.remove(rt, id) == Ok(()) && jobs.len(rt) == 0 {
-        told
-    } else {
-        Told::Astray
-    }
+    told.kept(is_only_job(rt, jobs, id))
 }
 
 fn jobs_at_last(alloc: Global) -> Option<Jobs> {
@@ -102,7 +110,7 @@ fn ample_memory_works_jobs_off(rt: HostRuntime) {
     let jobs = jobs_at_last(alloc).expect(&rt, "jobs");
     // so that the loop ends where none waits
     jobs.close(&rt);
-    assert_eq!(rt; told_loop(&rt, alloc, &jobs, &state, 1), Told::Ample);
+    assert!(rt; told_loop(&rt, alloc, &jobs, &state, 1).is_ample());
 }
 
 #[test]

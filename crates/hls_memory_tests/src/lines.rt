@@ -38,11 +38,17 @@ fn told_once(alloc: Global, line: &LiveLine, place: &Place) -> Result<LiveLine, 
     Ok(line.told(alloc, place)?)
 }
 
+/// The line after the place of a number.
+fn with_place(alloc: Global, line: &LiveLine, number: u64) -> Option<LiveLine> {
+    let place = place(alloc, number)?;
+    advanced(alloc, line, &place).ok()
+}
+
 /// The line of the first places.
 fn line(alloc: Global, places: u64) -> Option<LiveLine> {
     let mut line = LiveLine::fresh(alloc, 6, 4_000_000);
     for number in 0..places {
-        line = advanced(alloc, &line, &place(alloc, number)?).ok()?;
+        line = with_place(alloc, &line, number)?;
     }
     Some(line)
 }
@@ -62,11 +68,10 @@ fn place_at_last(alloc: Global, number: u64) -> Option<Place> {
 }
 
 fn begins_at(place: &Place, number: u64) -> bool {
-    place
-        .spots
-        .as_slice()
-        .first()
-        .is_some_and(|spot| spot.fragment == number)
+    match place.spots.as_slice() {
+        [first, ..] => first.fragment == number,
+        [] => false,
+    }
 }
 
 /// Whether the line keeps the segments from one number to the one before another, from place to place, and has ended or not.
@@ -86,43 +91,39 @@ fn is_line(line: &LiveLine, from: u64, to: u64, ended: bool) -> bool {
     line.ended() == ended
 }
 
-/// What takes memory over a line of two segments, or of three at its end.
-#[derive(Clone, Copy, Debug)]
-enum Act {
-    Advance,
-    Tell,
-    Share,
-    Slide,
-}
-
-const ACTS: [Act; 4] = [Act::Advance, Act::Tell, Act::Share, Act::Slide];
-
-/// What is told of a line of two segments and the closing place, and of the ended line.
-fn told_by(alloc: Global, two: &LiveLine, ended: &LiveLine, last: &Place, act: Act) -> Told {
-    let (told, from) = match act {
-        Act::Advance => (advanced(alloc, two, last), 0),
-        Act::Tell => (told_once(alloc, two, last), 0),
-        Act::Share => match ended.share(alloc) {
-            Ok(line) => (Ok(line), 0),
-            Err(_) => (Err(LineFault::Memory), 0),
-        },
-        Act::Slide => (ended.slide(alloc, 1), 1),
-    };
-    match told {
+/// What is told by a line that is to keep the segments from a number, up to its end.
+fn told(line: Result<LiveLine, LineFault>, from: u64) -> Told {
+    match line {
         Ok(line) => Told::answer(is_line(&line, from, 3, true)),
         Err(LineFault::Memory) => Told::Wanted,
         Err(_) => Told::Astray,
     }
 }
 
-/// The same, where the lines stay as they were.
-fn told(alloc: Global, two: &LiveLine, ended: &LiveLine, last: &Place, act: Act) -> Told {
-    let told = told_by(alloc, two, ended, last, act);
-    if is_line(two, 0, 2, false) && is_line(ended, 0, 3, true) && begins_at(last, 3) {
-        told
-    } else {
-        Told::Astray
-    }
+/// Whether it's still the line of two segments, and the closing place.
+fn are_two_and_last(two: &LiveLine, last: &Place) -> bool {
+    is_line(two, 0, 2, false) && begins_at(last, 3)
+}
+
+fn told_advanced(alloc: Global, two: &LiveLine, last: &Place) -> Told {
+    told(advanced(alloc, two, last), 0).kept(are_two_and_last(two, last))
+}
+
+fn told_at_once(alloc: Global, two: &LiveLine, last: &Place) -> Told {
+    told(told_once(alloc, two, last), 0).kept(are_two_and_last(two, last))
+}
+
+/// What is told of the line of three segments at its end, shared.
+fn told_shared(alloc: Global, ended: &LiveLine) -> Told {
+    let told = match ended.share(alloc) {
+        Ok(line) => Told::answer(is_line(&line, 0, 3, true)),
+        Err(_) => Told::Wanted,
+    };
+    told.kept(is_line(ended, 0, 3, true))
+}
+
+fn told_slid(alloc: Global, ended: &LiveLine) -> Told {
+    told(ended.slide(alloc, 1), 1).kept(is_line(ended, 0, 3, true))
 }
 
 #[test]
@@ -131,13 +132,10 @@ fn ample_memory_moves_the_line(rt: HostRuntime) {
     let two = line(alloc, 3).expect(&rt, "a line");
     let ended = line(alloc, 4).expect(&rt, "an ended line");
     let last = place(alloc, 3).expect(&rt, "a place");
-    for act in ACTS {
-        assert_eq!(rt;
-            told(alloc, &two, &ended, &last, act),
-            Told::Ample,
-            "{act:?}"
-        );
-    }
+    assert!(rt; told_advanced(alloc, &two, &last).is_ample());
+    assert!(rt; told_at_once(alloc, &two, &last).is_ample());
+    assert!(rt; told_shared(alloc, &ended).is_ample());
+    assert!(rt; told_slid(alloc, &ended).is_ample());
 }
 
 #[test]
@@ -146,8 +144,10 @@ fn refused_memory_moves_the_line_once_more(rt: HostRuntime) {
     let two = line_at_last(alloc, 3).expect(&rt, "a line");
     let ended = line_at_last(alloc, 4).expect(&rt, "an ended line");
     let last = place_at_last(alloc, 3).expect(&rt, "a place");
-    for act in ACTS {
-        let first = told(alloc, &two, &ended, &last, act);
-        assert!(rt; first.is_held(told(alloc, &two, &ended, &last, act)));
-    }
+    let first = told_advanced(alloc, &two, &last);
+    assert!(rt; first.is_held(told_advanced(alloc, &two, &last)));
+    let first = told_at_once(alloc, &two, &last);
+    assert!(rt; first.is_held(told_at_once(alloc, &two, &last)));
+    assert!(rt; told_shared(alloc, &ended).is_held(told_shared(alloc, &ended)));
+    assert!(rt; told_slid(alloc, &ended).is_held(told_slid(alloc, &ended)));
 }

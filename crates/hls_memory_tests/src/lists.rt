@@ -8,15 +8,17 @@ use hls_catchup::{
 };
 use hls_check_laws::CostRule;
 use hls_core::snapshot::Snapshot;
-use hls_m3u8::{MasterPlaylist, MediaPlaylist, write_master, write_media};
+use hls_m3u8::{MasterPlaylist, MediaPlaylist, Segment, write_master, write_media};
 use std::alloc::{AllocError, Global};
 use std::sync::Arc;
 
-const LIVE: &str =
-    "#EXTM3U\n#EXT-X-VERSION:6\n#EXT-X-TARGETDURATION:6\n#EXT-X-MEDIA-SEQUENCE:0\n#EXT-X-DISCONTINUITY-SEQUENCE:0\n#EXT-X-MAP:URI=\"/media/0.mp4\",BYTERANGE=\"600@0\"\n#EXTINF:4.000000,\n#EXT-X-BYTERANGE:1000@600\n/media/0.mp4\n#EXTINF:4.000000,\n#EXT-X-BYTERANGE:1000@1600\n/media/0.mp4\n";
+fn live() -> &'static [u8] {
+    b"#EXTM3U\n#EXT-X-VERSION:6\n#EXT-X-TARGETDURATION:6\n#EXT-X-MEDIA-SEQUENCE:0\n#EXT-X-DISCONTINUITY-SEQUENCE:0\n#EXT-X-MAP:URI=\"/media/0.mp4\",BYTERANGE=\"600@0\"\n#EXTINF:4.000000,\n#EXT-X-BYTERANGE:1000@600\n/media/0.mp4\n#EXTINF:4.000000,\n#EXT-X-BYTERANGE:1000@1600\n/media/0.mp4\n"
+}
 
-const MASTER: &str =
-    "#EXTM3U\n#EXT-X-VERSION:6\n#EXT-X-STREAM-INF:BANDWIDTH=3000000\n/live/0.m3u8\n";
+fn master() -> &'static [u8] {
+    b"#EXTM3U\n#EXT-X-VERSION:6\n#EXT-X-STREAM-INF:BANDWIDTH=3000000\n/live/0.m3u8\n"
+}
 
 const REQUEST: Request = Request {
     start_us: 0,
@@ -25,39 +27,40 @@ const REQUEST: Request = Request {
     rule: CostRule::Deviation,
 };
 
-/// What takes memory over the channel.
-#[derive(Clone, Copy, Debug)]
-enum Act {
-    List,
-    Master,
-    Text,
-    MasterText,
+/// Whether it's a segment of 4 s whose bytes begin there.
+fn is_segment(segment: &Segment, offset: u64) -> bool {
+    match segment.range {
+        Some(bytes) => segment.us == 4 * SECOND && bytes.length == 1000 && bytes.offset == offset,
+        None => false,
+    }
 }
 
-const LISTS: [Act; 2] = [Act::List, Act::Master];
-
-const TEXTS: [Act; 2] = [Act::Text, Act::MasterText];
+fn are_live(segments: &[Segment]) -> bool {
+    match segments {
+        [first, second] => is_segment(first, 600) && is_segment(second, 1600),
+        _ => false,
+    }
+}
 
 fn is_live(list: &MediaPlaylist) -> bool {
-    let ranges = [(1000, 600), (1000, 1600)];
     list.target == 6
         && list.media_sequence == 0
         && !list.ended
-        && list.segments.len() == 2
-        && list.segments.iter().zip(&ranges).all(|(segment, range)| {
-            segment.us == 4 * SECOND
-                && segment
-                    .range
-                    .is_some_and(|bytes| (bytes.length, bytes.offset) == *range)
-        })
+        && are_live(list.segments.as_slice())
+}
+
+/// Whether it's the channel as it was.
+fn stays(state: &Snapshot) -> bool {
+    state.version() == 4 && state.line().segments().next() == 2
 }
 
 fn told_list(alloc: Global, state: &Snapshot) -> Told {
-    match live_playlist(alloc, state, 0) {
+    let told = match live_playlist(alloc, state, 0) {
         Ok(Some(list)) => Told::answer(is_live(&list)),
         Ok(None) => Told::Astray,
         Err(_) => Told::Wanted,
-    }
+    };
+    told.kept(stays(state))
 }
 
 /// The text of a rendition's live list.
@@ -73,11 +76,12 @@ fn live_text(
 }
 
 fn told_text(alloc: Global, state: &Snapshot) -> Told {
-    match live_text(alloc, state, 0) {
-        Ok(Some(text)) => Told::answer(text.as_slice() == LIVE.as_bytes()),
+    let told = match live_text(alloc, state, 0) {
+        Ok(Some(text)) => Told::answer(text.as_slice() == live()),
         Ok(None) => Told::Astray,
         Err(_) => Told::Wanted,
-    }
+    };
+    told.kept(stays(state))
 }
 
 fn is_master(list: &MasterPlaylist, uri: &str) -> bool {
@@ -90,76 +94,64 @@ fn is_master(list: &MasterPlaylist, uri: &str) -> bool {
 }
 
 fn told_master(alloc: Global, state: &Snapshot) -> Told {
-    match live_master(alloc, state) {
+    let told = match live_master(alloc, state) {
         Ok(list) => Told::answer(is_master(&list, "/live/0.m3u8")),
         Err(_) => Told::Wanted,
-    }
+    };
+    told.kept(stays(state))
+}
+
+/// What is told of the list's text, and that the list stays.
+fn told_written(alloc: Global, list: &MasterPlaylist) -> Told {
+    let told = match write_master(alloc, list) {
+        Ok(text) => Told::answer(text.as_slice() == master()),
+        Err(_) => Told::Wanted,
+    };
+    told.kept(is_master(list, "/live/0.m3u8"))
 }
 
 fn told_master_text(alloc: Global, state: &Snapshot) -> Told {
-    let Ok(list) = live_master(alloc, state) else {
-        return Told::Wanted;
+    let told = match live_master(alloc, state) {
+        Ok(list) => told_written(alloc, &list),
+        Err(_) => Told::Wanted,
     };
-    match write_master(alloc, &list) {
-        Ok(text) => Told::answer(text.as_slice() == MASTER.as_bytes()),
-        Err(_) => Told::wanted(is_master(&list, "/live/0.m3u8")),
-    }
-}
-
-/// What is told of the channel, which stays as it was.
-fn told(alloc: Global, state: &Snapshot, act: Act) -> Told {
-    let told = match act {
-        Act::List => told_list(alloc, state),
-        Act::Master => told_master(alloc, state),
-        Act::Text => told_text(alloc, state),
-        Act::MasterText => told_master_text(alloc, state),
-    };
-    if state.version() == 4 && state.line().segments().next() == 2 {
-        told
-    } else {
-        Told::Astray
-    }
+    told.kept(stays(state))
 }
 
 #[test]
 fn ample_memory_lists_the_channel(rt: HostRuntime) {
     let alloc = rt.alloc();
     let state = units_at_last(alloc).expect(&rt, "a channel");
-    for act in LISTS {
-        assert_eq!(rt; told(alloc, &state, act), Told::Ample, "{act:?}");
-    }
-    for act in TEXTS {
-        assert_eq!(rt; told(alloc, &state, act), Told::Ample, "{act:?}");
-    }
+    assert!(rt; told_list(alloc, &state).is_ample());
+    assert!(rt; told_master(alloc, &state).is_ample());
+    assert!(rt; told_text(alloc, &state).is_ample());
+    assert!(rt; told_master_text(alloc, &state).is_ample());
 }
 
 #[test]
 fn refused_memory_lists_the_channel_once_more(rt: HostRuntime) {
     let alloc = rt.alloc();
     let state = units_at_last(alloc).expect(&rt, "a channel");
-    for act in LISTS {
-        let first = told(alloc, &state, act);
-        assert!(rt; first.is_held(told(alloc, &state, act)));
-    }
+    assert!(rt; told_list(alloc, &state).is_held(told_list(alloc, &state)));
+    assert!(rt; told_master(alloc, &state).is_held(told_master(alloc, &state)));
 }
 
 #[test]
 fn refused_memory_writes_playlists_once_more(rt: HostRuntime) {
     let alloc = rt.alloc();
     let state = units_at_last(alloc).expect(&rt, "a channel");
-    for act in TEXTS {
-        let first = told(alloc, &state, act);
-        assert!(rt; first.is_held(told(alloc, &state, act)));
-    }
+    assert!(rt; told_text(alloc, &state).is_held(told_text(alloc, &state)));
+    assert!(rt; told_master_text(alloc, &state).is_held(told_master_text(alloc, &state)));
 }
 
 /// The table that the request is answered from.
 fn told_table(alloc: Global, state: &Snapshot) -> Told {
-    match table_of(alloc, state, REQUEST) {
-        Ok(table) => Told::answer(table.len() == 4 && state.version() == 5),
-        Err(CatchFault::Memory) => Told::wanted(state.version() == 5),
+    let told = match table_of(alloc, state, REQUEST) {
+        Ok(table) => Told::answer(table.len() == 4),
+        Err(CatchFault::Memory) => Told::Wanted,
         Err(_) => Told::Astray,
-    }
+    };
+    told.kept(state.version() == 5)
 }
 
 fn replied_at_last(alloc: Global, state: &Arc<Snapshot>) -> Option<Reply> {
@@ -181,9 +173,9 @@ fn told_of_reply(alloc: Global, reply: &Reply) -> Told {
 fn ample_memory_lists_the_job(rt: HostRuntime) {
     let alloc = rt.alloc();
     let state = finished_at_last(alloc).expect(&rt, "a channel");
-    assert_eq!(rt; told_table(alloc, &state), Told::Ample);
+    assert!(rt; told_table(alloc, &state).is_ample());
     let reply = replied_at_last(alloc, &state).expect(&rt, "a reply");
-    assert_eq!(rt; told_of_reply(alloc, &reply), Told::Ample);
+    assert!(rt; told_of_reply(alloc, &reply).is_ample());
 }
 
 #[test]

@@ -5,7 +5,7 @@ ghost use Rattle.hls_places_laws.specs.Order.{ArePlaces};
 
 use crate::channel::{SECOND, finished_at_last};
 use crate::told::Told;
-use hls_check_laws::{CostRule, Goal, PlaceTable};
+use hls_check_laws::{CostRule, Goal, PlaceTable, Spots};
 use hls_places::{Cursor, Place, common, programme};
 use hls_places_laws::ProgrammeFault;
 use hls_record::Recording;
@@ -28,10 +28,12 @@ fn is_place(place: &Place, number: u64) -> bool {
 }
 
 fn are_places(places: &[Place]) -> bool {
-    places.len() == 4
-        && (0..)
-            .zip(places)
-            .all(|(number, place)| is_place(place, number))
+    match places {
+        [first, second, third, last] => {
+            is_place(first, 0) && is_place(second, 1) && is_place(third, 2) && is_place(last, 3)
+        }
+        _ => false,
+    }
 }
 
 /// The places of the recording.
@@ -42,10 +44,11 @@ fn found(alloc: Global, recording: &Recording) -> Option<Vec<Place>>
 }
 
 fn told_common(alloc: Global, recording: &Recording) -> Told {
-    match common(alloc, &[recording], &[0], &[true]) {
-        Ok(places) => Told::answer(are_places(&places) && recording.count() == 3),
-        Err(_) => Told::wanted(recording.count() == 3),
-    }
+    let told = match common(alloc, &[recording], &[0], &[true]) {
+        Ok(places) => Told::answer(are_places(&places)),
+        Err(_) => Told::Wanted,
+    };
+    told.kept(recording.count() == 3)
 }
 
 fn told_cursor(alloc: Global) -> Told {
@@ -55,15 +58,23 @@ fn told_cursor(alloc: Global) -> Told {
     }
 }
 
+fn starts_at(spots: &Spots, start: u64) -> bool {
+    match spots.as_slice() {
+        [first, ..] => first.start == start,
+        [] => false,
+    }
+}
+
 /// Whether it's the table of the places from 4 s to 12 s.
 fn is_programme(table: &PlaceTable) -> bool {
-    let starts = [4 * SECOND, 8 * SECOND, 12 * SECOND];
-    let places = table.places();
-    places.len() == 3
-        && places.iter().zip(&starts).all(|(spots, start)| spots
-            .as_slice()
-            .first()
-            .is_some_and(|spot| spot.start == *start))
+    match table.places() {
+        [first, second, third] => {
+            starts_at(first, 4 * SECOND)
+                && starts_at(second, 8 * SECOND)
+                && starts_at(third, 12 * SECOND)
+        }
+        _ => false,
+    }
 }
 
 /// The programme from 5 s to 9 s.
@@ -79,11 +90,12 @@ fn told_programme(alloc: Global, places: &[Place]) -> Told
         rule: CostRule::Deviation,
     };
     let all = [first, second, third, last];
-    match programme(alloc, &all, goal, true, 5 * SECOND, 9 * SECOND) {
-        Ok(table) => Told::answer(is_programme(&table) && are_places(places)),
-        Err(ProgrammeFault::Memory) => Told::wanted(are_places(places)),
+    let told = match programme(alloc, &all, goal, true, 5 * SECOND, 9 * SECOND) {
+        Ok(table) => Told::answer(is_programme(&table)),
+        Err(ProgrammeFault::Memory) => Told::Wanted,
         Err(_) => Told::Astray,
-    }
+    };
+    told.kept(are_places(places))
 }
 
 #[test]
@@ -91,10 +103,10 @@ fn ample_memory_finds_places(rt: HostRuntime) {
     let alloc = rt.alloc();
     let state = finished_at_last(alloc).expect(&rt, "a channel");
     let recording = state.recording(0).expect(&rt, "a recording");
-    assert_eq!(rt; told_common(alloc, recording), Told::Ample);
-    assert_eq!(rt; told_cursor(alloc), Told::Ample);
+    assert!(rt; told_common(alloc, recording).is_ample());
+    assert!(rt; told_cursor(alloc).is_ample());
     let places = found(alloc, recording).expect(&rt, "places");
-    assert_eq!(rt; told_programme(alloc, &places), Told::Ample);
+    assert!(rt; told_programme(alloc, &places).is_ample());
 }
 
 #[test]

@@ -6,18 +6,19 @@ use hls_core::config::{Config, ConfigFault};
 use hls_core::replay::replay;
 use hls_core::snapshot::Snapshot;
 use hls_core_laws::event::Event;
+use hls_core_laws::rendition::Rendition;
+use hls_record::Recording;
 use std::alloc::Global;
 
-fn is_config(config: &Config) -> bool {
-    match config.renditions() {
-        [video, audio] => {
-            video.name.starts_with(b"v1")
-                && audio.name.starts_with(b"en")
-                && config.target() == 6
-                && config.preferred() == 4_000_000
-        }
+fn are_renditions(renditions: &[Rendition]) -> bool {
+    match renditions {
+        [video, audio] => video.name.starts_with(b"v1") && audio.name.starts_with(b"en"),
         _ => false,
     }
+}
+
+fn is_config(config: &Config) -> bool {
+    are_renditions(config.renditions()) && config.target() == 6 && config.preferred() == 4_000_000
 }
 
 fn told_config(alloc: Global) -> Told {
@@ -42,6 +43,11 @@ fn told_preferred(alloc: Global) -> Told {
     }
 }
 
+/// Whether it's the opening state of the configuration that was shared.
+fn is_opening(state: &Snapshot, shared: &Config) -> bool {
+    state.version() == 0 && is_config(state.config()) && is_config(shared)
+}
+
 /// The opening state of a configuration, and the configuration shared.
 fn told_opening(alloc: Global) -> Told {
     let Some(config) = config(alloc, true) else {
@@ -51,11 +57,18 @@ fn told_opening(alloc: Global) -> Told {
         return Told::wanted(is_config(&config));
     };
     match Snapshot::first(alloc, config) {
-        Ok(state) => Told::answer(
-            state.version() == 0 && is_config(state.config()) && is_config(&shared),
-        ),
+        Ok(state) => Told::answer(is_opening(&state, &shared)),
         Err(_) => Told::wanted(is_config(&shared)),
     }
+}
+
+/// Whether it's the state after two events, one of each worker: the video rendition's begin and its end.
+fn is_run(state: &Snapshot) -> bool {
+    state.version() == 2
+        && state.count_by(0) == 1
+        && state.count_by(1) == 1
+        && state.finished(0) == Some(true)
+        && state.finished(1) == Some(false)
 }
 
 /// A run of three events by two workers, of which the first is refused.
@@ -77,14 +90,20 @@ fn told_replay(alloc: Global) -> Told {
         (1, Event::Finish { rendition: 0 }),
     ];
     match replay(alloc, config, &events) {
-        Ok(state) => Told::answer(
-            state.version() == 2
-                && state.count_by(0) == 1
-                && state.count_by(1) == 1
-                && state.finished(0) == Some(true)
-                && state.finished(1) == Some(false),
-        ),
+        Ok(state) => Told::answer(is_run(&state)),
         Err(_) => Told::Wanted,
+    }
+}
+
+/// Whether it's the second rendition's begin.
+fn is_begin(event: &Event) -> bool {
+    match event {
+        Event::Begin {
+            rendition,
+            bytes,
+            ..
+        } => *rendition == 1 && bytes.len() == 600,
+        _ => false,
     }
 }
 
@@ -99,54 +118,29 @@ fn told_shared(alloc: Global) -> Told {
         bytes,
     };
     match event.share() {
-        Ok(
-            Event::Begin {
-                rendition,
-                bytes,
-                ..
-            },
-        ) => Told::answer(rendition == 1 && bytes.len() == 600),
-        Ok(_) => Told::Astray,
+        Ok(shared) => Told::answer(is_begin(&shared)),
         Err(_) => Told::Wanted,
-    }
-}
-
-#[derive(Clone, Copy, Debug)]
-enum Act {
-    Configure,
-    Refuse,
-    Open,
-    Replay,
-}
-
-const ACTS: [Act; 4] = [Act::Configure, Act::Refuse, Act::Open, Act::Replay];
-
-fn told(alloc: Global, act: Act) -> Told {
-    match act {
-        Act::Configure => told_config(alloc),
-        Act::Refuse => told_preferred(alloc),
-        Act::Open => told_opening(alloc),
-        Act::Replay => told_replay(alloc),
     }
 }
 
 #[test]
 fn ample_memory_opens_channels(rt: HostRuntime) {
     let alloc = rt.alloc();
-    for act in ACTS {
-        assert_eq!(rt; told(alloc, act), Told::Ample, "{act:?}");
-    }
+    assert!(rt; told_config(alloc).is_ample());
+    assert!(rt; told_preferred(alloc).is_ample());
+    assert!(rt; told_opening(alloc).is_ample());
+    assert!(rt; told_replay(alloc).is_ample());
     assert!(rt; opening(alloc, false).is_some());
-    assert_eq!(rt; told_shared(alloc), Told::Ample);
+    assert!(rt; told_shared(alloc).is_ample());
 }
 
 #[test]
 fn refused_memory_opens_channels_once_more(rt: HostRuntime) {
     let alloc = rt.alloc();
-    for act in ACTS {
-        let first = told(alloc, act);
-        assert!(rt; first.is_held(told(alloc, act)));
-    }
+    assert!(rt; told_config(alloc).is_held(told_config(alloc)));
+    assert!(rt; told_preferred(alloc).is_held(told_preferred(alloc)));
+    assert!(rt; told_opening(alloc).is_held(told_opening(alloc)));
+    assert!(rt; told_replay(alloc).is_held(told_replay(alloc)));
 }
 
 #[test]
@@ -155,14 +149,19 @@ fn refused_memory_shares_events_once_more(rt: HostRuntime) {
     assert!(rt; told_shared(alloc).is_held(told_shared(alloc)));
 }
 
+/// Whether it's a recording of three units.
+fn is_recording(recording: &Recording) -> bool {
+    recording.count() == 3 && recording.total() == 3600
+}
+
 /// A recording shared, of three units.
 fn told_recording(alloc: Global, state: &Snapshot) -> Told {
     let Some(recording) = state.recording(0) else {
         return Told::Astray;
     };
     match recording.share(alloc) {
-        Ok(shared) => Told::answer(shared.count() == 3 && shared.total() == 3600),
-        Err(_) => Told::wanted(recording.count() == 3 && recording.total() == 3600),
+        Ok(shared) => Told::answer(is_recording(&shared)),
+        Err(_) => Told::wanted(is_recording(recording)),
     }
 }
 

@@ -1,7 +1,7 @@
 //! What calls tell of which any one request for memory may be refused.
 
 /// What a call told.
-#[derive(Clone, Copy, Debug, PartialEq, Eq, Drop)]
+#[derive(Clone, Copy, Drop)]
 pub enum Told {
     /// What it tells with ample memory.
     Ample,
@@ -22,14 +22,23 @@ impl Told {
         if stays { Told::Wanted } else { Told::Astray }
     }
 
+    /// What was told, where what the call was lent is as it was.
+    pub fn kept(self, stays: bool) -> Told {
+        if stays { self } else { Told::Astray }
+    }
+
+    /// Whether it's what is told with ample memory.
+    pub fn is_ample(self) -> bool {
+        matches!(self, Told::Ample)
+    }
+
     /// Whether a call and the same call again, told so, are held: one request for memory is refused, so one of them at most
     /// wanted memory, and the other gave the answer.
     pub fn is_held(self, again: Told) -> bool {
-        match (self, again) {
-            (Told::Ample, Told::Ample) => true,
-            (Told::Ample, Told::Wanted) => true,
-            (Told::Wanted, Told::Ample) => true,
-            _ => false,
+        match self {
+            Told::Ample => !matches!(again, Told::Astray),
+            Told::Wanted => again.is_ample(),
+            Told::Astray => false,
         }
     }
 }

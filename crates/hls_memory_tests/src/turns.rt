@@ -4,6 +4,7 @@
 ghost use Rattle.std.specs.Prelude.{◌≡◌};
 
 use crate::channel::{accept, init, opening};
+use hls_core::snapshot::Snapshot;
 use hls_core_laws::event::Event;
 use hls_core_laws::refusal::Refusal;
 use hls_turn::{Done, Pass, Turn};
@@ -12,7 +13,7 @@ use std::sync::Wait;
 use std::test::Fail;
 
 /// What the passes bring.
-#[derive(Clone, Copy, Debug)]
+#[derive(Clone, Copy)]
 enum Act {
     Begin,
     Accept(u32),
@@ -58,14 +59,21 @@ fn brought<T: Wait>(
 /// What a pass sees: the version, the bytes of the recording, and how many entries each pass has.
 type Seen = (u64, u64, u64, u64);
 
+fn seen_in(state: &Snapshot) -> Seen {
+    let total = match state.recording(0) {
+        Some(recording) => recording.total(),
+        None => 0,
+    };
+    (state.version(), total, state.count_by(0), state.count_by(1))
+}
+
 /// What a pass sees as it looks; none where memory was refused.
 fn seen<T: Wait>(rt: &T, alloc: Global, turn: &Turn, pass: &mut Pass) -> Option<Seen>
     requires { pass.old.turn ≡ turn.now }
     ensures { pass.new.turn ≡ turn.now }
 {
     let state = turn.look(rt, alloc, pass).ok()?;
-    let total = state.recording(0).map_or(0, |recording| recording.total());
-    Some((state.version(), total, state.count_by(0), state.count_by(1)))
+    Some(seen_in(&state))
 }
 
 /// The same, seen once more where memory was refused.
@@ -186,7 +194,7 @@ fn meets<T: Wait>(rt: &T, alloc: Global) -> Option<bool> {
         return None;
     }
     let met = turn.meet(rt, alloc, &mut passes).ok()?;
-    Some((met.version(), met.count_by(0), met.count_by(1)) == (1, 1, 0))
+    Some(seen_in(&met) == (1, 600, 1, 0))
 }
 
 #[test]

@@ -7,7 +7,6 @@ use hls_refusals::{ExplainEnd, run_explain};
 use hls_settings::{OptionsFault, Settings, SettingsFault, read_options, read_settings};
 use hls_text::numbers_of;
 use std::alloc::Global;
-use std::process::Abort;
 
 const VIDEO: &str = "v720:video:3000000:0";
 
@@ -38,6 +37,20 @@ fn told_wrong(alloc: Global, words: &[&str], fault: SettingsFault) -> Told {
     }
 }
 
+fn told_wrong_option(alloc: Global) -> Told {
+    let words = ["--target", "0", "127.0.0.1:80", VIDEO];
+    told_wrong(alloc, &words, SettingsFault::Target)
+}
+
+fn told_wrong_address(alloc: Global) -> Told {
+    told_wrong(alloc, &["localhost:80", VIDEO], SettingsFault::Address)
+}
+
+fn told_wrong_rendition(alloc: Global) -> Told {
+    let words = ["127.0.0.1:80", VIDEO, VIDEO];
+    told_wrong(alloc, &words, SettingsFault::Rendition(1))
+}
+
 fn told_options(alloc: Global) -> Told {
     match read_options(alloc, &["--preferred", "4000000", "--certificate"]) {
         Ok(options) => {
@@ -57,34 +70,6 @@ fn told_unplanned(alloc: Global) -> Told {
     }
 }
 
-#[derive(Clone, Copy, Debug)]
-enum Act {
-    Settings,
-    WrongOption,
-    WrongAddress,
-    WrongRendition,
-    Options,
-    WrongOptions,
-    Meaning,
-    Names,
-    NoMeaning,
-    Numbers,
-    NoNumbers,
-}
-
-const OF_SETTINGS: [Act; 4] = [
-    Act::Settings,
-    Act::WrongOption,
-    Act::WrongAddress,
-    Act::WrongRendition,
-];
-
-const OF_OPTIONS: [Act; 2] = [Act::Options, Act::WrongOptions];
-
-const OF_MEANINGS: [Act; 3] = [Act::Meaning, Act::Names, Act::NoMeaning];
-
-const OF_NUMBERS: [Act; 2] = [Act::Numbers, Act::NoNumbers];
-
 const MEANINGS: &[u8] = b"Gone: it was trimmed.\nNotYet: it isn't there.";
 
 /// What is said of a name, or the names of all; nothing of it where memory was wanted.
@@ -97,6 +82,14 @@ fn told_meaning(alloc: Global, name: Option<&[u8]>, wanted: &[u8]) -> Told {
         ExplainEnd::Memory => Told::wanted(page.says(b"")),
         _ => Told::Astray,
     }
+}
+
+fn told_gone(alloc: Global) -> Told {
+    told_meaning(alloc, Some(b"Gone"), b"Gone: it was trimmed.\n")
+}
+
+fn told_names(alloc: Global) -> Told {
+    told_meaning(alloc, None, b"Gone\nNotYet\n")
 }
 
 /// What is told of a name that no line has, for which no memory is taken.
@@ -122,66 +115,49 @@ fn told_no_numbers(alloc: Global) -> Told {
     }
 }
 
-fn told(alloc: Global, act: Act) -> Told {
-    let at = "127.0.0.1:80";
-    match act {
-        Act::Settings => told_settings(alloc),
-        Act::WrongOption => {
-            let words = ["--target", "0", at, VIDEO];
-            told_wrong(alloc, &words, SettingsFault::Target)
-        }
-        Act::WrongAddress => { told_wrong(alloc, &["localhost:80", VIDEO], SettingsFault::Address) }
-        Act::WrongRendition => {
-            told_wrong(alloc, &[at, VIDEO, VIDEO], SettingsFault::Rendition(1))
-        }
-        Act::Options => told_options(alloc),
-        Act::WrongOptions => told_unplanned(alloc),
-        Act::Meaning => told_meaning(alloc, Some(b"Gone"), b"Gone: it was trimmed.\n"),
-        Act::Names => told_meaning(alloc, None, b"Gone\nNotYet\n"),
-        Act::NoMeaning => told_unknown(alloc),
-        Act::Numbers => told_numbers(alloc),
-        Act::NoNumbers => told_no_numbers(alloc),
-    }
-}
-
-fn assert_ample(rt: &impl Abort, alloc: Global, acts: &[Act]) {
-    for act in acts {
-        assert_eq!(rt; told(alloc, *act), Told::Ample, "{act:?}");
-    }
-}
-
-fn assert_held(rt: &impl Abort, alloc: Global, acts: &[Act]) {
-    for act in acts {
-        let first = told(alloc, *act);
-        assert!(rt; first.is_held(told(alloc, *act)));
-    }
-}
-
 #[test]
 fn ample_memory_reads_words(rt: HostRuntime) {
     let alloc = rt.alloc();
-    assert_ample(&rt, alloc, &OF_SETTINGS);
-    assert_ample(&rt, alloc, &OF_OPTIONS);
-    assert_ample(&rt, alloc, &OF_MEANINGS);
-    assert_ample(&rt, alloc, &OF_NUMBERS);
+    assert!(rt; told_settings(alloc).is_ample());
+    assert!(rt; told_wrong_option(alloc).is_ample());
+    assert!(rt; told_wrong_address(alloc).is_ample());
+    assert!(rt; told_wrong_rendition(alloc).is_ample());
+    assert!(rt; told_options(alloc).is_ample());
+    assert!(rt; told_unplanned(alloc).is_ample());
+    assert!(rt; told_gone(alloc).is_ample());
+    assert!(rt; told_names(alloc).is_ample());
+    assert!(rt; told_unknown(alloc).is_ample());
+    assert!(rt; told_numbers(alloc).is_ample());
+    assert!(rt; told_no_numbers(alloc).is_ample());
 }
 
 #[test]
 fn refused_memory_reads_settings_once_more(rt: HostRuntime) {
-    assert_held(&rt, rt.alloc(), &OF_SETTINGS);
+    let alloc = rt.alloc();
+    assert!(rt; told_settings(alloc).is_held(told_settings(alloc)));
+    assert!(rt; told_wrong_option(alloc).is_held(told_wrong_option(alloc)));
+    assert!(rt; told_wrong_address(alloc).is_held(told_wrong_address(alloc)));
+    assert!(rt; told_wrong_rendition(alloc).is_held(told_wrong_rendition(alloc)));
 }
 
 #[test]
 fn refused_memory_reads_options_once_more(rt: HostRuntime) {
-    assert_held(&rt, rt.alloc(), &OF_OPTIONS);
+    let alloc = rt.alloc();
+    assert!(rt; told_options(alloc).is_held(told_options(alloc)));
+    assert!(rt; told_unplanned(alloc).is_held(told_unplanned(alloc)));
 }
 
 #[test]
 fn refused_memory_explains_once_more(rt: HostRuntime) {
-    assert_held(&rt, rt.alloc(), &OF_MEANINGS);
+    let alloc = rt.alloc();
+    assert!(rt; told_gone(alloc).is_held(told_gone(alloc)));
+    assert!(rt; told_names(alloc).is_held(told_names(alloc)));
+    assert!(rt; told_unknown(alloc).is_held(told_unknown(alloc)));
 }
 
 #[test]
 fn refused_memory_reads_numbers_once_more(rt: HostRuntime) {
-    assert_held(&rt, rt.alloc(), &OF_NUMBERS);
+    let alloc = rt.alloc();
+    assert!(rt; told_numbers(alloc).is_held(told_numbers(alloc)));
+    assert!(rt; told_no_numbers(alloc).is_held(told_no_numbers(alloc)));
 }
