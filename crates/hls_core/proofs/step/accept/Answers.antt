@@ -18,20 +18,26 @@ returns-in_default-recording c =
 pub returns-then-facts-last_end : goal.returns-then-facts-last_end
 returns-then-facts-last_end c =
     let apart : twin_of c.in-Some-recording.recording c.args.facts.start ≡ None = sym c.twin.ensures ∙ ap option_copied c.in-None.is in
-    let before : c.args.facts.start < last_end c.in-Some-recording.recording.facts = omega (arith, c.last_end.ensures, c.if-facts-last_end.true) in
-    (accept_before c.args.snapshot.now c.args.rendition c.in-Some.old.now c.in-Some-recording.recording c.args.facts c.args.bytes
-    c.in-Some.ensures.some c.in-Some-recording.is apart before, refl)
+    let before : c.args.facts.start < last_end c.in-Some-recording.recording.facts = omega (arith, c.last_end.ensures, c.if-facts-last_end.true) in (
+      accept_before c.args.snapshot.now c.args.rendition c.in-Some.old.now c.in-Some-recording.recording c.args.facts c.args.bytes
+          c.in-Some.ensures.some c.in-Some-recording.is apart before,
+      refl,
+    )
 
 pub returns-then-old : goal.returns-then-old
 returns-then-old c =
     let apart : twin_of c.in-Some-recording.recording c.args.facts.start ≡ None = sym c.twin.ensures ∙ ap option_copied c.in-None.is in
-    let later : last_end c.in-Some-recording.recording.facts ≤ c.args.facts.start = omega (arith, c.last_end.ensures, c.if-facts-last_end.false) in
-    (accept_finished c.args.snapshot.now c.args.rendition c.in-Some.old.now c.in-Some-recording.recording c.args.facts c.args.bytes
-    c.in-Some.ensures.some c.in-Some-recording.is apart later c.if-old.true, refl)
+    let later : last_end c.in-Some-recording.recording.facts ≤ c.args.facts.start = omega (arith, c.last_end.ensures, c.if-facts-last_end.false) in (
+      accept_finished c.args.snapshot.now c.args.rendition c.in-Some.old.now c.in-Some-recording.recording c.args.facts c.args.bytes
+          c.in-Some.ensures.some c.in-Some-recording.is apart later c.if-old.true,
+      refl,
+    )
 
 pub returns-then-is_full : goal.returns-then-is_full
 returns-then-is_full c =
     let apart : twin_of c.in-Some-recording.recording c.args.facts.start ≡ None = sym c.twin.ensures ∙ ap option_copied c.in-None.is in
-    let later : last_end c.in-Some-recording.recording.facts ≤ c.args.facts.start = omega (arith, c.last_end.ensures, c.if-facts-last_end.false) in
-    (accept_full c.args.snapshot.now c.args.rendition c.in-Some.old.now c.in-Some-recording.recording c.args.facts c.args.bytes
-    c.in-Some.ensures.some c.in-Some-recording.is apart later c.if-old.false (sym c.is_full.ensures ∙ c.if-is_full.true), refl)
+    let later : last_end c.in-Some-recording.recording.facts ≤ c.args.facts.start = omega (arith, c.last_end.ensures, c.if-facts-last_end.false) in (
+      accept_full c.args.snapshot.now c.args.rendition c.in-Some.old.now c.in-Some-recording.recording c.args.facts c.args.bytes
+          c.in-Some.ensures.some c.in-Some-recording.is apart later c.if-old.false (sym c.is_full.ensures ∙ c.if-is_full.true),
+      refl,
+    )
