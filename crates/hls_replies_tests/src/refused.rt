@@ -2,6 +2,7 @@
 //! reply where it is the reply's head that finds no memory.
 
 use hls_core::snapshot::Snapshot;
+use hls_core_laws::done::Done;
 use hls_core_laws::refusal::Refusal;
 use hls_fakes::goes_out;
 use hls_feed::StreamFault;
@@ -15,7 +16,6 @@ use hls_sample_channels::{opened, with_units};
 use hls_serve_laws::ingest::Counts;
 use hls_serve_laws::query::{Moment, Query};
 use hls_serve_laws::route::Route;
-use hls_core_laws::done::Done;
 use std::alloc::{AllocError, Global};
 use std::sync::Arc;
 
