@@ -9,7 +9,7 @@ use Rattle.hls_record.specs.Recorded.{Recorded}
 use Rattle.hls_places_laws.specs.declared.line.segment.Segment as live_line
 use Rattle.hls_places_laws.specs.Line.Live.{Live, segments_of, has_ended}
 use Rattle.hls_m3u8.specs.declared.playlist.Segment.{Segment}
-use Rattle.hls_m3u8.specs.HasText.{IsDate, IsSegment}
+use Rattle.hls_m3u8.specs.HasText.{IsSegment}
 use Rattle.hls_m3u8.specs.Lines.{joined, segment_lines, all_segment_lines, head_lines, end_lines, media_text}
 use Rattle.hls_m3u8.specs.Playlist.{Playlist}
 use Rattle.hls_m3u8.proofs.Joined.{joined_append}
@@ -19,7 +19,7 @@ use Rattle.hls_core_laws.specs.IsState.{IsState}
 use Rattle.hls_core_laws.specs.Line.{line}
 use Rattle.hls_lists_laws.specs.Live.{live_cutting, live_uri, listed, list_over, has_closed, list_in, live_list_of}
 use Rattle.hls_catchup.specs.Lists.{cutting}
-use Rattle.hls_catchup.specs.LiveTexts.{Has, HasBy, Reaches, ReachesBy, left_by, left_of, list_by, list_with}
+use Rattle.hls_catchup.specs.LiveTexts.{Has, HasBy, IsGood, Reaches, ReachesBy, left_by, left_of, lines_by, list_by, list_with}
 use Rattle.hls_catchup.proofs.Cited.{live-lists-have-texts, starts-small}
 
 -- ---- lists
@@ -71,12 +71,12 @@ module _ (s : State) (state : IsState s) (r : ℕ) (recorded : Recorded) (k : �
   next-is : drop k whole ≡ cut_of x ∷ map cut_of rest
   next-is = drop-map cut_of k (segments_of (line s)) ∙ ap (map cut_of) walk
 
-  pub one-written : (made : Segment) (before after : List ℕ) → made ≡ cut_of x → after ≡ before ++ joined (segment_lines made)
-      → after ++ left_of s r (k + 1) ≡ before ++ left_of s r k
-  one-written made before after is written =
+  pub one-written : (epoch : Option ℤ) (uri before after : List ℕ) → epoch ≡ s.config.epoch → uri ≡ live_uri r
+      → after ≡ before ++ lines_by (cutting epoch recorded r uri 0) x → after ++ left_of s r (k + 1) ≡ before ++ left_of s r k
+  one-written epoch uri before after epoch_is uri_is written =
       ap (λ list. after ++ left_by list (k + 1)) there
       ∙ next-lines whole (has_ended (line s)) k (cut_of x) (map cut_of rest) before after next-is
-      (written ∙ ap (λ (y : Segment). before ++ joined (segment_lines y)) is)
+      (written ∙ (λ i. before ++ lines_by (cutting (epoch_is i) recorded r (uri_is i) 0) x))
       ∙ sym (ap (λ list. before ++ left_by list k) there)
 
   pub has-next : Has s r (k + 1)
@@ -88,21 +88,15 @@ module _ (s : State) (state : IsState s) (r : ℕ) (recorded : Recorded) (k : �
       let all : All P whole = (live-lists-have-texts s r (list_by s r recorded) state there).segments in
       All-head P (cut_of x) (map cut_of rest) (subst (All P) next-is (All-drop P k whole all))
 
-  pub few : (made : Segment) → made ≡ cut_of x → made.us < 2 ^ 53
-  few made is = subst (λ (y : Segment). y.us < 2 ^ 53) (sym is) good.length
-
-  pub dated : (made : Segment) → made ≡ cut_of x → IsDate made.date
-  dated made is = subst (λ (y : Segment). IsDate y.date) (sym is) good.date
+  pub good-by : (epoch : Option ℤ) (uri : List ℕ) → epoch ≡ s.config.epoch → uri ≡ live_uri r → IsGood (cutting epoch recorded r uri 0) x
+  good-by epoch uri epoch_is uri_is =
+      subst (λ (e : Option ℤ). IsGood (cutting e recorded r uri 0) x) (sym epoch_is)
+      (subst (λ (u : List ℕ). IsGood (cutting s.config.epoch recorded r u 0) x) (sym uri_is) (good.length, good.date))
 
   pub starts : (spot_in x.from.spots r).start < 2 ^ 53
   starts =
       let P : live_line.Segment → Type 0 = λ y. (spot_in y.from.spots r).start < 2 ^ 53 in
       All-head P x rest (subst (All P) walk (All-drop P k (segments_of (line s)) (starts-small s state r)))
-
--- a segment that was made of its parts
-pub cut-is : (s : State) (r : ℕ) (recorded : Recorded) (epoch : Option ℤ) (uri : List ℕ) (x : live_line.Segment) (made : Segment) → epoch ≡ s.config.epoch → uri ≡ live_uri r
-    → made ≡ listed (cutting epoch recorded r uri 0) x → made ≡ listed (cutting s.config.epoch recorded r (live_uri r) 0) x
-cut-is s r recorded epoch uri x made epoch_is uri_is is = is ∙ (λ i. listed (cutting (epoch_is i) recorded r (uri_is i) 0) x)
 
 -- the count of those that were written, among the line's
 pub counts : (s : State) (r k : ℕ) (recorded : Recorded) → live_list_of s r ≡ Some (list_by s r recorded) → Has s r k → k ≤ length (segments_of (line s))

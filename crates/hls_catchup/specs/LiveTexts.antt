@@ -1,14 +1,17 @@
 -- The text of a live list that is written in parts.
-use Rattle.std.specs.Prelude.{ℕ, ◌≤◌, ◌⊎◌, List, [], ◌++◌, length, map, drop, Option, Some, None}
+use Rattle.std.specs.Prelude.{ℕ, ◌<◌, ◌≤◌, ◌^◌, ◌⊎◌, List, [], ◌++◌, length, map, drop, Option, Some, None}
 use Rattle.hls_record.specs.Recorded.{Recorded}
 use Rattle.hls_places_laws.specs.Line.Live.{has_ended, segments_of}
 use Rattle.hls_m3u8.specs.declared.playlist.Segment.{Segment}
 use Rattle.hls_m3u8.specs.Playlist.{Playlist}
 use Rattle.hls_m3u8.specs.Forms.{live_list}
-use Rattle.hls_m3u8.specs.Lines.{joined, all_segment_lines, end_lines}
+use Rattle.hls_m3u8.specs.HasText.{IsDate}
+use Rattle.hls_m3u8.specs.Lines.{joined, segment_lines, all_segment_lines, end_lines}
 use Rattle.hls_core_laws.specs.State.{State}
 use Rattle.hls_core_laws.specs.Line.{line}
 use Rattle.hls_lists_laws.specs.Live.{live_list_of, live_uri, listed}
+use Rattle.hls_lists_laws.specs.Segments.{Cutting}
+use Rattle.hls_places_laws.specs.declared.line.segment.Segment as live_line
 use Rattle.hls_catchup.specs.Lists.{cutting}
 use Rattle.hls_catchup.specs.declared.live_text.LiveText.TheInside.{Inside}
 
@@ -20,6 +23,13 @@ list_with s recorded uri segments =
 -- that of a state
 abbrev pub list_by : State → ℕ → Recorded → Playlist
 list_by s r recorded = list_with s recorded (live_uri r) (map (listed (cutting s.config.epoch recorded r (live_uri r) 0)) (segments_of (line s)))
+
+-- a segment of the live line that can be written, and its lines
+abbrev pub IsGood : Cutting → live_line.Segment → Type 0
+IsGood c x = ((listed c x).us < 2 ^ 53) × IsDate (listed c x).date
+
+abbrev pub lines_by : Cutting → live_line.Segment → List ℕ
+lines_by c x = joined (segment_lines (listed c x))
 
 -- what is left of a list's text behind its head and its first k segments
 abbrev pub left_by : Option Playlist → ℕ → List ℕ

@@ -48,3 +48,4 @@ mod resource;
 mod segments;
 mod span;
 mod table;
+mod walk;

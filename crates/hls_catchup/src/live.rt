@@ -13,6 +13,7 @@ ghost use Rattle.hls_catchup.specs.LiveTexts.{list_by, list_with};
 
 use crate::resource::resource_uri;
 use crate::segments::segment_between;
+use crate::walk::{next_segment, segments_behind};
 use bytes::ByteStr;
 use hls_core::snapshot::Snapshot;
 use hls_live::LiveLine;
@@ -89,8 +90,8 @@ fn live_segments(
     ensures { IfOk result (λ v. v.items ≡ map (listed (cutting epoch recording.now rendition uri.now 0)) (segments_of line.now)) }
 {
     let mut list = Vec::new(alloc);
-    let segments = line.segments();
-    for segment in segments.iter_from(segments.first()) {
+    let mut walk = segments_behind(line, 0);
+    while let Some(segment) = next_segment(&mut walk) {
         list.push(listed(recording, epoch, rendition, uri, segment)?)?;
     }
     Ok(list)

@@ -1,15 +1,22 @@
 //! The text of a rendition's live list, written in parts: a long list takes a tenth of a second, and others have their turn between.
 
-ghost use Rattle.std.specs.Prelude.{◌≡◌, ◌++◌, IfOk};
+ghost use Rattle.std.specs.Prelude.{◌≡◌, ◌++◌, ◌<◌, ◌^◌, IfOk};
 ghost use Rattle.std.specs.Option.{option_map};
+ghost use Rattle.hls_check_laws.specs.Tables.{spot_in};
 ghost use Rattle.hls_m3u8.specs.Lines.{media_text};
+ghost use Rattle.hls_core_laws.specs.Config.{IsEpoch};
 ghost use Rattle.hls_lists_laws.specs.Live.{live_list_of};
-ghost use Rattle.hls_catchup.specs.LiveTexts.{Has, Reaches, left_of};
+ghost use Rattle.hls_catchup.specs.Lists.{cutting};
+ghost use Rattle.hls_catchup.specs.LiveTexts.{Has, IsGood, Reaches, left_of, lines_by};
 
 use crate::live::{list_with, listed, recording_listed};
 use crate::resource::resource_uri;
+use crate::walk::{next_segment, segments_behind};
+use bytes::ByteStr;
 use hls_core::snapshot::Snapshot;
+use hls_live::Segment;
 use hls_m3u8::{push_end, push_head, push_segment};
+use hls_record::Recording;
 use std::alloc::{AllocError, Global};
 use std::marker::Model;
 use std::sync::Arc;
@@ -44,6 +51,25 @@ impl Model for LiveText {
     ghost invariant = { IsWritten };
 }
 
+/// Writes a segment.
+fn push_one(
+    text: &mut Vec<u8>,
+    recording: &Recording,
+    epoch: Option<i64>,
+    rendition: usize,
+    uri: &ByteStr,
+    segment: &Segment,
+) -> Result<(), AllocError>
+    requires epoch { IsEpoch epoch }
+    requires start { (spot_in segment.now.from.spots rendition).start < 2 ^ 53 }
+    requires good { IsGood (cutting epoch recording.now rendition uri.now 0) segment.now }
+    ensures { IfOk result (λ done. text.new.items ≡ text.old.items ++ lines_by (cutting epoch recording.now rendition uri.now 0) segment.now) }
+{
+    let cut = listed(recording, epoch, rendition, uri, segment)?;
+    push_segment(text, &cut)?;
+    Ok(())
+}
+
 /// Writes the segments from number `written` of the list on, up to the one before `stop`; how many are written then.
 fn push_listed(
     alloc: Global,
@@ -63,14 +89,13 @@ fn push_listed(
     };
     let epoch = snapshot.config().epoch();
     let uri = resource_uri(alloc, "/media/", rendition)?;
-    let segments = snapshot.line().segments();
-    let _ = segments.next();
+    let mut walk = segments_behind(snapshot.line(), written);
     let mut next = written;
-    for segment in segments.iter_from(segments.first() + written) {
-        if next >= stop {
+    while next < stop {
+        let Some(segment) = next_segment(&mut walk) else {
             return Ok(next);
-        }
-        push_segment(text, &listed(recording, epoch, rendition, &uri, segment)?)?;
+        };
+        push_one(text, recording, epoch, rendition, &uri, segment)?;
         next += 1;
     }
     Ok(next)

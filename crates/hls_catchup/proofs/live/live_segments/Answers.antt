@@ -9,12 +9,10 @@ use Rattle.hls_catchup.proofs.live.live_segments.Goals as goal
 pub loop-segment-preserved : goal.loop-segment-preserved
 loop-segment-preserved c =
     let IsSmall : live_line.Segment → Type 0 = λ x. (spot_in x.from.spots c.args.rendition).start < 2 ^ 53 in
-    let split : All IsSmall (c.in-Some.segment.now ∷ c.next.new.self) = subst (All IsSmall) c.in-Some.ensures.steps c.loop-segment.invariant.starts in
+    let split : All IsSmall (c.in-Some.segment.now ∷ c.next_segment.new.walk) = subst (All IsSmall) c.in-Some.ensures c.loop-segment.invariant.starts in
     record {
-      can_next = tt;
-      is_finite = tt;
-      starts = All-tail IsSmall c.in-Some.segment.now c.next.new.self split;
+      starts = All-tail IsSmall c.in-Some.segment.now c.next_segment.new.walk split;
       made = one_listed_more (cutting c.args.epoch c.args.recording.now c.args.rendition c.args.uri.now 0) c.loop-segment.list.items c.push.new.self.items
-          c.loop-segment.segment-iterator c.next.new.self c.in-Some.segment.now c.in_ok-listed.field-0 _ c.in-Some.ensures.steps
+          c.loop-segment.walk c.next_segment.new.walk c.in-Some.segment.now c.in_ok-listed.field-0 _ c.in-Some.ensures
           c.in_ok-push.ensures.items c.in_ok-listed.ensures c.loop-segment.invariant.made;
     }

@@ -1,4 +1,4 @@
-use Rattle.std.proofs.Common.{◌≡◌, ◌++◌, ◌<◌, ◌^◌, map, All}
+use Rattle.std.proofs.Common.{◌≡◌, ◌++◌, ◌<◌, ◌^◌, length, map, All}
 use Rattle.hls_check_laws.specs.Tables.{spot_in}
 use Rattle.hls_places_laws.specs.Line.Live.{segments_of}
 use Rattle.hls_lists_laws.specs.Live.{listed}
@@ -7,9 +7,10 @@ use Rattle.hls_catchup.proofs.live.live_segments.Given as goal
 
 abbrev pub invariant-loop-segment : goal.invariant-loop-segment
 invariant-loop-segment l = record {
-  can_next : (goal.iterator-loop-segment).can_next l.segment-iterator;
-  is_finite : (goal.iterator-loop-segment).is_finite l.segment-iterator;
-  starts : All (λ s. (spot_in s.from.spots l.rendition).start < 2 ^ 53) l.segment-iterator;
-  made : l.list.items ++ map (listed (cutting l.epoch l.recording l.rendition l.uri 0)) l.segment-iterator
+  starts : All (λ s. (spot_in s.from.spots l.rendition).start < 2 ^ 53) l.walk;
+  made : l.list.items ++ map (listed (cutting l.epoch l.recording l.rendition l.uri 0)) l.walk
       ≡ map (listed (cutting l.epoch l.recording l.rendition l.uri 0)) (segments_of l.line);
 }
+
+abbrev pub decreases-loop-segment : goal.decreases-loop-segment
+decreases-loop-segment l = length l.walk
