@@ -1,6 +1,7 @@
 //! A worker: many connections on one thread.
 
-ghost use Rattle.std.specs.Prelude.{◌≡◌, ◌≤◌, IfOk};
+ghost use Rattle.std.specs.Prelude.{◌≡◌, ◌≤◌, IfNone, IfOk, IfSome, Some};
+ghost use Rattle.slab.specs.Slab.{Updates};
 ghost use Rattle.hls_loop.specs.Suited.{SuitsAll};
 
 use crate::bell::attend;
@@ -98,6 +99,26 @@ impl Waiting {
     fn has_waited(self) -> bool {
         matches!(self, Waiting::First(_) | Waiting::Later(_))
     }
+}
+
+/// Makes room for one more connection where there is none: by an eighth and not by as much again, since what an idle connection costs
+/// is its slot.
+fn make_room<V: Drop>(slots: &mut Slab<Slot<V>>)
+    ensures { slots.new ≡ record slots.old { capacity = slots.new.capacity } }
+{
+    let held = slots.len();
+    if held == slots.capacity() {
+        let _ = slots.reserve_exact(held / 8 + 16);
+    }
+}
+
+/// Holds a connection, and says under which key; `None` where there is no room.
+fn hold<V: Drop>(slots: &mut Slab<Slot<V>>, slot: Slot<V>) -> Option<usize>
+    ensures holds { IfSome result (λ key. Updates slots.old slots.new key (Some slot)) }
+    ensures full { IfNone result (slots.new ≡ record slots.old { capacity = slots.new.capacity }) }
+{
+    make_room(slots);
+    slots.insert(slot).ok()
 }
 
 /// A worker comes to the door, and is told of connections there; which one it is.
@@ -284,28 +305,13 @@ impl<'a, H: Host + Drop> Worker<'a, H> {
         }
     }
 
-    /// Makes room for one more connection where there is none: by an eighth and not by as much again, since what an idle connection
-    /// costs is its slot.
-    fn make_room(&mut self)
-        requires suits { SuitsAll H.suits self.old.host self.old.slots }
-        ensures suits { SuitsAll H.suits self.new.host self.new.slots }
-    {
-        let held = self.slots.len();
-        if held == self.slots.capacity() {
-            let _ = self.slots.reserve_exact(held / 8 + 16);
-        }
-    }
-
     /// Takes a new connection in, and says under which key; `None` where it can't be held.
     fn place(&mut self, stream: TcpStream, peer: SocketAddr) -> Option<usize>
         requires suits { SuitsAll H.suits self.old.host self.old.slots }
         ensures suits { SuitsAll H.suits self.new.host self.new.slots }
     {
-        self.make_room();
         let slot = Slot::new(self.host.begin(), stream, peer, self.now);
-        let Ok(key) = self.slots.insert(slot) else {
-            return None;
-        };
+        let key = hold(&mut self.slots, slot)?;
         self.door.enter(self.place, self.slots.len());
         Some(key)
     }
