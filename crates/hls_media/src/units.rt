@@ -64,7 +64,6 @@ fn shape_of(unit: &[u8], ticks: &mut Ticks) -> Option<Shape>
     ensures value { option_map (seen_by unit.now) result ≡ layout_of unit.now }
     ensures within { IfSome result (λ s. (s.from ≤ s.to) × (s.to ≤ length unit.now) × (length unit.now ≤ 2 ^ 26)) }
     ensures counted { RisesBy (length unit.now) ticks.old ticks.new }
-    ensures room { IfSome result (λ _. ticks.new ≤ ticks.old + 2 ^ 26) }
 {
     if unit.len() > UNIT_LIMIT as usize {
         return None;
