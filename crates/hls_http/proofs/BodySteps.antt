@@ -1,5 +1,5 @@
 -- Steps of a body in what is held, and in what follows.
-use Rattle.std.proofs.Common.{◌≡◌, ◌∙◌, ℕ, ◌≤◌, ◌<◌, List, [], ◌++◌, Option, Some, length, take, drop, refl, sym, ap, subst, arith, append-nil, length-append, length-take}
+use Rattle.std.proofs.Common.{◌≡◌, ◌∙◌, ℕ, ◌≤◌, ◌<◌, List, [], ◌++◌, Option, Some, length, take, drop, refl, sym, ap, subst, arith, length-append, length-take}
 use Rattle.std.specs.Io.KnownBytes.{prepend_known}
 use Rattle.std.proofs.lemmas.List.{length-map}
 use Rattle.httparse.specs.declared.spans.HeaderSpan.{HeaderSpan}
@@ -9,12 +9,12 @@ use Rattle.httparse.proofs.GrammarLemmas.{ReadsSection-append, section_unique}
 use Rattle.httparse.proofs.ChunkLemmas.{ReadsChunkLine-append, chunk_line_unique}
 use Rattle.hls_http_laws.specs.declared.body.Body.{Body}
 use Rattle.hls_http_laws.specs.declared.body.Body.TheVariants.{Length, Size, Data, Trailers}
-use Rattle.hls_http_laws.specs.Bodies.{after_line, Steps, Runs, HasNoStep, Goes}
-use Rattle.hls_http_laws.proofs.Callers.{Leaves, runs_join, runs_leave, runs_stay, some_line, some_section}
+use Rattle.hls_http_laws.specs.Bodies.{after_line, Steps, Runs, NoStep, HasNoStep, Goes}
+use Rattle.hls_http_laws.proofs.Callers.{Leaves, cut, run_one, runs_join, runs_leave, runs_stay, some_line, some_section}
 use Rattle.hls_http.specs.declared.input.Filled.{Filled}
 use Rattle.hls_http.specs.Bodies.{IsLastAlone}
 use Rattle.hls_http.specs.Input.{Reads}
-use Rattle.hls_http.proofs.HeadLaws.{front, known_left, reads_known}
+use Rattle.hls_http.proofs.HeadLaws.{known_left, reads_known}
 
 pub long_line : (held : List ℕ) (len size : ℕ) (l : ChunkLine) → IsChunkLineAt held len size l → 16384 < len → HasNoStep Size held
 long_line held len size l at past = λ more piece next rest s.
@@ -31,7 +31,7 @@ line_frame held len size l next at small is = (
 
 pub no_line : (held : List ℕ) → HasNoChunkLine held → 16384 ≤ length held → HasNoStep Size held
 no_line held never past = λ more piece next rest s.
-    never s.1.line _ (s.1.reads.0, front (print_chunk_line s.1.line) rest held more s.1.reads.1 (omega (arith, s.1.small)))
+    let w = cut (print_chunk_line s.1.line) rest held more (sym s.1.reads.1) (omega (arith, s.1.small)) in never s.1.line w.0 (s.1.reads.0, w.1)
 
 pub long_trailers : (held : List ℕ) (headers : List HeaderSpan) (len count : ℕ) (fields : List Field) (last : LineEnd) → IsSectionAt held 0 headers len count fields last → 16384 < len → HasNoStep Trailers held
 long_trailers held headers len count fields last at past = λ more piece next rest s.
@@ -61,20 +61,20 @@ trailers_frame held headers len count fields last at room small within = (
 
 pub no_trailers : (held : List ℕ) → HasNoSection held → 16384 ≤ length held → HasNoStep Trailers held
 no_trailers held never past = λ more piece next rest s.
-    never s.0.fields s.0.last _ (s.0.reads.0, front (print_section s.0.fields s.0.last) rest held more s.0.reads.1 (omega (arith, s.0.small)))
+    let w = cut (print_section s.0.fields s.0.last) rest held more (sym s.0.reads.1) (omega (arith, s.0.small)) in
+    never s.0.fields s.0.last w.0 (s.0.reads.0, w.1)
 
 -- ---- steps of what is held, in the input
 
 pub goes_none : (b : Body) (held rest : List ℕ) (left : Option (List ℕ)) → left ≡ Some rest → Goes b (held ++ rest) [] b held left
-goes_none b held rest left is =
-    record { later = held ++ rest; runs = record { steps = 0; run = (refl, refl, refl) }; known = ap (λ o. prepend_known held o) is }
+goes_none b held rest left is = record { later = held ++ rest; runs = NoStep; known = ap (λ o. prepend_known held o) is }
 
 pub goes_then : (b middle last : Body) (input got held now piece rest : List ℕ) (old left : Option (List ℕ)) → Goes b input got middle held old → Steps middle held piece last rest
     → now ≡ rest → left ≡ old → Goes b input (got ++ piece) last now left
 goes_then b middle last input got held now piece rest old left g s now_is left_is =
     let w = known_left held old g.later g.known in
-    let step : Runs middle held piece last rest = record { steps = 1; run = (piece, last, rest, [], s, (refl, refl, refl), sym (append-nil piece)) } in
-    let here = subst (λ (xs : List ℕ). Runs middle xs piece last (rest ++ w.rest)) (sym w.input_is) (runs_stay middle held piece last rest w.rest step) in
+    let step = runs_stay middle held piece last rest w.rest (run_one middle last held piece rest s) in
+    let here = subst (λ (xs : List ℕ). Runs middle xs piece last (rest ++ w.rest)) (sym w.input_is) step in
     record {
       later = rest ++ w.rest;
       runs = runs_join b middle last input got g.later piece (rest ++ w.rest) g.runs here;

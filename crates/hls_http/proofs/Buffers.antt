@@ -45,6 +45,3 @@ takes buffer from start end len room texts ordered are few =
     let within = fits buffer start end len ordered (subst (λ (t : Texts). len ≤ length t.unread) (sym are) few) in
     (λ i. record { taken = held_take buffer start end len within i; unread = held_drop buffer start end len within i; room = room })
     ∙ ap (λ t. after_take t len) are
-
-pub count_of : (read : ℕ) (behind : List ℕ) → read ≤ length behind → length (take read behind) ≡ read
-count_of read behind fits = omega (arith, length-take read behind)

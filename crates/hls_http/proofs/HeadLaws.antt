@@ -1,25 +1,19 @@
 -- Heads within the limits, in what is held and in the input.
 use Rattle.std.proofs.Common.{◌≡◌, ◌∙◌, ℕ, ◌≤◌, ◌<◌, List, [], ◌++◌, inl, Option, Some, None, length, take, drop, refl, sym, ap, subst, arith, append_assoc, append-nil, length-take}
-use Rattle.std.proofs.Math.Seq.{take-append_seam}
 use Rattle.std.specs.Io.KnownBytes.{IsAtEnd, prepend_known}
-use Rattle.std.proofs.lemmas.List.{length-map, take-append-drop, take-append-le}
+use Rattle.std.proofs.lemmas.List.{length-map}
 use Rattle.httparse.specs.declared.spans.HeaderSpan.{HeaderSpan}
 use Rattle.httparse.specs.declared.spans.RequestSpans.{RequestSpans}
 use Rattle.httparse.specs.Grammar.{RequestHead, print_request, ReadsRequest, HasNoRequest}
 use Rattle.httparse.specs.Spans.{IsRequestAt, IsRequestWithin, header_bytes, name_and_value}
 use Rattle.httparse.proofs.GrammarLemmas.{ReadsRequest-append, request_prefix_free}
 use Rattle.hls_http_laws.specs.Heads.{IsTooLarge}
+use Rattle.hls_http_laws.proofs.Callers.{cut}
 use Rattle.hls_http.specs.declared.head.Head.{Head}
 use Rattle.hls_http.specs.declared.input.Filled.{Filled}
 use Rattle.hls_http.specs.declared.input.Filled.TheVariants.{AtEnd}
 use Rattle.hls_http.specs.Heads.{IsHead, FoundHead, Heard}
 use Rattle.hls_http.specs.Input.{Reads}
-
--- of two ways to cut a text, the shorter front begins the longer
-pub front : (a b c d : List ℕ) → c ++ d ≡ a ++ b → length a ≤ length c → c ≡ a ++ drop (length a) c
-front a b c d same few =
-    sym (take-append-drop (length a) c) ∙ ap (λ xs. xs ++ drop (length a) c)
-    (sym (take-append-le (length a) c d few) ∙ ap (λ xs. take (length a) xs) same ∙ take-append_seam a b)
 
 pub head_past : (text : List ℕ) (headers : List HeaderSpan) (spans : RequestSpans) (h : RequestHead) → IsRequestWithin text headers spans → IsRequestAt text headers spans h → 16384 < spans.len → IsTooLarge text
 head_past text headers spans h within at past = record {
@@ -29,22 +23,17 @@ head_past text headers spans h within at past = record {
   past = inl (omega (arith, within.section.len_fits));
 }
 
-few_fields : (text : List ℕ) (headers : List HeaderSpan) (spans : RequestSpans) (h : RequestHead) → IsRequestAt text headers spans h → length headers ≤ 64 → length h.fields ≤ 64
-few_fields text headers spans h at few =
-    omega (arith, ap length at.fields, length-map (take spans.headers headers) (header_bytes text), length-map h.fields name_and_value, length-take spans.headers headers)
-
 pub found_head : (text : List ℕ) (headers : List HeaderSpan) (spans : RequestSpans) (h : RequestHead) (head : Head) → IsRequestAt text headers spans h → IsHead h head (take spans.len text)
     → length headers ≤ 64 → spans.len ≤ 16384 → FoundHead text head (take spans.len text) (drop spans.len text)
-found_head text headers spans h head at is few small = record {
-  tree = h;
-  reads = record { reads = at.reads; small = record { bytes = omega (arith, at.len); fields = few_fields text headers spans h at few } };
-  is = is;
-}
+found_head text headers spans h head at is few small =
+    let kept = length-map (take spans.headers headers) (header_bytes text) in
+    let told : length h.fields ≤ 64 = omega (arith, few, ap length at.fields, kept, length-map h.fields name_and_value, length-take spans.headers headers) in
+    record { tree = h; reads = record { reads = at.reads; small = record { bytes = omega (arith, at.len); fields = told } }; is = is }
 
 pub partial_past : (text : List ℕ) → HasNoRequest text → 16384 ≤ length text → IsTooLarge text
 partial_past text never past = record {
   none = λ more h rest r.
-      never h _ (r.reads.0, front (print_request h) rest text more r.reads.1 (omega (arith, r.small.bytes)));
+      let w = cut (print_request h) rest text more (sym r.reads.1) (omega (arith, r.small.bytes)) in never h w.0 (r.reads.0, w.1);
   past = inl past;
 }
 

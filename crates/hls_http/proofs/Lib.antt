@@ -3,7 +3,6 @@ mod Buffers
 mod Digits
 mod HeadLaws
 mod QueryLaws
-mod ReplyLaws
 mod SendLaws
 mod Values
 mod Words

@@ -1,11 +1,14 @@
 -- Output written part by part.
-use Rattle.std.proofs.Common.{◌≡◌, ◌∙◌, ℕ, List, ◌++◌, Option, Some, Bool, true, false, length, drop, sym, ap, subst, append_assoc}
+use Rattle.std.proofs.Common.{◌≡◌, ◌∙◌, ℕ, List, ◌++◌, Option, Some, Bool, true, false, length, drop, refl, sym, ap, subst, append_assoc, append-nil}
 use Rattle.std.specs.Prelude.{◌==◌}
 use Rattle.std.proofs.lemmas.Bool.{eqb-true}
 use Rattle.std.proofs.lemmas.List.{nil_from_length, take-append-drop}
 use Rattle.bytes.specs.Unread.{IsChunkOf}
 use Rattle.hls_io.specs.Writing.{Writes}
-use Rattle.hls_http.proofs.ReplyLaws.{writes_whole}
+
+pub writes_whole : (held text : List ℕ) (contents : Option (List ℕ)) → Writes held text contents true → contents ≡ Some (held ++ text)
+writes_whole held text contents w =
+    w.contents_are ∙ ap (λ xs. Some (held ++ xs)) (sym (w.split ∙ ap (λ xs. w.written ++ xs) (w.whole refl) ∙ append-nil w.written))
 
 -- of the text the front was written behind what was held, and the rest waits
 pub record Sent (held text waiting : List ℕ) (contents : Option (List ℕ)) : Type 0 where

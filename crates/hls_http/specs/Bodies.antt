@@ -41,7 +41,5 @@ Passes b input last taken held left (Ok Over) = (last ≡ Length 0) × Goes b in
 Passes b input last taken held left (Err end) = Goes b input [] last held left × Stops last held left end
 
 abbrev pub CountsBody : Result Given BodyEnd → ℕ → ℕ → Type 0
-CountsBody (Ok given) old new = new ≡ old
-CountsBody (Err BadFraming) old new = new ≡ old
-CountsBody (Err CutShort) old new = new ≡ old
 CountsBody (Err ReadFailed) old new = Rose old new
+CountsBody _ old new = new ≡ old

@@ -1,11 +1,10 @@
 -- What of a body that is dropped is still to come.
 use Rattle.std.specs.Prelude.{ℕ}
 use Rattle.hls_http_laws.specs.declared.body.Body.{Body}
-use Rattle.hls_http_laws.specs.declared.body.Body.TheVariants.{Length, Size, Data, Trailers}
+use Rattle.hls_http_laws.specs.declared.body.Body.TheVariants.{Length, Data}
 
 -- the bytes that are known to be still to come
 abbrev pub announced_by : Body → ℕ
 announced_by (Length n) = n
-announced_by Size = 0
 announced_by (Data n) = n
-announced_by Trailers = 0
+announced_by _ = 0

@@ -64,9 +64,5 @@ Hears input taken held left (Err HeadTooLarge) = (prepend_known held left ≡ So
 Hears input taken held left (Err ReadFailed) = (prepend_known held left ≡ Some input) × IsUnfinished held
 
 abbrev pub CountsHead : Result Head HeadEnd → ℕ → ℕ → Type 0
-CountsHead (Ok head) old new = new ≡ old
-CountsHead (Err Closed) old new = new ≡ old
-CountsHead (Err CutShort) old new = new ≡ old
-CountsHead (Err BadHead) old new = new ≡ old
-CountsHead (Err HeadTooLarge) old new = new ≡ old
 CountsHead (Err ReadFailed) old new = Rose old new
+CountsHead _ old new = new ≡ old

@@ -19,9 +19,8 @@ pub record Reads (old new : List ℕ) (before left : Option (List ℕ)) (filled 
   pub brings : Brings filled bytes left
 
 abbrev pub CountsFill : Filled → ℕ → ℕ → Type 0
-CountsFill More old new = new ≡ old
-CountsFill AtEnd old new = new ≡ old
 CountsFill Failed old new = Rose old new
+CountsFill _ old new = new ≡ old
 
 -- so many bytes came of the reader, and stand behind those that were unread, none only at its end; or nothing has changed
 abbrev pub Came : {E : Type 0} → List ℕ → List ℕ → Option (List ℕ) → Option (List ℕ) → Result ℕ E → Type 0

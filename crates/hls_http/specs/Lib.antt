@@ -3,7 +3,6 @@ pub mod Drained
 pub mod Heads
 pub mod Input
 pub mod Replies
-pub mod Sessions
 pub mod Source
 pub mod Texts
 pub mod Values

@@ -1,6 +1,7 @@
--- What is told of a source: what it holds, what was taken last, and the reader inside.
+-- What is told of a source: what it holds, what was taken last, and the reader inside; and a session that begins.
 use Rattle.std.specs.Prelude.{◌≡◌, ℕ, List, [], ◌++◌, Option, Some}
 use Rattle.hls_io.specs.Counted.{calls_left, failures_of, inside_of}
+use Rattle.hls_http.specs.declared.session.Session.{Session}
 use Rattle.hls_http.specs.declared.source.Source.{Source}
 
 -- read, and not yet taken
@@ -31,3 +32,9 @@ pub record IsFresh {R : Type 0} (reader : R) (source : Source R) : Type 0 where
   pub held : held_of source ≡ []
   pub inside : reader_of source ≡ reader
   pub quiet : read_failures source ≡ 0
+
+-- a session of which nothing was read or written
+pub record IsNew {R W : Type 0} (reader : R) (writer : W) (session : Session R W) : Type 0 where
+  pub source : IsFresh reader session.source
+  pub inside : inside_of session.writer ≡ writer
+  pub quiet : failures_of session.writer ≡ 0

@@ -1,16 +1,11 @@
 -- For the proofs of this crate; no public clause cites it.
 -- The values of a head's fields, as its spans show them.
-use Rattle.std.specs.Prelude.{◌≡◌, ℕ, ◌<◌, ◌≤◌, cond, List, [], ◌∷◌, length, drop, map, Option, Some, None, Ok, Err}
+use Rattle.std.specs.Prelude.{◌≡◌, ℕ, ◌<◌, ◌≤◌, cond, List, [], ◌∷◌, length, drop, map, Option, Some, None}
 use Rattle.httparse.specs.declared.spans.HeaderSpan.{HeaderSpan}
 use Rattle.hls_http.specs.declared.fields.Only.{Only}
 use Rattle.hls_http.specs.declared.fields.Only.TheVariants.{Missing, One, Several}
-use Rattle.hls_http.specs.declared.fields.Lengths.{Lengths}
-use Rattle.hls_http.specs.declared.fields.Lengths.TheVariants as lengths
 use Rattle.httparse.specs.Spans.{header_bytes}
-use Rattle.hls_http_laws.specs.declared.body.Body.TheVariants.{Length}
-use Rattle.hls_http_laws.specs.declared.fault.HttpFault.TheVariants.{BadFraming}
-use Rattle.hls_http_laws.specs.Fields.{Fields, named, values, length_of}
-use Rattle.hls_http_laws.specs.Framing.{same_length}
+use Rattle.hls_http_laws.specs.Fields.{Fields, named, values}
 
 abbrev pub fields_at : List ℕ → List HeaderSpan → Fields
 fields_at text headers = map (header_bytes text) headers
@@ -33,9 +28,3 @@ abbrev pub IsOnly : List (List ℕ) → Only → Type 0
 IsOnly vs Missing = vs ≡ []
 IsOnly vs (One value) = vs ≡ value.now ∷ []
 IsOnly vs Several = (x : List ℕ) × (y : List ℕ) × (more : List (List ℕ)) × (vs ≡ x ∷ y ∷ more)
-
--- of the values of Content-Length
-abbrev pub AreLengths : List (List ℕ) → Lengths → Type 0
-AreLengths vs lengths.Missing = vs ≡ []
-AreLengths vs (lengths.Same n) = (v : List ℕ) × (more : List (List ℕ)) × (vs ≡ v ∷ more) × (same_length (length_of v) more ≡ Ok (Length n))
-AreLengths vs lengths.Bad = (v : List ℕ) × (more : List (List ℕ)) × (vs ≡ v ∷ more) × (same_length (length_of v) more ≡ Err BadFraming)

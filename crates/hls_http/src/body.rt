@@ -2,16 +2,12 @@
 
 ghost use Rattle.std.specs.Prelude.{◌≡◌, ◌≢◌, ◌<◌, ◌≤◌, length, min};
 ghost use Rattle.hls_http_laws.specs.Bodies.{after_line};
-ghost use Rattle.hls_http.specs.Bodies.{CountsBody, Moves, Passes};
-ghost use Rattle.hls_http.specs.Source.{FromSource, read_failures, taken_of};
+ghost use Rattle.hls_http.specs.Bodies.{Moves};
 
-use crate::input::Filled;
-use crate::source::Source;
 use hls_http_laws::body::Body;
 use hls_http_laws::limits::{MOST_FIELDS, MOST_HEAD};
 use httparse::spans::{EMPTY_HEADER_SPAN, parse_headers};
 use httparse::{Status, parse_chunk_size};
-use std::io::Read;
 
 /// What stands at the front of the held bytes of a body.
 #[derive(Clone, Copy, Debug, PartialEq, Eq, Drop)]
@@ -150,36 +146,5 @@ pub fn find_move(held: &[u8], body: Body) -> Result<Move, Lack>
         Body::Size => find_size(held),
         Body::Data(left) => find_data(held, left),
         Body::Trailers => find_trailers(held),
-    }
-}
-
-/// Takes the next piece of a body, reading as much as it needs; the body says where it goes on. Where it is over,
-/// what follows it is held. The last byte of a body by length is a piece of its own, so what an earlier piece shows
-/// stands before the body's end. No memory is taken.
-pub fn read_body<R: Read>(source: &mut Source<R>, body: &mut Body) -> Result<Given, BodyEnd>
-    ensures passes { FromSource R.remaining source.old source.new (λ input. Passes body.old input body.new (taken_of source.new)) result }
-    ensures counts { CountsBody result (read_failures source.old) (read_failures source.new) }
-{
-    loop {
-        if *body == Body::Length(0) {
-            return Ok(Given::Over);
-        }
-        match find_move(source.held(), *body) {
-            Ok(Move::Piece(len, next)) => {
-                source.take(len);
-                *body = next;
-                return Ok(Given::Piece);
-            }
-            Ok(Move::Frame(len, next)) => {
-                source.take(len);
-                *body = next;
-            }
-            Err(Lack::Wait) => match source.fill() {
-                Filled::More => {}
-                Filled::AtEnd => return Err(BodyEnd::CutShort),
-                Filled::Failed => return Err(BodyEnd::ReadFailed),
-            },
-            Err(Lack::Bad) => return Err(BodyEnd::BadFraming),
-        }
     }
 }

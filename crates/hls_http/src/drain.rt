@@ -22,7 +22,6 @@ pub fn announced(body: Body) -> u64
     match body {
         Body::Length(left) => left,
         Body::Data(left) => left,
-        Body::Size => 0,
-        Body::Trailers => 0,
+        _ => 0,
     }
 }

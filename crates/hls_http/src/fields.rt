@@ -2,10 +2,10 @@
 
 ghost use Rattle.std.specs.Prelude.{◌≡◌, length, All, option_map, codes};
 ghost use Rattle.httparse.specs.Spans.{IsHeaderWithin, header_bytes};
-ghost use Rattle.hls_http_laws.specs.Fields.{closes, expects, has_word, is_word, values};
-ghost use Rattle.hls_http_laws.specs.Framing.{body_of, framing_of, is_chunked, is_hosted};
+ghost use Rattle.hls_http_laws.specs.Fields.{closes, expects, has_word, is_word, length_of, values};
+ghost use Rattle.hls_http_laws.specs.Framing.{body_of, framing_of, is_chunked, is_hosted, same_length};
 ghost use Rattle.hls_http_laws.specs.Range.{asked_of};
-ghost use Rattle.hls_http.specs.Values.{AreLengths, IsOnly, NextValue, fields_at, named_value};
+ghost use Rattle.hls_http.specs.Values.{IsOnly, NextValue, fields_at, named_value, values_from};
 
 use crate::number::find_byte;
 use crate::range::read_range;
@@ -67,32 +67,27 @@ fn find_only<'a>(text: &'a [u8], headers: &[HeaderSpan], name: &[u8]) -> Only<'a
     }
 }
 
-/// What the values of Content-Length come to.
-#[derive(Clone, Copy, Debug, PartialEq, Eq, Drop)]
-enum Lengths {
-    Missing,
-    Same(u64),
-    Bad,
-}
-
-fn find_lengths(text: &[u8], headers: &[HeaderSpan]) -> Lengths
+/// By the first value of Content-Length, and those among the fields from one on: several equal lengths count as one.
+fn same_length(
+    text: &[u8],
+    headers: &[HeaderSpan],
+    first: &[u8],
+    second: usize,
+) -> Result<Body, HttpFault>
     requires { All (IsHeaderWithin (length text.now)) headers.now }
-    ensures { AreLengths (values (codes "content-length") (fields_at text.now headers.now)) result }
+    ensures { result ≡ same_length (length_of first.now) (values_from text.now headers.now (codes "content-length") second) }
 {
-    let Some((second, first)) = find_value(text, headers, b"content-length", 0) else {
-        return Lengths::Missing;
-    };
     let Some(len) = read_number(first, MOST_LENGTH_DIGITS) else {
-        return Lengths::Bad;
+        return Err(HttpFault::BadFraming);
     };
     let mut at = second;
     while let Some((next, value)) = find_value(text, headers, b"content-length", at) {
         if read_number(value, MOST_LENGTH_DIGITS) != Some(len) {
-            return Lengths::Bad;
+            return Err(HttpFault::BadFraming);
         }
         at = next;
     }
-    Lengths::Same(len)
+    Ok(Body::Length(len))
 }
 
 fn is_hosted_by(text: &[u8], headers: &[HeaderSpan], minor: u8) -> bool
@@ -114,12 +109,12 @@ fn framing(text: &[u8], headers: &[HeaderSpan], minor: u8) -> Result<Body, HttpF
     ensures { result ≡ framing_of minor (fields_at text.now headers.now) }
 {
     match (
-        find_lengths(text, headers),
+        find_value(text, headers, b"content-length", 0),
         find_only(text, headers, b"transfer-encoding"),
     ) {
-        (Lengths::Missing, Only::Missing) => Ok(Body::Length(0)),
-        (Lengths::Same(len), Only::Missing) => Ok(Body::Length(len)),
-        (Lengths::Missing, Only::One(coding)) if is_chunked_coding(coding, minor) => Ok(Body::Size),
+        (None, Only::Missing) => Ok(Body::Length(0)),
+        (Some((second, first)), Only::Missing) => same_length(text, headers, first, second),
+        (None, Only::One(coding)) if is_chunked_coding(coding, minor) => Ok(Body::Size),
         _ => Err(HttpFault::BadFraming),
     }
 }

@@ -3,19 +3,15 @@
 ghost use Rattle.std.specs.Prelude.{◌≡◌, take};
 ghost use Rattle.httparse.specs.Grammar.{RequestHead};
 ghost use Rattle.httparse.specs.Spans.{IsRequestAt, IsRequestWithin};
-ghost use Rattle.hls_http.specs.Heads.{method_of, CountsHead, Finds, Hears, IsHead};
-ghost use Rattle.hls_http.specs.Source.{FromSource, read_failures, taken_of};
+ghost use Rattle.hls_http.specs.Heads.{method_of, Finds, IsHead};
 
 use crate::fields::{asked_range, body, closes_connection, waits_for_continue};
-use crate::input::Filled;
-use crate::source::Source;
 use hls_http_laws::body::Body;
 use hls_http_laws::fault::HttpFault;
 use hls_http_laws::limits::{MOST_FIELDS, MOST_HEAD};
 use hls_http_laws::range::Asked;
 use httparse::spans::{EMPTY_HEADER_SPAN, HeaderSpan, RequestSpans, Span, parse_request};
 use httparse::{Error, Status};
-use std::io::Read;
 
 /// The method of a request, case-sensitive (RFC 9110 9.1).
 #[derive(Clone, Copy, Debug, PartialEq, Eq, Drop)]
@@ -125,34 +121,5 @@ pub fn find_head(text: &[u8]) -> Result<(Head, usize), Look>
         Ok(Status::Partial) => Err(Look::TooLarge),
         Err(Error::TooManyHeaders) => Err(Look::TooLarge),
         Err(_) => Err(Look::Hopeless),
-    }
-}
-
-/// Takes the next head, reading as much as it needs. The head's text is then what the source has taken last, with
-/// empty lines that stood before it. Nothing is taken on any error. No memory is taken.
-pub fn next_head<R: Read>(source: &mut Source<R>) -> Result<Head, HeadEnd>
-    ensures hears { FromSource R.remaining source.old source.new (λ input. Hears input (taken_of source.new)) result }
-    ensures counts { CountsHead result (read_failures source.old) (read_failures source.new) }
-{
-    loop {
-        match find_head(source.held()) {
-            Ok((head, len)) => {
-                source.take(len);
-                return Ok(head);
-            }
-            Err(Look::Hopeless) => return Err(HeadEnd::BadHead),
-            Err(Look::TooLarge) => return Err(HeadEnd::HeadTooLarge),
-            Err(Look::Partial) => {}
-        }
-        match source.fill() {
-            Filled::More => {}
-            Filled::AtEnd => {
-                if source.held().is_empty() {
-                    return Err(HeadEnd::Closed);
-                }
-                return Err(HeadEnd::CutShort);
-            }
-            Filled::Failed => return Err(HeadEnd::ReadFailed),
-        }
     }
 }

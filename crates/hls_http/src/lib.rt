@@ -14,7 +14,6 @@ mod order;
 mod query;
 mod range;
 mod reply;
-mod send;
 mod session;
 mod source;
 

@@ -27,9 +27,8 @@ fn is_past(body: Body) -> bool
 {
     match body {
         Body::Length(len) => len > MOST_DROPPED,
-        Body::Size => false,
         Body::Data(len) => len > MOST_DROPPED,
-        Body::Trailers => false,
+        _ => false,
     }
 }
 

@@ -1,9 +1,8 @@
 -- A stream has one list of requests.
-use Rattle.std.proofs.Common.{◌≡◌, ◌∙◌, ℕ, zero, suc, inl, inr, List, [], ◌∷◌, ◌++◌, length, Ok, refl, sym, ap, subst, append-nil, arith, length-append}
+use Rattle.std.proofs.Common.{◌≡◌, ◌∙◌, ℕ, inl, inr, List, [], ◌∷◌, ◌++◌, length, Ok, refl, sym, ap, subst, append-nil, arith, length-append}
 use Rattle.httparse.specs.Grammar.{RequestHead, print_request, ReadsRequest}
 use Rattle.httparse.proofs.GrammarLemmas.{request_unique}
 use Rattle.hls_http_laws.specs.declared.body.Body.{Body}
-use Rattle.hls_http_laws.specs.declared.body.Body.TheVariants.{Length, Size, Data, Trailers}
 use Rattle.hls_http_laws.specs.declared.end.InputEnd.{InputEnd}
 use Rattle.hls_http_laws.specs.declared.end.InputEnd.TheVariants.{Closed, CutShort, BadHead, HeadTooLarge, BadRequest}
 use Rattle.hls_http_laws.specs.Heads.{ReadsSmall}
@@ -11,7 +10,7 @@ use Rattle.hls_http_laws.specs.Bodies.{IsBroken, IsOpen}
 use Rattle.hls_http_laws.specs.Grammar.{IsBody}
 use Rattle.hls_http_laws.specs.Requests.{Request, begins, ReadsOne, Cuts, StopsInBody, HasBadFields, Ends}
 use Rattle.hls_http_laws.specs.Laws.{StreamsAreOne}
-use Rattle.hls_http_laws.proofs.BodyLaws.{body_one, broken_body, run_left, size_opens}
+use Rattle.hls_http_laws.proofs.BodyLaws.{body_one, broken_body, open_body, run_left}
 
 -- the body behind a head is one
 same_begin : (x y : RequestHead) (b d : Body) → x ≡ y → begins x ≡ Ok b → begins y ≡ Ok d → d ≡ b
@@ -31,15 +30,6 @@ one_left text middle after r q x y =
 no_empty_request : (h : RequestHead) (rest : List ℕ) → [] ≡ print_request h ++ rest → ⊥
 unfolding print_request
 no_empty_request h rest e = absurd (omega (arith, ap length e, length-append {A = ℕ}))
-
-pub open_body : (b : Body) (later content rest : List ℕ) → IsOpen b later → IsBody b later content rest → ⊥
-open_body (Length n) later content rest s h = absurd (omega (arith, ap length h.0, s.0, h.1, ap length s.1, length-append content rest))
-open_body Size later content rest s h =
-    let o = size_opens later content rest h in s.1 o.step.1.line o.middle o.step.1.reads
-open_body (Data zero) later content rest (inl s) h = absurd (omega (arith, ap length h.whole, ap length s, length-append h.bytes (13 ∷ 10 ∷ h.middle)))
-open_body (Data zero) later content rest (inr s) h = absurd (omega (arith, ap length h.whole, ap length s, length-append h.bytes (13 ∷ 10 ∷ h.middle)))
-open_body (Data (suc n)) later content rest s h = absurd (omega (arith, ap length h.whole, ap length s, length-append h.bytes (13 ∷ 10 ∷ h.middle)))
-open_body Trailers later content rest s h = s.1 h.1.fields h.1.last rest h.1.reads
 
 broken_here : (b : Body) (later content rest : List ℕ) → IsBroken b later → IsBody b later content rest → ⊥
 broken_here b later content rest s h =

@@ -1,19 +1,18 @@
 -- What stands at the front of a text stays there; step by step.
-use Rattle.std.proofs.Common.{◌≡◌, ◌∙◌, ◌⊎◌, ℕ, zero, suc, ◌+◌, ◌≤◌, ◌<◌, inl, inr, List, [], ◌∷◌, ◌++◌, length, refl, sym, ap, subst, append_assoc, append-nil, arith, length-append}
+use Rattle.std.proofs.Common.{◌≡◌, ◌∙◌, ℕ, zero, suc, ◌+◌, ◌≤◌, ◌<◌, inl, inr, List, [], ◌∷◌, ◌++◌, length, refl, sym, ap, subst, append_assoc, arith, length-append}
 use Rattle.std.proofs.lemmas.Bool.{cases_lt}
-use Rattle.std.proofs.lemmas.List.{nil_from_length}
 use Rattle.httparse.specs.Grammar.{ReadsRequest}
 use Rattle.httparse.proofs.ChunkLemmas.{ReadsChunkLine-append}
 use Rattle.httparse.proofs.GrammarLemmas.{ReadsSection-append, ReadsRequest-append, request_unique}
 use Rattle.hls_http_laws.specs.declared.body.Body.{Body}
 use Rattle.hls_http_laws.specs.declared.body.Body.TheVariants.{Length, Size, Data, Trailers}
-use Rattle.hls_http_laws.specs.Bodies.{IsPiece, ReadsLine, ReadsTrailers, TakesData, EndsData, Steps, RunsIn, Runs, HasNoStep, after_line}
+use Rattle.hls_http_laws.specs.Bodies.{IsPiece, ReadsLine, Steps, Runs, NoStep, StepThen, after_line}
 use Rattle.hls_http_laws.specs.Grammar.{IsBody}
 use Rattle.hls_http_laws.specs.Heads.{ReadsSmall}
 use Rattle.hls_http_laws.specs.Requests.{Cuts}
 use Rattle.hls_http_laws.specs.Laws.{HeadsStay, RunsStay, BodiesStay, RequestsStay, StreamsStay, BadHeadsStay, LargeHeadsStay, BadFieldsStay, BrokenBodiesStay, RunsJoin, SplitsAt, RunsSplit, StreamsJoin, HeadsAreOne, RequestsAreOne, BrokenBodies, OpenBodies, SizesCount}
-use Rattle.hls_http_laws.proofs.BodyLaws.{body_taken, broken_body, cut, run_left, runs_none, runs_step, step_left, taken_body}
-use Rattle.hls_http_laws.proofs.RequestLaws.{one_left, open_body}
+use Rattle.hls_http_laws.proofs.BodyLaws.{body_taken, broken_body, cut, open_body, run_left, run_one, step_left, taken_body}
+use Rattle.hls_http_laws.proofs.RequestLaws.{one_left}
 
 -- ---- what was read
 
@@ -23,32 +22,27 @@ front input piece rest more is = ap (λ (t : List ℕ). t ++ more) is ∙ append
 piece_stays : (n : ℕ) (input piece : List ℕ) (left : ℕ) (rest more : List ℕ) → IsPiece n input piece left rest → IsPiece n (input ++ more) piece left (rest ++ more)
 piece_stays n input piece left rest more x = record { whole = front input piece rest more x.whole; some = x.some; count = x.count }
 
-line_stays : (input : List ℕ) (size : ℕ) (rest more : List ℕ) → ReadsLine input size rest → ReadsLine (input ++ more) size (rest ++ more)
+pub line_stays : (input : List ℕ) (size : ℕ) (rest more : List ℕ) → ReadsLine input size rest → ReadsLine (input ++ more) size (rest ++ more)
 line_stays input size rest more x = record { line = x.line; reads = ReadsChunkLine-append input x.line rest more x.reads; small = x.small; size_is = x.size_is }
-
-trailers_stay : (input rest more : List ℕ) → ReadsTrailers input rest → ReadsTrailers (input ++ more) (rest ++ more)
-trailers_stay input rest more x = record { fields = x.fields; last = x.last; reads = ReadsSection-append input x.fields x.last rest more x.reads; small = x.small; few = x.few }
-
-data_stays : (n : ℕ) (input piece rest more : List ℕ) (next : Body) → TakesData n input piece next rest ⊎ EndsData n input piece next rest
-    → TakesData n (input ++ more) piece next (rest ++ more) ⊎ EndsData n (input ++ more) piece next (rest ++ more)
-data_stays n input piece rest more next (inl s) = inl (s.0, piece_stays n input piece s.0 rest more s.1, s.2)
-data_stays n input piece rest more next (inr s) = inr (s.0, ap (λ (t : List ℕ). t ++ more) s.1, s.2, s.3)
 
 pub step_stays : (b next : Body) (input piece rest more : List ℕ) → Steps b input piece next rest → Steps b (input ++ more) piece next (rest ++ more)
 step_stays (Length n) next input piece rest more s = (s.0, piece_stays n input piece s.0 rest more s.1, s.2)
 step_stays Size next input piece rest more s = (s.0, line_stays input s.0 rest more s.1, s.2, s.3)
-step_stays (Data n) next input piece rest more s = data_stays n input piece rest more next s
-step_stays Trailers next input piece rest more s = (trailers_stay input rest more s.0, s.1, s.2)
-
-run_stays : (k : ℕ) (b last : Body) (input content rest more : List ℕ) → RunsIn k b input content last rest → RunsIn k b (input ++ more) content last (rest ++ more)
-run_stays zero b last input content rest more r = (r.0, ap (λ (t : List ℕ). t ++ more) r.1, r.2)
-run_stays (suc k) b last input content rest more r = (r.0, r.1, r.2 ++ more, r.3, step_stays b r.1 input r.0 r.2 more r.4, run_stays k r.1 last r.2 r.3 rest more r.5, r.6)
+step_stays (Data n) next input piece rest more (inl s) = inl (s.0, piece_stays n input piece s.0 rest more s.1, s.2)
+step_stays (Data n) next input piece rest more (inr s) = inr (s.0, ap (λ (t : List ℕ). t ++ more) s.1, s.2, s.3)
+step_stays Trailers next input piece rest more (x, none, next_is) = (
+  record { fields = x.fields; last = x.last; reads = ReadsSection-append input x.fields x.last rest more x.reads; small = x.small; few = x.few },
+  none,
+  next_is,
+)
 
 pub heads_stay : HeadsStay
 heads_stay text h rest more x = record { reads = ReadsRequest-append text h rest more x.reads; small = x.small }
 
 pub runs_stay : RunsStay
-runs_stay b input content last rest more r = record { steps = r.steps; run = run_stays r.steps b last input content rest more r.run }
+runs_stay b input content last rest more NoStep = NoStep
+runs_stay b input content last rest more (StepThen {next = next} {middle = middle} {more = others} piece s r) =
+    StepThen piece (step_stays b next input piece middle more s) (runs_stay next middle others last rest more r)
 
 pub bodies_stay : BodiesStay
 bodies_stay b input content rest more x =
@@ -84,29 +78,18 @@ large_heads_stay text more x = record {
 pub bad_fields_stay : BadFieldsStay
 bad_fields_stay text more x = record { head = x.head; fault = x.fault; rest = x.rest ++ more; reads = heads_stay text x.head x.rest more x.reads; begins_is = x.begins_is }
 
-no_step_stays : (b : Body) (held more : List ℕ) → HasNoStep b held → HasNoStep b (held ++ more)
-no_step_stays b held more never = λ later piece next rest s. never (more ++ later) piece next rest (subst (λ (t : List ℕ). Steps b t piece next rest) (append_assoc held more later) s)
-
 pub broken_bodies_stay : BrokenBodiesStay
 broken_bodies_stay (Length n) held more broken = broken
-broken_bodies_stay Size held more broken = no_step_stays Size held more broken
-broken_bodies_stay (Data n) held more broken = no_step_stays (Data n) held more broken
-broken_bodies_stay Trailers held more broken = no_step_stays Trailers held more broken
+broken_bodies_stay b held more broken = λ later piece next rest s.
+    broken (more ++ later) piece next rest (subst (λ (t : List ℕ). Steps b t piece next rest) (append_assoc held more later) s)
 
 -- ---- what stands behind it
 
-joined : (k : ℕ) (a b c : Body) (input first middle second rest : List ℕ) → RunsIn k a input first b middle → Runs b middle second c rest → Runs a input (first ++ second) c rest
-joined zero a b c input first middle second rest x y =
-    let here = subst (λ (t : List ℕ). Runs b t second c rest) x.1 y in
-    let same = subst (λ (d : Body). Runs d input second c rest) x.0 here in
-    subst (λ (t : List ℕ). Runs a input (t ++ second) c rest) (sym x.2) same
-joined (suc k) a b c input first middle second rest x y =
-    let later = joined k x.1 b c x.2 x.3 middle second rest x.5 y in
-    subst (λ (t : List ℕ). Runs a input t c rest) (sym (append_assoc x.0 x.3 second) ∙ ap (λ (t : List ℕ). t ++ second) (sym x.6))
-    (runs_step a x.1 c input x.0 x.2 (x.3 ++ second) rest x.4 later)
-
 pub runs_join : RunsJoin
-runs_join a b c input first middle second rest x y = joined x.steps a b c input first middle second rest x.run y
+runs_join a b c input first middle second rest NoStep y = y
+runs_join a b c input first middle second rest (StepThen {next = next} {middle = behind} {more = more} piece s r) y =
+    subst (λ (t : List ℕ). Runs a input t c rest) (sym (append_assoc piece more second))
+    (StepThen piece s (runs_join next b c behind more middle second rest r y))
 
 -- a step whose piece is cut in two is two steps
 pub record StepsTwice (b next : Body) (input first m rest : List ℕ) : Type 0 where
@@ -121,15 +104,6 @@ piece_front : (n : ℕ) (input first m : List ℕ) (left : ℕ) (rest : List ℕ
 piece_front n input first m left rest some x =
     record { whole = x.whole ∙ append_assoc first m rest; some = some; count = omega (arith, x.count, length-append first m) }
 
-data_twice : (n : ℕ) (next : Body) (input first m rest : List ℕ) → 0 < length first → 0 < length m
-    → TakesData n input (first ++ m) next rest ⊎ EndsData n input (first ++ m) next rest → StepsTwice (Data n) next input first m rest
-data_twice n next input first m rest some more (inl s) = record {
-  middle = Data (length m + s.0);
-  front = inl (length m + s.0, piece_front n input first m s.0 rest some s.1, refl);
-  behind = inl (s.0, record { whole = refl; some = more; count = refl }, s.2);
-}
-data_twice n next input first m rest some more (inr s) = absurd (no_piece first m s.2 some)
-
 step_twice : (b next : Body) (input first m rest : List ℕ) → 0 < length first → 0 < length m → Steps b input (first ++ m) next rest → StepsTwice b next input first m rest
 step_twice (Length n) next input first m rest some more s = record {
   middle = Length (length m + s.0);
@@ -137,58 +111,34 @@ step_twice (Length n) next input first m rest some more s = record {
   behind = (s.0, record { whole = refl; some = more; count = refl }, s.2);
 }
 step_twice Size next input first m rest some more s = absurd (no_piece first m s.2 some)
-step_twice (Data n) next input first m rest some more s = data_twice n next input first m rest some more s
+step_twice (Data n) next input first m rest some more (inl s) = record {
+  middle = Data (length m + s.0);
+  front = inl (length m + s.0, piece_front n input first m s.0 rest some s.1, refl);
+  behind = inl (s.0, record { whole = refl; some = more; count = refl }, s.2);
+}
+step_twice (Data n) next input first m rest some more (inr s) = absurd (no_piece first m s.2 some)
 step_twice Trailers next input first m rest some more s = absurd (no_piece first m s.1 some)
 
--- nothing is cut off the front
-split_none : (b last : Body) (input second rest : List ℕ) → Runs b input second last rest → SplitsAt b last input [] second rest
-split_none b last input second rest r = record { middle = b; later = input; front = runs_none b input; behind = r }
-
--- the cut is behind the first piece
-split_behind : (b next last : Body) (input piece m second later rest : List ℕ) → Steps b input piece next later → SplitsAt next last later m second rest
-    → SplitsAt b last input (piece ++ m) second rest
-split_behind b next last input piece m second later rest s w =
-    record { middle = w.middle; later = w.later; front = runs_step b next w.middle input piece later m w.later s w.front; behind = w.behind }
-
--- the cut is within the first piece
-split_within : (b next last : Body) (input first m more later rest : List ℕ) → 0 < length m → Steps b input (first ++ m) next later → Runs next later more last rest
-    → SplitsAt b last input first (m ++ more) rest
-split_within b next last input [] m more later rest some s r =
-    split_none b last input (m ++ more) rest (runs_step b next last input m later more rest s r)
-split_within b next last input (x ∷ first) m more later rest some s r =
-    let w = step_twice b next input (x ∷ first) m later (omega arith) some s in
-    record {
-      middle = w.middle;
-      later = m ++ later;
-      front = subst (λ (t : List ℕ). Runs b input t w.middle (m ++ later)) (append-nil (x ∷ first))
-          (runs_step b w.middle w.middle input (x ∷ first) (m ++ later) [] (m ++ later) w.front (runs_none w.middle (m ++ later)));
-      behind = runs_step w.middle next last (m ++ later) m later more rest w.behind r;
-    }
-
-split_in : (k : ℕ) (b last : Body) (input content first second rest : List ℕ) → content ≡ first ++ second → RunsIn k b input content last rest → SplitsAt b last input first second rest
-split_in zero b last input content first second rest is r =
-    let none : first ++ second ≡ [] = sym is ∙ r.2 in
-    let empty : first ≡ [] = nil_from_length first (omega (arith, ap length none, length-append first second)) in
-    let all : content ≡ second = is ∙ ap (λ (t : List ℕ). t ++ second) empty in
-    let whole : Runs b input second last rest = record { steps = 0; run = (r.0, r.1, sym all ∙ r.2) } in
-    subst (λ (t : List ℕ). SplitsAt b last input t second rest) (sym empty) (split_none b last input second rest whole)
-split_in (suc k) b last input content first second rest is r =
-    let both : r.0 ++ r.3 ≡ first ++ second = sym r.6 ∙ is in
-    elim (cases_lt (length first) (length r.0)) [
+split_at : (b last : Body) (input content first second rest : List ℕ) → content ≡ first ++ second → Runs b input content last rest → SplitsAt b last input first second rest
+split_at b last input content [] second rest is r = record { middle = b; later = input; front = NoStep; behind = subst (λ (t : List ℕ). Runs b input t last rest) is r }
+split_at b last input content (x ∷ first) second rest is NoStep = absurd (cc is)
+split_at b last input content (x ∷ first) second rest is (StepThen {next = next} {middle = behind} {more = more} piece s r) =
+    elim (cases_lt (length (x ∷ first)) (length piece)) [
       | inl short ↦
-          let w = cut first second r.0 r.3 (sym both) (omega (arith, short)) in
-          let step = subst (λ (t : List ℕ). Steps b input t r.1 r.2) w.1 r.4 in
-          let some : 0 < length w.0 = omega (arith, short, ap length w.1, length-append first w.0) in
-          let later : Runs r.1 r.2 r.3 last rest = record { steps = k; run = r.5 } in
-          subst (λ (t : List ℕ). SplitsAt b last input first t rest) (sym w.2) (split_within b r.1 last input first w.0 r.3 r.2 rest some step later)
+          let w = cut (x ∷ first) second piece more (sym is) (omega (arith, short)) in
+          let some : 0 < length w.0 = omega (arith, short, ap length w.1, length-append (x ∷ first) w.0) in
+          let twice = step_twice b next input (x ∷ first) w.0 behind (omega arith) some (subst (λ (t : List ℕ). Steps b input t next behind) w.1 s) in
+          let others = subst (λ (t : List ℕ). Runs twice.middle (w.0 ++ behind) t last rest) (sym w.2) (StepThen w.0 twice.behind r) in
+          record { middle = twice.middle; later = w.0 ++ behind; front = run_one b twice.middle input (x ∷ first) (w.0 ++ behind) twice.front; behind = others }
       | inr long ↦
-          let w = cut r.0 r.3 first second both long in
-          let later = split_in k r.1 last r.2 r.3 w.0 second rest w.2 r.5 in
-          subst (λ (t : List ℕ). SplitsAt b last input t second rest) (sym w.1) (split_behind b r.1 last input r.0 w.0 second r.2 rest r.4 later)
+          let w = cut piece more (x ∷ first) second is long in
+          let v = split_at next last behind more w.0 second rest w.2 r in
+          let front = subst (λ (t : List ℕ). Runs b input t v.middle v.later) (sym w.1) (StepThen piece s v.front) in
+          record { middle = v.middle; later = v.later; front = front; behind = v.behind }
     ]
 
 pub runs_split : RunsSplit
-runs_split b last input first second rest r = split_in r.steps b last input (first ++ second) first second rest refl r.run
+runs_split b last input first second rest r = split_at b last input (first ++ second) first second rest refl r
 
 pub streams_join : StreamsJoin
 streams_join text middle rest [] qs x y = subst (λ (t : List ℕ). Cuts t qs rest) x y

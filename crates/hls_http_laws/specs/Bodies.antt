@@ -47,16 +47,11 @@ Steps Size input piece next rest = (size : ℕ) × ReadsLine input size rest × 
 Steps (Data n) input piece next rest = TakesData n input piece next rest ⊎ EndsData n input piece next rest
 Steps Trailers input piece next rest = ReadsTrailers input rest × (piece ≡ []) × (next ≡ Length 0)
 
--- so many steps, and all that came out
-abbrev pub RunsIn : ℕ → Body → List ℕ → List ℕ → Body → List ℕ → Type 0
-RunsIn zero b input content last rest = (last ≡ b) × (rest ≡ input) × (content ≡ [])
-RunsIn (suc k) b input content last rest =
-    (piece : List ℕ) × (next : Body) × (middle : List ℕ) × (more : List ℕ)
-    × Steps b input piece next middle × RunsIn k next middle more last rest × (content ≡ piece ++ more)
-
-pub record Runs (b : Body) (input content : List ℕ) (last : Body) (rest : List ℕ) : Type 0 where
-  pub steps : ℕ
-  pub run : RunsIn steps b input content last rest
+-- steps one after the other, and all that came out
+pub data Runs : Body → List ℕ → List ℕ → Body → List ℕ → Type 0 where
+  NoStep : {b : Body} {input : List ℕ} → Runs b input [] b input
+  StepThen : {b next last : Body} {input middle more rest : List ℕ} (piece : List ℕ) → Steps b input piece next middle → Runs next middle more last rest
+      → Runs b input (piece ++ more) last rest
 
 -- whatever follows, no step can be made; bytes by length are never broken
 abbrev pub HasNoStep : Body → List ℕ → Type 0
@@ -64,9 +59,7 @@ HasNoStep b held = (more : List ℕ) (piece : List ℕ) (next : Body) (rest : Li
 
 abbrev pub IsBroken : Body → List ℕ → Type 0
 IsBroken (Length n) held = ⊥
-IsBroken Size held = HasNoStep Size held
-IsBroken (Data n) held = HasNoStep (Data n) held
-IsBroken Trailers held = HasNoStep Trailers held
+IsBroken b held = HasNoStep b held
 
 -- the text ends before a step
 abbrev pub IsOpenData : ℕ → List ℕ → Type 0

@@ -1,6 +1,6 @@
 -- What the fields of a head say, from the list of their names and values.
 use Rattle.std.specs.Prelude.{ℕ, Bool, ◌&&◌, ◌||◌, cond, ◌==◌, nat_eq, ◌-◌, List, [], ◌∷◌, length, take, drop, Option, codes}
-use Rattle.std.specs.List.{list_any, prefix_len, suffix_len}
+use Rattle.std.specs.List.{list_any, prefix_len, slice_split, suffix_len}
 use Rattle.std.specs.Char.{is_ascii_whitespace}
 use Rattle.std.specs.Str.{str_eq_ignore_ascii_case}
 use Rattle.hls_text.specs.Digits.{number_of}
@@ -24,13 +24,8 @@ abbrev pub length_of : List ℕ → Option ℕ
 length_of value = number_of length_digits value
 
 -- the pieces between commas
-abbrev pub onto_first : ℕ → List (List ℕ) → List (List ℕ)
-onto_first b [] = (b ∷ []) ∷ []
-onto_first b (piece ∷ pieces) = (b ∷ piece) ∷ pieces
-
-unfoldable pub between_commas : List ℕ → List (List ℕ)
-between_commas [] = [] ∷ []
-between_commas (b ∷ bytes) = cond (b == 44) ([] ∷ between_commas bytes) (onto_first b (between_commas bytes))
+abbrev pub between_commas : List ℕ → List (List ℕ)
+between_commas bytes = slice_split (λ b. b == 44) bytes
 
 -- without the blanks at both ends
 abbrev pub trim_front : List ℕ → List ℕ

@@ -2,7 +2,7 @@
 use Rattle.std.specs.Prelude.{nat_lt, nat_eq, Bool, true, false, not, ◌||◌, ◌&&◌, cond, Result, Ok, Err}
 use Rattle.httparse.specs.Grammar.{RequestHead}
 use Rattle.hls_http_laws.specs.declared.body.Body.{Body}
-use Rattle.hls_http_laws.specs.declared.body.Body.TheVariants.{Length, Size, Data, Trailers}
+use Rattle.hls_http_laws.specs.declared.body.Body.TheVariants.{Length, Data}
 use Rattle.hls_http_laws.specs.declared.fault.HttpFault.{HttpFault}
 use Rattle.hls_http_laws.specs.declared.fault.HttpFault.TheVariants.{TooLarge, NotFound}
 use Rattle.hls_http_laws.specs.declared.plan.Plan.{Plan}
@@ -13,16 +13,13 @@ use Rattle.hls_http_laws.specs.Requests.{fields_of}
 
 abbrev pub is_over : Body → Bool
 is_over (Length n) = nat_eq n 0
-is_over Size = false
-is_over (Data n) = false
-is_over Trailers = false
+is_over _ = false
 
 -- what is announced is past the limit of bodies that are dropped
 abbrev pub is_past : Body → Bool
 is_past (Length n) = nat_lt dropped_limit n
-is_past Size = false
 is_past (Data n) = nat_lt dropped_limit n
-is_past Trailers = false
+is_past _ = false
 
 -- by the body or the fault of the fields, whether the path is known, and whether its parts are wanted
 abbrev pub plan_by : Result Body HttpFault → Bool → Bool → Plan

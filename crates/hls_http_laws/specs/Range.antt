@@ -66,7 +66,5 @@ part_of (asks.Last n) total = cond (nat_eq n 0) parts.Outside (slice_from total 
 
 -- the numbers that a Range may come to
 abbrev pub IsAsked : Asked → Type 0
-IsAsked asks.All = Unit {0}
 IsAsked (asks.Between a b) = (a ≤ b) × (b ≤ range_limit)
-IsAsked (asks.From a) = Unit {0}
-IsAsked (asks.Last n) = Unit {0}
+IsAsked _ = Unit {0}

@@ -1,5 +1,3 @@
 pub mod Recents
-mod Wholes
 mod Parts
-mod Kept
 mod Shown

@@ -39,33 +39,24 @@ behind_on of a b behind follows s is =
 
 pub behind_itself : (of : Option State) (b : State) → of ≡ Some b → IsBehind of b
 behind_itself of b is s there =
-    let same : s ≡ b = some_is s b (sym there ∙ is) in
+    let same : s ≡ b = cc (sym there ∙ is) in
     (omega (arith, ap (λ (x : State). length x.log) same), λ equal r. ap (λ (x : State). live_text x r) (sym same))
-  where
-    some_is : (x y : State) → Some x ≡ Some y → x ≡ y
-    some_is x y e = cc
 
 kept_stays : (of : Option State) (version : ℕ) (b : State) → HasHad of version → IsBehind of b → version ≡ length b.log → (kept : Recent) → IsOf of kept → IsOf (Some b) kept
 kept_stays of version b had follows same kept (a, is, text) =
     (b, refl, (follows a is).1 (sym (had a is) ∙ same) kept.rendition ∙ text)
 
-lists_stay : (of : Option State) (version : ℕ) (b : State) (lists : List Recent) → HasHad of version → IsBehind of b → version ≡ length b.log → All (IsOf of) lists → All (IsOf (Some b)) lists
-lists_stay of version b lists had follows same kept = λ k d within. kept_stays of version b had follows same (slice_index_or lists k d) (kept k d within)
-
-had_now : (b : State) (version : ℕ) → version ≡ length b.log → HasHad (Some b) version
-had_now b version same s is = cc
-
 lists_now : (of : Option State) (b : State) (old now : ℕ) (lists kept : List Recent) → AreOf of old lists → IsBehind of b → now ≡ length b.log
     → ((now ≡ old) × (kept ≡ lists)) ⊎ (kept ≡ []) → All (IsOf (Some b)) kept
 lists_now of b old now lists kept are follows had (inl (same, is)) =
-    subst (λ (l : List Recent). All (IsOf (Some b)) l) (sym is) (lists_stay of old b lists are.0 follows (sym same ∙ had) are.1)
-lists_now of b old now lists kept are follows had (inr none) = subst (λ (l : List Recent). All (IsOf (Some b)) l) (sym none) (All-nil (IsOf (Some b)))
+    rw is (λ k d within. kept_stays of old b are.0 follows (sym same ∙ had) (slice_index_or lists k d) (are.1 k d within))
+lists_now of b old now lists kept are follows had (inr none) = rw none (All-nil (IsOf (Some b)))
 
 -- behind a step to another state, or to the same
 pub gone_on : (of new : Option State) (b : State) (old now version : ℕ) (lists kept : List Recent) → AreOf of old lists → IsBehind of b → new ≡ Some b → now ≡ length b.log
     → (version ≡ now) × (((now ≡ old) × (kept ≡ lists)) ⊎ (kept ≡ [])) → AreOf new version kept
 gone_on of new b old now version lists kept are follows noted had (is, how) =
-    subst (λ (o : Option State). AreOf o version kept) (sym noted) (had_now b version (is ∙ had), lists_now of b old now lists kept are follows had how)
+    rw noted (λ s there. cc (is, had, there), lists_now of b old now lists kept are follows had how)
 
 -- one list more, where there was memory
 pub pushed : (of : Option State) (b : Bool) (old new : List Recent) (x : Recent) → new ≡ (if b then old ++ x ∷ [] else old) → All (IsOf of) old → IsOf of x → All (IsOf of) new
@@ -88,7 +79,4 @@ text_at of lists at x y rendition text within all x_is named y_is is =
 -- what is kept is shown in the state that is at hand
 pub shown_kept : (of : Option State) (b : State) (rendition : ℕ) (text : List ℕ) → of ≡ Some b → IsText of rendition text → live_text b rendition ≡ Some text
 shown_kept of b rendition text is (s, at, shown) =
-    let same : s ≡ b = some_is s b (sym at ∙ is) in subst (λ (x : State). live_text x rendition ≡ Some text) same shown
-  where
-    some_is : (x y : State) → Some x ≡ Some y → x ≡ y
-    some_is x y e = cc
+    let same : s ≡ b = cc (sym at ∙ is) in subst (λ (x : State). live_text x rendition ≡ Some text) same shown

@@ -1,23 +1,35 @@
 -- What the body of an answer stands in: a text, a recording, or a job's resource, each in slices; or a text that is still being made.
-use Rattle.std.specs.Prelude.{ℕ, ◌-◌, ◌≤◌, nat_lt, cond, List, [], ◌∷◌, length, Option, Some, None, Result, Ok, Err}
-use Rattle.hls_record.specs.Recorded.{Recorded, offset_at, total_of}
+use Rattle.std.specs.Prelude.{◌≡◌, ℕ, ◌+◌, ◌-◌, ◌≤◌, nat_lt, cond, List, [], ◌∷◌, length, take, drop, Option, Some, None, Result, Ok, Err}
+use Rattle.std.specs.List.{concat}
+use Rattle.hls_record.specs.Recorded.{Recorded, offset_at}
 use Rattle.hls_core.specs.Reads.{recording_of}
+use Rattle.hls_http_laws.specs.declared.range.Asked.{Asked}
+use Rattle.hls_http_laws.specs.declared.range.Part.TheVariants.{Outside}
+use Rattle.hls_http_laws.specs.Range.{part_of}
 use Rattle.hls_http_laws.specs.Reply.{extra_line}
 use Rattle.hls_lists_laws.specs.Jobs.{units_between}
+use Rattle.hls_output.specs.Slices.{part_at, rest_at}
 use Rattle.hls_catchup.specs.Replies.{ReplyData}
 use Rattle.hls_catchup.specs.Resources.{slices_in}
 use Rattle.hls_catchup.specs.declared.jobs.job.Job.{Job}
 use Rattle.hls_catchup.specs.declared.jobs.standing.Withheld.{Withheld}
 use Rattle.hls_catchup.specs.Jobs.Standing.{files_of}
 use Rattle.hls_serve_laws.specs.JobReplies.{resource_of}
-use Rattle.hls_serve_laws.specs.Replies.{Answer, media_bytes}
+use Rattle.hls_serve_laws.specs.Replies.{Answer, media_bytes, media_given, part_answer}
 use Rattle.hls_replies.specs.declared.media.Recorded.{Recorded as Kept}
+use Rattle.hls_replies.specs.declared.media.Piece.{Piece}
 use Rattle.hls_replies.specs.declared.resource.Programme.{Programme as Made}
 use Rattle.hls_replies.specs.declared.body.Body.{Body}
 use Rattle.hls_replies.specs.declared.body.Body.TheVariants as bodies
 use Rattle.hls_replies.specs.declared.content.Content.{Content}
 use Rattle.hls_replies.specs.declared.content.Content.TheVariants as contents
 use Rattle.hls_replies.specs.declared.answer.Answer.TheInside.{Inside}
+
+-- from a place on in slices, one's number and how far in it, so many bytes stand as from byte `at` of the slices joined
+pub record IsPlaced (slices : List (List ℕ)) (at len : ℕ) (place : ℕ × ℕ) : Type 0 where
+  pub there : len ≤ length (rest_at slices place.0 place.1)
+  pub is : part_at slices place.0 place.1 len ≡ take len (drop at (concat slices))
+  pub back : place.1 ≤ at
 
 -- ---- of a recording
 
@@ -26,28 +38,23 @@ abbrev pub kept_slices : Option Recorded → List (List ℕ)
 kept_slices None = []
 kept_slices (Some rec) = rec.head ∷ units_between rec.floor rec.units rec.floor (length rec.facts)
 
+abbrev pub recorded_of : Kept → Option Recorded
+recorded_of kept = recording_of kept.snapshot.value kept.rendition
+
 abbrev pub recorded_slices : Kept → List (List ℕ)
-recorded_slices kept = kept_slices (recording_of kept.snapshot.value kept.rendition)
+recorded_slices kept = kept_slices (recorded_of kept)
 
 -- where a byte that isn't trimmed stands among those that aren't
 abbrev pub kept_at : Recorded → ℕ → ℕ
 kept_at rec at = cond (nat_lt at (length rec.head)) at (at - (offset_at rec rec.floor - length rec.head))
 
 -- so many bytes from an offset on, where none of them is trimmed
-abbrev pub part_by : Option Recorded → ℕ → ℕ → Option (List ℕ)
-part_by None from len = None
-part_by (Some rec) from len = media_bytes rec from len
+abbrev pub bytes_by : Option Recorded → ℕ → ℕ → Option (List ℕ)
+bytes_by None from len = None
+bytes_by (Some rec) from len = media_bytes rec from len
 
-abbrev pub part_of : Kept → ℕ → ℕ → Option (List ℕ)
-part_of kept from len = part_by (recording_of kept.snapshot.value kept.rendition) from len
-
--- the offset is none past the resource's end
-abbrev pub FitsBy : Option Recorded → ℕ → Type 0
-FitsBy None end = ⊥
-FitsBy (Some rec) end = end ≤ total_of rec
-
-abbrev pub FitsIn : Kept → ℕ → Type 0
-FitsIn kept end = FitsBy (recording_of kept.snapshot.value kept.rendition) end
+abbrev pub bytes_of : Kept → ℕ → ℕ → Option (List ℕ)
+bytes_of kept from len = bytes_by (recorded_of kept) from len
 
 -- ---- of a job
 
@@ -68,6 +75,16 @@ abbrev pub programme_slices : Made → List (List ℕ)
 programme_slices made = slices_by (files_of made.job) made.rendition
 
 -- ---- of an answer
+
+-- this piece of a resource of so many bytes is the part that is asked for, however its bytes are told
+pub record IsPiece (asked : Asked) (total : ℕ) (piece : Piece) : Type 0 where
+  pub within : piece.from + piece.len ≤ total
+  pub shown : (bytes : ℕ → ℕ → Option (List ℕ))
+      → media_given piece.status piece.extra (bytes piece.from piece.len) ≡ part_answer bytes total (part_of asked total)
+
+abbrev pub IsPieceFor : Asked → ℕ → Option Piece → Type 0
+IsPieceFor asked total None = part_of asked total ≡ Outside
+IsPieceFor asked total (Some piece) = IsPiece asked total piece
 
 abbrev pub slices_of : Body → List (List ℕ)
 slices_of (bodies.Text text) = text.items ∷ []

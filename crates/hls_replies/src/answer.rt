@@ -1,13 +1,15 @@
-//! An answer: a reply but for `Connection`.
+//! An answer: a reply but for `Connection`; and how it is sent.
 
 ghost use Rattle.std.specs.Prelude.{◌≡◌, IfOk};
 ghost use Rattle.hls_http_laws.specs.Reply.{extra_line};
+ghost use Rattle.hls_serve_laws.specs.Replies.{answer_text};
 ghost use Rattle.hls_replies.specs.Contents.{content_of};
 
 use crate::body::Body;
 use crate::content::Content;
+use hls_http::reply_output;
 use hls_http_laws::reply::{Extra, Kind, ReplyHead, Status};
-use hls_output::Media;
+use hls_output::{Media, Output};
 use std::alloc::{AllocError, Global};
 use std::marker::Model;
 
@@ -76,7 +78,7 @@ impl Answer {
     }
 
     /// What the head of its reply says.
-    pub(crate) fn head(&self, closing: bool) -> ReplyHead<'static>
+    fn head(&self, closing: bool) -> ReplyHead<'static>
         ensures status { result.status ≡ self.now.status }
         ensures kind { result.kind ≡ self.now.kind }
         ensures field { extra_line result.extra ≡ self.now.field }
@@ -99,25 +101,29 @@ impl Answer {
     pub fn make(self, alloc: Global) -> Result<Answer, AllocError>
         ensures { IfOk result (λ answer. answer ≡ self) }
     {
-        let Answer {
-            status,
-            kind,
-            extra,
-            body,
-        } = self;
-        let body = body.make(alloc)?;
-        Ok(Answer {
-            status,
-            kind,
-            extra,
-            body,
-        })
+        let body = self.body.make(alloc)?;
+        Ok(Answer::of_content(self.status, self.kind, self.extra, body))
     }
 
     /// Its body, with what was still to be made.
-    pub(crate) fn into_body(self, alloc: Global) -> Result<Media<Body>, AllocError>
+    fn into_body(self, alloc: Global) -> Result<Media<Body>, AllocError>
         ensures { IfOk result (λ body. body ≡ self.body) }
     {
         self.body.finish(alloc)
     }
+}
+
+/// An answer's reply, to be sent part by part; to HEAD without its body. A body goes out from where it stands: memory is taken
+/// for the head and the small slices that go out together, and for what of it is still to be made.
+pub fn output_of(
+    alloc: Global,
+    answer: Answer,
+    closing: bool,
+    to_head: bool,
+) -> Result<Output<Body>, AllocError>
+    ensures { IfOk result (λ output. output ≡ answer_text answer closing to_head) }
+{
+    let head = answer.head(closing);
+    let body = answer.into_body(alloc)?;
+    reply_output(alloc, &head, body, to_head)
 }

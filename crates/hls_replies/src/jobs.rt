@@ -61,12 +61,7 @@ pub fn removed_answer(alloc: Global, removed: Result<(), JobFault>) -> Result<An
     ensures { IfOk result (λ a. a ≡ spec.removed_answer removed) }
 {
     match removed {
-        Ok(()) => Ok(Answer::of_text(
-            Status::NoContent,
-            Kind::Text,
-            Extra::Nothing,
-            Vec::new(alloc),
-        )),
+        Ok(()) => Ok(text_answer(Status::NoContent, Vec::new(alloc))),
         Err(_) => fault_answer(alloc, HttpFault::NotFound),
     }
 }

@@ -1,11 +1,12 @@
-//! Answers that are media: parts of a rendition's resource.
+//! Answers that are media: what is given of a resource, and the parts of a rendition's.
 
-ghost use Rattle.std.specs.Prelude.{◌≡◌, ◌+◌, ◌-◌, ◌<◌, ◌≤◌, ◌^◌, max, min, length, true, false, IfOk, IfSome, option_map};
-ghost use Rattle.hls_record.specs.Recorded.{offset_at, total_of};
+ghost use Rattle.std.specs.Prelude.{◌≡◌, ◌+◌, ◌<◌, ◌≤◌, ◌^◌, max, min, length, true, false, Some, IfOk, IfSome, option_copied, option_map};
+ghost use Rattle.std.specs.List.{concat};
+ghost use Rattle.hls_record.specs.Recorded.{Recorded as RecordedData, offset_at, total_of};
 ghost use Rattle.hls_core.specs.Reads.{recording_of};
 ghost use Rattle.hls_serve_laws.specs.Replies as spec;
 ghost use Rattle.hls_serve_laws.specs.Replies.{media_given};
-ghost use Rattle.hls_replies.specs.Contents.{FitsIn, kept_at, part_of};
+ghost use Rattle.hls_replies.specs.Contents.{IsPieceFor, IsPlaced, bytes_of, kept_at, kept_slices, recorded_of};
 
 use crate::answer::Answer;
 use crate::body::Body;
@@ -21,6 +22,62 @@ use hls_record::Recording;
 use std::alloc::{AllocError, Global};
 use std::sync::Arc;
 
+/// Bytes of a resource that are given, and what the head of the reply says of them.
+#[derive(Clone, Copy)]
+pub(crate) struct Piece {
+    /// The offset of the first byte.
+    pub from: u64,
+    /// The number of bytes.
+    pub len: u64,
+    status: Status,
+    extra: Extra<'static>,
+}
+
+/// What is given of a resource of so many bytes: 200 for all of it, and 206 for a part; none where the part that is asked for
+/// begins at or past the end.
+pub(crate) fn piece_for(asked: Asked, total: u64) -> Option<Piece>
+    ensures { IsPieceFor asked total result }
+{
+    match part(asked, total) {
+        Part::Outside => None,
+        Part::Whole => Some(Piece {
+            from: 0,
+            len: total,
+            status: Status::Done,
+            extra: Extra::Nothing,
+        }),
+        Part::Slice { from, len } => Some(Piece {
+            from,
+            len,
+            status: Status::PartialContent,
+            extra: Extra::Range(from, from + len - 1, total),
+        }),
+    }
+}
+
+/// The piece, whose bytes are there; else 410.
+pub(crate) fn piece_answer(
+    alloc: Global,
+    piece: Piece,
+    media: Option<Media<Body>>,
+) -> Result<Answer, AllocError>
+    ensures { IfOk result (λ a. a ≡ media_given piece.status piece.extra media) }
+{
+    match media {
+        Some(media) => Ok(Answer::of_media(piece.status, piece.extra, media)),
+        None => fault_answer(alloc, HttpFault::Gone),
+    }
+}
+
+/// A part that holds no byte of a resource: 416 with the total (RFC 9110 15.5.17).
+pub(crate) fn outside_answer(alloc: Global, total: u64) -> Result<Answer, AllocError>
+    ensures { IfOk result (λ a. a ≡ spec.outside_answer total) }
+{
+    let fault = HttpFault::RangeOutside;
+    let body = refusal_body(alloc, fault.name())?;
+    Ok(Answer::of_text(fault.status(), Kind::Text, Extra::NoRange(total), body))
+}
+
 /// A rendition's recording in a state, which it shares: its init section, and then the units that are kept.
 #[derive(Drop)]
 pub struct Recorded {
@@ -30,13 +87,22 @@ pub struct Recorded {
     rendition: usize,
 }
 
+impl Recorded {
+    /// The recording; none before the rendition's init section.
+    fn recording(&self) -> Option<&Recording>
+        ensures { option_copied result ≡ recorded_of self.now }
+    {
+        self.snapshot.recording(self.rendition)
+    }
+}
+
 impl Resource for Recorded {
     ghost use Rattle.hls_replies.specs.Contents.{recorded_slices};
 
     ghost slices = { recorded_slices };
 
     fn slice(&self, number: u64) -> &[u8] {
-        match self.snapshot.recording(self.rendition) {
+        match self.recording() {
             Some(recording) => {
                 resource_slice(recording, recording.floor(), recording.count(), number)
             }
@@ -66,51 +132,30 @@ fn kept_at(recording: &Recording, at: u64) -> u64
     at.saturating_sub(recording.offset(recording.floor()) - head)
 }
 
+/// Where so many bytes of what is kept begin: the number of their slice, and how far in it.
+fn place_of(recording: &Recording, at: u64, len: u64) -> (u64, u64)
+    requires { at + len ≤ length (concat (kept_slices (Some recording.now))) }
+    ensures { IsPlaced (kept_slices (Some recording.now)) at len result }
+{
+    let found = resource_place(recording, recording.floor(), recording.count(), at);
+    // at the end no byte is asked for
+    found.unwrap_or((0, 0))
+}
+
 /// So many bytes of a recording from an offset on, which stay where they are; none where one of them is trimmed.
 fn kept_part(recorded: Recorded, from: u64, len: u64) -> Option<Media<Body>>
-    requires { FitsIn recorded (from + len) }
-    ensures { result ≡ part_of recorded from len }
+    requires { (rec : RecordedData) → Some rec ≡ recorded_of recorded → from + len ≤ total_of rec }
+    ensures { result ≡ bytes_of recorded from len }
 {
-    let Some(recording) = recorded.snapshot.recording(recorded.rendition) else {
+    let Some(recording) = recorded.recording() else {
         return None;
     };
     let _ = recording.total();
     if is_trimmed(recording, from, from + len) {
         return None;
     }
-    let at = kept_at(recording, from);
-    // at the end no byte is asked for
-    let (number, within) = resource_place(
-        recording,
-        recording.floor(),
-        recording.count(),
-        at,
-    ).unwrap_or((0, 0));
+    let (number, within) = place_of(recording, kept_at(recording, from), len);
     Some(Media::new(Body::Recorded(recorded), number, within, len))
-}
-
-/// Media that are there; else 410.
-pub(crate) fn given_answer(
-    alloc: Global,
-    media: Option<Media<Body>>,
-    status: Status,
-    extra: Extra<'static>,
-) -> Result<Answer, AllocError>
-    ensures { IfOk result (λ a. a ≡ media_given status extra.entry media) }
-{
-    match media {
-        Some(media) => Ok(Answer::of_media(status, extra, media)),
-        None => fault_answer(alloc, HttpFault::Gone),
-    }
-}
-
-/// A part that holds no byte of a resource: 416 with the total (RFC 9110 15.5.17).
-pub(crate) fn outside_answer(alloc: Global, total: u64) -> Result<Answer, AllocError>
-    ensures { IfOk result (λ a. a ≡ spec.outside_answer total) }
-{
-    let fault = HttpFault::RangeOutside;
-    let body = refusal_body(alloc, fault.name())?;
-    Ok(Answer::of_text(fault.status(), Kind::Text, Extra::NoRange(total), body))
 }
 
 /// The length of a rendition's resource; none before its init section.
@@ -137,20 +182,13 @@ pub fn media_answer(
     let Some(total) = total_in(&snapshot, rendition) else {
         return fault_answer(alloc, HttpFault::NotFound);
     };
+    let Some(piece) = piece_for(asked, total) else {
+        return outside_answer(alloc, total);
+    };
     let recorded = Recorded {
         snapshot,
         rendition,
     };
-    match part(asked, total) {
-        Part::Outside => outside_answer(alloc, total),
-        Part::Whole => {
-            let media = kept_part(recorded, 0, total);
-            given_answer(alloc, media, Status::Done, Extra::Nothing)
-        }
-        Part::Slice { from, len } => {
-            let media = kept_part(recorded, from, len);
-            let range = Extra::Range(from, from + len - 1, total);
-            given_answer(alloc, media, Status::PartialContent, range)
-        }
-    }
+    let media = kept_part(recorded, piece.from, piece.len);
+    piece_answer(alloc, piece, media)
 }

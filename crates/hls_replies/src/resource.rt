@@ -4,17 +4,15 @@ ghost use Rattle.std.specs.Prelude.{◌≡◌, ◌+◌, ◌≤◌, ◌<◌, ◌^
 ghost use Rattle.std.specs.List.{concat};
 ghost use Rattle.hls_catchup.specs.Resources.{FindsPlace};
 ghost use Rattle.hls_serve_laws.specs.JobReplies as spec;
-ghost use Rattle.hls_replies.specs.Contents.{programme_slices, resource_in};
+ghost use Rattle.hls_replies.specs.Contents.{IsPlaced, programme_slices, resource_in};
 
 use crate::answer::Answer;
 use crate::body::Body;
-use crate::media::{given_answer, outside_answer};
+use crate::media::{outside_answer, piece_answer, piece_for};
 use crate::texts::fault_answer;
 use hls_catchup::{Job, reply_in, reply_place, reply_slice, reply_total};
-use hls_http::part;
 use hls_http_laws::fault::HttpFault;
-use hls_http_laws::range::{Asked, Part};
-use hls_http_laws::reply::{Extra, Status};
+use hls_http_laws::range::Asked;
 use hls_output::{Media, Resource};
 use std::alloc::{AllocError, Global};
 
@@ -41,7 +39,7 @@ impl Resource for Programme {
 }
 
 /// Where a byte of a job's resource stands: the number of its slice, and how far in it. None at or past the end.
-fn place_in(programme: &Programme, at: u64) -> Option<(u64, u64)>
+fn find(programme: &Programme, at: u64) -> Option<(u64, u64)>
     ensures { FindsPlace (programme_slices programme.now) at result }
 {
     match reply_in(&programme.job) {
@@ -50,14 +48,22 @@ fn place_in(programme: &Programme, at: u64) -> Option<(u64, u64)>
     }
 }
 
+/// Where so many bytes of a job's resource begin.
+fn place_of(programme: &Programme, at: u64, len: u64) -> (u64, u64)
+    requires { at + len ≤ length (concat (programme_slices programme.now)) }
+    ensures { IsPlaced (programme_slices programme.now) at len result }
+{
+    // at the end no byte is asked for
+    find(programme, at).unwrap_or((0, 0))
+}
+
 /// So many bytes of a job's resource from an offset on, which stay where they are.
 fn programme_part(programme: Programme, from: u64, len: u64) -> Media<Body>
     requires room { from + len < 2 ^ 64 }
     requires within { from + len ≤ length (concat (programme_slices programme)) }
     ensures { result ≡ take len (drop from (concat (programme_slices programme))) }
 {
-    // at the end no byte is asked for
-    let (number, within) = place_in(&programme, from).unwrap_or((0, 0));
+    let (number, within) = place_of(&programme, from, len);
     Media::new(Body::Programme(programme), number, within, len)
 }
 
@@ -84,17 +90,10 @@ pub(crate) fn resource_answer(
     let Some(total) = total_in(&job, rendition) else {
         return fault_answer(alloc, HttpFault::NotFound);
     };
+    let Some(piece) = piece_for(asked, total) else {
+        return outside_answer(alloc, total);
+    };
     let programme = Programme { job, rendition };
-    match part(asked, total) {
-        Part::Outside => outside_answer(alloc, total),
-        Part::Whole => {
-            let media = programme_part(programme, 0, total);
-            given_answer(alloc, Some(media), Status::Done, Extra::Nothing)
-        }
-        Part::Slice { from, len } => {
-            let media = programme_part(programme, from, len);
-            let range = Extra::Range(from, from + len - 1, total);
-            given_answer(alloc, Some(media), Status::PartialContent, range)
-        }
-    }
+    let media = programme_part(programme, piece.from, piece.len);
+    piece_answer(alloc, piece, Some(media))
 }

@@ -1,5 +1,5 @@
 -- What holds of a connection, from one step to the next.
-use Rattle.std.proofs.Common.{◌≡◌, ◌<◌, ◌==◌, ◌∙◌, ◌⊎◌, ℕ, zero, ◌+◌, Bool, true, false, List, [], ◌∷◌, ◌++◌, length, flat_map, Option, Some, None, IsTrue, inl, inr, refl, sym, ap, subst, arith, append_assoc, append-nil, rules}
+use Rattle.std.proofs.Common.{◌≡◌, ◌<◌, ◌==◌, ◌∙◌, ◌⊎◌, ℕ, ◌+◌, Bool, true, false, List, [], ◌∷◌, ◌++◌, length, flat_map, Option, Some, None, IsTrue, inl, inr, refl, sym, ap, subst, arith, append_assoc, append-nil, rules}
 use Rattle.std.proofs.lemmas.Grind.{flat_map-append}
 use Rattle.httparse.specs.Grammar.{RequestHead}
 use Rattle.hls_feed.specs.Streams.{Reached}
@@ -8,7 +8,7 @@ use Rattle.hls_http_laws.specs.declared.body.Body.{Body}
 use Rattle.hls_http_laws.specs.declared.fault.HttpFault.{HttpFault}
 use Rattle.hls_http_laws.specs.declared.plan.Plan.{Plan}
 use Rattle.hls_http_laws.specs.declared.plan.Plan.TheVariants.{Refuse, Feed, Skip}
-use Rattle.hls_http_laws.specs.Bodies.{IsOpen, Runs}
+use Rattle.hls_http_laws.specs.Bodies.{IsOpen, Runs, NoStep}
 use Rattle.hls_http_laws.specs.Heads.{IsUnfinished, ReadsSmall}
 use Rattle.hls_http_laws.proofs.Callers.{heads_stay}
 use Rattle.std.proofs.lemmas.Bool.{cond-false, eqb-false, eqb-true}
@@ -181,7 +181,7 @@ module _ (count : ℕ) (received sent : List ℕ) (ended : Bool) (asked : List A
     body = body;
     plan_is = is;
     content = [];
-    runs = λ later. record { steps = zero; run = (refl, refl, refl) };
+    runs = λ later. NoStep;
   }
 
   begun_with : (state : State) (text : List ℕ) → StandsIn state count ended x.rest [] text unread → Holds count state (history_by received ended unread asked sent text)

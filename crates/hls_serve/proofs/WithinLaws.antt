@@ -13,7 +13,7 @@ use Rattle.hls_http_laws.specs.declared.body.Body.TheVariants.{Length, Size, Dat
 use Rattle.hls_http_laws.specs.declared.plan.Plan.{Plan}
 use Rattle.hls_http_laws.specs.Bodies.{EndsData, IsBroken, ReadsLine, Runs, Steps, TakesData, after_line}
 use Rattle.hls_http_laws.specs.Order.{is_over}
-use Rattle.hls_http_laws.proofs.Callers.{Leaves, runs_join, runs_leave, runs_stay}
+use Rattle.hls_http_laws.proofs.Callers.{Leaves, run_one, runs_join, runs_leave, runs_stay}
 use Rattle.hls_http.specs.declared.body.BodyEnd.TheVariants as bodies
 use Rattle.hls_http.specs.declared.drain.DropEnd.TheVariants as drops
 use Rattle.hls_http.specs.Bodies.{IsLastAlone}
@@ -30,9 +30,6 @@ use Rattle.hls_serve.specs.Within.{HasBody, IsDropped, IsDropping, IsFedUp, IsFe
 
 -- ---- one step more
 
-pub runs_one : (b next : Body) (input piece rest : List ℕ) → Steps b input piece next rest → Runs b input piece next rest
-runs_one b next input piece rest s = record { steps = suc zero; run = (piece, next, rest, [], s, (refl, refl, refl), sym (append-nil piece)) }
-
 abbrev pub body_goes : {count : ℕ} {stream first : List ℕ} {call : Call} {plan : Body → Plan} {b : Body} {unread : List ℕ} → HasBody count stream first call plan b unread
     → (next : Body) (piece rest : List ℕ) → Steps b unread piece next rest → HasBody count stream first call plan next rest
 body_goes {b} {unread} at next piece rest s = record {
@@ -44,7 +41,7 @@ body_goes {b} {unread} at next piece rest s = record {
   plan_is = at.plan_is;
   content = at.content ++ piece;
   runs = λ later. runs_join at.body b next (at.behind ++ later) at.content (unread ++ later) piece (rest ++ later) (at.runs later)
-      (runs_stay b unread piece next rest later (runs_one b next unread piece rest s));
+      (runs_stay b unread piece next rest later (run_one b next unread piece rest s));
   first_is = at.first_is;
 }
 

@@ -1,5 +1,4 @@
 mod Acting
-mod Allowed
 mod Examples
 mod Jobs
 mod Linking

@@ -25,11 +25,9 @@ Submits before event answer after = after ≡ before ++ Submitted event answer �
 
 -- an act that changes nothing of the channel: a look, or an event for which memory was wanted
 abbrev pub IsVain : Act → Type 0
-IsVain (Looked s) = Unit {0}
-IsVain LookedInVain = Unit {0}
-IsVain (Submitted event (Ok done)) = ⊥
 IsVain (Submitted event (Err Memory)) = Unit {0}
-IsVain (Submitted event (Err refusal)) = ⊥
+IsVain (Submitted event answer) = ⊥
+IsVain _ = Unit {0}
 
 -- no more than that
 pub record ActsInVain (before after : List Act) : Type 0 where

@@ -113,8 +113,7 @@ Stands (Over ends.Closed) count ended stream acts text unread =
 Stands (Over ends.Refused) count ended stream acts text unread = EndsByReply count false stream acts text unread
 Stands (Over ends.CutShort) count ended stream acts text unread =
     IsTrue ended × ((IsUnfinished stream × (0 < length stream) × IsBetween stream acts text unread) ⊎ IsCutShort count stream acts text unread)
-Stands (Over ends.ReadFailed) count ended stream acts text unread = ⊥
-Stands (Over ends.WriteFailed) count ended stream acts text unread = ⊥
+Stands (Over end) count ended stream acts text unread = ⊥
 
 -- The first requests of what was received, whatever follows it, are answered in order: what the keeper was asked is what was asked for
 -- each of them, and what was handed out and what waits are their replies. Then comes what the stage says.

@@ -150,15 +150,13 @@ ServesJob q route id answer false = ShowsJob id (shown_if q route (allows route 
 
 -- where the method is one of its own
 abbrev pub Serves : Asks → Route → List Act → Answer → List Act → Type 0
-Serves q (routes.Ingest r) a answer b = ⊥
 Serves q (routes.Finish r) a answer b = Finishes a r b answer
 Serves q routes.LiveMaster a answer b = ShowsState a b (λ s. playlist_answer (live_master_text s)) answer
 Serves q (routes.LiveList r) a answer b = ShowsState a b (λ s. list_answer (live_text s r)) answer
 Serves q (routes.Media r) a answer b = ShowsState a b (λ s. media_answer s r (range_for (is_to_head q.method) q.range)) answer
 Serves q routes.CatchUp a answer b = CatchesUp (query_in q.query) a b answer
-Serves q (routes.Job id) a answer b = ⊥
-Serves q (routes.JobFile id file) a answer b = ⊥
 Serves q routes.Status a answer b = ShowsStatus a b answer
+Serves q route a answer b = ⊥
 
 abbrev pub ServesAllowed : Asks → Route → List Act → Answer → List Act → Bool → Type 0
 ServesAllowed q route a answer b true = Serves q route a answer b
@@ -217,8 +215,7 @@ IsDue h plan answer early due = (due ≡ due_for h plan answer early) ⊎ (due �
 -- where no more of a body comes: only bad framing is replied to
 abbrev pub IsDueAtStop : RequestHead → Plan → BodyEnd → Due → Type 0
 IsDueAtStop h plan bodies.BadFraming due = IsDue h plan (fault_answer http.BadFraming) true due
-IsDueAtStop h plan bodies.CutShort due = ⊥
-IsDueAtStop h plan bodies.ReadFailed due = ⊥
+IsDueAtStop h plan end due = ⊥
 
 -- ---- bodies that are dropped
 
@@ -295,9 +292,6 @@ FollowsBy (Refuse fault closing) request stream acts due unread =
 FollowsBy (Feed body) request stream acts due unread = FeedsBy request.asks.route request body stream acts due unread
 FollowsBy (Skip body) request stream acts due unread = SkipsBy request.asks.route request body stream acts due unread
 
-abbrev pub Follows : Request → List ℕ → List Act → Due → List ℕ → Type 0
-Follows request stream acts due unread = FollowsBy request.plan request stream acts due unread
-
 abbrev pub plan_for : RequestHead → Asks → Plan
 plan_for h q = plan_by (begins h) (is_some q.route) (feeds q.route q.method)
 
@@ -310,7 +304,7 @@ pub record Heard (count : ℕ) (stream : List ℕ) (acts : List Act) (due : Due)
   pub head : RequestHead
   pub behind : List ℕ
   pub reads : ReadsSmall stream head behind
-  pub follows : Follows (request_of count head) behind acts due unread
+  pub follows : FollowsBy (request_of count head).plan (request_of count head) behind acts due unread
 
 -- ---- where no head can come
 

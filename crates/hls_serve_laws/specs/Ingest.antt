@@ -22,7 +22,7 @@ use Rattle.hls_core.specs.Reads.{recording_of}
 use Rattle.hls_core_laws.specs.declared.done.Done.{Done}
 use Rattle.hls_core_laws.specs.declared.done.Done.TheVariants as done
 use Rattle.hls_http_laws.specs.declared.body.Body.{Body}
-use Rattle.hls_http_laws.specs.declared.body.Body.TheVariants.{Length, Size, Data, Trailers}
+use Rattle.hls_http_laws.specs.declared.body.Body.TheVariants.{Length}
 use Rattle.hls_http_laws.specs.Bodies.{IsBroken, IsOpen}
 use Rattle.hls_http.specs.declared.body.BodyEnd.{BodyEnd}
 use Rattle.hls_http.specs.declared.body.BodyEnd.TheVariants as bodies
@@ -153,9 +153,7 @@ intake_of untaken.Memory = came.Memory
 -- the trailers are still to come
 abbrev pub ends_at : Body → ℕ → Bool
 ends_at (Length n) size = nat_eq size n
-ends_at Size size = false
-ends_at (Data n) size = false
-ends_at Trailers size = false
+ends_at _ size = false
 
 -- all of the content came, and its parts are taken: it is whole, or ends inside a part
 pub record IsEnded (r : ℕ) (content : List ℕ) (last : Body) (y : Progress) (result : Result (Unit {0}) StreamFault) : Type 0 where
@@ -172,8 +170,7 @@ pub record IsRefusedAt (size : ℕ) (r : ℕ) (content : List ℕ) (fault : Stre
 -- why no more of a body comes that stands so, where this is unread
 abbrev pub Stops : Body → List ℕ → BodyEnd → Type 0
 Stops last unread bodies.BadFraming = IsBroken last unread
-Stops last unread bodies.CutShort = IsOpen last unread
-Stops last unread bodies.ReadFailed = IsOpen last unread
+Stops last unread end = IsOpen last unread
 
 -- what the body comes to, of which so much content came, and whether the reply is given before its end: Truncated stands at the body's
 -- end, and every other refusal where it shows. Where no more of the body comes, all that came was taken

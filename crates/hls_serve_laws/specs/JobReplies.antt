@@ -42,7 +42,7 @@ added_answer version (Err fault) = text_answer Unavailable (refusal (job_fault_n
 
 -- nothing is told of a job that is gone (RFC 9110, section 15.3.5); a job that isn't there isn't found
 abbrev pub removed_answer : Result (Unit {0}) JobFault → Answer
-removed_answer (Ok gone) = record { status = NoContent; kind = Text; field = []; body = [] }
+removed_answer (Ok gone) = text_answer NoContent []
 removed_answer (Err fault) = fault_answer http.NotFound
 
 -- ---- what is told of a job

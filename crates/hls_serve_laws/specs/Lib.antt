@@ -3,14 +3,12 @@ pub mod Connections
 pub mod Faults
 pub mod Heard
 pub mod Ingest
-pub mod JobLaws
 pub mod JobReplies
 pub mod JobTable
+pub mod Laws
 pub mod Linked
 pub mod Playlists
 pub mod Queries
 pub mod Replies
-pub mod RequestLaws
-pub mod RouteLaws
 pub mod Routes
 pub mod Sessions

@@ -4,21 +4,18 @@ use Rattle.hls_http_laws.specs.declared.end.SessionEnd.{SessionEnd}
 use Rattle.hls_http_laws.specs.declared.end.SessionEnd.TheVariants as ends
 use Rattle.hls_core_laws.specs.Known.{Known}
 use Rattle.hls_serve_laws.specs.Acts.{Chain}
-use Rattle.hls_serve_laws.specs.Connections.{History, Stage, Between, Within, Over, IsServed}
+use Rattle.hls_serve_laws.specs.Connections.{History, Stage, Over, IsServed}
 
 -- a session goes on only until its reader or writer fails
 abbrev pub GoesOn : Stage → Type 0
-GoesOn Between = Unit {0}
-GoesOn Within = Unit {0}
 GoesOn (Over end) = ⊥
+GoesOn _ = Unit {0}
 
 -- all is handed out where a session ends by itself or its reader fails; where its writer fails, some of it
 abbrev pub EndsSo : SessionEnd → Stage → List ℕ → Type 0
-EndsSo ends.Closed stage pending = (stage ≡ Over ends.Closed) × (pending ≡ [])
-EndsSo ends.Refused stage pending = (stage ≡ Over ends.Refused) × (pending ≡ [])
-EndsSo ends.CutShort stage pending = (stage ≡ Over ends.CutShort) × (pending ≡ [])
 EndsSo ends.ReadFailed stage pending = GoesOn stage × (pending ≡ [])
 EndsSo ends.WriteFailed stage pending = Unit {0}
+EndsSo end stage pending = (stage ≡ Over end) × (pending ≡ [])
 
 -- So much of the input was received, and what was handed out is written behind what was there; each act led on from where the one
 -- before it led. So reading stops only at the input's end, a failure, or a reply with `Connection: close`.

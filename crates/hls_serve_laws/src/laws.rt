@@ -1,9 +1,7 @@
 //! Theorems about the definitions. Each function has no body: its contract is the law.
 
-ghost use Rattle.hls_serve_laws.specs.JobLaws.{FilesAreRight, LinesAreRight};
+ghost use Rattle.hls_serve_laws.specs.Laws.{AllowNamesMethods, FilesAreRight, LinesAreRight, RequestsAreRead};
 ghost use Rattle.hls_serve_laws.specs.Linked.{ActsAreLater, ActsLink, LinksFollow, LinksStay};
-ghost use Rattle.hls_serve_laws.specs.RequestLaws.{RequestsAreRead};
-ghost use Rattle.hls_serve_laws.specs.RouteLaws.{AllowNamesMethods};
 
 /// Whatever a session replies to a request for a job's file, it is a file of the right reply of some state to some request;
 /// or it says that there is none.

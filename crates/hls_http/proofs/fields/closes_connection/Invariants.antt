@@ -1,14 +1,12 @@
-use Rattle.std.proofs.Common.{◌≡◌, ◌≤◌, ◌-◌, length, codes}
+use Rattle.std.proofs.Common.{◌≡◌, ◌-◌, length, codes}
 use Rattle.std.specs.List.{list_any}
 use Rattle.hls_http_laws.specs.Fields.{has_word}
 use Rattle.hls_http.specs.Values.{values_from}
 use Rattle.hls_http.proofs.fields.closes_connection.Given as goal
 
 abbrev pub invariant-loop-next : goal.invariant-loop-next
-invariant-loop-next l = record {
-  within : l.at ≤ length l.headers;
-  none : list_any (has_word (codes "close")) (values_from l.text l.headers (codes "connection") 0) ≡ list_any (has_word (codes "close")) (values_from l.text l.headers (codes "connection") l.at);
-}
+invariant-loop-next l =
+    list_any (has_word (codes "close")) (values_from l.text l.headers (codes "connection") 0) ≡ list_any (has_word (codes "close")) (values_from l.text l.headers (codes "connection") l.at)
 
 abbrev pub decreases-loop-next : goal.decreases-loop-next
 decreases-loop-next l = length l.headers - l.at

@@ -1,5 +1,6 @@
 use Rattle.std.proofs.Common.{◌∙◌, ◌++◌, ℕ, List, take, drop, ap, append-nil}
-use Rattle.hls_http.proofs.Buffers.{count_of, held_more, held_none}
+use Rattle.std.proofs.lemmas.List.{length-take-le}
+use Rattle.hls_http.proofs.Buffers.{held_more, held_none}
 use Rattle.hls_http.proofs.input.read_on.Goals as goal
 
 pub returns-in-Ok-clause-came : goal.returns-in-Ok-clause-came
@@ -10,7 +11,7 @@ returns-in-Ok-clause-came g c =
     let end : ℕ = c.make_room-start.result.1 in
     let read : ℕ = c.in-Ok.read in (
       take read (drop end items),
-      count_of read (drop end items) c.in-Ok.ensures.bound,
+      length-take-le read (drop end items) c.in-Ok.ensures.bound,
       held_more moved items start end read c.make_room-start.ensures.ordered c.read_behind.ensures.front ∙ ap (λ xs. xs ++ take read (drop end items)) c.make_room-start.ensures.same,
       c.in-Ok.ensures.bytes,
       c.in-Ok.ensures.end,

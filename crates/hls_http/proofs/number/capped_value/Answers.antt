@@ -1,4 +1,4 @@
-use Rattle.std.proofs.Common.{◌∙◌, ◌+◌, ◌*◌, ap, min, sym, arith, add-one, refl}
+use Rattle.std.proofs.Common.{◌∙◌, ◌+◌, ◌*◌, ap, min, sym, arith, refl}
 use Rattle.hls_http.proofs.Digits.{bad_digit, capped_more, more_digits, more_value}
 use Rattle.hls_http.proofs.number.capped_value.Goals as goal
 
@@ -11,7 +11,7 @@ loop-byte-preserved c =
     let is = sym c.is_ascii_digit.ensures.value ∙ c.if-not-is_ascii_digit.false in
     let i = c.loop-byte.byte-index in
     record {
-      digits = rw add-one (more_digits c.args.text.now i c.loop-byte-test.true c.loop-byte.invariant.digits is);
+      digits = more_digits c.args.text.now i c.loop-byte-test.true c.loop-byte.invariant.digits is;
       value =
           let more = more_value c.args.text.now i c.loop-byte-test.true (grind arith) in
           c.min-number.ensures

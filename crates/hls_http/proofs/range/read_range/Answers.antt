@@ -1,5 +1,5 @@
-use Rattle.std.proofs.Common.{◌≡◌, ◌∙◌, ◌+◌, ◌-◌, ◌&&◌, ap, arith, cond, take, drop, length, length-drop}
-use Rattle.std.proofs.lemmas.List.{take_all}
+use Rattle.std.proofs.Common.{◌∙◌, ◌+◌, ◌&&◌, ap, cond, take}
+use Rattle.std.proofs.lemmas.List.{take_rest}
 use Rattle.std.specs.Str.{all_ascii_digits}
 use Rattle.hls_http_laws.specs.declared.range.Asked.TheVariants as asks
 use Rattle.hls_http_laws.specs.Range.{by_parts}
@@ -16,7 +16,6 @@ pub returns-clause-value : goal.returns-clause-value
 returns-clause-value c =
     let spec = c.in-Some.spec.now in
     let p = c.in-Some-find_byte.hyphen in
-    let behind : take (length spec - (p + 1)) (drop (p + 1) spec) ≡ drop (p + 1) spec = take_all _ (drop (p + 1) spec) (omega (arith, length-drop (p + 1) spec)) in
     c.read_parts.ensures.value
-    ∙ ap (λ xs. cond (all_ascii_digits (take p spec) && all_ascii_digits xs) (by_parts (take p spec) xs) asks.All) behind
+    ∙ ap (λ xs. cond (all_ascii_digits (take p spec) && all_ascii_digits xs) (by_parts (take p spec) xs) asks.All) (take_rest spec (p + 1))
     ∙ at_hyphen c.args.value.now spec p c.in-Some.ensures.cases.0 c.in-Some.ensures.cases.1 c.in-Some-find_byte.ensures.value

@@ -1,7 +1,6 @@
 use Rattle.std.proofs.Common.{◌∙◌, ◌&&◌, Bool, not, inl, inr, sym, ap}
 use Rattle.hls_http_laws.specs.Reply.{is_success, reply_text}
-use Rattle.hls_http.proofs.ReplyLaws.{writes_whole}
-use Rattle.hls_http.proofs.SendLaws.{writes_same}
+use Rattle.hls_http.proofs.SendLaws.{writes_same, writes_whole}
 use Rattle.hls_http.proofs.session.Session.reply.Goals as goal
 
 pub returns-then-write_whole-clause-answers : goal.returns-then-write_whole-clause-answers

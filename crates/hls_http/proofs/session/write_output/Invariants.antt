@@ -1,7 +1,7 @@
 use Rattle.std.proofs.Common.{◌≡◌, List, ℕ, Some, length}
 use Rattle.hls_io.specs.Counted.{failures_of, inside_of}
 use Rattle.hls_http.proofs.SendLaws.{Sent}
-use Rattle.hls_http.proofs.send.write_output.Given as goal
+use Rattle.hls_http.proofs.session.write_output.Given as goal
 
 abbrev pub invariant-loop-output : goal.invariant-loop-output
 invariant-loop-output g l = record {

@@ -1,7 +1,7 @@
 use Rattle.std.proofs.Common.{◌∙◌, List, ℕ, subst, sym}
 use Rattle.hls_io.specs.Counted.{inside_of}
 use Rattle.hls_http.proofs.SendLaws.{Sent, all_sent, chunk_cut, chunk_sent}
-use Rattle.hls_http.proofs.send.write_output.Goals as goal
+use Rattle.hls_http.proofs.session.write_output.Goals as goal
 
 pub returns-then-not-write_whole-clause-writes : goal.returns-then-not-write_whole-clause-writes
 returns-then-not-write_whole-clause-writes g c = λ held known.

@@ -1,18 +1,46 @@
--- What is served of a table of jobs that threads share is right, whichever jobs it has.
-use Rattle.std.specs.Prelude.{◌≡◌, ◌⊎◌, ℕ, length, Some, Result, codes}
+-- Laws: what a connection answered are requests of the standard's grammar, the field Allow names the methods that a route allows, and
+-- what is served of a table of jobs that threads share is right, whichever jobs it has.
+use Rattle.std.specs.Prelude.{◌≡◌, ◌⊎◌, ℕ, false, List, length, map, Some, Result, codes}
 use Rattle.hls_core_laws.specs.State.{State}
 use Rattle.hls_http_laws.specs.declared.fault.HttpFault.TheVariants as http
 use Rattle.hls_http_laws.specs.declared.range.Asked.{Asked}
 use Rattle.hls_http_laws.specs.declared.reply.Status.TheVariants.{Done}
+use Rattle.hls_http_laws.specs.Requests.{Request as WholeRequest, Cuts}
+use Rattle.hls_http.specs.declared.head.Method.TheVariants.{Other}
+use Rattle.hls_http.specs.Heads.{method_of}
 use Rattle.hls_catchup.specs.declared.request.Request.{Request}
 use Rattle.hls_catchup.specs.declared.fault.CatchFault.{CatchFault}
 use Rattle.hls_catchup.specs.Replies.{ReplyData, IsRightReply}
 use Rattle.hls_catchup.specs.Plays.{IsAnswered}
 use Rattle.hls_catchup.specs.Jobs.Line.{result_line}
 use Rattle.hls_serve_laws.specs.declared.route.JobFile.{JobFile}
+use Rattle.hls_serve_laws.specs.declared.route.Route.{Route}
+use Rattle.hls_serve_laws.specs.Connections.{Exchange, Serves}
 use Rattle.hls_serve_laws.specs.Heard.{ShowsJob}
 use Rattle.hls_serve_laws.specs.JobReplies.{file_answer, reply_answer, told_answer}
 use Rattle.hls_serve_laws.specs.Replies.{Answer, fault_answer, text_answer}
+use Rattle.hls_serve_laws.specs.Routes.{allows, named_methods}
+
+-- ---- requests
+
+-- the text begins with so many requests, each a head and its whole body, and then the rest
+pub record BeginsWith (count : ℕ) (text rest : List ℕ) : Type 0 where
+  pub requests : List WholeRequest
+  pub so_many : length requests ≡ count
+  pub cuts : Cuts text requests rest
+
+-- the requests behind whose replies a connection goes on are the first ones of its stream, and what is to come stands right behind them
+abbrev pub RequestsAreRead : Type 0
+RequestsAreRead = (count : ℕ) (stream rest : List ℕ) (over : List Exchange) → Serves count stream over rest → BeginsWith (length over) stream rest
+
+-- ---- methods
+
+-- each name is read as its method; and a route, which names all those that it allows, allows none that has no name
+pub record AllowNamesMethods : Type 0 where
+  pub read : map (λ named. method_of named.1) named_methods ≡ map (λ named. named.0) named_methods
+  pub others : (route : Route) → allows route Other ≡ false
+
+-- ---- jobs
 
 -- the file of the right reply of some state to some request
 pub record IsOfRightReply (file : JobFile) (asked : Asked) (answer : Answer) : Type 0 where

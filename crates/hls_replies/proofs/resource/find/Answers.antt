@@ -3,7 +3,7 @@ use Rattle.hls_catchup.specs.Replies.{ReplyData}
 use Rattle.hls_catchup.specs.Resources.{FindsPlace}
 use Rattle.hls_catchup.specs.declared.jobs.standing.Withheld.{Withheld}
 use Rattle.hls_replies.specs.Contents.{slices_by}
-use Rattle.hls_replies.proofs.resource.place_in.Goals as goal
+use Rattle.hls_replies.proofs.resource.find.Goals as goal
 
 pub returns-in-Ok : goal.returns-in-Ok
 returns-in-Ok c =
