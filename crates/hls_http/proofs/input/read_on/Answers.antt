@@ -1,6 +1,6 @@
-use Rattle.std.proofs.Common.{◌∙◌, ◌++◌, ℕ, List, take, drop, ap, append-nil}
+use Rattle.std.proofs.Common.{◌∙◌, ◌++◌, ℕ, List, arith, take, drop, ap}
 use Rattle.std.proofs.lemmas.List.{length-take-le}
-use Rattle.hls_http.proofs.Buffers.{held_more, held_none}
+use Rattle.hls_http.proofs.Buffers.{held_more, held_same}
 use Rattle.hls_http.proofs.input.read_on.Goals as goal
 
 pub returns-in-Ok-clause-came : goal.returns-in-Ok-clause-came
@@ -12,7 +12,7 @@ returns-in-Ok-clause-came g c =
     let read : ℕ = c.in-Ok.read in (
       take read (drop end items),
       length-take-le read (drop end items) c.in-Ok.ensures.bound,
-      held_more moved items start end read c.make_room-start.ensures.ordered c.read_behind.ensures.front ∙ ap (λ xs. xs ++ take read (drop end items)) c.make_room-start.ensures.same,
+      held_more moved items start end read c.make_room-start.ensures.ordered (omega arith) c.read_behind.ensures.front ∙ ap (λ xs. xs ++ take read (drop end items)) c.make_room-start.ensures.same,
       c.in-Ok.ensures.bytes,
       c.in-Ok.ensures.end,
     )
@@ -23,6 +23,6 @@ returns-in-Err-clause-came g c =
     let items : List ℕ = c.read_behind.new.buffer in
     let start : ℕ = c.make_room-start.result.0 in
     let end : ℕ = c.make_room-start.result.1 in (
-      held_none moved items start end c.make_room-start.ensures.ordered c.read_behind.ensures.front ∙ append-nil _ ∙ c.make_room-start.ensures.same,
+      held_same moved items start end c.make_room-start.ensures.ordered c.read_behind.ensures.front ∙ c.make_room-start.ensures.same,
       c.in-Err.ensures.kept,
     )
