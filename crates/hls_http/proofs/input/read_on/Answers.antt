@@ -1,6 +1,6 @@
 use Rattle.std.proofs.Common.{◌∙◌, ◌++◌, ℕ, List, arith, take, drop, ap}
 use Rattle.std.proofs.lemmas.List.{length-take-le}
-use Rattle.hls_http.proofs.Buffers.{held_more, held_same}
+use Rattle.hls_http.proofs.Buffers.{held_more}
 use Rattle.hls_http.proofs.input.read_on.Goals as goal
 
 pub returns-in-Ok-clause-came : goal.returns-in-Ok-clause-came
@@ -15,14 +15,4 @@ returns-in-Ok-clause-came g c =
       held_more moved items start end read c.make_room-start.ensures.ordered (omega arith) c.read_behind.ensures.front ∙ ap (λ xs. xs ++ take read (drop end items)) c.make_room-start.ensures.same,
       c.in-Ok.ensures.bytes,
       c.in-Ok.ensures.end,
-    )
-
-pub returns-in-Err-clause-came : goal.returns-in-Err-clause-came
-returns-in-Err-clause-came g c =
-    let moved : List ℕ = c.make_room-start.new.buffer in
-    let items : List ℕ = c.read_behind.new.buffer in
-    let start : ℕ = c.make_room-start.result.0 in
-    let end : ℕ = c.make_room-start.result.1 in (
-      held_same moved items start end c.make_room-start.ensures.ordered c.read_behind.ensures.front ∙ c.make_room-start.ensures.same,
-      c.in-Err.ensures.kept,
     )

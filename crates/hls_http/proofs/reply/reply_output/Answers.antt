@@ -8,9 +8,3 @@ returns-then-to_head g c =
     let head : List ℕ = head_text_of c.args.head.now (length c.args.content) in
     c.of_text.ensures ∙ c.in_ok-text.ensures ∙ ap (head_text_of c.args.head.now) c.len-len.ensures ∙ sym (append-nil head)
     ∙ ap (λ (b : Bool). head ++ cond b [] c.args.content) (sym c.if-to_head.true)
-
-pub returns : goal.returns
-returns g c =
-    let head : List ℕ = head_text_of c.args.head.now (length c.args.content) in
-    c.of_media.ensures ∙ ap (λ xs. xs ++ c.args.content) (c.in_ok-text-2.ensures ∙ ap (head_text_of c.args.head.now) c.len-len.ensures)
-    ∙ ap (λ (b : Bool). head ++ cond b [] c.args.content) (sym c.if-to_head.false)

@@ -1,10 +1,10 @@
-use Rattle.std.proofs.Common.{◌∙◌, ◌<◌, ◌++◌, ℕ, List, [], length, length-take, sym, ap, subst, arith, rules, refl, take}
+use Rattle.std.proofs.Common.{◌∙◌, ◌<◌, ◌++◌, ℕ, List, [], length, length-take, sym, ap, subst, arith, refl, take}
 use Rattle.hls_io.specs.Counted.{failures_of, inside_of}
 use Rattle.hls_http_laws.specs.Bodies.{Goes, IsOpen}
-use Rattle.hls_http.specs.declared.input.Filled.TheVariants.{More, AtEnd, Failed}
+use Rattle.hls_http.specs.declared.input.Filled.TheVariants.{AtEnd}
 use Rattle.hls_http.specs.Source.{held_of}
 use Rattle.hls_http.proofs.BodySteps.{goes_filled, goes_none, goes_then, last_alone}
-use Rattle.hls_http.proofs.HeadLaws.{at_end, none_came}
+use Rattle.hls_http.proofs.HeadLaws.{at_end}
 use Rattle.hls_http.proofs.session.Session.body.Goals as goal
 
 pub loop-self-init : goal.loop-self-init
@@ -43,37 +43,3 @@ returns-in-AtEnd-clause-passes g c = λ rest known.
       goes_filled c.args.body.now c.loop-self.body (held_of c.args.self.now.source ++ rest) [] (held_of c.loop-self.self.source) (held_of c.fill.new.self) _ _ AtEnd old r,
       (e.3, subst (λ (xs : List ℕ). IsOpen c.loop-self.body xs) (e.0 ∙ sym e.1) wait.1),
     )
-
-pub returns-in-Failed-clause-passes : goal.returns-in-Failed-clause-passes
-returns-in-Failed-clause-passes g c = λ rest known.
-    let wait = rw (c.in-Err-Wait.field-0-is, c.held.ensures) at c.in-Err-Wait.ensures in
-    let r = c.in-Failed.ensures.reads in
-    let same = none_came (held_of c.loop-self.self.source) (held_of c.fill.new.self) r.bytes r.behind r.brings in (
-      goes_filled c.args.body.now c.loop-self.body (held_of c.args.self.now.source ++ rest) [] (held_of c.loop-self.self.source) (held_of c.fill.new.self) _ _ Failed (c.loop-self.invariant.goes rest known) r,
-      subst (λ (xs : List ℕ). IsOpen c.loop-self.body xs) (sym same) wait.1,
-    )
-
-pub returns-then-eq-clause-passes : goal.returns-then-eq-clause-passes
-returns-then-eq-clause-passes g c = λ rest known. (search rules, c.loop-self.invariant.goes rest known)
-
-pub returns-in-Err-Bad-clause-passes : goal.returns-in-Err-Bad-clause-passes
-returns-in-Err-Bad-clause-passes g c = λ rest known. (c.loop-self.invariant.goes rest known, rw (c.in-Err-Bad.field-0-is, c.held.ensures) at c.in-Err-Bad.ensures)
-
-pub loop-self-preserved : goal.loop-self-preserved
-loop-self-preserved g c = record {
-  goes = λ rest known.
-      goes_filled c.args.body.now c.loop-self.body (held_of c.args.self.now.source ++ rest) [] (held_of c.loop-self.self.source) (held_of c.fill.new.self) _ _ More
-      (c.loop-self.invariant.goes rest known) c.in-More.ensures.reads;
-  quiet = c.in-More.ensures.counts ∙ c.loop-self.invariant.quiet;
-  writer = c.loop-self.invariant.writer;
-}
-
-pub fill-requires : goal.fill-requires
-fill-requires g c =
-    let wait = rw (c.in-Err-Wait.field-0-is, c.held.ensures) at c.in-Err-Wait.ensures in
-    omega (arith, wait.0)
-
-pub take-requires : goal.take-requires
-take-requires g c =
-    let step = rw (c.in-Ok-Piece.field-0-is, c.held.ensures) at c.in-Ok-Piece.ensures in
-    step.1
