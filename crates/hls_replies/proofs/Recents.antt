@@ -1,12 +1,12 @@
 -- Of two states of one log that have had as many events the live lists are the same.
-use Rattle.std.proofs.Common.{◌≡◌, ◌∙◌, ℕ, ◌+◌, List, [], ◌∷◌, ◌++◌, length, ◌<◌, ◌≤◌, ◌⊎◌, inl, inr, Bool, true, false, Option, Some, None, refl, sym, ap, arith, subst, length-append, if◌then◌else◌}
+use Rattle.std.proofs.Common.{◌≡◌, ◌∙◌, ℕ, ◌+◌, List, [], ◌∷◌, ◌++◌, length, ◌<◌, ◌≤◌, ◌⊎◌, inl, inr, Bool, true, false, Option, Some, refl, sym, ap, arith, subst, length-append, if◌then◌else◌}
 use Rattle.std.specs.Prelude.{All, slice_index_or}
 use Rattle.std.proofs.lemmas.List.{append-nil, get_or_default}
 use Rattle.std.proofs.lemmas.List.Elements.{All-append, All-cons, All-nil}
 use Rattle.hls_core_laws.specs.Config.{ConfigData}
 use Rattle.hls_core_laws.specs.declared.event.Entry.{Entry}
 use Rattle.hls_core_laws.specs.State.{State}
-use Rattle.hls_core_laws.specs.Follows.{Follows, Continues}
+use Rattle.hls_core_laws.specs.Follows.{Follows}
 use Rattle.hls_core_laws.proofs.Callers.{continues_of}
 use Rattle.hls_serve_laws.specs.Playlists.{live_text}
 use Rattle.hls_replies.specs.declared.recent.Recent.{Recent}

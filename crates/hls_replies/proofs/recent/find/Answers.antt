@@ -1,5 +1,3 @@
-use Rattle.std.proofs.Common.{◌≡◌, ◌∙◌, ap, sym}
-use Rattle.hls_replies.specs.declared.recent.Recent.{Recent}
 use Rattle.hls_replies.proofs.Recents.{text_at}
 use Rattle.hls_replies.proofs.recent.find.Goals as goal
 

@@ -1,4 +1,4 @@
-use Rattle.std.proofs.Common.{◌≡◌, ◌∙◌, All, List, ap, sym, subst}
+use Rattle.std.proofs.Common.{◌∙◌, All, List, ap, sym, subst}
 use Rattle.hls_serve_laws.specs.Replies as spec
 use Rattle.hls_replies.specs.declared.recent.Recent.{Recent}
 use Rattle.hls_replies.specs.Recent.{IsOf, state_noted}
