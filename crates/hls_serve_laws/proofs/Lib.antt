@@ -1,6 +1,5 @@
 mod Acting
 mod Examples
-mod Jobs
 mod Linking
 mod Requests
 pub mod Callers

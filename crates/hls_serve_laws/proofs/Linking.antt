@@ -1,19 +1,15 @@
 -- What acts lead to, one after the other and with others between.
 use Rattle.std.proofs.Common.{◌≡◌, ◌∙◌, List, [], ◌∷◌, ◌++◌, Result, refl, sym, ap, subst, append_assoc, append-nil}
-use Rattle.hls_core_laws.specs.declared.event.Event.{Event}
 use Rattle.hls_core_laws.specs.declared.event.Logged.{Logged}
-use Rattle.hls_core_laws.specs.declared.refusal.Refusal.{Refusal}
 use Rattle.hls_core_laws.specs.IsState.{IsState}
 use Rattle.hls_core_laws.specs.Moves.{IsFittingAsSeen, logged}
 use Rattle.hls_core_laws.specs.Outcome.{Outcome, New, Repeated, Refused}
-use Rattle.hls_core_laws.specs.State.{State}
 use Rattle.hls_core_laws.proofs.Callers.{state_of}
 use Rattle.hls_core_laws.proofs.Callers.{follows_itself, follows_through, moves_follow, seen_suffices}
-use Rattle.hls_core_laws.specs.declared.done.Done.{Done}
 use Rattle.hls_core_laws.specs.Known as calls
-use Rattle.hls_core_laws.specs.Known.{Known}
 use Rattle.hls_serve_laws.specs.Acts.{Act, Acted, Chain, Leads, Looked, LookedInVain, Submitted}
 use Rattle.hls_serve_laws.specs.Linked.{Later, Linked}
+use Rattle.hls_serve_laws.specs.Types.{Event, Refusal, State, Done, Known}
 
 -- ---- what is known later
 

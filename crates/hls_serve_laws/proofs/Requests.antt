@@ -4,25 +4,17 @@ use Rattle.std.specs.Prelude.{cond}
 use Rattle.std.specs.Option.{is_some}
 use Rattle.std.proofs.lemmas.Bool.{eqb-true}
 use Rattle.httparse.specs.Grammar.{RequestHead}
-use Rattle.hls_feed.specs.declared.fault.StreamFault.{StreamFault}
 use Rattle.hls_feed.specs.Streams.{Refuses}
-use Rattle.hls_http_laws.specs.declared.body.Body.{Body}
 use Rattle.hls_http_laws.specs.declared.body.Body.TheVariants.{Length}
-use Rattle.hls_http_laws.specs.declared.fault.HttpFault.{HttpFault}
 use Rattle.hls_http_laws.specs.declared.fault.HttpFault.TheVariants.{BadFraming, NotFound, TooLarge}
-use Rattle.hls_http_laws.specs.declared.plan.Plan.{Plan}
 use Rattle.hls_http_laws.specs.declared.plan.Plan.TheVariants.{Refuse, Feed, Skip}
 use Rattle.hls_http_laws.specs.Bodies.{Runs as BodyRuns, NoStep}
 use Rattle.hls_http_laws.specs.Order.{is_over, is_past, plan_by}
 use Rattle.hls_http_laws.specs.Requests.{Request as WholeRequest, ReadsOne, begins}
 use Rattle.hls_http_laws.proofs.Callers.{body_taken, runs_leave}
-use Rattle.hls_http.specs.declared.body.BodyEnd.{BodyEnd}
 use Rattle.hls_http.specs.declared.body.BodyEnd.TheVariants as bodies
-use Rattle.hls_http.specs.declared.drain.DropEnd.{DropEnd}
 use Rattle.hls_http.specs.declared.drain.DropEnd.TheVariants as drops
-use Rattle.hls_serve_laws.specs.declared.ingest.Intake.{Intake}
 use Rattle.hls_serve_laws.specs.declared.ingest.Intake.TheVariants as came
-use Rattle.hls_serve_laws.specs.declared.route.Route.{Route}
 use Rattle.hls_serve_laws.specs.declared.route.Route.TheVariants as routes
 use Rattle.hls_serve_laws.specs.Acts.{Act}
 use Rattle.hls_serve_laws.specs.Replies.{Answer, fault_answer}
@@ -31,6 +23,7 @@ use Rattle.hls_serve_laws.specs.Heard.{Due, Drops, FeedsBy, FollowsBy, Heard, Is
 use Rattle.hls_serve_laws.specs.Routes.{feeds}
 use Rattle.hls_serve_laws.specs.Connections.{Exchange, Serves, due_in}
 use Rattle.hls_serve_laws.specs.Laws.{BeginsWith, RequestsAreRead}
+use Rattle.hls_serve_laws.specs.Types.{StreamFault, Body, HttpFault, Plan, BodyEnd, DropEnd, Intake, Route}
 
 -- ---- a reply behind which a connection goes on
 

@@ -1,13 +1,9 @@
 -- What a keeper is asked while a connection is served, and what it tells; and what that does to what the keeper knows.
 use Rattle.std.specs.Prelude.{◌≡◌, List, [], ◌∷◌, ◌++◌, All, Result, Ok, Err}
-use Rattle.hls_core_laws.specs.declared.event.Event.{Event}
-use Rattle.hls_core_laws.specs.declared.refusal.Refusal.{Refusal}
 use Rattle.hls_core_laws.specs.declared.refusal.Refusal.TheVariants.{Memory}
 use Rattle.hls_core_laws.specs.Moves.{IsFittingAsSeen}
-use Rattle.hls_core_laws.specs.State.{State}
-use Rattle.hls_core_laws.specs.declared.done.Done.{Done}
-use Rattle.hls_core_laws.specs.Known.{Known}
 use Rattle.hls_core_laws.specs.Known as calls
+use Rattle.hls_serve_laws.specs.Types.{Event, Refusal, State, Done, Known}
 
 -- a look, and the state that it showed; a look that showed none, for want of memory; an event, and what came of it
 pub data Act : Type 0 where

@@ -3,12 +3,10 @@ use Rattle.hls_boxes_laws.specs.declared.fault.BoxFault.{BoxFault}
 use Rattle.hls_boxes_laws.specs.declared.fault.BoxFault.TheVariants as boxes
 use Rattle.hls_media_laws.specs.declared.fault.MediaFault.{MediaFault}
 use Rattle.hls_media_laws.specs.declared.fault.MediaFault.TheVariants as media
-use Rattle.hls_core_laws.specs.declared.refusal.Refusal.{Refusal}
 use Rattle.hls_core_laws.specs.declared.refusal.Refusal.TheVariants as core
-use Rattle.hls_feed.specs.declared.fault.StreamFault.{StreamFault}
 use Rattle.hls_feed.specs.declared.fault.StreamFault.TheVariants.{Boxes, Media, Core}
-use Rattle.hls_http_laws.specs.declared.reply.Status.{Status}
 use Rattle.hls_http_laws.specs.declared.reply.Status.TheVariants.{BadRequest, NotFound, Conflict, ContentTooLarge, Unavailable, InsufficientStorage}
+use Rattle.hls_serve_laws.specs.Types.{Refusal, StreamFault, Status}
 
 -- a part that is too large is 413 (RFC 9110, section 15.5.14)
 abbrev pub box_status : BoxFault → Status

@@ -3,19 +3,11 @@ use Rattle.std.specs.Prelude.{◌≡◌, ◌≢◌, ◌⊎◌, ◌<◌, ◌≤�
 use Rattle.std.specs.Option.{is_some}
 use Rattle.httparse.specs.Grammar.{RequestHead, NeverHasRequest}
 use Rattle.hls_core_laws.specs.declared.event.Event.TheVariants.{Finish}
-use Rattle.hls_core_laws.specs.declared.refusal.Refusal.{Refusal}
 use Rattle.hls_core_laws.specs.declared.refusal.Refusal.TheVariants.{Memory}
-use Rattle.hls_core_laws.specs.State.{State}
-use Rattle.hls_feed.specs.declared.fault.StreamFault.{StreamFault}
 use Rattle.hls_feed.specs.Names.{name_of}
-use Rattle.hls_core_laws.specs.declared.done.Done.{Done}
-use Rattle.hls_http_laws.specs.declared.body.Body.{Body}
 use Rattle.hls_http_laws.specs.declared.body.Body.TheVariants.{Length, Size}
-use Rattle.hls_http_laws.specs.declared.fault.HttpFault.{HttpFault}
 use Rattle.hls_http_laws.specs.declared.fault.HttpFault.TheVariants as http
-use Rattle.hls_http_laws.specs.declared.plan.Plan.{Plan}
 use Rattle.hls_http_laws.specs.declared.plan.Plan.TheVariants.{Refuse, Feed, Skip}
-use Rattle.hls_http_laws.specs.declared.range.Asked.{Asked}
 use Rattle.hls_http_laws.specs.declared.range.Asked.TheVariants as asks
 use Rattle.hls_http_laws.specs.declared.reply.Status.TheVariants as statuses
 use Rattle.hls_http_laws.specs.Heads.{ReadsSmall, IsTooLarge}
@@ -26,24 +18,14 @@ use Rattle.hls_http_laws.specs.Range.{asked_of}
 use Rattle.hls_http_laws.specs.Requests.{begins, fields_of}
 use Rattle.hls_http_laws.specs.Order.{plan_by, continues, says_close}
 use Rattle.hls_http_laws.specs.Reply.{continue_text, is_success, no_memory_to}
-use Rattle.hls_http.specs.declared.head.Method.{Method}
-use Rattle.hls_http.specs.declared.body.BodyEnd.{BodyEnd}
 use Rattle.hls_http.specs.declared.body.BodyEnd.TheVariants as bodies
-use Rattle.hls_http.specs.declared.drain.DropEnd.{DropEnd}
 use Rattle.hls_http.specs.declared.drain.DropEnd.TheVariants as drops
 use Rattle.hls_http.specs.Heads.{method_of}
 use Rattle.hls_http.specs.Drained.{announced_by}
-use Rattle.hls_catchup.specs.declared.fault.JobFault.{JobFault}
 use Rattle.hls_catchup.specs.declared.fault.JobFault.TheVariants.{UnknownJob}
-use Rattle.hls_catchup.specs.declared.jobs.job.Job.{Job}
-use Rattle.hls_serve_laws.specs.declared.ingest.Intake.{Intake}
 use Rattle.hls_serve_laws.specs.declared.ingest.Intake.TheVariants as came
-use Rattle.hls_serve_laws.specs.declared.query.Query.{Query}
-use Rattle.hls_serve_laws.specs.declared.query.QueryFault.{QueryFault}
 use Rattle.hls_serve_laws.specs.declared.query.QueryFault.TheVariants.{BadQuery}
-use Rattle.hls_serve_laws.specs.declared.route.Route.{Route}
 use Rattle.hls_serve_laws.specs.declared.route.Route.TheVariants as routes
-use Rattle.hls_serve_laws.specs.declared.wanted.Wanted.{Wanted}
 use Rattle.hls_catchup.specs.Jobs.Shared.{HasCounted, HasRemoved}
 use Rattle.hls_serve_laws.specs.Faults.{status_of}
 use Rattle.hls_serve_laws.specs.Acts.{Act, ActsInVain, Looks, Submits}
@@ -54,6 +36,7 @@ use Rattle.hls_serve_laws.specs.JobReplies.{added_answer, query_answer, file_ans
 use Rattle.hls_serve_laws.specs.Queries.{query_in, request_for, wanted_of}
 use Rattle.hls_serve_laws.specs.Replies.{Answer, answer_text, fault_answer, finish_answer, list_answer, media_answer, method_answer, playlist_answer, status_answer, text_answer}
 use Rattle.hls_serve_laws.specs.Routes.{allows, feeds, is_to_head, path_of, query_of, removes, route_of}
+use Rattle.hls_serve_laws.specs.Types.{Refusal, State, StreamFault, Done, Body, HttpFault, Plan, Asked, Method, BodyEnd, DropEnd, JobFault, Job, Intake, Query, QueryFault, Route, Wanted}
 
 -- what a request's head asks
 pub record Asks : Type 0 where

@@ -4,7 +4,6 @@ use Rattle.std.specs.Prelude.{◌≡◌, ◌≢◌, ◌⊎◌, ℕ, nat_eq, ◌+
 use Rattle.std.specs.Fmt.{decimal}
 use Rattle.hls_boxes_laws.specs.declared.part.Part.{Part}
 use Rattle.hls_boxes_laws.specs.declared.part.Part.TheVariants as parts
-use Rattle.hls_feed.specs.declared.fault.StreamFault.{StreamFault}
 use Rattle.hls_feed.specs.declared.fault.StreamFault.TheVariants.{Boxes, Media, Core}
 use Rattle.hls_feed.specs.declared.fault.Untaken.{Untaken}
 use Rattle.hls_feed.specs.declared.fault.Untaken.TheVariants as untaken
@@ -15,21 +14,16 @@ use Rattle.hls_media_laws.specs.Meaning.{IsInit, IsUnit}
 use Rattle.hls_media_laws.specs.Inits.{init_of}
 use Rattle.hls_media_laws.specs.UnitFacts.{facts}
 use Rattle.hls_core_laws.specs.declared.event.Event.TheVariants.{Begin, Accept}
-use Rattle.hls_core_laws.specs.declared.refusal.Refusal.{Refusal}
 use Rattle.hls_core_laws.specs.declared.refusal.Refusal.TheVariants.{NoInit, Memory}
-use Rattle.hls_core_laws.specs.State.{State}
 use Rattle.hls_core.specs.Reads.{recording_of}
-use Rattle.hls_core_laws.specs.declared.done.Done.{Done}
 use Rattle.hls_core_laws.specs.declared.done.Done.TheVariants as done
-use Rattle.hls_http_laws.specs.declared.body.Body.{Body}
 use Rattle.hls_http_laws.specs.declared.body.Body.TheVariants.{Length}
 use Rattle.hls_http_laws.specs.Bodies.{IsBroken, IsOpen}
-use Rattle.hls_http.specs.declared.body.BodyEnd.{BodyEnd}
 use Rattle.hls_http.specs.declared.body.BodyEnd.TheVariants as bodies
 use Rattle.hls_serve_laws.specs.declared.ingest.Counts.{Counts}
-use Rattle.hls_serve_laws.specs.declared.ingest.Intake.{Intake}
 use Rattle.hls_serve_laws.specs.declared.ingest.Intake.TheVariants as came
 use Rattle.hls_serve_laws.specs.Acts.{Act, ActsInVain, Looks, Submits}
+use Rattle.hls_serve_laws.specs.Types.{StreamFault, Refusal, State, Done, Body, BodyEnd, Intake}
 
 -- ---- counts
 

@@ -2,12 +2,9 @@
 use Rattle.std.specs.Prelude.{◌≡◌, ℕ, IfOk, Result}
 use Rattle.std.specs.Global.{Global}
 use Rattle.std.specs.declared.sync.Arc.{Arc}
-use Rattle.hls_core_laws.specs.State.{State}
-use Rattle.hls_catchup.specs.declared.request.Request.{Request}
-use Rattle.hls_catchup.specs.declared.fault.JobFault.{JobFault}
-use Rattle.hls_catchup.specs.declared.jobs.job.Job.{Job}
 use Rattle.hls_catchup.specs.Jobs.Phases.{IsRightJob}
 use Rattle.hls_catchup.specs.Jobs.Shared.{HasAdded, HasGot}
+use Rattle.hls_serve_laws.specs.Types.{State, Request, JobFault, Job}
 
 -- a job with this very state was added to some table of jobs
 pub record IsAdded (s : State) (request : Request) (result : Result ℕ JobFault) : Type 0 where

@@ -1,25 +1,21 @@
 -- Laws: what a connection answered are requests of the standard's grammar, the field Allow names the methods that a route allows, and
 -- what is served of a table of jobs that threads share is right, whichever jobs it has.
 use Rattle.std.specs.Prelude.{◌≡◌, ◌⊎◌, ℕ, false, List, length, map, Some, Result, codes}
-use Rattle.hls_core_laws.specs.State.{State}
 use Rattle.hls_http_laws.specs.declared.fault.HttpFault.TheVariants as http
-use Rattle.hls_http_laws.specs.declared.range.Asked.{Asked}
 use Rattle.hls_http_laws.specs.declared.reply.Status.TheVariants.{Done}
 use Rattle.hls_http_laws.specs.Requests.{Request as WholeRequest, Cuts}
 use Rattle.hls_http.specs.declared.head.Method.TheVariants.{Other}
 use Rattle.hls_http.specs.Heads.{method_of}
-use Rattle.hls_catchup.specs.declared.request.Request.{Request}
 use Rattle.hls_catchup.specs.declared.fault.CatchFault.{CatchFault}
 use Rattle.hls_catchup.specs.Replies.{ReplyData, IsRightReply}
 use Rattle.hls_catchup.specs.Plays.{IsAnswered}
 use Rattle.hls_catchup.specs.Jobs.Line.{result_line}
-use Rattle.hls_serve_laws.specs.declared.route.JobFile.{JobFile}
-use Rattle.hls_serve_laws.specs.declared.route.Route.{Route}
 use Rattle.hls_serve_laws.specs.Connections.{Exchange, Serves}
 use Rattle.hls_serve_laws.specs.Heard.{ShowsJob}
 use Rattle.hls_serve_laws.specs.JobReplies.{file_answer, reply_answer, told_answer}
 use Rattle.hls_serve_laws.specs.Replies.{Answer, fault_answer, text_answer}
 use Rattle.hls_serve_laws.specs.Routes.{allows, named_methods}
+use Rattle.hls_serve_laws.specs.Types.{State, Asked, Request, JobFile, Route}
 
 -- ---- requests
 

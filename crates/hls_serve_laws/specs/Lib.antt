@@ -12,3 +12,4 @@ pub mod Queries
 pub mod Replies
 pub mod Routes
 pub mod Sessions
+pub mod Types

@@ -4,14 +4,10 @@ use Rattle.hls_instants.specs.Instants.{instant_of}
 use Rattle.hls_text.specs.Digits.{number_of}
 use Rattle.hls_http_laws.specs.Query.{value_in}
 use Rattle.hls_check_laws.specs.Tables.{rule_of}
-use Rattle.hls_core_laws.specs.State.{State}
-use Rattle.hls_catchup.specs.declared.request.Request.{Request}
 use Rattle.hls_serve_laws.specs.declared.query.Moment.{Moment}
 use Rattle.hls_serve_laws.specs.declared.query.Moment.TheVariants.{Time, Instant}
-use Rattle.hls_serve_laws.specs.declared.query.Query.{Query}
-use Rattle.hls_serve_laws.specs.declared.query.QueryFault.{QueryFault}
 use Rattle.hls_serve_laws.specs.declared.query.QueryFault.TheVariants.{BadQuery, BeforeEpoch}
-use Rattle.hls_serve_laws.specs.declared.wanted.Wanted.{Wanted}
+use Rattle.hls_serve_laws.specs.Types.{State, Request, Query, QueryFault, Wanted}
 
 -- ---- what a query says
 

@@ -4,12 +4,10 @@ use Rattle.std.specs.Prelude.{List, [], ◌∷◌, ◌++◌, length, take, drop,
 use Rattle.std.specs.List.{filter, position_or_len}
 use Rattle.std.specs.Str.{all_ascii_digits}
 use Rattle.hls_text.specs.Digits.{is_plain, number_of}
-use Rattle.hls_http.specs.declared.head.Method.{Method}
 use Rattle.hls_http.specs.declared.head.Method.TheVariants.{Get, Head, Post, Put, Delete}
-use Rattle.hls_serve_laws.specs.declared.route.Route.{Route}
 use Rattle.hls_serve_laws.specs.declared.route.Route.TheVariants as routes
-use Rattle.hls_serve_laws.specs.declared.route.JobFile.{JobFile}
 use Rattle.hls_serve_laws.specs.declared.route.JobFile.TheVariants as files
+use Rattle.hls_serve_laws.specs.Types.{Method, Route, JobFile}
 
 -- what stands before the first such byte, and behind it
 abbrev pub place_of : ℕ → List ℕ → ℕ

@@ -1,10 +1,9 @@
 -- A session: a connection over a reader and a writer, from its beginning to its end.
 use Rattle.std.specs.Prelude.{◌≡◌, ℕ, List, [], ◌++◌, length, Option, Some, IsTrue}
-use Rattle.hls_http_laws.specs.declared.end.SessionEnd.{SessionEnd}
 use Rattle.hls_http_laws.specs.declared.end.SessionEnd.TheVariants as ends
-use Rattle.hls_core_laws.specs.Known.{Known}
 use Rattle.hls_serve_laws.specs.Acts.{Chain}
 use Rattle.hls_serve_laws.specs.Connections.{History, Stage, Over, IsServed}
+use Rattle.hls_serve_laws.specs.Types.{SessionEnd, Known}
 
 -- a session goes on only until its reader or writer fails
 abbrev pub GoesOn : Stage → Type 0
