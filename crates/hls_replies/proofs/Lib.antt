@@ -1,3 +1,2 @@
-pub mod Recents
+mod Recents
 mod Parts
-mod Shown

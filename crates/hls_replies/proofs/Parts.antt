@@ -1,32 +1,13 @@
 -- Parts of a resource: where any begins in its slices, and of a recording what is kept.
-use Rattle.std.proofs.Common.{◌≡◌, ◌∙◌, ℕ, zero, suc, ◌+◌, ◌-◌, ◌<◌, ◌≤◌, inl, inr, List, [], ◌∷◌, ◌++◌, Option, Some, None, length, get_or, map, take, drop, replicate, min, max, refl, sym, ap, subst, arith, length-append, length-drop}
-use Rattle.std.specs.Prelude.{unwrap_or}
+use Rattle.std.proofs.Common.{◌≡◌, ◌∙◌, ℕ, zero, suc, ◌+◌, ◌-◌, ◌<◌, ◌≤◌, inl, inr, List, [], ◌∷◌, ◌++◌, Option, Some, None, length, get_or, map, take, drop, replicate, min, max, refl, sym, ap, subst, arith, length-append}
 use Rattle.std.specs.List.{Contains, concat}
 use Rattle.std.proofs.lemmas.Bool.{cases_lt, lt-ltb, le-ltb}
 use Rattle.std.proofs.lemmas.List.{length-map, length-replicate, map-append, drop-map, take-map, take_all}
 use Rattle.hls_record.specs.Recorded.{Recorded, offset_at, total_of, bytes_of, range_of}
 use Rattle.hls_record.specs.Valid.{IsRecorded}
 use Rattle.hls_record.proofs.Callers.{bytes_length, gone_range}
-use Rattle.hls_output.specs.Slices.{rest_at}
-use Rattle.hls_catchup.specs.Resources.{FindsPlace}
 use Rattle.hls_serve_laws.specs.Replies.{media_bytes, onto, whole}
-use Rattle.hls_replies.specs.Contents.{IsPlaced, kept_at, kept_slices}
-
--- a place is found, or at the end, where nothing is left, none
-pub part-placed : (slices : List (List ℕ)) (at len : ℕ) (found : Option (ℕ × ℕ)) → FindsPlace slices at found → at + len ≤ length (concat slices)
-    → IsPlaced slices at len (unwrap_or found (0, 0))
-part-placed slices at len None finds within =
-    let none : len ≡ 0 = omega (arith, finds, within) in
-    record {
-      there = omega (arith, none);
-      is = ap (λ n. take n (rest_at slices 0 0)) none ∙ sym (ap (λ n. take n (drop at (concat slices))) none);
-      back = omega arith;
-    }
-part-placed slices at len (Some place) finds within = record {
-  there = omega (arith, within, ap length finds.rest, length-drop at (concat slices));
-  is = ap (take len) finds.rest;
-  back = finds.back;
-}
+use Rattle.hls_replies.specs.Contents.{kept_at, kept_slices}
 
 -- ---- bytes that are all there
 
@@ -60,12 +41,6 @@ early-at r from early = rw (lt-ltb from (length r.head) early) refl
 
 late-at : (r : Recorded) (from : ℕ) → length r.head ≤ from → kept_at r from ≡ from - hole r
 late-at r from late = rw (le-ltb from (length r.head) late) refl
-
-pub at-most : (r : Recorded) (from : ℕ) → kept_at r from ≤ from
-at-most r from = elim (cases_lt from (length r.head)) [
-  | inl early ↦ omega (arith, early-at r from early)
-  | inr late ↦ omega (arith, late-at r from late)
-]
 
 -- the slices joined: the init section, and the bytes of the units that are kept
 kept-joined : (r : Recorded) → IsRecorded r → concat (kept_slices (Some r)) ≡ r.head ++ concat r.units

@@ -1,46 +1,12 @@
 -- Of two states of one log that have had as many events the live lists are the same.
-use Rattle.std.proofs.Common.{◌≡◌, ◌∙◌, ℕ, ◌+◌, List, [], ◌∷◌, ◌++◌, length, ◌<◌, ◌≤◌, ◌⊎◌, inl, inr, Bool, true, false, Option, Some, refl, sym, ap, arith, subst, length-append, if◌then◌else◌}
+use Rattle.std.proofs.Common.{◌≡◌, ◌∙◌, ℕ, ◌+◌, List, [], ◌∷◌, ◌++◌, length, ◌<◌, ◌⊎◌, inl, inr, Bool, true, false, Option, Some, refl, sym, ap, subst, if◌then◌else◌}
 use Rattle.std.specs.Prelude.{All, slice_index_or}
-use Rattle.std.proofs.lemmas.List.{append-nil, get_or_default}
+use Rattle.std.proofs.lemmas.List.{get_or_default}
 use Rattle.std.proofs.lemmas.List.Elements.{All-append, All-cons, All-nil}
-use Rattle.hls_core_laws.specs.Config.{ConfigData}
-use Rattle.hls_core_laws.specs.declared.event.Entry.{Entry}
 use Rattle.hls_core_laws.specs.State.{State}
-use Rattle.hls_core_laws.specs.Follows.{Follows}
-use Rattle.hls_core_laws.proofs.Callers.{continues_of}
 use Rattle.hls_serve_laws.specs.Playlists.{live_text}
 use Rattle.hls_replies.specs.declared.recent.Recent.{Recent}
 use Rattle.hls_replies.specs.Recent.{AreOf, HasHad, IsBehind, IsOf, IsText}
-
-none_more : {A : Type 0} (xs ys rest : List A) → ys ≡ xs ++ rest → length xs ≡ length ys → ys ≡ xs
-none_more xs ys [] is same = is ∙ append-nil xs
-none_more xs ys (x ∷ rest) is same = absurd (omega (arith, same, ap length is, length-append xs (x ∷ rest)))
-
--- a live list is of the configuration and the log alone
-abbrev text_by : ConfigData → List Entry → ℕ → Option (List ℕ)
-text_by config log rendition = live_text (record { config = config; log = log; bytes = [] }) rendition
-
-text_stays : (a b : State) (rendition : ℕ) → Follows a b → length a.log ≡ length b.log → live_text b rendition ≡ live_text a rendition
-text_stays a b rendition follows same =
-    let c = continues_of a b follows in
-    let log : b.log ≡ a.log = none_more a.log b.log c.rest c.log same in
-    ap (λ (config : ConfigData). text_by config b.log rendition) c.config ∙ ap (λ (log : List Entry). text_by a.config log rendition) log
-
-grows : (a b : State) → Follows a b → length a.log ≤ length b.log
-grows a b follows =
-    let c = continues_of a b follows in omega (arith, ap length c.log, length-append a.log c.rest)
-
--- what is behind a state is behind those that follow it
-pub behind_on : (of : Option State) (a b : State) → IsBehind of a → Follows a b → IsBehind of b
-behind_on of a b behind follows s is =
-    let (few, shown) = behind s is in
-    let more = grows a b follows in
-    (omega (arith, few, more), λ same r. text_stays a b r follows (omega (arith, few, more, same)) ∙ shown (omega (arith, few, more, same)) r)
-
-pub behind_itself : (of : Option State) (b : State) → of ≡ Some b → IsBehind of b
-behind_itself of b is s there =
-    let same : s ≡ b = cc (sym there ∙ is) in
-    (omega (arith, ap (λ (x : State). length x.log) same), λ equal r. ap (λ (x : State). live_text x r) (sym same))
 
 kept_stays : (of : Option State) (version : ℕ) (b : State) → HasHad of version → IsBehind of b → version ≡ length b.log → (kept : Recent) → IsOf of kept → IsOf (Some b) kept
 kept_stays of version b had follows same kept (a, is, text) =
