@@ -1,119 +1,44 @@
--- A session, from one turn to the next.
-use Rattle.std.proofs.Common.{◌≡◌, ◌∙◌, ◌⊎◌, ℕ, ◌<◌, Bool, true, false, List, [], ◌++◌, length, drop, Option, Some, None, IsTrue, inl, inr, refl, sym, ap, subst, append_assoc, append-nil, arith}
+-- A session, from one moment to the next.
+use Rattle.std.proofs.Common.{◌≡◌, ◌∙◌, ℕ, Bool, true, false, List, [], ◌++◌, length, drop, Option, Some, None, IsTrue, inl, inr, refl, sym, ap, subst, append_assoc, append-nil, arith}
 use Rattle.std.proofs.lemmas.List.{take-append-drop}
 use Rattle.std.specs.Io.KnownBytes.{Appends, Consumes, IsAtEnd}
 use Rattle.http_server.proofs.KnownLemmas.{Appends-then, Consumes-then}
 use Rattle.bytes.specs.Unread.{IsChunkOf}
+use Rattle.hls_io.specs.Rose.{Rose}
 use Rattle.hls_io.specs.Writing.{Writes}
 use Rattle.hls_http.proofs.Callers.{writes_whole}
 use Rattle.hls_http_laws.specs.declared.end.SessionEnd.{SessionEnd}
 use Rattle.hls_http_laws.specs.declared.end.SessionEnd.TheVariants as ends
+use Rattle.hls_core_laws.specs.IsState.{IsState}
 use Rattle.hls_core_laws.specs.Known.{Known}
-use Rattle.hls_serve_laws.specs.Acts.{Act, Acted, Chain}
-use Rattle.hls_serve_laws.specs.Connections.{History, IsServed, Stage, Between, Within, Over}
-use Rattle.hls_serve_laws.specs.Sessions.{EndsSo, GoesOn, Session}
+use Rattle.hls_serve_laws.specs.Acts.{Act, Chain}
+use Rattle.hls_serve_laws.specs.Connections.{Stage, Between, Within, Over}
+use Rattle.hls_serve_laws.specs.Sessions.{EndsSo, GoesOn}
+use Rattle.hls_serve_laws.proofs.Callers.{acted_on}
 use Rattle.hls_serve.specs.declared.ending.Ending.{Ending}
 use Rattle.hls_serve.specs.declared.ending.Ending.TheVariants as own
-use Rattle.hls_serve.specs.declared.machine.Machine.{Machine}
 use Rattle.hls_serve.specs.declared.machine.State.TheVariants as states
-use Rattle.hls_serve.specs.declared.talk.Talk.{Talk}
+use Rattle.hls_serve.specs.declared.place.Idle.{Idle}
+use Rattle.hls_serve.specs.declared.place.Place.TheVariants as places
 use Rattle.hls_serve.specs.Counted.{CountsSession}
 use Rattle.hls_serve.specs.Endings.{end_of}
-use Rattle.hls_serve.specs.Machine.{GoesOnIn, IsOver, Rests, asked_in, stage_of, total}
-use Rattle.hls_serve.specs.Talking.{EndsIn, HasRead, HasWritten}
-use Rattle.hls_serve.specs.Talks.{HoldsOf, received_in, sent_in}
-use Rattle.hls_serve.proofs.HoldLaws.{holds_sent, none, served_of}
-use Rattle.hls_serve.proofs.TalkLaws.{received_same, sent_same}
+use Rattle.hls_serve.specs.Machine.{GoesOnIn, IsOver, stage_of, total}
+use Rattle.hls_serve.specs.Places.{IsFresh, connection_of}
+use Rattle.hls_serve.specs.Talking.{Ended, Led, Moment}
+use Rattle.hls_serve.specs.Talks.{Advances, Connection, RestsAt, WantsMore, hears, history_of, sends}
+use Rattle.hls_serve.proofs.HoldLaws.{holds_more, holds_sent, none, served_of}
+use Rattle.hls_serve.proofs.TalkLaws.{idle_holds, sends_holds, suited_new}
 
-pub never : IsTrue false → ⊥
-never is = cc
+-- ---- known bytes
 
--- ---- what was read and written so far
+-- they stay where none comes or goes
+kept_left : (left : Option (List ℕ)) → Consumes left left []
+kept_left None = tt
+kept_left (Some xs) = refl
 
--- so much of the input came behind what was held, and the end only where nothing is left
-pub record HasCome (held : List ℕ) (t : Talk) (start left : Option (List ℕ)) : Type 0 where
-  pub bytes : List ℕ
-  pub received : received_in t ≡ held ++ bytes
-  pub consumes : Consumes start left bytes
-  pub at_end : IsTrue t.ended → IsAtEnd left
-
-pub come_on : (held : List ℕ) (t n : Talk) (start before left : Option (List ℕ)) → HasCome held t start before → HasRead t n before left → HasCome held n start left
-come_on held t n start before left x y = record {
-  bytes = x.bytes ++ y.bytes;
-  received = y.received ∙ ap (λ (b : List ℕ). b ++ y.bytes) x.received ∙ append_assoc held x.bytes y.bytes;
-  consumes = Consumes-then start before left x.bytes y.bytes x.consumes y.consumes;
-  at_end = y.at_end x.at_end;
-}
-
--- known bytes stay where none comes
-pub kept_read : (left : Option (List ℕ)) → Consumes left left []
-kept_read None = tt
-kept_read (Some xs) = refl
-
-pub kept_written : (held : Option (List ℕ)) → Appends held held []
-kept_written None = tt
-kept_written (Some xs) = sym (append-nil xs)
-
--- nothing was read, or handed out
-pub read_none : (t n : Talk) (left : Option (List ℕ)) → n.came ≡ t.came → n.ended ≡ t.ended → HasRead t n left left
-read_none t n left came ended = record {
-  bytes = [];
-  received = received_same t n came ∙ sym (append-nil (received_in t));
-  consumes = kept_read left;
-  at_end = λ before now. before (subst IsTrue ended now);
-}
-
-pub written_none : (t n : Talk) (held : Option (List ℕ)) (result : Option SessionEnd) → n.gone ≡ t.gone → HasWritten t n held held result
-written_none t n held result gone = record {
-  gone = [];
-  sent = sent_same t n gone ∙ sym (append-nil (sent_in t));
-  more = [];
-  waits = n.machine.output;
-  pending = refl;
-  appends = kept_written held;
-  whole = inr refl;
-}
-
--- .. before which nothing was handed out
-pub written_quiet : (t u n : Talk) (before contents : Option (List ℕ)) (result : Option SessionEnd) → u.gone ≡ t.gone → HasWritten u n before contents result
-    → HasWritten t n before contents result
-written_quiet t u n before contents result gone w = record {
-  gone = w.gone;
-  sent = w.sent ∙ ap (λ (x : List ℕ). x ++ w.gone) (sent_same t u gone);
-  more = w.more;
-  waits = w.waits;
-  pending = w.pending;
-  appends = w.appends;
-  whole = w.whole;
-}
-
--- .. or read
-pub read_quiet : (t u n : Talk) (before left : Option (List ℕ)) → u.came ≡ t.came → u.ended ≡ t.ended → HasRead u n before left → HasRead t n before left
-read_quiet t u n before left came ended r = record {
-  bytes = r.bytes;
-  received = r.received ∙ ap (λ (x : List ℕ). x ++ r.bytes) (received_same t u came);
-  consumes = r.consumes;
-  at_end = λ there. r.at_end (λ now. there (subst IsTrue ended now));
-}
-
--- a turn that goes on has written all that it handed out
-pub written_on : (t n : Talk) (start before contents : Option (List ℕ)) → Appends start before (sent_in t) → HasWritten t n before contents None → Appends start contents (sent_in n)
-written_on t n start before contents x y =
-    subst (λ (b : List ℕ). Appends start contents b) (whole y.gone y.more y.whole ∙ sym y.sent) (Appends-then start before contents (sent_in t) (y.gone ++ y.more) x y.appends)
-  where
-    whole : (gone more : List ℕ) → (None ≡ Some ends.WriteFailed) ⊎ (more ≡ []) → sent_in t ++ (gone ++ more) ≡ sent_in t ++ gone
-    whole gone more (inl never) = absurd (cc)
-    whole gone more (inr none) = ap (λ (b : List ℕ). sent_in t ++ (gone ++ b)) none ∙ ap (λ (b : List ℕ). sent_in t ++ b) (append-nil gone)
-
--- ---- how it ends
-
-ends_so : (end : SessionEnd) (stage : Stage) (pending more waits : List ℕ) → pending ≡ more ++ waits → (Some end ≡ Some ends.WriteFailed) ⊎ (more ≡ []) → EndsSo end stage pending
-    → EndsSo end stage waits
-ends_so end stage pending more waits is (inl failed) so =
-    let same : end ≡ ends.WriteFailed = cc in
-    subst (λ (e : SessionEnd). EndsSo e stage waits) (sym same) tt
-ends_so end stage pending more waits is (inr none) so =
-    subst (λ (p : List ℕ). EndsSo end stage p) (is ∙ ap (λ (m : List ℕ). m ++ waits) none) so
+pub kept_contents : (contents : Option (List ℕ)) → Appends contents contents []
+kept_contents None = tt
+kept_contents (Some xs) = sym (append-nil xs)
 
 came_of : (input : List ℕ) (left : Option (List ℕ)) (bytes : List ℕ) → Consumes (Some input) left bytes → (later : List ℕ) × (left ≡ Some later) × (input ≡ bytes ++ later)
 came_of input None bytes consumes = absurd consumes
@@ -123,93 +48,148 @@ wrote_of : (out : List ℕ) (contents : Option (List ℕ)) (bytes : List ℕ) �
 wrote_of out None bytes appends = absurd appends
 wrote_of out (Some all) bytes appends = ap Some appends
 
--- what came of a session that ends so
-pub session_of : (a b : Known) (t n : Talk) (end : SessionEnd) (held unread : List ℕ) (input out : List ℕ) (left before contents : Option (List ℕ))
-    → n.machine.renditions ≡ length a.seen.config.renditions → HoldsOf n unread → Acted a [] b (total n.machine) → HasCome held n (Some input) left
-    → Appends (Some out) before (sent_in t) → HasWritten t n before contents (Some end) → EndsIn (Some end) n.machine → Session a (held ++ input) out contents b end
-session_of a b t n end held unread input out left before contents count holds acted come wrote written so =
-    let m = n.machine in
-    let came = came_of input left come.bytes come.consumes in
-    let sent : List ℕ = sent_in n ++ written.more in
-    let history : History = record { received = received_in n; ended = n.ended; unread = unread; acts = total m; sent = sent; pending = written.waits } in
-    let given = holds_sent written.more written.waits written.pending holds in
-    let is_served : IsServed m.renditions (stage_of m.state) history =
-    served_of m.renditions (received_in n) sent n.ended m.state (asked_in m) written.waits unread given in
-    let all = Appends-then (Some out) before contents (sent_in t) (written.gone ++ written.more) wrote written.appends in
-    let same : sent_in t ++ (written.gone ++ written.more) ≡ sent = sym (append_assoc (sent_in t) written.gone written.more) ∙ ap (λ (x : List ℕ). x ++ written.more) (sym written.sent) in
-    record {
-      stage = stage_of m.state;
-      history = history;
-      served = subst (λ (k : ℕ). IsServed k (stage_of m.state) history) count is_served;
-      later = came.0;
-      received = ap (λ (x : List ℕ). held ++ x) came.2 ∙ sym (append_assoc held come.bytes came.0) ∙ ap (λ (x : List ℕ). x ++ came.0) (sym come.received);
-      at_end = λ ended. subst (λ (l : Option (List ℕ)). IsAtEnd l) came.1 (come.at_end ended);
-      written = wrote_of out contents sent (subst (λ (x : List ℕ). Appends (Some out) contents x) same all);
-      leads = subst (λ (acts : List Act). Chain a acts b) (sym acted.1) acted.2;
-      ends = ends_so end (stage_of m.state) m.output written.more written.waits written.pending written.whole so;
-    }
+-- what waits is a chunk, and then what is behind it
+chunk_first : (waiting chunk : List ℕ) → IsChunkOf chunk waiting → waiting ≡ chunk ++ drop (length chunk) waiting
+chunk_first waiting chunk is = sym (take-append-drop (length chunk) waiting) ∙ ap (λ xs. xs ++ drop (length chunk) waiting) is.front
+
+wrote_all : (before contents : Option (List ℕ)) (text : List ℕ) → ((held : List ℕ) → before ≡ Some held → Writes held text contents true) → Appends before contents text
+wrote_all None contents text writes = tt
+wrote_all (Some held) contents text writes = rw (writes_whole held text contents (writes held refl)) refl
+
+wrote_some : (before contents : Option (List ℕ)) (text : List ℕ) → ((held : List ℕ) → before ≡ Some held → Writes held text contents false)
+    → (more : List ℕ) × (left : List ℕ) × (text ≡ more ++ left) × Appends before contents more
+wrote_some None contents text writes = ([], text, refl, tt)
+wrote_some (Some held) contents text writes = let w = writes held refl in (w.written, w.left, w.split, rw w.contents_are refl)
+
+-- ---- it goes on
+
+-- from its beginning, where nothing came but what was held
+pub led_first : (m : Moment) (i : Idle) → IsFresh i → m.at ≡ hears (connection_of (places.Idle i)) m.at.unread false → IsState m.known.seen
+    → i.renditions ≡ length m.known.seen.config.renditions → Led m m
+led_first m i fresh is valid count =
+    let nothing : total (connection_of (places.Idle i)).machine ≡ [] = rw fresh.asked in
+    subst (λ (c : Connection). Led m (record m { at = c })) (sym is) (record {
+      suits = suited_new valid count nothing;
+      count = count;
+      acted = ([], nothing, refl);
+      holds = holds_more m.at.unread false tt (idle_holds i fresh);
+      bytes = [];
+      received = rw fresh.came (sym (append-nil m.at.unread));
+      consumes = kept_left m.left;
+      at_end = λ never. absurd (cc);
+      written = rw fresh.gone (kept_contents m.contents);
+      reads = refl;
+      writes = refl;
+    })
+
+pub led_advances : {first m : Moment} {b : Known} {c : Connection} → Led first m → Advances m.known m.at b c → Led first (record m { at = c; known = b })
+led_advances {first} {m} {b} {c} x y = record {
+  suits = y.suits;
+  count = y.renditions ∙ x.count;
+  acted = acted_on first.known m.known b [] (total m.at.machine) (total c.machine) x.acted y.acted;
+  holds = y.holds x.holds;
+  bytes = x.bytes;
+  received = y.quiet.received ∙ x.received;
+  consumes = x.consumes;
+  at_end = λ ended. x.at_end (sym y.quiet.ended ∙ ended);
+  written = rw y.quiet.sent x.written;
+  reads = x.reads;
+  writes = x.writes;
+}
+
+pub led_hears : {first m : Moment} (more : List ℕ) (ended : Bool) (left : Option (List ℕ)) (reads : ℕ) → GoesOnIn m.at.machine.state → Consumes m.left left more
+    → (IsTrue ended → IsAtEnd left) → reads ≡ m.reads → Led first m → Led first (record m { at = hears m.at more ended; left = left; reads = reads })
+led_hears {first} {m} more ended left reads going consumes at_end same x = record {
+  suits = x.suits;
+  count = x.count;
+  acted = x.acted;
+  holds = holds_more more ended going x.holds;
+  bytes = x.bytes ++ more;
+  received = ap (λ (b : List ℕ). b ++ more) x.received ∙ append_assoc first.at.unread x.bytes more;
+  consumes = Consumes-then first.left m.left left x.bytes more x.consumes consumes;
+  at_end = at_end;
+  written = x.written;
+  reads = same ∙ x.reads;
+  writes = x.writes;
+}
+
+pub led_sends : {first m : Moment} (chunk : List ℕ) (contents : Option (List ℕ)) (writes : ℕ) → IsChunkOf chunk m.at.machine.output
+    → ((held : List ℕ) → m.contents ≡ Some held → Writes held chunk contents true) → writes ≡ m.writes → Led first m
+    → Led first (record m { at = sends m.at (length chunk); contents = contents; writes = writes })
+led_sends {first} {m} chunk contents writes is wrote same x = record {
+  suits = x.suits;
+  count = x.count;
+  acted = x.acted;
+  holds = sends_holds m.at (length chunk) x.holds;
+  bytes = x.bytes;
+  received = x.received;
+  consumes = x.consumes;
+  at_end = x.at_end;
+  written = rw is.front (Appends-then first.contents m.contents contents m.at.sent chunk x.written (wrote_all m.contents contents chunk wrote));
+  reads = x.reads;
+  writes = same ∙ x.writes;
+}
+
+-- ---- it ends
+
+-- of what waits so much more was written
+module _ {first m : Moment} (end : SessionEnd) (more waits : List ℕ) (contents : Option (List ℕ)) (reads writes : ℕ) where
+  ended : m.at.machine.output ≡ more ++ waits → Appends m.contents contents more → EndsSo end (stage_of m.at.machine.state) waits
+      → CountsSession end m.reads reads m.writes writes → Led first m → Ended first (record m { contents = contents; reads = reads; writes = writes }) end
+  ended waiting appends so counts x = record {
+    session = λ input out known there.
+        let came = came_of input m.left x.bytes (rw known at x.consumes) in
+        let written = Appends-then (Some out) m.contents contents m.at.sent more (rw there at x.written) appends in
+        record {
+          stage = stage_of m.at.machine.state;
+          history = record (history_of m.at) { sent = m.at.sent ++ more; pending = waits };
+          served = rw x.count at (served_of (holds_sent more waits waiting x.holds));
+          later = came.0;
+          received = ap (λ (t : List ℕ). first.at.unread ++ t) came.2 ∙ sym (append_assoc first.at.unread x.bytes came.0) ∙ ap (λ (t : List ℕ). t ++ came.0) (sym x.received);
+          at_end = λ over. subst (λ (left : Option (List ℕ)). IsAtEnd left) came.1 (x.at_end over);
+          written = wrote_of out contents (m.at.sent ++ more) written;
+          leads = subst (λ (acts : List Act). Chain first.known acts m.known) (sym x.acted.1) x.acted.2;
+          ends = so;
+        };
+    counts = rw (x.reads, x.writes) at counts;
+  }
 
 -- by the connection itself, where all was handed out
-pub ends_itself : (m : Machine) (end : Ending) → m.state ≡ states.Over end → length m.output ≡ 0 → EndsIn (Some (end_of end)) m
-ends_itself m end over empty = so end (ap stage_of over)
+pub ended_itself : {first m : Moment} (end : Ending) → m.at.machine.state ≡ states.Over end → length m.at.machine.output ≡ 0 → Led first m → Ended first m (end_of end)
+ended_itself {first} {m} end over empty x =
+    let so = ends end (ap stage_of over) in
+    ended (end_of end) [] m.at.machine.output m.contents m.reads m.writes refl (kept_contents m.contents) so.0 so.1 x
   where
-    so : (e : Ending) → stage_of m.state ≡ Over (end_of e) → EndsSo (end_of e) (stage_of m.state) m.output
-    so own.Closed is = (is, none m.output empty)
-    so own.Refused is = (is, none m.output empty)
-    so own.CutShort is = (is, none m.output empty)
+    ends : (end : Ending) → stage_of m.at.machine.state ≡ Over (end_of end)
+        → EndsSo (end_of end) (stage_of m.at.machine.state) m.at.machine.output × CountsSession (end_of end) m.reads m.reads m.writes m.writes
+    ends own.Closed is = ((is, none m.at.machine.output empty), (refl, refl))
+    ends own.Refused is = ((is, none m.at.machine.output empty), (refl, refl))
+    ends own.CutShort is = ((is, none m.at.machine.output empty), (refl, refl))
 
 -- by a failed read
-pub ends_unread : (m : Machine) → GoesOnIn m.state → length m.output ≡ 0 → EndsIn (Some ends.ReadFailed) m
-ends_unread m going empty = (going, none m.output empty)
+pub ended_unread : {first m : Moment} (reads : ℕ) → length m.at.machine.output ≡ 0 → GoesOnIn m.at.machine.state → Rose m.reads reads → Led first m → Ended first (record m { reads = reads }) ends.ReadFailed
+ended_unread {first} {m} reads empty going rose x =
+    ended ends.ReadFailed [] m.at.machine.output m.contents reads m.writes refl (kept_contents m.contents) (going, none m.at.machine.output empty) (rose, refl) x
 
--- a failure is told only where one was counted
-pub counts_own : (end : Ending) (reads writes : ℕ) → CountsSession (end_of end) reads reads writes writes
-counts_own own.Closed reads writes = (refl, refl)
-counts_own own.Refused reads writes = (refl, refl)
-counts_own own.CutShort reads writes = (refl, refl)
+-- by a failed write, behind a beginning of what waits first
+pub ended_unwritten : {first m : Moment} (chunk : List ℕ) (contents : Option (List ℕ)) (writes : ℕ) → IsChunkOf chunk m.at.machine.output
+    → ((held : List ℕ) → m.contents ≡ Some held → Writes held chunk contents false) → Rose m.writes writes → Led first m
+    → Ended first (record m { contents = contents; writes = writes }) ends.WriteFailed
+ended_unwritten {first} {m} chunk contents writes is wrote rose x =
+    let w = wrote_some m.contents contents chunk wrote in
+    let rest = drop (length chunk) m.at.machine.output in
+    ended ends.WriteFailed w.0 (w.1 ++ rest) contents m.reads writes
+    (chunk_first m.at.machine.output chunk is ∙ ap (λ (t : List ℕ). t ++ rest) w.2 ∙ append_assoc w.0 w.1 rest) w.3 tt (refl, rose) x
 
 -- ---- a connection that waits for more
 
 -- it waits since nothing is to be handed out and the input goes on; there is room
-pub rests_open : (ended : Bool) (m : Machine) (unread : List ℕ) → length m.output ≡ 0 → GoesOnIn m.state → Rests ended m unread → (ended ≡ false) × (length unread < 16384)
-rests_open ended m unread empty going (inl some) = absurd (omega (arith, empty, some))
-rests_open ended m unread empty going (inr (inl over)) = absurd (not_both (stage_of m.state) going over)
+pub rests_open : (c : Connection) → length c.machine.output ≡ 0 → GoesOnIn c.machine.state → RestsAt c → WantsMore c
+rests_open c empty going (inl some) = absurd (omega (arith, empty, some))
+rests_open c empty going (inr (inl over)) = absurd (not_both (stage_of c.machine.state) going over)
   where
     not_both : (stage : Stage) → GoesOn stage → IsOver stage → ⊥
     not_both Between going over = over
     not_both Within going over = over
     not_both (Over end) going over = going
-rests_open true m unread empty going (inr (inr waits)) = cc
-rests_open false m unread empty going (inr (inr waits)) = (refl, waits.1)
-
--- ---- what waits is written
-
--- what waits is the chunk, and then what is behind it
-pub chunk_first : (waiting chunk : List ℕ) → IsChunkOf chunk waiting → waiting ≡ chunk ++ drop (length chunk) waiting
-chunk_first waiting chunk is = sym (take-append-drop (length chunk) waiting) ∙ ap (λ xs. xs ++ drop (length chunk) waiting) is.front
-
-pub wrote_all : (before contents : Option (List ℕ)) (text : List ℕ) → ((held : List ℕ) → before ≡ Some held → Writes held text contents true) → Appends before contents text
-wrote_all None contents text writes = tt
-wrote_all (Some held) contents text writes =
-    subst (λ (c : Option (List ℕ)). Appends (Some held) c text) (sym (writes_whole held text contents (writes held refl))) refl
-
-wrote_some : (before contents : Option (List ℕ)) (text : List ℕ) → ((held : List ℕ) → before ≡ Some held → Writes held text contents false)
-    → (more : List ℕ) × (left : List ℕ) × (text ≡ more ++ left) × Appends before contents more
-wrote_some None contents text writes = ([], text, refl, tt)
-wrote_some (Some held) contents text writes =
-    let w = writes held refl in (w.written, w.left, w.split, subst (λ (c : Option (List ℕ)). Appends (Some held) c w.written) (sym w.contents_are) refl)
-
-pub written_some : (t : Talk) (before contents : Option (List ℕ)) (chunk : List ℕ) → IsChunkOf chunk t.machine.output
-    → ((held : List ℕ) → before ≡ Some held → Writes held chunk contents false) → HasWritten t t before contents (Some ends.WriteFailed)
-written_some t before contents chunk is writes =
-    let w = wrote_some before contents chunk writes in
-    record {
-      gone = [];
-      sent = sym (append-nil (sent_in t));
-      more = w.0;
-      waits = w.1 ++ drop (length chunk) t.machine.output;
-      pending = chunk_first t.machine.output chunk is ∙ ap (λ (x : List ℕ). x ++ drop (length chunk) t.machine.output) w.2
-          ∙ append_assoc w.0 w.1 (drop (length chunk) t.machine.output);
-      appends = w.3;
-      whole = inl refl;
-    }
+rests_open c empty going (inr (inr waits)) = (waits.0, empty, going, omega (arith, waits.1))

@@ -1,112 +1,46 @@
--- A connection with the notes of what came of it, from one call to the next.
-use Rattle.std.proofs.Common.{◌≡◌, ◌∙◌, ℕ, Bool, true, false, List, [], ◌++◌, length, take, drop, flat_map, IsFalse, refl, sym, ap, subst, append-nil}
+-- A connection by all that came of it, from one call to the next.
+use Rattle.std.proofs.Common.{◌≡◌, ◌∙◌, ◌==◌, ◌++◌, ℕ, List, [], length, take, drop, refl, sym, ap, subst}
 use Rattle.std.proofs.lemmas.List.{take-append-drop}
 use Rattle.std.proofs.Math.Seq.{drop-append_seam}
-use Rattle.http_server.specs.declared.log.Log.{Log}
 use Rattle.hls_core_laws.specs.IsState.{IsState}
-use Rattle.hls_http.specs.Texts.{Texts}
 use Rattle.hls_core_laws.specs.Known.{Known}
 use Rattle.hls_serve_laws.specs.Acts.{Act, Acted}
-use Rattle.hls_serve_laws.specs.Connections.{IsServed}
 use Rattle.hls_serve_laws.specs.Linked.{Later, Linked}
-use Rattle.hls_serve_laws.proofs.Callers.{later_itself, linked_acted, linked_follows, linked_later}
+use Rattle.hls_serve_laws.proofs.Callers.{acted_none, acted_on, later_itself, linked_acted, linked_follows, linked_later}
 use Rattle.hls_serve.specs.declared.machine.Machine.{Machine}
 use Rattle.hls_serve.specs.declared.machine.State.{State}
 use Rattle.hls_serve.specs.declared.machine.State.TheVariants as states
-use Rattle.hls_serve.specs.declared.talk.Talk.{Talk}
-use Rattle.hls_serve.specs.Machine.{GoesOnIn, Holds, SuitsIn, asked_in, asked_now, history_by, stage_of, total}
-use Rattle.hls_serve.specs.Talks.{HoldsOf, IsQuiet, IsSuited, history_of, received_in, sent_in}
-use Rattle.hls_serve.specs.Histories.{StaysQuiet}
-use Rattle.hls_serve.proofs.HoldLaws.{holds_at, holds_ended, holds_more, holds_sent, served_of}
+use Rattle.hls_serve.specs.declared.place.Idle.{Idle}
+use Rattle.hls_serve.specs.declared.place.Place.TheVariants as places
+use Rattle.hls_serve.specs.Histories.{new_history}
+use Rattle.hls_serve.specs.Machine.{Goes, SuitsIn, total}
+use Rattle.hls_serve.specs.Places.{IsFresh, connection_of}
+use Rattle.hls_serve.specs.Talks.{Advances, Connection, HoldsOf, IsSuited, IsSuitedTo, hears, history_of, sends}
+use Rattle.hls_serve.proofs.HoldLaws.{holds_sent}
 use Rattle.hls_serve.proofs.PassLaws.{usable_after}
 
--- ---- by its fields
+-- ---- of which nothing came
 
-pub talk_at : {count : ℕ} {state : State} {received : List ℕ} {ended : Bool} {unread : List ℕ} {asked : List Act} {sent pending : List ℕ} (t : Talk)
-    → received_in t ≡ received → t.ended ≡ ended → sent_in t ≡ sent → t.machine.renditions ≡ count → t.machine.state ≡ state → asked_in t.machine ≡ asked
-    → t.machine.output ≡ pending → Holds count state (history_by received ended unread asked sent pending) → HoldsOf t unread
-talk_at {count} {state} {received} {ended} {unread} {asked} {sent} {pending} t r e g c s a p h =
-    let m = t.machine in
-    let at : Holds m.renditions m.state (history_by received ended unread (asked_in m) sent m.output) = holds_at m c s a p h in
-    let of_sent = subst (λ (x : List ℕ). Holds m.renditions m.state (history_by received ended unread (asked_in m) x m.output)) (sym g) at in
-    let of_end = subst (λ (x : Bool). Holds m.renditions m.state (history_by received x unread (asked_in m) (sent_in t) m.output)) (sym e) of_sent in
-    subst (λ (x : List ℕ). Holds m.renditions m.state (history_by x t.ended unread (asked_in m) (sent_in t) m.output)) (sym r) of_end
+pub idle_history : (i : Idle) → IsFresh i → history_of (connection_of (places.Idle i)) ≡ new_history
+idle_history i fresh = rw (fresh.asked, fresh.came, fresh.gone)
 
--- as much is unread
-pub holds_unread : (t : Talk) (unread now : List ℕ) → now ≡ unread → HoldsOf t unread → HoldsOf t now
-holds_unread t unread now is h = subst (λ (x : List ℕ). HoldsOf t x) (sym is) h
-
--- of which nothing came
-pub talk_new : (t : Talk) → received_in t ≡ [] → t.ended ≡ false → sent_in t ≡ [] → t.machine.state ≡ states.Head → asked_in t.machine ≡ [] → t.machine.output ≡ []
-    → HoldsOf t []
-talk_new t r e g s a p = talk_at t r e g refl s a p
+pub idle_holds : (i : Idle) → IsFresh i → HoldsOf (connection_of (places.Idle i))
+idle_holds i fresh = rw (fresh.asked, fresh.came, fresh.gone)
     (record { over = []; rest = []; serves = λ later. refl; acts = []; asked_is = refl; text = []; written = refl; stands = (refl, refl, refl) })
 
--- ---- notes that stay
-
-pub received_same : (t n : Talk) → n.came ≡ t.came → received_in n ≡ received_in t
-received_same t n is = ap (λ (log : Log Texts ℕ). flat_map (λ r. drop r.1 r.0.unread) log.items) is
-
-pub sent_same : (t n : Talk) → n.gone ≡ t.gone → sent_in n ≡ sent_in t
-sent_same t n is = ap (λ (log : Log (List ℕ) ℕ). flat_map (λ w. take w.1 w.0) log.items) is
-
-pub total_same : (t n : Talk) → n.machine.state ≡ t.machine.state → asked_in n.machine ≡ asked_in t.machine → total n.machine ≡ total t.machine
-total_same t n state asked =
-    ap (λ (acts : List Act). acts ++ asked_now n.machine.state) asked ∙ ap (λ (s : State). asked_in t.machine ++ asked_now s) state
-
-pub quiet_history : (t n : Talk) (unread now : List ℕ) → IsQuiet t n → StaysQuiet (history_of t unread) (history_of n now)
-quiet_history t n unread now quiet =
-    record { received = received_same t n quiet.came; ended = quiet.ended; sent = sent_same t n quiet.gone }
-
--- .. while its machine makes steps
-pub quiet_on : (s t : Talk) (m : Machine) → IsQuiet s t → m.renditions ≡ t.machine.renditions → IsQuiet s (record t { machine = m })
-quiet_on s t m quiet is = record { came = quiet.came; ended = quiet.ended; gone = quiet.gone; renditions = is ∙ quiet.renditions }
-
-pub open_of : (ended : Bool) → IsFalse ended → ended ≡ false
-open_of true never = absurd (cc)
-open_of false still = refl
-
--- ---- more is read
-
-read_more : {count : ℕ} {state : State} {received unread : List ℕ} {asked : List Act} {sent pending : List ℕ} (more : List ℕ) (end : Bool) → GoesOnIn state
-    → Holds count state (history_by received false unread asked sent pending) → Holds count state (history_by (received ++ more) end (unread ++ more) asked sent pending)
-read_more more false going h = holds_more more going h
-read_more more true going h = holds_ended going (holds_more more going h)
+-- ---- what is read and handed out
 
 pub behind : (unread more now : List ℕ) (before : ℕ) → before ≡ length unread → now ≡ unread ++ more → drop before now ≡ more
 behind unread more now before len is =
     ap (λ (k : ℕ). drop k now) len ∙ ap (λ (t : List ℕ). drop (length unread) t) is ∙ drop-append_seam unread more
 
--- more bytes came, and perhaps the end
-pub talk_reads : (t n : Talk) (unread more now : List ℕ) (before : ℕ) → t.ended ≡ false → GoesOnIn t.machine.state → before ≡ length unread → now ≡ unread ++ more
-    → received_in n ≡ received_in t ++ drop before now → sent_in n ≡ sent_in t → n.machine ≡ t.machine → HoldsOf t unread → HoldsOf n now
-talk_reads t n unread more now before still going len is received sent same h =
-    let m = t.machine in
-    let at = subst (λ (e : Bool). Holds m.renditions m.state (history_by (received_in t) e unread (asked_in m) (sent_in t) m.output)) still h in
-    let all = read_more more n.ended going at in
-    let there = subst (λ (x : List ℕ). Holds m.renditions m.state (history_by (received_in t ++ more) n.ended x (asked_in m) (sent_in t) m.output)) (sym is) all in
-    talk_at n (received ∙ ap (λ (x : List ℕ). received_in t ++ x) (behind unread more now before len is)) refl sent (ap (λ (k : Machine). k.renditions) same)
-    (ap (λ (k : Machine). k.state) same) (ap asked_in same) (ap (λ (k : Machine). k.output) same) there
+-- what was heard, with the end where there was none
+pub heard_end : (c : Connection) (more : List ℕ) {new : Connection} {count : ℕ} → new ≡ hears c more c.ended → length more ≡ count
+    → record new { ended = count == 0 } ≡ hears c more (length more == 0)
+heard_end c more is len = λ i. record (is i) { ended = sym len i == 0 }
 
--- the end came, and no byte
-pub talk_ends : (t n : Talk) (unread : List ℕ) → t.ended ≡ false → GoesOnIn t.machine.state → received_in n ≡ received_in t → sent_in n ≡ sent_in t → n.machine ≡ t.machine
-    → HoldsOf t unread → HoldsOf n unread
-talk_ends t n unread still going received sent same h =
-    talk_reads t n unread [] unread (length unread) still going refl (sym (append-nil unread)) (received ∙ sym (append-nil (received_in t)) ∙ ap (λ (x : List ℕ). received_in t ++ x) (sym (nothing unread))) sent same h
-  where
-    nothing : (xs : List ℕ) → drop (length xs) xs ≡ []
-    nothing xs = ap (λ (t : List ℕ). drop (length xs) t) (sym (append-nil xs)) ∙ drop-append_seam xs []
-
--- ---- some of what waits is handed out
-
-pub talk_sends : (t n : Talk) (unread gone : List ℕ) → received_in n ≡ received_in t → n.ended ≡ t.ended → n.machine.renditions ≡ t.machine.renditions
-    → n.machine.state ≡ t.machine.state → asked_in n.machine ≡ asked_in t.machine → sent_in n ≡ sent_in t ++ gone → t.machine.output ≡ gone ++ n.machine.output
-    → HoldsOf t unread → HoldsOf n unread
-talk_sends t n unread gone received ended count state asked sent pending h =
-    talk_at n received ended sent count state asked refl (holds_sent gone n.machine.output pending h)
-
-pub split_at : (count : ℕ) (pending now : List ℕ) → now ≡ drop count pending → pending ≡ take count pending ++ now
-split_at count pending now is = sym (take-append-drop count pending) ∙ ap (λ (t : List ℕ). take count pending ++ t) (sym is)
+pub sends_holds : (c : Connection) (count : ℕ) → HoldsOf c → HoldsOf (sends c count)
+sends_holds c count h = holds_sent (take count c.machine.output) (drop count c.machine.output) (sym (take-append-drop count c.machine.output)) h
 
 -- ---- what the keeper knows
 
@@ -117,59 +51,47 @@ suits_in a b (states.Feed f) valid later suits = usable_after f.rendition a b f.
 suits_in a b (states.Make m) valid later suits = tt
 suits_in a b (states.Over end) valid later suits = tt
 
-pub suited_later : (a b : Known) (t : Talk) → IsSuited a t → Later a b → IsSuited b t
-suited_later a b t x later =
-    let linked = linked_later (total t.machine) x.first a b x.linked later in
-    record {
-      first = x.first;
-      valid = x.valid;
-      count = x.count;
-      linked = linked;
-      body = suits_in a b t.machine.state (linked_follows (total t.machine) x.first b x.valid linked).0 later x.body;
-    }
+pub suited_valid : {known : Known} {count : ℕ} {acts : List Act} {state : State} → IsSuited known count acts state → IsState known.seen
+suited_valid {known} {count} {acts} x = (linked_follows acts x.first known x.valid x.linked).0
 
-pub suited_valid : (known : Known) (t : Talk) → IsSuited known t → IsState known.seen
-suited_valid known t x = (linked_follows (total t.machine) x.first known x.valid x.linked).0
+pub suited_later : (a b : Known) (m : Machine) → IsSuitedTo a m → Later a b → IsSuitedTo b m
+suited_later a b m x later =
+    let linked = linked_later (total m) x.first a b x.linked later in
+    let valid = (linked_follows (total m) x.first b x.valid linked).0 in
+    record { first = x.first; valid = x.valid; count_is = x.count_is; linked = linked; body = suits_in a b m.state valid later x.body }
 
-pub suited_new : (known : Known) (t : Talk) → IsState known.seen → t.machine.renditions ≡ length known.seen.config.renditions → total t.machine ≡ []
-    → t.machine.state ≡ states.Head → IsSuited known t
-suited_new known t valid count none state = record {
+pub suited_new : {known : Known} {count : ℕ} {acts : List Act} → IsState known.seen → count ≡ length known.seen.config.renditions → acts ≡ [] → IsSuited known count acts states.Head
+suited_new {known} valid count_is nothing = record {
   first = known;
   valid = valid;
-  count = count;
-  linked = subst (λ (acts : List Act). Linked known acts known) (sym none) (later_itself known);
-  body = subst (λ (s : State). SuitsIn known s) (sym state) tt;
+  count_is = count_is;
+  linked = subst (λ (acts : List Act). Linked known acts known) (sym nothing) (later_itself known);
+  body = tt;
 }
 
--- it acted
-pub suited_acted : (a b : Known) (t n : Talk) → IsSuited a t → Acted a (total t.machine) b (total n.machine) → n.machine.renditions ≡ t.machine.renditions → SuitsIn b n.machine.state
-    → IsSuited b n
-suited_acted a b t n x acted count body = record {
-  first = x.first;
-  valid = x.valid;
-  count = count ∙ x.count;
-  linked = linked_acted x.first a b (total t.machine) (total n.machine) x.linked acted;
-  body = body;
+-- ---- steps
+
+pub advances_none : {known : Known} {c : Connection} → IsSuitedTo known c.machine → Advances known c known c
+advances_none {known} {c} suits = record {
+  suits = suits;
+  holds = λ h. h;
+  acted = acted_none known (total c.machine);
+  quiet = record { received = refl; ended = refl; sent = refl };
+  renditions = refl;
 }
 
--- nothing of what the keeper was asked changed
-pub suited_same : (known : Known) (t n : Talk) → n.machine.renditions ≡ t.machine.renditions → n.machine.state ≡ t.machine.state → asked_in n.machine ≡ asked_in t.machine
-    → IsSuited known t → IsSuited known n
-suited_same known t n count state asked x = record {
-  first = x.first;
-  valid = x.valid;
-  count = count ∙ x.count;
-  linked = subst (λ (acts : List Act). Linked x.first acts known) (sym (total_same t n state asked)) x.linked;
-  body = subst (λ (s : State). SuitsIn known s) (sym state) x.body;
+pub advances_on : {a b c : Known} {old here : Connection} (m : Machine) (now : List ℕ) → Advances a old b here → Goes here.ended here.machine here.unread m now
+    → Acted b (total here.machine) c (total m) → m.renditions ≡ here.machine.renditions → SuitsIn c m.state → Advances a old c (record here { machine = m; unread = now })
+advances_on {a} {b} {c} {old} {here} m now x goes leads count body = record {
+  suits = record {
+    first = x.suits.first;
+    valid = x.suits.valid;
+    count_is = count ∙ x.suits.count_is;
+    linked = linked_acted x.suits.first b c (total here.machine) (total m) x.suits.linked leads;
+    body = body;
+  };
+  holds = λ h. goes here.received here.sent (x.holds h);
+  acted = acted_on a b c (total old.machine) (total here.machine) (total m) x.acted leads;
+  quiet = record { received = x.quiet.received; ended = x.quiet.ended; sent = x.quiet.sent };
+  renditions = count ∙ x.renditions;
 }
-
--- ---- in the words of connections
-
-pub talk_served : (t : Talk) (unread : List ℕ) → HoldsOf t unread → IsServed t.machine.renditions (stage_of t.machine.state) (history_of t unread)
-talk_served t unread h =
-    served_of t.machine.renditions (received_in t) (sent_in t) t.ended t.machine.state (asked_in t.machine) t.machine.output unread h
-
--- ---- stages
-
-pub fresh : (t : Talk) → t.machine.state ≡ states.Head → GoesOnIn t.machine.state
-fresh t is = subst (λ (s : State). GoesOnIn s) (sym is) tt

@@ -86,20 +86,25 @@ abbrev pub GoesFrom : State → Bool → Machine → List ℕ → Machine → Li
 GoesFrom state ended old before new after =
     (received sent : List ℕ) → Holds old.renditions state (history_by received ended before (asked_in old) sent old.output) → HoldsAt received ended sent new after
 
--- a head was just taken, of which this was kept
-pub record AtHead (count : ℕ) (received sent : List ℕ) (asked : List Act) (call : Call) (unread : List ℕ) : Type 0 where
+-- behind the replies to the requests that are over this was handed out, and all was
+pub record Answered (count : ℕ) (h : History) (rest first : List ℕ) : Type 0 where
   pub over : List Exchange
+  pub serves : (later : List ℕ) → Serves count (h.received ++ later) over (rest ++ later)
+  pub asked_is : h.acts ≡ acts_of over
+  pub written : h.sent ≡ text_of over ++ first
+
+-- a head was just taken, of which this was kept
+pub record AtHead (count : ℕ) (h : History) (call : Call) : Type 0 where
   pub rest : List ℕ
-  pub serves : (later : List ℕ) → Serves count (received ++ later) over (rest ++ later)
-  pub asked_is : asked ≡ acts_of over
-  pub written : sent ≡ text_of over
+  pub answered : Answered count h rest []
   pub head : RequestHead
-  pub reads : (later : List ℕ) → ReadsSmall (rest ++ later) head (unread ++ later)
+  pub reads : (later : List ℕ) → ReadsSmall (rest ++ later) head (h.unread ++ later)
   pub is_call : IsCall count head call
 
 abbrev pub GoesBehind : Call → Bool → Machine → Machine → List ℕ → Type 0
 GoesBehind call ended old new unread =
-    (received sent : List ℕ) → AtHead old.renditions received sent (asked_in old) call unread → HoldsAt received ended sent new unread
+    (received sent : List ℕ) → AtHead old.renditions (history_by received ended unread (asked_in old) sent old.output) call
+    → HoldsAt received ended sent new unread
 
 -- with this at the front, such a fault's reply is due
 abbrev pub Refuses : HttpFault → List ℕ → Type 0

@@ -3,9 +3,11 @@
 use Rattle.std.specs.Prelude.{◌≡◌, ℕ, false, List, []}
 use Rattle.hls_serve.specs.declared.machine.State.TheVariants as states
 use Rattle.hls_serve.specs.declared.place.Busy.{Busy as Working}
+use Rattle.hls_serve.specs.declared.place.Idle.{Idle as Resting}
 use Rattle.hls_serve.specs.declared.place.Place.{Place}
 use Rattle.hls_serve.specs.declared.place.Place.TheVariants.{Idle, Busy}
 use Rattle.hls_serve.specs.declared.talk.Talk.{Talk}
+use Rattle.hls_serve.specs.Talks.{Connection, connection}
 
 -- an idle one is between two requests, and nothing waits
 abbrev pub talk_of : Place → Talk
@@ -21,6 +23,9 @@ abbrev pub unread_of : Place → List ℕ
 unread_of (Idle i) = []
 unread_of (Busy b) = b.value.input.unread
 
+abbrev pub connection_of : Place → Connection
+connection_of place = connection (talk_of place) (unread_of place)
+
 abbrev pub IsBusy : Place → Type 0
 IsBusy (Idle i) = ⊥
 IsBusy (Busy b) = Unit {0}
@@ -31,3 +36,9 @@ pub record IsIdle (b : Working) : Type 0 where
   pub sent : b.talk.machine.output ≡ []
   pub state : b.talk.machine.state ≡ states.Head
   pub unread : b.input.unread ≡ []
+
+-- nothing came of it, and nothing was asked
+pub record IsFresh (i : Resting) : Type 0 where
+  pub asked : i.asked.items ≡ []
+  pub came : i.came.items ≡ []
+  pub gone : i.gone.items ≡ []

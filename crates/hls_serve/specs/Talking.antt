@@ -1,54 +1,64 @@
 -- For the proofs of this crate; no public clause cites it.
--- A session in the middle: what was read and written between two points of it.
-use Rattle.std.specs.Prelude.{◌≡◌, ◌⊎◌, ℕ, List, [], ◌++◌, Option, Some, None, IsTrue}
+-- A session in the middle: what came of it since it began.
+use Rattle.std.specs.Prelude.{◌≡◌, ℕ, List, [], ◌++◌, length, Option, Some, None, IsTrue}
 use Rattle.std.specs.Io.KnownBytes.{Appends, Consumes, IsAtEnd}
-use Rattle.hls_io.specs.Counted.{failures_of}
+use Rattle.hls_io.specs.Counted.{failures_of, inside_of}
 use Rattle.hls_http_laws.specs.declared.end.SessionEnd.{SessionEnd}
-use Rattle.hls_http_laws.specs.declared.end.SessionEnd.TheVariants as ends
 use Rattle.hls_http.specs.declared.session.Session.{Session}
-use Rattle.hls_http.specs.Source.{read_failures}
-use Rattle.hls_serve_laws.specs.Sessions.{EndsSo}
-use Rattle.hls_serve.specs.declared.machine.Machine.{Machine}
+use Rattle.hls_http.specs.Source.{held_of, read_failures, reader_of}
+use Rattle.hls_core_laws.specs.Known.{Known}
+use Rattle.hls_serve_laws.specs.Acts.{Acted}
+use Rattle.hls_serve_laws.specs.Sessions as spec
 use Rattle.hls_serve.specs.declared.talk.Talk.{Talk}
 use Rattle.hls_serve.specs.Counted.{CountsSession}
-use Rattle.hls_serve.specs.Machine.{stage_of}
-use Rattle.hls_serve.specs.Talks.{received_in, sent_in}
+use Rattle.hls_serve.specs.Machine.{total}
+use Rattle.hls_serve.specs.Talks.{Connection, HoldsOf, IsSuitedTo, connection}
 
--- so much was read, and the input's end only where nothing is left
-pub record HasRead (old new : Talk) (before left : Option (List ℕ)) : Type 0 where
+-- its connection, what is still to come of its reader and what its writer holds, where they are known, how many of their calls failed,
+-- and what its keeper knows
+pub record Moment : Type 0 where
+  pub at : Connection
+  pub left : Option (List ℕ)
+  pub contents : Option (List ℕ)
+  pub reads : ℕ
+  pub writes : ℕ
+  pub known : Known
+
+abbrev pub moment : {R W : Type 0} → (R → Option (List ℕ)) → (W → Option (List ℕ)) → Talk → Session R W → Known → Moment
+moment remaining contents talk session known = record {
+  at = connection talk (held_of session.source);
+  left = remaining (reader_of session.source);
+  contents = contents (inside_of session.writer);
+  reads = read_failures session.source;
+  writes = failures_of session.writer;
+  known = known;
+}
+
+-- what was held at first, and then so much of what was still to come, was received, its end only where nothing is left; what was handed
+-- out is written; and no call failed
+pub record Led (first now : Moment) : Type 0 where
+  pub suits : IsSuitedTo now.known now.at.machine
+  pub count : now.at.machine.renditions ≡ length first.known.seen.config.renditions
+  pub acted : Acted first.known [] now.known (total now.at.machine)
+  pub holds : HoldsOf now.at
   pub bytes : List ℕ
-  pub received : received_in new ≡ received_in old ++ bytes
-  pub consumes : Consumes before left bytes
-  pub at_end : (IsTrue old.ended → IsAtEnd before) → IsTrue new.ended → IsAtEnd left
+  pub received : now.at.received ≡ first.at.unread ++ bytes
+  pub consumes : Consumes first.left now.left bytes
+  pub at_end : IsTrue now.at.ended → IsAtEnd now.left
+  pub written : Appends first.contents now.contents now.at.sent
+  pub reads : now.reads ≡ first.reads
+  pub writes : now.writes ≡ first.writes
 
--- what was handed out was written; where a write fails, perhaps some more of what waits
-pub record HasWritten (old new : Talk) (before contents : Option (List ℕ)) (result : Option SessionEnd) : Type 0 where
-  pub gone : List ℕ
-  pub sent : sent_in new ≡ sent_in old ++ gone
-  pub more : List ℕ
-  pub waits : List ℕ
-  pub pending : new.machine.output ≡ more ++ waits
-  pub appends : Appends before contents (gone ++ more)
-  pub whole : (result ≡ Some ends.WriteFailed) ⊎ (more ≡ [])
+-- .. and it ended so; a failure is told only where one was counted
+pub record Ended (first now : Moment) (end : SessionEnd) : Type 0 where
+  pub session : (input out : List ℕ) → first.left ≡ Some input → first.contents ≡ Some out
+      → spec.Session first.known (first.at.unread ++ input) out now.contents now.known end
+  pub counts : CountsSession end first.reads now.reads first.writes now.writes
 
--- all but what waits and was handed out stays
-pub record StaysBut (old new : Talk) : Type 0 where
-  pub came : new.came ≡ old.came
-  pub ended : new.ended ≡ old.ended
-  pub renditions : new.machine.renditions ≡ old.machine.renditions
-  pub state : new.machine.state ≡ old.machine.state
-  pub asked : new.machine.asked ≡ old.machine.asked
+abbrev pub LedTo : Moment → Moment → Option SessionEnd → Type 0
+LedTo first now None = Led first now
+LedTo first now (Some end) = Ended first now end
 
--- it goes on, or ends so
-abbrev pub EndsIn : Option SessionEnd → Machine → Type 0
-EndsIn None m = Unit {0}
-EndsIn (Some end) m = EndsSo end (stage_of m.state) m.output
-
--- a failure is told only where one was counted
-abbrev pub CountsTurn : Option SessionEnd → ℕ → ℕ → ℕ → ℕ → Type 0
-CountsTurn None old_reads reads old_writes writes = (reads ≡ old_reads) × (writes ≡ old_writes)
-CountsTurn (Some end) old_reads reads old_writes writes = CountsSession end old_reads reads old_writes writes
-
-abbrev pub TurnCounts : {R W : Type 0} → Session R W → Session R W → Option SessionEnd → Type 0
-TurnCounts old new result =
-    CountsTurn result (read_failures old.source) (read_failures new.source) (failures_of old.writer) (failures_of new.writer)
+-- whatever led to the one moment leads on to the other, or ends so
+abbrev pub LeadsOn : Moment → Option SessionEnd → Moment → Type 0
+LeadsOn old result new = (first : Moment) → Led first old → LedTo first new result

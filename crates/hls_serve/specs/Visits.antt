@@ -1,8 +1,7 @@
 -- What is told of a visit: all that came of it, and what its keeper has to know.
-use Rattle.std.specs.Prelude.{◌≡◌, ◌⊎◌, ◌<◌, ℕ, length, Option, IsFalse}
+use Rattle.std.specs.Prelude.{◌≡◌, ◌<◌, ℕ, length, Option}
 use Rattle.hls_core_laws.specs.Known.{Known}
 use Rattle.hls_serve_laws.specs.Connections.{History, Stage, Between}
-use Rattle.hls_serve_laws.specs.Sessions.{GoesOn}
 use Rattle.hls_serve_laws.specs.Linked.{Later}
 use Rattle.hls_serve.specs.declared.machine.State.{State}
 use Rattle.hls_serve.specs.declared.machine.State.TheVariants as states
@@ -11,29 +10,29 @@ use Rattle.hls_serve.specs.declared.visit.Standing.{Standing}
 use Rattle.hls_serve.specs.declared.visit.Standing.TheVariants as standings
 use Rattle.hls_serve.specs.declared.visit.Visit.{Visit}
 use Rattle.hls_serve.specs.Machine.{IsOver, failure_in, stage_of}
-use Rattle.hls_serve.specs.Places.{talk_of, unread_of}
-use Rattle.hls_serve.specs.Talks.{IsSuited, history_of}
+use Rattle.hls_serve.specs.Places.{connection_of}
+use Rattle.hls_serve.specs.Talks.{IsSuitedTo, RestsAt, WantsMore, history_of}
 
 abbrev pub history : Visit → History
-history v = history_of (talk_of v.place) (unread_of v.place)
+history v = history_of (connection_of v.place)
 
 abbrev pub state_of : Visit → State
-state_of v = (talk_of v.place).machine.state
+state_of v = (connection_of v.place).machine.state
 
 abbrev pub stage : Visit → Stage
 stage v = stage_of (state_of v)
 
 -- how many renditions the channel has
 abbrev pub renditions_of : Visit → ℕ
-renditions_of v = (talk_of v.place).machine.renditions
+renditions_of v = (connection_of v.place).machine.renditions
 
 -- more is to be read: nothing waits, all is not over, and there is room
 abbrev pub WantsRead : Visit → Type 0
-WantsRead v = IsFalse (history v).ended × (length (history v).pending ≡ 0) × GoesOn (stage v) × (length (history v).unread < 65536)
+WantsRead v = WantsMore (connection_of v.place)
 
 -- nothing more is to be done: something waits, or all is over, or more is to be read and there is room for it
 abbrev pub Rests : Visit → Type 0
-Rests v = (0 < length (history v).pending) ⊎ (IsOver (stage v) ⊎ (IsFalse (history v).ended × (length (history v).unread < 16384)))
+Rests v = RestsAt (connection_of v.place)
 
 -- ---- what it waits for
 
@@ -73,7 +72,7 @@ failure_of v = failure_in (state_of v)
 -- The keeper suits the visit: all that it was asked for it was asked in states of which each follows the one that the last act left, up
 -- to what it knows; others may have acted between.
 abbrev pub Suits : Known → Visit → Type 0
-Suits known v = IsSuited known (talk_of v.place)
+Suits known v = IsSuitedTo known (connection_of v.place).machine
 
 -- ---- laws
 

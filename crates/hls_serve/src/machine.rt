@@ -80,21 +80,6 @@ fn behind(end: Option<Ending>) -> State
 }
 
 impl Machine {
-    /// A connection to a channel of so many renditions, at its beginning.
-    pub fn new(renditions: usize) -> Machine
-        ensures state { result.state ≡ State.Head }
-        ensures output { result.output ≡ [] }
-        ensures asked { asked_in result ≡ [] }
-        ensures renditions { result.renditions ≡ renditions }
-    {
-        Machine {
-            renditions,
-            state: State::Head,
-            output: Output::of_fixed(b""),
-            asked: Log::new(),
-        }
-    }
-
     /// Goes on behind a reply: it is handed out, and then the next request is looked for, or the connection is over.
     fn answer(&mut self, made: Reply)
         ensures output { self.new.output ≡ made.output }

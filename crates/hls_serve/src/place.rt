@@ -1,15 +1,10 @@
 //! A connection with or without memory of its own: while it is idle it has its notes alone, which take none.
 
-ghost use Rattle.std.specs.Prelude.{◌≡◌, ◌≤◌, ◌<◌, ◌==◌, ℕ, false, List, [], ◌++◌, length, take, drop, IfOk, IsFalse, IsTrue, OnErr, OnOk};
-ghost use Rattle.std.specs.Io.KnownBytes.{Consumes, IsAtEnd, Keeps};
-ghost use Rattle.bytes.specs.Unread.{IsChunkOf};
-ghost use Rattle.hls_serve_laws.specs.Acts.{Acted};
-ghost use Rattle.hls_serve_laws.specs.Linked.{Later};
+ghost use Rattle.std.specs.Prelude.{◌≡◌, ◌≤◌, length, IfOk, IsFalse, IsTrue, OnErr, OnOk};
 ghost use Rattle.hls_serve.specs.declared.place.Place.TheVariants as places;
-ghost use Rattle.hls_serve.specs.Histories.{after_read};
-ghost use Rattle.hls_serve.specs.Machine.{GoesOnIn, Rests, total};
-ghost use Rattle.hls_serve.specs.Places.{IsBusy, IsIdle, talk_of, unread_of};
-ghost use Rattle.hls_serve.specs.Talks.{HoldsOf, IsQuiet, IsSuited, history_of, received_in, sent_in};
+ghost use Rattle.hls_serve.specs.Histories.{Reads, ReadsInVain};
+ghost use Rattle.hls_serve.specs.Places.{IsBusy, IsFresh, IsIdle, connection_of, talk_of, unread_of};
+ghost use Rattle.hls_serve.specs.Talks.{Advances, HoldsOf, IsSuitedTo, RestsAt, WantsMore, history_of, sends};
 
 use crate::acts::Acts;
 use crate::keeper::Keeper;
@@ -62,11 +57,8 @@ fn release(input: &mut Input, state: &State)
 impl Idle {
     /// A connection to a channel of so many renditions, of which nothing came yet.
     pub fn new(renditions: usize) -> Idle
-        ensures received { received_in (talk_of (places.Idle result)) ≡ [] }
-        ensures sent { sent_in (talk_of (places.Idle result)) ≡ [] }
-        ensures asked { total (talk_of (places.Idle result)).machine ≡ [] }
+        ensures fresh { IsFresh result }
         ensures renditions { result.renditions ≡ renditions }
-        ensures holds { HoldsOf (talk_of (places.Idle result)) [] }
     {
         let asked = Log::new();
         let came = Log::new();
@@ -80,9 +72,8 @@ impl Idle {
     }
 
     /// It goes to work. No memory is taken yet.
-    fn begin(self, alloc: Global) -> Busy
-        ensures talk { result.talk ≡ talk_of (places.Idle self) }
-        ensures unread { result.input.unread ≡ [] }
+    pub fn begin(self) -> Talk
+        ensures { result ≡ talk_of (places.Idle self) }
     {
         let machine = Machine {
             renditions: self.renditions,
@@ -90,14 +81,11 @@ impl Idle {
             output: Output::new(),
             asked: self.asked,
         };
-        Busy {
-            input: Input::empty(alloc),
-            talk: Talk {
-                machine,
-                ended: false,
-                came: self.came,
-                gone: self.gone,
-            },
+        Talk {
+            machine,
+            ended: false,
+            came: self.came,
+            gone: self.gone,
         }
     }
 }
@@ -148,7 +136,7 @@ impl Busy {
 
 impl Place {
     /// Takes memory where there is none; where that is wanted, nothing has changed.
-    pub fn wake(&mut self, alloc: Global) -> Result<(), AllocError>
+    fn wake(&mut self, alloc: Global) -> Result<(), AllocError>
         ensures talk { talk_of self.new ≡ talk_of self.old }
         ensures unread { unread_of self.new ≡ unread_of self.old }
         ensures busy { OnOk result (IsBusy self.new) }
@@ -158,21 +146,25 @@ impl Place {
                 *self = Place::Busy(busy);
                 Ok(())
             }
-            Place::Idle(idle) => match Box::new(alloc, idle.begin(alloc)) {
-                Ok(busy) => {
-                    *self = Place::Busy(busy);
-                    Ok(())
+            Place::Idle(idle) => {
+                let input = Input::empty(alloc);
+                let talk = idle.begin();
+                match Box::new(alloc, Busy { input, talk }) {
+                    Ok(busy) => {
+                        *self = Place::Busy(busy);
+                        Ok(())
+                    }
+                    Err(failed) => {
+                        *self = Place::Idle(failed.value.end());
+                        Err(AllocError)
+                    }
                 }
-                Err(failed) => {
-                    *self = Place::Idle(failed.value.end());
-                    Err(AllocError)
-                }
-            },
+            }
         }
     }
 
     /// Gives its memory back where nothing is to be done.
-    pub fn rest(&mut self)
+    fn rest(&mut self)
         ensures talk { talk_of self.new ≡ talk_of self.old }
         ensures unread { unread_of self.new ≡ unread_of self.old }
     {
@@ -188,119 +180,49 @@ impl Place {
         }
     }
 
-    /// Reads once behind what is unread, where there is memory.
-    fn take_in<R: Read>(&mut self, reader: &mut R) -> io::Result<usize>
-        requires busy { IsBusy self.old }
-        requires few { length (unread_of self.old) < 65536 }
-        requires unended { (talk_of self.old).ended ≡ false }
-        requires goes_on { GoesOnIn (talk_of self.old).machine.state }
-        ensures ok { IfOk result (λ n. (more : List ℕ) × (length more ≡ n) × Consumes (R.remaining reader.old) (R.remaining reader.new) more
-            × (history_of (talk_of self.new) (unread_of self.new) ≡ after_read (history_of (talk_of self.old) (unread_of self.old)) more)
-            × (n ≡ 0 → IsAtEnd (R.remaining reader.new))) }
-        ensures err { OnErr result ((history_of (talk_of self.new) (unread_of self.new) ≡ history_of (talk_of self.old) (unread_of self.old))
-            × Keeps (R.remaining reader.old) (R.remaining reader.new)) }
-        ensures holds { HoldsOf (talk_of self.old) (unread_of self.old) → HoldsOf (talk_of self.new) (unread_of self.new) }
-        ensures machine { (talk_of self.new).machine ≡ (talk_of self.old).machine }
-    {
-        match self {
-            Place::Busy(busy) => {
-                let busy = &mut **busy;
-                busy.talk.read_from(&mut busy.input, reader)
-            }
-            Place::Idle(_) => unreachable!(),
-        }
-    }
-
     /// Reads once behind what is unread; no byte is the input's end. After an error nothing has changed.
     pub fn read_from<R: Read>(&mut self, alloc: Global, reader: &mut R) -> io::Result<usize>
-        requires few { length (unread_of self.old) < 65536 }
-        requires unended { (talk_of self.old).ended ≡ false }
-        requires goes_on { GoesOnIn (talk_of self.old).machine.state }
-        ensures ok { IfOk result (λ n. (more : List ℕ) × (length more ≡ n) × Consumes (R.remaining reader.old) (R.remaining reader.new) more
-            × (history_of (talk_of self.new) (unread_of self.new) ≡ after_read (history_of (talk_of self.old) (unread_of self.old)) more)
-            × (n ≡ 0 → IsAtEnd (R.remaining reader.new))) }
-        ensures err { OnErr result ((history_of (talk_of self.new) (unread_of self.new) ≡ history_of (talk_of self.old) (unread_of self.old))
-            × Keeps (R.remaining reader.old) (R.remaining reader.new)) }
-        ensures holds { HoldsOf (talk_of self.old) (unread_of self.old) → HoldsOf (talk_of self.new) (unread_of self.new) }
-        ensures machine { (talk_of self.new).machine ≡ (talk_of self.old).machine }
+        requires wants { WantsMore (connection_of self.old) }
+        ensures ok { IfOk result (Reads (history_of (connection_of self.old)) (history_of (connection_of self.new))
+            (R.remaining reader.old) (R.remaining reader.new)) }
+        ensures err { OnErr result (ReadsInVain (history_of (connection_of self.old)) (history_of (connection_of self.new))
+            (R.remaining reader.old) (R.remaining reader.new)) }
+        ensures holds { HoldsOf (connection_of self.old) → HoldsOf (connection_of self.new) }
+        ensures machine { (connection_of self.new).machine ≡ (connection_of self.old).machine }
     {
         self.wake(alloc)?;
-        match self.take_in(reader) {
-            Ok(count) => Ok(count),
-            Err(error) => {
-                self.rest();
-                Err(error)
-            }
+        let Place::Busy(busy) = self else {
+            unreachable!();
+        };
+        let busy = &mut **busy;
+        let read = busy.talk.read_from(&mut busy.input, reader);
+        if read.is_err() {
+            self.rest();
         }
+        read
     }
 
-    /// Goes on until it rests, or others are to have their turn. Whether there may be more to do at once.
-    fn go_on<K: Keeper, O: Observer>(&mut self, keeper: &mut K, observer: &O) -> bool
-        requires suits { IsSuited (K.known keeper.old) (talk_of self.old) }
-        ensures suits { IsSuited (K.known keeper.new) (talk_of self.new) }
-        ensures later { Later (K.known keeper.old) (K.known keeper.new) }
-        ensures holds { HoldsOf (talk_of self.old) (unread_of self.old) → HoldsOf (talk_of self.new) (unread_of self.new) }
-        ensures acted { Acted (K.known keeper.old) (total (talk_of self.old).machine) (K.known keeper.new) (total (talk_of self.new).machine) }
-        ensures quiet { IsQuiet (talk_of self.old) (talk_of self.new) }
-        ensures rests { IsFalse result → Rests (talk_of self.new).ended (talk_of self.new).machine (unread_of self.new) }
-    {
-        match self {
-            Place::Busy(busy) => {
-                let busy = &mut **busy;
-                let more = busy.talk.advance(&mut busy.input, keeper, observer);
-                release(&mut busy.input, &busy.talk.machine.state);
-                more
-            }
-            Place::Idle(_) => false,
-        }
-    }
-
-    /// .. and gives its memory back where nothing is to be done.
+    /// Goes on until it rests, or others are to have their turn, and gives its memory back where nothing is to be done. Whether there
+    /// may be more to do at once.
     pub fn advance<K: Keeper, O: Observer>(&mut self, keeper: &mut K, observer: &O) -> bool
-        requires suits { IsSuited (K.known keeper.old) (talk_of self.old) }
-        ensures suits { IsSuited (K.known keeper.new) (talk_of self.new) }
-        ensures later { Later (K.known keeper.old) (K.known keeper.new) }
-        ensures holds { HoldsOf (talk_of self.old) (unread_of self.old) → HoldsOf (talk_of self.new) (unread_of self.new) }
-        ensures acted { Acted (K.known keeper.old) (total (talk_of self.old).machine) (K.known keeper.new) (total (talk_of self.new).machine) }
-        ensures quiet { IsQuiet (talk_of self.old) (talk_of self.new) }
-        ensures rests { IsFalse result → Rests (talk_of self.new).ended (talk_of self.new).machine (unread_of self.new) }
+        requires suits { IsSuitedTo (K.known keeper.old) (connection_of self.old).machine }
+        ensures advances { Advances (K.known keeper.old) (connection_of self.old) (K.known keeper.new) (connection_of self.new) }
+        ensures rests { IsFalse result → RestsAt (connection_of self.new) }
     {
-        let more = self.go_on(keeper, observer);
+        let Place::Busy(busy) = self else {
+            return false;
+        };
+        let busy = &mut **busy;
+        let more = busy.talk.advance(&mut busy.input, keeper, observer);
+        release(&mut busy.input, &busy.talk.machine.state);
         self.rest();
         more
     }
 
-    /// The next bytes to hand out.
-    pub fn output(&self) -> &[u8]
-        ensures { IsChunkOf result.now (talk_of self.now).machine.output }
-    {
-        match self {
-            Place::Busy(busy) => busy.talk.machine.output.chunk(),
-            Place::Idle(_) => b"",
-        }
-    }
-
-    /// Whether all was handed out.
-    pub fn is_sent(&self) -> bool
-        ensures { result ≡ (length (talk_of self.now).machine.output == 0) }
-    {
-        match self {
-            Place::Busy(busy) => busy.talk.machine.output.is_empty(),
-            Place::Idle(_) => true,
-        }
-    }
-
     /// So many of the bytes that wait were handed out.
     pub fn sent(&mut self, count: usize)
-        requires { count ≤ length (talk_of self.old).machine.output }
-        ensures sent { sent_in (talk_of self.new) ≡ sent_in (talk_of self.old) ++ take count (talk_of self.old).machine.output }
-        ensures output { (talk_of self.new).machine.output ≡ drop count (talk_of self.old).machine.output }
-        ensures ended { (talk_of self.new).ended ≡ (talk_of self.old).ended }
-        ensures came { (talk_of self.new).came ≡ (talk_of self.old).came }
-        ensures state { (talk_of self.new).machine.state ≡ (talk_of self.old).machine.state }
-        ensures asked { (talk_of self.new).machine.asked ≡ (talk_of self.old).machine.asked }
-        ensures renditions { (talk_of self.new).machine.renditions ≡ (talk_of self.old).machine.renditions }
-        ensures unread { unread_of self.new ≡ unread_of self.old }
+        requires { count ≤ length (connection_of self.old).machine.output }
+        ensures { connection_of self.new ≡ sends (connection_of self.old) count }
     {
         if let Place::Busy(busy) = self {
             busy.talk.sent(count);

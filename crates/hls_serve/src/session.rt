@@ -1,32 +1,27 @@
 //! Sessions.
 
-ghost use Rattle.std.specs.Prelude.{◌≡◌, ◌<◌, ℕ, List, false, length};
-ghost use Rattle.hls_io.specs.Counted.{failures_of, inside_of};
-ghost use Rattle.hls_http.specs.Source.{held_of, read_failures, reader_of};
-ghost use Rattle.hls_serve_laws.specs.Acts.{Acted};
+ghost use Rattle.hls_core_laws.specs.Known.{Known};
+ghost use Rattle.hls_http.specs.Source.{held_of};
 ghost use Rattle.hls_serve.specs.Counted.{SessionCounts};
 ghost use Rattle.hls_serve.specs.Exchanges.{Exchanges};
-ghost use Rattle.hls_serve.specs.Machine.{GoesOnIn, total};
-ghost use Rattle.hls_serve.specs.Talking.{CountsTurn, EndsIn, HasRead, HasWritten, StaysBut, TurnCounts};
-ghost use Rattle.hls_serve.specs.Talks.{HoldsOf, IsSuited};
+ghost use Rattle.hls_serve.specs.Talking.{LeadsOn, moment};
+ghost use Rattle.hls_serve.specs.Talks.{IsSuitedTo, WantsMore, connection};
 
 use crate::keeper::Keeper;
 use crate::news::Observer;
+use crate::place::Idle;
 use crate::talk::Talk;
-use hls_http::{Counted, Filled, Session, SessionEnd, Source, write_whole};
+use hls_http::{Filled, Session, SessionEnd, write_whole};
 use std::io::{Read, Write};
 use std::sync::Wait;
 
 /// Writes the next bytes that wait; how the session ends where they can't be written.
-fn hand_out<W: Write>(talk: &mut Talk, writer: &mut Counted<W>) -> Option<SessionEnd>
-    ensures stays { StaysBut talk.old talk.new }
-    ensures holds { (unread : List ℕ) → HoldsOf talk.old unread → HoldsOf talk.new unread }
-    ensures ends { EndsIn result talk.new.machine }
-    ensures written { HasWritten talk.old talk.new (W.contents (inside_of writer.old)) (W.contents (inside_of writer.new)) result }
-    ensures counts { CountsTurn result 0 0 (failures_of writer.old) (failures_of writer.new) }
+fn hand_out<R: Read, W: Write>(talk: &mut Talk, session: &mut Session<R, W>) -> Option<SessionEnd>
+    ensures { (known : Known) → LeadsOn (moment R.remaining W.contents talk.old session.old known) result
+        (moment R.remaining W.contents talk.new session.new known) }
 {
     let next = talk.machine.output.chunk();
-    if !write_whole(writer, next) {
+    if !write_whole(&mut session.writer, next) {
         return Some(SessionEnd::WriteFailed);
     }
     let count = next.len();
@@ -35,28 +30,20 @@ fn hand_out<W: Write>(talk: &mut Talk, writer: &mut Counted<W>) -> Option<Sessio
 }
 
 /// Reads what comes next; how the session ends where it can't be read.
-fn take_more<O: Observer, R: Read>(
+fn take_more<O: Observer, R: Read, W: Write>(
     talk: &mut Talk,
-    source: &mut Source<R>,
+    session: &mut Session<R, W>,
     observer: &O,
 ) -> Option<SessionEnd>
-    requires few { length (held_of source.old) < 65536 }
-    requires sent { length talk.old.machine.output ≡ 0 }
-    requires unended { talk.old.ended ≡ false }
-    requires goes_on { GoesOnIn talk.old.machine.state }
-    ensures machine { talk.new.machine ≡ talk.old.machine }
-    ensures gone { talk.new.gone ≡ talk.old.gone }
-    ensures holds { HoldsOf talk.old (held_of source.old) → HoldsOf talk.new (held_of source.new) }
-    ensures reads { HasRead talk.old talk.new (R.remaining (reader_of source.old)) (R.remaining (reader_of source.new)) }
-    ensures ends { EndsIn result talk.new.machine }
-    ensures counts { CountsTurn result (read_failures source.old) (read_failures source.new) 0 0 }
+    requires wants { WantsMore (connection talk.old (held_of session.old.source)) }
+    ensures { (known : Known) → LeadsOn (moment R.remaining W.contents talk.old session.old known) result
+        (moment R.remaining W.contents talk.new session.new known) }
 {
-    let before = source.held().len();
-    match source.fill() {
-        Filled::More => {
-            talk.hear(&source.input, before);
-            None
-        }
+    let before = session.source.held().len();
+    let filled = session.source.fill();
+    talk.hear(&session.source.input, before);
+    match filled {
+        Filled::More => None,
         Filled::AtEnd => {
             talk.ended = true;
             None
@@ -75,26 +62,20 @@ fn turn<K: Keeper, O: Observer, R: Read, W: Write>(
     keeper: &mut K,
     observer: &O,
 ) -> Option<SessionEnd>
-    requires suits { IsSuited (K.known keeper.old) talk.old }
-    ensures suits { IsSuited (K.known keeper.new) talk.new }
-    ensures acted { Acted (K.known keeper.old) (total talk.old.machine) (K.known keeper.new) (total talk.new.machine) }
-    ensures holds { HoldsOf talk.old (held_of session.old.source) → HoldsOf talk.new (held_of session.new.source) }
-    ensures reads { HasRead talk.old talk.new (R.remaining (reader_of session.old.source)) (R.remaining (reader_of session.new.source)) }
-    ensures written { HasWritten talk.old talk.new (W.contents (inside_of session.old.writer)) (W.contents (inside_of session.new.writer)) result }
-    ensures renditions { talk.new.machine.renditions ≡ talk.old.machine.renditions }
-    ensures ends { EndsIn result talk.new.machine }
-    ensures counts { TurnCounts session.old session.new result }
+    requires suits { IsSuitedTo (K.known keeper.old) talk.old.machine }
+    ensures { LeadsOn (moment R.remaining W.contents talk.old session.old (K.known keeper.old)) result
+        (moment R.remaining W.contents talk.new session.new (K.known keeper.new)) }
 {
     if talk.advance(&mut session.source.input, keeper, observer) {
         return None;
     }
     if !talk.machine.output.is_empty() {
-        return hand_out(talk, &mut session.writer);
+        return hand_out(talk, session);
     }
     if let Some(end) = talk.machine.ending() {
         return Some(end.end());
     }
-    take_more(talk, &mut session.source, observer)
+    take_more(talk, session, observer)
 }
 
 /// Serves the requests of a session, each to its reply before the next is looked at, up to the end of the input, a reply that
@@ -111,7 +92,8 @@ pub fn session_on<K: Keeper, O: Observer, T: Wait, R: Read, W: Write>(
     ensures session { Exchanges R.remaining W.contents session.old session.new (K.known keeper.old) (K.known keeper.new) result }
     ensures counts { SessionCounts session.old session.new result }
 {
-    let mut talk = Talk::new(keeper.renditions());
+    let idle = Idle::new(keeper.renditions());
+    let mut talk = idle.begin();
     talk.hear(&session.source.input, 0);
     for _ in rt.forever() {
         if let Some(end) = turn(&mut talk, session, keeper, observer) {

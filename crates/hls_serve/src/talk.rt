@@ -1,13 +1,8 @@
 //! A connection but for its input's buffer, with notes of all that came of it. The notes are for proofs alone.
 
-ghost use Rattle.std.specs.Prelude.{◌≡◌, ◌≤◌, ◌<◌, ℕ, false, List, [], ◌++◌, length, take, drop, IfOk, IsFalse, OnErr};
-ghost use Rattle.std.specs.Io.KnownBytes.{Consumes, IsAtEnd, Keeps};
-ghost use Rattle.hls_serve_laws.specs.Acts.{Acted};
-ghost use Rattle.hls_serve_laws.specs.Linked.{Later};
-ghost use Rattle.hls_serve.specs.declared.machine.State.TheVariants as states;
-ghost use Rattle.hls_serve.specs.Histories.{after_read};
-ghost use Rattle.hls_serve.specs.Machine.{GoesOnIn, Rests, total};
-ghost use Rattle.hls_serve.specs.Talks.{HoldsOf, IsQuiet, IsSuited, history_of, received_in, sent_in};
+ghost use Rattle.std.specs.Prelude.{◌≡◌, ◌≤◌, ℕ, List, ◌++◌, length, IfOk, IsFalse, OnErr};
+ghost use Rattle.hls_serve.specs.Histories.{Reads, ReadsInVain};
+ghost use Rattle.hls_serve.specs.Talks.{Advances, HoldsOf, IsSuitedTo, RestsAt, WantsMore, connection, hears, history_of, sends};
 
 use crate::keeper::Keeper;
 use crate::machine::Machine;
@@ -45,48 +40,22 @@ fn let_go(output: &mut Output<Body>)
 }
 
 impl Talk {
-    /// A connection to a channel of so many renditions, of which nothing came yet.
-    pub fn new(renditions: usize) -> Talk
-        ensures received { received_in result ≡ [] }
-        ensures sent { sent_in result ≡ [] }
-        ensures ended { result.ended ≡ false }
-        ensures state { result.machine.state ≡ states.Head }
-        ensures asked { total result.machine ≡ [] }
-        ensures renditions { result.machine.renditions ≡ renditions }
-        ensures output { result.machine.output ≡ [] }
-        ensures holds { HoldsOf result [] }
-    {
-        let machine = Machine::new(renditions);
-        let came = Log::new();
-        let gone = Log::new();
-        Talk {
-            machine,
-            ended: false,
-            came,
-            gone,
-        }
-    }
-
     /// Notes what was read behind the first `before` unread bytes.
     pub fn hear(&mut self, input: &Input, before: usize)
-        ensures received { received_in self.new ≡ received_in self.old ++ drop before input.now.unread }
-        ensures ended { self.new.ended ≡ self.old.ended }
-        ensures gone { self.new.gone ≡ self.old.gone }
-        ensures machine { self.new.machine ≡ self.old.machine }
+        ensures { (unread more : List ℕ) → before ≡ length unread → input.now.unread ≡ unread ++ more
+            → connection self.new input.now.unread ≡ hears (connection self.old unread) more self.old.ended }
     {
         self.came = self.came.and(input, &before);
     }
 
     /// Reads once behind what is unread; no byte is the input's end. After an error nothing has changed.
     pub fn read_from<R: Read>(&mut self, input: &mut Input, reader: &mut R) -> io::Result<usize>
-        requires few { length input.old.unread < 65536 }
-        requires unended { self.old.ended ≡ false }
-        requires goes_on { GoesOnIn self.old.machine.state }
-        ensures ok { IfOk result (λ n. (more : List ℕ) × (length more ≡ n) × Consumes (R.remaining reader.old) (R.remaining reader.new) more
-            × (history_of self.new input.new.unread ≡ after_read (history_of self.old input.old.unread) more) × (n ≡ 0 → IsAtEnd (R.remaining reader.new))) }
-        ensures err { OnErr result ((history_of self.new input.new.unread ≡ history_of self.old input.old.unread)
-            × Keeps (R.remaining reader.old) (R.remaining reader.new)) }
-        ensures holds { HoldsOf self.old input.old.unread → HoldsOf self.new input.new.unread }
+        requires wants { WantsMore (connection self.old input.old.unread) }
+        ensures ok { IfOk result (Reads (history_of (connection self.old input.old.unread))
+            (history_of (connection self.new input.new.unread)) (R.remaining reader.old) (R.remaining reader.new)) }
+        ensures err { OnErr result (ReadsInVain (history_of (connection self.old input.old.unread))
+            (history_of (connection self.new input.new.unread)) (R.remaining reader.old) (R.remaining reader.new)) }
+        ensures holds { HoldsOf (connection self.old input.old.unread) → HoldsOf (connection self.new input.new.unread) }
         ensures machine { self.new.machine ≡ self.old.machine }
     {
         let before = input.unread().len();
@@ -104,13 +73,10 @@ impl Talk {
         keeper: &mut K,
         observer: &O,
     ) -> bool
-        requires suits { IsSuited (K.known keeper.old) self.old }
-        ensures suits { IsSuited (K.known keeper.new) self.new }
-        ensures later { Later (K.known keeper.old) (K.known keeper.new) }
-        ensures holds { HoldsOf self.old input.old.unread → HoldsOf self.new input.new.unread }
-        ensures acted { Acted (K.known keeper.old) (total self.old.machine) (K.known keeper.new) (total self.new.machine) }
-        ensures quiet { IsQuiet self.old self.new }
-        ensures rests { IsFalse result → Rests self.new.ended self.new.machine input.new.unread }
+        requires suits { IsSuitedTo (K.known keeper.old) self.old.machine }
+        ensures advances { Advances (K.known keeper.old) (connection self.old input.old.unread)
+            (K.known keeper.new) (connection self.new input.new.unread) }
+        ensures rests { IsFalse result → RestsAt (connection self.new input.new.unread) }
         ensures room { input.new.room ≡ input.old.room }
     {
         for _ in 0..MOST_STEPS {
@@ -127,13 +93,7 @@ impl Talk {
     /// So many of the bytes that wait were handed out. Once all were, nothing of them is held.
     pub fn sent(&mut self, count: usize)
         requires { count ≤ length self.old.machine.output }
-        ensures sent { sent_in self.new ≡ sent_in self.old ++ take count self.old.machine.output }
-        ensures output { self.new.machine.output ≡ drop count self.old.machine.output }
-        ensures ended { self.new.ended ≡ self.old.ended }
-        ensures came { self.new.came ≡ self.old.came }
-        ensures state { self.new.machine.state ≡ self.old.machine.state }
-        ensures asked { self.new.machine.asked ≡ self.old.machine.asked }
-        ensures renditions { self.new.machine.renditions ≡ self.old.machine.renditions }
+        ensures { (unread : List ℕ) → connection self.new unread ≡ sends (connection self.old unread) count }
     {
         self.gone = self.gone.and(&self.machine.output, &count);
         self.machine.output.advance(count);

@@ -1,15 +1,14 @@
 //! A connection as a value, which makes no call of the system and waits for nobody but its keeper.
 
-ghost use Rattle.std.specs.Prelude.{◌≡◌, ◌≤◌, ◌<◌, ◌↔◌, ℕ, List, length, IsTrue, IsFalse, IfOk, IfSome, IfNone, OnErr};
-ghost use Rattle.std.specs.Io.KnownBytes.{Consumes, IsAtEnd, Keeps};
+ghost use Rattle.std.specs.Prelude.{◌≡◌, ◌≤◌, ◌<◌, ◌↔◌, length, IsTrue, IsFalse, IfOk, IfSome, IfNone, OnErr};
 ghost use Rattle.bytes.specs.Unread.{IsChunkOf};
 ghost use Rattle.hls_core_laws.specs.Known.{Known};
 ghost use Rattle.hls_serve_laws.specs.Acts.{Acted};
 ghost use Rattle.hls_serve_laws.specs.Connections.{IsServed, Over};
 ghost use Rattle.hls_serve_laws.specs.Linked.{Later};
 ghost use Rattle.hls_serve_laws.specs.Sessions.{GoesOn};
-ghost use Rattle.hls_serve.specs.Histories.{StaysQuiet, after_read, after_sent, new_history};
-ghost use Rattle.hls_serve.specs.Places.{talk_of, unread_of};
+ghost use Rattle.hls_serve.specs.Histories.{Reads, ReadsInVain, StaysQuiet, after_sent, new_history};
+ghost use Rattle.hls_serve.specs.Places.{connection_of};
 ghost use Rattle.hls_serve.specs.Talks.{HoldsOf};
 
 use crate::keeper::Keeper;
@@ -52,7 +51,7 @@ pub enum Standing {
 pub struct Visit {
     alloc: Global,
     place: Place,
-    ghost holds: { ∥ HoldsOf (talk_of place) (unread_of place) ∥₁ },
+    ghost holds: { ∥ HoldsOf (connection_of place) ∥₁ },
 }
 
 impl Visit {
@@ -73,9 +72,8 @@ impl Visit {
     /// Reads once; no byte is the input's end. After an error, as `WouldBlock` or `OutOfMemory`, nothing has changed.
     pub fn read_from<R: Read>(&mut self, reader: &mut R) -> io::Result<usize>
         requires wants { WantsRead self.old }
-        ensures ok { IfOk result (λ n. (more : List ℕ) × (length more ≡ n) × Consumes (R.remaining reader.old) (R.remaining reader.new) more
-            × (history self.new ≡ after_read (history self.old) more) × (n ≡ 0 → IsAtEnd (R.remaining reader.new))) }
-        ensures err { OnErr result ((history self.new ≡ history self.old) × Keeps (R.remaining reader.old) (R.remaining reader.new)) }
+        ensures ok { IfOk result (Reads (history self.old) (history self.new) (R.remaining reader.old) (R.remaining reader.new)) }
+        ensures err { OnErr result (ReadsInVain (history self.old) (history self.new) (R.remaining reader.old) (R.remaining reader.new)) }
         ensures stage { stage self.new ≡ stage self.old }
         ensures renditions { renditions_of self.new ≡ renditions_of self.old }
         ensures suits { (known : Known) → Suits known self.old → Suits known self.new }
@@ -102,7 +100,10 @@ impl Visit {
     pub fn output(&self) -> &[u8]
         ensures { IsChunkOf result.now (history self.now).pending }
     {
-        self.place.output()
+        match &self.place {
+            Place::Busy(busy) => busy.talk.machine.output.chunk(),
+            Place::Idle(_) => b"",
+        }
     }
 
     /// So many of the bytes that wait were handed out.
@@ -120,7 +121,10 @@ impl Visit {
     pub fn wants_write(&self) -> bool
         ensures { IsTrue result ↔ (0 < length (history self.now).pending) }
     {
-        !self.place.is_sent()
+        match &self.place {
+            Place::Busy(busy) => !busy.talk.machine.output.is_empty(),
+            Place::Idle(_) => false,
+        }
     }
 
     /// Whether more is to be read.

@@ -1,61 +1,34 @@
-use Rattle.std.proofs.Common.{◌≡◌, ◌∙◌, ◌++◌, List, ℕ, IsTrue, length, true, refl, sym, ap, subst, append-nil}
-use Rattle.hls_http.specs.Source.{held_of}
-use Rattle.hls_serve.specs.declared.talk.Talk.{Talk}
-use Rattle.hls_serve.specs.Talks.{HoldsOf, received_in}
-use Rattle.hls_serve.proofs.SessionLaws.{ends_unread, never}
-use Rattle.hls_serve.proofs.TalkLaws.{behind, sent_same, talk_ends, talk_reads}
+use Rattle.std.proofs.Common.{List, ℕ, length, true, refl, ap, subst, sym}
+use Rattle.hls_http_laws.specs.declared.end.SessionEnd.TheVariants as ends
+use Rattle.hls_http.specs.Source.{held_of, read_failures}
+use Rattle.hls_serve.specs.Talking.{Ended, Led, moment}
+use Rattle.hls_serve.specs.Talks.{Connection}
+use Rattle.hls_serve.proofs.SessionLaws.{ended_unread, led_hears}
 use Rattle.hls_serve.proofs.session.take_more.Goals as goal
 
-pub returns-in-More-clause-holds : goal.returns-in-More-clause-holds
-returns-in-More-clause-holds g c = λ h.
+pub returns-in-More : goal.returns-in-More
+returns-in-More g c = λ known first led.
     let r = c.in-More.ensures.reads in
-    talk_reads c.args.talk.now c.hear.new.self (held_of c.args.source.now) r.bytes (held_of c.fill.new.self) (length c.held-before.result.now) c.requires.unended c.requires.goes_on
-    (ap (λ (x : List ℕ). length x) c.held-before.ensures) r.behind c.hear.ensures.received (sent_same c.args.talk.now c.hear.new.self c.hear.ensures.gone) c.hear.ensures.machine h
+    let heard = c.hear.ensures (held_of c.args.session.now.source) r.bytes (ap (λ (x : List ℕ). length x) c.held-before.ensures) r.behind in
+    let now = moment g.R.Read.remaining g.W.Write.contents c.hear.new.self (record c.args.session.now { source = c.fill-filled.new.self }) known in
+    let wants = c.requires.wants in
+    subst (λ (k : Connection). Led first (record now { at = k })) (sym heard)
+    (led_hears r.bytes c.args.talk.now.ended now.left now.reads wants.2 r.consumes (λ ended. absurd (cc (wants.0, ended))) c.in-More.ensures.counts led)
 
-pub returns-in-More-clause-reads : goal.returns-in-More-clause-reads
-returns-in-More-clause-reads g c =
-    let r = c.in-More.ensures.reads in
-    record {
-      bytes = r.bytes;
-      received = c.hear.ensures.received ∙ ap (λ (x : List ℕ). received_in c.args.talk.now ++ x)
-          (behind (held_of c.args.source.now) r.bytes (held_of c.fill.new.self) (length c.held-before.result.now) (ap (λ (x : List ℕ). length x) c.held-before.ensures) r.behind);
-      consumes = r.consumes;
-      at_end = λ before now. absurd (never (subst IsTrue (c.hear.ensures.ended ∙ c.requires.unended) now));
-    }
-
-pub returns-in-AtEnd-clause-holds : goal.returns-in-AtEnd-clause-holds
-returns-in-AtEnd-clause-holds g c = λ h.
+pub returns-in-AtEnd : goal.returns-in-AtEnd
+returns-in-AtEnd g c = λ known first led.
     let r = c.in-AtEnd.ensures.reads in
-    let t = c.args.talk.now in
-    let n : Talk = record t { ended = true } in
-    let same : held_of c.fill.new.self ≡ held_of c.args.source.now = r.behind ∙ ap (λ (x : List ℕ). held_of c.args.source.now ++ x) r.brings.0 ∙ append-nil (held_of c.args.source.now) in
-    subst (λ (x : List ℕ). HoldsOf n x) (sym same) (talk_ends t n (held_of c.args.source.now) c.requires.unended c.requires.goes_on refl refl refl h)
+    let heard = c.hear.ensures (held_of c.args.session.now.source) r.bytes (ap (λ (x : List ℕ). length x) c.held-before.ensures) r.behind in
+    let now = moment g.R.Read.remaining g.W.Write.contents c.hear.new.self (record c.args.session.now { source = c.fill-filled.new.self }) known in
+    subst (λ (k : Connection). Led first (record now { at = record k { ended = true } })) (sym heard)
+    (led_hears r.bytes true now.left now.reads c.requires.wants.2 r.consumes (λ ended. r.brings.1) c.in-AtEnd.ensures.counts led)
 
-pub returns-in-AtEnd-clause-reads : goal.returns-in-AtEnd-clause-reads
-returns-in-AtEnd-clause-reads g c =
-    let r = c.in-AtEnd.ensures.reads in
-    record {
-      bytes = r.bytes;
-      received = sym (ap (λ (x : List ℕ). received_in c.args.talk.now ++ x) r.brings.0 ∙ append-nil (received_in c.args.talk.now));
-      consumes = r.consumes;
-      at_end = λ before now. r.brings.1;
-    }
-
-pub returns-in-Failed-clause-holds : goal.returns-in-Failed-clause-holds
-returns-in-Failed-clause-holds g c = λ h.
+pub returns-in-Failed : goal.returns-in-Failed
+returns-in-Failed g c = λ known first led.
     let r = c.in-Failed.ensures.reads in
-    let same : held_of c.fill.new.self ≡ held_of c.args.source.now = r.behind ∙ ap (λ (x : List ℕ). held_of c.args.source.now ++ x) r.brings ∙ append-nil (held_of c.args.source.now) in
-    subst (λ (x : List ℕ). HoldsOf c.args.talk.now x) (sym same) h
-
-pub returns-in-Failed-clause-reads : goal.returns-in-Failed-clause-reads
-returns-in-Failed-clause-reads g c =
-    let r = c.in-Failed.ensures.reads in
-    record {
-      bytes = r.bytes;
-      received = sym (ap (λ (x : List ℕ). received_in c.args.talk.now ++ x) r.brings ∙ append-nil (received_in c.args.talk.now));
-      consumes = r.consumes;
-      at_end = λ before now. absurd (never (subst IsTrue c.requires.unended now));
-    }
-
-pub returns-in-Failed-clause-ends : goal.returns-in-Failed-clause-ends
-returns-in-Failed-clause-ends g c = ends_unread c.args.talk.now.machine c.requires.goes_on c.requires.sent
+    let heard = c.hear.ensures (held_of c.args.session.now.source) r.bytes (ap (λ (x : List ℕ). length x) c.held-before.ensures) r.behind in
+    let now = moment g.R.Read.remaining g.W.Write.contents c.hear.new.self (record c.args.session.now { source = c.fill-filled.new.self }) known in
+    let wants = c.requires.wants in
+    subst (λ (k : Connection). Ended first (record now { at = k }) ends.ReadFailed) (sym heard)
+    (ended_unread now.reads wants.1 wants.2 c.in-Failed.ensures.counts
+    (led_hears r.bytes c.args.talk.now.ended now.left (read_failures c.args.session.now.source) wants.2 r.consumes (λ ended. absurd (cc (wants.0, ended))) refl led))
