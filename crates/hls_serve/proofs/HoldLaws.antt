@@ -1,6 +1,7 @@
 -- What holds of a connection, from one step to the next.
 use Rattle.std.proofs.Common.{◌≡◌, ◌<◌, ◌==◌, ◌∙◌, ◌⊎◌, ℕ, Bool, true, false, List, [], ◌∷◌, ◌++◌, length, flat_map, Option, Some, None, inl, inr, refl, sym, ap, subst, arith, append_assoc, append-nil}
 use Rattle.std.proofs.lemmas.Grind.{flat_map-append}
+use Rattle.std.proofs.lemmas.List.{nil_from_length}
 use Rattle.httparse.specs.Grammar.{RequestHead}
 use Rattle.hls_http_laws.specs.declared.body.Body.{Body}
 use Rattle.hls_http_laws.specs.declared.fault.HttpFault.{HttpFault}
@@ -37,10 +38,6 @@ use Rattle.hls_serve.proofs.TurnLaws.{replies_as}
 
 -- ---- lists
 
-pub none : {A : Type 0} (xs : List A) → length xs ≡ 0 → xs ≡ []
-none [] is = refl
-none (x ∷ xs) is = absurd (omega arith)
-
 -- what holds whatever follows holds where nothing does
 plainly : (P : List ℕ → List ℕ → Type 0) (a b : List ℕ) → ((later : List ℕ) → P (a ++ later) (b ++ later)) → P a b
 plainly P a b all = rw (append-nil a, append-nil b) at (all [])
@@ -66,7 +63,7 @@ answered {count} {state} {h} unread empty x nothing = record {
   over = x.over;
   serves = x.serves;
   asked_is = only_over x nothing;
-  written = sym (append-nil h.sent) ∙ ap (λ (t : List ℕ). h.sent ++ t) (sym (none h.pending empty)) ∙ x.written;
+  written = sym (append-nil h.sent) ∙ ap (λ (t : List ℕ). h.sent ++ t) (sym (nil_from_length h.pending empty)) ∙ x.written;
 }
 
 -- ---- a reply
@@ -156,7 +153,7 @@ head_found {count} {h} {call} {head} rest empty x reads is_call = record {
 pub head_waits : (empty ended : Bool) (count : ℕ) (stream : List ℕ) (acts : List Act) (text unread : List ℕ) → (length unread == 0) ≡ empty → IsUnfinished unread
     → IsBetween stream acts text unread → StandsIn (waited_head empty ended) count ended stream acts text unread
 head_waits empty false count stream acts text unread is unfinished s = s
-head_waits true true count stream acts text unread is unfinished s = inl (refl, sym s.0 ∙ none unread (eqb-true (length unread) 0 is), s)
+head_waits true true count stream acts text unread is unfinished s = inl (refl, sym s.0 ∙ nil_from_length unread (eqb-true (length unread) 0 is), s)
 head_waits false true count stream acts text unread is unfinished s =
     (refl, inl (subst IsUnfinished s.0 unfinished, subst (λ (t : List ℕ). 0 < length t) s.0 (omega (arith, eqb-false (length unread) 0 is)), s))
 

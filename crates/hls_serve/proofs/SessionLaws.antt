@@ -1,6 +1,6 @@
 -- A session, from one moment to the next.
 use Rattle.std.proofs.Common.{◌≡◌, ◌∙◌, ℕ, Bool, true, false, List, [], ◌++◌, length, drop, Option, Some, None, IsTrue, inl, inr, refl, sym, ap, subst, append_assoc, append-nil, arith}
-use Rattle.std.proofs.lemmas.List.{take-append-drop}
+use Rattle.std.proofs.lemmas.List.{nil_from_length, take-append-drop}
 use Rattle.std.specs.Io.KnownBytes.{Appends, Consumes, IsAtEnd}
 use Rattle.http_server.proofs.KnownLemmas.{Appends-then, Consumes-then}
 use Rattle.bytes.specs.Unread.{IsChunkOf}
@@ -26,7 +26,7 @@ use Rattle.hls_serve.specs.Machine.{GoesOnIn, IsOver, stage_of, total}
 use Rattle.hls_serve.specs.Places.{IsFresh, connection_of}
 use Rattle.hls_serve.specs.Talking.{Ended, Led, Moment}
 use Rattle.hls_serve.specs.Talks.{Advances, Connection, RestsAt, WantsMore, hears, history_of, sends}
-use Rattle.hls_serve.proofs.HoldLaws.{holds_more, holds_sent, none, served_of}
+use Rattle.hls_serve.proofs.HoldLaws.{holds_more, holds_sent, served_of}
 use Rattle.hls_serve.proofs.TalkLaws.{idle_holds, sends_holds, suited_new}
 
 -- ---- known bytes
@@ -97,38 +97,40 @@ led_advances {first} {m} {b} {c} x y = record {
   writes = x.writes;
 }
 
-pub led_hears : {first m : Moment} (more : List ℕ) (ended : Bool) (left : Option (List ℕ)) (reads : ℕ) → GoesOnIn m.at.machine.state → Consumes m.left left more
-    → (IsTrue ended → IsAtEnd left) → reads ≡ m.reads → Led first m → Led first (record m { at = hears m.at more ended; left = left; reads = reads })
-led_hears {first} {m} more ended left reads going consumes at_end same x = record {
-  suits = x.suits;
-  count = x.count;
-  acted = x.acted;
-  holds = holds_more more ended going x.holds;
-  bytes = x.bytes ++ more;
-  received = ap (λ (b : List ℕ). b ++ more) x.received ∙ append_assoc first.at.unread x.bytes more;
-  consumes = Consumes-then first.left m.left left x.bytes more x.consumes consumes;
-  at_end = at_end;
-  written = x.written;
-  reads = same ∙ x.reads;
-  writes = x.writes;
-}
+pub led_hears : {first m : Moment} {now : Connection} (more : List ℕ) (ended : Bool) {left : Option (List ℕ)} {reads : ℕ} → now ≡ hears m.at more ended → GoesOnIn m.at.machine.state
+    → Consumes m.left left more → (IsTrue ended → IsAtEnd left) → reads ≡ m.reads → Led first m → Led first (record m { at = now; left = left; reads = reads })
+led_hears {first} {m} more ended {left} {reads} is going consumes at_end same x =
+    subst (λ (c : Connection). Led first (record m { at = c; left = left; reads = reads })) (sym is) (record {
+      suits = x.suits;
+      count = x.count;
+      acted = x.acted;
+      holds = holds_more more ended going x.holds;
+      bytes = x.bytes ++ more;
+      received = ap (λ (b : List ℕ). b ++ more) x.received ∙ append_assoc first.at.unread x.bytes more;
+      consumes = Consumes-then first.left m.left left x.bytes more x.consumes consumes;
+      at_end = at_end;
+      written = x.written;
+      reads = same ∙ x.reads;
+      writes = x.writes;
+    })
 
-pub led_sends : {first m : Moment} (chunk : List ℕ) (contents : Option (List ℕ)) (writes : ℕ) → IsChunkOf chunk m.at.machine.output
+pub led_sends : {first m : Moment} {now : Connection} (chunk : List ℕ) {contents : Option (List ℕ)} {writes : ℕ} → now ≡ sends m.at (length chunk) → IsChunkOf chunk m.at.machine.output
     → ((held : List ℕ) → m.contents ≡ Some held → Writes held chunk contents true) → writes ≡ m.writes → Led first m
-    → Led first (record m { at = sends m.at (length chunk); contents = contents; writes = writes })
-led_sends {first} {m} chunk contents writes is wrote same x = record {
-  suits = x.suits;
-  count = x.count;
-  acted = x.acted;
-  holds = sends_holds m.at (length chunk) x.holds;
-  bytes = x.bytes;
-  received = x.received;
-  consumes = x.consumes;
-  at_end = x.at_end;
-  written = rw is.front (Appends-then first.contents m.contents contents m.at.sent chunk x.written (wrote_all m.contents contents chunk wrote));
-  reads = x.reads;
-  writes = same ∙ x.writes;
-}
+    → Led first (record m { at = now; contents = contents; writes = writes })
+led_sends {first} {m} chunk {contents} {writes} sent is wrote same x =
+    subst (λ (c : Connection). Led first (record m { at = c; contents = contents; writes = writes })) (sym sent) (record {
+      suits = x.suits;
+      count = x.count;
+      acted = x.acted;
+      holds = sends_holds m.at (length chunk) x.holds;
+      bytes = x.bytes;
+      received = x.received;
+      consumes = x.consumes;
+      at_end = x.at_end;
+      written = rw is.front (Appends-then first.contents m.contents contents m.at.sent chunk x.written (wrote_all m.contents contents chunk wrote));
+      reads = x.reads;
+      writes = same ∙ x.writes;
+    })
 
 -- ---- it ends
 
@@ -162,14 +164,17 @@ ended_itself {first} {m} end over empty x =
   where
     ends : (end : Ending) → stage_of m.at.machine.state ≡ Over (end_of end)
         → EndsSo (end_of end) (stage_of m.at.machine.state) m.at.machine.output × CountsSession (end_of end) m.reads m.reads m.writes m.writes
-    ends own.Closed is = ((is, none m.at.machine.output empty), (refl, refl))
-    ends own.Refused is = ((is, none m.at.machine.output empty), (refl, refl))
-    ends own.CutShort is = ((is, none m.at.machine.output empty), (refl, refl))
+    ends own.Closed is = ((is, nil_from_length m.at.machine.output empty), (refl, refl))
+    ends own.Refused is = ((is, nil_from_length m.at.machine.output empty), (refl, refl))
+    ends own.CutShort is = ((is, nil_from_length m.at.machine.output empty), (refl, refl))
 
 -- by a failed read
-pub ended_unread : {first m : Moment} (reads : ℕ) → length m.at.machine.output ≡ 0 → GoesOnIn m.at.machine.state → Rose m.reads reads → Led first m → Ended first (record m { reads = reads }) ends.ReadFailed
-ended_unread {first} {m} reads empty going rose x =
-    ended ends.ReadFailed [] m.at.machine.output m.contents reads m.writes refl (kept_contents m.contents) (going, none m.at.machine.output empty) (rose, refl) x
+pub ended_unread : {first m : Moment} {now : Connection} (more : List ℕ) {left : Option (List ℕ)} {reads : ℕ} → now ≡ hears m.at more m.at.ended → WantsMore m.at
+    → Consumes m.left left more → Rose m.reads reads → Led first m → Ended first (record m { at = now; left = left; reads = reads }) ends.ReadFailed
+ended_unread {first} {m} more {left} {reads} is wants consumes rose x =
+    let heard = led_hears more m.at.ended refl wants.2 consumes (λ over. absurd (cc (wants.0, over))) refl x in
+    subst (λ (c : Connection). Ended first (record m { at = c; left = left; reads = reads }) ends.ReadFailed) (sym is)
+    (ended ends.ReadFailed [] m.at.machine.output m.contents reads m.writes refl (kept_contents m.contents) (wants.2, nil_from_length m.at.machine.output wants.1) (rose, refl) heard)
 
 -- by a failed write, behind a beginning of what waits first
 pub ended_unwritten : {first m : Moment} (chunk : List ℕ) (contents : Option (List ℕ)) (writes : ℕ) → IsChunkOf chunk m.at.machine.output

@@ -109,27 +109,12 @@ impl Busy {
         requires { IsIdle self }
         ensures { talk_of (places.Idle result) ≡ self.talk }
     {
-        let Busy {
-            input: _input,
-            talk,
-        } = self;
-        let Talk {
-            machine,
-            ended: _ended,
-            came,
-            gone,
-        } = talk;
-        let Machine {
-            renditions,
-            state: _state,
-            output: _output,
-            asked,
-        } = machine;
+        let machine = self.talk.machine;
         Idle {
-            renditions,
-            asked,
-            came,
-            gone,
+            renditions: machine.renditions,
+            asked: machine.asked,
+            came: self.talk.came,
+            gone: self.talk.gone,
         }
     }
 }
@@ -141,24 +126,23 @@ impl Place {
         ensures unread { unread_of self.new ≡ unread_of self.old }
         ensures busy { OnOk result (IsBusy self.new) }
     {
-        match mem::replace(self, Place::Idle(Idle::new(0))) {
-            Place::Busy(busy) => {
+        let idle = match mem::replace(self, Place::Idle(Idle::new(0))) {
+            Place::Idle(idle) => idle,
+            place => {
+                *self = place;
+                return Ok(());
+            }
+        };
+        let input = Input::empty(alloc);
+        let talk = idle.begin();
+        match Box::new(alloc, Busy { input, talk }) {
+            Ok(busy) => {
                 *self = Place::Busy(busy);
                 Ok(())
             }
-            Place::Idle(idle) => {
-                let input = Input::empty(alloc);
-                let talk = idle.begin();
-                match Box::new(alloc, Busy { input, talk }) {
-                    Ok(busy) => {
-                        *self = Place::Busy(busy);
-                        Ok(())
-                    }
-                    Err(failed) => {
-                        *self = Place::Idle(failed.value.end());
-                        Err(AllocError)
-                    }
-                }
+            Err(failed) => {
+                *self = Place::Idle(failed.value.end());
+                Err(AllocError)
             }
         }
     }
@@ -169,14 +153,10 @@ impl Place {
         ensures unread { unread_of self.new ≡ unread_of self.old }
     {
         match mem::replace(self, Place::Idle(Idle::new(0))) {
-            Place::Busy(busy) => {
-                if busy.is_idle() {
-                    *self = Place::Idle(Box::into_inner(busy).end());
-                } else {
-                    *self = Place::Busy(busy);
-                }
+            Place::Busy(busy) if busy.is_idle() => {
+                *self = Place::Idle(Box::into_inner(busy).end());
             }
-            Place::Idle(idle) => *self = Place::Idle(idle),
+            place => *self = place,
         }
     }
 
