@@ -2,6 +2,6 @@ mod AnswerLaws
 mod HoldLaws
 mod PassLaws
 mod SessionLaws
-pub mod TalkLaws
+mod TalkLaws
 mod TurnLaws
 mod WithinLaws

@@ -2,7 +2,7 @@
 use Rattle.std.proofs.Common.{◌≡◌, ◌∙◌, ℕ, Bool, true, false, List, [], ◌++◌, length, drop, Option, Some, None, IsTrue, inl, inr, refl, sym, ap, subst, append_assoc, append-nil, arith}
 use Rattle.std.proofs.lemmas.List.{nil_from_length, take-append-drop}
 use Rattle.std.specs.Io.KnownBytes.{Appends, Consumes, IsAtEnd}
-use Rattle.http_server.proofs.KnownLemmas.{Appends-then, Consumes-then}
+use Rattle.std.proofs.KnownBytes.{Appends-nil, Appends-trans, Consumes-nil, Consumes-trans}
 use Rattle.bytes.specs.Unread.{IsChunkOf}
 use Rattle.hls_io.specs.Rose.{Rose}
 use Rattle.hls_io.specs.Writing.{Writes}
@@ -30,15 +30,6 @@ use Rattle.hls_serve.proofs.HoldLaws.{holds_more, holds_sent, served_of}
 use Rattle.hls_serve.proofs.TalkLaws.{idle_holds, sends_holds, suited_new}
 
 -- ---- known bytes
-
--- they stay where none comes or goes
-kept_left : (left : Option (List ℕ)) → Consumes left left []
-kept_left None = tt
-kept_left (Some xs) = refl
-
-pub kept_contents : (contents : Option (List ℕ)) → Appends contents contents []
-kept_contents None = tt
-kept_contents (Some xs) = sym (append-nil xs)
 
 came_of : (input : List ℕ) (left : Option (List ℕ)) (bytes : List ℕ) → Consumes (Some input) left bytes → (later : List ℕ) × (left ≡ Some later) × (input ≡ bytes ++ later)
 came_of input None bytes consumes = absurd consumes
@@ -75,9 +66,9 @@ led_first m i fresh is valid count =
       holds = holds_more m.at.unread false tt (idle_holds i fresh);
       bytes = [];
       received = rw fresh.came (sym (append-nil m.at.unread));
-      consumes = kept_left m.left;
+      consumes = Consumes-nil m.left;
       at_end = λ never. absurd (cc);
-      written = rw fresh.gone (kept_contents m.contents);
+      written = rw fresh.gone (Appends-nil m.contents);
       reads = refl;
       writes = refl;
     })
@@ -107,7 +98,7 @@ led_hears {first} {m} more ended {left} {reads} is going consumes at_end same x 
       holds = holds_more more ended going x.holds;
       bytes = x.bytes ++ more;
       received = ap (λ (b : List ℕ). b ++ more) x.received ∙ append_assoc first.at.unread x.bytes more;
-      consumes = Consumes-then first.left m.left left x.bytes more x.consumes consumes;
+      consumes = Consumes-trans first.left m.left left x.bytes more x.consumes consumes;
       at_end = at_end;
       written = x.written;
       reads = same ∙ x.reads;
@@ -127,7 +118,7 @@ led_sends {first} {m} chunk {contents} {writes} sent is wrote same x =
       received = x.received;
       consumes = x.consumes;
       at_end = x.at_end;
-      written = rw is.front (Appends-then first.contents m.contents contents m.at.sent chunk x.written (wrote_all m.contents contents chunk wrote));
+      written = rw is.front (Appends-trans first.contents m.contents contents m.at.sent chunk x.written (wrote_all m.contents contents chunk wrote));
       reads = x.reads;
       writes = same ∙ x.writes;
     })
@@ -141,7 +132,7 @@ module _ {first m : Moment} (end : SessionEnd) (more waits : List ℕ) (contents
   ended waiting appends so counts x = record {
     session = λ input out known there.
         let came = came_of input m.left x.bytes (rw known at x.consumes) in
-        let written = Appends-then (Some out) m.contents contents m.at.sent more (rw there at x.written) appends in
+        let written = Appends-trans (Some out) m.contents contents m.at.sent more (rw there at x.written) appends in
         record {
           stage = stage_of m.at.machine.state;
           history = record (history_of m.at) { sent = m.at.sent ++ more; pending = waits };
@@ -160,7 +151,7 @@ module _ {first m : Moment} (end : SessionEnd) (more waits : List ℕ) (contents
 pub ended_itself : {first m : Moment} (end : Ending) → m.at.machine.state ≡ states.Over end → length m.at.machine.output ≡ 0 → Led first m → Ended first m (end_of end)
 ended_itself {first} {m} end over empty x =
     let so = ends end (ap stage_of over) in
-    ended (end_of end) [] m.at.machine.output m.contents m.reads m.writes refl (kept_contents m.contents) so.0 so.1 x
+    ended (end_of end) [] m.at.machine.output m.contents m.reads m.writes refl (Appends-nil m.contents) so.0 so.1 x
   where
     ends : (end : Ending) → stage_of m.at.machine.state ≡ Over (end_of end)
         → EndsSo (end_of end) (stage_of m.at.machine.state) m.at.machine.output × CountsSession (end_of end) m.reads m.reads m.writes m.writes
@@ -174,7 +165,7 @@ pub ended_unread : {first m : Moment} {now : Connection} (more : List ℕ) {left
 ended_unread {first} {m} more {left} {reads} is wants consumes rose x =
     let heard = led_hears more m.at.ended refl wants.2 consumes (λ over. absurd (cc (wants.0, over))) refl x in
     subst (λ (c : Connection). Ended first (record m { at = c; left = left; reads = reads }) ends.ReadFailed) (sym is)
-    (ended ends.ReadFailed [] m.at.machine.output m.contents reads m.writes refl (kept_contents m.contents) (wants.2, nil_from_length m.at.machine.output wants.1) (rose, refl) heard)
+    (ended ends.ReadFailed [] m.at.machine.output m.contents reads m.writes refl (Appends-nil m.contents) (wants.2, nil_from_length m.at.machine.output wants.1) (rose, refl) heard)
 
 -- by a failed write, behind a beginning of what waits first
 pub ended_unwritten : {first m : Moment} (chunk : List ℕ) (contents : Option (List ℕ)) (writes : ℕ) → IsChunkOf chunk m.at.machine.output

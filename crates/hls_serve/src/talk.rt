@@ -80,11 +80,9 @@ impl Talk {
         ensures room { input.new.room ≡ input.old.room }
     {
         for _ in 0..MOST_STEPS {
-            if !self.machine.step(input, self.ended, keeper, observer) {
-                return false;
-            }
-            if self.machine.is_making() {
-                return true;
+            let more = self.machine.step(input, self.ended, keeper, observer);
+            if !more || self.machine.is_making() {
+                return more;
             }
         }
         true
