@@ -1,4 +1,4 @@
--- For the proofs of this crate; public clauses cite it by a visit's history alone.
+-- For the proofs of this crate; public clauses cite it by the words of visits alone.
 -- A connection, by all that came of it.
 use Rattle.std.specs.Prelude.{◌≡◌, ◌<◌, ℕ, Bool, List, ◌++◌, flat_map, length, take, drop, IsFalse}
 use Rattle.hls_core_laws.specs.IsState.{IsState}
