@@ -71,20 +71,6 @@ fn live(count: usize, text: &[u8]) -> Option<Route>
     Some(Route::LiveList(rendition(count, number)?))
 }
 
-fn media(count: usize, text: &[u8]) -> Option<Route>
-    ensures { result ≡ spec.media_route count text.now }
-{
-    let number = before(b".mp4", text)?;
-    Some(Route::Media(rendition(count, number)?))
-}
-
-fn media_file(count: usize, name: &[u8]) -> Option<JobFile>
-    ensures { result ≡ spec.media_file count name.now }
-{
-    let number = before(b".mp4", name)?;
-    Some(JobFile::Media(rendition(count, number)?))
-}
-
 /// A file of a job by its name.
 fn file(count: usize, name: &[u8]) -> Option<JobFile>
     ensures { result ≡ spec.file_of count name.now }
@@ -97,7 +83,7 @@ fn file(count: usize, name: &[u8]) -> Option<JobFile>
     }
     match before(b".m3u8", name) {
         Some(number) => Some(JobFile::List(rendition(count, number)?)),
-        None => media_file(count, name),
+        None => Some(JobFile::Media(rendition(count, before(b".mp4", name)?)?)),
     }
 }
 
@@ -122,33 +108,21 @@ fn job_route(count: usize, text: &[u8]) -> Option<Route>
     }
 }
 
-fn ingest(count: usize, number: &[u8]) -> Option<Route>
-    ensures { result ≡ option_map (λ r. Route.Ingest r) (spec.rendition_in count number.now) }
-{
-    Some(Route::Ingest(rendition(count, number)?))
-}
-
-fn finish(count: usize, number: &[u8]) -> Option<Route>
-    ensures { result ≡ option_map (λ r. Route.Finish r) (spec.rendition_in count number.now) }
-{
-    Some(Route::Finish(rendition(count, number)?))
-}
-
 /// What a path with a folder names.
 fn folder(count: usize, path: &[u8]) -> Option<Route>
     ensures { result ≡ spec.folder_route count path.now }
 {
     if let Some(number) = behind(b"/ingest/", path) {
-        return ingest(count, number);
+        return Some(Route::Ingest(rendition(count, number)?));
     }
     if let Some(number) = behind(b"/finish/", path) {
-        return finish(count, number);
+        return Some(Route::Finish(rendition(count, number)?));
     }
     if let Some(text) = behind(b"/live/", path) {
         return live(count, text);
     }
     if let Some(text) = behind(b"/media/", path) {
-        return media(count, text);
+        return Some(Route::Media(rendition(count, before(b".mp4", text)?)?));
     }
     job_route(count, behind(b"/job/", path)?)
 }
@@ -197,13 +171,9 @@ pub fn allows(route: Route, method: Method) -> bool
     match route {
         Route::Ingest(_) => is_sent(method),
         Route::Finish(_) => is_post(method),
-        Route::LiveMaster => is_read(method),
-        Route::LiveList(_) => is_read(method),
-        Route::Media(_) => is_read(method),
         Route::CatchUp => is_post(method),
         Route::Job(_) => is_read_or_deleted(method),
-        Route::JobFile(_, _) => is_read(method),
-        Route::Status => is_read(method),
+        _ => is_read(method),
     }
 }
 
@@ -212,15 +182,9 @@ pub fn job_at(route: Route) -> Option<u64>
     ensures { result ≡ heard.job_at route }
 {
     match route {
-        Route::Ingest(_) => None,
-        Route::Finish(_) => None,
-        Route::LiveMaster => None,
-        Route::LiveList(_) => None,
-        Route::Media(_) => None,
-        Route::CatchUp => None,
         Route::Job(id) => Some(id),
         Route::JobFile(id, _) => Some(id),
-        Route::Status => None,
+        _ => None,
     }
 }
 
