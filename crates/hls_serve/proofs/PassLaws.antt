@@ -1,7 +1,6 @@
 -- What a keeper has seen, from one act to the next, and what its acts come to.
-use Rattle.std.proofs.Common.{◌≡◌, ℕ, Some, Option, Ok, Err, inl, inr, List, [], ◌∷◌, ◌++◌, map, refl, sym, subst, ap, ◌∙◌, append_assoc}
-use Rattle.std.proofs.lemmas.List.{map-append}
-use Rattle.std.proofs.lemmas.List.Elements.{All-cons, All-nil}
+use Rattle.std.proofs.Common.{◌≡◌, ℕ, Some, Option, Ok, Err, inl, inr, List, [], ◌∷◌, ◌++◌, refl, sym, subst, ap, ◌∙◌, append_assoc, append-nil}
+use Rattle.std.proofs.lemmas.List.Elements.{All-nil, All-push}
 use Rattle.hls_media_laws.specs.InitData.{InitData}
 use Rattle.hls_media_laws.specs.declared.facts.Facts.{Facts}
 use Rattle.hls_media_laws.specs.Meaning.{IsUnit}
@@ -16,13 +15,11 @@ use Rattle.hls_core_laws.specs.Follows.{Follows}
 use Rattle.hls_core_laws.proofs.Callers.{inits_stay}
 use Rattle.hls_core_laws.specs.Known.{Known}
 use Rattle.hls_boxes_laws.specs.declared.part.Part.TheVariants as parts
-use Rattle.hls_serve_laws.specs.Acts.{Act, Acted, ActsInVain, IsVain, Leads, Looked, Looks, Submitted, Submits}
+use Rattle.hls_serve_laws.specs.Acts.{Act, Acted, ActsInVain, IsVain, Leads, Looked, Submitted, Submits}
 use Rattle.hls_serve_laws.specs.Ingest.{Progress, FindsInit, PartComes}
 use Rattle.hls_serve_laws.proofs.Callers.{acted_follows}
-use Rattle.hls_serve.specs.declared.acts.Noted.{Noted}
 use Rattle.hls_serve.specs.declared.machine.State as states
 use Rattle.hls_serve.specs.Machine.{asked_now}
-use Rattle.hls_serve.specs.Noted.{act_in}
 use Rattle.hls_serve.specs.Taken.{Finds, HasInit, IsUsable, told_as}
 
 -- ---- what acts lead to
@@ -54,47 +51,30 @@ pub fits_unit : (r : ℕ) (known : Known) (found : Option InitData) (init : Init
     → IsFittingAsSeen known.seen (Accept r f bytes)
 fits_unit r known found init f bytes usable is unit = let has = usable.has init is in (has.lane, init, has.at, has.init_is, unit)
 
--- an event for which memory was wanted
-pub wanted : (before after : List Act) (event : Event) → Submits before event (Err refusals.Memory) after → ActsInVain before after
-wanted before after event s = record { acts = Submitted event (Err refusals.Memory) ∷ []; grown = s; each = All-cons IsVain (Submitted event (Err refusals.Memory)) [] tt (All-nil IsVain) }
+-- nothing was asked
+pub nothing_asked : (a : List Act) → ActsInVain a a
+nothing_asked a = record { acts = []; grown = sym (append-nil a); each = All-nil IsVain }
 
--- .. behind a look
-wanted_behind : (before middle after : List Act) (s : State) (event : Event) → Looks before s middle → Submits middle event (Err refusals.Memory) after → ActsInVain before after
-wanted_behind before middle after s event looks submits = record {
-  acts = Looked s ∷ (Submitted event (Err refusals.Memory) ∷ []);
-  grown = submits ∙ ap (λ (acts : List Act). acts ++ Submitted event (Err refusals.Memory) ∷ []) looks ∙ append_assoc before (Looked s ∷ []) (Submitted event (Err refusals.Memory) ∷ []);
-  each = All-cons IsVain (Looked s) (Submitted event (Err refusals.Memory) ∷ []) tt (All-cons IsVain (Submitted event (Err refusals.Memory)) [] tt (All-nil IsVain));
+-- .. and then this in vain
+vain_on : {a b : List Act} (c : List Act) (act : Act) → ActsInVain a b → IsVain act → c ≡ b ++ act ∷ [] → ActsInVain a c
+vain_on {a} c act v vain is = record {
+  acts = v.acts ++ act ∷ [];
+  grown = is ∙ ap (λ (t : List Act). t ++ act ∷ []) v.grown ∙ append_assoc a v.acts (act ∷ []);
+  each = All-push IsVain v.acts act v.each vain;
 }
 
-unit_wanted : (r : ℕ) (x : Progress) (init : InitData) (z y : List Act) (f : Facts) (bytes : List ℕ) → FindsInit r x init z → Submits z (Accept r f bytes) (Err refusals.Memory) y
-    → ActsInVain x.acts y
-unit_wanted r x init z y f bytes (inl same) s =
-    wanted x.acts y (Accept r f bytes) (subst (λ (acts : List Act). Submits acts (Accept r f bytes) (Err refusals.Memory) y) same.1 s)
-unit_wanted r x init z y f bytes (inr found) s = wanted_behind x.acts z y found.state (Accept r f bytes) found.looks s
-
-pub unit_refused : (r : ℕ) (x y : Progress) (bytes : List ℕ) (init : InitData) (z : List Act) (f : Facts) (q : Refusal) → FindsInit r x init z → IsUnit init bytes f
-    → y.counts ≡ x.counts → Submits z (Accept r f bytes) (Err q) y.acts → PartComes r x (parts.Unit bytes) y (Err (told_as q))
-unit_refused r x y bytes init z f refusals.Memory finds is counts s = unit_wanted r x init z y.acts f bytes finds s
-unit_refused r x y bytes init z f q finds is counts s =
-    (inr (record { init = init; looked = z; finds = finds; facts = f; reads = is; told = λ e. cc; submits = s }), counts)
+unit_wanted : (r : ℕ) (x : Progress) (init : InitData) (z y : List Act) (event : Event) → FindsInit r x init z → Submits z event (Err refusals.Memory) y → ActsInVain x.acts y
+unit_wanted r x init z y event (inl same) s = vain_on y (Submitted event (Err refusals.Memory)) (nothing_asked x.acts) tt (rw same.1 at s)
+unit_wanted r x init z y event (inr found) s = vain_on y (Submitted event (Err refusals.Memory)) (vain_on z (Looked found.state) (nothing_asked x.acts) tt found.looks) tt s
 
 found_init : (r : ℕ) (x y : Progress) (init : InitData) → Finds r x y (Ok tt) → y.init ≡ Some init → FindsInit r x init y.acts
-found_init r x y init (counts, (i, is, finds)) there =
-    let same : i ≡ init = some_is i init (sym is ∙ there) in subst (λ (j : InitData). FindsInit r x j y.acts) same finds
-  where
-    some_is : (a b : InitData) → Some a ≡ Some b → a ≡ b
-    some_is a b e = cc
+found_init r x y init (counts, (i, is, finds)) there = let same : i ≡ init = cc (is, there) in subst (λ (j : InitData). FindsInit r x j y.acts) same finds
 
-pub unit_refused_by : (r : ℕ) (x z y : Progress) (bytes : List ℕ) (init : InitData) (f : Facts) (q : Refusal) → Finds r x z (Ok tt) → z.init ≡ Some init → IsUnit init bytes f
+pub unit_refused : (r : ℕ) (x z y : Progress) (bytes : List ℕ) (init : InitData) (f : Facts) (q : Refusal) → Finds r x z (Ok tt) → z.init ≡ Some init → IsUnit init bytes f
     → y.counts ≡ z.counts → Submits z.acts (Accept r f bytes) (Err q) y.acts → PartComes r x (parts.Unit bytes) y (Err (told_as q))
-unit_refused_by r x z y bytes init f q found there is counts s =
-    unit_refused r x y bytes init z.acts f q (found_init r x z init found there) is (counts ∙ found.0) s
-
--- ---- notes
-
--- one more note
-pub noted_one : {B : Type 0} (old new : List (Noted × B)) (x : Noted × B) (seen : List Act) → new ≡ old ++ x ∷ [] → map act_in old ≡ seen → map act_in new ≡ seen ++ act_in x ∷ []
-noted_one old new x seen is was = ap (map act_in) is ∙ map-append act_in old (x ∷ []) ∙ ap (λ (acts : List Act). acts ++ act_in x ∷ []) was
+unit_refused r x z y bytes init f refusals.Memory found there is counts s = unit_wanted r x init z.acts y.acts (Accept r f bytes) (found_init r x z init found there) s
+unit_refused r x z y bytes init f q found there is counts s =
+    (inr (record { init = init; looked = z.acts; finds = found_init r x z init found there; facts = f; reads = is; told = λ e. cc; submits = s }), counts ∙ found.0)
 
 -- what was asked behind something else
 pub acted_behind : (front : List Act) (a b : Known) (before after : List Act) → Acted a before b after → Acted a (front ++ before) b (front ++ after)
@@ -111,5 +91,3 @@ acted_in front a b before is acted = subst (λ (s : states.State). Acted a (fron
 -- what was seen is still a state
 pub valid_acted : (a b : Known) (before after : List Act) → Acted a before b after → IsState a.seen → IsState b.seen
 valid_acted a b before after acted valid = (acted_follows a b before after valid acted).0
-
--- ---- the init section of a recording that was shown

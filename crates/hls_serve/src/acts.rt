@@ -1,10 +1,10 @@
 //! What a keeper was asked, and what it told: noted for proofs alone. It takes no memory, and nothing is done at run time.
 
-ghost use Rattle.std.specs.Prelude.{◌≡◌, ℕ, Option, IfOk, []};
+ghost use Rattle.std.specs.Prelude.{◌≡◌, ℕ, Option, IfOk, [], ◌∷◌, ◌++◌};
 ghost use Rattle.hls_media_laws.specs.InitData.{InitData};
 ghost use Rattle.hls_core_laws.specs.Moves.{IsFittingAsSeen};
 ghost use Rattle.hls_serve_laws.specs.Acts.{Acted, Submits};
-ghost use Rattle.hls_serve.specs.Noted.{LookedSo};
+ghost use Rattle.hls_serve.specs.Noted.{LookedSo, act_of};
 ghost use Rattle.hls_serve.specs.Taken.{IsUsable};
 
 use crate::keeper::Keeper;
@@ -51,6 +51,13 @@ impl Acts {
     {
         Acts { notes: Log::new() }
     }
+
+    /// Notes one act more.
+    fn note(&mut self, noted: Noted)
+        ensures { self.new ≡ self.old ++ act_of noted ∷ [] }
+    {
+        self.notes = self.notes.and(&noted, &());
+    }
 }
 
 /// Looks, and notes what was shown.
@@ -63,11 +70,11 @@ pub fn look<K: Keeper>(keeper: &mut K, acts: &mut Acts) -> Result<Arc<Snapshot>,
     match keeper.look() {
         Ok(state) => {
             let note = Log::new().and(&state, &());
-            acts.notes = acts.notes.and(&Noted::Looked(note), &());
+            acts.note(Noted::Looked(note));
             Ok(state)
         }
         Err(error) => {
-            acts.notes = acts.notes.and(&Noted::LookedInVain, &());
+            acts.note(Noted::LookedInVain);
             Err(error)
         }
     }
@@ -82,6 +89,6 @@ pub fn submit<K: Keeper>(keeper: &mut K, acts: &mut Acts, event: Event) -> Resul
 {
     let note = Log::new().and(&event, &());
     let done = keeper.submit(event);
-    acts.notes = acts.notes.and(&Noted::Submitted(note, done), &());
+    acts.note(Noted::Submitted(note, done));
     done
 }

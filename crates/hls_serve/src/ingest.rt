@@ -47,34 +47,24 @@ impl Taken {
     }
 }
 
-fn with_init(counts: Counts, done: Done) -> Counts
+fn with_init(mut counts: Counts, done: Done) -> Counts
     ensures { result ≡ after_init done counts }
 {
     match done {
-        Done::New { .. } => Counts {
-            inits: counts.inits.saturating_add(1),
-            ..counts
-        },
-        Done::Repeat => Counts {
-            repeats: counts.repeats.saturating_add(1),
-            ..counts
-        },
+        Done::New { .. } => counts.inits = counts.inits.saturating_add(1),
+        Done::Repeat => counts.repeats = counts.repeats.saturating_add(1),
     }
+    counts
 }
 
-fn with_unit(counts: Counts, done: Done) -> Counts
+fn with_unit(mut counts: Counts, done: Done) -> Counts
     ensures { result ≡ after_unit done counts }
 {
     match done {
-        Done::New { .. } => Counts {
-            units: counts.units.saturating_add(1),
-            ..counts
-        },
-        Done::Repeat => Counts {
-            repeats: counts.repeats.saturating_add(1),
-            ..counts
-        },
+        Done::New { .. } => counts.units = counts.units.saturating_add(1),
+        Done::Repeat => counts.repeats = counts.repeats.saturating_add(1),
     }
+    counts
 }
 
 /// What a refused event is told as.

@@ -1,11 +1,8 @@
-use Rattle.std.proofs.Common.{◌≡◌, Some, Err, refl, sym, subst, rules}
-use Rattle.hls_boxes_laws.specs.declared.part.Part.TheVariants as parts
-use Rattle.hls_feed.specs.declared.fault.Untaken.{Untaken}
+use Rattle.std.proofs.Common.{◌≡◌, Some, refl, rules}
 use Rattle.hls_media_laws.specs.Meaning.{IsUnit}
-use Rattle.hls_serve_laws.specs.Ingest.{PartComes}
 use Rattle.hls_serve_laws.proofs.Callers.{acted_on}
 use Rattle.hls_serve.specs.Taken.{progress_of}
-use Rattle.hls_serve.proofs.PassLaws.{fits_unit, unit_refused_by}
+use Rattle.hls_serve.proofs.PassLaws.{fits_unit, unit_refused}
 use Rattle.hls_serve.proofs.ingest.Encoder.take_unit.Goals as goal
 
 pub submit-requires : goal.submit-requires
@@ -34,8 +31,6 @@ pub returns-in-Err-submit-clause-comes : goal.returns-in-Err-submit-clause-comes
 returns-in-Err-submit-clause-comes g c =
     let is : IsUnit c.in-Some.init c.args.bytes c.in-Ok-read_facts.facts = search rules in
     let found : c.find_init.new.taken.init ≡ Some c.in-Some.init = search rules in
-    let x = progress_of c.args.taken.now in
     let y = progress_of c.find_init.new.taken in
-    subst (λ (i : Untaken). PartComes c.args.self.now.rendition x (parts.Unit c.args.bytes) (record y { acts = c.submit.new.acts }) (Err i)) (sym c.refused.ensures)
-    (unit_refused_by c.args.self.now.rendition x y (record y { acts = c.submit.new.acts }) c.args.bytes c.in-Some.init c.in-Ok-read_facts.facts
+    rw c.refused.ensures (unit_refused c.args.self.now.rendition (progress_of c.args.taken.now) y (record y { acts = c.submit.new.acts }) c.args.bytes c.in-Some.init c.in-Ok-read_facts.facts
     c.in-Err-submit.refusal c.in-Ok.ensures.finds found is refl c.in-Err-submit.ensures.submits)
