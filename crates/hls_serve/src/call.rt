@@ -20,6 +20,9 @@ use hls_serve_laws::query::Query;
 use hls_serve_laws::route::Route;
 use std::alloc::{AllocError, Global};
 
+/// What a query says, and none where it isn't good; or memory was wanted to tell.
+pub type Queried = Result<Option<Query>, AllocError>;
+
 /// What is kept of a request's head, whose text is gone once its body is read.
 #[derive(Clone, Copy, Debug)]
 pub struct Call {
@@ -28,7 +31,7 @@ pub struct Call {
     /// What its path names.
     pub route: Option<Route>,
     /// What the query of a request for a catch-up recording says, and none where it isn't good; or memory was wanted to tell.
-    pub query: Result<Option<Query>, AllocError>,
+    pub query: Queried,
 }
 
 /// The target in a head's text.
@@ -39,7 +42,7 @@ fn target_of<'a>(text: &'a [u8], head: &Head) -> &'a [u8]
 }
 
 /// What the query of a request for a catch-up recording says. That of another request isn't looked at.
-fn query_for(alloc: Global, route: Option<Route>, text: &[u8]) -> Result<Option<Query>, AllocError>
+fn query_for(alloc: Global, route: Option<Route>, text: &[u8]) -> Queried
     ensures { route ≡ Some Route.CatchUp → IfOk result (λ query. query ≡ query_in text.now) }
 {
     match route {

@@ -19,6 +19,9 @@ use hls_output::Output;
 use hls_replies::{Answer, Body, fault_answer, output_of};
 use std::alloc::{AllocError, Global};
 
+/// An answer that was made, or want of memory for one.
+pub(crate) type Made = Result<Answer, AllocError>;
+
 /// A reply that is to be handed out, and how the connection ends behind it, where it does.
 #[derive(Drop)]
 pub(crate) struct Reply {
@@ -27,7 +30,7 @@ pub(crate) struct Reply {
 }
 
 /// The status of what was made; want of memory is 503.
-fn status_of(made: &Result<Answer, AllocError>) -> Status {
+fn status_of(made: &Made) -> Status {
     match made {
         Ok(answer) => answer.status(),
         Err(_) => Status::Unavailable,
@@ -65,7 +68,7 @@ fn end_behind(closing: bool, success: bool) -> Option<Ending>
 }
 
 /// The reply of what was made; where memory was wanted for it, the fixed one.
-fn reply_of(alloc: Global, made: Result<Answer, AllocError>, closing: bool, to_head: bool) -> Reply
+fn reply_of(alloc: Global, made: Made, closing: bool, to_head: bool) -> Reply
     ensures { (first : List ℕ) → Replies (IsMade first made closing to_head) result.output result.end first }
 {
     let Ok(answer) = made else {
@@ -86,7 +89,7 @@ pub(crate) fn reply_with<O: Observer>(
     alloc: Global,
     observer: &O,
     call: &Call,
-    made: Result<Answer, AllocError>,
+    made: Made,
     early: bool,
 ) -> Reply
     ensures { (count : ℕ) (h : RequestHead) (first : List ℕ) → IsCall count h call.now

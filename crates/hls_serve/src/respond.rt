@@ -13,8 +13,9 @@ ghost use Rattle.hls_serve_laws.specs.Acts.{Acted};
 ghost use Rattle.hls_serve.specs.Turns.{IsResponse, Makes, MakesBy, OfCall, OfCallTo, OfQuery};
 
 use crate::acts::{Acts, look, submit};
-use crate::call::Call;
+use crate::call::{Call, Queried};
 use crate::keeper::Keeper;
+use crate::reply::Made;
 use crate::route::{allows, is_to_head, job_at, removes};
 use hls_catchup::{Job, JobFault};
 use hls_core::snapshot::Snapshot;
@@ -23,7 +24,7 @@ use hls_core_laws::refusal::Refusal;
 use hls_http::HttpFault;
 use hls_http_laws::range::Asked;
 use hls_replies::{
-    Answer, added_answer, fault_answer, file_answer, finish_answer, master_answer, media_answer,
+    added_answer, fault_answer, file_answer, finish_answer, master_answer, media_answer,
     method_answer, query_answer, removed_answer, request_for, status_answer, told_answer,
     wanted_of,
 };
@@ -33,7 +34,7 @@ use hls_serve_laws::wanted::Wanted;
 use std::alloc::{AllocError, Global};
 use std::sync::Arc;
 
-fn show_master<K: Keeper>(keeper: &mut K, acts: &mut Acts) -> Result<Answer, AllocError>
+fn show_master<K: Keeper>(keeper: &mut K, acts: &mut Acts) -> Made
     ensures leads { Acted (K.known keeper.old) acts.old (K.known keeper.new) acts.new }
     ensures answers { MakesBy (λ a b. ShowsState a b (λ s. playlist_answer (live_master_text s))) acts.old acts.new result }
 {
@@ -41,11 +42,7 @@ fn show_master<K: Keeper>(keeper: &mut K, acts: &mut Acts) -> Result<Answer, All
     master_answer(keeper.alloc(), &state)
 }
 
-fn show_list<K: Keeper>(
-    keeper: &mut K,
-    acts: &mut Acts,
-    rendition: usize,
-) -> Result<Answer, AllocError>
+fn show_list<K: Keeper>(keeper: &mut K, acts: &mut Acts, rendition: usize) -> Made
     ensures leads { Acted (K.known keeper.old) acts.old (K.known keeper.new) acts.new }
     ensures answers { MakesBy (λ a b. ShowsState a b (λ s. replies.list_answer (live_text s rendition)))
         acts.old acts.new result }
@@ -54,12 +51,7 @@ fn show_list<K: Keeper>(
     keeper.list(state, rendition)
 }
 
-fn show_media<K: Keeper>(
-    keeper: &mut K,
-    acts: &mut Acts,
-    rendition: usize,
-    asked: Asked,
-) -> Result<Answer, AllocError>
+fn show_media<K: Keeper>(keeper: &mut K, acts: &mut Acts, rendition: usize, asked: Asked) -> Made
     ensures leads { Acted (K.known keeper.old) acts.old (K.known keeper.new) acts.new }
     ensures answers { MakesBy (λ a b. ShowsState a b (λ s. replies.media_answer s rendition asked))
         acts.old acts.new result }
@@ -68,7 +60,7 @@ fn show_media<K: Keeper>(
     media_answer(keeper.alloc(), state, rendition, asked)
 }
 
-fn show_status<K: Keeper>(keeper: &mut K, acts: &mut Acts) -> Result<Answer, AllocError>
+fn show_status<K: Keeper>(keeper: &mut K, acts: &mut Acts) -> Made
     ensures leads { Acted (K.known keeper.old) acts.old (K.known keeper.new) acts.new }
     ensures answers { MakesBy ShowsStatus acts.old acts.new result }
 {
@@ -78,11 +70,7 @@ fn show_status<K: Keeper>(keeper: &mut K, acts: &mut Acts) -> Result<Answer, All
 }
 
 /// The end of a rendition.
-fn finish<K: Keeper>(
-    keeper: &mut K,
-    acts: &mut Acts,
-    rendition: usize,
-) -> Result<Answer, AllocError>
+fn finish<K: Keeper>(keeper: &mut K, acts: &mut Acts, rendition: usize) -> Made
     ensures leads { Acted (K.known keeper.old) acts.old (K.known keeper.new) acts.new }
     ensures answers { MakesBy (λ a b. Finishes a rendition b) acts.old acts.new result }
 {
@@ -105,11 +93,7 @@ fn range_of(call: &Call) -> Asked
 }
 
 /// Adds a job that answers from a state.
-fn add_job<K: Keeper>(
-    keeper: &mut K,
-    state: Arc<Snapshot>,
-    wanted: Wanted,
-) -> Result<Answer, AllocError>
+fn add_job<K: Keeper>(keeper: &mut K, state: Arc<Snapshot>, wanted: Wanted) -> Made
     ensures known { K.known keeper.new ≡ K.known keeper.old }
     ensures adds { IfOk result (AddsJob state.value wanted) }
 {
@@ -120,11 +104,7 @@ fn add_job<K: Keeper>(
 }
 
 /// Adds the job that a query asks the current state for; or replies why it asks for nothing.
-fn add_wanted<K: Keeper>(
-    keeper: &mut K,
-    acts: &mut Acts,
-    query: Query,
-) -> Result<Answer, AllocError>
+fn add_wanted<K: Keeper>(keeper: &mut K, acts: &mut Acts, query: Query) -> Made
     ensures leads { Acted (K.known keeper.old) acts.old (K.known keeper.new) acts.new }
     ensures answers { Makes (AsksFor query acts.old acts.new) acts.old acts.new result }
 {
@@ -136,11 +116,7 @@ fn add_wanted<K: Keeper>(
 }
 
 /// A catch-up recording is asked for, by a query that was read before.
-fn catch_up<K: Keeper>(
-    keeper: &mut K,
-    acts: &mut Acts,
-    query: Result<Option<Query>, AllocError>,
-) -> Result<Answer, AllocError>
+fn catch_up<K: Keeper>(keeper: &mut K, acts: &mut Acts, query: Queried) -> Made
     ensures leads { Acted (K.known keeper.old) acts.old (K.known keeper.new) acts.new }
     ensures answers { OfQuery query (λ asked. MakesBy (CatchesUp asked) acts.old acts.new result) }
 {
@@ -152,13 +128,7 @@ fn catch_up<K: Keeper>(
 }
 
 /// What is replied of a job that is there: how far it is, or a file; or that its route hasn't the method.
-fn show_found(
-    alloc: Global,
-    call: &Call,
-    route: Route,
-    id: u64,
-    job: Job,
-) -> Result<Answer, AllocError>
+fn show_found(alloc: Global, call: &Call, route: Route, id: u64, job: Job) -> Made
     requires { heard.job_at route ≡ Some id }
     ensures { OfCall call.now (λ h q. IfOk result (λ a. Some a ≡ shown_if q route (spec.allows route q.method) job)) }
 {
@@ -173,7 +143,7 @@ fn show_found(
 }
 
 /// What is replied of a job that stays; 404 where there is none.
-fn show_job<K: Keeper>(keeper: &K, call: &Call, route: Route, id: u64) -> Result<Answer, AllocError>
+fn show_job<K: Keeper>(keeper: &K, call: &Call, route: Route, id: u64) -> Made
     requires { heard.job_at route ≡ Some id }
     ensures { OfCall call.now (λ h q. IfOk result (ShowsJob id (shown_if q route (spec.allows route q.method)))) }
 {
@@ -185,7 +155,7 @@ fn show_job<K: Keeper>(keeper: &K, call: &Call, route: Route, id: u64) -> Result
 }
 
 /// Takes a job away; 404 where there is none.
-fn remove_job<K: Keeper>(keeper: &mut K, id: u64) -> Result<Answer, AllocError>
+fn remove_job<K: Keeper>(keeper: &mut K, id: u64) -> Made
     ensures known { K.known keeper.new ≡ K.known keeper.old }
     ensures removes { IfOk result (RemovesJob id) }
 {
@@ -194,12 +164,7 @@ fn remove_job<K: Keeper>(keeper: &mut K, id: u64) -> Result<Answer, AllocError>
 }
 
 /// By the route of a job: an unknown job comes first, then a method that the route hasn't.
-fn serve_job<K: Keeper>(
-    keeper: &mut K,
-    call: &Call,
-    route: Route,
-    id: u64,
-) -> Result<Answer, AllocError>
+fn serve_job<K: Keeper>(keeper: &mut K, call: &Call, route: Route, id: u64) -> Made
     requires { heard.job_at route ≡ Some id }
     ensures known { K.known keeper.new ≡ K.known keeper.old }
     ensures answers { OfCall call.now (λ h q. IfOk result (λ a. ServesJob q route id a (spec.removes route q.method))) }
@@ -211,12 +176,7 @@ fn serve_job<K: Keeper>(
 }
 
 /// By the route, which is no job's, and whose method is one of its own.
-fn serve<K: Keeper>(
-    keeper: &mut K,
-    acts: &mut Acts,
-    call: &Call,
-    route: Route,
-) -> Result<Answer, AllocError>
+fn serve<K: Keeper>(keeper: &mut K, acts: &mut Acts, call: &Call, route: Route) -> Made
     requires of_none { heard.job_at route ≡ None }
     requires dropped { spec.feeds (Some route) call.now.head.method ≡ false }
     requires allowed { spec.allows route call.now.head.method ≡ true }
@@ -239,12 +199,7 @@ fn serve<K: Keeper>(
 
 /// The answer to a request whose body was dropped, or want of memory for it: an unknown job comes first, then a method that
 /// the route hasn't.
-pub fn respond<K: Keeper>(
-    keeper: &mut K,
-    acts: &mut Acts,
-    call: &Call,
-    route: Route,
-) -> Result<Answer, AllocError>
+pub fn respond<K: Keeper>(keeper: &mut K, acts: &mut Acts, call: &Call, route: Route) -> Made
     requires { spec.feeds (Some route) call.now.head.method ≡ false }
     ensures leads { Acted (K.known keeper.old) acts.old (K.known keeper.new) acts.new }
     ensures answers { OfCallTo route call.now

@@ -1,6 +1,5 @@
-use Rattle.std.proofs.Common.{◌≡◌, ◌∙◌, List, ℕ, IfOk, ap, subst}
-use Rattle.hls_serve_laws.specs.Queries.{query_in}
-use Rattle.hls_serve_laws.specs.Routes.{path_of, query_of, route_of}
+use Rattle.std.proofs.Common.{◌≡◌, ◌∙◌, ap}
+use Rattle.hls_serve_laws.specs.Routes.{path_of, route_of}
 use Rattle.hls_serve.proofs.call.read_call.Goals as goal
 
 pub returns : goal.returns
@@ -9,6 +8,5 @@ returns c = λ h is.
       text = c.args.text.now;
       head = is;
       route = c.route-route.ensures ∙ ap (route_of c.args.renditions) (c.split_target.ensures.path ∙ ap path_of target);
-      query = λ catch. subst (λ (text : List ℕ). IfOk c.query_for.result (λ query. query ≡ query_in text)) (c.split_target.ensures.query ∙ ap query_of target)
-          (c.query_for.ensures catch);
+      query = λ catch. rw (c.split_target.ensures.query, target) at (c.query_for.ensures catch);
     }

@@ -1,7 +1,5 @@
-use Rattle.std.proofs.Common.{inl, refl, subst}
-use Rattle.hls_core_laws.specs.State.{State}
+use Rattle.std.proofs.Common.{inl, refl}
 use Rattle.hls_core_laws.specs.Outcome.{Refused, Repeated}
-use Rattle.hls_core_laws.specs.Moves.{Moves}
 use Rattle.hls_serve.proofs.alone.Alone.take.Goals as goal
 
 pub returns-in-Err-clause-submits : goal.returns-in-Err-clause-submits
@@ -11,7 +9,7 @@ returns-in-Err-clause-submits c = record {
   outcome = Refused c.in-Err.refusal;
   follows = inl refl;
   entries = refl;
-  moves = subst (λ (s : State). Moves s c.args.self.now.number c.args.event (Refused c.in-Err.refusal) s) c.deref-2.ensures c.in-Err.ensures;
+  moves = rw c.deref-2.ensures at c.in-Err.ensures;
   answers = (refl, refl);
 }
 
@@ -20,7 +18,7 @@ returns-in-Err-clause-met c = record {
   met = c.args.self.now.snapshot.value;
   outcome = Refused c.in-Err.refusal;
   between = refl;
-  moves = subst (λ (s : State). Moves s c.args.self.now.number c.args.event (Refused c.in-Err.refusal) s) c.deref-2.ensures c.in-Err.ensures;
+  moves = rw c.deref-2.ensures at c.in-Err.ensures;
 }
 
 pub returns-in-Ok-Repeat-clause-submits : goal.returns-in-Ok-Repeat-clause-submits
@@ -30,6 +28,6 @@ returns-in-Ok-Repeat-clause-submits c = record {
   outcome = Repeated;
   follows = inl refl;
   entries = refl;
-  moves = subst (λ (s : State). Moves s c.args.self.now.number c.args.event Repeated s) c.deref-2.ensures (rw c.in-Ok-Repeat.field-0-is at c.in-Ok-Repeat.ensures);
+  moves = rw (c.in-Ok-Repeat.field-0-is, c.deref-2.ensures) at c.in-Ok-Repeat.ensures;
   answers = (refl, refl);
 }
