@@ -228,7 +228,7 @@ within_make {m} x =
     within m.acts at (inl (
       at.plan_is,
       inr (record {
-        whole = x.dropped.dropped.0;
+        whole = (x.dropped.dropped []).0;
         route = m.dropping.route;
         route_is = sym at.is_call.route ∙ x.dropped.route;
         answer = m.answer;

@@ -60,13 +60,10 @@ reply_due first a closing to_head = record { text = first ++ answer_text a closi
 abbrev pub memory_due : List ℕ → Bool → Due
 memory_due first to_head = record { text = first ++ no_memory_to to_head; closing = true; success = false }
 
-abbrev pub made_due : {E : Type 0} → List ℕ → Result Answer E → Bool → Bool → Due
-made_due first (Ok a) closing to_head = reply_due first a closing to_head
-made_due first (Err e) closing to_head = memory_due first to_head
-
--- that of the answer that was made, or of want of memory
+-- that of the answer that was made; or of want of memory, for it or for its text
 abbrev pub IsMade : {E : Type 0} → List ℕ → Result Answer E → Bool → Bool → Due → Type 0
-IsMade first made closing to_head due = (due ≡ made_due first made closing to_head) ⊎ (due ≡ memory_due first to_head)
+IsMade first (Ok a) closing to_head due = (due ≡ reply_due first a closing to_head) ⊎ (due ≡ memory_due first to_head)
+IsMade first (Err e) closing to_head due = due ≡ memory_due first to_head
 
 -- how a connection goes on behind a reply
 abbrev pub end_by : Bool → Bool → Option Ending

@@ -1,6 +1,6 @@
 -- For the proofs of this crate; no public clause cites it.
 -- A request whose body is being read, and what comes next of it.
-use Rattle.std.specs.Prelude.{◌≡◌, ℕ, ◌+◌, ◌<◌, false, not, List, [], ◌++◌, length, Option, Some, Result, Ok, Err}
+use Rattle.std.specs.Prelude.{◌≡◌, ℕ, ◌+◌, false, not, List, [], ◌++◌, length, Option, Some, Result, Ok, Err}
 use Rattle.httparse.specs.Grammar.{RequestHead}
 use Rattle.hls_feed.specs.Streams.{Reached}
 use Rattle.hls_http_laws.specs.declared.body.Body.{Body}
@@ -63,26 +63,20 @@ DropsBody d = feeds (Some d.route) d.call.head.method ≡ false
 
 -- a body of which no more comes is replied to where its framing is bad
 abbrev pub IsToDrop : Result (Unit {0}) DropEnd → Type 0
-IsToDrop (Ok done) = Unit {0}
-IsToDrop (Err drops.TooLarge) = Unit {0}
 IsToDrop (Err (drops.Stopped end)) = end ≡ bodies.BadFraming
+IsToDrop result = Unit {0}
 
+-- .. of which no more is read, whatever follows
 pub record IsDropped (count : ℕ) (stream first : List ℕ) (d : Dropping) (unread : List ℕ) (result : Result (Unit {0}) DropEnd) : Type 0 where
   pub at : HasBody count stream first d.call Skip d.body unread
   pub route : d.call.route ≡ Some d.route
-  pub dropped : Drops at.content d.body unread result
+  pub dropped : (later : List ℕ) → Drops at.content d.body (unread ++ later) result
   pub replied : IsToDrop result
 
 abbrev pub DropsOn : ℕ → List ℕ → List ℕ → Dropping → List ℕ → Next DropEnd → Type 0
 DropsOn count stream first d unread More = IsDropping count stream first d unread
-DropsOn count stream first d unread Wait = IsDropping count stream first d unread × (length unread < 16384) × IsOpen d.body unread
+DropsOn count stream first d unread Wait = IsDropping count stream first d unread × IsOpen d.body unread
 DropsOn count stream first d unread (Over result) = IsDropped count stream first d unread result
-
--- .. where no more of it is read
-abbrev pub IsToReply : {E : Type 0} → (Result (Unit {0}) E → Type 0) → Next E → Type 0
-IsToReply Is More = Unit {0}
-IsToReply Is Wait = Unit {0}
-IsToReply Is (Over result) = Is result
 
 -- what comes of it at a front, whatever came before
 abbrev pub DropsFrom : Dropping → List ℕ → Dropping → List ℕ → Next DropEnd → Type 0
@@ -96,20 +90,18 @@ pub record IsFeeding (count : ℕ) (stream first : List ℕ) (f : Feeding) (unre
   pub reached : Reached (PartComes f.rendition) begun at.content f.reader (progress_of f.taken)
 
 abbrev pub IsToFeed : Result (Unit {0}) Intake → Type 0
-IsToFeed (Ok done) = Unit {0}
-IsToFeed (Err (came.Refused fault)) = Unit {0}
-IsToFeed (Err came.Memory) = Unit {0}
 IsToFeed (Err (came.Stopped end)) = end ≡ bodies.BadFraming
+IsToFeed result = Unit {0}
 
 pub record IsFedUp (count : ℕ) (stream first : List ℕ) (f : Feeding) (unread : List ℕ) (result : Result (Unit {0}) Intake) : Type 0 where
   pub at : HasBody count stream first f.call Feed f.body unread
   pub route : f.call.route ≡ Some (routes.Ingest f.rendition)
-  pub comes : BodyComes f.rendition at.body at.content f.body unread (progress_of f.taken) (not (is_over f.body)) result
+  pub comes : (later : List ℕ) → BodyComes f.rendition at.body at.content f.body (unread ++ later) (progress_of f.taken) (not (is_over f.body)) result
   pub replied : IsToFeed result
 
 abbrev pub FeedsOn : ℕ → List ℕ → List ℕ → Feeding → List ℕ → Next Intake → Type 0
 FeedsOn count stream first f unread More = IsFeeding count stream first f unread
-FeedsOn count stream first f unread Wait = IsFeeding count stream first f unread × (length unread < 16384) × IsOpen f.body unread
+FeedsOn count stream first f unread Wait = IsFeeding count stream first f unread × IsOpen f.body unread
 FeedsOn count stream first f unread (Over result) = IsFedUp count stream first f unread result
 
 -- what comes of it at a front, whatever came before

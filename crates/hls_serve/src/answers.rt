@@ -3,7 +3,7 @@
 ghost use Rattle.std.specs.Prelude.{◌≡◌, ℕ, List, []};
 ghost use Rattle.hls_serve_laws.specs.Acts.{Acted};
 ghost use Rattle.hls_serve.specs.Told.{news_of};
-ghost use Rattle.hls_serve.specs.Within.{AnswersTo, DropsBody, IsDropped, IsFedUp, IsToDrop, IsToFeed, RepliesTo};
+ghost use Rattle.hls_serve.specs.Within.{AnswersTo, DropsBody, IsDropped, IsFedUp, RepliesTo};
 
 use crate::acts::Acts;
 use crate::dropping::Dropping;
@@ -34,7 +34,6 @@ pub(crate) fn answer_dropped<K: Keeper, O: Observer>(
     acts: &mut Acts,
     observer: &O,
 ) -> Answered
-    requires replied { IsToDrop dropped }
     requires dropped { DropsBody dropping.now }
     requires none { acts.old ≡ [] }
     ensures answers { (count : ℕ) (stream first unread : List ℕ) → IsDropped count stream first dropping.now unread dropped
@@ -85,7 +84,6 @@ pub(crate) fn answer_fed<O: Observer>(
     fed: Result<(), Intake>,
     observer: &O,
 ) -> Reply
-    requires replied { IsToFeed fed }
     ensures { (count : ℕ) (stream first unread : List ℕ) → IsFedUp count stream first feeding.now unread fed
         → RepliesTo count stream first feeding.now.taken.acts unread result.output result.end }
 {

@@ -1,8 +1,8 @@
 //! A body that is dropped.
 
-ghost use Rattle.std.specs.Prelude.{◌≡◌, ◌≢◌, ◌<◌, ℕ, List, length};
+ghost use Rattle.std.specs.Prelude.{◌≡◌, ◌<◌, length};
 ghost use Rattle.hls_serve.specs.declared.next.Next.TheVariants as nexts;
-ghost use Rattle.hls_serve.specs.Within.{DropsFrom, IsToDrop, IsToReply};
+ghost use Rattle.hls_serve.specs.Within.{DropsFrom};
 
 use crate::call::Call;
 use crate::next::Next;
@@ -19,27 +19,16 @@ pub(crate) struct Dropping {
 }
 
 impl Dropping {
-    /// The body's end.
-    fn over(&self) -> Next<DropEnd>
-        requires over { self.now.body ≡ Body.Length 0 }
-        ensures ends { result ≢ nexts.Wait }
-        ensures replied { IsToReply IsToDrop result }
-        ensures drops { (unread : List ℕ) → DropsFrom self.now unread self.now unread result }
-    {
-        Next::Over(Ok(()))
-    }
-
     /// Drops what stands at the input's front.
     pub fn step(&mut self, input: &mut Input) -> Next<DropEnd>
         ensures drops { DropsFrom self.old input.old.unread self.new input.new.unread result }
-        ensures replied { IsToReply IsToDrop result }
         ensures waits { result ≡ nexts.Wait → length input.new.unread < 16384 }
         ensures room { input.new.room ≡ input.old.room }
         ensures call { self.new.call ≡ self.old.call }
         ensures route { self.new.route ≡ self.old.route }
     {
         if self.body == Body::Length(0) {
-            return self.over();
+            return Next::Over(Ok(()));
         }
         match find_move(input.unread(), self.body) {
             Ok(Move::Piece(len, next)) => {

@@ -1,12 +1,11 @@
 //! An encoder's body, taken part by part as it comes.
 
-ghost use Rattle.std.specs.Prelude.{◌≡◌, ◌≢◌, ◌<◌, ◌≤◌, ℕ, List, length, take, drop};
-ghost use Rattle.hls_http_laws.specs.Bodies.{Steps};
-ghost use Rattle.hls_http.specs.Bodies.{IsLastAlone};
+ghost use Rattle.std.specs.Prelude.{◌≡◌, ◌<◌, ℕ, List, length};
+ghost use Rattle.hls_http.specs.Bodies.{StepsTo};
 ghost use Rattle.hls_serve_laws.specs.Acts.{Acted};
 ghost use Rattle.hls_serve.specs.Taken.{IsUsable};
 ghost use Rattle.hls_serve.specs.declared.next.Next.TheVariants as nexts;
-ghost use Rattle.hls_serve.specs.Within.{FeedsFrom, IsToFeed, IsToReply};
+ghost use Rattle.hls_serve.specs.Within.{FeedsFrom};
 
 use crate::call::Call;
 use crate::ingest::{Encoder, Taken};
@@ -28,16 +27,14 @@ pub(crate) struct Feeding {
 }
 
 impl Feeding {
-    /// The body's end.
-    fn over(&self) -> Next<Intake>
-        requires over { self.now.body ≡ Body.Length 0 }
-        ensures ends { result ≢ nexts.Wait }
-        ensures replied { IsToReply IsToFeed result }
-        ensures feeds { (unread : List ℕ) → FeedsFrom self.now unread self.now unread result }
+    /// What comes of it at the body's end.
+    fn over(&self) -> Result<(), Intake>
+        requires { self.now.body ≡ Body.Length 0 }
+        ensures { (unread : List ℕ) → FeedsFrom self.now unread self.now unread (nexts.Over result) }
     {
         match end(&self.reader) {
-            Ok(()) => Next::Over(Ok(())),
-            Err(fault) => Next::Over(Err(Intake::Refused(fault))),
+            Ok(()) => Ok(()),
+            Err(fault) => Err(Intake::Refused(fault)),
         }
     }
 
@@ -50,18 +47,12 @@ impl Feeding {
         next: Body,
     ) -> Next<Intake>
         requires usable { IsUsable self.old.rendition (K.known keeper.old) self.old.taken.init }
-        requires within { len ≤ length input.old.unread }
-        requires some { 0 < len }
-        requires steps { Steps self.old.body input.old.unread (take len input.old.unread) next (drop len input.old.unread) }
-        requires alone { IsLastAlone self.old.body next }
+        requires found { StepsTo self.old.body input.old.unread (Move.Piece len next) }
         ensures usable { IsUsable self.new.rendition (K.known keeper.new) self.new.taken.init }
-        ensures replied { IsToReply IsToFeed result }
         ensures waits { result ≡ nexts.Wait → length input.new.unread < 16384 }
         ensures leads { Acted (K.known keeper.old) self.old.taken.acts (K.known keeper.new) self.new.taken.acts }
         ensures feeds { FeedsFrom self.old input.old.unread self.new input.new.unread result }
         ensures room { input.new.room ≡ input.old.room }
-        ensures call { self.new.call ≡ self.old.call }
-        ensures rendition { self.new.rendition ≡ self.old.rendition }
     {
         let encoder: Encoder<K> = Encoder::new(self.rendition);
         let piece = &input.unread()[..len];
@@ -78,16 +69,13 @@ impl Feeding {
     pub fn step<K: Keeper>(&mut self, input: &mut Input, keeper: &mut K) -> Next<Intake>
         requires usable { IsUsable self.old.rendition (K.known keeper.old) self.old.taken.init }
         ensures usable { IsUsable self.new.rendition (K.known keeper.new) self.new.taken.init }
-        ensures replied { IsToReply IsToFeed result }
         ensures waits { result ≡ nexts.Wait → length input.new.unread < 16384 }
         ensures leads { Acted (K.known keeper.old) self.old.taken.acts (K.known keeper.new) self.new.taken.acts }
         ensures feeds { FeedsFrom self.old input.old.unread self.new input.new.unread result }
         ensures room { input.new.room ≡ input.old.room }
-        ensures call { self.new.call ≡ self.old.call }
-        ensures rendition { self.new.rendition ≡ self.old.rendition }
     {
         if self.body == Body::Length(0) {
-            return self.over();
+            return Next::Over(self.over());
         }
         match find_move(input.unread(), self.body) {
             Ok(Move::Piece(len, next)) => self.piece(input, keeper, len, next),

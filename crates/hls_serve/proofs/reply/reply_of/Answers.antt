@@ -1,19 +1,29 @@
-use Rattle.std.proofs.Common.{◌∙◌, ap}
-use Rattle.hls_serve.specs.Turns.{end_by}
+use Rattle.std.proofs.Common.{◌∙◌, ap, inl, refl}
 use Rattle.hls_http_laws.specs.Reply.{is_success}
-use Rattle.hls_serve.proofs.TurnLaws.{made_replies, memory_replies}
+use Rattle.hls_serve.specs.Turns.{end_by, memory_due, reply_due}
+use Rattle.hls_serve.proofs.TurnLaws.{memory_made}
 use Rattle.hls_serve.proofs.reply.reply_of.Goals as goal
 
 pub returns-in_default : goal.returns-in_default
-returns-in_default c = λ first.
-    memory_replies first c.args.made c.args.closing c.args.to_head c.no_memory.result.output c.no_memory.result.end c.no_memory.ensures.text c.no_memory.ensures.end
+returns-in_default c = λ first. record {
+  due = memory_due first c.args.to_head;
+  is = memory_made first c.args.made c.args.closing c.args.to_head;
+  text_is = cc;
+  ends = c.no_memory.ensures.end;
+}
 
 pub returns-in-Ok-output_of : goal.returns-in-Ok-output_of
-returns-in-Ok-output_of c = λ first.
-    let success = c.is_success-success.ensures ∙ ap is_success c.status.ensures in
-    made_replies first c.args.made c.in-Ok.answer c.args.closing c.args.to_head c.in-Ok-output_of.output c.end_behind.result c.in-Ok.is c.in-Ok-output_of.ensures
-    (c.end_behind.ensures ∙ ap (end_by c.args.closing) success)
+returns-in-Ok-output_of c = λ first. record {
+  due = reply_due first c.in-Ok.answer c.args.closing c.args.to_head;
+  is = rw c.in-Ok.is (inl refl);
+  text_is = cc c.in-Ok-output_of.ensures;
+  ends = c.end_behind.ensures ∙ ap (end_by c.args.closing) (c.is_success-success.ensures ∙ ap is_success c.status.ensures);
+}
 
 pub returns-in-Err : goal.returns-in-Err
-returns-in-Err c = λ first.
-    memory_replies first c.args.made c.args.closing c.args.to_head c.no_memory-in-Err.result.output c.no_memory-in-Err.result.end c.no_memory-in-Err.ensures.text c.no_memory-in-Err.ensures.end
+returns-in-Err c = λ first. record {
+  due = memory_due first c.args.to_head;
+  is = memory_made first c.args.made c.args.closing c.args.to_head;
+  text_is = cc;
+  ends = c.no_memory-in-Err.ensures.end;
+}

@@ -10,7 +10,7 @@ returns-in-More-clause-goes g c = λ received sent h. stands_so c.put.ensures h 
 
 pub returns-then-ended-clause-goes : goal.returns-then-ended-clause-goes
 returns-then-ended-clause-goes g c = λ received sent h.
-    let w = c.in-Wait.ensures.drops c.args.self.now.renditions h.rest h.text h.stands.0 in drop_cut c.put-then-ended.ensures c.if-ended.true h w.0 w.2
+    let w = c.in-Wait.ensures.drops c.args.self.now.renditions h.rest h.text h.stands.0 in drop_cut c.put-then-ended.ensures c.if-ended.true h w.0 w.1
 
 pub returns-else-ended-clause-goes : goal.returns-else-ended-clause-goes
 returns-else-ended-clause-goes g c = λ received sent h.
@@ -18,9 +18,6 @@ returns-else-ended-clause-goes g c = λ received sent h.
 
 pub returns-else-ended-clause-rests : goal.returns-else-ended-clause-rests
 returns-else-ended-clause-rests g c = λ stops. inr (inr (search rules, c.step.ensures.waits c.in-Wait.is))
-
-pub answer_dropped-requires-clause-replied : goal.answer_dropped-requires-clause-replied
-answer_dropped-requires-clause-replied g c = c.in-Over.ensures.replied
 
 pub returns-in-Now-clause-goes : goal.returns-in-Now-clause-goes
 returns-in-Now-clause-goes g c = λ received sent h.

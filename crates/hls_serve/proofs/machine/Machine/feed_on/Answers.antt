@@ -13,7 +13,7 @@ returns-then-ended-clause-goes g c = λ received sent h.
     let m = c.args.self.now in
     let w = c.in-Wait.ensures.feeds m.renditions h.rest h.text h.stands.0 in
     holds_at (record m { state = c.put-then-ended.new.place; asked = c.and-self.result }) refl refl (asked_more m.asked.items c.and-self.result.items _ _ c.and-self.ensures) refl
-    (feed_cut c.put-then-ended.ensures c.if-ended.true h w.0 w.2)
+    (feed_cut c.put-then-ended.ensures c.if-ended.true h w.0 w.1)
 
 pub returns-else-ended-clause-goes : goal.returns-else-ended-clause-goes
 returns-else-ended-clause-goes g c = λ received sent h.
@@ -21,9 +21,6 @@ returns-else-ended-clause-goes g c = λ received sent h.
 
 pub returns-else-ended-clause-rests : goal.returns-else-ended-clause-rests
 returns-else-ended-clause-rests g c = λ stops. inr (inr (search rules, c.step.ensures.waits c.in-Wait.is))
-
-pub answer_fed-made-requires : goal.answer_fed-made-requires
-answer_fed-made-requires g c = record { replied = c.in-Over.ensures.replied }
 
 pub returns-in-Over-clause-goes : goal.returns-in-Over-clause-goes
 returns-in-Over-clause-goes g c = λ received sent h.
