@@ -124,6 +124,13 @@ abbrev pub failure_in : State → Option News
 failure_in (states.Feed f) = Some (news_of f (Err (came.Stopped bodies.ReadFailed)))
 failure_in state = None
 
+-- nothing was asked for what is looked at now, and a keeper that has seen a state suits it
+pub record AsksNothing (old new : Machine) : Type 0 where
+  pub asked : new.asked ≡ old.asked
+  pub renditions : new.renditions ≡ old.renditions
+  pub fresh : asked_now new.state ≡ []
+  pub suits : (known : Known) → IsState known.seen → SuitsIn known new.state
+
 -- ---- where nothing more can be done
 
 abbrev pub state_behind : Option Ending → State

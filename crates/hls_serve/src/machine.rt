@@ -6,7 +6,7 @@ ghost use Rattle.hls_core_laws.specs.IsState.{IsState};
 ghost use Rattle.hls_core_laws.specs.Known.{Known};
 ghost use Rattle.hls_serve_laws.specs.Acts.{Acted};
 ghost use Rattle.hls_serve.specs.declared.machine.State.TheVariants as states;
-ghost use Rattle.hls_serve.specs.Machine.{Goes, GoesBehind, GoesFrom, GoesOnIn, Refuses, Rests, Suits, SuitsIn, asked_in, asked_now, failure_in, state_behind, total, waited_head};
+ghost use Rattle.hls_serve.specs.Machine.{AsksNothing, Goes, GoesBehind, GoesFrom, GoesOnIn, Refuses, Rests, Suits, SuitsIn, asked_in, asked_now, failure_in, state_behind, total, waited_head};
 ghost use Rattle.httparse.specs.Grammar.{RequestHead};
 ghost use Rattle.hls_serve_laws.specs.Heard.{first_of};
 ghost use Rattle.hls_serve.specs.Taken.{IsUsable};
@@ -84,10 +84,7 @@ impl Machine {
     fn answer(&mut self, made: Reply)
         ensures output { self.new.output ≡ made.output }
         ensures state { self.new.state ≡ state_behind made.end }
-        ensures asked { self.new.asked ≡ self.old.asked }
-        ensures renditions { self.new.renditions ≡ self.old.renditions }
-        ensures fresh { asked_now self.new.state ≡ [] }
-        ensures usable { (known : Known) → SuitsIn known self.new.state }
+        ensures asks { AsksNothing self.old self.new }
     {
         put(&mut self.output, made.output);
         let next = behind(made.end);
@@ -99,10 +96,7 @@ impl Machine {
         requires head { self.old.state ≡ State.Head }
         requires sent { length self.old.output ≡ 0 }
         ensures goes { (ended : Bool) (unread : List ℕ) → Refuses fault unread → Goes ended self.old unread self.new unread }
-        ensures asked { self.new.asked ≡ self.old.asked }
-        ensures renditions { self.new.renditions ≡ self.old.renditions }
-        ensures fresh { asked_now self.new.state ≡ [] }
-        ensures usable { (known : Known) → SuitsIn known self.new.state }
+        ensures asks { AsksNothing self.old self.new }
     {
         let made = refuse_head(alloc, observer, fault);
         self.answer(made);
@@ -145,10 +139,7 @@ impl Machine {
     fn follow<O: Observer>(&mut self, alloc: Global, observer: &O, call: Call)
         requires sent { length self.old.output ≡ 0 }
         ensures goes { (ended : Bool) (unread : List ℕ) → GoesBehind call ended self.old self.new unread }
-        ensures asked { self.new.asked ≡ self.old.asked }
-        ensures renditions { self.new.renditions ≡ self.old.renditions }
-        ensures fresh { asked_now self.new.state ≡ [] }
-        ensures usable { (known : Known) → IsState known.seen → SuitsIn known self.new.state }
+        ensures asks { AsksNothing self.old self.new }
     {
         let plan = plan_of(&call);
         match plan {
@@ -198,10 +189,7 @@ impl Machine {
         requires sent { length self.old.output ≡ 0 }
         ensures goes { Goes ended self.old input.old.unread self.new input.new.unread }
         ensures room { input.new.room ≡ input.old.room }
-        ensures asked { self.new.asked ≡ self.old.asked }
-        ensures renditions { self.new.renditions ≡ self.old.renditions }
-        ensures fresh { asked_now self.new.state ≡ [] }
-        ensures usable { (known : Known) → IsState known.seen → SuitsIn known self.new.state }
+        ensures asks { AsksNothing self.old self.new }
         ensures rests { IsFalse result → Rests ended self.new input.new.unread }
     {
         match find_head(input.unread()) {
@@ -237,7 +225,7 @@ impl Machine {
         ensures asked { asked_in self.new ≡ asked_in self.old ++ acts.now }
         ensures total { total self.new ≡ asked_in self.old ++ acts.now }
         ensures renditions { self.new.renditions ≡ self.old.renditions }
-        ensures usable { (known : Known) → SuitsIn known self.new.state }
+        ensures suits { (known : Known) → IsState known.seen → SuitsIn known self.new.state }
     {
         self.asked = self.asked.and(acts, &());
         self.answer(made);
@@ -246,7 +234,7 @@ impl Machine {
     /// Goes on with a body that is dropped.
     fn drop_on<K: Keeper, O: Observer>(
         &mut self,
-        dropping: Dropping,
+        mut dropping: Dropping,
         input: &mut Input,
         ended: bool,
         keeper: &mut K,
@@ -262,7 +250,6 @@ impl Machine {
         ensures suits { Suits (K.known keeper.new) self.new }
         ensures rests { IsFalse result → Rests ended self.new input.new.unread }
     {
-        let mut dropping = dropping;
         match dropping.step(input) {
             Next::More => {
                 put(&mut self.state, State::Drop(dropping));
@@ -300,7 +287,7 @@ impl Machine {
         ensures goes { (ended : Bool) (unread : List ℕ) → GoesFrom (states.Make making) ended self.old unread self.new unread }
         ensures leads { (known : Known) → Acted known (asked_in self.old ++ making.acts) known (total self.new) }
         ensures renditions { self.new.renditions ≡ self.old.renditions }
-        ensures usable { (known : Known) → SuitsIn known self.new.state }
+        ensures suits { (known : Known) → IsState known.seen → SuitsIn known self.new.state }
         ensures goes_on { result ≡ true }
     {
         let Making {
@@ -333,7 +320,7 @@ impl Machine {
     /// Goes on with an encoder's body.
     fn feed_on<K: Keeper, O: Observer>(
         &mut self,
-        feeding: Feeding,
+        mut feeding: Feeding,
         input: &mut Input,
         ended: bool,
         keeper: &mut K,
@@ -348,7 +335,6 @@ impl Machine {
         ensures suits { Suits (K.known keeper.new) self.new }
         ensures rests { IsFalse result → Rests ended self.new input.new.unread }
     {
-        let mut feeding = feeding;
         match feeding.step(input, keeper) {
             Next::More => {
                 put(&mut self.state, State::Feed(feeding));

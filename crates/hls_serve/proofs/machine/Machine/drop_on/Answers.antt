@@ -28,7 +28,7 @@ returns-in-Now-clause-goes g c = λ received sent h.
 pub returns-in-Now-clause-suits : goal.returns-in-Now-clause-suits
 returns-in-Now-clause-suits g c =
     let b = g.K.Keeper.known c.answer_dropped.new.keeper in
-    (valid_acted (g.K.Keeper.known c.args.keeper.now) b [] _ c.answer_dropped.ensures.leads c.requires.valid, c.close.ensures.usable b)
+    let valid = valid_acted (g.K.Keeper.known c.args.keeper.now) b [] _ c.answer_dropped.ensures.leads c.requires.valid in (valid, c.close.ensures.suits b valid)
 
 pub returns-in-Later-clause-goes : goal.returns-in-Later-clause-goes
 returns-in-Later-clause-goes g c = λ received sent h.

@@ -58,7 +58,7 @@ pub returns-else-ended-clause-suits : goal.returns-else-ended-clause-suits
 returns-else-ended-clause-suits g c = let u = c.step.ensures.usable in (u.valid, suits_as _ c.put-in-Wait.ensures u)
 
 pub returns-in-Over-clause-suits : goal.returns-in-Over-clause-suits
-returns-in-Over-clause-suits g c = (c.step.ensures.usable.valid, c.close.ensures.usable (g.K.Keeper.known c.step.new.keeper))
+returns-in-Over-clause-suits g c = let valid = c.step.ensures.usable.valid in (valid, c.close.ensures.suits (g.K.Keeper.known c.step.new.keeper) valid)
 
 pub returns-then-ended-clause-rests : goal.returns-then-ended-clause-rests
 returns-then-ended-clause-rests g c = λ stops. inr (inl (subst (λ (s : State). IsOver (stage_of s)) (sym c.put-then-ended.ensures) tt))

@@ -15,7 +15,7 @@ returns-in-Refuse-clause-goes g c = λ ended unread received sent x.
     let plan = sym (c.plan_of-plan.ensures.plan c.args.self.now.renditions x.head x.is_call) ∙ c.in-Refuse.is in
     let r = subst (λ (p : Plan). Replies (IsDue x.head p (fault_answer c.in-Refuse.fault) c.in-Refuse.closing) c.refuse-made.result.output c.refuse-made.result.end (first_of x.head p))
     c.in-Refuse.is (c.refuse-made.ensures c.args.self.now.renditions x.head c.plan_of-plan.result x.is_call) in
-    holds_at c.answer.new.self c.answer.ensures.renditions c.answer.ensures.state (asked_nothing c.args.self.now c.answer.new.self c.answer.ensures.asked) c.answer.ensures.output
+    holds_at c.answer.new.self c.answer.ensures.asks.renditions c.answer.ensures.state (asked_nothing c.args.self.now c.answer.new.self c.answer.ensures.asks.asked) c.answer.ensures.output
     (refuses x c.in-Refuse.fault c.in-Refuse.closing c.refuse-made.result.output c.refuse-made.result.end plan r)
 
 pub returns-in-Some-Ingest-clause-goes : goal.returns-in-Some-Ingest-clause-goes

@@ -38,9 +38,3 @@ returns-in-Err-Partial-clause-goes g c = λ received sent h.
     let unfinished = rw (c.in-Err-Partial.field-0-is, c.unread.ensures.unread) at c.in-Err-Partial.ensures in
     holds_at n is.renditions is.state (asked_same m n is.asked) is.output
     (stands_so refl at (head_waits c.is_empty-empty.result c.args.ended m.renditions at.rest at.acts at.text unread (sym empty) unfinished at.stands))
-
-pub returns-in-Err-Hopeless-clause-usable : goal.returns-in-Err-Hopeless-clause-usable
-returns-in-Err-Hopeless-clause-usable g c = λ known valid. c.refuse.ensures.usable known
-
-pub returns-in-Err-TooLarge-clause-usable : goal.returns-in-Err-TooLarge-clause-usable
-returns-in-Err-TooLarge-clause-usable g c = λ known valid. c.refuse-in-Err-TooLarge.ensures.usable known

@@ -12,4 +12,4 @@ returns-in-Make-clause-leads g c =
     subst (λ (s : State). Acted a (asked_in c.args.self.now ++ asked_now s) a (total c.make_on.new.self)) (sym is) (c.make_on.ensures.leads a)
 
 pub returns-in-Make-clause-suits : goal.returns-in-Make-clause-suits
-returns-in-Make-clause-suits g c = (c.requires.suits.0, c.make_on.ensures.usable (g.K.Keeper.known c.args.keeper.now))
+returns-in-Make-clause-suits g c = (c.requires.suits.0, c.make_on.ensures.suits (g.K.Keeper.known c.args.keeper.now) c.requires.suits.0)
