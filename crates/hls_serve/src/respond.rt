@@ -1,12 +1,7 @@
 //! What a request whose body was dropped comes to.
 
 ghost use Rattle.std.specs.Prelude.{◌≡◌, Some, None, IfOk, true, false};
-ghost use Rattle.httparse.specs.Grammar.{RequestHead};
-ghost use Rattle.hls_http_laws.specs.declared.fault.HttpFault.TheVariants as http;
-ghost use Rattle.hls_serve_laws.specs.Heard.{AddsJob, AsksFor, CatchesUp, Finishes, RemovesJob, Serves, ServesJob, ShowsJob, ShowsState, ShowsStatus, asks_of, shown_if};
-ghost use Rattle.hls_serve_laws.specs.Replies as replies;
-ghost use Rattle.hls_serve_laws.specs.Playlists.{live_master_text, live_text};
-ghost use Rattle.hls_serve_laws.specs.Replies.{playlist_answer};
+ghost use Rattle.hls_serve_laws.specs.Heard.{AddsJob, AsksFor, CatchesUp, Finishes, RemovesJob, Serves, ServesJob, ShowsJob, shown_if};
 ghost use Rattle.hls_serve_laws.specs.Routes as spec;
 ghost use Rattle.hls_serve_laws.specs.Heard as heard;
 ghost use Rattle.hls_serve_laws.specs.Acts.{Acted};
@@ -33,41 +28,6 @@ use hls_serve_laws::route::Route;
 use hls_serve_laws::wanted::Wanted;
 use std::alloc::{AllocError, Global};
 use std::sync::Arc;
-
-fn show_master<K: Keeper>(keeper: &mut K, acts: &mut Acts) -> Made
-    ensures leads { Acted (K.known keeper.old) acts.old (K.known keeper.new) acts.new }
-    ensures answers { MakesBy (λ a b. ShowsState a b (λ s. playlist_answer (live_master_text s))) acts.old acts.new result }
-{
-    let state = look(keeper, acts)?;
-    master_answer(keeper.alloc(), &state)
-}
-
-fn show_list<K: Keeper>(keeper: &mut K, acts: &mut Acts, rendition: usize) -> Made
-    ensures leads { Acted (K.known keeper.old) acts.old (K.known keeper.new) acts.new }
-    ensures answers { MakesBy (λ a b. ShowsState a b (λ s. replies.list_answer (live_text s rendition)))
-        acts.old acts.new result }
-{
-    let state = look(keeper, acts)?;
-    keeper.list(state, rendition)
-}
-
-fn show_media<K: Keeper>(keeper: &mut K, acts: &mut Acts, rendition: usize, asked: Asked) -> Made
-    ensures leads { Acted (K.known keeper.old) acts.old (K.known keeper.new) acts.new }
-    ensures answers { MakesBy (λ a b. ShowsState a b (λ s. replies.media_answer s rendition asked))
-        acts.old acts.new result }
-{
-    let state = look(keeper, acts)?;
-    media_answer(keeper.alloc(), state, rendition, asked)
-}
-
-fn show_status<K: Keeper>(keeper: &mut K, acts: &mut Acts) -> Made
-    ensures leads { Acted (K.known keeper.old) acts.old (K.known keeper.new) acts.new }
-    ensures answers { MakesBy ShowsStatus acts.old acts.new result }
-{
-    let state = look(keeper, acts)?;
-    let jobs = keeper.jobs();
-    status_answer(keeper.alloc(), &state, jobs)
-}
 
 /// The end of a rendition.
 fn finish<K: Keeper>(keeper: &mut K, acts: &mut Acts, rendition: usize) -> Made
@@ -175,7 +135,8 @@ fn serve_job<K: Keeper>(keeper: &mut K, call: &Call, route: Route, id: u64) -> M
     show_job(keeper, call, route, id)
 }
 
-/// By the route, which is no job's, and whose method is one of its own.
+/// By the route, which is no job's, and whose method is one of its own: by what ends a rendition or asks for a recording, or what
+/// the state is shown as.
 fn serve<K: Keeper>(keeper: &mut K, acts: &mut Acts, call: &Call, route: Route) -> Made
     requires of_none { heard.job_at route ≡ None }
     requires dropped { spec.feeds (Some route) call.now.head.method ≡ false }
@@ -185,12 +146,21 @@ fn serve<K: Keeper>(keeper: &mut K, acts: &mut Acts, call: &Call, route: Route) 
         (λ h q. MakesBy (λ a b answer. Serves q route a answer b) acts.old acts.new result) }
 {
     match route {
-        Route::Finish(rendition) => finish(keeper, acts, rendition),
-        Route::LiveMaster => show_master(keeper, acts),
-        Route::LiveList(rendition) => show_list(keeper, acts, rendition),
-        Route::Media(rendition) => show_media(keeper, acts, rendition, range_of(call)),
-        Route::CatchUp => catch_up(keeper, acts, call.query),
-        Route::Status => show_status(keeper, acts),
+        Route::Finish(rendition) => return finish(keeper, acts, rendition),
+        Route::CatchUp => return catch_up(keeper, acts, call.query),
+        _ => {}
+    }
+    let state = look(keeper, acts)?;
+    match route {
+        Route::LiveMaster => master_answer(keeper.alloc(), &state),
+        Route::LiveList(rendition) => keeper.list(state, rendition),
+        Route::Media(rendition) => media_answer(keeper.alloc(), state, rendition, range_of(call)),
+        Route::Status => {
+            let jobs = keeper.jobs();
+            status_answer(keeper.alloc(), &state, jobs)
+        }
+        Route::Finish(_) => unreachable!(),
+        Route::CatchUp => unreachable!(),
         Route::Ingest(_) => unreachable!(),
         Route::Job(_) => unreachable!(),
         Route::JobFile(_, _) => unreachable!(),
