@@ -1,12 +1,11 @@
 -- A request is heard once no more of its body is read.
-use Rattle.std.proofs.Common.{◌≡◌, ◌∙◌, ℕ, not, List, ◌++◌, Option, Some, Result, refl, sym, subst}
+use Rattle.std.proofs.Common.{◌∙◌, ℕ, not, List, ◌++◌, Option, Result, refl, sym, subst}
 use Rattle.hls_http_laws.specs.declared.body.Body.{Body}
 use Rattle.hls_http_laws.specs.declared.plan.Plan.{Plan}
 use Rattle.hls_http_laws.specs.Order.{is_over}
 use Rattle.hls_http.specs.declared.drain.DropEnd.{DropEnd}
 use Rattle.hls_serve_laws.specs.declared.ingest.Intake.{Intake}
 use Rattle.hls_serve_laws.specs.declared.route.Route.{Route}
-use Rattle.hls_serve_laws.specs.declared.route.Route.TheVariants as routes
 use Rattle.hls_serve_laws.specs.Acts.{Act}
 use Rattle.hls_serve_laws.specs.Heard.{Due, FeedsBy, FollowsBy, Heard, IsFed, IsSkipped, SkipsBy, first_of, request_of}
 use Rattle.hls_serve.specs.declared.call.Call.{Call}

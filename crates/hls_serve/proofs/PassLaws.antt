@@ -20,20 +20,15 @@ use Rattle.hls_serve_laws.specs.Ingest.{Progress, FindsInit, PartComes}
 use Rattle.hls_serve_laws.proofs.Callers.{acted_follows}
 use Rattle.hls_serve.specs.declared.machine.State as states
 use Rattle.hls_serve.specs.Machine.{asked_now}
-use Rattle.hls_serve.specs.Taken.{Finds, HasInit, IsUsable, told_as}
+use Rattle.hls_serve.specs.Taken.{Finds, IsUsable, told_as}
 
 -- ---- what acts lead to
-
-has_still : (a b : State) (r : ℕ) (init : InitData) → Follows a b → HasInit a r init → HasInit b r init
-has_still a b r init follows has =
-    let w = inits_stay a b follows r has.lane init has.at has.init_is in
-    record { lane = w.0; at = w.1; init_is = w.2 }
 
 -- the init section that was found is still there
 pub usable_after : (r : ℕ) (a b : Known) (found : Option InitData) → IsState b.seen → Follows a.seen b.seen → IsUsable r a found → IsUsable r b found
 usable_after r a b found valid follows usable = record {
   valid = valid;
-  has = λ init is. has_still a.seen b.seen r init follows (usable.has init is);
+  has = λ init is. let has = usable.has init is in let w = inits_stay a.seen b.seen follows r has.lane init has.at has.init_is in record { lane = w.0; at = w.1; init_is = w.2 };
 }
 
 pub usable_acted : (r : ℕ) (a b : Known) (before after : List Act) (found : Option InitData) → Acted a before b after → IsUsable r a found → IsUsable r b found

@@ -5,7 +5,7 @@ use Rattle.hls_http_laws.specs.declared.fault.HttpFault.{HttpFault}
 use Rattle.hls_http_laws.specs.declared.fault.HttpFault.TheVariants as faults
 use Rattle.hls_http_laws.specs.declared.plan.Plan.{Plan}
 use Rattle.hls_http_laws.specs.Order.{says_close}
-use Rattle.hls_http_laws.specs.Reply.{fault_status, is_success}
+use Rattle.hls_http_laws.specs.Reply.{fault_status, is_success, no_memory_to}
 use Rattle.hls_core_laws.specs.declared.event.Event.TheVariants.{Finish}
 use Rattle.hls_core_laws.specs.declared.refusal.Refusal.{Refusal}
 use Rattle.hls_core_laws.specs.declared.refusal.Refusal.TheVariants.{Memory}
@@ -19,7 +19,7 @@ use Rattle.hls_serve_laws.specs.Heard.{Asks, Due, Request, Finishes, IsDue, IsDu
 use Rattle.hls_serve_laws.specs.Replies.{Answer, answer_text, fault_answer, finish_answer}
 use Rattle.hls_serve_laws.specs.Routes.{allows, removes}
 use Rattle.hls_serve.specs.declared.ending.Ending.{Ending}
-use Rattle.hls_serve.specs.Turns.{IsMade, IsResponse, Makes, Replies, memory_due, reply_due}
+use Rattle.hls_serve.specs.Turns.{IsMade, IsResponse, Makes, Replies, end_by, memory_due, reply_due}
 use Rattle.hls_serve.proofs.PassLaws.{nothing_asked}
 
 -- ---- replies
@@ -30,10 +30,11 @@ replies_by {text} is map r = record { due = r.due; is = map r.due r.is; text_is 
 pub replies_as : (P Q : Due → Type 0) (text : List ℕ) (end : Option Ending) (first : List ℕ) → ((due : Due) → P due → Q due) → Replies P text end first → Replies Q text end first
 replies_as P Q text end first map r = replies_by refl map r
 
--- want of memory, whatever was made
-pub memory_made : {E : Type 0} (first : List ℕ) (made : Result Answer E) (closing head : Bool) → IsMade first made closing head (memory_due first head)
-memory_made first (Ok a) closing head = inr refl
-memory_made first (Err e) closing head = refl
+-- to want of memory, whatever was made
+pub memory_replies : {E : Type 0} (first : List ℕ) (made : Result Answer E) (closing head : Bool) {text : List ℕ} {end : Option Ending} → text ≡ no_memory_to head → end ≡ end_by true false
+    → Replies (IsMade first made closing head) text end first
+memory_replies first (Ok a) closing head says ends = record { due = memory_due first head; is = inr refl; text_is = cc; ends = ends }
+memory_replies first (Err e) closing head says ends = record { due = memory_due first head; is = refl; text_is = cc; ends = ends }
 
 -- ---- what is due of an answer
 

@@ -6,7 +6,7 @@ ghost use Rattle.hls_core_laws.specs.IsState.{IsState};
 ghost use Rattle.hls_core_laws.specs.Known.{Known};
 ghost use Rattle.hls_serve_laws.specs.Acts.{Acted};
 ghost use Rattle.hls_serve.specs.declared.machine.State.TheVariants as states;
-ghost use Rattle.hls_serve.specs.Machine.{AsksNothing, Goes, GoesBehind, GoesFrom, GoesOnIn, Refuses, Rests, Suits, SuitsIn, asked_in, asked_now, failure_in, state_behind, total, waited_head};
+ghost use Rattle.hls_serve.specs.Machine.{AsksNothing, Goes, GoesBehind, GoesFrom, GoesOnIn, Refuses, Rests, Suits, SuitsIn, asked_in, failure_in, state_behind, total, waited_head};
 ghost use Rattle.httparse.specs.Grammar.{RequestHead};
 ghost use Rattle.hls_serve_laws.specs.Heard.{first_of};
 ghost use Rattle.hls_serve.specs.Taken.{IsUsable};

@@ -17,6 +17,7 @@ use hls_http::{HttpFault, Method, says_close};
 use hls_http_laws::reply::{Status, no_memory_head_text, no_memory_text};
 use hls_output::Output;
 use hls_replies::{Answer, Body, fault_answer, output_of};
+use hls_serve_laws::route::Route;
 use std::alloc::{AllocError, Global};
 
 /// An answer that was made, or want of memory for one.
@@ -29,12 +30,17 @@ pub(crate) struct Reply {
     pub end: Option<Ending>,
 }
 
-/// The status of what was made; want of memory is 503.
-fn status_of(made: &Made) -> Status {
-    match made {
+/// Tells the reply of what was made; that to want of memory is 503.
+fn tell<O: Observer>(observer: &O, method: Method, route: Option<Route>, made: &Made) {
+    let status = match made {
         Ok(answer) => answer.status(),
         Err(_) => Status::Unavailable,
-    }
+    };
+    observer.tell(&News::Replied {
+        method,
+        route,
+        status,
+    });
 }
 
 /// The fixed reply to want of memory, which takes none; to HEAD without its body.
@@ -95,12 +101,7 @@ pub(crate) fn reply_with<O: Observer>(
     ensures { (count : ℕ) (h : RequestHead) (first : List ℕ) → IsCall count h call.now
         → Replies (IsMade first made (closes_by h early) (is_for_head h)) result.output result.end first }
 {
-    let news = News::Replied {
-        method: call.head.method,
-        route: call.route,
-        status: status_of(&made),
-    };
-    observer.tell(&news);
+    tell(observer, call.head.method, call.route, &made);
     let closing = says_close(&call.head, early);
     let to_head = is_to_head(call.head.method);
     reply_of(alloc, made, closing, to_head)
@@ -126,11 +127,6 @@ pub(crate) fn refuse_head<O: Observer>(alloc: Global, observer: &O, fault: HttpF
     ensures { Replies (IsDueWithoutHead fault) result.output result.end [] }
 {
     let made = fault_answer(alloc, fault);
-    let news = News::Replied {
-        method: Method::Other,
-        route: None,
-        status: status_of(&made),
-    };
-    observer.tell(&news);
+    tell(observer, Method::Other, None, &made);
     reply_of(alloc, made, true, false)
 }

@@ -4,8 +4,7 @@ use Rattle.hls_serve.proofs.acts.submit.Goals as goal
 
 pub returns-clause-leads : goal.returns-clause-leads
 returns-clause-leads g c =
-    acted_one (g.K.Keeper.known c.args.keeper.now) (g.K.Keeper.known c.submit-done.new.self) c.args.acts.now _ (Submitted c.args.event c.submit-done.result)
-    (c.requires, c.submit-done.ensures.submits) (rw (c.and-note.ensures, c.new.ensures) at c.note.ensures)
+    acted_one _ _ _ _ (Submitted c.args.event c.submit-done.result) (c.requires, c.submit-done.ensures.submits) (rw (c.and-note.ensures, c.new.ensures) at c.note.ensures)
 
 pub returns-clause-usable : goal.returns-clause-usable
 returns-clause-usable g c = λ r found usable. usable_acted r _ _ _ _ found (returns-clause-leads g c) usable

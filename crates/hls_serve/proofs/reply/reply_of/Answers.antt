@@ -1,16 +1,11 @@
 use Rattle.std.proofs.Common.{◌∙◌, ap, inl, refl}
 use Rattle.hls_http_laws.specs.Reply.{is_success}
-use Rattle.hls_serve.specs.Turns.{end_by, memory_due, reply_due}
-use Rattle.hls_serve.proofs.TurnLaws.{memory_made}
+use Rattle.hls_serve.specs.Turns.{end_by, reply_due}
+use Rattle.hls_serve.proofs.TurnLaws.{memory_replies}
 use Rattle.hls_serve.proofs.reply.reply_of.Goals as goal
 
 pub returns-in_default : goal.returns-in_default
-returns-in_default c = λ first. record {
-  due = memory_due first c.args.to_head;
-  is = memory_made first c.args.made c.args.closing c.args.to_head;
-  text_is = cc;
-  ends = c.no_memory.ensures.end;
-}
+returns-in_default c = λ first. memory_replies first c.args.made c.args.closing c.args.to_head c.no_memory.ensures.text c.no_memory.ensures.end
 
 pub returns-in-Ok-output_of : goal.returns-in-Ok-output_of
 returns-in-Ok-output_of c = λ first. record {
@@ -21,9 +16,4 @@ returns-in-Ok-output_of c = λ first. record {
 }
 
 pub returns-in-Err : goal.returns-in-Err
-returns-in-Err c = λ first. record {
-  due = memory_due first c.args.to_head;
-  is = memory_made first c.args.made c.args.closing c.args.to_head;
-  text_is = cc;
-  ends = c.no_memory-in-Err.ensures.end;
-}
+returns-in-Err c = λ first. memory_replies first c.args.made c.args.closing c.args.to_head c.no_memory-in-Err.ensures.text c.no_memory-in-Err.ensures.end

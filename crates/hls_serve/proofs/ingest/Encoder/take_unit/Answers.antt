@@ -18,14 +18,10 @@ pub returns-in-Err-submit-clause-usable : goal.returns-in-Err-submit-clause-usab
 returns-in-Err-submit-clause-usable g c = c.submit.ensures.usable c.args.self.now.rendition c.find_init.new.taken.init c.find_init.ensures.usable
 
 pub returns-in-Ok-submit-clause-leads : goal.returns-in-Ok-submit-clause-leads
-returns-in-Ok-submit-clause-leads g c =
-    acted_on (g.K.Keeper.known c.args.keeper.now) (g.K.Keeper.known c.find_init.new.keeper) (g.K.Keeper.known c.submit.new.keeper) c.args.taken.now.acts c.find_init.new.taken.acts c.submit.new.acts
-    c.find_init.ensures.leads c.submit.ensures.leads
+returns-in-Ok-submit-clause-leads g c = acted_on _ _ _ _ _ _ c.find_init.ensures.leads c.submit.ensures.leads
 
 pub returns-in-Err-submit-clause-leads : goal.returns-in-Err-submit-clause-leads
-returns-in-Err-submit-clause-leads g c =
-    acted_on (g.K.Keeper.known c.args.keeper.now) (g.K.Keeper.known c.find_init.new.keeper) (g.K.Keeper.known c.submit.new.keeper) c.args.taken.now.acts c.find_init.new.taken.acts c.submit.new.acts
-    c.find_init.ensures.leads c.submit.ensures.leads
+returns-in-Err-submit-clause-leads g c = acted_on _ _ _ _ _ _ c.find_init.ensures.leads c.submit.ensures.leads
 
 pub returns-in-Err-submit-clause-comes : goal.returns-in-Err-submit-clause-comes
 returns-in-Err-submit-clause-comes g c =

@@ -31,22 +31,19 @@ returns-in-Over-clause-goes g c = λ received sent h.
 -- ---- what its keeper was asked
 
 pub returns-in-More-clause-leads : goal.returns-in-More-clause-leads
-returns-in-More-clause-leads g c =
-    acted_in (asked_in c.args.self.now) (g.K.Keeper.known c.args.keeper.now) (g.K.Keeper.known c.step.new.keeper) c.args.feeding.taken.acts c.put.ensures c.step.ensures.leads
+returns-in-More-clause-leads g c = acted_in (asked_in c.args.self.now) _ _ c.args.feeding.taken.acts c.put.ensures c.step.ensures.leads
 
 pub returns-then-ended-clause-leads : goal.returns-then-ended-clause-leads
 returns-then-ended-clause-leads g c =
     let m = record c.args.self.now { state = c.put-then-ended.new.place; asked = c.and-self.result } in
     let all = total_fresh m _ (ap asked_now c.put-then-ended.ensures) (asked_more c.args.self.now.asked.items c.and-self.result.items _ _ c.and-self.ensures) in
-    acted_to (asked_in c.args.self.now) (g.K.Keeper.known c.args.keeper.now) (g.K.Keeper.known c.step.new.keeper) c.args.feeding.taken.acts all c.step.ensures.leads
+    acted_to (asked_in c.args.self.now) _ _ c.args.feeding.taken.acts all c.step.ensures.leads
 
 pub returns-else-ended-clause-leads : goal.returns-else-ended-clause-leads
-returns-else-ended-clause-leads g c =
-    acted_in (asked_in c.args.self.now) (g.K.Keeper.known c.args.keeper.now) (g.K.Keeper.known c.step.new.keeper) c.args.feeding.taken.acts c.put-in-Wait.ensures c.step.ensures.leads
+returns-else-ended-clause-leads g c = acted_in (asked_in c.args.self.now) _ _ c.args.feeding.taken.acts c.put-in-Wait.ensures c.step.ensures.leads
 
 pub returns-in-Over-clause-leads : goal.returns-in-Over-clause-leads
-returns-in-Over-clause-leads g c =
-    acted_to (asked_in c.args.self.now) (g.K.Keeper.known c.args.keeper.now) (g.K.Keeper.known c.step.new.keeper) c.args.feeding.taken.acts c.close.ensures.total c.step.ensures.leads
+returns-in-Over-clause-leads g c = acted_to (asked_in c.args.self.now) _ _ c.args.feeding.taken.acts c.close.ensures.total c.step.ensures.leads
 
 pub returns-in-More-clause-suits : goal.returns-in-More-clause-suits
 returns-in-More-clause-suits g c = let u = c.step.ensures.usable in (u.valid, suits_as _ c.put.ensures u)
