@@ -10,7 +10,7 @@ use Rattle.hls_feed.specs.Streams.{EndsSo, Feeds, IsLeft, Reached}
 use Rattle.hls_http_laws.specs.declared.body.Body.{Body}
 use Rattle.hls_http_laws.specs.declared.body.Body.TheVariants.{Length, Size, Data, Trailers}
 use Rattle.hls_http_laws.specs.declared.plan.Plan.{Plan}
-use Rattle.hls_http_laws.specs.Bodies.{EndsData, IsBroken, ReadsLine, Runs, Steps, TakesData, after_line}
+use Rattle.hls_http_laws.specs.Bodies.{EndsData, IsBroken, ReadsLine, Steps, TakesData, after_line}
 use Rattle.hls_http_laws.specs.Order.{is_over}
 use Rattle.hls_http_laws.proofs.Callers.{Leaves, broken_bodies_stay, run_one, runs_join, runs_leave, runs_stay, step_stays}
 use Rattle.hls_http.specs.declared.body.BodyEnd.TheVariants as bodies

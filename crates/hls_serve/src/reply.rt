@@ -63,13 +63,10 @@ fn no_memory(to_head: bool) -> Reply
 fn end_behind(closing: bool, success: bool) -> Option<Ending>
     ensures { result ≡ end_by closing success }
 {
-    if !closing {
-        return None;
-    }
-    if success {
-        Some(Ending::Closed)
-    } else {
-        Some(Ending::Refused)
+    match (closing, success) {
+        (false, _) => None,
+        (true, true) => Some(Ending::Closed),
+        (true, false) => Some(Ending::Refused),
     }
 }
 

@@ -1,7 +1,7 @@
 //! What a request whose body was dropped comes to.
 
 ghost use Rattle.std.specs.Prelude.{◌≡◌, Some, None, IfOk, true, false};
-ghost use Rattle.hls_serve_laws.specs.Heard.{AddsJob, AsksFor, CatchesUp, Finishes, RemovesJob, Serves, ServesJob, ShowsJob, shown_if};
+ghost use Rattle.hls_serve_laws.specs.Heard.{AsksFor, CatchesUp, Finishes, Serves, ServesJob, ShowsJob, shown_if};
 ghost use Rattle.hls_serve_laws.specs.Routes as spec;
 ghost use Rattle.hls_serve_laws.specs.Heard as heard;
 ghost use Rattle.hls_serve_laws.specs.Acts.{Acted};
@@ -13,7 +13,6 @@ use crate::keeper::Keeper;
 use crate::reply::Made;
 use crate::route::{allows, is_to_head, job_at, removes};
 use hls_catchup::{Job, JobFault};
-use hls_core::snapshot::Snapshot;
 use hls_core_laws::event::Event;
 use hls_core_laws::refusal::Refusal;
 use hls_http::HttpFault;
@@ -25,9 +24,7 @@ use hls_replies::{
 };
 use hls_serve_laws::query::{Query, QueryFault};
 use hls_serve_laws::route::Route;
-use hls_serve_laws::wanted::Wanted;
 use std::alloc::{AllocError, Global};
-use std::sync::Arc;
 
 /// The end of a rendition.
 fn finish<K: Keeper>(keeper: &mut K, acts: &mut Acts, rendition: usize) -> Made
@@ -52,17 +49,6 @@ fn range_of(call: &Call) -> Asked
     }
 }
 
-/// Adds a job that answers from a state.
-fn add_job<K: Keeper>(keeper: &mut K, state: Arc<Snapshot>, wanted: Wanted) -> Made
-    ensures known { K.known keeper.new ≡ K.known keeper.old }
-    ensures adds { IfOk result (AddsJob state.value wanted) }
-{
-    let version = state.version();
-    let request = request_for(&state, wanted);
-    let added = keeper.add_job(state, request);
-    added_answer(keeper.alloc(), version, added)
-}
-
 /// Adds the job that a query asks the current state for; or replies why it asks for nothing.
 fn add_wanted<K: Keeper>(keeper: &mut K, acts: &mut Acts, query: Query) -> Made
     ensures leads { Acted (K.known keeper.old) acts.old (K.known keeper.new) acts.new }
@@ -70,7 +56,12 @@ fn add_wanted<K: Keeper>(keeper: &mut K, acts: &mut Acts, query: Query) -> Made
 {
     let state = look(keeper, acts)?;
     match wanted_of(state.config().epoch(), query) {
-        Ok(wanted) => add_job(keeper, state, wanted),
+        Ok(wanted) => {
+            let version = state.version();
+            let request = request_for(&state, wanted);
+            let added = keeper.add_job(state, request);
+            added_answer(keeper.alloc(), version, added)
+        }
         Err(fault) => query_answer(keeper.alloc(), fault),
     }
 }
@@ -114,15 +105,6 @@ fn show_job<K: Keeper>(keeper: &K, call: &Call, route: Route, id: u64) -> Made
     }
 }
 
-/// Takes a job away; 404 where there is none.
-fn remove_job<K: Keeper>(keeper: &mut K, id: u64) -> Made
-    ensures known { K.known keeper.new ≡ K.known keeper.old }
-    ensures removes { IfOk result (RemovesJob id) }
-{
-    let removed = keeper.remove_job(id);
-    removed_answer(keeper.alloc(), removed)
-}
-
 /// By the route of a job: an unknown job comes first, then a method that the route hasn't.
 fn serve_job<K: Keeper>(keeper: &mut K, call: &Call, route: Route, id: u64) -> Made
     requires { heard.job_at route ≡ Some id }
@@ -130,7 +112,8 @@ fn serve_job<K: Keeper>(keeper: &mut K, call: &Call, route: Route, id: u64) -> M
     ensures answers { OfCall call.now (λ h q. IfOk result (λ a. ServesJob q route id a (spec.removes route q.method))) }
 {
     if removes(route, call.head.method) {
-        return remove_job(keeper, id);
+        let removed = keeper.remove_job(id);
+        return removed_answer(keeper.alloc(), removed);
     }
     show_job(keeper, call, route, id)
 }

@@ -1,6 +1,6 @@
 //! Paths read.
 
-ghost use Rattle.std.specs.Prelude.{◌≡◌, ◌<◌, ◌+◌, ◌^◌, ◌==◌, length, min, option_map, position, unwrap_or, IfSome};
+ghost use Rattle.std.specs.Prelude.{◌≡◌, ◌<◌, ◌+◌, ◌^◌, ◌==◌, length, option_map, position, IfSome};
 ghost use Rattle.hls_serve_laws.specs.Heard as heard;
 ghost use Rattle.hls_serve_laws.specs.Routes as spec;
 ghost use Rattle.hls_serve_laws.specs.Routes.{route_of};
@@ -41,24 +41,14 @@ fn rendition(count: usize, text: &[u8]) -> Option<usize>
     }
 }
 
-/// A job's number, or that of none where it has too many digits.
-fn job_number(number: Option<u64>) -> u64
-    ensures { result ≡ min (unwrap_or number spec.no_job) spec.no_job }
-{
-    match number {
-        Some(number) => number.min(NO_JOB),
-        None => NO_JOB,
-    }
-}
-
-/// The number of a job.
+/// The number of a job, or that of none where it has too many digits.
 fn job(text: &[u8]) -> Option<u64>
     ensures { result ≡ spec.job_in text.now }
 {
     if !is_plain(text) || !are_digits(text) {
         return None;
     }
-    Some(job_number(read_number(text, MOST_DIGITS)))
+    Some(read_number(text, MOST_DIGITS).unwrap_or(NO_JOB).min(NO_JOB))
 }
 
 fn live(count: usize, text: &[u8]) -> Option<Route>
