@@ -8,7 +8,6 @@ use Rattle.hls_core_laws.specs.declared.event.Event.{Event}
 use Rattle.hls_core_laws.specs.declared.event.Event.TheVariants.{Accept}
 use Rattle.hls_core_laws.specs.declared.refusal.Refusal.{Refusal}
 use Rattle.hls_core_laws.specs.declared.refusal.Refusal.TheVariants as refusals
-use Rattle.hls_core_laws.specs.State.{State}
 use Rattle.hls_core_laws.specs.IsState.{IsState}
 use Rattle.hls_core_laws.specs.Moves.{IsFittingAsSeen}
 use Rattle.hls_core_laws.specs.Follows.{Follows}

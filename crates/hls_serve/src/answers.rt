@@ -72,11 +72,6 @@ pub(crate) fn ingested(feeding: &Feeding, fed: Result<(), Intake>) -> News
     })
 }
 
-/// Tells it.
-pub(crate) fn tell_ingested<O: Observer>(feeding: &Feeding, fed: Result<(), Intake>, observer: &O) {
-    observer.tell(&ingested(feeding, fed));
-}
-
 /// To one whose body is an encoder's, which ended, or of which no more is taken.
 pub(crate) fn answer_fed<O: Observer>(
     alloc: Global,
@@ -87,7 +82,7 @@ pub(crate) fn answer_fed<O: Observer>(
     ensures { (count : ℕ) (stream first unread : List ℕ) → IsFedUp count stream first feeding.now unread fed
         → RepliesTo count stream first feeding.now.taken.acts unread result.output result.end }
 {
-    tell_ingested(feeding, fed, observer);
+    observer.tell(&ingested(feeding, fed));
     let call = &feeding.call;
     match fed {
         Ok(()) => {

@@ -1,6 +1,6 @@
 //! An encoder's body, taken part by part as it comes.
 
-ghost use Rattle.std.specs.Prelude.{◌≡◌, ◌<◌, ℕ, List, length};
+ghost use Rattle.std.specs.Prelude.{◌≡◌, ◌<◌, length};
 ghost use Rattle.hls_http.specs.Bodies.{StepsTo};
 ghost use Rattle.hls_serve_laws.specs.Acts.{Acted};
 ghost use Rattle.hls_serve.specs.Taken.{IsUsable};
@@ -27,17 +27,6 @@ pub(crate) struct Feeding {
 }
 
 impl Feeding {
-    /// What comes of it at the body's end.
-    fn over(&self) -> Result<(), Intake>
-        requires { self.now.body ≡ Body.Length 0 }
-        ensures { (unread : List ℕ) → FeedsFrom self.now unread self.now unread (nexts.Over result) }
-    {
-        match end(&self.reader) {
-            Ok(()) => Ok(()),
-            Err(fault) => Err(Intake::Refused(fault)),
-        }
-    }
-
     /// Takes the next bytes of the content: each part that is whole is submitted before anything behind it is looked at.
     fn piece<K: Keeper>(
         &mut self,
@@ -75,7 +64,10 @@ impl Feeding {
         ensures room { input.new.room ≡ input.old.room }
     {
         if self.body == Body::Length(0) {
-            return Next::Over(self.over());
+            return match end(&self.reader) {
+                Ok(()) => Next::Over(Ok(())),
+                Err(fault) => Next::Over(Err(Intake::Refused(fault))),
+            };
         }
         match find_move(input.unread(), self.body) {
             Ok(Move::Piece(len, next)) => self.piece(input, keeper, len, next),

@@ -14,7 +14,7 @@ ghost use Rattle.hls_serve.specs.Turns.{IsCall};
 ghost use Rattle.hls_serve.specs.Within.{DropsBody};
 
 use crate::acts::Acts;
-use crate::answers::{Answered, answer_dropped, answer_fed, ingested, tell_ingested};
+use crate::answers::{Answered, answer_dropped, answer_fed, ingested};
 use crate::call::{Call, plan_of, read_call};
 use crate::dropping::Dropping;
 use crate::ending::Ending;
@@ -342,7 +342,7 @@ impl Machine {
             }
             Next::Wait => {
                 if ended {
-                    tell_ingested(&feeding, Err(Intake::Stopped(BodyEnd::CutShort)), observer);
+                    observer.tell(&ingested(&feeding, Err(Intake::Stopped(BodyEnd::CutShort))));
                     self.asked = self.asked.and(&feeding.taken.acts, &());
                     put(&mut self.state, State::Over(Ending::CutShort));
                     return false;

@@ -51,16 +51,6 @@ fn job(text: &[u8]) -> Option<u64>
     Some(read_number(text, MOST_DIGITS).unwrap_or(NO_JOB).min(NO_JOB))
 }
 
-fn live(count: usize, text: &[u8]) -> Option<Route>
-    ensures { result ≡ spec.live_route count text.now }
-{
-    if text == b"master.m3u8".as_slice() {
-        return Some(Route::LiveMaster);
-    }
-    let number = before(b".m3u8", text)?;
-    Some(Route::LiveList(rendition(count, number)?))
-}
-
 /// A file of a job by its name.
 fn file(count: usize, name: &[u8]) -> Option<JobFile>
     ensures { result ≡ spec.file_of count name.now }
@@ -109,7 +99,10 @@ fn folder(count: usize, path: &[u8]) -> Option<Route>
         return Some(Route::Finish(rendition(count, number)?));
     }
     if let Some(text) = behind(b"/live/", path) {
-        return live(count, text);
+        if text == b"master.m3u8".as_slice() {
+            return Some(Route::LiveMaster);
+        }
+        return Some(Route::LiveList(rendition(count, before(b".m3u8", text)?)?));
     }
     if let Some(text) = behind(b"/media/", path) {
         return Some(Route::Media(rendition(count, before(b".mp4", text)?)?));

@@ -1,8 +1,13 @@
-use Rattle.hls_serve.proofs.WithinLaws.{feed_broken, feed_frame}
+use Rattle.std.proofs.Common.{◌≡◌, Ok, Err, rules}
+use Rattle.hls_http_laws.specs.declared.body.Body.TheVariants.{Length}
+use Rattle.hls_serve.proofs.WithinLaws.{feed_broken, feed_frame, feed_over}
 use Rattle.hls_serve.proofs.feeding.Feeding.step.Goals as goal
 
-pub returns-then-eq-clause-feeds : goal.returns-then-eq-clause-feeds
-returns-then-eq-clause-feeds g c = c.over.ensures c.args.input.now.unread
+pub returns-in-Ok-clause-feeds : goal.returns-in-Ok-clause-feeds
+returns-in-Ok-clause-feeds g c = let over : c.args.self.now.body ≡ Length 0 = search rules in λ count stream first x. feed_over x (Ok tt) over c.in-Ok.ensures
+
+pub returns-in-Err-clause-feeds : goal.returns-in-Err-clause-feeds
+returns-in-Err-clause-feeds g c = let over : c.args.self.now.body ≡ Length 0 = search rules in λ count stream first x. feed_over x (Err c.in-Err.fault) over c.in-Err.ensures
 
 pub piece-requires-clause-found : goal.piece-requires-clause-found
 piece-requires-clause-found g c = rw (c.in-Ok-Piece.field-0-is, c.unread.ensures.unread) at c.in-Ok-Piece.ensures
