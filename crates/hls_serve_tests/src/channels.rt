@@ -25,7 +25,8 @@ pub fn video(alloc: Global) -> Result<Rendition, AllocError>
 
 /// The state of a channel of one rendition with an epoch or without one, before anything came; none where memory was refused.
 pub fn opening(alloc: Global, epoch: Option<i64>) -> Option<Snapshot> {
-    let renditions = Vec::from_array(alloc, [video(alloc).ok()?]).ok()?;
+    let mut renditions = Vec::new(alloc);
+    renditions.push(video(alloc).ok()?).ok()?;
     let config = Config::with_epoch(alloc, 6, 4_000_000, renditions, epoch).ok()?;
     Snapshot::first(alloc, config).ok()
 }

@@ -5,6 +5,8 @@
 #[cfg(test)]
 mod channels;
 #[cfg(test)]
+mod held;
+#[cfg(test)]
 mod refused;
 #[cfg(test)]
 mod refused_turn;
