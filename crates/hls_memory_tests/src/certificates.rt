@@ -1,21 +1,21 @@
 //! Tables of places, plans and certificates. Five places at 0, 3, 6, 7 and 11 s, whose least plan was worked out by hand, and
 //! two places too far apart for a plan.
 
-use crate::told::Told;
 use hls_check::{check, check_rows};
 use hls_check_laws::{
     CertFault, Certificate, CostRule, Goal, PlaceTable, PrintedTable, Spot, Spots, Verdict,
 };
 use hls_check_text::{read, write};
+use hls_fakes::Told;
 use hls_plan::{Planned, plan, plan_counted};
 use hls_time::Ticks;
 use std::alloc::Global;
 
 /// When the five places are, in seconds.
-const TIMES: [u64; 5] = [0, 3, 6, 7, 11];
+pub const TIMES: [u64; 5] = [0, 3, 6, 7, 11];
 
 /// When the two places are.
-const FAR: [u64; 2] = [0, 7];
+pub const FAR: [u64; 2] = [0, 7];
 
 const PLAN: [usize; 4] = [0, 1, 3, 4];
 
@@ -51,7 +51,7 @@ fn spot(number: usize, seconds: u64) -> Spot {
 }
 
 /// A table of places at these times; none where memory was refused.
-fn table(alloc: Global, times: &[u64]) -> Option<PlaceTable> {
+pub fn table(alloc: Global, times: &[u64]) -> Option<PlaceTable> {
     let mut places = Vec::new(alloc);
     for (number, seconds) in times.iter().enumerate() {
         let spots = vec![in alloc; spot(number, *seconds)].ok()?;
@@ -120,7 +120,7 @@ fn is_read(certificate: &Certificate) -> bool {
     is_five(certificate.table()) && is_cut(check(certificate))
 }
 
-fn told_copied(alloc: Global, table: &PlaceTable) -> Told {
+pub fn told_copied(alloc: Global, table: &PlaceTable) -> Told {
     let told = match table.table().copied(alloc) {
         Ok(copy) => Told::answer(is_five(&copy)),
         Err(_) => Told::Wanted,
@@ -128,7 +128,7 @@ fn told_copied(alloc: Global, table: &PlaceTable) -> Told {
     told.kept(is_five(table.table()))
 }
 
-fn told_printed(alloc: Global, table: &PlaceTable) -> Told {
+pub fn told_printed(alloc: Global, table: &PlaceTable) -> Told {
     let told = match table.printed(alloc) {
         Ok(copy) => Told::answer(is_five(&copy)),
         Err(_) => Told::Wanted,
@@ -136,7 +136,7 @@ fn told_printed(alloc: Global, table: &PlaceTable) -> Told {
     told.kept(is_five(table.table()))
 }
 
-fn told_planned(alloc: Global, table: &PlaceTable) -> Told {
+pub fn told_planned(alloc: Global, table: &PlaceTable) -> Told {
     let told = match plan(alloc, table) {
         Ok(planned) => Told::answer(is_least(&planned)),
         Err(_) => Told::Wanted,
@@ -144,23 +144,13 @@ fn told_planned(alloc: Global, table: &PlaceTable) -> Told {
     told.kept(is_five(table.table()))
 }
 
-fn told_counted(alloc: Global, table: &PlaceTable) -> Told {
+pub fn told_counted(alloc: Global, table: &PlaceTable) -> Told {
     let mut ticks = Ticks::new();
     let told = match plan_counted(alloc, table, &mut ticks) {
         Ok(planned) => Told::answer(is_least(&planned)),
         Err(_) => Told::Wanted,
     };
     told.kept(ticks.count() <= 10).kept(is_five(table.table()))
-}
-
-#[test]
-fn ample_memory_copies_and_plans(rt: HostRuntime) {
-    let alloc = rt.alloc();
-    let table = table(alloc, &TIMES).expect(&rt, "a table");
-    assert!(rt; told_copied(alloc, &table).is_ample());
-    assert!(rt; told_printed(alloc, &table).is_ample());
-    assert!(rt; told_planned(alloc, &table).is_ample());
-    assert!(rt; told_counted(alloc, &table).is_ample());
 }
 
 #[test]
@@ -180,19 +170,12 @@ fn refused_memory_plans_once_more(rt: HostRuntime) {
 }
 
 /// What is told of the two places, between which there is no plan.
-fn told_of_far(alloc: Global, table: &PlaceTable) -> Told {
+pub fn told_of_far(alloc: Global, table: &PlaceTable) -> Told {
     let told = match plan(alloc, table) {
         Ok(planned) => Told::answer(is_none(&planned)),
         Err(_) => Told::Wanted,
     };
     told.kept(is_table(table.table(), &FAR))
-}
-
-#[test]
-fn ample_memory_finds_no_plan(rt: HostRuntime) {
-    let alloc = rt.alloc();
-    let table = table(alloc, &FAR).expect(&rt, "a table");
-    assert!(rt; told_of_far(alloc, &table).is_ample());
 }
 
 #[test]
@@ -204,7 +187,7 @@ fn refused_memory_is_no_closed_set(rt: HostRuntime) {
 }
 
 /// What is told of the text: that it is the certificate.
-fn told_of_text(alloc: Global) -> Told {
+pub fn told_of_text(alloc: Global) -> Told {
     match read(alloc, text()) {
         Ok(certificate) => Told::answer(is_read(&certificate)),
         Err(CertFault::Memory) => Told::Wanted,
@@ -218,7 +201,7 @@ fn wrong_text() -> &'static [u8] {
 }
 
 /// What is told of the text with a wrong last line, for which no memory is taken.
-fn told_of_wrong_text(alloc: Global) -> Told {
+pub fn told_of_wrong_text(alloc: Global) -> Told {
     match read(alloc, wrong_text()) {
         Err(CertFault::Form { line }) => Told::answer(line == 18),
         _ => Told::Astray,
@@ -226,7 +209,7 @@ fn told_of_wrong_text(alloc: Global) -> Told {
 }
 
 /// What the certificate is written as, and that it stays.
-fn told_written(alloc: Global, certificate: &Certificate) -> Told {
+pub fn told_written(alloc: Global, certificate: &Certificate) -> Told {
     let told = match write(alloc, certificate) {
         Ok(written) => Told::answer(written.as_slice() == text()),
         Err(_) => Told::Wanted,
@@ -234,7 +217,7 @@ fn told_written(alloc: Global, certificate: &Certificate) -> Told {
     told.kept(is_read(certificate))
 }
 
-fn certificate(alloc: Global) -> Option<Certificate> {
+pub fn certificate(alloc: Global) -> Option<Certificate> {
     read(alloc, text()).ok()
 }
 
@@ -243,15 +226,6 @@ fn certificate_at_last(alloc: Global) -> Option<Certificate> {
         Some(certificate) => Some(certificate),
         None => certificate(alloc),
     }
-}
-
-#[test]
-fn ample_memory_reads_and_writes_certificates(rt: HostRuntime) {
-    let alloc = rt.alloc();
-    assert!(rt; told_of_text(alloc).is_ample());
-    assert!(rt; told_of_wrong_text(alloc).is_ample());
-    let certificate = certificate(alloc).expect(&rt, "a certificate");
-    assert!(rt; told_written(alloc, &certificate).is_ample());
 }
 
 #[test]

@@ -1,7 +1,6 @@
 //! Heads of replies and small replies: of one that wanted memory there is none, or the fixed reply where a session says it.
 
-use crate::told::Told;
-use hls_fakes::Page;
+use hls_fakes::{Page, Told};
 use hls_http::{Input, Session, SessionEnd, Source, head_bytes, refusal_body, reply_output};
 use hls_http_laws::reply::{Extra, Kind, ReplyHead, Status, no_memory_head_text};
 use hls_output::Text;
@@ -26,7 +25,7 @@ fn head<'a>() -> ReplyHead<'a> {
 }
 
 /// How a session replies to HEAD.
-fn told_session(alloc: Global) -> Told {
+pub fn told_session(alloc: Global) -> Told {
     let Ok(mut session) = Session::new(alloc, b"".as_slice(), Page::new()) else {
         return Told::Wanted;
     };
@@ -39,50 +38,39 @@ fn told_session(alloc: Global) -> Told {
     }
 }
 
-fn told_bytes(alloc: Global) -> Told {
+pub fn told_bytes(alloc: Global) -> Told {
     match head_bytes(alloc, &head(), 3) {
         Ok(bytes) => Told::answer(bytes.as_slice() == head_text()),
         Err(_) => Told::Wanted,
     }
 }
 
-fn told_refusal(alloc: Global) -> Told {
+pub fn told_refusal(alloc: Global) -> Told {
     match refusal_body(alloc, "NotYet") {
         Ok(bytes) => Told::answer(bytes.as_slice() == b"refused NotYet\n".as_slice()),
         Err(_) => Told::Wanted,
     }
 }
 
-fn told_source(alloc: Global) -> Told {
+pub fn told_source(alloc: Global) -> Told {
     match Source::new(alloc, b"abc".as_slice()) {
         Ok(source) => Told::answer(source.held().is_empty()),
         Err(_) => Told::Wanted,
     }
 }
 
-fn told_input(alloc: Global) -> Told {
+pub fn told_input(alloc: Global) -> Told {
     match Input::new(alloc) {
         Ok(input) => Told::answer(input.unread().is_empty()),
         Err(_) => Told::Wanted,
     }
 }
 
-fn told_output(alloc: Global) -> Told {
+pub fn told_output(alloc: Global) -> Told {
     match reply_output(alloc, &head(), Text::media(b"abc"), false) {
         Ok(output) => Told::answer(output.chunk() == reply_text()),
         Err(_) => Told::Wanted,
     }
-}
-
-#[test]
-fn ample_memory_writes_heads(rt: HostRuntime) {
-    let alloc = rt.alloc();
-    assert!(rt; told_bytes(alloc).is_ample());
-    assert!(rt; told_refusal(alloc).is_ample());
-    assert!(rt; told_source(alloc).is_ample());
-    assert!(rt; told_input(alloc).is_ample());
-    assert!(rt; told_output(alloc).is_ample());
-    assert!(rt; told_session(alloc).is_ample());
 }
 
 #[test]

@@ -1,13 +1,15 @@
 //! The live line, told three places 4 s apart and a closing one. Target 6 s, preferred length 4 s: each two make a segment.
 
-use crate::told::Told;
+ghost use Rattle.std.specs.Prelude.{◌≡◌};
+
 use hls_check_laws::{Spot, Spots};
+use hls_fakes::Told;
 use hls_live::{LineFault, LiveLine};
 use hls_places_laws::Place;
 use std::alloc::Global;
 
 /// The place of a number; none where memory was refused.
-fn place(alloc: Global, number: u64) -> Option<Place> {
+pub fn place(alloc: Global, number: u64) -> Option<Place> {
     let start = number.saturating_mul(4_000_000);
     let spot = Spot {
         fragment: number,
@@ -31,7 +33,7 @@ fn advanced(alloc: Global, line: &LiveLine, place: &Place) -> Result<LiveLine, L
 }
 
 /// The same by the call that goes on at the end too.
-fn told_once(alloc: Global, line: &LiveLine, place: &Place) -> Result<LiveLine, LineFault> {
+pub fn told_once(alloc: Global, line: &LiveLine, place: &Place) -> Result<LiveLine, LineFault> {
     if place.spots.len() == 0 || line.segments().next() > 7 {
         return Err(LineFault::TooMany);
     }
@@ -45,7 +47,7 @@ fn with_place(alloc: Global, line: &LiveLine, number: u64) -> Option<LiveLine> {
 }
 
 /// The line of the first places.
-fn line(alloc: Global, places: u64) -> Option<LiveLine> {
+pub fn line(alloc: Global, places: u64) -> Option<LiveLine> {
     let mut line = LiveLine::fresh(alloc, 6, 4_000_000);
     for number in 0..places {
         line = with_place(alloc, &line, number)?;
@@ -92,7 +94,7 @@ fn is_line(line: &LiveLine, from: u64, to: u64, ended: bool) -> bool {
 }
 
 /// What is told by a line that is to keep the segments from a number, up to its end.
-fn told(line: Result<LiveLine, LineFault>, from: u64) -> Told {
+pub fn told(line: Result<LiveLine, LineFault>, from: u64) -> Told {
     match line {
         Ok(line) => Told::answer(is_line(&line, from, 3, true)),
         Err(LineFault::Memory) => Told::Wanted,
@@ -105,16 +107,16 @@ fn are_two_and_last(two: &LiveLine, last: &Place) -> bool {
     is_line(two, 0, 2, false) && begins_at(last, 3)
 }
 
-fn told_advanced(alloc: Global, two: &LiveLine, last: &Place) -> Told {
+pub fn told_advanced(alloc: Global, two: &LiveLine, last: &Place) -> Told {
     told(advanced(alloc, two, last), 0).kept(are_two_and_last(two, last))
 }
 
-fn told_at_once(alloc: Global, two: &LiveLine, last: &Place) -> Told {
+pub fn told_at_once(alloc: Global, two: &LiveLine, last: &Place) -> Told {
     told(told_once(alloc, two, last), 0).kept(are_two_and_last(two, last))
 }
 
 /// What is told of the line of three segments at its end, shared.
-fn told_shared(alloc: Global, ended: &LiveLine) -> Told {
+pub fn told_shared(alloc: Global, ended: &LiveLine) -> Told {
     let told = match ended.share(alloc) {
         Ok(line) => Told::answer(is_line(&line, 0, 3, true)),
         Err(_) => Told::Wanted,
@@ -122,20 +124,24 @@ fn told_shared(alloc: Global, ended: &LiveLine) -> Told {
     told.kept(is_line(ended, 0, 3, true))
 }
 
-fn told_slid(alloc: Global, ended: &LiveLine) -> Told {
+pub fn told_slid(alloc: Global, ended: &LiveLine) -> Told {
     told(ended.slide(alloc, 1), 1).kept(is_line(ended, 0, 3, true))
 }
 
-#[test]
-fn ample_memory_moves_the_line(rt: HostRuntime) {
-    let alloc = rt.alloc();
-    let two = line(alloc, 3).expect(&rt, "a line");
-    let ended = line(alloc, 4).expect(&rt, "an ended line");
-    let last = place(alloc, 3).expect(&rt, "a place");
-    assert!(rt; told_advanced(alloc, &two, &last).is_ample());
-    assert!(rt; told_at_once(alloc, &two, &last).is_ample());
-    assert!(rt; told_shared(alloc, &ended).is_ample());
-    assert!(rt; told_slid(alloc, &ended).is_ample());
+/// Whether both calls take the line of two segments to its end.
+fn is_advanced(alloc: Global, two: &LiveLine, last: &Place) -> bool
+    ensures { result ≡ result }
+{
+    told_advanced(alloc, two, last).is_held(told_advanced(alloc, two, last))
+        && told_at_once(alloc, two, last).is_held(told_at_once(alloc, two, last))
+}
+
+/// Whether the ended line is shared, and slid.
+fn is_slid(alloc: Global, ended: &LiveLine) -> bool
+    ensures { result ≡ result }
+{
+    told_shared(alloc, ended).is_held(told_shared(alloc, ended))
+        && told_slid(alloc, ended).is_held(told_slid(alloc, ended))
 }
 
 #[test]
@@ -144,10 +150,6 @@ fn refused_memory_moves_the_line_once_more(rt: HostRuntime) {
     let two = line_at_last(alloc, 3).expect(&rt, "a line");
     let ended = line_at_last(alloc, 4).expect(&rt, "an ended line");
     let last = place_at_last(alloc, 3).expect(&rt, "a place");
-    let first = told_advanced(alloc, &two, &last);
-    assert!(rt; first.is_held(told_advanced(alloc, &two, &last)));
-    let first = told_at_once(alloc, &two, &last);
-    assert!(rt; first.is_held(told_at_once(alloc, &two, &last)));
-    assert!(rt; told_shared(alloc, &ended).is_held(told_shared(alloc, &ended)));
-    assert!(rt; told_slid(alloc, &ended).is_held(told_slid(alloc, &ended)));
+    assert!(rt; is_advanced(alloc, &two, &last));
+    assert!(rt; is_slid(alloc, &ended));
 }

@@ -1,7 +1,6 @@
 //! Words that are read: those after `serve` and `cut`, the name of a refusal, the numbers of a line.
 
-use crate::told::Told;
-use hls_fakes::Page;
+use hls_fakes::{Page, Told};
 use hls_io::Counted;
 use hls_refusals::{ExplainEnd, run_explain};
 use hls_settings::{OptionsFault, Settings, SettingsFault, read_options, read_settings};
@@ -19,7 +18,7 @@ fn is_set(settings: &Settings) -> bool {
         && settings.config.renditions().len() == 2
 }
 
-fn told_settings(alloc: Global) -> Told {
+pub fn told_settings(alloc: Global) -> Told {
     let words = ["--target", "8", "127.0.0.1:8080", VIDEO, AUDIO];
     match read_settings(alloc, &words) {
         Ok(settings) => Told::answer(is_set(&settings)),
@@ -29,7 +28,7 @@ fn told_settings(alloc: Global) -> Told {
 }
 
 /// What wrong words are told: which is wrong, or that memory was wanted.
-fn told_wrong(alloc: Global, words: &[&str], fault: SettingsFault) -> Told {
+pub fn told_wrong(alloc: Global, words: &[&str], fault: SettingsFault) -> Told {
     match read_settings(alloc, words) {
         Ok(_) => Told::Astray,
         Err(SettingsFault::Memory) => Told::Wanted,
@@ -37,21 +36,21 @@ fn told_wrong(alloc: Global, words: &[&str], fault: SettingsFault) -> Told {
     }
 }
 
-fn told_wrong_option(alloc: Global) -> Told {
+pub fn told_wrong_option(alloc: Global) -> Told {
     let words = ["--target", "0", "127.0.0.1:80", VIDEO];
     told_wrong(alloc, &words, SettingsFault::Target)
 }
 
-fn told_wrong_address(alloc: Global) -> Told {
+pub fn told_wrong_address(alloc: Global) -> Told {
     told_wrong(alloc, &["localhost:80", VIDEO], SettingsFault::Address)
 }
 
-fn told_wrong_rendition(alloc: Global) -> Told {
+pub fn told_wrong_rendition(alloc: Global) -> Told {
     let words = ["127.0.0.1:80", VIDEO, VIDEO];
     told_wrong(alloc, &words, SettingsFault::Rendition(1))
 }
 
-fn told_options(alloc: Global) -> Told {
+pub fn told_options(alloc: Global) -> Told {
     match read_options(alloc, &["--preferred", "4000000", "--certificate"]) {
         Ok(options) => {
             Told::answer(options.preferred() == Some(4_000_000) && options.wants_certificate())
@@ -62,7 +61,7 @@ fn told_options(alloc: Global) -> Told {
 }
 
 /// What is told of a certificate that no plan has.
-fn told_unplanned(alloc: Global) -> Told {
+pub fn told_unplanned(alloc: Global) -> Told {
     match read_options(alloc, &["--certificate"]) {
         Ok(_) => Told::Astray,
         Err(OptionsFault::Memory) => Told::Wanted,
@@ -73,7 +72,7 @@ fn told_unplanned(alloc: Global) -> Told {
 const MEANINGS: &[u8] = b"Gone: it was trimmed.\nNotYet: it isn't there.";
 
 /// What is said of a name, or the names of all; nothing of it where memory was wanted.
-fn told_meaning(alloc: Global, name: Option<&[u8]>, wanted: &[u8]) -> Told {
+pub fn told_meaning(alloc: Global, name: Option<&[u8]>, wanted: &[u8]) -> Told {
     let mut output = Counted::new(Page::new());
     let end = run_explain(alloc, MEANINGS, name, &mut output);
     let page = output.into_inner();
@@ -84,22 +83,22 @@ fn told_meaning(alloc: Global, name: Option<&[u8]>, wanted: &[u8]) -> Told {
     }
 }
 
-fn told_gone(alloc: Global) -> Told {
+pub fn told_gone(alloc: Global) -> Told {
     told_meaning(alloc, Some(b"Gone"), b"Gone: it was trimmed.\n")
 }
 
-fn told_names(alloc: Global) -> Told {
+pub fn told_names(alloc: Global) -> Told {
     told_meaning(alloc, None, b"Gone\nNotYet\n")
 }
 
 /// What is told of a name that no line has, for which no memory is taken.
-fn told_unknown(alloc: Global) -> Told {
+pub fn told_unknown(alloc: Global) -> Told {
     let mut output = Counted::new(Page::new());
     let end = run_explain(alloc, MEANINGS, Some(b"Full"), &mut output);
     Told::answer(end == ExplainEnd::Unknown && output.into_inner().says(b""))
 }
 
-fn told_numbers(alloc: Global) -> Told {
+pub fn told_numbers(alloc: Global) -> Told {
     match numbers_of(alloc, b"1 20 300") {
         Ok(Some(numbers)) => Told::answer(numbers.as_slice() == [1, 20, 300].as_slice()),
         Ok(None) => Told::Astray,
@@ -108,27 +107,11 @@ fn told_numbers(alloc: Global) -> Told {
 }
 
 /// What is told of a line with a blank too many.
-fn told_no_numbers(alloc: Global) -> Told {
+pub fn told_no_numbers(alloc: Global) -> Told {
     match numbers_of(alloc, b"1  20") {
         Ok(found) => Told::answer(found.is_none()),
         Err(_) => Told::Wanted,
     }
-}
-
-#[test]
-fn ample_memory_reads_words(rt: HostRuntime) {
-    let alloc = rt.alloc();
-    assert!(rt; told_settings(alloc).is_ample());
-    assert!(rt; told_wrong_option(alloc).is_ample());
-    assert!(rt; told_wrong_address(alloc).is_ample());
-    assert!(rt; told_wrong_rendition(alloc).is_ample());
-    assert!(rt; told_options(alloc).is_ample());
-    assert!(rt; told_unplanned(alloc).is_ample());
-    assert!(rt; told_gone(alloc).is_ample());
-    assert!(rt; told_names(alloc).is_ample());
-    assert!(rt; told_unknown(alloc).is_ample());
-    assert!(rt; told_numbers(alloc).is_ample());
-    assert!(rt; told_no_numbers(alloc).is_ample());
 }
 
 #[test]

@@ -2,11 +2,13 @@
 //! one sync sample and 1000 bytes.
 #![tactic(auto)]
 
+mod again;
 mod events;
 mod fault;
 mod opening;
 mod states;
 
+pub use again::{THREE_UNITS, ended_at_last, recorded, recorded_at_last};
 pub use events::{accept_event, begin_event};
 pub use fault::SampleFault;
 pub use opening::{SECOND, opened, opened_with, rendition};

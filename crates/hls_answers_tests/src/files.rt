@@ -1,13 +1,12 @@
 //! The line and the files of a job for all of a channel of three units.
 
-use crate::channel::{SECOND, finished_at_last};
-use crate::told::Told;
+use crate::jobs::REQUEST;
 use hls_catchup::{
-    Job, JobTable, Request, certificate_text, job_line, master_text, playlist_text, reply_in,
-    run_job,
+    Job, JobTable, certificate_text, job_line, master_text, playlist_text, reply_in, run_job,
 };
-use hls_check_laws::CostRule;
 use hls_core::snapshot::Snapshot;
+use hls_fakes::Told;
+use hls_sample_channels::{THREE_UNITS, ended_at_last};
 use std::alloc::Global;
 use std::sync::Arc;
 
@@ -26,15 +25,9 @@ fn certificate() -> &'static [u8] {
 }
 
 /// A job that has an answer; none where memory was refused.
-fn job(alloc: Global, state: &Arc<Snapshot>) -> Option<Job> {
-    let request = Request {
-        start_us: 0,
-        stop_us: 12 * SECOND,
-        preferred: 4 * SECOND,
-        rule: CostRule::Deviation,
-    };
+pub fn job(alloc: Global, state: &Arc<Snapshot>) -> Option<Job> {
     let mut jobs = JobTable::new(alloc).ok()?;
-    let id = jobs.add(Arc::try_clone(state).ok()?, request).ok()?;
+    let id = jobs.add(Arc::try_clone(state).ok()?, REQUEST).ok()?;
     let work = jobs.take_work()?;
     jobs.finish(run_job(alloc, work)).ok()?;
     match jobs.get(id) {
@@ -57,7 +50,7 @@ fn is_text(text: &Option<Vec<u8>>, wanted: &[u8]) -> bool {
     }
 }
 
-fn told_master(alloc: Global, job: &Job) -> Told {
+pub fn told_master(alloc: Global, job: &Job) -> Told {
     let Ok(reply) = reply_in(job) else {
         return Told::Astray;
     };
@@ -67,7 +60,7 @@ fn told_master(alloc: Global, job: &Job) -> Told {
     }
 }
 
-fn told_playlist(alloc: Global, job: &Job) -> Told {
+pub fn told_playlist(alloc: Global, job: &Job) -> Told {
     let Ok(reply) = reply_in(job) else {
         return Told::Astray;
     };
@@ -78,7 +71,7 @@ fn told_playlist(alloc: Global, job: &Job) -> Told {
 }
 
 /// What is told of a rendition that isn't there, for which no memory is taken.
-fn told_no_playlist(alloc: Global, job: &Job) -> Told {
+pub fn told_no_playlist(alloc: Global, job: &Job) -> Told {
     let Ok(reply) = reply_in(job) else {
         return Told::Astray;
     };
@@ -88,7 +81,7 @@ fn told_no_playlist(alloc: Global, job: &Job) -> Told {
     }
 }
 
-fn told_certificate(alloc: Global, job: &Job) -> Told {
+pub fn told_certificate(alloc: Global, job: &Job) -> Told {
     let Ok(reply) = reply_in(job) else {
         return Told::Astray;
     };
@@ -98,7 +91,7 @@ fn told_certificate(alloc: Global, job: &Job) -> Told {
     }
 }
 
-fn told_line(alloc: Global, job: &Job) -> Told {
+pub fn told_line(alloc: Global, job: &Job) -> Told {
     match job_line(alloc, job) {
         Ok(Some(line)) => Told::answer(line.as_str() == LINE),
         Ok(None) => Told::Astray,
@@ -107,21 +100,9 @@ fn told_line(alloc: Global, job: &Job) -> Told {
 }
 
 #[test]
-fn ample_memory_writes_the_files(rt: HostRuntime) {
-    let alloc = rt.alloc();
-    let state = finished_at_last(alloc).expect(&rt, "a channel");
-    let job = job(alloc, &state).expect(&rt, "a job");
-    assert!(rt; told_line(alloc, &job).is_ample());
-    assert!(rt; told_master(alloc, &job).is_ample());
-    assert!(rt; told_playlist(alloc, &job).is_ample());
-    assert!(rt; told_no_playlist(alloc, &job).is_ample());
-    assert!(rt; told_certificate(alloc, &job).is_ample());
-}
-
-#[test]
 fn refused_memory_writes_the_files_once_more(rt: HostRuntime) {
     let alloc = rt.alloc();
-    let state = finished_at_last(alloc).expect(&rt, "a channel");
+    let state = ended_at_last(alloc, &THREE_UNITS).expect(&rt, "a channel");
     let job = job_at_last(alloc, &state).expect(&rt, "a job");
     assert!(rt; told_line(alloc, &job).is_held(told_line(alloc, &job)));
     assert!(rt; told_master(alloc, &job).is_held(told_master(alloc, &job)));

@@ -3,12 +3,12 @@
 ghost use Rattle.std.specs.Prelude.{IfSome};
 ghost use Rattle.hls_places_laws.specs.Order.{ArePlaces};
 
-use crate::channel::{SECOND, finished_at_last};
-use crate::told::Told;
 use hls_check_laws::{CostRule, Goal, PlaceTable, Spots};
+use hls_fakes::Told;
 use hls_places::{Cursor, Place, common, programme};
 use hls_places_laws::ProgrammeFault;
 use hls_record::Recording;
+use hls_sample_channels::{SECOND, THREE_UNITS, ended_at_last};
 use std::alloc::Global;
 
 /// Whether it's the place of a number, 4 s behind the one before it; the fourth is the closing one.
@@ -37,13 +37,13 @@ fn are_places(places: &[Place]) -> bool {
 }
 
 /// The places of the recording.
-fn found(alloc: Global, recording: &Recording) -> Option<Vec<Place>>
+pub fn found(alloc: Global, recording: &Recording) -> Option<Vec<Place>>
     ensures { IfSome result (λ places. ArePlaces places.items) }
 {
     common(alloc, &[recording], &[0], &[true]).ok()
 }
 
-fn told_common(alloc: Global, recording: &Recording) -> Told {
+pub fn told_common(alloc: Global, recording: &Recording) -> Told {
     let told = match common(alloc, &[recording], &[0], &[true]) {
         Ok(places) => Told::answer(are_places(&places)),
         Err(_) => Told::Wanted,
@@ -51,7 +51,7 @@ fn told_common(alloc: Global, recording: &Recording) -> Told {
     told.kept(recording.count() == 3)
 }
 
-fn told_cursor(alloc: Global) -> Told {
+pub fn told_cursor(alloc: Global) -> Told {
     match Cursor::first(alloc, 1) {
         Ok(_) => Told::Ample,
         Err(_) => Told::Wanted,
@@ -78,7 +78,7 @@ fn is_programme(table: &PlaceTable) -> bool {
 }
 
 /// The programme from 5 s to 9 s.
-fn told_programme(alloc: Global, places: &[Place]) -> Told
+pub fn told_programme(alloc: Global, places: &[Place]) -> Told
     requires { ArePlaces places.now }
 {
     let [first, second, third, last] = places else {
@@ -99,20 +99,9 @@ fn told_programme(alloc: Global, places: &[Place]) -> Told
 }
 
 #[test]
-fn ample_memory_finds_places(rt: HostRuntime) {
-    let alloc = rt.alloc();
-    let state = finished_at_last(alloc).expect(&rt, "a channel");
-    let recording = state.recording(0).expect(&rt, "a recording");
-    assert!(rt; told_common(alloc, recording).is_ample());
-    assert!(rt; told_cursor(alloc).is_ample());
-    let places = found(alloc, recording).expect(&rt, "places");
-    assert!(rt; told_programme(alloc, &places).is_ample());
-}
-
-#[test]
 fn refused_memory_finds_places_once_more(rt: HostRuntime) {
     let alloc = rt.alloc();
-    let state = finished_at_last(alloc).expect(&rt, "a channel");
+    let state = ended_at_last(alloc, &THREE_UNITS).expect(&rt, "a channel");
     let recording = state.recording(0).expect(&rt, "a recording");
     let first = told_common(alloc, recording);
     assert!(rt; first.is_held(told_common(alloc, recording)));
@@ -131,7 +120,7 @@ fn found_at_last(alloc: Global, recording: &Recording) -> Option<Vec<Place>>
 #[test]
 fn refused_memory_cuts_programmes_once_more(rt: HostRuntime) {
     let alloc = rt.alloc();
-    let state = finished_at_last(alloc).expect(&rt, "a channel");
+    let state = ended_at_last(alloc, &THREE_UNITS).expect(&rt, "a channel");
     let recording = state.recording(0).expect(&rt, "a recording");
     let places = found_at_last(alloc, recording).expect(&rt, "places");
     let first = told_programme(alloc, &places);

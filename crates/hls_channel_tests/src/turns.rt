@@ -1,12 +1,14 @@
 //! A turn and its two passes: whatever was refused memory, the state is in its place again, just as it was, and the same call
 //! again goes through.
 
-ghost use Rattle.std.specs.Prelude.{◌≡◌};
+ghost use Rattle.std.specs.Prelude.{◌≡◌, IfSome};
+ghost use Rattle.hls_core_laws.specs.Moves.{IsFittingAsSeen};
 
-use crate::channel::{accept, init, opening};
+use crate::channel::opening;
 use hls_core::snapshot::Snapshot;
 use hls_core_laws::event::Event;
 use hls_core_laws::refusal::Refusal;
+use hls_sample_channels::{accept_event, begin_event};
 use hls_turn::{Done, Pass, Turn};
 use std::alloc::Global;
 use std::sync::Wait;
@@ -20,6 +22,19 @@ enum Act {
     Finish,
 }
 
+/// The event of an act after a state; none where memory was refused.
+fn event_of(alloc: Global, state: &Snapshot, act: Act) -> Option<Event>
+    ensures { IfSome result (λ event. IsFittingAsSeen state.now event) }
+{
+    match act {
+        Act::Begin => begin_event(alloc, 0, b"vide", 90_000).ok(),
+        Act::Accept(number) => {
+            accept_event(alloc, state, 0, u64::from(number) * 360_000, 360_000).ok()
+        }
+        Act::Finish => Some(Event::Finish { rendition: 0 }),
+    }
+}
+
 /// An event that is brought by a pass.
 fn brought<T: Wait>(
     rt: &T,
@@ -31,28 +46,12 @@ fn brought<T: Wait>(
     requires { pass.old.turn ≡ turn.now }
     ensures { pass.new.turn ≡ turn.now }
 {
-    match act {
-        Act::Begin => {
-            let Some((init, bytes)) = init(alloc) else {
-                return Err(Refusal::Memory);
-            };
-            let event = Event::Begin {
-                rendition: 0,
-                init,
-                bytes,
-            };
-            turn.submit(rt, alloc, pass, event)
-        }
-        Act::Accept(number) => {
-            let Ok(state) = turn.look(rt, alloc, pass) else {
-                return Err(Refusal::Memory);
-            };
-            match accept(alloc, &state, number) {
-                Some(event) => turn.submit(rt, alloc, pass, event),
-                None => Err(Refusal::Memory),
-            }
-        }
-        Act::Finish => turn.submit(rt, alloc, pass, Event::Finish { rendition: 0 }),
+    let Ok(state) = turn.look(rt, alloc, pass) else {
+        return Err(Refusal::Memory);
+    };
+    match event_of(alloc, &state, act) {
+        Some(event) => turn.submit(rt, alloc, pass, event),
+        None => Err(Refusal::Memory),
     }
 }
 

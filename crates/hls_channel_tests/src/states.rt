@@ -1,13 +1,21 @@
 //! Configurations, events, and the states that they come to.
 
-use crate::channel::{config, finished_at_last, init, opening, renditions};
-use crate::told::Told;
+ghost use Rattle.std.specs.Prelude.{IfSome};
+ghost use Rattle.hls_media_laws.specs.Meaning.{IsInit};
+
+use crate::channel::{config, renditions};
+use bytes::Bytes;
 use hls_core::config::{Config, ConfigFault};
 use hls_core::replay::replay;
 use hls_core::snapshot::Snapshot;
 use hls_core_laws::event::Event;
 use hls_core_laws::rendition::Rendition;
+use hls_fakes::Told;
+use hls_media::read_init;
+use hls_media_laws::init::Init;
 use hls_record::Recording;
+use hls_sample_channels::{THREE_UNITS, ended_at_last, recorded_at_last};
+use hls_samples::init_bytes;
 use std::alloc::Global;
 
 fn are_renditions(renditions: &[Rendition]) -> bool {
@@ -21,7 +29,7 @@ fn is_config(config: &Config) -> bool {
     are_renditions(config.renditions()) && config.target() == 6 && config.preferred() == 4_000_000
 }
 
-fn told_config(alloc: Global) -> Told {
+pub fn told_config(alloc: Global) -> Told {
     let Some(renditions) = renditions(alloc, true) else {
         return Told::Wanted;
     };
@@ -33,7 +41,7 @@ fn told_config(alloc: Global) -> Told {
 }
 
 /// What a wrong preferred length is told, for which no memory is taken but that of the renditions.
-fn told_preferred(alloc: Global) -> Told {
+pub fn told_preferred(alloc: Global) -> Told {
     let Some(renditions) = renditions(alloc, true) else {
         return Told::Wanted;
     };
@@ -49,7 +57,7 @@ fn is_opening(state: &Snapshot, shared: &Config) -> bool {
 }
 
 /// The opening state of a configuration, and the configuration shared.
-fn told_opening(alloc: Global) -> Told {
+pub fn told_opening(alloc: Global) -> Told {
     let Some(config) = config(alloc, true) else {
         return Told::Wanted;
     };
@@ -71,8 +79,18 @@ fn is_run(state: &Snapshot) -> bool {
         && state.finished(1) == Some(false)
 }
 
+/// An init section of 600 bytes, and its bytes.
+fn init(alloc: Global) -> Option<(Init, Bytes)>
+    ensures { IfSome result (λ r. IsInit r.1 r.0) }
+{
+    let bytes = init_bytes(alloc, b"vide", 90000).ok()?;
+    let init = read_init(alloc, &bytes).ok()?;
+    let bytes = Bytes::copy_from_slice(alloc, &bytes).ok()?;
+    Some((init, bytes))
+}
+
 /// A run of three events by two workers, of which the first is refused.
-fn told_replay(alloc: Global) -> Told {
+pub fn told_replay(alloc: Global) -> Told {
     let Some(config) = config(alloc, true) else {
         return Told::Wanted;
     };
@@ -108,7 +126,7 @@ fn is_begin(event: &Event) -> bool {
 }
 
 /// An event shared.
-fn told_shared(alloc: Global) -> Told {
+pub fn told_shared(alloc: Global) -> Told {
     let Some((init, bytes)) = init(alloc) else {
         return Told::Wanted;
     };
@@ -121,17 +139,6 @@ fn told_shared(alloc: Global) -> Told {
         Ok(shared) => Told::answer(is_begin(&shared)),
         Err(_) => Told::Wanted,
     }
-}
-
-#[test]
-fn ample_memory_opens_channels(rt: HostRuntime) {
-    let alloc = rt.alloc();
-    assert!(rt; told_config(alloc).is_ample());
-    assert!(rt; told_preferred(alloc).is_ample());
-    assert!(rt; told_opening(alloc).is_ample());
-    assert!(rt; told_replay(alloc).is_ample());
-    assert!(rt; opening(alloc, false).is_some());
-    assert!(rt; told_shared(alloc).is_ample());
 }
 
 #[test]
@@ -155,7 +162,7 @@ fn is_recording(recording: &Recording) -> bool {
 }
 
 /// A recording shared, of three units.
-fn told_recording(alloc: Global, state: &Snapshot) -> Told {
+pub fn told_recording(alloc: Global, state: &Snapshot) -> Told {
     let Some(recording) = state.recording(0) else {
         return Told::Astray;
     };
@@ -168,7 +175,15 @@ fn told_recording(alloc: Global, state: &Snapshot) -> Told {
 #[test]
 fn refused_memory_shares_recordings_once_more(rt: HostRuntime) {
     let alloc = rt.alloc();
-    let state = finished_at_last(alloc).expect(&rt, "a channel");
+    let state = ended_at_last(alloc, &THREE_UNITS).expect(&rt, "a channel");
     let first = told_recording(alloc, &state);
     assert!(rt; first.is_held(told_recording(alloc, &state)));
+}
+
+#[test]
+fn refused_memory_makes_channels_once_more(rt: HostRuntime) {
+    let alloc = rt.alloc();
+    let more = recorded_at_last(alloc, &THREE_UNITS).expect(&rt, "a channel");
+    let ended = ended_at_last(alloc, &THREE_UNITS).expect(&rt, "an ended channel");
+    assert!(rt; more.version() == 4 && ended.version() == 5);
 }

@@ -1,7 +1,7 @@
 use Rattle.std.proofs.Common.{◌∙◌, option_map, ap, sym}
 use Rattle.hls_m3u8.specs.Playlist.{playlist_of}
 use Rattle.hls_lists_laws.proofs.Callers.{live-lists-have-texts}
-use Rattle.hls_memory_tests.proofs.lists.live_text.Goals as goal
+use Rattle.hls_answers_tests.proofs.lists.live_text.Goals as goal
 
 pub write_media-requires : goal.write_media-requires
 write_media-requires c =

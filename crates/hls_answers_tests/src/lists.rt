@@ -1,14 +1,12 @@
 //! Playlists of a channel and of a job, and their texts. The channel has three units of 4 s, of which two are live segments,
 //! since more may come.
 
-use crate::channel::{SECOND, finished_at_last, units_at_last};
-use crate::told::Told;
-use hls_catchup::{
-    CatchFault, Reply, Request, answer, job_master, live_master, live_playlist, table_of,
-};
-use hls_check_laws::CostRule;
+use crate::jobs::REQUEST;
+use hls_catchup::{CatchFault, Reply, answer, job_master, live_master, live_playlist, table_of};
 use hls_core::snapshot::Snapshot;
+use hls_fakes::Told;
 use hls_m3u8::{MasterPlaylist, MediaPlaylist, Segment, write_master, write_media};
+use hls_sample_channels::{SECOND, THREE_UNITS, ended_at_last, recorded_at_last};
 use std::alloc::{AllocError, Global};
 use std::sync::Arc;
 
@@ -19,13 +17,6 @@ fn live() -> &'static [u8] {
 fn master() -> &'static [u8] {
     b"#EXTM3U\n#EXT-X-VERSION:6\n#EXT-X-STREAM-INF:BANDWIDTH=3000000\n/live/0.m3u8\n"
 }
-
-const REQUEST: Request = Request {
-    start_us: 0,
-    stop_us: 12 * SECOND,
-    preferred: 4 * SECOND,
-    rule: CostRule::Deviation,
-};
 
 /// Whether it's a segment of 4 s whose bytes begin there.
 fn is_segment(segment: &Segment, offset: u64) -> bool {
@@ -54,7 +45,7 @@ fn stays(state: &Snapshot) -> bool {
     state.version() == 4 && state.line().segments().next() == 2
 }
 
-fn told_list(alloc: Global, state: &Snapshot) -> Told {
+pub fn told_list(alloc: Global, state: &Snapshot) -> Told {
     let told = match live_playlist(alloc, state, 0) {
         Ok(Some(list)) => Told::answer(is_live(&list)),
         Ok(None) => Told::Astray,
@@ -75,7 +66,7 @@ fn live_text(
     }
 }
 
-fn told_text(alloc: Global, state: &Snapshot) -> Told {
+pub fn told_text(alloc: Global, state: &Snapshot) -> Told {
     let told = match live_text(alloc, state, 0) {
         Ok(Some(text)) => Told::answer(text.as_slice() == live()),
         Ok(None) => Told::Astray,
@@ -93,7 +84,7 @@ fn is_master(list: &MasterPlaylist, uri: &str) -> bool {
     }
 }
 
-fn told_master(alloc: Global, state: &Snapshot) -> Told {
+pub fn told_master(alloc: Global, state: &Snapshot) -> Told {
     let told = match live_master(alloc, state) {
         Ok(list) => Told::answer(is_master(&list, "/live/0.m3u8")),
         Err(_) => Told::Wanted,
@@ -102,7 +93,7 @@ fn told_master(alloc: Global, state: &Snapshot) -> Told {
 }
 
 /// What is told of the list's text, and that the list stays.
-fn told_written(alloc: Global, list: &MasterPlaylist) -> Told {
+pub fn told_written(alloc: Global, list: &MasterPlaylist) -> Told {
     let told = match write_master(alloc, list) {
         Ok(text) => Told::answer(text.as_slice() == master()),
         Err(_) => Told::Wanted,
@@ -110,7 +101,7 @@ fn told_written(alloc: Global, list: &MasterPlaylist) -> Told {
     told.kept(is_master(list, "/live/0.m3u8"))
 }
 
-fn told_master_text(alloc: Global, state: &Snapshot) -> Told {
+pub fn told_master_text(alloc: Global, state: &Snapshot) -> Told {
     let told = match live_master(alloc, state) {
         Ok(list) => told_written(alloc, &list),
         Err(_) => Told::Wanted,
@@ -119,19 +110,9 @@ fn told_master_text(alloc: Global, state: &Snapshot) -> Told {
 }
 
 #[test]
-fn ample_memory_lists_the_channel(rt: HostRuntime) {
-    let alloc = rt.alloc();
-    let state = units_at_last(alloc).expect(&rt, "a channel");
-    assert!(rt; told_list(alloc, &state).is_ample());
-    assert!(rt; told_master(alloc, &state).is_ample());
-    assert!(rt; told_text(alloc, &state).is_ample());
-    assert!(rt; told_master_text(alloc, &state).is_ample());
-}
-
-#[test]
 fn refused_memory_lists_the_channel_once_more(rt: HostRuntime) {
     let alloc = rt.alloc();
-    let state = units_at_last(alloc).expect(&rt, "a channel");
+    let state = recorded_at_last(alloc, &THREE_UNITS).expect(&rt, "a channel");
     assert!(rt; told_list(alloc, &state).is_held(told_list(alloc, &state)));
     assert!(rt; told_master(alloc, &state).is_held(told_master(alloc, &state)));
 }
@@ -139,13 +120,13 @@ fn refused_memory_lists_the_channel_once_more(rt: HostRuntime) {
 #[test]
 fn refused_memory_writes_playlists_once_more(rt: HostRuntime) {
     let alloc = rt.alloc();
-    let state = units_at_last(alloc).expect(&rt, "a channel");
+    let state = recorded_at_last(alloc, &THREE_UNITS).expect(&rt, "a channel");
     assert!(rt; told_text(alloc, &state).is_held(told_text(alloc, &state)));
     assert!(rt; told_master_text(alloc, &state).is_held(told_master_text(alloc, &state)));
 }
 
 /// The table that the request is answered from.
-fn told_table(alloc: Global, state: &Snapshot) -> Told {
+pub fn told_table(alloc: Global, state: &Snapshot) -> Told {
     let told = match table_of(alloc, state, REQUEST) {
         Ok(table) => Told::answer(table.len() == 4),
         Err(CatchFault::Memory) => Told::Wanted,
@@ -154,7 +135,7 @@ fn told_table(alloc: Global, state: &Snapshot) -> Told {
     told.kept(state.version() == 5)
 }
 
-fn replied_at_last(alloc: Global, state: &Arc<Snapshot>) -> Option<Reply> {
+pub fn replied_at_last(alloc: Global, state: &Arc<Snapshot>) -> Option<Reply> {
     match answer(alloc, state, REQUEST) {
         Ok(reply) => Some(reply),
         Err(_) => answer(alloc, state, REQUEST).ok(),
@@ -162,7 +143,7 @@ fn replied_at_last(alloc: Global, state: &Arc<Snapshot>) -> Option<Reply> {
 }
 
 /// The master playlist of a reply.
-fn told_of_reply(alloc: Global, reply: &Reply) -> Told {
+pub fn told_of_reply(alloc: Global, reply: &Reply) -> Told {
     match job_master(alloc, reply) {
         Ok(list) => Told::answer(is_master(&list, "0.m3u8")),
         Err(_) => Told::Wanted,
@@ -170,18 +151,9 @@ fn told_of_reply(alloc: Global, reply: &Reply) -> Told {
 }
 
 #[test]
-fn ample_memory_lists_the_job(rt: HostRuntime) {
-    let alloc = rt.alloc();
-    let state = finished_at_last(alloc).expect(&rt, "a channel");
-    assert!(rt; told_table(alloc, &state).is_ample());
-    let reply = replied_at_last(alloc, &state).expect(&rt, "a reply");
-    assert!(rt; told_of_reply(alloc, &reply).is_ample());
-}
-
-#[test]
 fn refused_memory_lists_the_job_once_more(rt: HostRuntime) {
     let alloc = rt.alloc();
-    let state = finished_at_last(alloc).expect(&rt, "a channel");
+    let state = ended_at_last(alloc, &THREE_UNITS).expect(&rt, "a channel");
     let first = told_table(alloc, &state);
     assert!(rt; first.is_held(told_table(alloc, &state)));
     let reply = replied_at_last(alloc, &state).expect(&rt, "a reply");

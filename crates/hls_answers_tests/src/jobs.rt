@@ -1,14 +1,14 @@
 //! Jobs under a lock, and answers that are kept.
 
-use crate::channel::{SECOND, finished_at_last};
-use crate::told::Told;
-use hls_catchup::{Answered, Gate, Job, JobTable, Jobs, Request, work_loop};
-use hls_check_laws::CostRule;
+use hls_catchup::{Answered, CostRule, Gate, Job, JobTable, Jobs, Request, work_loop};
 use hls_core::snapshot::Snapshot;
+use hls_fakes::Told;
+use hls_sample_channels::{SECOND, THREE_UNITS, ended_at_last};
 use std::alloc::Global;
 use std::sync::{Arc, Wait};
 
-const REQUEST: Request = Request {
+/// A request for all of three units.
+pub const REQUEST: Request = Request {
     start_us: 0,
     stop_us: 12 * SECOND,
     preferred: 4 * SECOND,
@@ -30,7 +30,7 @@ fn is_answered(answered: &Answered) -> bool {
 }
 
 /// What is told of an answer that is kept once more.
-fn told_again(answered: &Answered) -> Told {
+pub fn told_again(answered: &Answered) -> Told {
     let told = match answered.again() {
         Ok(again) => Told::answer(is_answered(&again)),
         Err(_) => Told::Wanted,
@@ -39,7 +39,7 @@ fn told_again(answered: &Answered) -> Told {
 }
 
 /// What is answered of the channel, and kept once more.
-fn told_answered(alloc: Global, state: &Arc<Snapshot>) -> Told {
+pub fn told_answered(alloc: Global, state: &Arc<Snapshot>) -> Told {
     let Ok(share) = Arc::try_clone(state) else {
         return Told::Wanted;
     };
@@ -50,7 +50,7 @@ fn told_answered(alloc: Global, state: &Arc<Snapshot>) -> Told {
     told.kept(state.version() == 5)
 }
 
-fn told_table(alloc: Global) -> Told {
+pub fn told_table(alloc: Global) -> Told {
     match JobTable::new(alloc) {
         Ok(jobs) => Told::answer(jobs.len() == 0),
         Err(_) => Told::Wanted,
@@ -58,17 +58,9 @@ fn told_table(alloc: Global) -> Told {
 }
 
 #[test]
-fn ample_memory_answers(rt: HostRuntime) {
-    let alloc = rt.alloc();
-    let state = finished_at_last(alloc).expect(&rt, "a channel");
-    assert!(rt; told_answered(alloc, &state).is_ample());
-    assert!(rt; told_table(alloc).is_ample());
-}
-
-#[test]
 fn refused_memory_is_no_answer(rt: HostRuntime) {
     let alloc = rt.alloc();
-    let state = finished_at_last(alloc).expect(&rt, "a channel");
+    let state = ended_at_last(alloc, &THREE_UNITS).expect(&rt, "a channel");
     let first = told_answered(alloc, &state);
     assert!(rt; first.is_held(told_answered(alloc, &state)));
     assert!(rt; told_table(alloc).is_held(told_table(alloc)));
@@ -80,7 +72,13 @@ fn is_only_job<T: Wait>(rt: &T, jobs: &Jobs, id: u64) -> bool {
 }
 
 /// What the job of the next id comes to in a loop, and that it's gone once it was taken away.
-fn told_loop<T: Wait>(rt: &T, alloc: Global, jobs: &Jobs, state: &Arc<Snapshot>, id: u64) -> Told {
+pub fn told_loop<T: Wait>(
+    rt: &T,
+    alloc: Global,
+    jobs: &Jobs,
+    state: &Arc<Snapshot>,
+    id: u64,
+) -> Told {
     let Ok(share) = Arc::try_clone(state) else {
         return Told::Wanted;
     };
@@ -96,7 +94,7 @@ fn told_loop<T: Wait>(rt: &T, alloc: Global, jobs: &Jobs, state: &Arc<Snapshot>,
     told.kept(is_only_job(rt, jobs, id))
 }
 
-fn jobs_at_last(alloc: Global) -> Option<Jobs> {
+pub fn jobs_at_last(alloc: Global) -> Option<Jobs> {
     match Jobs::new(alloc) {
         Ok(jobs) => Some(jobs),
         Err(_) => Jobs::new(alloc).ok(),
@@ -104,19 +102,9 @@ fn jobs_at_last(alloc: Global) -> Option<Jobs> {
 }
 
 #[test]
-fn ample_memory_works_jobs_off(rt: HostRuntime) {
-    let alloc = rt.alloc();
-    let state = finished_at_last(alloc).expect(&rt, "a channel");
-    let jobs = jobs_at_last(alloc).expect(&rt, "jobs");
-    // so that the loop ends where none waits
-    jobs.close(&rt);
-    assert!(rt; told_loop(&rt, alloc, &jobs, &state, 1).is_ample());
-}
-
-#[test]
 fn refused_memory_fails_a_job_and_works_the_next_off(rt: HostRuntime) {
     let alloc = rt.alloc();
-    let state = finished_at_last(alloc).expect(&rt, "a channel");
+    let state = ended_at_last(alloc, &THREE_UNITS).expect(&rt, "a channel");
     let jobs = jobs_at_last(alloc).expect(&rt, "jobs");
     jobs.close(&rt);
     let first = told_loop(&rt, alloc, &jobs, &state, 1);

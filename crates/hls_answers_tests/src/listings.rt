@@ -2,12 +2,12 @@
 
 ghost use Rattle.hls_origin_listing.specs.Lists.{CanList};
 
-use crate::channel::finished_at_last;
-use crate::told::Told;
 use hls_check_laws::CostRule;
 use hls_core::snapshot::Snapshot;
+use hls_fakes::Told;
 use hls_m3u8::is_uri;
 use hls_origin_listing::{ListFault, Listed, Listing, list};
+use hls_sample_channels::{THREE_UNITS, ended_at_last};
 use std::alloc::Global;
 
 fn list_text() -> &'static [u8] {
@@ -26,7 +26,7 @@ fn is_listed(listed: &Listed, wanted: &[u8]) -> bool {
 }
 
 /// What is told of the channel, which stays as it was.
-fn told(alloc: Global, state: &Snapshot, listing: Listing, wanted: &[u8]) -> Told
+pub fn told(alloc: Global, state: &Snapshot, listing: Listing, wanted: &[u8]) -> Told
     requires { CanList listing }
 {
     if state.config().renditions().len() != 1 || state.recording(0).is_none() {
@@ -53,31 +53,22 @@ fn planned(certificate: bool) -> Listing
     }
 }
 
-fn told_each(alloc: Global, state: &Snapshot) -> Told {
+pub fn told_each(alloc: Global, state: &Snapshot) -> Told {
     told(alloc, state, Listing::Each, list_text())
 }
 
-fn told_planned(alloc: Global, state: &Snapshot) -> Told {
+pub fn told_planned(alloc: Global, state: &Snapshot) -> Told {
     told(alloc, state, planned(false), list_text())
 }
 
-fn told_certificate(alloc: Global, state: &Snapshot) -> Told {
+pub fn told_certificate(alloc: Global, state: &Snapshot) -> Told {
     told(alloc, state, planned(true), certificate_text())
-}
-
-#[test]
-fn ample_memory_prints(rt: HostRuntime) {
-    let alloc = rt.alloc();
-    let state = finished_at_last(alloc).expect(&rt, "a channel");
-    assert!(rt; told_each(alloc, &state).is_ample());
-    assert!(rt; told_planned(alloc, &state).is_ample());
-    assert!(rt; told_certificate(alloc, &state).is_ample());
 }
 
 #[test]
 fn refused_memory_prints_once_more(rt: HostRuntime) {
     let alloc = rt.alloc();
-    let state = finished_at_last(alloc).expect(&rt, "a channel");
+    let state = ended_at_last(alloc, &THREE_UNITS).expect(&rt, "a channel");
     assert!(rt; told_each(alloc, &state).is_held(told_each(alloc, &state)));
     assert!(rt; told_planned(alloc, &state).is_held(told_planned(alloc, &state)));
     assert!(rt; told_certificate(alloc, &state).is_held(told_certificate(alloc, &state)));
