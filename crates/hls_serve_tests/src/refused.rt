@@ -12,8 +12,8 @@ use hls_serve::keeper::Keeper;
 use hls_serve::news::Unobserved;
 use hls_serve::session::session_on;
 use std::alloc::Global;
+use std::io::{Read, Write};
 use std::sync::Wait;
-use std::test::Fail;
 
 /// A channel that one thread keeps.
 #[derive(Drop)]
@@ -23,9 +23,9 @@ struct Kept<'a, T: Wait> {
 }
 
 /// Serves a session of any keeper. (Of one that is known here the proof would go through all that it keeps.)
-fn serve_at<T: Wait, K: Keeper>(
+fn serve_at<T: Wait, K: Keeper, R: Read, W: Write>(
     rt: &T,
-    session: &mut Session<&[u8], Page>,
+    session: &mut Session<R, W>,
     keeper: &mut K,
 ) -> SessionEnd
     ensures { result ≡ result }
@@ -71,13 +71,12 @@ fn sent<T: Wait>(rt: &T, alloc: Global) -> Option<(Went, bool)>
 }
 
 #[test]
-fn refused_memory_is_wanted_once(rt: HostRuntime) -> Result<(), Fail> {
+fn refused_memory_is_wanted_once(rt: HostRuntime) {
     let alloc = rt.alloc();
     let (went, is_whole) = match sent(&rt, alloc) {
         Some(both) => both,
-        None => sent(&rt, alloc).ok_or("no channel")?,
+        None => sent(&rt, alloc).expect(&rt, "a channel"),
     };
     assert!(rt; went != Went::Astray);
     assert!(rt; is_whole);
-    Ok(())
 }

@@ -16,7 +16,6 @@ use hls_turn::Turn;
 use std::alloc::Global;
 use std::mem::swap;
 use std::sync::Wait;
-use std::test::Fail;
 
 /// Lets every job in.
 #[derive(Drop)]
@@ -96,13 +95,12 @@ fn sent<T: Wait>(rt: &T, alloc: Global) -> Option<(Went, bool)>
 }
 
 #[test]
-fn refused_memory_holds_no_turn(rt: HostRuntime) -> Result<(), Fail> {
+fn refused_memory_holds_no_turn(rt: HostRuntime) {
     let alloc = rt.alloc();
     let (went, is_whole) = match sent(&rt, alloc) {
         Some(both) => both,
-        None => sent(&rt, alloc).ok_or("no channel")?,
+        None => sent(&rt, alloc).expect(&rt, "a channel"),
     };
     assert!(rt; went != Went::Astray);
     assert!(rt; is_whole);
-    Ok(())
 }
