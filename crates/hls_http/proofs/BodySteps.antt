@@ -11,9 +11,7 @@ use Rattle.hls_http_laws.specs.declared.body.Body.{Body}
 use Rattle.hls_http_laws.specs.declared.body.Body.TheVariants.{Length, Size, Data, Trailers}
 use Rattle.hls_http_laws.specs.Bodies.{after_line, Steps, Runs, NoStep, HasNoStep, Goes}
 use Rattle.hls_http_laws.proofs.Callers.{Leaves, cut, run_one, runs_join, runs_leave, runs_stay, some_line, some_section}
-use Rattle.hls_http.specs.declared.input.Filled.{Filled}
-use Rattle.hls_http.specs.Bodies.{IsLastAlone}
-use Rattle.hls_http.specs.Input.{Reads}
+use Rattle.hls_http.specs.{declared.input.Filled.Filled, Bodies.IsLastAlone, Input.Reads}
 use Rattle.hls_http.proofs.HeadLaws.{known_left, reads_known}
 
 pub long_line : (held : List ℕ) (len size : ℕ) (l : ChunkLine) → IsChunkLineAt held len size l → 16384 < len → HasNoStep Size held

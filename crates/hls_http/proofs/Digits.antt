@@ -1,13 +1,9 @@
 -- Digits read one after the other.
 use Rattle.std.proofs.Common.{◌≡◌, ◌∙◌, ℕ, ◌+◌, ◌-◌, ◌*◌, ◌<◌, min, List, [], ◌∷◌, true, false, ◌&&◌, length, get_or, take, refl, sym, ap, arith}
-use Rattle.std.specs.List.{list_all}
-use Rattle.std.specs.Str.{all_ascii_digits}
-use Rattle.std.specs.Str.Parse.{digits_value}
+use Rattle.std.specs.{List.list_all, Str.all_ascii_digits, Str.Parse.digits_value}
 use Rattle.std.specs.Char.{is_ascii_digit, IsAsciiDigit}
-use Rattle.std.proofs.lemmas.Bool.{and_from}
+use Rattle.std.proofs.{lemmas.Bool.and_from, lemmas.Str.digit_value_digit, lemmas.Int.Digits.digits_value_more}
 use Rattle.std.proofs.lemmas.List.Folds.{list_all_at, list_all_more}
-use Rattle.std.proofs.lemmas.Str.{digit_value_digit}
-use Rattle.std.proofs.lemmas.Int.Digits.{digits_value_more}
 
 all_digits : (bs : List ℕ) → all_ascii_digits bs ≡ list_all is_ascii_digit bs
 all_digits [] = refl

@@ -2,18 +2,14 @@
 use Rattle.std.proofs.Common.{◌≡◌, ◌∙◌, ℕ, ◌≤◌, ◌<◌, List, [], ◌++◌, inl, Option, Some, None, length, take, drop, refl, sym, ap, subst, arith, append_assoc, append-nil, length-take}
 use Rattle.std.specs.Io.KnownBytes.{IsAtEnd, prepend_known}
 use Rattle.std.proofs.lemmas.List.{length-map}
-use Rattle.httparse.specs.declared.spans.HeaderSpan.{HeaderSpan}
-use Rattle.httparse.specs.declared.spans.RequestSpans.{RequestSpans}
+use Rattle.httparse.specs.{declared.spans.HeaderSpan.HeaderSpan, declared.spans.RequestSpans.RequestSpans}
 use Rattle.httparse.specs.Grammar.{RequestHead, print_request, ReadsRequest, HasNoRequest}
 use Rattle.httparse.specs.Spans.{IsRequestAt, IsRequestWithin, header_bytes, name_and_value}
 use Rattle.httparse.proofs.GrammarLemmas.{ReadsRequest-append, request_prefix_free}
 use Rattle.hls_http_laws.specs.Heads.{IsTooLarge}
 use Rattle.hls_http_laws.proofs.Callers.{cut}
-use Rattle.hls_http.specs.declared.head.Head.{Head}
-use Rattle.hls_http.specs.declared.input.Filled.{Filled}
-use Rattle.hls_http.specs.declared.input.Filled.TheVariants.{AtEnd}
+use Rattle.hls_http.specs.{declared.head.Head.Head, declared.input.Filled.Filled, declared.input.Filled.TheVariants.AtEnd, Input.Reads}
 use Rattle.hls_http.specs.Heads.{IsHead, FoundHead, Heard}
-use Rattle.hls_http.specs.Input.{Reads}
 
 pub head_past : (text : List ℕ) (headers : List HeaderSpan) (spans : RequestSpans) (h : RequestHead) → IsRequestWithin text headers spans → IsRequestAt text headers spans h → 16384 < spans.len → IsTooLarge text
 head_past text headers spans h within at past = record {

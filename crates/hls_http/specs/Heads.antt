@@ -8,12 +8,9 @@ use Rattle.hls_http_laws.specs.Heads.{ReadsSmall, IsUnfinished, IsTooLarge}
 use Rattle.hls_http_laws.specs.Fields.{closes, expects, values}
 use Rattle.hls_http_laws.specs.Range.{asked_of}
 use Rattle.hls_http_laws.specs.Requests.{begins, fields_of}
-use Rattle.hls_http.specs.declared.head.Method.{Method}
+use Rattle.hls_http.specs.{declared.head.Method.Method, declared.head.Head.Head, declared.head.Look.Look, declared.head.HeadEnd.HeadEnd}
 use Rattle.hls_http.specs.declared.head.Method.TheVariants as methods
-use Rattle.hls_http.specs.declared.head.Head.{Head}
-use Rattle.hls_http.specs.declared.head.Look.{Look}
 use Rattle.hls_http.specs.declared.head.Look.TheVariants.{Partial, Hopeless, TooLarge}
-use Rattle.hls_http.specs.declared.head.HeadEnd.{HeadEnd}
 use Rattle.hls_http.specs.declared.head.HeadEnd.TheVariants.{Closed, CutShort, BadHead, HeadTooLarge, ReadFailed}
 
 abbrev pub method_of : List ℕ → Method

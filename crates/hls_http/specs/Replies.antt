@@ -1,10 +1,8 @@
 -- What a reply comes to, and how a session goes on after it.
 use Rattle.std.specs.Prelude.{◌≡◌, ℕ, ◌⊎◌, Bool, true, false, ◌&&◌, not, List, ◌++◌, Option, Some, Result, Ok, Err}
-use Rattle.hls_io.specs.Rose.{Rose}
-use Rattle.hls_io.specs.Writing.{Writes}
-use Rattle.hls_http_laws.specs.declared.end.SessionEnd.{SessionEnd}
+use Rattle.hls_io.specs.{Rose.Rose, Writing.Writes}
+use Rattle.hls_http_laws.specs.{declared.end.SessionEnd.SessionEnd, declared.reply.ReplyHead.ReplyHead}
 use Rattle.hls_http_laws.specs.declared.end.SessionEnd.TheVariants.{Closed, Refused, CutShort, ReadFailed, WriteFailed}
-use Rattle.hls_http_laws.specs.declared.reply.ReplyHead.{ReplyHead}
 use Rattle.hls_http_laws.specs.Reply.{is_success, no_memory_to, reply_text}
 
 -- a reply that ends the session, and gives what was asked for; or refuses it

@@ -1,8 +1,7 @@
 -- What is told of a source: what it holds, what was taken last, and the reader inside; and a session that begins.
 use Rattle.std.specs.Prelude.{◌≡◌, ℕ, List, [], ◌++◌, Option, Some}
 use Rattle.hls_io.specs.Counted.{calls_left, failures_of, inside_of}
-use Rattle.hls_http.specs.declared.session.Session.{Session}
-use Rattle.hls_http.specs.declared.source.Source.{Source}
+use Rattle.hls_http.specs.{declared.session.Session.Session, declared.source.Source.Source}
 
 -- read, and not yet taken
 abbrev pub held_of : {R : Type 0} → Source R → List ℕ

@@ -1,10 +1,9 @@
 -- For the proofs of this crate; no public clause cites it.
 -- The values of a head's fields, as its spans show them.
 use Rattle.std.specs.Prelude.{◌≡◌, ℕ, ◌<◌, ◌≤◌, cond, List, [], ◌∷◌, length, drop, map, Option, Some, None}
-use Rattle.httparse.specs.declared.spans.HeaderSpan.{HeaderSpan}
+use Rattle.httparse.specs.{declared.spans.HeaderSpan.HeaderSpan, Spans.header_bytes}
 use Rattle.hls_http.specs.declared.fields.Only.{Only}
 use Rattle.hls_http.specs.declared.fields.Only.TheVariants.{Missing, One, Several}
-use Rattle.httparse.specs.Spans.{header_bytes}
 use Rattle.hls_http_laws.specs.Fields.{Fields, named, values}
 
 abbrev pub fields_at : List ℕ → List HeaderSpan → Fields

@@ -1,8 +1,7 @@
 //! Bytes and decimal numbers of fields and queries.
 
 ghost use Rattle.std.specs.Prelude.{◌≡◌, ◌<◌, ◌≤◌, ◌^◌, ◌==◌, ◌+◌, cond, length, min, position, IfSome, Some, None};
-ghost use Rattle.std.specs.Str.{all_ascii_digits};
-ghost use Rattle.std.specs.Str.Parse.{digits_value};
+ghost use Rattle.std.specs.{Str.all_ascii_digits, Str.Parse.digits_value};
 
 /// Where a byte stands first.
 pub fn find_byte(text: &[u8], byte: u8) -> Option<usize>

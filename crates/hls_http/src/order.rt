@@ -4,8 +4,7 @@ ghost use Rattle.std.specs.Prelude.{◌≡◌, ◌≤◌, List, ℕ, false};
 ghost use Rattle.httparse.specs.Grammar.{RequestHead};
 ghost use Rattle.hls_http_laws.specs.Order as spec;
 ghost use Rattle.hls_http_laws.specs.Requests.{begins};
-ghost use Rattle.hls_http.specs.Drained.{announced_by};
-ghost use Rattle.hls_http.specs.Heads.{IsHead};
+ghost use Rattle.hls_http.specs.{Drained.announced_by, Heads.IsHead};
 
 use crate::head::Head;
 use hls_http_laws::body::Body;

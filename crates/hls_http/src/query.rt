@@ -1,10 +1,9 @@
 //! Targets and their queries.
 
 ghost use Rattle.std.specs.Prelude.{◌≡◌, ◌==◌, ◌+◌, drop, take, option_map, IfOk};
-ghost use Rattle.std.specs.List.{position_or_len};
+ghost use Rattle.std.specs.{List.position_or_len, Prelude.map};
 ghost use Rattle.form_urlencoded.specs.Form.{decode, plus_to_space};
 ghost use Rattle.hls_http_laws.specs.Query.{value_in};
-ghost use Rattle.std.specs.Prelude.{map};
 
 use crate::number::find_byte;
 use form_urlencoded::raw_pairs;

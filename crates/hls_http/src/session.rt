@@ -1,8 +1,7 @@
 //! A session: the requests that come of a reader, and the replies that go to a writer.
 
 ghost use Rattle.std.specs.Prelude.{◌≡◌};
-ghost use Rattle.hls_io.specs.Counted.{failures_of};
-ghost use Rattle.hls_io.specs.Streams.{ToOutput};
+ghost use Rattle.hls_io.specs.{Counted.failures_of, Streams.ToOutput};
 ghost use Rattle.hls_io.specs.Writing.{CountsWrite, Writes};
 ghost use Rattle.hls_http_laws.specs.Reply.{no_memory_to};
 ghost use Rattle.hls_http.specs.Bodies.{CountsBody, Passes};

@@ -3,8 +3,7 @@ use Rattle.std.proofs.Common.{◌≡◌, ◌∙◌, ℕ, zero, suc, ◌+◌, ◌
 use Rattle.std.specs.List.{flat_map}
 use Rattle.std.proofs.lemmas.List.{nil_from_length}
 use Rattle.httparse.specs.Grammar.{ChunkLine, Field, LineEnd, crlf, lf, print_chunk_line, print_field, print_section, chunk_size}
-use Rattle.httparse.proofs.GrammarLemmas.{section_unique}
-use Rattle.httparse.proofs.ChunkLemmas.{chunk_line_unique}
+use Rattle.httparse.proofs.{GrammarLemmas.section_unique, ChunkLemmas.chunk_line_unique}
 use Rattle.hls_http_laws.specs.declared.body.Body.{Body}
 use Rattle.hls_http_laws.specs.declared.body.Body.TheVariants.{Length, Size, Data, Trailers}
 use Rattle.hls_http_laws.specs.Bodies.{ReadsLine, ReadsTrailers, after_line, TakesData, EndsData, Steps, Runs, NoStep, StepThen, IsBroken, IsOpen}

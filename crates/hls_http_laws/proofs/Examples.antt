@@ -1,10 +1,9 @@
 -- The definitions, computed on rows that no test has.
 use Rattle.std.proofs.Common.{◌≡◌, ℕ, true, false, List, [], ◌∷◌, Err, refl, codes}
-use Rattle.hls_http_laws.specs.declared.fault.HttpFault.TheVariants.{BadFraming}
+use Rattle.hls_http_laws.specs.{declared.fault.HttpFault.TheVariants.BadFraming, Framing.body_of}
 use Rattle.hls_http_laws.specs.declared.range.Part.TheVariants as parts
 use Rattle.hls_text.specs.Digits.{number_of}
 use Rattle.hls_http_laws.specs.Fields.{values, has_word, closes}
-use Rattle.hls_http_laws.specs.Framing.{body_of}
 use Rattle.hls_http_laws.specs.Range.{asked, part_of}
 
 sixteen_digits : body_of 1 ((codes "HOST", codes "a") ∷ (codes "Content-Length", codes "0000000000000005") ∷ []) ≡ Err BadFraming

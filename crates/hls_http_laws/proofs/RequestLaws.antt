@@ -2,12 +2,9 @@
 use Rattle.std.proofs.Common.{◌≡◌, ◌∙◌, ℕ, inl, inr, List, [], ◌∷◌, ◌++◌, length, Ok, refl, sym, ap, subst, append-nil, arith, length-append}
 use Rattle.httparse.specs.Grammar.{RequestHead, print_request, ReadsRequest}
 use Rattle.httparse.proofs.GrammarLemmas.{request_unique}
-use Rattle.hls_http_laws.specs.declared.body.Body.{Body}
-use Rattle.hls_http_laws.specs.declared.end.InputEnd.{InputEnd}
+use Rattle.hls_http_laws.specs.{declared.body.Body.Body, declared.end.InputEnd.InputEnd, Heads.ReadsSmall, Grammar.IsBody}
 use Rattle.hls_http_laws.specs.declared.end.InputEnd.TheVariants.{Closed, CutShort, BadHead, HeadTooLarge, BadRequest}
-use Rattle.hls_http_laws.specs.Heads.{ReadsSmall}
 use Rattle.hls_http_laws.specs.Bodies.{IsBroken, IsOpen}
-use Rattle.hls_http_laws.specs.Grammar.{IsBody}
 use Rattle.hls_http_laws.specs.Requests.{Request, begins, ReadsOne, Cuts, StopsInBody, HasBadFields, Ends}
 use Rattle.hls_http_laws.specs.Laws.{StreamsAreOne}
 use Rattle.hls_http_laws.proofs.BodyLaws.{body_one, broken_body, open_body, run_left}

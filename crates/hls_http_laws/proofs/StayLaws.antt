@@ -4,12 +4,9 @@ use Rattle.std.proofs.lemmas.Bool.{cases_lt}
 use Rattle.httparse.specs.Grammar.{ReadsRequest}
 use Rattle.httparse.proofs.ChunkLemmas.{ReadsChunkLine-append}
 use Rattle.httparse.proofs.GrammarLemmas.{ReadsSection-append, ReadsRequest-append, request_unique}
-use Rattle.hls_http_laws.specs.declared.body.Body.{Body}
+use Rattle.hls_http_laws.specs.{declared.body.Body.Body, Grammar.IsBody, Heads.ReadsSmall, Requests.Cuts}
 use Rattle.hls_http_laws.specs.declared.body.Body.TheVariants.{Length, Size, Data, Trailers}
 use Rattle.hls_http_laws.specs.Bodies.{IsPiece, ReadsLine, Steps, Runs, NoStep, StepThen, after_line}
-use Rattle.hls_http_laws.specs.Grammar.{IsBody}
-use Rattle.hls_http_laws.specs.Heads.{ReadsSmall}
-use Rattle.hls_http_laws.specs.Requests.{Cuts}
 use Rattle.hls_http_laws.specs.Laws.{HeadsStay, RunsStay, BodiesStay, RequestsStay, StreamsStay, BadHeadsStay, LargeHeadsStay, BadFieldsStay, BrokenBodiesStay, RunsJoin, SplitsAt, RunsSplit, StreamsJoin, HeadsAreOne, RequestsAreOne, BrokenBodies, OpenBodies, SizesCount}
 use Rattle.hls_http_laws.proofs.BodyLaws.{body_taken, broken_body, cut, open_body, run_left, run_one, step_left, taken_body}
 use Rattle.hls_http_laws.proofs.RequestLaws.{one_left}

@@ -1,8 +1,7 @@
 -- What the fields of a head say, from the list of their names and values.
 use Rattle.std.specs.Prelude.{ℕ, Bool, ◌&&◌, ◌||◌, cond, ◌==◌, nat_eq, ◌-◌, List, [], ◌∷◌, length, take, drop, Option, codes}
 use Rattle.std.specs.List.{list_any, prefix_len, slice_split, suffix_len}
-use Rattle.std.specs.Char.{is_ascii_whitespace}
-use Rattle.std.specs.Str.{str_eq_ignore_ascii_case}
+use Rattle.std.specs.{Char.is_ascii_whitespace, Str.str_eq_ignore_ascii_case}
 use Rattle.hls_text.specs.Digits.{number_of}
 use Rattle.hls_http_laws.specs.Limits.{length_digits}
 

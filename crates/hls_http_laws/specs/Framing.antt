@@ -1,10 +1,8 @@
 -- The length of a request's body, from its head (RFC 9112, section 6.3); what could be read in two ways is refused.
 use Rattle.std.specs.Prelude.{ℕ, Bool, true, false, ◌&&◌, cond, nat_eq, List, [], ◌∷◌, Option, Some, None, Result, Ok, Err, codes}
-use Rattle.std.specs.List.{list_all}
-use Rattle.std.specs.Str.{str_eq_ignore_ascii_case}
-use Rattle.hls_http_laws.specs.declared.body.Body.{Body}
+use Rattle.std.specs.{List.list_all, Str.str_eq_ignore_ascii_case}
+use Rattle.hls_http_laws.specs.{declared.body.Body.Body, declared.fault.HttpFault.HttpFault}
 use Rattle.hls_http_laws.specs.declared.body.Body.TheVariants.{Length, Size}
-use Rattle.hls_http_laws.specs.declared.fault.HttpFault.{HttpFault}
 use Rattle.hls_http_laws.specs.declared.fault.HttpFault.TheVariants.{BadHead, BadFraming}
 use Rattle.hls_http_laws.specs.Fields.{Fields, values, length_of}
 

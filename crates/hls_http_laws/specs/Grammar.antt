@@ -2,10 +2,8 @@
 use Rattle.std.specs.Prelude.{◌≡◌, ℕ, List, [], ◌∷◌, ◌++◌, length, ◌<◌, ◌≤◌}
 use Rattle.std.specs.List.{flat_map}
 use Rattle.httparse.specs.Grammar.{ChunkLine, IsChunkLine, print_chunk_line, chunk_size}
-use Rattle.hls_http_laws.specs.declared.body.Body.{Body}
+use Rattle.hls_http_laws.specs.{declared.body.Body.Body, Limits.head_limit, Bodies.ReadsTrailers}
 use Rattle.hls_http_laws.specs.declared.body.Body.TheVariants.{Length, Size, Data, Trailers}
-use Rattle.hls_http_laws.specs.Limits.{head_limit}
-use Rattle.hls_http_laws.specs.Bodies.{ReadsTrailers}
 
 -- a chunk: its size line, and so many bytes
 pub record Chunk : Type 0 where

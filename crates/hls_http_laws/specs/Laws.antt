@@ -2,11 +2,9 @@
 -- by what stands behind it.
 use Rattle.std.specs.Prelude.{◌≡◌, ◌↔◌, ℕ, ◌+◌, ◌≤◌, List, ◌++◌, length}
 use Rattle.httparse.specs.Grammar.{RequestHead, NeverHasRequest}
-use Rattle.hls_http_laws.specs.declared.body.Body.{Body}
+use Rattle.hls_http_laws.specs.{declared.body.Body.Body, declared.end.InputEnd.InputEnd, Grammar.IsBody}
 use Rattle.hls_http_laws.specs.declared.body.Body.TheVariants.{Length, Size}
-use Rattle.hls_http_laws.specs.declared.end.InputEnd.{InputEnd}
 use Rattle.hls_http_laws.specs.Bodies.{ReadsLine, Runs, IsBroken, IsOpen}
-use Rattle.hls_http_laws.specs.Grammar.{IsBody}
 use Rattle.hls_http_laws.specs.Heads.{ReadsSmall, IsTooLarge}
 use Rattle.hls_http_laws.specs.Requests.{Request, ReadsOne, Cuts, HasBadFields, AreRequests}
 

@@ -1,13 +1,10 @@
 -- The order in which a request is looked at: its fields, its path, its body, and only then the rest.
 use Rattle.std.specs.Prelude.{nat_lt, nat_eq, Bool, true, false, not, ◌||◌, ◌&&◌, cond, Result, Ok, Err}
 use Rattle.httparse.specs.Grammar.{RequestHead}
-use Rattle.hls_http_laws.specs.declared.body.Body.{Body}
+use Rattle.hls_http_laws.specs.{declared.body.Body.Body, declared.fault.HttpFault.HttpFault, declared.plan.Plan.Plan, Limits.dropped_limit}
 use Rattle.hls_http_laws.specs.declared.body.Body.TheVariants.{Length, Data}
-use Rattle.hls_http_laws.specs.declared.fault.HttpFault.{HttpFault}
 use Rattle.hls_http_laws.specs.declared.fault.HttpFault.TheVariants.{TooLarge, NotFound}
-use Rattle.hls_http_laws.specs.declared.plan.Plan.{Plan}
 use Rattle.hls_http_laws.specs.declared.plan.Plan.TheVariants.{Refuse, Feed, Skip}
-use Rattle.hls_http_laws.specs.Limits.{dropped_limit}
 use Rattle.hls_http_laws.specs.Fields.{closes, expects}
 use Rattle.hls_http_laws.specs.Requests.{fields_of}
 

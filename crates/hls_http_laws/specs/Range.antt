@@ -1,13 +1,9 @@
 -- The part of a resource that a Range asks for (RFC 9110, section 14).
 use Rattle.std.specs.Prelude.{ℕ, ◌+◌, ◌-◌, ◌≤◌, min, nat_lt, nat_le, nat_eq, Bool, true, false, ◌&&◌, cond, ◌==◌, List, [], ◌∷◌, take, drop, length, codes, bytes_eq}
-use Rattle.std.specs.List.{position_or_len}
-use Rattle.std.specs.Str.{all_ascii_digits}
-use Rattle.std.specs.Str.Parse.{digits_value}
-use Rattle.hls_http_laws.specs.declared.range.Asked.{Asked}
+use Rattle.std.specs.{List.position_or_len, Str.all_ascii_digits, Str.Parse.digits_value}
+use Rattle.hls_http_laws.specs.{declared.range.Asked.Asked, declared.range.Part.Part, Limits.range_limit}
 use Rattle.hls_http_laws.specs.declared.range.Asked.TheVariants as asks
-use Rattle.hls_http_laws.specs.declared.range.Part.{Part}
 use Rattle.hls_http_laws.specs.declared.range.Part.TheVariants as parts
-use Rattle.hls_http_laws.specs.Limits.{range_limit}
 
 abbrev pub is_empty : List ℕ → Bool
 is_empty [] = true

@@ -1,14 +1,11 @@
 -- The text of a reply's head (RFC 9112, section 4), and the reply to want of memory.
 use Rattle.std.specs.Prelude.{ℕ, Bool, true, false, cond, List, [], ◌∷◌, ◌++◌, length, codes}
 use Rattle.std.specs.Fmt.{decimal}
-use Rattle.hls_http_laws.specs.declared.fault.HttpFault.{HttpFault}
+use Rattle.hls_http_laws.specs.{declared.fault.HttpFault.HttpFault, declared.reply.Status.Status, declared.reply.Kind.Kind}
 use Rattle.hls_http_laws.specs.declared.fault.HttpFault.TheVariants as faults
-use Rattle.hls_http_laws.specs.declared.reply.Status.{Status}
 use Rattle.hls_http_laws.specs.declared.reply.Status.TheVariants.{Done, Accepted, NoContent, PartialContent, BadRequest, NotFound, MethodNotAllowed, Conflict, Gone, ContentTooLarge, RangeNotSatisfiable, HeadTooLarge, Unavailable, InsufficientStorage}
-use Rattle.hls_http_laws.specs.declared.reply.Kind.{Kind}
 use Rattle.hls_http_laws.specs.declared.reply.Kind.TheVariants.{Text, Media, Playlist}
-use Rattle.hls_http_laws.specs.declared.reply.Extra.{Extra}
-use Rattle.hls_http_laws.specs.declared.reply.ReplyHead.{ReplyHead}
+use Rattle.hls_http_laws.specs.{declared.reply.Extra.Extra, declared.reply.ReplyHead.ReplyHead}
 use Rattle.hls_http_laws.specs.declared.reply.Extra.TheVariants.{Nothing, Range, NoRange, Job, Allow}
 
 -- the status of a fault, and its name, as replies print it

@@ -2,15 +2,11 @@
 use Rattle.std.specs.Prelude.{◌≡◌, ℕ, ◌<◌, ◌⊎◌, List, [], ◌∷◌, length, map, Result, Ok, Err}
 use Rattle.httparse.specs.Grammar.{RequestHead, NeverHasRequest}
 use Rattle.httparse.specs.Spans.{name_and_value}
-use Rattle.hls_http_laws.specs.declared.body.Body.{Body}
-use Rattle.hls_http_laws.specs.declared.fault.HttpFault.{HttpFault}
-use Rattle.hls_http_laws.specs.declared.end.InputEnd.{InputEnd}
+use Rattle.hls_http_laws.specs.{declared.body.Body.Body, declared.fault.HttpFault.HttpFault, declared.end.InputEnd.InputEnd, Fields.Fields}
 use Rattle.hls_http_laws.specs.declared.end.InputEnd.TheVariants.{Closed, CutShort, BadHead, HeadTooLarge, BadRequest}
 use Rattle.hls_http_laws.specs.Heads.{ReadsSmall, IsUnfinished, IsTooLarge}
-use Rattle.hls_http_laws.specs.Fields.{Fields}
-use Rattle.hls_http_laws.specs.Framing.{body_of}
+use Rattle.hls_http_laws.specs.{Framing.body_of, Grammar.IsBody}
 use Rattle.hls_http_laws.specs.Bodies.{Runs, IsBroken, IsOpen}
-use Rattle.hls_http_laws.specs.Grammar.{IsBody}
 
 -- a request: its head, and the content of its body
 pub record Request : Type 0 where

@@ -3,25 +3,16 @@ use Rattle.std.specs.Prelude.{◌≡◌, ℕ, ◌+◌, ◌-◌, ◌≤◌, nat_l
 use Rattle.std.specs.List.{concat}
 use Rattle.hls_record.specs.Recorded.{Recorded, offset_at}
 use Rattle.hls_core.specs.Reads.{recording_of}
-use Rattle.hls_http_laws.specs.declared.range.Asked.{Asked}
-use Rattle.hls_http_laws.specs.declared.range.Part.TheVariants.{Outside}
-use Rattle.hls_http_laws.specs.Range.{part_of}
-use Rattle.hls_http_laws.specs.Reply.{extra_line}
+use Rattle.hls_http_laws.specs.{declared.range.Asked.Asked, declared.range.Part.TheVariants.Outside, Range.part_of, Reply.extra_line}
 use Rattle.hls_lists_laws.specs.Jobs.{units_between}
 use Rattle.hls_output.specs.Slices.{part_at, rest_at}
-use Rattle.hls_catchup.specs.Replies.{ReplyData}
-use Rattle.hls_catchup.specs.Resources.{slices_in}
-use Rattle.hls_catchup.specs.declared.jobs.job.Job.{Job}
-use Rattle.hls_catchup.specs.declared.jobs.standing.Withheld.{Withheld}
+use Rattle.hls_catchup.specs.{Replies.ReplyData, Resources.slices_in, declared.jobs.job.Job.Job, declared.jobs.standing.Withheld.Withheld}
 use Rattle.hls_catchup.specs.Jobs.Standing.{files_of}
 use Rattle.hls_serve_laws.specs.JobReplies.{resource_of}
 use Rattle.hls_serve_laws.specs.Replies.{Answer, media_bytes, media_given, part_answer}
-use Rattle.hls_replies.specs.declared.media.Recorded.{Recorded as Kept}
-use Rattle.hls_replies.specs.declared.media.Piece.{Piece}
-use Rattle.hls_replies.specs.declared.resource.Programme.{Programme as Made}
-use Rattle.hls_replies.specs.declared.body.Body.{Body}
+use Rattle.hls_replies.specs.{declared.media.Recorded.Recorded as Kept, declared.media.Piece.Piece}
+use Rattle.hls_replies.specs.{declared.resource.Programme.Programme as Made, declared.body.Body.Body, declared.content.Content.Content}
 use Rattle.hls_replies.specs.declared.body.Body.TheVariants as bodies
-use Rattle.hls_replies.specs.declared.content.Content.{Content}
 use Rattle.hls_replies.specs.declared.content.Content.TheVariants as contents
 use Rattle.hls_replies.specs.declared.answer.Answer.TheInside.{Inside}
 

@@ -2,8 +2,7 @@
 
 ghost use Rattle.std.specs.Prelude.{◌≡◌, IfOk, Ok, Some};
 ghost use Rattle.hls_serve_laws.specs.JobReplies as spec;
-ghost use Rattle.hls_serve_laws.specs.JobReplies.{withheld_answer};
-ghost use Rattle.hls_serve_laws.specs.Replies.{text_answer};
+ghost use Rattle.hls_serve_laws.specs.{JobReplies.withheld_answer, Replies.text_answer};
 
 use crate::answer::Answer;
 use crate::content::Content;

@@ -5,10 +5,8 @@ ghost use Rattle.hls_http_laws.specs.Reply.{refusal};
 ghost use Rattle.hls_core_laws.specs.RefusalName as core_names;
 ghost use Rattle.hls_feed.specs.Names.{name_of};
 ghost use Rattle.hls_serve_laws.specs.Faults.{core_status, status_of};
-ghost use Rattle.hls_serve_laws.specs.Ingest.{counts_text};
+ghost use Rattle.hls_serve_laws.specs.{Ingest.counts_text, Replies.text_answer, Routes.methods_of};
 ghost use Rattle.hls_serve_laws.specs.Replies as spec;
-ghost use Rattle.hls_serve_laws.specs.Replies.{text_answer};
-ghost use Rattle.hls_serve_laws.specs.Routes.{methods_of};
 
 use crate::answer::Answer;
 use hls_core_laws::done::Done;

@@ -1,19 +1,11 @@
 -- A request is heard once no more of its body is read.
 use Rattle.std.proofs.Common.{◌∙◌, ℕ, not, List, ◌++◌, Option, Result, refl, sym, subst}
-use Rattle.hls_http_laws.specs.declared.body.Body.{Body}
-use Rattle.hls_http_laws.specs.declared.plan.Plan.{Plan}
-use Rattle.hls_http_laws.specs.Order.{is_over}
+use Rattle.hls_http_laws.specs.{declared.body.Body.Body, declared.plan.Plan.Plan, Order.is_over}
 use Rattle.hls_http.specs.declared.drain.DropEnd.{DropEnd}
-use Rattle.hls_serve_laws.specs.declared.ingest.Intake.{Intake}
-use Rattle.hls_serve_laws.specs.declared.route.Route.{Route}
-use Rattle.hls_serve_laws.specs.Acts.{Act}
+use Rattle.hls_serve_laws.specs.{declared.ingest.Intake.Intake, declared.route.Route.Route, Acts.Act}
 use Rattle.hls_serve_laws.specs.Heard.{Due, FeedsBy, FollowsBy, Heard, IsFed, IsSkipped, SkipsBy, first_of, request_of}
-use Rattle.hls_serve.specs.declared.call.Call.{Call}
-use Rattle.hls_serve.specs.declared.ending.Ending.{Ending}
-use Rattle.hls_serve.specs.declared.dropping.Dropping.{Dropping}
-use Rattle.hls_serve.specs.declared.feeding.Feeding.{Feeding}
-use Rattle.hls_serve.specs.Taken.{progress_of}
-use Rattle.hls_serve.specs.Turns.{Replies}
+use Rattle.hls_serve.specs.{declared.call.Call.Call, declared.ending.Ending.Ending, declared.dropping.Dropping.Dropping}
+use Rattle.hls_serve.specs.{declared.feeding.Feeding.Feeding, Taken.progress_of, Turns.Replies}
 use Rattle.hls_serve.specs.Within.{HasBody, IsDropped, IsFedUp, RepliesTo}
 use Rattle.hls_serve.proofs.TurnLaws.{replies_by}
 

@@ -1,37 +1,24 @@
 -- What holds of a connection, from one step to the next.
 use Rattle.std.proofs.Common.{◌≡◌, ◌<◌, ◌==◌, ◌∙◌, ◌⊎◌, ℕ, Bool, true, false, List, [], ◌∷◌, ◌++◌, length, flat_map, Option, Some, None, inl, inr, refl, sym, ap, subst, arith, append_assoc, append-nil}
-use Rattle.std.proofs.lemmas.Grind.{flat_map-append}
-use Rattle.std.proofs.lemmas.List.{nil_from_length}
+use Rattle.std.proofs.{lemmas.Grind.flat_map-append, lemmas.List.nil_from_length, Math.Bool.and-false}
 use Rattle.httparse.specs.Grammar.{RequestHead}
-use Rattle.hls_http_laws.specs.declared.body.Body.{Body}
-use Rattle.hls_http_laws.specs.declared.fault.HttpFault.{HttpFault}
-use Rattle.hls_http_laws.specs.declared.plan.Plan.{Plan}
-use Rattle.hls_http_laws.specs.declared.plan.Plan.TheVariants.{Refuse}
+use Rattle.hls_http_laws.specs.{declared.body.Body.Body, declared.fault.HttpFault.HttpFault, declared.plan.Plan.Plan}
+use Rattle.hls_http_laws.specs.{declared.plan.Plan.TheVariants.Refuse, Fields.expects, Requests.fields_of, Order.continues}
 use Rattle.hls_http_laws.specs.Bodies.{IsOpen, Runs, NoStep}
 use Rattle.hls_http_laws.specs.Heads.{IsUnfinished, ReadsSmall}
 use Rattle.hls_http_laws.proofs.Callers.{heads_stay}
 use Rattle.std.proofs.lemmas.Bool.{cond-false, eqb-false, eqb-true}
-use Rattle.std.proofs.Math.Bool.{and-false}
-use Rattle.hls_http_laws.specs.Fields.{expects}
-use Rattle.hls_http_laws.specs.Requests.{fields_of}
-use Rattle.hls_http_laws.specs.Order.{continues}
 use Rattle.hls_core_laws.specs.Known.{Known}
-use Rattle.hls_serve_laws.specs.Acts.{Act}
+use Rattle.hls_serve_laws.specs.{Acts.Act, Replies.fault_answer}
 use Rattle.hls_serve_laws.specs.Heard.{Due, Heard, IsDue, IsDueWithoutHead, RefusesHead, first_of, request_of}
 use Rattle.hls_serve_laws.specs.Connections.{Exchange, History, Serves, IsAsked, IsBetween, IsWithin, EndsByReply, Stands, IsServed, acts_of, text_of, due_in}
-use Rattle.hls_serve_laws.specs.Replies.{fault_answer}
-use Rattle.hls_serve.specs.declared.call.Call.{Call}
-use Rattle.hls_serve.specs.declared.ending.Ending.{Ending}
+use Rattle.hls_serve.specs.{declared.call.Call.Call, declared.ending.Ending.Ending, declared.dropping.Dropping.Dropping}
 use Rattle.hls_serve.specs.declared.ending.Ending.TheVariants as own
-use Rattle.hls_serve.specs.declared.dropping.Dropping.{Dropping}
-use Rattle.hls_serve.specs.declared.feeding.Feeding.{Feeding}
-use Rattle.hls_serve.specs.declared.making.Making.{Making}
+use Rattle.hls_serve.specs.{declared.feeding.Feeding.Feeding, declared.making.Making.Making, declared.machine.Machine.Machine}
 use Rattle.http_server.specs.declared.log.Log.{Log}
-use Rattle.hls_serve.specs.declared.machine.Machine.{Machine}
-use Rattle.hls_serve.specs.declared.machine.State.{State}
+use Rattle.hls_serve.specs.{declared.machine.State.State, Taken.progress_of}
 use Rattle.hls_serve.specs.declared.machine.State.TheVariants as states
 use Rattle.hls_serve.specs.Machine.{Answered, AtHead, GoesOnIn, Holds, HoldsAt, Refuses, StandsIn, SuitsIn, asked_in, asked_now, stage_of, state_behind, total, waited_head}
-use Rattle.hls_serve.specs.Taken.{progress_of}
 use Rattle.hls_serve.specs.Turns.{IsCall, Replies, end_by}
 use Rattle.hls_serve.specs.Within.{HasBody, IsDropping, IsFeeding, IsMaking, RepliesTo}
 use Rattle.hls_serve.proofs.TurnLaws.{replies_as}

@@ -1,18 +1,11 @@
 -- What a keeper has seen, from one act to the next, and what its acts come to.
 use Rattle.std.proofs.Common.{◌≡◌, ℕ, Some, Option, Ok, Err, inl, inr, List, [], ◌∷◌, ◌++◌, refl, sym, subst, ap, ◌∙◌, append_assoc, append-nil}
 use Rattle.std.proofs.lemmas.List.Elements.{All-nil, All-push}
-use Rattle.hls_media_laws.specs.InitData.{InitData}
-use Rattle.hls_media_laws.specs.declared.facts.Facts.{Facts}
-use Rattle.hls_media_laws.specs.Meaning.{IsUnit}
-use Rattle.hls_core_laws.specs.declared.event.Event.{Event}
-use Rattle.hls_core_laws.specs.declared.event.Event.TheVariants.{Accept}
-use Rattle.hls_core_laws.specs.declared.refusal.Refusal.{Refusal}
+use Rattle.hls_media_laws.specs.{InitData.InitData, declared.facts.Facts.Facts, Meaning.IsUnit}
+use Rattle.hls_core_laws.specs.{declared.event.Event.Event, declared.event.Event.TheVariants.Accept, declared.refusal.Refusal.Refusal}
 use Rattle.hls_core_laws.specs.declared.refusal.Refusal.TheVariants as refusals
-use Rattle.hls_core_laws.specs.IsState.{IsState}
-use Rattle.hls_core_laws.specs.Moves.{IsFittingAsSeen}
-use Rattle.hls_core_laws.specs.Follows.{Follows}
+use Rattle.hls_core_laws.specs.{IsState.IsState, Moves.IsFittingAsSeen, Follows.Follows, Known.Known}
 use Rattle.hls_core_laws.proofs.Callers.{inits_stay}
-use Rattle.hls_core_laws.specs.Known.{Known}
 use Rattle.hls_boxes_laws.specs.declared.part.Part.TheVariants as parts
 use Rattle.hls_serve_laws.specs.Acts.{Act, Acted, ActsInVain, IsVain, Leads, Looked, Submitted, Submits}
 use Rattle.hls_serve_laws.specs.Ingest.{Progress, FindsInit, PartComes}

@@ -4,24 +4,19 @@ use Rattle.std.proofs.lemmas.List.{nil_from_length, take-append-drop}
 use Rattle.std.specs.Io.KnownBytes.{Appends, Consumes, IsAtEnd}
 use Rattle.std.proofs.KnownBytes.{Appends-nil, Appends-trans, Consumes-nil, Consumes-trans}
 use Rattle.bytes.specs.Unread.{IsChunkOf}
-use Rattle.hls_io.specs.Rose.{Rose}
-use Rattle.hls_io.specs.Writing.{Writes}
+use Rattle.hls_io.specs.{Rose.Rose, Writing.Writes}
 use Rattle.hls_http.proofs.Callers.{writes_whole}
 use Rattle.hls_http_laws.specs.declared.end.SessionEnd.{SessionEnd}
 use Rattle.hls_http_laws.specs.declared.end.SessionEnd.TheVariants as ends
-use Rattle.hls_core_laws.specs.IsState.{IsState}
-use Rattle.hls_core_laws.specs.Known.{Known}
+use Rattle.hls_core_laws.specs.{IsState.IsState, Known.Known}
 use Rattle.hls_serve_laws.specs.Acts.{Act, Chain}
 use Rattle.hls_serve_laws.specs.Connections.{Stage, Between, Within, Over}
 use Rattle.hls_serve_laws.specs.Sessions.{EndsSo, GoesOn}
 use Rattle.hls_serve_laws.proofs.Callers.{acted_on}
-use Rattle.hls_serve.specs.declared.ending.Ending.{Ending}
+use Rattle.hls_serve.specs.{declared.ending.Ending.Ending, declared.place.Idle.Idle, Counted.CountsSession, Endings.end_of}
 use Rattle.hls_serve.specs.declared.ending.Ending.TheVariants as own
 use Rattle.hls_serve.specs.declared.machine.State.TheVariants as states
-use Rattle.hls_serve.specs.declared.place.Idle.{Idle}
 use Rattle.hls_serve.specs.declared.place.Place.TheVariants as places
-use Rattle.hls_serve.specs.Counted.{CountsSession}
-use Rattle.hls_serve.specs.Endings.{end_of}
 use Rattle.hls_serve.specs.Machine.{GoesOnIn, IsOver, stage_of, total}
 use Rattle.hls_serve.specs.Places.{IsFresh, connection_of}
 use Rattle.hls_serve.specs.Talking.{Ended, Led, Moment}

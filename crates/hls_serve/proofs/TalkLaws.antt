@@ -1,23 +1,17 @@
 -- A connection by all that came of it, from one call to the next.
 use Rattle.std.proofs.Common.{◌≡◌, ◌∙◌, ◌==◌, ◌++◌, ℕ, List, [], length, take, drop, refl, sym, ap, subst}
-use Rattle.std.proofs.lemmas.List.{take-append-drop}
-use Rattle.std.proofs.Math.Seq.{drop-append_seam}
-use Rattle.hls_core_laws.specs.IsState.{IsState}
-use Rattle.hls_core_laws.specs.Known.{Known}
+use Rattle.std.proofs.{lemmas.List.take-append-drop, Math.Seq.drop-append_seam}
+use Rattle.hls_core_laws.specs.{IsState.IsState, Known.Known}
 use Rattle.hls_serve_laws.specs.Acts.{Act, Acted}
 use Rattle.hls_serve_laws.specs.Linked.{Later, Linked}
 use Rattle.hls_serve_laws.proofs.Callers.{acted_none, acted_on, later_itself, linked_acted, linked_follows, linked_later}
-use Rattle.hls_serve.specs.declared.machine.Machine.{Machine}
-use Rattle.hls_serve.specs.declared.machine.State.{State}
+use Rattle.hls_serve.specs.{declared.machine.Machine.Machine, declared.machine.State.State, declared.place.Idle.Idle, Histories.new_history}
 use Rattle.hls_serve.specs.declared.machine.State.TheVariants as states
-use Rattle.hls_serve.specs.declared.place.Idle.{Idle}
 use Rattle.hls_serve.specs.declared.place.Place.TheVariants as places
-use Rattle.hls_serve.specs.Histories.{new_history}
 use Rattle.hls_serve.specs.Machine.{Goes, SuitsIn, total}
 use Rattle.hls_serve.specs.Places.{IsFresh, connection_of}
 use Rattle.hls_serve.specs.Talks.{Advances, Connection, HoldsOf, IsSuited, IsSuitedTo, hears, history_of, sends}
-use Rattle.hls_serve.proofs.HoldLaws.{holds_sent}
-use Rattle.hls_serve.proofs.PassLaws.{usable_after}
+use Rattle.hls_serve.proofs.{HoldLaws.holds_sent, PassLaws.usable_after}
 
 -- ---- of which nothing came
 

@@ -1,20 +1,14 @@
 -- What is made of an answer, and what is due of it.
 use Rattle.std.proofs.Common.{◌≡◌, ◌≢◌, ◌⊎◌, ◌∙◌, ℕ, Bool, true, false, inl, inr, List, [], ◌++◌, Option, Some, None, IfOk, Result, Ok, Err, refl, sym, ap, subst}
 use Rattle.httparse.specs.Grammar.{RequestHead}
-use Rattle.hls_http_laws.specs.declared.fault.HttpFault.{HttpFault}
+use Rattle.hls_http_laws.specs.{declared.fault.HttpFault.HttpFault, declared.plan.Plan.Plan, Order.says_close}
 use Rattle.hls_http_laws.specs.declared.fault.HttpFault.TheVariants as faults
-use Rattle.hls_http_laws.specs.declared.plan.Plan.{Plan}
-use Rattle.hls_http_laws.specs.Order.{says_close}
 use Rattle.hls_http_laws.specs.Reply.{fault_status, is_success, no_memory_to}
-use Rattle.hls_core_laws.specs.declared.event.Event.TheVariants.{Finish}
-use Rattle.hls_core_laws.specs.declared.refusal.Refusal.{Refusal}
-use Rattle.hls_core_laws.specs.declared.refusal.Refusal.TheVariants.{Memory}
-use Rattle.hls_core_laws.specs.declared.done.Done.{Done as Moved}
-use Rattle.hls_catchup.specs.declared.fault.JobFault.{JobFault}
-use Rattle.hls_catchup.specs.declared.jobs.job.Job.{Job}
+use Rattle.hls_core_laws.specs.{declared.event.Event.TheVariants.Finish, declared.refusal.Refusal.Refusal}
+use Rattle.hls_core_laws.specs.{declared.refusal.Refusal.TheVariants.Memory, declared.done.Done.Done as Moved}
+use Rattle.hls_catchup.specs.{declared.fault.JobFault.JobFault, declared.jobs.job.Job.Job}
 use Rattle.hls_serve_laws.specs.Acts.{Act, ActsInVain, Submits}
-use Rattle.hls_serve_laws.specs.JobTable.{IsTold}
-use Rattle.hls_serve_laws.specs.declared.route.Route.{Route}
+use Rattle.hls_serve_laws.specs.{JobTable.IsTold, declared.route.Route.Route}
 use Rattle.hls_serve_laws.specs.Heard.{Asks, Due, Request, Finishes, IsDue, IsDueWithoutHead, IsSkipped, Serves, ServesAllowed, ServesBy, ServesJob, ShowsJob, due_for_memory, first_of, job_at, to_head}
 use Rattle.hls_serve_laws.specs.Replies.{Answer, answer_text, fault_answer, finish_answer}
 use Rattle.hls_serve_laws.specs.Routes.{allows, removes}

@@ -3,30 +3,23 @@ use Rattle.std.proofs.Common.{◌≡◌, ◌∙◌, ◌⊎◌, ℕ, zero, suc, �
 use Rattle.std.proofs.lemmas.Bool.{eq-eqb, ne_eqb}
 use Rattle.std.proofs.lemmas.List.{length-take-le}
 use Rattle.hls_boxes_laws.specs.Parts.{text_fault}
-use Rattle.hls_feed.specs.declared.fault.StreamFault.{StreamFault}
-use Rattle.hls_feed.specs.declared.fault.Untaken.{Untaken}
+use Rattle.hls_feed.specs.{declared.fault.StreamFault.StreamFault, declared.fault.Untaken.Untaken}
 use Rattle.hls_feed.specs.declared.fault.Untaken.TheVariants as untaken
 use Rattle.hls_feed.specs.Streams.{EndsSo, Feeds, IsLeft, Reached}
-use Rattle.hls_http_laws.specs.declared.body.Body.{Body}
+use Rattle.hls_http_laws.specs.{declared.body.Body.Body, declared.plan.Plan.Plan, Order.is_over}
 use Rattle.hls_http_laws.specs.declared.body.Body.TheVariants.{Length, Size, Data, Trailers}
-use Rattle.hls_http_laws.specs.declared.plan.Plan.{Plan}
 use Rattle.hls_http_laws.specs.Bodies.{EndsData, IsBroken, ReadsLine, Steps, TakesData, after_line}
-use Rattle.hls_http_laws.specs.Order.{is_over}
 use Rattle.hls_http_laws.proofs.Callers.{Leaves, broken_bodies_stay, run_one, runs_join, runs_leave, runs_stay, step_stays}
 use Rattle.hls_http.specs.declared.body.BodyEnd.TheVariants as bodies
 use Rattle.hls_http.specs.declared.drain.DropEnd.TheVariants as drops
 use Rattle.hls_http.specs.declared.body.Move.TheVariants as moves
 use Rattle.hls_http.specs.Bodies.{IsLastAlone, StepsTo}
 use Rattle.hls_http.specs.Drained.{announced_by}
-use Rattle.hls_serve_laws.specs.declared.ingest.Intake.{Intake}
+use Rattle.hls_serve_laws.specs.{declared.ingest.Intake.Intake, Heard.IsPastLimit}
 use Rattle.hls_serve_laws.specs.declared.ingest.Intake.TheVariants as came
-use Rattle.hls_serve_laws.specs.Heard.{IsPastLimit}
 use Rattle.hls_serve_laws.specs.Ingest.{PartComes, begun, ends_at, intake_of}
-use Rattle.hls_serve.specs.declared.call.Call.{Call}
-use Rattle.hls_serve.specs.declared.dropping.Dropping.{Dropping}
-use Rattle.hls_serve.specs.declared.feeding.Feeding.{Feeding}
-use Rattle.hls_serve.specs.declared.ingest.Taken.{Taken}
-use Rattle.hls_serve.specs.Taken.{progress_of}
+use Rattle.hls_serve.specs.{declared.call.Call.Call, declared.dropping.Dropping.Dropping, declared.feeding.Feeding.Feeding}
+use Rattle.hls_serve.specs.{declared.ingest.Taken.Taken, Taken.progress_of}
 use Rattle.hls_serve.specs.Within.{HasBody, IsDropped, IsDropping, IsFedUp, IsFeeding}
 
 -- ---- one step more

@@ -1,11 +1,9 @@
 -- Failures counted.
 use Rattle.std.specs.Prelude.{◌≡◌, ℕ}
-use Rattle.hls_io.specs.Counted.{failures_of}
-use Rattle.hls_io.specs.Rose.{Rose}
+use Rattle.hls_io.specs.{Counted.failures_of, Rose.Rose}
 use Rattle.hls_http_laws.specs.declared.end.SessionEnd.{SessionEnd}
 use Rattle.hls_http_laws.specs.declared.end.SessionEnd.TheVariants as ends
-use Rattle.hls_http.specs.declared.session.Session.{Session}
-use Rattle.hls_http.specs.Source.{read_failures}
+use Rattle.hls_http.specs.{declared.session.Session.Session, Source.read_failures}
 
 -- a session's end tells of a failure only where one was counted, and of no other
 abbrev pub CountsSession : SessionEnd → ℕ → ℕ → ℕ → ℕ → Type 0

@@ -2,26 +2,17 @@
 -- A connection but for its input, in the middle of its stream.
 use Rattle.std.specs.Prelude.{◌≡◌, ◌⊎◌, ℕ, ◌<◌, Bool, true, false, List, [], ◌++◌, length, flat_map, Option, Some, None, Err, IsFalse}
 use Rattle.httparse.specs.Grammar.{RequestHead}
-use Rattle.hls_core_laws.specs.IsState.{IsState}
-use Rattle.hls_http_laws.specs.declared.fault.HttpFault.{HttpFault}
-use Rattle.hls_http_laws.specs.Heads.{ReadsSmall}
+use Rattle.hls_core_laws.specs.{IsState.IsState, Known.Known}
+use Rattle.hls_http_laws.specs.{declared.fault.HttpFault.HttpFault, Heads.ReadsSmall}
 use Rattle.hls_http.specs.declared.body.BodyEnd.TheVariants as bodies
-use Rattle.hls_core_laws.specs.Known.{Known}
 use Rattle.hls_serve_laws.specs.declared.ingest.Intake.TheVariants as came
-use Rattle.hls_serve_laws.specs.Acts.{Act}
+use Rattle.hls_serve_laws.specs.{Acts.Act, Sessions.GoesOn}
 use Rattle.hls_serve_laws.specs.Connections.{Exchange, History, Serves, Stage, Between, Within, Over, IsBetween, Stands, acts_of, output, text_of}
 use Rattle.hls_serve_laws.specs.Heard.{Due, IsDueWithoutHead, RefusesHead}
-use Rattle.hls_serve_laws.specs.Sessions.{GoesOn}
-use Rattle.hls_serve.specs.declared.call.Call.{Call}
-use Rattle.hls_serve.specs.declared.ending.Ending.{Ending}
+use Rattle.hls_serve.specs.{declared.call.Call.Call, declared.ending.Ending.Ending, declared.machine.Machine.Machine}
 use Rattle.hls_serve.specs.declared.ending.Ending.TheVariants as own
-use Rattle.hls_serve.specs.declared.machine.Machine.{Machine}
-use Rattle.hls_serve.specs.declared.machine.State.{State}
+use Rattle.hls_serve.specs.{declared.machine.State.State, declared.news.News.News, Endings.end_of, Taken.IsUsable, Told.news_of}
 use Rattle.hls_serve.specs.declared.machine.State.TheVariants as states
-use Rattle.hls_serve.specs.declared.news.News.{News}
-use Rattle.hls_serve.specs.Endings.{end_of}
-use Rattle.hls_serve.specs.Taken.{IsUsable}
-use Rattle.hls_serve.specs.Told.{news_of}
 use Rattle.hls_serve.specs.Turns.{IsCall}
 use Rattle.hls_serve.specs.Within.{DropsBody, IsDropping, IsFeeding, IsMaking}
 

@@ -1,9 +1,5 @@
 -- What a call of a keeper meets: a state to which others may have led meanwhile.
-use Rattle.hls_core_laws.specs.declared.event.Event.{Event}
-use Rattle.hls_core_laws.specs.State.{State}
-use Rattle.hls_core_laws.specs.Outcome.{Outcome}
-use Rattle.hls_core_laws.specs.Moves.{Moves}
-use Rattle.hls_core_laws.specs.Known.{Known}
+use Rattle.hls_core_laws.specs.{declared.event.Event.Event, State.State, Outcome.Outcome, Moves.Moves, Known.Known}
 
 -- the event met a state to which others led meanwhile from the one that the pass had seen, and by the moves' relation it led
 -- on to the one that the pass has now seen

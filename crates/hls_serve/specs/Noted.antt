@@ -1,11 +1,8 @@
 -- For the proofs of this crate; no public clause cites it but by a list of acts.
 -- What was noted of a keeper's acts.
 use Rattle.std.specs.Prelude.{◌≡◌, List, [], ◌∷◌, ◌++◌, Result, Ok, Err}
-use Rattle.hls_core_laws.specs.declared.event.Event.{Event}
-use Rattle.hls_core_laws.specs.declared.refusal.Refusal.{Refusal}
+use Rattle.hls_core_laws.specs.{declared.event.Event.Event, declared.refusal.Refusal.Refusal, State.State, declared.done.Done.Done}
 use Rattle.std.specs.declared.sync.Arc.{Arc}
-use Rattle.hls_core_laws.specs.State.{State}
-use Rattle.hls_core_laws.specs.declared.done.Done.{Done}
 use Rattle.hls_serve_laws.specs.Acts.{Act, Looked, LookedInVain, Submitted, Looks}
 use Rattle.hls_serve.specs.declared.acts.Noted.{Noted}
 use Rattle.hls_serve.specs.declared.acts.Noted.TheVariants as noted

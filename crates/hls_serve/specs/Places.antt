@@ -2,9 +2,7 @@
 -- A connection with or without memory of its own.
 use Rattle.std.specs.Prelude.{◌≡◌, ℕ, false, List, []}
 use Rattle.hls_serve.specs.declared.machine.State.TheVariants as states
-use Rattle.hls_serve.specs.declared.place.Busy.{Busy as Working}
-use Rattle.hls_serve.specs.declared.place.Idle.{Idle as Resting}
-use Rattle.hls_serve.specs.declared.place.Place.{Place}
+use Rattle.hls_serve.specs.{declared.place.Busy.Busy as Working, declared.place.Idle.Idle as Resting, declared.place.Place.Place}
 use Rattle.hls_serve.specs.declared.place.Place.TheVariants.{Idle, Busy}
 use Rattle.hls_serve.specs.declared.talk.Talk.{Talk}
 use Rattle.hls_serve.specs.Talks.{Connection, connection}

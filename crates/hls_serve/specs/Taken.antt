@@ -1,15 +1,11 @@
 -- How far a body was taken.
 use Rattle.std.specs.Prelude.{◌≡◌, ℕ, Option, Some, Result, Ok, Err, slice_get}
 use Rattle.hls_media_laws.specs.InitData.{InitData}
-use Rattle.hls_core_laws.specs.Channel.{Lane}
+use Rattle.hls_core_laws.specs.{Channel.Lane, IsState.IsState, declared.refusal.Refusal.Refusal, Known.Known}
 use Rattle.hls_core_laws.specs.State.{State, channel}
-use Rattle.hls_core_laws.specs.IsState.{IsState}
-use Rattle.hls_core_laws.specs.declared.refusal.Refusal.{Refusal}
 use Rattle.hls_core_laws.specs.declared.refusal.Refusal.TheVariants.{NoInit, Memory}
-use Rattle.hls_feed.specs.declared.fault.StreamFault.TheVariants.{Core}
-use Rattle.hls_feed.specs.declared.fault.Untaken.{Untaken}
+use Rattle.hls_feed.specs.{declared.fault.StreamFault.TheVariants.Core, declared.fault.Untaken.Untaken}
 use Rattle.hls_feed.specs.declared.fault.Untaken.TheVariants as untaken
-use Rattle.hls_core_laws.specs.Known.{Known}
 use Rattle.hls_serve_laws.specs.Acts.{ActsInVain}
 use Rattle.hls_serve_laws.specs.Ingest.{Progress, FindsInit, IsTooEarly}
 use Rattle.hls_serve.specs.declared.ingest.Taken.{Taken}

@@ -9,9 +9,7 @@ use Rattle.hls_http.specs.Source.{held_of, read_failures, reader_of}
 use Rattle.hls_core_laws.specs.Known.{Known}
 use Rattle.hls_serve_laws.specs.Acts.{Acted}
 use Rattle.hls_serve_laws.specs.Sessions as spec
-use Rattle.hls_serve.specs.declared.talk.Talk.{Talk}
-use Rattle.hls_serve.specs.Counted.{CountsSession}
-use Rattle.hls_serve.specs.Machine.{total}
+use Rattle.hls_serve.specs.{declared.talk.Talk.Talk, Counted.CountsSession, Machine.total}
 use Rattle.hls_serve.specs.Talks.{Connection, HoldsOf, IsSuitedTo, connection}
 
 -- its connection, what is still to come of its reader and what its writer holds, where they are known, how many of their calls failed,

@@ -1,15 +1,10 @@
 -- For the proofs of this crate; public clauses cite it by the words of visits alone.
 -- A connection, by all that came of it.
 use Rattle.std.specs.Prelude.{◌≡◌, ◌<◌, ℕ, Bool, List, ◌++◌, flat_map, length, take, drop, IsFalse}
-use Rattle.hls_core_laws.specs.IsState.{IsState}
-use Rattle.hls_core_laws.specs.Known.{Known}
+use Rattle.hls_core_laws.specs.{IsState.IsState, Known.Known}
 use Rattle.hls_serve_laws.specs.Acts.{Act, Acted}
-use Rattle.hls_serve_laws.specs.Connections.{History}
-use Rattle.hls_serve_laws.specs.Linked.{Linked}
-use Rattle.hls_serve.specs.declared.machine.Machine.{Machine}
-use Rattle.hls_serve.specs.declared.machine.State.{State}
-use Rattle.hls_serve.specs.declared.talk.Talk.{Talk}
-use Rattle.hls_serve.specs.Histories.{StaysQuiet}
+use Rattle.hls_serve_laws.specs.{Connections.History, Linked.Linked}
+use Rattle.hls_serve.specs.{declared.machine.Machine.Machine, declared.machine.State.State, declared.talk.Talk.Talk, Histories.StaysQuiet}
 use Rattle.hls_serve.specs.Machine.{GoesOnIn, Holds, Rests, SuitsIn, asked_in, total}
 
 -- its machine, whether its input's end was read, what of that is unread, and all that was read and handed out

@@ -1,9 +1,7 @@
 -- What an operator is told of an encoder's body.
 use Rattle.std.specs.Prelude.{Result}
 use Rattle.hls_serve_laws.specs.declared.ingest.Intake.{Intake}
-use Rattle.hls_serve.specs.declared.feeding.Feeding.{Feeding}
-use Rattle.hls_serve.specs.declared.news.News.{News}
-use Rattle.hls_serve.specs.declared.news.News.TheVariants.{Ingested}
+use Rattle.hls_serve.specs.{declared.feeding.Feeding.Feeding, declared.news.News.News, declared.news.News.TheVariants.Ingested}
 
 -- how many of its parts were taken, and why no more of it is, where it didn't end
 abbrev pub news_of : Feeding → Result (Unit {0}) Intake → News

@@ -4,16 +4,13 @@ use Rattle.std.specs.Prelude.{◌≡◌, ℕ, ◌⊎◌, Bool, true, false, List
 use Rattle.httparse.specs.Grammar.{RequestHead}
 use Rattle.hls_http_laws.specs.Reply.{is_success, no_memory_to}
 use Rattle.hls_http.specs.Heads.{IsHead}
-use Rattle.hls_serve_laws.specs.declared.query.Query.{Query}
-use Rattle.hls_serve_laws.specs.declared.route.Route.{Route}
+use Rattle.hls_serve_laws.specs.{declared.query.Query.Query, declared.route.Route.Route, Queries.query_in}
 use Rattle.hls_serve_laws.specs.declared.route.Route.TheVariants as routes
 use Rattle.hls_serve_laws.specs.Acts.{Act, ActsInVain}
 use Rattle.hls_serve_laws.specs.Heard.{Asks, Due, ServesBy, asks_of, job_at}
-use Rattle.hls_serve_laws.specs.Queries.{query_in}
 use Rattle.hls_serve_laws.specs.Replies.{Answer, answer_text}
 use Rattle.hls_serve_laws.specs.Routes.{path_of, query_of, route_of}
-use Rattle.hls_serve.specs.declared.call.Call.{Call}
-use Rattle.hls_serve.specs.declared.ending.Ending.{Ending}
+use Rattle.hls_serve.specs.{declared.call.Call.Call, declared.ending.Ending.Ending}
 use Rattle.hls_serve.specs.declared.ending.Ending.TheVariants as own
 
 -- ---- what was read

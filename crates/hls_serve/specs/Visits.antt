@@ -3,14 +3,11 @@ use Rattle.std.specs.Prelude.{◌≡◌, ◌<◌, ℕ, length, Option}
 use Rattle.hls_core_laws.specs.Known.{Known}
 use Rattle.hls_serve_laws.specs.Connections.{History, Stage, Between}
 use Rattle.hls_serve_laws.specs.Linked.{Later}
-use Rattle.hls_serve.specs.declared.machine.State.{State}
+use Rattle.hls_serve.specs.{declared.machine.State.State, declared.news.News.News, declared.visit.Standing.Standing}
 use Rattle.hls_serve.specs.declared.machine.State.TheVariants as states
-use Rattle.hls_serve.specs.declared.news.News.{News}
-use Rattle.hls_serve.specs.declared.visit.Standing.{Standing}
 use Rattle.hls_serve.specs.declared.visit.Standing.TheVariants as standings
-use Rattle.hls_serve.specs.declared.visit.Visit.{Visit}
+use Rattle.hls_serve.specs.{declared.visit.Visit.Visit, Places.connection_of}
 use Rattle.hls_serve.specs.Machine.{IsOver, failure_in, stage_of}
-use Rattle.hls_serve.specs.Places.{connection_of}
 use Rattle.hls_serve.specs.Talks.{IsSuitedTo, RestsAt, WantsMore, history_of}
 
 abbrev pub history : Visit → History

@@ -3,33 +3,22 @@
 use Rattle.std.specs.Prelude.{◌≡◌, ℕ, ◌+◌, false, not, List, [], ◌++◌, length, Option, Some, Result, Ok, Err}
 use Rattle.httparse.specs.Grammar.{RequestHead}
 use Rattle.hls_feed.specs.Streams.{Reached}
-use Rattle.hls_http_laws.specs.declared.body.Body.{Body}
-use Rattle.hls_http_laws.specs.declared.plan.Plan.{Plan}
+use Rattle.hls_http_laws.specs.{declared.body.Body.Body, declared.plan.Plan.Plan, Heads.ReadsSmall, Order.is_over}
 use Rattle.hls_http_laws.specs.declared.plan.Plan.TheVariants.{Feed, Skip}
 use Rattle.hls_http_laws.specs.Bodies.{Runs, IsOpen}
-use Rattle.hls_http_laws.specs.Heads.{ReadsSmall}
-use Rattle.hls_http_laws.specs.Order.{is_over}
 use Rattle.hls_http.specs.declared.body.BodyEnd.TheVariants as bodies
-use Rattle.hls_http.specs.declared.drain.DropEnd.{DropEnd}
+use Rattle.hls_http.specs.{declared.drain.DropEnd.DropEnd, Drained.announced_by}
 use Rattle.hls_http.specs.declared.drain.DropEnd.TheVariants as drops
-use Rattle.hls_http.specs.Drained.{announced_by}
-use Rattle.hls_serve_laws.specs.declared.ingest.Intake.{Intake}
+use Rattle.hls_serve_laws.specs.{declared.ingest.Intake.Intake, Acts.Act, Routes.feeds}
 use Rattle.hls_serve_laws.specs.declared.ingest.Intake.TheVariants as came
 use Rattle.hls_serve_laws.specs.declared.route.Route.TheVariants as routes
-use Rattle.hls_serve_laws.specs.Acts.{Act}
 use Rattle.hls_serve_laws.specs.Heard.{Drops, Heard, asks_of, first_of, request_of}
 use Rattle.hls_serve_laws.specs.Ingest.{BodyComes, PartComes, begun}
-use Rattle.hls_serve_laws.specs.Routes.{feeds}
-use Rattle.hls_serve.specs.declared.answers.Answered.{Answered}
+use Rattle.hls_serve.specs.{declared.answers.Answered.Answered, declared.call.Call.Call, declared.dropping.Dropping.Dropping}
 use Rattle.hls_serve.specs.declared.answers.Answered.TheVariants.{Now, Later}
-use Rattle.hls_serve.specs.declared.call.Call.{Call}
-use Rattle.hls_serve.specs.declared.dropping.Dropping.{Dropping}
-use Rattle.hls_serve.specs.declared.ending.Ending.{Ending}
-use Rattle.hls_serve.specs.declared.feeding.Feeding.{Feeding}
-use Rattle.hls_serve.specs.declared.making.Making.{Making}
-use Rattle.hls_serve.specs.declared.next.Next.{Next}
+use Rattle.hls_serve.specs.{declared.ending.Ending.Ending, declared.feeding.Feeding.Feeding, declared.making.Making.Making}
+use Rattle.hls_serve.specs.{declared.next.Next.Next, Taken.progress_of}
 use Rattle.hls_serve.specs.declared.next.Next.TheVariants.{More, Wait, Over}
-use Rattle.hls_serve.specs.Taken.{progress_of}
 use Rattle.hls_serve.specs.Turns.{IsCall, IsResponse, Replies}
 
 -- at the front of the stream, whatever follows it, stand a head, of which this was kept, and some of a body, which now stands so; this

@@ -1,10 +1,8 @@
 //! A channel kept on one thread, with its jobs.
 
 ghost use Rattle.std.specs.Prelude.{◌≡◌};
-ghost use Rattle.hls_core_laws.specs.Moves.{IsFittingAsSeen};
-ghost use Rattle.hls_core_laws.specs.Known.{Submits};
-ghost use Rattle.hls_serve.specs.Meanwhile.{Met};
-ghost use Rattle.hls_serve.specs.Owned.{known_of};
+ghost use Rattle.hls_core_laws.specs.{Moves.IsFittingAsSeen, Known.Submits};
+ghost use Rattle.hls_serve.specs.{Meanwhile.Met, Owned.known_of};
 
 use crate::keeper::Keeper;
 use hls_catchup::{Job, JobFault, JobTable, Request};

@@ -3,9 +3,8 @@
 ghost use Rattle.std.specs.Prelude.{◌≡◌, ◌<◌, length};
 ghost use Rattle.hls_http.specs.Bodies.{StepsTo};
 ghost use Rattle.hls_serve_laws.specs.Acts.{Acted};
-ghost use Rattle.hls_serve.specs.Taken.{IsUsable};
+ghost use Rattle.hls_serve.specs.{Taken.IsUsable, Within.FeedsFrom};
 ghost use Rattle.hls_serve.specs.declared.next.Next.TheVariants as nexts;
-ghost use Rattle.hls_serve.specs.Within.{FeedsFrom};
 
 use crate::call::Call;
 use crate::ingest::{Encoder, Taken};

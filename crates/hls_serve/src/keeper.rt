@@ -1,11 +1,8 @@
 //! Who keeps a channel: its state, and the jobs of catch-up recordings.
 
 ghost use Rattle.std.specs.Prelude.{◌≡◌, IfOk, length};
-ghost use Rattle.hls_core_laws.specs.IsState.{IsState};
-ghost use Rattle.hls_core_laws.specs.Moves.{IsFittingAsSeen};
-ghost use Rattle.hls_core_laws.specs.State.{State};
+ghost use Rattle.hls_core_laws.specs.{IsState.IsState, Moves.IsFittingAsSeen, State.State, Known.Known};
 ghost use Rattle.hls_catchup.specs.Jobs.Shared.{HasCounted, HasRemoved};
-ghost use Rattle.hls_core_laws.specs.Known.{Known};
 ghost use Rattle.hls_core_laws.specs.Known.{LookedOn, Looks, Submits};
 ghost use Rattle.hls_serve_laws.specs.JobTable.{IsAdded, IsTold};
 ghost use Rattle.hls_serve_laws.specs.Playlists.{live_text};

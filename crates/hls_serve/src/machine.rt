@@ -2,16 +2,12 @@
 //! the keeper.
 
 ghost use Rattle.std.specs.Prelude.{◌≡◌, ◌↔◌, ◌++◌, ℕ, List, [], length, Bool, IsFalse, IfNone, IfSome, true};
-ghost use Rattle.hls_core_laws.specs.IsState.{IsState};
-ghost use Rattle.hls_core_laws.specs.Known.{Known};
-ghost use Rattle.hls_serve_laws.specs.Acts.{Acted};
+ghost use Rattle.hls_core_laws.specs.{IsState.IsState, Known.Known};
+ghost use Rattle.hls_serve_laws.specs.{Acts.Acted, Heard.first_of};
 ghost use Rattle.hls_serve.specs.declared.machine.State.TheVariants as states;
 ghost use Rattle.hls_serve.specs.Machine.{AsksNothing, Goes, GoesBehind, GoesFrom, GoesOnIn, Refuses, Rests, Suits, SuitsIn, asked_in, failure_in, state_behind, total, waited_head};
 ghost use Rattle.httparse.specs.Grammar.{RequestHead};
-ghost use Rattle.hls_serve_laws.specs.Heard.{first_of};
-ghost use Rattle.hls_serve.specs.Taken.{IsUsable};
-ghost use Rattle.hls_serve.specs.Turns.{IsCall};
-ghost use Rattle.hls_serve.specs.Within.{DropsBody};
+ghost use Rattle.hls_serve.specs.{Taken.IsUsable, Turns.IsCall, Within.DropsBody};
 
 use crate::acts::Acts;
 use crate::answers::{Answered, answer_dropped, answer_fed, ingested};

@@ -2,8 +2,7 @@
 
 ghost use Rattle.hls_core_laws.specs.Known.{Known};
 ghost use Rattle.hls_http.specs.Source.{held_of};
-ghost use Rattle.hls_serve.specs.Counted.{SessionCounts};
-ghost use Rattle.hls_serve.specs.Exchanges.{Exchanges};
+ghost use Rattle.hls_serve.specs.{Counted.SessionCounts, Exchanges.Exchanges};
 ghost use Rattle.hls_serve.specs.Talking.{LeadsOn, moment};
 ghost use Rattle.hls_serve.specs.Talks.{IsSuitedTo, WantsMore, connection};
 

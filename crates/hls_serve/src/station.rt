@@ -3,8 +3,7 @@
 ghost use Rattle.std.specs.Prelude.{◌≡◌};
 ghost use Rattle.hls_core_laws.specs.Follows.{Follows};
 ghost use Rattle.hls_replies.specs.Recent.{IsBehind};
-ghost use Rattle.hls_serve.specs.Counted.{SessionCounts};
-ghost use Rattle.hls_serve.specs.Exchanges.{Exchanges};
+ghost use Rattle.hls_serve.specs.{Counted.SessionCounts, Exchanges.Exchanges};
 
 use crate::channel::Channel;
 use crate::keeper::Keeper;

@@ -3,13 +3,10 @@
 ghost use Rattle.std.specs.Prelude.{◌≡◌, ◌≤◌, ◌<◌, ◌↔◌, length, IsTrue, IsFalse, IfOk, IfSome, IfNone, OnErr};
 ghost use Rattle.bytes.specs.Unread.{IsChunkOf};
 ghost use Rattle.hls_core_laws.specs.Known.{Known};
-ghost use Rattle.hls_serve_laws.specs.Acts.{Acted};
+ghost use Rattle.hls_serve_laws.specs.{Acts.Acted, Linked.Later, Sessions.GoesOn};
 ghost use Rattle.hls_serve_laws.specs.Connections.{IsServed, Over};
-ghost use Rattle.hls_serve_laws.specs.Linked.{Later};
-ghost use Rattle.hls_serve_laws.specs.Sessions.{GoesOn};
 ghost use Rattle.hls_serve.specs.Histories.{Reads, ReadsInVain, StaysQuiet, after_sent, new_history};
-ghost use Rattle.hls_serve.specs.Places.{connection_of};
-ghost use Rattle.hls_serve.specs.Talks.{HoldsOf};
+ghost use Rattle.hls_serve.specs.{Places.connection_of, Talks.HoldsOf};
 
 use crate::keeper::Keeper;
 use crate::machine::State;

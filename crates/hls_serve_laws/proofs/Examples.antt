@@ -4,13 +4,11 @@ use Rattle.std.specs.Fmt.{digits}
 use Rattle.hls_http_laws.specs.declared.range.Asked.TheVariants as ranges
 use Rattle.hls_text.specs.Digits.{number_of}
 use Rattle.hls_catchup.specs.declared.jobs.job.Job.TheVariants as told
-use Rattle.hls_serve_laws.specs.declared.query.Moment.TheVariants.{Instant}
+use Rattle.hls_serve_laws.specs.{declared.query.Moment.TheVariants.Instant, Queries.wanted_of, Routes.route_of}
 use Rattle.hls_serve_laws.specs.declared.route.Route.TheVariants as routes
 use Rattle.hls_serve_laws.specs.declared.route.JobFile.TheVariants as files
 use Rattle.hls_serve_laws.specs.JobReplies.{file_answer, resource_answer, told_answer}
-use Rattle.hls_serve_laws.specs.Queries.{wanted_of}
 use Rattle.hls_serve_laws.specs.Replies.{answer_text, whole}
-use Rattle.hls_serve_laws.specs.Routes.{route_of}
 
 leading_zero : route_of 2 (codes "/live/01.m3u8") ≡ None
 leading_zero = refl

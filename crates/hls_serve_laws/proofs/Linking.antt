@@ -1,7 +1,6 @@
 -- What acts lead to, one after the other and with others between.
 use Rattle.std.proofs.Common.{◌≡◌, ◌∙◌, List, [], ◌∷◌, ◌++◌, Result, refl, sym, ap, subst, append_assoc, append-nil}
-use Rattle.hls_core_laws.specs.declared.event.Logged.{Logged}
-use Rattle.hls_core_laws.specs.IsState.{IsState}
+use Rattle.hls_core_laws.specs.{declared.event.Logged.Logged, IsState.IsState}
 use Rattle.hls_core_laws.specs.Moves.{IsFittingAsSeen, logged}
 use Rattle.hls_core_laws.specs.Outcome.{Outcome, New, Repeated, Refused}
 use Rattle.hls_core_laws.proofs.Callers.{state_of}

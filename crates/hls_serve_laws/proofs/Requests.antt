@@ -1,7 +1,6 @@
 -- What a request behind whose reply a connection goes on is: its head, and its body to the end.
 use Rattle.std.proofs.Common.{◌≡◌, ◌∙◌, ◌⊎◌, ℕ, suc, ◌+◌, ◌≤◌, Bool, true, false, not, List, [], ◌∷◌, ◌++◌, length, Option, Some, None, Result, Ok, Err, refl, sym, ap, subst, inl, inr, arith, length-append}
-use Rattle.std.specs.Prelude.{cond}
-use Rattle.std.specs.Option.{is_some}
+use Rattle.std.specs.{Prelude.cond, Option.is_some}
 use Rattle.std.proofs.lemmas.Bool.{eqb-true}
 use Rattle.httparse.specs.Grammar.{RequestHead}
 use Rattle.hls_feed.specs.Streams.{Refuses}
@@ -16,11 +15,10 @@ use Rattle.hls_http.specs.declared.body.BodyEnd.TheVariants as bodies
 use Rattle.hls_http.specs.declared.drain.DropEnd.TheVariants as drops
 use Rattle.hls_serve_laws.specs.declared.ingest.Intake.TheVariants as came
 use Rattle.hls_serve_laws.specs.declared.route.Route.TheVariants as routes
-use Rattle.hls_serve_laws.specs.Acts.{Act}
+use Rattle.hls_serve_laws.specs.{Acts.Act, Routes.feeds}
 use Rattle.hls_serve_laws.specs.Replies.{Answer, fault_answer}
 use Rattle.hls_serve_laws.specs.Ingest.{IsRefusedAt, PartComes, Progress, begun, ends_at, BodyComes}
 use Rattle.hls_serve_laws.specs.Heard.{Due, Drops, FeedsBy, FollowsBy, Heard, IsDue, IsDueAtStop, IsFed, IsSkipped, Request, SkipsBy, refused_answer, request_of}
-use Rattle.hls_serve_laws.specs.Routes.{feeds}
 use Rattle.hls_serve_laws.specs.Connections.{Exchange, Serves, due_in}
 use Rattle.hls_serve_laws.specs.Laws.{BeginsWith, RequestsAreRead}
 use Rattle.hls_serve_laws.specs.Types.{StreamFault, Body, HttpFault, Plan, BodyEnd, DropEnd, Intake, Route}

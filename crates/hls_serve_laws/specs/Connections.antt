@@ -8,10 +8,9 @@ use Rattle.hls_http_laws.specs.declared.plan.Plan.TheVariants.{Refuse, Feed, Ski
 use Rattle.hls_http_laws.specs.Bodies.{Runs, IsOpen}
 use Rattle.hls_http_laws.specs.Heads.{ReadsSmall, IsUnfinished}
 use Rattle.hls_serve_laws.specs.declared.route.Route.TheVariants as routes
-use Rattle.hls_serve_laws.specs.Acts.{Act}
+use Rattle.hls_serve_laws.specs.{Acts.Act, Replies.Answer}
 use Rattle.hls_serve_laws.specs.Heard.{Due, Heard, RefusesHead, Request, Responds, first_of, request_of}
 use Rattle.hls_serve_laws.specs.Ingest.{PartComes, Progress, begun}
-use Rattle.hls_serve_laws.specs.Replies.{Answer}
 use Rattle.hls_serve_laws.specs.Types.{Body, SessionEnd, Plan, Route}
 
 -- ---- requests that were answered

@@ -2,8 +2,7 @@
 use Rattle.std.specs.Prelude.{◌≡◌, ◌≢◌, ◌⊎◌, ◌<◌, ◌≤◌, ◌+◌, ℕ, Bool, true, false, cond, List, [], ◌∷◌, ◌++◌, length, Option, Some, None, Result, Ok, Err, codes}
 use Rattle.std.specs.Option.{is_some}
 use Rattle.httparse.specs.Grammar.{RequestHead, NeverHasRequest}
-use Rattle.hls_core_laws.specs.declared.event.Event.TheVariants.{Finish}
-use Rattle.hls_core_laws.specs.declared.refusal.Refusal.TheVariants.{Memory}
+use Rattle.hls_core_laws.specs.{declared.event.Event.TheVariants.Finish, declared.refusal.Refusal.TheVariants.Memory}
 use Rattle.hls_feed.specs.Names.{name_of}
 use Rattle.hls_http_laws.specs.declared.body.Body.TheVariants.{Length, Size}
 use Rattle.hls_http_laws.specs.declared.fault.HttpFault.TheVariants as http
@@ -12,22 +11,18 @@ use Rattle.hls_http_laws.specs.declared.range.Asked.TheVariants as asks
 use Rattle.hls_http_laws.specs.declared.reply.Status.TheVariants as statuses
 use Rattle.hls_http_laws.specs.Heads.{ReadsSmall, IsTooLarge}
 use Rattle.hls_http_laws.specs.Bodies.{Runs, ReadsLine}
-use Rattle.hls_http_laws.specs.Limits.{dropped_limit}
-use Rattle.hls_http_laws.specs.Fields.{values}
-use Rattle.hls_http_laws.specs.Range.{asked_of}
+use Rattle.hls_http_laws.specs.{Limits.dropped_limit, Fields.values, Range.asked_of}
 use Rattle.hls_http_laws.specs.Requests.{begins, fields_of}
 use Rattle.hls_http_laws.specs.Order.{plan_by, continues, says_close}
 use Rattle.hls_http_laws.specs.Reply.{continue_text, is_success, no_memory_to}
 use Rattle.hls_http.specs.declared.body.BodyEnd.TheVariants as bodies
 use Rattle.hls_http.specs.declared.drain.DropEnd.TheVariants as drops
-use Rattle.hls_http.specs.Heads.{method_of}
-use Rattle.hls_http.specs.Drained.{announced_by}
+use Rattle.hls_http.specs.{Heads.method_of, Drained.announced_by}
 use Rattle.hls_catchup.specs.declared.fault.JobFault.TheVariants.{UnknownJob}
 use Rattle.hls_serve_laws.specs.declared.ingest.Intake.TheVariants as came
-use Rattle.hls_serve_laws.specs.declared.query.QueryFault.TheVariants.{BadQuery}
+use Rattle.hls_serve_laws.specs.{declared.query.QueryFault.TheVariants.BadQuery, Faults.status_of}
 use Rattle.hls_serve_laws.specs.declared.route.Route.TheVariants as routes
 use Rattle.hls_catchup.specs.Jobs.Shared.{HasCounted, HasRemoved}
-use Rattle.hls_serve_laws.specs.Faults.{status_of}
 use Rattle.hls_serve_laws.specs.Acts.{Act, ActsInVain, Looks, Submits}
 use Rattle.hls_serve_laws.specs.Ingest.{BodyComes, Progress, Stops, counts_text}
 use Rattle.hls_serve_laws.specs.JobTable.{IsAdded, IsTold}

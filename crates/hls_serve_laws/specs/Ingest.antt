@@ -8,11 +8,8 @@ use Rattle.hls_feed.specs.declared.fault.StreamFault.TheVariants.{Boxes, Media, 
 use Rattle.hls_feed.specs.declared.fault.Untaken.{Untaken}
 use Rattle.hls_feed.specs.declared.fault.Untaken.TheVariants as untaken
 use Rattle.hls_feed.specs.Streams.{EndsSo, IsTaken, Refuses as RefusesAt, Wants}
-use Rattle.hls_media_laws.specs.InitData.{InitData}
-use Rattle.hls_media_laws.specs.declared.facts.Facts.{Facts}
+use Rattle.hls_media_laws.specs.{InitData.InitData, declared.facts.Facts.Facts, Inits.init_of, UnitFacts.facts}
 use Rattle.hls_media_laws.specs.Meaning.{IsInit, IsUnit}
-use Rattle.hls_media_laws.specs.Inits.{init_of}
-use Rattle.hls_media_laws.specs.UnitFacts.{facts}
 use Rattle.hls_core_laws.specs.declared.event.Event.TheVariants.{Begin, Accept}
 use Rattle.hls_core_laws.specs.declared.refusal.Refusal.TheVariants.{NoInit, Memory}
 use Rattle.hls_core.specs.Reads.{recording_of}

@@ -1,21 +1,16 @@
 -- What is replied of a job: that it was added or removed, how far it is, and its files.
 use Rattle.std.specs.Prelude.{ℕ, List, [], ◌++◌, length, take, drop, Option, Some, None, option_map, Result, Ok, Err, codes}
-use Rattle.std.specs.Fmt.{decimal}
-use Rattle.std.specs.List.{concat}
+use Rattle.std.specs.{Fmt.decimal, List.concat}
 use Rattle.hls_http_laws.specs.declared.fault.HttpFault.TheVariants as http
 use Rattle.hls_http_laws.specs.declared.reply.Status.TheVariants.{Done, Accepted, NoContent, BadRequest, Unavailable}
-use Rattle.hls_http_laws.specs.declared.reply.Kind.TheVariants.{Text}
+use Rattle.hls_http_laws.specs.{declared.reply.Kind.TheVariants.Text, Range.part_of}
 use Rattle.hls_http_laws.specs.declared.reply.Extra.TheVariants as extras
-use Rattle.hls_http_laws.specs.Range.{part_of}
 use Rattle.hls_http_laws.specs.Reply.{extra_line, refusal}
-use Rattle.hls_catchup.specs.Replies.{ReplyData}
-use Rattle.hls_catchup.specs.Resources.{parts_in}
-use Rattle.hls_catchup.specs.Jobs.FaultName.{job_fault_name}
-use Rattle.hls_catchup.specs.declared.jobs.standing.Withheld.{Withheld}
+use Rattle.hls_catchup.specs.{Replies.ReplyData, Resources.parts_in, Jobs.FaultName.job_fault_name}
+use Rattle.hls_catchup.specs.{declared.jobs.standing.Withheld.Withheld, Jobs.Standing.files_of}
 use Rattle.hls_catchup.specs.declared.jobs.standing.Withheld.TheVariants as withheld
 use Rattle.hls_catchup.specs.Jobs.Files.{certificate_file, master_file, playlist_file}
 use Rattle.hls_catchup.specs.Jobs.Line.{job_line, version_end}
-use Rattle.hls_catchup.specs.Jobs.Standing.{files_of}
 use Rattle.hls_serve_laws.specs.declared.route.JobFile.TheVariants as files
 use Rattle.hls_serve_laws.specs.Queries.{query_fault_name}
 use Rattle.hls_serve_laws.specs.Replies.{Answer, fault_answer, list_answer, part_answer, text_answer}

@@ -1,9 +1,6 @@
 -- The acts of a connection among others: between two of them, within a body too, others may have acted by the same keeper.
 use Rattle.std.specs.Prelude.{◌≡◌, List, [], ◌∷◌, ◌++◌}
-use Rattle.hls_core_laws.specs.declared.event.Logged.{Logged}
-use Rattle.hls_core_laws.specs.Follows.{Follows}
-use Rattle.hls_core_laws.specs.IsState.{IsState}
-use Rattle.hls_core_laws.specs.Known.{Known}
+use Rattle.hls_core_laws.specs.{declared.event.Logged.Logged, Follows.Follows, IsState.IsState, Known.Known}
 use Rattle.hls_serve_laws.specs.Acts.{Act, Acted, Leads}
 
 -- what a keeper knows later: it has its number, has perhaps seen a state that follows, and has perhaps brought more events

@@ -1,10 +1,8 @@
 -- The texts of a channel's playlists.
 use Rattle.std.specs.Prelude.{ℕ, List, Option, option_map}
 use Rattle.hls_core_laws.specs.State.{State}
-use Rattle.hls_m3u8.specs.Lines.{media_text}
-use Rattle.hls_m3u8.specs.Masters.{master_text}
-use Rattle.hls_lists_laws.specs.Masters.{live_master}
-use Rattle.hls_lists_laws.specs.Live.{live_list_of}
+use Rattle.hls_m3u8.specs.{Lines.media_text, Masters.master_text}
+use Rattle.hls_lists_laws.specs.{Masters.live_master, Live.live_list_of}
 
 -- of the live list of a rendition; none until a segment was ever closed
 abbrev pub live_text : State → ℕ → Option (List ℕ)

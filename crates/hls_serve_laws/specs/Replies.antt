@@ -2,24 +2,19 @@
 use Rattle.std.specs.Prelude.{ℕ, ◌+◌, ◌-◌, Bool, cond, List, [], ◌∷◌, ◌++◌, length, Option, Some, None, Result, Ok, Err, codes}
 use Rattle.std.specs.Fmt.{decimal}
 use Rattle.hls_http_laws.specs.declared.fault.HttpFault.TheVariants as http
-use Rattle.hls_http_laws.specs.declared.range.Part.{Part}
+use Rattle.hls_http_laws.specs.{declared.range.Part.Part, declared.reply.Kind.Kind, declared.reply.Extra.Extra, Range.part_of}
 use Rattle.hls_http_laws.specs.declared.range.Part.TheVariants as parts
 use Rattle.hls_http_laws.specs.declared.reply.Status.TheVariants.{Done, PartialContent, MethodNotAllowed, RangeNotSatisfiable}
-use Rattle.hls_http_laws.specs.declared.reply.Kind.{Kind}
 use Rattle.hls_http_laws.specs.declared.reply.Kind.TheVariants.{Text, Media, Playlist}
-use Rattle.hls_http_laws.specs.declared.reply.Extra.{Extra}
 use Rattle.hls_http_laws.specs.declared.reply.Extra.TheVariants.{Nothing, Range, NoRange}
-use Rattle.hls_http_laws.specs.Range.{part_of}
 use Rattle.hls_http_laws.specs.Reply.{fault_name, fault_status, status_line, content_lines, extra_line, close_line, crlf, refusal}
 use Rattle.hls_record.specs.Recorded.{Recorded, total_of, range_of}
 use Rattle.hls_places_laws.specs.Line.Live.{segments_of}
 use Rattle.hls_core_laws.specs.RefusalName as core_names
-use Rattle.hls_core_laws.specs.Line.{line}
-use Rattle.hls_core_laws.specs.Places.{kept_places}
+use Rattle.hls_core_laws.specs.{Line.line, Places.kept_places}
 use Rattle.hls_core.specs.Reads.{recording_of}
 use Rattle.hls_core_laws.specs.declared.done.Done.TheVariants as moved
-use Rattle.hls_serve_laws.specs.Faults.{core_status}
-use Rattle.hls_serve_laws.specs.Routes.{methods_of}
+use Rattle.hls_serve_laws.specs.{Faults.core_status, Routes.methods_of}
 use Rattle.hls_serve_laws.specs.Types.{HttpFault, Asked, Status, Refusal, State, Done as Moved, Route}
 
 -- a reply but for `Connection`: its status, the type of its body, the one field that only some replies have, and its body

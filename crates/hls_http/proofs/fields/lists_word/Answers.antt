@@ -1,6 +1,5 @@
 use Rattle.std.proofs.Common.{◌∙◌, ◌+◌, ◌||◌, sym, ap, drop}
-use Rattle.std.proofs.lemmas.Bool.{or_left}
-use Rattle.std.proofs.lemmas.List.{take_rest}
+use Rattle.std.proofs.{lemmas.Bool.or_left, lemmas.List.take_rest}
 use Rattle.hls_http_laws.specs.Fields.{has_word}
 use Rattle.hls_http.proofs.Words.{last_word, word_at}
 use Rattle.hls_http.proofs.fields.lists_word.Goals as goal

@@ -1,7 +1,6 @@
 use Rattle.std.proofs.Common.{◌≡◌, ◌-◌, Some, length, codes}
 use Rattle.std.specs.List.{list_all}
-use Rattle.hls_http_laws.specs.Fields.{length_of}
-use Rattle.hls_http_laws.specs.Framing.{is_length}
+use Rattle.hls_http_laws.specs.{Fields.length_of, Framing.is_length}
 use Rattle.hls_http.specs.Values.{values_from}
 use Rattle.hls_http.proofs.fields.same_length.Given as goal
 

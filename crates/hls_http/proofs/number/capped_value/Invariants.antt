@@ -1,6 +1,5 @@
 use Rattle.std.proofs.Common.{◌≡◌, min, take, true}
-use Rattle.std.specs.Str.{all_ascii_digits}
-use Rattle.std.specs.Str.Parse.{digits_value}
+use Rattle.std.specs.{Str.all_ascii_digits, Str.Parse.digits_value}
 use Rattle.hls_http.proofs.number.capped_value.Given as goal
 
 abbrev pub invariant-loop-byte : goal.invariant-loop-byte

@@ -1,6 +1,5 @@
 use Rattle.std.proofs.Common.{◌≡◌, map}
-use Rattle.form_urlencoded.specs.Form.{decode}
-use Rattle.form_urlencoded.specs.Parse.{raw_pairs_left}
+use Rattle.form_urlencoded.specs.{Form.decode, Parse.raw_pairs_left}
 use Rattle.hls_http_laws.specs.Query.{first_of, value_in}
 use Rattle.hls_http.proofs.query.value_of.Given as goal
 

@@ -1,5 +1,4 @@
-use Rattle.hls_http_laws.proofs.BodyLaws.{body_one}
-use Rattle.hls_http_laws.proofs.RequestLaws.{streams_one}
+use Rattle.hls_http_laws.proofs.{BodyLaws.body_one, RequestLaws.streams_one}
 use Rattle.hls_http_laws.proofs.StayLaws.{heads_one, requests_one}
 use Rattle.hls_http_laws.proofs.laws.requests_are_one.Goals as goal
 

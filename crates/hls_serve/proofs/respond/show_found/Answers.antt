@@ -1,6 +1,5 @@
 use Rattle.std.proofs.Common.{◌≡◌, true, ap, sym, ◌∙◌}
-use Rattle.hls_serve_laws.specs.Heard.{asks_of}
-use Rattle.hls_serve_laws.specs.Routes.{allows}
+use Rattle.hls_serve_laws.specs.{Heard.asks_of, Routes.allows}
 use Rattle.hls_serve.proofs.respond.show_found.Goals as goal
 
 pub returns-in-JobFile : goal.returns-in-JobFile

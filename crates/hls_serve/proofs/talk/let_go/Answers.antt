@@ -1,6 +1,5 @@
 use Rattle.std.proofs.Common.{◌∙◌, length, sym}
-use Rattle.std.proofs.lemmas.Bool.{eqb-true}
-use Rattle.std.proofs.lemmas.List.{nil_from_length}
+use Rattle.std.proofs.{lemmas.Bool.eqb-true, lemmas.List.nil_from_length}
 use Rattle.hls_serve.proofs.talk.let_go.Goals as goal
 
 pub returns : goal.returns

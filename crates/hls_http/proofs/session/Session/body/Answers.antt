@@ -1,8 +1,7 @@
 use Rattle.std.proofs.Common.{◌∙◌, ◌<◌, ◌++◌, ℕ, List, [], length, length-take, sym, ap, subst, arith, refl, take}
 use Rattle.hls_io.specs.Counted.{failures_of, inside_of}
 use Rattle.hls_http_laws.specs.Bodies.{Goes, IsOpen}
-use Rattle.hls_http.specs.declared.input.Filled.TheVariants.{AtEnd}
-use Rattle.hls_http.specs.Source.{held_of}
+use Rattle.hls_http.specs.{declared.input.Filled.TheVariants.AtEnd, Source.held_of}
 use Rattle.hls_http.proofs.BodySteps.{goes_filled, goes_none, goes_then, last_alone}
 use Rattle.hls_http.proofs.HeadLaws.{at_end}
 use Rattle.hls_http.proofs.session.Session.body.Goals as goal

@@ -1,5 +1,4 @@
-use Rattle.hls_replies.specs.declared.recent.Recent.{Recent}
-use Rattle.hls_replies.specs.Recent.{state_noted}
+use Rattle.hls_replies.specs.{declared.recent.Recent.Recent, Recent.state_noted}
 use Rattle.hls_replies.proofs.Recents.{is_of, pushed}
 use Rattle.hls_replies.proofs.recent.RecentLists.keep.Goals as goal
 

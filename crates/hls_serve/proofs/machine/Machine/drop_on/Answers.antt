@@ -1,6 +1,5 @@
 use Rattle.std.proofs.Common.{inr, rules, subst, sym, []}
-use Rattle.hls_serve.specs.declared.machine.State.{State}
-use Rattle.hls_serve.specs.Machine.{SuitsIn}
+use Rattle.hls_serve.specs.{declared.machine.State.State, Machine.SuitsIn}
 use Rattle.hls_serve.proofs.HoldLaws.{body_replied, drop_cut, holds_at, stands_so}
 use Rattle.hls_serve.proofs.PassLaws.{valid_acted}
 use Rattle.hls_serve.proofs.machine.Machine.drop_on.Goals as goal

@@ -1,7 +1,6 @@
 use Rattle.std.proofs.Common.{◌==◌, ◌∙◌, inl, inr, List, ℕ, length, refl, sym, ap, subst}
 use Rattle.hls_http_laws.specs.Heads.{ReadsSmall}
-use Rattle.hls_http.specs.Heads.{IsHead}
-use Rattle.hls_http.specs.Texts.{Texts}
+use Rattle.hls_http.specs.{Heads.IsHead, Texts.Texts}
 use Rattle.hls_serve.proofs.HoldLaws.{asked_same, head_found, head_waits, holds_at, stands_so}
 use Rattle.hls_serve.proofs.machine.Machine.head.Goals as goal
 

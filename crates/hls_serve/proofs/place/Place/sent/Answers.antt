@@ -1,7 +1,5 @@
 use Rattle.std.proofs.Common.{◌∙◌, ap, sym}
-use Rattle.hls_serve.specs.declared.place.Busy.{Busy}
-use Rattle.hls_serve.specs.declared.place.Place.{Place}
-use Rattle.hls_serve.specs.Places.{connection_of}
+use Rattle.hls_serve.specs.{declared.place.Busy.Busy, declared.place.Place.Place, Places.connection_of}
 use Rattle.hls_serve.specs.Talks.{connection, sends}
 use Rattle.hls_serve.proofs.place.Place.sent.Goals as goal
 

@@ -1,8 +1,7 @@
 use Rattle.std.proofs.Common.{◌∙◌, ◌++◌, ℕ, List, drop, flat_map, ap}
 use Rattle.hls_http.specs.Texts.{Texts}
 use Rattle.hls_serve.specs.Talks.{connection}
-use Rattle.hls_serve.proofs.HoldLaws.{flat_push}
-use Rattle.hls_serve.proofs.TalkLaws.{behind}
+use Rattle.hls_serve.proofs.{HoldLaws.flat_push, TalkLaws.behind}
 use Rattle.hls_serve.proofs.talk.Talk.hear.Goals as goal
 
 pub returns : goal.returns

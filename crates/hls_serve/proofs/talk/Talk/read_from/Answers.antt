@@ -1,7 +1,6 @@
 use Rattle.std.proofs.Common.{◌∙◌, ◌==◌, ◌++◌, ℕ, List, length, sym, ap, subst}
 use Rattle.hls_serve.specs.Talks.{HoldsOf, connection, history_of}
-use Rattle.hls_serve.proofs.HoldLaws.{holds_more}
-use Rattle.hls_serve.proofs.TalkLaws.{heard_end}
+use Rattle.hls_serve.proofs.{HoldLaws.holds_more, TalkLaws.heard_end}
 use Rattle.hls_serve.proofs.talk.Talk.read_from.Goals as goal
 
 pub returns-clause-ok : goal.returns-clause-ok

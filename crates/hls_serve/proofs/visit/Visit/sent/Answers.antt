@@ -1,7 +1,6 @@
 use Rattle.std.proofs.Common.{subst, sym}
 use Rattle.std.proofs.Math.Logic.{∥∥₁_map}
-use Rattle.hls_serve.specs.Places.{connection_of}
-use Rattle.hls_serve.specs.Talks.{HoldsOf}
+use Rattle.hls_serve.specs.{Places.connection_of, Talks.HoldsOf}
 use Rattle.hls_serve.proofs.TalkLaws.{sends_holds}
 use Rattle.hls_serve.proofs.visit.Visit.sent.Goals as goal
 
