@@ -58,6 +58,8 @@ pub streams_stay : StreamsStay
 streams_stay text [] rest more x = ap (λ (t : List ℕ). t ++ more) x
 streams_stay text (r ∷ rs) rest more x = (x.0 ++ more, requests_stay text r x.0 more x.1, streams_stay x.0 rs rest more x.2)
 
+pub ruleset fronts_stay = (heads_stay, runs_stay, bodies_stay, requests_stay, streams_stay)
+
 -- ---- what is refused
 
 pub bad_heads_stay : BadHeadsStay
@@ -140,6 +142,8 @@ runs_split b last input first second rest r = split_at b last input (first ++ se
 pub streams_join : StreamsJoin
 streams_join text middle rest [] qs x y = subst (λ (t : List ℕ). Cuts t qs rest) x y
 streams_join text middle rest (r ∷ rs) qs x y = (x.0, x.1, streams_join x.0 middle rest rs qs x.2 y)
+
+pub ruleset fronts_join = (runs_join, runs_split, streams_join)
 
 -- ---- what can't stand there
 

@@ -14,6 +14,7 @@ pub fn limits_are_defined()
 {}
 
 /// What is taken of a text step by step, to a body's end, is just a body of the standard's grammar.
+#[tactic(auto, using(crate::proofs::BodyLaws::body_by_steps))]
 pub fn bodies_by_grammar()
     ensures { BodiesByGrammar }
 {}
@@ -28,6 +29,7 @@ pub fn requests_are_one()
 
 /// What stands at the front of a text stands there whatever follows: a head, some of a body or all of it, a request, and
 /// requests one behind the other.
+#[tactic(auto, using(crate::proofs::StayLaws::fronts_stay))]
 pub fn fronts_stay()
     ensures heads { HeadsStay }
     ensures runs { RunsStay }
@@ -47,6 +49,7 @@ pub fn refusals_stay()
 
 /// Some of a body and then some more of it is so much of it, and so are requests behind requests; of some of a body each front is
 /// some of it.
+#[tactic(auto, using(crate::proofs::StayLaws::fronts_join))]
 pub fn fronts_join()
     ensures runs { RunsJoin }
     ensures streams { StreamsJoin }
