@@ -61,32 +61,24 @@ fn push_content(out: &mut Vec<u8>, status: Status, kind: Kind, len: u64) -> Resu
     push_between(out, b"Content-Length: ", len, b"\r\n")
 }
 
-fn push_range(out: &mut Vec<u8>, first: u64, last: u64, total: u64) -> Result<(), AllocError>
-    ensures { IfOk result (λ done. out.new.items ≡ out.old.items ++ extra_line (Extra.Range first last total)) }
-{
-    push_between(out, b"Content-Range: bytes ", first, b"-")?;
-    push_between(out, b"", last, b"/")?;
-    push_between(out, b"", total, b"\r\n")?;
-    Ok(())
-}
-
-fn push_allow(out: &mut Vec<u8>, methods: &[u8]) -> Result<(), AllocError>
-    ensures { IfOk result (λ done. out.new.items ≡ out.old.items ++ extra_line (Extra.Allow methods.entry)) }
-{
-    out.extend_from_slice(b"Allow: ")?;
-    out.extend_from_slice(methods)?;
-    out.extend_from_slice(b"\r\n")
-}
-
 fn push_extra(out: &mut Vec<u8>, extra: Extra<'_>) -> Result<(), AllocError>
     ensures { IfOk result (λ done. out.new.items ≡ out.old.items ++ extra_line extra.entry) }
 {
     match extra {
         Extra::Nothing => Ok(()),
-        Extra::Range(first, last, total) => push_range(out, first, last, total),
+        Extra::Range(first, last, total) => {
+            push_between(out, b"Content-Range: bytes ", first, b"-")?;
+            push_between(out, b"", last, b"/")?;
+            push_between(out, b"", total, b"\r\n")?;
+            Ok(())
+        }
         Extra::NoRange(total) => push_between(out, b"Content-Range: bytes */", total, b"\r\n"),
         Extra::Job(id) => push_between(out, b"Location: /job/", id, b"\r\n"),
-        Extra::Allow(methods) => push_allow(out, methods),
+        Extra::Allow(methods) => {
+            out.extend_from_slice(b"Allow: ")?;
+            out.extend_from_slice(methods)?;
+            out.extend_from_slice(b"\r\n")
+        }
     }
 }
 

@@ -3,7 +3,6 @@
 ghost use Rattle.std.specs.Prelude.{◌≡◌};
 ghost use Rattle.hls_io.specs.{Counted.failures_of, Streams.ToOutput};
 ghost use Rattle.hls_io.specs.Writing.{CountsWrite, Writes};
-ghost use Rattle.hls_http_laws.specs.Reply.{no_memory_to};
 ghost use Rattle.hls_http.specs.Bodies.{CountsBody, Passes};
 ghost use Rattle.hls_http.specs.Heads.{CountsHead, Hears};
 ghost use Rattle.hls_http.specs.Replies.{Answers, CountsAnswer};
@@ -16,7 +15,7 @@ use crate::reply::reply_output;
 use crate::source::Source;
 use hls_http_laws::body::Body;
 use hls_http_laws::end::SessionEnd;
-use hls_http_laws::reply::{ReplyHead, no_memory_head_text, no_memory_text};
+use hls_http_laws::reply::{ReplyHead, no_memory_reply};
 use hls_io::{Counted, write_whole};
 use hls_output::{Output, Resource, Text};
 use std::alloc::{AllocError, Global};
@@ -68,12 +67,8 @@ impl<R: Read, W> Session<R, W> {
             }
             match self.source.fill() {
                 Filled::More => {}
-                Filled::AtEnd => {
-                    if self.source.held().is_empty() {
-                        return Err(HeadEnd::Closed);
-                    }
-                    return Err(HeadEnd::CutShort);
-                }
+                Filled::AtEnd if self.source.held().is_empty() => return Err(HeadEnd::Closed),
+                Filled::AtEnd => return Err(HeadEnd::CutShort),
                 Filled::Failed => return Err(HeadEnd::ReadFailed),
             }
         }
@@ -130,17 +125,6 @@ fn write_output<W: Write, M: Resource + Drop>(writer: &mut Counted<W>, output: O
     true
 }
 
-/// The fixed reply to want of memory, which takes none; to HEAD without its body.
-fn no_memory_for(to_head: bool) -> &'static [u8]
-    ensures { result.now ≡ no_memory_to to_head }
-{
-    if to_head {
-        no_memory_head_text()
-    } else {
-        no_memory_text()
-    }
-}
-
 impl<R, W: Write> Session<R, W> {
     /// Replies with a text; to HEAD without it. For want of memory the fixed 503 is the reply. The session goes on
     /// unless a reply said `Connection: close` or wasn't written whole.
@@ -156,7 +140,7 @@ impl<R, W: Write> Session<R, W> {
         ensures reader { self.new.source ≡ self.old.source }
     {
         let Ok(output) = reply_output(alloc, head, Text::media(body), to_head) else {
-            return Err(if write_whole(&mut self.writer, no_memory_for(to_head)) {
+            return Err(if write_whole(&mut self.writer, no_memory_reply(to_head)) {
                 SessionEnd::Refused
             } else {
                 SessionEnd::WriteFailed
@@ -165,13 +149,10 @@ impl<R, W: Write> Session<R, W> {
         if !write_output(&mut self.writer, output) {
             return Err(SessionEnd::WriteFailed);
         }
-        if !head.closing {
-            return Ok(());
+        match (head.closing, head.status.is_success()) {
+            (false, _) => Ok(()),
+            (true, true) => Err(SessionEnd::Closed),
+            (true, false) => Err(SessionEnd::Refused),
         }
-        Err(if head.status.is_success() {
-            SessionEnd::Closed
-        } else {
-            SessionEnd::Refused
-        })
     }
 }

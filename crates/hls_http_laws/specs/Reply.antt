@@ -69,11 +69,9 @@ is_success _ = false
 abbrev pub type_line : Kind → List ℕ
 type_line kind = codes "Content-Type: " ++ (kind_name kind ++ crlf)
 
-abbrev pub length_line : ℕ → List ℕ
-length_line len = codes "Content-Length: " ++ (decimal len ++ crlf)
-
 abbrev pub content_lines : Status → Kind → ℕ → List ℕ
-content_lines status kind len = cond (has_content status) (type_line kind ++ length_line len) []
+content_lines status kind len =
+    cond (has_content status) (type_line kind ++ (codes "Content-Length: " ++ (decimal len ++ crlf))) []
 
 -- at most one of Content-Range, Location and Allow stands in a reply
 abbrev pub extra_line : Extra → List ℕ
@@ -88,12 +86,9 @@ abbrev pub close_line : Bool → List ℕ
 close_line closing = cond closing (codes "Connection: close" ++ crlf) []
 
 -- status line, Content-Type, Content-Length, Content-Range or Location or Allow, Connection, empty line
-abbrev pub head_text : Status → Kind → ℕ → Extra → Bool → List ℕ
-head_text status kind len extra closing =
-    status_line status ++ (content_lines status kind len ++ (extra_line extra ++ (close_line closing ++ crlf)))
-
 abbrev pub head_text_of : ReplyHead → ℕ → List ℕ
-head_text_of head len = head_text head.status head.kind len head.extra head.closing
+head_text_of head len =
+    status_line head.status ++ (content_lines head.status head.kind len ++ (extra_line head.extra ++ (close_line head.closing ++ crlf)))
 
 -- the whole text of a reply whose body is a text; to HEAD without the body
 abbrev pub reply_text : ReplyHead → List ℕ → Bool → List ℕ
@@ -105,7 +100,7 @@ refusal name = codes "refused " ++ (name ++ 10 ∷ [])
 
 -- the head and the whole reply to want of memory
 unfoldable pub no_memory_head : List ℕ
-no_memory_head = head_text Unavailable Text 15 Nothing true
+no_memory_head = head_text_of (record { status = Unavailable; kind = Text; extra = Nothing; closing = true }) 15
 
 unfoldable pub no_memory : List ℕ
 no_memory = no_memory_head ++ refusal (codes "Memory")

@@ -48,9 +48,8 @@ impl HttpFault {
         ensures { result ≡ fault_status self.now }
     {
         match self {
-            HttpFault::BadHead => Status::BadRequest,
+            HttpFault::BadHead | HttpFault::BadFraming => Status::BadRequest,
             HttpFault::HeadTooLarge => Status::HeadTooLarge,
-            HttpFault::BadFraming => Status::BadRequest,
             HttpFault::TooLarge => Status::ContentTooLarge,
             HttpFault::RangeOutside => Status::RangeNotSatisfiable,
             HttpFault::BadMethod => Status::MethodNotAllowed,

@@ -2,7 +2,7 @@
 
 ghost use Rattle.std.specs.Prelude.{◌≡◌};
 ghost use Rattle.hls_http_laws.specs.Reply as spec;
-ghost use Rattle.hls_http_laws.specs.Reply.{has_content, is_success, no_memory, no_memory_head};
+ghost use Rattle.hls_http_laws.specs.Reply.{has_content, is_success, no_memory, no_memory_head, no_memory_to};
 
 /// The status of a reply (RFC 9110 15).
 #[derive(Clone, Copy, Debug, PartialEq, Eq, Drop)]
@@ -95,26 +95,29 @@ impl Status {
     }
 }
 
-/// The reply to want of memory, which takes no memory itself.
-const NO_MEMORY: &[u8] =
-    b"HTTP/1.1 503 Service Unavailable\r\nContent-Type: text/plain\r\nContent-Length: 15\r\nConnection: close\r\n\r\nrefused Memory\n";
-
-/// Its head alone.
-const NO_MEMORY_HEAD: &[u8] =
-    b"HTTP/1.1 503 Service Unavailable\r\nContent-Type: text/plain\r\nContent-Length: 15\r\nConnection: close\r\n\r\n";
-
-/// The reply to want of memory: 503, `refused Memory`, and `Connection: close`.
+/// The reply to want of memory, which takes no memory itself: 503, `refused Memory`, and `Connection: close`.
 pub fn no_memory_text() -> &'static [u8]
     ensures { result.now ≡ no_memory }
 {
-    NO_MEMORY
+    b"HTTP/1.1 503 Service Unavailable\r\nContent-Type: text/plain\r\nContent-Length: 15\r\nConnection: close\r\n\r\nrefused Memory\n"
 }
 
 /// The same to a HEAD request: without its body.
 pub fn no_memory_head_text() -> &'static [u8]
     ensures { result.now ≡ no_memory_head }
 {
-    NO_MEMORY_HEAD
+    b"HTTP/1.1 503 Service Unavailable\r\nContent-Type: text/plain\r\nContent-Length: 15\r\nConnection: close\r\n\r\n"
+}
+
+/// The reply to want of memory; to a HEAD request without its body.
+pub fn no_memory_reply(to_head: bool) -> &'static [u8]
+    ensures { result.now ≡ no_memory_to to_head }
+{
+    if to_head {
+        no_memory_head_text()
+    } else {
+        no_memory_text()
+    }
 }
 
 /// What is sent to a client that waits for it before it sends a body (RFC 9110 15.2.1).

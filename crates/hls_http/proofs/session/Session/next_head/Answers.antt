@@ -11,8 +11,8 @@ returns-in-Ok-clause-hears g c = λ rest known.
     heard_ok (held_of c.args.self.now.source ++ rest) (held_of c.loop-head.self.source) _ _ _ _ c.in-Ok.head c.in-Ok.len (c.loop-head.invariant.same rest known) found.1 c.take.ensures.held c.take.ensures.taken
     (ap (λ r. g.R.Read.remaining (inside_of r)) c.take.ensures.reader)
 
-pub returns-then-is_empty-clause-hears : goal.returns-then-is_empty-clause-hears
-returns-then-is_empty-clause-hears g c = λ rest known.
+pub returns-in-AtEnd-clause-hears : goal.returns-in-AtEnd-clause-hears
+returns-in-AtEnd-clause-hears g c = λ rest known.
     let e = at_end (held_of c.args.self.now.source ++ rest) (held_of c.loop-head.self.source) (held_of c.fill.new.self) _ _ (c.loop-head.invariant.same rest known) c.in-AtEnd.ensures.reads in
-    let none = sym e.1 ∙ nil_from_length (held_of c.fill.new.self) (grind (arith, sym c.held-in-AtEnd.ensures)) in
+    let none = sym e.1 ∙ nil_from_length (held_of c.fill.new.self) (grind arith) in
     (none, e.2 ∙ ap Some none)
