@@ -5,5 +5,4 @@ mod HeadLaws
 mod QueryLaws
 mod SendLaws
 mod Values
-mod Words
 pub mod Callers

@@ -3,11 +3,10 @@
 ghost use Rattle.std.specs.Prelude.{◌≡◌, length, All, option_map, codes};
 ghost use Rattle.httparse.specs.Spans.{IsHeaderWithin, header_bytes};
 ghost use Rattle.hls_http_laws.specs.Fields.{closes, expects, has_word, is_word, length_of, values};
-ghost use Rattle.hls_http_laws.specs.Framing.{body_of, framing_of, is_chunked, is_hosted, same_length};
+ghost use Rattle.hls_http_laws.specs.Framing.{body_of, is_chunked, is_hosted, same_length};
 ghost use Rattle.hls_http_laws.specs.Range.{asked_of};
 ghost use Rattle.hls_http.specs.Values.{IsOnly, NextValue, fields_at, named_value, values_from};
 
-use crate::number::find_byte;
 use crate::range::read_range;
 use hls_http_laws::body::Body;
 use hls_http_laws::fault::HttpFault;
@@ -104,10 +103,14 @@ fn is_chunked_coding(coding: &[u8], minor: u8) -> bool
     minor == 1 && coding.eq_ignore_ascii_case(b"chunked")
 }
 
-fn framing(text: &[u8], headers: &[HeaderSpan], minor: u8) -> Result<Body, HttpFault>
+/// Where the body begins, or the first fault of the fields: the Host, and then the framing.
+pub fn body(text: &[u8], headers: &[HeaderSpan], minor: u8) -> Result<Body, HttpFault>
     requires { All (IsHeaderWithin (length text.now)) headers.now }
-    ensures { result ≡ framing_of minor (fields_at text.now headers.now) }
+    ensures { result ≡ body_of minor (fields_at text.now headers.now) }
 {
+    if !is_hosted_by(text, headers, minor) {
+        return Err(HttpFault::BadHead);
+    }
     match (
         find_value(text, headers, b"content-length", 0),
         find_only(text, headers, b"transfer-encoding"),
@@ -116,18 +119,6 @@ fn framing(text: &[u8], headers: &[HeaderSpan], minor: u8) -> Result<Body, HttpF
         (Some((second, first)), Only::Missing) => same_length(text, headers, first, second),
         (None, Only::One(coding)) if is_chunked_coding(coding, minor) => Ok(Body::Size),
         _ => Err(HttpFault::BadFraming),
-    }
-}
-
-/// Where the body begins, or the first fault of the fields: the Host, and then the framing.
-pub fn body(text: &[u8], headers: &[HeaderSpan], minor: u8) -> Result<Body, HttpFault>
-    requires { All (IsHeaderWithin (length text.now)) headers.now }
-    ensures { result ≡ body_of minor (fields_at text.now headers.now) }
-{
-    if is_hosted_by(text, headers, minor) {
-        framing(text, headers, minor)
-    } else {
-        Err(HttpFault::BadHead)
     }
 }
 
@@ -160,14 +151,9 @@ fn is_word_in(piece: &[u8], word: &[u8]) -> bool
 fn lists_word(value: &[u8], word: &[u8]) -> bool
     ensures { result ≡ has_word word.now value.now }
 {
-    let mut rest = value;
-    while let Some(comma) = find_byte(rest, b',') {
-        if is_word_in(&rest[..comma], word) {
-            return true;
-        }
-        rest = &rest[comma + 1..];
-    }
-    is_word_in(rest, word)
+    value
+        .split(|byte| *byte == b',')
+        .any(|piece| is_word_in(piece, word))
 }
 
 /// Whether the connection ends with this request.

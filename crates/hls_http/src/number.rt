@@ -1,7 +1,10 @@
 //! Bytes and decimal numbers of fields and queries.
 
-ghost use Rattle.std.specs.Prelude.{◌≡◌, ◌<◌, ◌≤◌, ◌^◌, ◌==◌, ◌+◌, cond, length, min, position, IfSome, Some, None};
-ghost use Rattle.std.specs.{Str.all_ascii_digits, Str.Parse.digits_value};
+ghost use Rattle.std.specs.Prelude.{◌≡◌, ◌<◌, ◌^◌, ◌==◌, ◌+◌, length, position, true, IfSome};
+ghost use Rattle.std.specs.Str.{all_ascii_digits};
+ghost use Rattle.hls_http_laws.specs.Range.{number_in};
+
+use hls_http_laws::limits::MOST_RANGE;
 
 /// Where a byte stands first.
 pub fn find_byte(text: &[u8], byte: u8) -> Option<usize>
@@ -12,17 +15,14 @@ pub fn find_byte(text: &[u8], byte: u8) -> Option<usize>
     text.iter().position(|b| *b == byte)
 }
 
-/// The number that digits write, or `most` where it is larger; None where another byte is among them.
-pub fn capped_value(text: &[u8], most: u64) -> Option<u64>
-    requires { most ≤ 10 ^ 18 }
-    ensures { result ≡ cond (all_ascii_digits text.now) (Some (min (digits_value 10 text.now) most)) None }
+/// The number that digits write, or 2^53 where it is larger.
+pub fn capped_value(digits: &[u8]) -> u64
+    requires { all_ascii_digits digits.now ≡ true }
+    ensures { result ≡ number_in digits.now }
 {
     let mut number = 0u64;
-    for byte in text {
-        if !byte.is_ascii_digit() {
-            return None;
-        }
-        number = (number * 10 + u64::from(*byte - b'0')).min(most);
+    for digit in digits {
+        number = (number * 10 + u64::from(*digit - b'0')).min(MOST_RANGE);
     }
-    Some(number)
+    number
 }

@@ -1,24 +1,20 @@
 //! Byte ranges.
 
-ghost use Rattle.std.specs.Prelude.{◌≡◌, ◌&&◌, if◌then◌else◌};
-ghost use Rattle.std.specs.Str.{all_ascii_digits};
-ghost use Rattle.hls_http_laws.specs.Range.{asked, by_parts, part_of, slice_from, IsAsked};
+ghost use Rattle.std.specs.Prelude.{◌≡◌};
+ghost use Rattle.hls_http_laws.specs.Range.{asked, by_texts, part_of, slice_from};
 
 use crate::number::{capped_value, find_byte};
-use hls_http_laws::limits::MOST_RANGE;
 use hls_http_laws::range::{Asked, Part};
+use hls_text::are_digits;
 
 /// What two texts of digits around a hyphen ask for; either may be empty.
 fn read_parts(front: &[u8], behind: &[u8]) -> Asked
-    ensures value { result ≡ (if all_ascii_digits front.now && all_ascii_digits behind.now then by_parts front.now behind.now else Asked.All) }
-    ensures small { IsAsked result }
+    ensures { result ≡ by_texts front.now behind.now }
 {
-    let (Some(first), Some(last)) = (
-        capped_value(front, MOST_RANGE),
-        capped_value(behind, MOST_RANGE),
-    ) else {
+    if !are_digits(front) || !are_digits(behind) {
         return Asked::All;
-    };
+    }
+    let (first, last) = (capped_value(front), capped_value(behind));
     match (front.is_empty(), behind.is_empty()) {
         (true, true) => Asked::All,
         (true, false) => Asked::Last(last),
@@ -30,9 +26,9 @@ fn read_parts(front: &[u8], behind: &[u8]) -> Asked
 
 /// What the value of a Range field asks for (RFC 9110 14.1.2): `bytes=a-b`, `bytes=a-` or `bytes=-n`; every other
 /// form is ignored.
+#[tactic(auto, unfolding(hls_http_laws::specs::Range::asked))]
 pub fn read_range(value: &[u8]) -> Asked
-    ensures value { result ≡ asked value.now }
-    ensures small { IsAsked result }
+    ensures { result ≡ asked value.now }
 {
     let Some(spec) = value.strip_prefix(b"bytes=") else {
         return Asked::All;
@@ -57,27 +53,17 @@ fn slice_of(total: u64, from: u64, len: u64) -> Part
     }
 }
 
-/// From the first byte to the last, which is cut to that of the resource.
-fn between(total: u64, first: u64, last: u64) -> Part
-    ensures { result ≡ part_of (Asked.Between first last) total }
-{
-    if first >= total {
-        return Part::Outside;
-    }
-    let end = last.min(total - 1) + 1;
-    Part::Slice {
-        from: first,
-        len: end.saturating_sub(first),
-    }
-}
-
 /// The part of a resource of `total` bytes that is asked for.
 pub fn part(range: Asked, total: u64) -> Part
     ensures { result ≡ part_of range total }
 {
     match range {
         Asked::All => Part::Whole,
-        Asked::Between(first, last) => between(total, first, last),
+        Asked::Between(first, last) if first < total => Part::Slice {
+            from: first,
+            len: (last.min(total - 1) + 1).saturating_sub(first),
+        },
+        Asked::Between(..) => Part::Outside,
         Asked::From(first) => slice_of(total, first, total),
         Asked::Last(0) => Part::Outside,
         Asked::Last(len) => slice_of(total, total.saturating_sub(len), len),

@@ -1,43 +1,36 @@
 -- The part of a resource that a Range asks for (RFC 9110, section 14).
-use Rattle.std.specs.Prelude.{ℕ, ◌+◌, ◌-◌, ◌≤◌, min, nat_lt, nat_le, nat_eq, Bool, true, false, ◌&&◌, cond, ◌==◌, List, [], ◌∷◌, take, drop, length, codes, bytes_eq}
-use Rattle.std.specs.{List.position_or_len, Str.all_ascii_digits, Str.Parse.digits_value}
+use Rattle.std.specs.Prelude.{ℕ, ◌+◌, ◌-◌, min, nat_lt, nat_le, nat_eq, ◌&&◌, cond, ◌==◌, List, [], ◌∷◌, take, drop, position, codes, bytes_eq, Option, Some, None}
+use Rattle.std.specs.{Str.all_ascii_digits, Str.Parse.digits_value}
 use Rattle.hls_http_laws.specs.{declared.range.Asked.Asked, declared.range.Part.Part, Limits.range_limit}
 use Rattle.hls_http_laws.specs.declared.range.Asked.TheVariants as asks
 use Rattle.hls_http_laws.specs.declared.range.Part.TheVariants as parts
-
-abbrev pub is_empty : List ℕ → Bool
-is_empty [] = true
-is_empty (b ∷ bytes) = false
 
 -- digits of any number; one above 2^53 counts as 2^53
 abbrev pub number_in : List ℕ → ℕ
 number_in digits = min (digits_value 10 digits) range_limit
 
--- the text before the first hyphen, and the text behind it
-abbrev pub hyphen_at : List ℕ → ℕ
-hyphen_at text = position_or_len (λ b. b == 45) text
-
-abbrev pub front_of : List ℕ → List ℕ
-front_of text = take (hyphen_at text) text
-
-abbrev pub behind : List ℕ → List ℕ
-behind text = drop (hyphen_at text + 1) text
-
 -- a and b with a <= b; else the field is ignored
 abbrev pub between : ℕ → ℕ → Asked
 between a b = cond (nat_le a b) (asks.Between a b) asks.All
 
--- `-n`, `a-` or `a-b`, of which both parts are digits
+-- the parts of `-n`, `a-` or `a-b`
 abbrev pub by_parts : List ℕ → List ℕ → Asked
 by_parts [] [] = asks.All
 by_parts [] (d ∷ ds) = asks.Last (number_in (d ∷ ds))
 by_parts (d ∷ ds) [] = asks.From (number_in (d ∷ ds))
 by_parts (d ∷ ds) (e ∷ es) = between (number_in (d ∷ ds)) (number_in (e ∷ es))
 
+-- two texts, which have to be digits
+abbrev pub by_texts : List ℕ → List ℕ → Asked
+by_texts front behind = cond (all_ascii_digits front && all_ascii_digits behind) (by_parts front behind) asks.All
+
+-- the text before a hyphen, and the text behind it
+abbrev pub around : List ℕ → Option ℕ → Asked
+around text None = asks.All
+around text (Some at) = by_texts (take at text) (drop (at + 1) text)
+
 abbrev pub spec_of : List ℕ → Asked
-spec_of text =
-    cond (nat_lt (hyphen_at text) (length text) && (all_ascii_digits (front_of text) && all_ascii_digits (behind text)))
-    (by_parts (front_of text) (behind text)) asks.All
+spec_of text = around text (position (λ b. b == 45) text)
 
 -- what a value asks for: `bytes=` and one such text; anything else is ignored
 unfoldable pub asked : List ℕ → Asked
@@ -59,8 +52,3 @@ part_of asks.All total = parts.Whole
 part_of (asks.Between a b) total = slice_from total a (b + 1 - a)
 part_of (asks.From a) total = slice_from total a total
 part_of (asks.Last n) total = cond (nat_eq n 0) parts.Outside (slice_from total (total - n) n)
-
--- the numbers that a Range may come to
-abbrev pub IsAsked : Asked → Type 0
-IsAsked (asks.Between a b) = (a ≤ b) × (b ≤ range_limit)
-IsAsked _ = Unit {0}

@@ -1,21 +1,11 @@
-use Rattle.std.proofs.Common.{◌∙◌, ◌+◌, ◌*◌, ap, min, sym, arith, refl}
-use Rattle.hls_http.proofs.Digits.{bad_digit, capped_more, more_digits, more_value}
+use Rattle.std.proofs.Common.{◌∙◌}
+use Rattle.hls_http.proofs.Digits.{capped_more, digit_here}
 use Rattle.hls_http.proofs.number.capped_value.Goals as goal
 
-pub returns-then-not-is_ascii_digit : goal.returns-then-not-is_ascii_digit
-returns-then-not-is_ascii_digit c =
-    rw (bad_digit c.args.text.now c.loop-byte.byte-index c.loop-byte-test.true (sym c.is_ascii_digit.ensures.value ∙ c.if-not-is_ascii_digit.true)) refl
+pub overflow_sub-digit : goal.overflow_sub-digit
+overflow_sub-digit c = (digit_here c.args.digits.now c.loop-digit.digit-index c.requires c.loop-digit-test.true).0
 
-pub loop-byte-preserved : goal.loop-byte-preserved
-loop-byte-preserved c =
-    let is = sym c.is_ascii_digit.ensures.value ∙ c.if-not-is_ascii_digit.false in
-    let i = c.loop-byte.byte-index in
-    record {
-      digits = more_digits c.args.text.now i c.loop-byte-test.true c.loop-byte.invariant.digits is;
-      value =
-          let more = more_value c.args.text.now i c.loop-byte-test.true (grind arith) in
-          c.min-number.ensures
-          ∙ ap (λ n. min (n * 10 + c.from.result) c.args.most) c.loop-byte.invariant.value
-          ∙ capped_more _ c.from.result c.args.most
-          ∙ ap (λ n. min n c.args.most) (omega (arith, more, c.from.ensures));
-    }
+pub loop-digit-preserved : goal.loop-digit-preserved
+loop-digit-preserved c =
+    c.min-number.ensures
+    ∙ capped_more c.args.digits.now c.loop-digit.digit-index c.loop-digit.number c.from.result c.requires c.loop-digit-test.true c.loop-digit.invariant c.from.ensures
