@@ -20,8 +20,7 @@ pub fn announced(body: Body) -> u64
     ensures { result ≡ spec.announced_by body }
 {
     match body {
-        Body::Length(left) => left,
-        Body::Data(left) => left,
+        Body::Length(left) | Body::Data(left) => left,
         _ => 0,
     }
 }

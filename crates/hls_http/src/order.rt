@@ -1,11 +1,12 @@
 //! What is done with a request once its head was read, in the order of the fields, the path and the body.
 
-ghost use Rattle.std.specs.Prelude.{◌≡◌, ◌≤◌, List, ℕ, false};
+ghost use Rattle.std.specs.Prelude.{◌≡◌, ◌≤◌, List, ℕ};
 ghost use Rattle.httparse.specs.Grammar.{RequestHead};
 ghost use Rattle.hls_http_laws.specs.Order as spec;
 ghost use Rattle.hls_http_laws.specs.Requests.{begins};
 ghost use Rattle.hls_http.specs.{Drained.announced_by, Heads.IsHead};
 
+use crate::drain::announced;
 use crate::head::Head;
 use hls_http_laws::body::Body;
 use hls_http_laws::fault::HttpFault;
@@ -19,50 +20,6 @@ pub fn is_over(body: Body) -> bool
     matches!(body, Body::Length(0))
 }
 
-/// Whether what is announced alone shows a body that is too large to be dropped.
-fn is_past(body: Body) -> bool
-    ensures is { result ≡ spec.is_past body }
-    ensures fits { result ≡ false → announced_by body ≤ 65536 }
-{
-    match body {
-        Body::Length(len) => len > MOST_DROPPED,
-        Body::Data(len) => len > MOST_DROPPED,
-        _ => false,
-    }
-}
-
-/// By where the body begins, or why it can't be told.
-fn plan_by(begins: Result<Body, HttpFault>, known: bool, feeds: bool) -> Plan
-    ensures plan { result ≡ spec.plan_by begins known feeds }
-    ensures fits { (body : Body) → result ≡ Plan.Skip body → announced_by body ≤ 65536 }
-{
-    let body = match begins {
-        Ok(body) => body,
-        Err(fault) => {
-            return Plan::Refuse {
-                fault,
-                closing: true,
-            };
-        }
-    };
-    if !known {
-        return Plan::Refuse {
-            fault: HttpFault::NotFound,
-            closing: !is_over(body),
-        };
-    }
-    if feeds {
-        return Plan::Feed(body);
-    }
-    if is_past(body) {
-        return Plan::Refuse {
-            fault: HttpFault::TooLarge,
-            closing: true,
-        };
-    }
-    Plan::Skip(body)
-}
-
 /// What is done with a request, by whether its path is known, and whether the route takes its body part by part: the
 /// fields' fault comes first, then an unknown path, then a Content-Length past 65536 bytes of a body to be dropped. So
 /// of a body to be dropped no more are [announced](crate::announced).
@@ -71,24 +28,24 @@ pub fn plan(head: &Head, known: bool, feeds: bool) -> Plan
     ensures by { result ≡ spec.plan_by head.now.body known feeds }
     ensures fits { (body : Body) → result ≡ Plan.Skip body → announced_by body ≤ 65536 }
 {
-    plan_by(head.body, known, feeds)
-}
-
-fn reads_body(plan: Plan) -> bool
-    ensures { result ≡ spec.reads_body plan }
-{
-    match plan {
-        Plan::Refuse { .. } => false,
-        Plan::Feed(body) => !is_over(body),
-        Plan::Skip(body) => !is_over(body),
-    }
+    let (fault, closing) = match head.body {
+        Err(fault) => (fault, true),
+        Ok(body) if !known => (HttpFault::NotFound, !is_over(body)),
+        Ok(body) if feeds => return Plan::Feed(body),
+        Ok(body) if announced(body) <= MOST_DROPPED => return Plan::Skip(body),
+        Ok(_) => (HttpFault::TooLarge, true),
+    };
+    Plan::Refuse { fault, closing }
 }
 
 /// Whether 100 Continue goes out before the body is read (RFC 9110 10.1.1).
 pub fn continues(head: &Head, plan: Plan) -> bool
     ensures { (h : RequestHead) (text : List ℕ) → IsHead h head.now text → result ≡ spec.continues h plan }
 {
-    head.expects && reads_body(plan)
+    match plan {
+        Plan::Refuse { .. } => false,
+        Plan::Feed(body) | Plan::Skip(body) => head.expects && !is_over(body),
+    }
 }
 
 /// Whether a reply says `Connection: close`: where it is given early, before the body was read to its end, or where

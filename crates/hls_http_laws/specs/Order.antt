@@ -1,5 +1,5 @@
 -- The order in which a request is looked at: its fields, its path, its body, and only then the rest.
-use Rattle.std.specs.Prelude.{nat_lt, nat_eq, Bool, true, false, not, ◌||◌, ◌&&◌, cond, Result, Ok, Err}
+use Rattle.std.specs.Prelude.{ℕ, nat_lt, nat_eq, Bool, true, false, not, ◌||◌, ◌&&◌, cond, Result, Ok, Err}
 use Rattle.httparse.specs.Grammar.{RequestHead}
 use Rattle.hls_http_laws.specs.{declared.body.Body.Body, declared.fault.HttpFault.HttpFault, declared.plan.Plan.Plan, Limits.dropped_limit}
 use Rattle.hls_http_laws.specs.declared.body.Body.TheVariants.{Length, Data}
@@ -12,11 +12,15 @@ abbrev pub is_over : Body → Bool
 is_over (Length n) = nat_eq n 0
 is_over _ = false
 
+-- the bytes of a body that are known to be still to come
+abbrev pub announced_by : Body → ℕ
+announced_by (Length n) = n
+announced_by (Data n) = n
+announced_by _ = 0
+
 -- what is announced is past the limit of bodies that are dropped
 abbrev pub is_past : Body → Bool
-is_past (Length n) = nat_lt dropped_limit n
-is_past (Data n) = nat_lt dropped_limit n
-is_past _ = false
+is_past body = nat_lt dropped_limit (announced_by body)
 
 -- by the body or the fault of the fields, whether the path is known, and whether its parts are wanted
 abbrev pub plan_by : Result Body HttpFault → Bool → Bool → Plan
