@@ -1,5 +1,5 @@
 -- Steps of a body in what is held, and in what follows.
-use Rattle.std.proofs.Common.{◌≡◌, ◌∙◌, ℕ, ◌≤◌, ◌<◌, List, [], ◌++◌, Option, Some, length, take, drop, refl, sym, ap, subst, arith, length-append, length-take}
+use Rattle.std.proofs.Common.{◌≡◌, ◌∙◌, ℕ, ◌≤◌, ◌<◌, List, [], ◌++◌, Option, Some, None, length, take, drop, refl, sym, ap, subst, arith, length-append, length-take}
 use Rattle.std.specs.Io.KnownBytes.{prepend_known}
 use Rattle.std.proofs.lemmas.List.{length-map}
 use Rattle.httparse.specs.declared.spans.HeaderSpan.{HeaderSpan}
@@ -12,7 +12,7 @@ use Rattle.hls_http_laws.specs.declared.body.Body.TheVariants.{Length, Size, Dat
 use Rattle.hls_http_laws.specs.Bodies.{after_line, Steps, Runs, NoStep, HasNoStep, Goes}
 use Rattle.hls_http_laws.proofs.Callers.{Leaves, cut, run_one, runs_join, runs_leave, runs_stay, some_line, some_section}
 use Rattle.hls_http.specs.{declared.input.Filled.Filled, Bodies.IsLastAlone, Input.Reads}
-use Rattle.hls_http.proofs.HeadLaws.{known_left, reads_known}
+use Rattle.hls_http.proofs.HeadLaws.{reads_known}
 
 pub long_line : (held : List ℕ) (len size : ℕ) (l : ChunkLine) → IsChunkLineAt held len size l → 16384 < len → HasNoStep Size held
 long_line held len size l at past = λ more piece next rest s.
@@ -69,14 +69,14 @@ goes_none b held rest left is = record { later = held ++ rest; runs = NoStep; kn
 
 pub goes_then : (b middle last : Body) (input got held now piece rest : List ℕ) (old left : Option (List ℕ)) → Goes b input got middle held old → Steps middle held piece last rest
     → now ≡ rest → left ≡ old → Goes b input (got ++ piece) last now left
-goes_then b middle last input got held now piece rest old left g s now_is left_is =
-    let w = known_left held old g.later g.known in
-    let step = runs_stay middle held piece last rest w.rest (run_one middle last held piece rest s) in
-    let here = subst (λ (xs : List ℕ). Runs middle xs piece last (rest ++ w.rest)) (sym w.input_is) step in
+goes_then b middle last input got held now piece rest None left g s now_is left_is = absurd (cc (g.known))
+goes_then b middle last input got held now piece rest (Some more) left g s now_is left_is =
+    let whole : held ++ more ≡ g.later = cc (g.known) in
+    let step = runs_stay middle held piece last rest more (run_one middle last held piece rest s) in
     record {
-      later = rest ++ w.rest;
-      runs = runs_join b middle last input got g.later piece (rest ++ w.rest) g.runs here;
-      known = ap (λ o. prepend_known now o) (left_is ∙ w.left_is) ∙ ap (λ xs. Some (xs ++ w.rest)) now_is;
+      later = rest ++ more;
+      runs = runs_join b middle last input got g.later piece (rest ++ more) g.runs (subst (λ (xs : List ℕ). Runs middle xs piece last (rest ++ more)) whole step);
+      known = ap (λ o. prepend_known now o) left_is ∙ ap (λ xs. Some (xs ++ more)) now_is;
     }
 
 -- what was read behind what was held changes nothing of what is to come

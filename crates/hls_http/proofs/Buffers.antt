@@ -16,9 +16,6 @@ held_take buffer start end len h =
     let size : (start + len) - start ≡ len = omega arith in
     ap (λ k. take k (drop start buffer)) size ∙ sym (take-take len (end - start) (drop start buffer) (omega (arith, h)))
 
-pub held_same : (old new : List ℕ) (start end : ℕ) → start ≤ end → take end new ≡ take end old → slice_range new start end ≡ slice_range old start end
-held_same old new start end h front = as_drop new start end h ∙ ap (drop start) front ∙ sym (as_drop old start end h)
-
 pub held_more : (old new : List ℕ) (start end read : ℕ) → start ≤ end → end ≤ length new → take end new ≡ take end old
     → slice_range new start (end + read) ≡ slice_range old start end ++ take read (drop end new)
 held_more old new start end read h within front =

@@ -1,6 +1,6 @@
 -- Heads within the limits, in what is held and in the input.
 use Rattle.std.proofs.Common.{◌≡◌, ◌∙◌, ℕ, ◌≤◌, ◌<◌, List, [], ◌++◌, inl, Option, Some, None, length, take, drop, refl, sym, ap, subst, arith, append_assoc, append-nil, length-take}
-use Rattle.std.specs.Io.KnownBytes.{IsAtEnd, prepend_known}
+use Rattle.std.specs.Io.KnownBytes.{prepend_known}
 use Rattle.std.proofs.lemmas.List.{length-map}
 use Rattle.httparse.specs.{declared.spans.HeaderSpan.HeaderSpan, declared.spans.RequestSpans.RequestSpans}
 use Rattle.httparse.specs.Grammar.{RequestHead, print_request, ReadsRequest, HasNoRequest}
@@ -35,28 +35,20 @@ partial_past text never past = record {
 
 -- ---- what is to come
 
-pub record Left (held : List ℕ) (left : Option (List ℕ)) (input : List ℕ) : Type 0 where
-  pub rest : List ℕ
-  pub left_is : left ≡ Some rest
-  pub input_is : input ≡ held ++ rest
-
-pub known_left : (held : List ℕ) (left : Option (List ℕ)) (input : List ℕ) → prepend_known held left ≡ Some input → Left held left input
-known_left held None input e = absurd (cc e)
-known_left held (Some xs) input e = record { rest = xs; left_is = refl; input_is = cc }
-
 pub heard_ok : (input held now taken : List ℕ) (old left : Option (List ℕ)) (head : Head) (len : ℕ) → prepend_known held old ≡ Some input
     → FoundHead held head (take len held) (drop len held) → now ≡ drop len held → taken ≡ take len held → left ≡ old → Heard input head taken now left
-heard_ok input held now taken old left head len known found now_is taken_is left_is =
-    let w = known_left held old input known in
-    let reads = subst (λ (text : List ℕ). ReadsRequest text found.tree (drop len held ++ w.rest)) (sym w.input_is) (ReadsRequest-append held found.tree (drop len held) w.rest found.reads.reads) in
+heard_ok input held now taken None left head len known found now_is taken_is left_is = absurd (cc known)
+heard_ok input held now taken (Some rest) left head len known found now_is taken_is left_is =
+    let whole : held ++ rest ≡ input = cc in
+    let reads = subst (λ (text : List ℕ). ReadsRequest text found.tree (drop len held ++ rest)) whole (ReadsRequest-append held found.tree (drop len held) rest found.reads.reads) in
     record {
-      later = drop len held ++ w.rest;
+      later = drop len held ++ rest;
       found = record {
         tree = found.tree;
         reads = record { reads = reads; small = found.reads.small };
         is = subst (λ (text : List ℕ). IsHead found.tree head text) (sym taken_is) found.is;
       };
-      known = ap (λ o. prepend_known now o) (left_is ∙ w.left_is) ∙ ap (λ xs. Some (xs ++ w.rest)) now_is;
+      known = ap (λ o. prepend_known now o) left_is ∙ ap (λ xs. Some (xs ++ rest)) now_is;
     }
 
 -- .. behind a read, which brought some of it
@@ -66,16 +58,12 @@ reads_known input held now (Some xs) None brought known r = absurd r.consumes
 reads_known input held now (Some xs) (Some ys) brought known r =
     ap (λ zs. Some (zs ++ ys)) r.behind ∙ ap Some (append_assoc held r.bytes ys ∙ ap (λ zs. held ++ zs) (sym r.consumes)) ∙ known
 
--- .. where it brought nothing
-pub none_came : (held now bytes : List ℕ) → now ≡ held ++ bytes → bytes ≡ [] → now ≡ held
-none_came held now bytes is none = is ∙ ap (λ xs. held ++ xs) none ∙ append-nil held
-
 -- .. at the input's end
 pub at_end : (input held now : List ℕ) (old left : Option (List ℕ)) → prepend_known held old ≡ Some input → Reads held now old left AtEnd
     → (held ≡ input) × (now ≡ input) × (prepend_known now left ≡ Some input) × (left ≡ Some [])
-at_end input held now old left known r =
-    let there = reads_known input held now old left AtEnd known r in
-    let w = known_left now left input there in
-    let none : w.rest ≡ [] = subst IsAtEnd w.left_is r.brings.1 in
-    let all : now ≡ input = sym (w.input_is ∙ ap (λ xs. now ++ xs) none ∙ append-nil now) in
-    (sym (none_came held now r.bytes r.behind r.brings.0) ∙ all, all, there, w.left_is ∙ ap Some none)
+at_end input held now old None known r = absurd (cc (reads_known input held now old None AtEnd known r))
+at_end input held now old (Some rest) known r =
+    let there = reads_known input held now old (Some rest) AtEnd known r in
+    let same : now ≡ held = r.behind ∙ ap (λ xs. held ++ xs) r.brings.0 ∙ append-nil held in
+    let all : now ≡ input = sym (ap (λ xs. now ++ xs) r.brings.1 ∙ append-nil now) ∙ cc there in
+    (sym same ∙ all, all, there, ap Some r.brings.1)

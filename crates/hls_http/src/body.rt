@@ -1,6 +1,6 @@
 //! Bodies of requests, by length and in chunks.
 
-ghost use Rattle.std.specs.Prelude.{◌≡◌, ◌≢◌, ◌<◌, ◌≤◌, length, min};
+ghost use Rattle.std.specs.Prelude.{◌≡◌, ◌≢◌, ◌<◌};
 ghost use Rattle.hls_http_laws.specs.Bodies.{after_line};
 ghost use Rattle.hls_http.specs.Bodies.{Moves};
 
@@ -47,33 +47,12 @@ pub enum BodyEnd {
     ReadFailed,
 }
 
-/// How many of the held bytes belong to a body of which so many are to come.
-fn piece_len(held: &[u8], left: u64) -> usize
-    ensures { result ≡ min (length held.now) left }
-{
-    if left < held.len() as u64 {
-        left as usize
-    } else {
-        held.len()
-    }
-}
-
-/// How many bytes of a body by length a piece may hold: those before the last one, which is alone.
-fn before_last(left: u64) -> u64
-    requires { 0 < left }
-    ensures some { 0 < result }
-    ensures within { result ≤ left }
-    ensures alone { result ≡ left → left ≡ 1 }
-{
-    if left > 1 { left - 1 } else { left }
-}
-
-/// Bytes by length.
+/// Bytes by length: those before the last one, or the last one alone.
 fn find_length(held: &[u8], left: u64) -> Result<Move, Lack>
     requires { 0 < left }
     ensures { Moves (Body.Length left) held.now result }
 {
-    let len = piece_len(held, before_last(left));
+    let len = held.len().min((left - 1).max(1) as usize);
     if len == 0 {
         return Err(Lack::Wait);
     }
@@ -91,7 +70,7 @@ fn find_data(held: &[u8], left: u64) -> Result<Move, Lack>
             _ => Err(Lack::Bad),
         };
     }
-    let len = piece_len(held, left);
+    let len = held.len().min(left as usize);
     if len == 0 {
         return Err(Lack::Wait);
     }
@@ -102,10 +81,9 @@ fn find_data(held: &[u8], left: u64) -> Result<Move, Lack>
 fn after_size(size: u64) -> Body
     ensures { result ≡ after_line size }
 {
-    if size == 0 {
-        Body::Trailers
-    } else {
-        Body::Data(size)
+    match size {
+        0 => Body::Trailers,
+        _ => Body::Data(size),
     }
 }
 

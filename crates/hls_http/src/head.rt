@@ -31,21 +31,18 @@ impl Method {
         ensures { result ≡ method_of name.now }
     {
         if name == b"GET".as_slice() {
-            return Method::Get;
+            Method::Get
+        } else if name == b"HEAD".as_slice() {
+            Method::Head
+        } else if name == b"POST".as_slice() {
+            Method::Post
+        } else if name == b"PUT".as_slice() {
+            Method::Put
+        } else if name == b"DELETE".as_slice() {
+            Method::Delete
+        } else {
+            Method::Other
         }
-        if name == b"HEAD".as_slice() {
-            return Method::Head;
-        }
-        if name == b"POST".as_slice() {
-            return Method::Post;
-        }
-        if name == b"PUT".as_slice() {
-            return Method::Put;
-        }
-        if name == b"DELETE".as_slice() {
-            return Method::Delete;
-        }
-        Method::Other
     }
 }
 

@@ -62,14 +62,11 @@ IsBroken (Length n) held = ⊥
 IsBroken b held = HasNoStep b held
 
 -- the text ends before a step
-abbrev pub IsOpenData : ℕ → List ℕ → Type 0
-IsOpenData zero held = (held ≡ []) ⊎ (held ≡ 13 ∷ [])
-IsOpenData (suc n) held = held ≡ []
-
 abbrev pub IsOpen : Body → List ℕ → Type 0
 IsOpen (Length n) held = (0 < n) × (held ≡ [])
 IsOpen Size held = (length held < head_limit) × HasNoChunkLine held × MayBecomeChunkLine held
-IsOpen (Data n) held = IsOpenData n held
+IsOpen (Data zero) held = (held ≡ []) ⊎ (held ≡ 13 ∷ [])
+IsOpen (Data (suc n)) held = held ≡ []
 IsOpen Trailers held = (length held < head_limit) × HasNoSection held × MayBecomeSection held
 
 -- steps of a reader: what it holds and what is left to be read is the rest of its input
