@@ -1,7 +1,7 @@
 -- What was asked, one thing after the other.
-use Rattle.std.proofs.Common.{◌≡◌, ◌∙◌, List, [], ◌∷◌, ◌++◌, refl, sym, ap, subst, append_assoc, append-nil}
+use Rattle.std.proofs.Common.{◌∙◌, List, [], ◌∷◌, ◌++◌, refl, sym, ap, subst, append_assoc, append-nil}
 use Rattle.hls_core_laws.specs.Known.{Known}
-use Rattle.hls_serve_laws.specs.Acts.{Act, Acted, Chain, Leads}
+use Rattle.hls_serve_laws.specs.Acts.{Act, Acted, Chain}
 
 pub acted_none : (a : Known) (before : List Act) → Acted a before a before
 acted_none a before = ([], sym (append-nil before), refl)

@@ -1,5 +1,5 @@
 -- What a keeper is asked while a connection is served, and what it tells; and what that does to what the keeper knows.
-use Rattle.std.specs.Prelude.{◌≡◌, List, [], ◌∷◌, ◌++◌, All, Result, Ok, Err}
+use Rattle.std.specs.Prelude.{◌≡◌, List, [], ◌∷◌, ◌++◌, All, Result, Err}
 use Rattle.hls_core_laws.specs.{declared.refusal.Refusal.TheVariants.Memory, Moves.IsFittingAsSeen}
 use Rattle.hls_core_laws.specs.Known as calls
 use Rattle.hls_serve_laws.specs.Types.{Event, Refusal, State, Done, Known}

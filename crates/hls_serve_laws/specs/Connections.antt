@@ -4,14 +4,14 @@ use Rattle.httparse.specs.Grammar.{RequestHead}
 use Rattle.hls_feed.specs.Streams.{IsTaken}
 use Rattle.hls_http_laws.specs.declared.body.Body.TheVariants.{Length}
 use Rattle.hls_http_laws.specs.declared.end.SessionEnd.TheVariants as ends
-use Rattle.hls_http_laws.specs.declared.plan.Plan.TheVariants.{Refuse, Feed, Skip}
+use Rattle.hls_http_laws.specs.declared.plan.Plan.TheVariants.{Feed, Skip}
 use Rattle.hls_http_laws.specs.Bodies.{Runs, IsOpen}
 use Rattle.hls_http_laws.specs.Heads.{ReadsSmall, IsUnfinished}
 use Rattle.hls_serve_laws.specs.declared.route.Route.TheVariants as routes
 use Rattle.hls_serve_laws.specs.{Acts.Act, Replies.Answer}
 use Rattle.hls_serve_laws.specs.Heard.{Due, Heard, RefusesHead, Request, Responds, first_of, request_of}
 use Rattle.hls_serve_laws.specs.Ingest.{PartComes, Progress, begun}
-use Rattle.hls_serve_laws.specs.Types.{Body, SessionEnd, Plan, Route}
+use Rattle.hls_serve_laws.specs.Types.{Body, SessionEnd, Route}
 
 -- ---- requests that were answered
 

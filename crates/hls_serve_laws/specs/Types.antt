@@ -1,25 +1,9 @@
 -- The types that the definitions speak of, passed on from one place. Declares nothing.
-pub use Rattle.hls_core_laws.specs.State.{State}
-pub use Rattle.hls_core_laws.specs.Known.{Known}
-pub use Rattle.hls_core_laws.specs.declared.event.Event.{Event}
-pub use Rattle.hls_core_laws.specs.declared.done.Done.{Done}
-pub use Rattle.hls_core_laws.specs.declared.refusal.Refusal.{Refusal}
+pub use Rattle.hls_core_laws.specs.{State.State, Known.Known, declared.event.Event.Event, declared.done.Done.Done, declared.refusal.Refusal.Refusal}
 pub use Rattle.hls_feed.specs.declared.fault.StreamFault.{StreamFault}
-pub use Rattle.hls_http_laws.specs.declared.body.Body.{Body}
-pub use Rattle.hls_http_laws.specs.declared.end.SessionEnd.{SessionEnd}
-pub use Rattle.hls_http_laws.specs.declared.fault.HttpFault.{HttpFault}
-pub use Rattle.hls_http_laws.specs.declared.plan.Plan.{Plan}
-pub use Rattle.hls_http_laws.specs.declared.range.Asked.{Asked}
-pub use Rattle.hls_http_laws.specs.declared.reply.Status.{Status}
-pub use Rattle.hls_http.specs.declared.head.Method.{Method}
-pub use Rattle.hls_http.specs.declared.body.BodyEnd.{BodyEnd}
-pub use Rattle.hls_http.specs.declared.drain.DropEnd.{DropEnd}
-pub use Rattle.hls_catchup.specs.declared.request.Request.{Request}
-pub use Rattle.hls_catchup.specs.declared.fault.JobFault.{JobFault}
-pub use Rattle.hls_catchup.specs.declared.jobs.job.Job.{Job}
-pub use Rattle.hls_serve_laws.specs.declared.ingest.Intake.{Intake}
-pub use Rattle.hls_serve_laws.specs.declared.query.Query.{Query}
-pub use Rattle.hls_serve_laws.specs.declared.query.QueryFault.{QueryFault}
-pub use Rattle.hls_serve_laws.specs.declared.route.Route.{Route}
-pub use Rattle.hls_serve_laws.specs.declared.route.JobFile.{JobFile}
-pub use Rattle.hls_serve_laws.specs.declared.wanted.Wanted.{Wanted}
+pub use Rattle.hls_http_laws.specs.declared.{body.Body.Body, end.SessionEnd.SessionEnd, fault.HttpFault.HttpFault}
+pub use Rattle.hls_http_laws.specs.declared.{plan.Plan.Plan, range.Asked.Asked, reply.Status.Status}
+pub use Rattle.hls_http.specs.declared.{head.Method.Method, body.BodyEnd.BodyEnd, drain.DropEnd.DropEnd}
+pub use Rattle.hls_catchup.specs.declared.{request.Request.Request, fault.JobFault.JobFault, jobs.job.Job.Job}
+pub use Rattle.hls_serve_laws.specs.declared.{ingest.Intake.Intake, query.Query.Query, query.QueryFault.QueryFault}
+pub use Rattle.hls_serve_laws.specs.declared.{route.Route.Route, route.JobFile.JobFile, wanted.Wanted.Wanted}
