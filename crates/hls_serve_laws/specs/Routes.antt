@@ -1,7 +1,7 @@
 -- What a target names, and which methods that has.
-use Rattle.std.specs.Prelude.{ℕ, nat_lt, min, Bool, true, false, ◌&&◌, ◌==◌, ◌-◌, ◌+◌, cond, Option, Some, None, option_map, unwrap_or}
-use Rattle.std.specs.Prelude.{List, [], ◌∷◌, ◌++◌, length, take, drop, position, bytes_eq, codes}
-use Rattle.std.specs.List.{filter, position_or_len}
+use Rattle.std.specs.Prelude.{ℕ, nat_lt, min, Bool, true, false, ◌&&◌, ◌==◌, ◌-◌, ◌+◌, cond, Option, Some, None, option_and_then, option_map, unwrap_or}
+use Rattle.std.specs.Prelude.{List, [], ◌∷◌, length, take, drop, position, bytes_eq, codes}
+use Rattle.std.specs.List.{filter, join_by, position_or_len}
 use Rattle.std.specs.Str.{all_ascii_digits}
 use Rattle.hls_text.specs.Digits.{is_plain, number_of}
 use Rattle.hls_http.specs.declared.head.Method.TheVariants.{Get, Head, Post, Put, Delete}
@@ -29,12 +29,12 @@ abbrev pub before : List ℕ → List ℕ → Option (List ℕ)
 before back text = cond (bytes_eq (drop (length text - length back) text) back) (Some (take (length text - length back) text)) None
 
 -- the number of a rendition of which there are so many
-abbrev pub below : ℕ → Option ℕ → Option ℕ
-below count None = None
-below count (Some r) = cond (nat_lt r count) (Some r) None
-
 abbrev pub rendition_in : ℕ → List ℕ → Option ℕ
-rendition_in count text = cond (is_plain text) (below count (number_of 16 text)) None
+rendition_in count text = cond (is_plain text) (option_and_then (λ r. cond (nat_lt r count) (Some r) None) (number_of 16 text)) None
+
+-- what is named by such a number before this back
+abbrev pub numbered : {A : Type 0} → List ℕ → (ℕ → A) → ℕ → List ℕ → Option A
+numbered back name count text = option_and_then (λ number. option_map name (rendition_in count number)) (before back text)
 
 -- above the number of every job
 abbrev pub no_job : ℕ
@@ -51,34 +51,21 @@ or_else (Some a) route other = route a
 
 abbrev pub live_route : ℕ → List ℕ → Option Route
 live_route count text =
-    cond (bytes_eq text (codes "master.m3u8")) (Some routes.LiveMaster)
-    (or_else (before (codes ".m3u8") text) (λ number. option_map routes.LiveList (rendition_in count number)) None)
-
-abbrev pub media_route : ℕ → List ℕ → Option Route
-media_route count text = or_else (before (codes ".mp4") text) (λ number. option_map routes.Media (rendition_in count number)) None
+    cond (bytes_eq text (codes "master.m3u8")) (Some routes.LiveMaster) (numbered (codes ".m3u8") routes.LiveList count text)
 
 -- a file of a job by its name
-abbrev pub media_file : ℕ → List ℕ → Option JobFile
-media_file count name = or_else (before (codes ".mp4") name) (λ number. option_map files.Media (rendition_in count number)) None
-
-abbrev pub list_file : ℕ → List ℕ → Option JobFile
-list_file count name =
-    or_else (before (codes ".m3u8") name) (λ number. option_map files.List (rendition_in count number)) (media_file count name)
-
 abbrev pub file_of : ℕ → List ℕ → Option JobFile
 file_of count name =
     cond (bytes_eq name (codes "master.m3u8")) (Some files.Master)
-    (cond (bytes_eq name (codes "certificate.txt")) (Some files.Certificate) (list_file count name))
-
-abbrev pub file_route : Option ℕ → Option JobFile → Option Route
-file_route None file = None
-file_route (Some id) None = None
-file_route (Some id) (Some file) = Some (routes.JobFile id file)
+    (cond (bytes_eq name (codes "certificate.txt")) (Some files.Certificate)
+    (or_else (before (codes ".m3u8") name) (λ number. option_map files.List (rendition_in count number))
+    (numbered (codes ".mp4") files.Media count name)))
 
 -- a job, or behind the next `/` one of its files
 abbrev pub job_route_at : ℕ → List ℕ → Option ℕ → Option Route
 job_route_at count text None = option_map routes.Job (job_in text)
-job_route_at count text (Some at) = file_route (job_in (take at text)) (file_of count (drop (at + 1) text))
+job_route_at count text (Some at) =
+    option_and_then (λ id. option_map (routes.JobFile id) (file_of count (drop (at + 1) text))) (job_in (take at text))
 
 abbrev pub job_route : ℕ → List ℕ → Option Route
 job_route count text = job_route_at count text (position (λ b. b == 47) text)
@@ -88,8 +75,8 @@ folder_route count path =
     or_else (behind (codes "/ingest/") path) (λ number. option_map routes.Ingest (rendition_in count number))
     (or_else (behind (codes "/finish/") path) (λ number. option_map routes.Finish (rendition_in count number))
     (or_else (behind (codes "/live/") path) (live_route count)
-    (or_else (behind (codes "/media/") path) (media_route count)
-    (or_else (behind (codes "/job/") path) (job_route count) None))))
+    (or_else (behind (codes "/media/") path) (numbered (codes ".mp4") routes.Media count)
+    (option_and_then (job_route count) (behind (codes "/job/") path)))))
 
 -- what a path names, in a channel of so many renditions; paths aren't percent-decoded
 abbrev pub route_of : ℕ → List ℕ → Option Route
@@ -119,34 +106,21 @@ is_read_or_deleted Head = true
 is_read_or_deleted Delete = true
 is_read_or_deleted _ = false
 
--- the methods that a route has
+-- the methods that a route has: what isn't sent to, or removed, is only read
 abbrev pub allows : Route → Method → Bool
 allows (routes.Ingest r) method = is_sent method
 allows (routes.Finish r) method = is_post method
-allows routes.LiveMaster method = is_read method
-allows (routes.LiveList r) method = is_read method
-allows (routes.Media r) method = is_read method
 allows routes.CatchUp method = is_post method
 allows (routes.Job id) method = is_read_or_deleted method
-allows (routes.JobFile id file) method = is_read method
-allows routes.Status method = is_read method
+allows route method = is_read method
 
 -- the methods that have a name of their own, and that name
 abbrev pub named_methods : List (Method × List ℕ)
 named_methods = (Get, codes "GET") ∷ (Head, codes "HEAD") ∷ (Put, codes "PUT") ∷ (Post, codes "POST") ∷ (Delete, codes "DELETE") ∷ []
 
--- a list of names (RFC 9110, section 5.6.1)
-abbrev pub names_behind : List (Method × List ℕ) → List ℕ
-names_behind [] = []
-names_behind (named ∷ more) = codes ", " ++ (named.1 ++ names_behind more)
-
-abbrev pub names_of : List (Method × List ℕ) → List ℕ
-names_of [] = []
-names_of (named ∷ more) = named.1 ++ names_behind more
-
--- the names of the methods that a route has, in this order (RFC 9110, section 10.2.1)
+-- the names of the methods that a route has, in this order (RFC 9110, section 10.2.1), as a list (section 5.6.1)
 abbrev pub methods_of : Route → List ℕ
-methods_of route = names_of (filter (λ named. allows route named.0) named_methods)
+methods_of route = join_by (λ named. named.1) (codes ", ") (filter (λ named. allows route named.0) named_methods)
 
 -- the job of such a request is taken away
 abbrev pub removes : Route → Method → Bool
