@@ -9,27 +9,6 @@ use hls_feed::StreamFault;
 use hls_http_laws::reply::Status;
 use hls_media_laws::fault::MediaFault;
 
-/// A part that is too large is 413, want of memory 503, and every other fault of boxes 400.
-fn box_status(fault: BoxFault) -> Status
-    ensures { result ≡ spec.box_status fault }
-{
-    match fault {
-        BoxFault::TooLarge => Status::ContentTooLarge,
-        BoxFault::Memory => Status::Unavailable,
-        _ => Status::BadRequest,
-    }
-}
-
-/// A part that isn't good is 400.
-fn media_status(fault: MediaFault) -> Status
-    ensures { result ≡ spec.media_status fault }
-{
-    match fault {
-        MediaFault::Memory => Status::Unavailable,
-        _ => Status::BadRequest,
-    }
-}
-
 /// The status of a channel's refusal: 404 for a rendition that it hasn't, 507 where a store is full, 503 for want of
 /// memory, else 409.
 pub fn core_status(refusal: Refusal) -> Status
@@ -44,13 +23,16 @@ pub fn core_status(refusal: Refusal) -> Status
     }
 }
 
-/// The status of the reply to an encoder's body that is refused.
+/// The status of the reply to an encoder's body that is refused: 413 for a part that is too large, 503 for want of memory, 400 for
+/// every other fault of a part, and else that of the channel's refusal.
 pub fn status_of(fault: StreamFault) -> Status
     ensures { result ≡ spec.status_of fault }
 {
     match fault {
-        StreamFault::Boxes(fault) => box_status(fault),
-        StreamFault::Media(fault) => media_status(fault),
+        StreamFault::Boxes(BoxFault::TooLarge) => Status::ContentTooLarge,
+        StreamFault::Boxes(BoxFault::Memory) => Status::Unavailable,
+        StreamFault::Media(MediaFault::Memory) => Status::Unavailable,
         StreamFault::Core(refusal) => core_status(refusal),
+        _ => Status::BadRequest,
     }
 }
