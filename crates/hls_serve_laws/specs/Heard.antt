@@ -65,10 +65,6 @@ range_for to_head range = cond to_head asks.All range
 abbrev pub ShowsState : List Act → List Act → (State → Answer) → Answer → Type 0
 ShowsState a b shown answer = (s : State) × Looks a s b × (answer ≡ shown s)
 
--- .. with the number of jobs
-abbrev pub ShowsStatus : List Act → List Act → Answer → Type 0
-ShowsStatus a b answer = (jobs : ℕ) × HasCounted jobs × ShowsState a b (λ s. status_answer s jobs) answer
-
 -- the event's outcome is replied
 abbrev pub Finishes : List Act → ℕ → List Act → Answer → Type 0
 Finishes a r b answer = (done : Result Done Refusal) × Submits a (Finish r) done b × (done ≢ Err Memory) × (answer ≡ finish_answer done)
@@ -106,9 +102,6 @@ IsOfJob (Err fault) shown answer = ⊥
 abbrev pub ShowsJob : ℕ → (Job → Option Answer) → Answer → Type 0
 ShowsJob id shown answer = (told : Result Job JobFault) × IsTold id told × IsOfJob told shown answer
 
-abbrev pub RemovesJob : ℕ → Answer → Type 0
-RemovesJob id answer = (gone : Result (Unit {0}) JobFault) × HasRemoved id gone × (answer ≡ removed_answer gone)
-
 -- what is replied of a job that is there: how far it is, or a file
 abbrev pub shown_at : Asks → Route → Job → Option Answer
 shown_at q (routes.Job id) job = told_answer job
@@ -121,7 +114,7 @@ shown_if q route true job = shown_at q route job
 shown_if q route false job = Some (method_answer route)
 
 abbrev pub ServesJob : Asks → Route → ℕ → Answer → Bool → Type 0
-ServesJob q route id answer true = RemovesJob id answer
+ServesJob q route id answer true = (gone : Result (Unit {0}) JobFault) × HasRemoved id gone × (answer ≡ removed_answer gone)
 ServesJob q route id answer false = ShowsJob id (shown_if q route (allows route q.method)) answer
 
 -- ---- by the route
@@ -133,7 +126,7 @@ Serves q routes.LiveMaster a answer b = ShowsState a b (λ s. playlist_answer (l
 Serves q (routes.LiveList r) a answer b = ShowsState a b (λ s. list_answer (live_text s r)) answer
 Serves q (routes.Media r) a answer b = ShowsState a b (λ s. media_answer s r (range_for (is_to_head q.method) q.range)) answer
 Serves q routes.CatchUp a answer b = CatchesUp (query_in q.query) a b answer
-Serves q routes.Status a answer b = ShowsStatus a b answer
+Serves q routes.Status a answer b = (jobs : ℕ) × HasCounted jobs × ShowsState a b (λ s. status_answer s jobs) answer
 Serves q route a answer b = ⊥
 
 abbrev pub ServesAllowed : Asks → Route → List Act → Answer → List Act → Bool → Type 0

@@ -24,9 +24,6 @@ use Rattle.hls_serve_laws.specs.Types.{StreamFault, Refusal, State, Done, Body, 
 
 -- ---- counts
 
-abbrev pub no_counts : Counts
-no_counts = record { inits = 0; units = 0; repeats = 0 }
-
 -- one more; a count stops at its largest number
 abbrev pub one_more : ℕ → ℕ
 one_more n = min (n + 1) 18446744073709551615
@@ -53,18 +50,14 @@ pub record Progress : Type 0 where
   pub counts : Counts
 
 abbrev pub begun : Progress
-begun = record { acts = []; init = None; counts = no_counts }
+begun = record { acts = []; init = None; counts = record { inits = 0; units = 0; repeats = 0 } }
 
--- the init section of a rendition in a state
-abbrev pub init_in : State → ℕ → Option InitData
-init_in s r = option_map (λ rec. rec.init) (recording_of s r)
-
--- at a body's first unit the state is looked at, once, for the init section under which its units are read
+-- at a body's first unit the state is looked at, once, for the rendition's init section, under which its units are read
 pub record LooksFor (r : ℕ) (x : Progress) (found : Option InitData) (z : List Act) : Type 0 where
   pub first : x.init ≡ None
   pub state : State
   pub looks : Looks x.acts state z
-  pub found_is : found ≡ init_in state r
+  pub found_is : found ≡ option_map (λ rec. rec.init) (recording_of state r)
 
 abbrev pub FindsInit : ℕ → Progress → InitData → List Act → Type 0
 FindsInit r x init z = ((x.init ≡ Some init) × (z ≡ x.acts)) ⊎ LooksFor r x (Some init) z
