@@ -1,7 +1,7 @@
 -- What acts lead to, one after the other and with others between.
 use Rattle.std.proofs.Common.{◌≡◌, ◌∙◌, List, [], ◌∷◌, ◌++◌, Result, refl, sym, ap, subst, append_assoc, append-nil}
 use Rattle.hls_core_laws.specs.{declared.event.Logged.Logged, IsState.IsState}
-use Rattle.hls_core_laws.specs.Moves.{IsFittingAsSeen, logged}
+use Rattle.hls_core_laws.specs.Moves.{logged}
 use Rattle.hls_core_laws.specs.Outcome.{Outcome, New, Repeated, Refused}
 use Rattle.hls_core_laws.proofs.Callers.{state_of}
 use Rattle.hls_core_laws.proofs.Callers.{follows_itself, follows_through, moves_follow, seen_suffices}
@@ -57,21 +57,18 @@ pub linked_later : (acts : List Act) (a b c : Known) → Linked a acts b → Lat
 linked_later [] a b c later more = later_through a b c later more
 linked_later (act ∷ acts) a b c (met, left, later, leads, others) more = (met, left, later, leads, linked_later acts left b c others more)
 
-chain_links : (acts : List Act) (a b c : Known) → Later a b → Chain b acts c → Linked a acts c
-chain_links [] a b c later same = subst (λ (k : Known). Later a k) (sym same) later
-chain_links (act ∷ acts) a b c later (middle, leads, others) =
-    (b, middle, later, leads, chain_links acts middle middle c (later_itself middle) others)
-
-linked_on : (before : List Act) (a b c : Known) (acts : List Act) → Linked a before b → Chain b acts c → Linked a (before ++ acts) c
-linked_on [] a b c acts later chain = chain_links acts a b c later chain
-linked_on (act ∷ before) a b c acts (met, left, later, leads, others) chain =
-    (met, left, later, leads, linked_on before left b c acts others chain)
+linked_on : (before acts : List Act) (a b c : Known) → Linked a before b → Chain b acts c → Linked a (before ++ acts) c
+linked_on [] [] a b c later same = subst (λ (k : Known). Later a k) (sym same) later
+linked_on [] (act ∷ acts) a b c later (middle, leads, others) =
+    (b, middle, later, leads, linked_on [] acts middle middle c (later_itself middle) others)
+linked_on (act ∷ before) acts a b c (met, left, later, leads, others) chain =
+    (met, left, later, leads, linked_on before acts left b c others chain)
 
 pub linked_acted : (a b c : Known) (before after : List Act) → Linked a before b → Acted b before c after → Linked a after c
 linked_acted a b c before after linked (acts, is, chain) =
-    subst (λ (t : List Act). Linked a t c) (sym is) (linked_on before a b c acts linked chain)
+    subst (λ (t : List Act). Linked a t c) (sym is) (linked_on before acts a b c linked chain)
 
 -- acts of which each leads on from where the one before it led
 pub acted_follows : (a b : Known) (before after : List Act) → IsState a.seen → Acted a before b after → IsState b.seen × Later a b
 acted_follows a b before after valid (acts, is, chain) =
-    linked_follows acts a b valid (chain_links acts a a b (later_itself a) chain)
+    linked_follows acts a b valid (linked_on [] acts a a b (later_itself a) chain)

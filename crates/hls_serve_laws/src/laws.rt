@@ -22,17 +22,20 @@ pub fn allow_names_methods()
 
 /// The requests behind whose replies a connection went on are the first ones of its stream by the standard's grammar (RFC 9112),
 /// each a head and its whole body, and what is to come stands right behind them.
+#[tactic(auto, using(crate::proofs::Requests::requests_are_read))]
 pub fn requests_are_read()
     ensures { RequestsAreRead }
 {}
 
 /// Acts that lead on from one another link to those of the same connection before, whatever others did between.
+#[tactic(auto, using(crate::proofs::Linking::linked_acted, crate::proofs::Linking::linked_later))]
 pub fn acts_link()
     ensures link { ActsLink }
     ensures stay { LinksStay }
 {}
 
 /// Linked acts lead from a state to one that follows it; so does each act of another's.
+#[tactic(auto, using(crate::proofs::Linking::linked_follows, crate::proofs::Linking::act_later))]
 pub fn links_follow()
     ensures follow { LinksFollow }
     ensures acts { ActsAreLater }
