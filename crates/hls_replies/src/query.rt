@@ -1,9 +1,9 @@
 //! The query of a request for catch-up.
 
-ghost use Rattle.std.specs.Prelude.{◌≡◌, ◌-ℤ◌, IfOk};
+ghost use Rattle.std.specs.Prelude.{◌≡◌, ◌-ℤ◌, IfOk, option_and_then};
 ghost use Rattle.hls_http_laws.specs.Query.{value_in};
 ghost use Rattle.hls_serve_laws.specs.Queries as spec;
-ghost use Rattle.hls_serve_laws.specs.Queries.{from_epoch, moment_in, moment_of, optional_in, query_in, time_of};
+ghost use Rattle.hls_serve_laws.specs.Queries.{from_epoch, moment_of, optional_in, query_in, time_of};
 
 use hls_catchup::{CostRule, Request};
 use hls_core::snapshot::Snapshot;
@@ -26,12 +26,9 @@ fn moment_of(text: &[u8]) -> Option<Moment>
 
 /// The moment of a key.
 fn read_moment(alloc: Global, query: &[u8], key: &[u8]) -> Result<Option<Moment>, AllocError>
-    ensures { IfOk result (λ moment. moment ≡ moment_in (value_in key.now query.now)) }
+    ensures { IfOk result (λ moment. moment ≡ option_and_then moment_of (value_in key.now query.now)) }
 {
-    match value_of(alloc, query, key)? {
-        Some(text) => Ok(moment_of(&text)),
-        None => Ok(None),
-    }
+    Ok(value_of(alloc, query, key)?.and_then(|text| moment_of(&text)))
 }
 
 /// The number of a key that needn't be there; None where it is there and isn't good.
@@ -74,10 +71,7 @@ pub fn read_query(alloc: Global, query: &[u8]) -> Result<Option<Query>, AllocErr
 fn from_epoch(epoch: i64, instant: i64) -> Result<u64, QueryFault>
     ensures { result ≡ from_epoch (instant -ℤ epoch) }
 {
-    match u64::try_from(i128::from(instant) - i128::from(epoch)) {
-        Ok(us) => Ok(us),
-        Err(_) => Err(QueryFault::BeforeEpoch),
-    }
+    u64::try_from(i128::from(instant) - i128::from(epoch)).or(Err(QueryFault::BeforeEpoch))
 }
 
 /// The time of a moment, in microseconds from time 0 on.

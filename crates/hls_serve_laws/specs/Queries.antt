@@ -1,5 +1,6 @@
 -- What the query of a request for catch-up asks.
-use Rattle.std.specs.Prelude.{ℕ, ℤ, pos, negsuc, ◌-ℤ◌, List, Option, Some, None, option_map, unwrap_or, Result, Ok, Err, codes}
+use Rattle.std.specs.Prelude.{ℕ, ℤ, pos, negsuc, ◌-ℤ◌, List, Option, Some, None, option_and_then, option_map, unwrap_or, Result, Ok, Err, codes}
+use Rattle.std.specs.Option.{option_or}
 use Rattle.hls_instants.specs.Instants.{instant_of}
 use Rattle.hls_text.specs.Digits.{number_of}
 use Rattle.hls_http_laws.specs.Query.{value_in}
@@ -12,16 +13,8 @@ use Rattle.hls_serve_laws.specs.Types.{State, Request, Query, QueryFault, Wanted
 -- ---- what a query says
 
 -- 1 to 16 digits are microseconds from time 0 on, whatever else they could be
-abbrev pub moment_by : Option ℕ → Option ℤ → Option Moment
-moment_by (Some us) instant = Some (Time us)
-moment_by None instant = option_map Instant instant
-
 abbrev pub moment_of : List ℕ → Option Moment
-moment_of text = moment_by (number_of 16 text) (instant_of text)
-
-abbrev pub moment_in : Option (List ℕ) → Option Moment
-moment_in None = None
-moment_in (Some text) = moment_of text
+moment_of text = option_or (option_map Time (number_of 16 text)) (option_map Instant (instant_of text))
 
 -- the number of a key that needn't be there
 abbrev pub optional_in : Option (List ℕ) → Option (Option ℕ)
@@ -37,8 +30,8 @@ query_with start stop preferred charge = None
 -- `from` and `to`, and perhaps `preferred` and `charge`; none where one of them isn't good
 abbrev pub query_in : List ℕ → Option Query
 query_in text =
-    query_with (moment_in (value_in (codes "from") text)) (moment_in (value_in (codes "to") text)) (optional_in (value_in (codes "preferred") text))
-    (optional_in (value_in (codes "charge") text))
+    query_with (option_and_then moment_of (value_in (codes "from") text)) (option_and_then moment_of (value_in (codes "to") text))
+    (optional_in (value_in (codes "preferred") text)) (optional_in (value_in (codes "charge") text))
 
 -- ---- what it asks of a channel
 
