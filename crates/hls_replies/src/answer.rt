@@ -2,14 +2,14 @@
 
 ghost use Rattle.std.specs.Prelude.{◌≡◌, IfOk};
 ghost use Rattle.hls_http_laws.specs.Reply.{extra_line};
-ghost use Rattle.hls_serve_laws.specs.Replies.{answer_text};
+ghost use Rattle.hls_serve_laws.specs.Replies.{answer_text, text_with};
 ghost use Rattle.hls_replies.specs.Contents.{content_of};
 
 use crate::body::Body;
 use crate::content::Content;
 use hls_http::reply_output;
 use hls_http_laws::reply::{Extra, Kind, ReplyHead, Status};
-use hls_output::{Media, Output};
+use hls_output::Output;
 use std::alloc::{AllocError, Global};
 use std::marker::Model;
 
@@ -35,15 +35,10 @@ impl Model for Answer {
 
 impl Answer {
     /// An answer whose body is a text.
-    pub(crate) fn of_text(
-        status: Status,
-        kind: Kind,
-        extra: Extra<'static>,
-        body: Vec<u8>,
-    ) -> Answer
-        ensures { result ≡ record { status = status; kind = kind; field = extra_line extra.entry; body = body.items } }
+    pub(crate) fn of_text(status: Status, extra: Extra<'static>, body: Vec<u8>) -> Answer
+        ensures { result ≡ text_with (extra_line extra.entry) status body.items }
     {
-        Answer::of_content(status, kind, extra, Content::of_text(body))
+        Answer::of_content(status, Kind::Text, extra, Content::of_text(body))
     }
 
     /// An answer of which some may still be to be made.
@@ -63,33 +58,11 @@ impl Answer {
         }
     }
 
-    /// An answer whose body is media.
-    pub(crate) fn of_media(status: Status, extra: Extra<'static>, body: Media<Body>) -> Answer
-        ensures { result ≡ record { status = status; kind = Kind.Media; field = extra_line extra.entry; body = body } }
-    {
-        Answer::of_content(status, Kind::Media, extra, Content::Whole(body))
-    }
-
     /// Its status.
     pub fn status(&self) -> Status
         ensures { result ≡ self.now.status }
     {
         self.status
-    }
-
-    /// What the head of its reply says.
-    fn head(&self, closing: bool) -> ReplyHead<'static>
-        ensures status { result.status ≡ self.now.status }
-        ensures kind { result.kind ≡ self.now.kind }
-        ensures field { extra_line result.extra ≡ self.now.field }
-        ensures closing { result.closing ≡ closing }
-    {
-        ReplyHead {
-            status: self.status,
-            kind: self.kind,
-            extra: self.extra,
-            closing,
-        }
     }
 
     /// Whether nothing of its body is still to be made.
@@ -104,13 +77,6 @@ impl Answer {
         let body = self.body.make(alloc)?;
         Ok(Answer::of_content(self.status, self.kind, self.extra, body))
     }
-
-    /// Its body, with what was still to be made.
-    fn into_body(self, alloc: Global) -> Result<Media<Body>, AllocError>
-        ensures { IfOk result (λ body. body ≡ self.body) }
-    {
-        self.body.finish(alloc)
-    }
 }
 
 /// An answer's reply, to be sent part by part; to HEAD without its body. A body goes out from where it stands: memory is taken
@@ -123,7 +89,12 @@ pub fn output_of(
 ) -> Result<Output<Body>, AllocError>
     ensures { IfOk result (λ output. output ≡ answer_text answer closing to_head) }
 {
-    let head = answer.head(closing);
-    let body = answer.into_body(alloc)?;
+    let head = ReplyHead {
+        status: answer.status,
+        kind: answer.kind,
+        extra: answer.extra,
+        closing,
+    };
+    let body = answer.body.finish(alloc)?;
     reply_output(alloc, &head, body, to_head)
 }

@@ -1,6 +1,6 @@
 //! Answers about jobs: that one was added or removed, how far it is, and its files.
 
-ghost use Rattle.std.specs.Prelude.{◌≡◌, IfOk, Ok, Some};
+ghost use Rattle.std.specs.Prelude.{◌≡◌, IfOk, Some};
 ghost use Rattle.hls_serve_laws.specs.JobReplies as spec;
 ghost use Rattle.hls_serve_laws.specs.{JobReplies.withheld_answer, Replies.text_answer};
 
@@ -26,21 +26,8 @@ pub fn query_answer(alloc: Global, fault: QueryFault) -> Result<Answer, AllocErr
     refusal_answer(alloc, Status::BadRequest, fault.name())
 }
 
-/// A job that was added: its id, and the version (the number of log entries) of the snapshot that it is answered from.
-fn id_answer(alloc: Global, version: u64, id: u64) -> Result<Answer, AllocError>
-    ensures { IfOk result (λ a. a ≡ spec.added_answer version (Ok id)) }
-{
-    let text = format!(in alloc; "job {id} version {version}\n")?;
-    Ok(Answer::of_text(
-        Status::Accepted,
-        Kind::Text,
-        Extra::Job(id),
-        text.into_bytes(),
-    ))
-}
-
-/// What came of adding a job for a snapshot of this version: 202 with the job's place, or 503 where the table is full. Want
-/// of memory has no answer.
+/// What came of adding a job for a snapshot of this version (the number of its log entries): 202 with the job's id and place, or 503
+/// where the table is full. Want of memory has no answer.
 pub fn added_answer(
     alloc: Global,
     version: u64,
@@ -49,7 +36,10 @@ pub fn added_answer(
     ensures { IfOk result (λ a. a ≡ spec.added_answer version added) }
 {
     match added {
-        Ok(id) => id_answer(alloc, version, id),
+        Ok(id) => {
+            let text = format!(in alloc; "job {id} version {version}\n")?;
+            Ok(Answer::of_text(Status::Accepted, Extra::Job(id), text.into_bytes()))
+        }
         Err(JobFault::Memory) => Err(AllocError),
         Err(fault) => refusal_answer(alloc, Status::Unavailable, fault.name()),
     }

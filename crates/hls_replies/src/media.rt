@@ -10,6 +10,7 @@ ghost use Rattle.hls_replies.specs.Contents.{IsPieceFor, IsPlaced, bytes_of, kep
 
 use crate::answer::Answer;
 use crate::body::Body;
+use crate::content::Content;
 use crate::texts::fault_answer;
 use hls_catchup::{resource_place, resource_slice};
 use hls_core::snapshot::Snapshot;
@@ -63,10 +64,11 @@ pub(crate) fn piece_answer(
 ) -> Result<Answer, AllocError>
     ensures { IfOk result (λ a. a ≡ media_given piece.status piece.extra media) }
 {
-    match media {
-        Some(media) => Ok(Answer::of_media(piece.status, piece.extra, media)),
-        None => fault_answer(alloc, HttpFault::Gone),
-    }
+    let Some(media) = media else {
+        return fault_answer(alloc, HttpFault::Gone);
+    };
+    let body = Content::Whole(media);
+    Ok(Answer::of_content(piece.status, Kind::Media, piece.extra, body))
 }
 
 /// A part that holds no byte of a resource: 416 with the total (RFC 9110 15.5.17).
@@ -75,7 +77,7 @@ pub(crate) fn outside_answer(alloc: Global, total: u64) -> Result<Answer, AllocE
 {
     let fault = HttpFault::RangeOutside;
     let body = refusal_body(alloc, fault.name())?;
-    Ok(Answer::of_text(fault.status(), Kind::Text, Extra::NoRange(total), body))
+    Ok(Answer::of_text(fault.status(), Extra::NoRange(total), body))
 }
 
 /// A rendition's recording in a state, which it shares: its init section, and then the units that are kept.

@@ -14,7 +14,7 @@ use hls_core_laws::refusal::Refusal;
 use hls_feed::StreamFault;
 use hls_http::refusal_body;
 use hls_http_laws::fault::HttpFault;
-use hls_http_laws::reply::{Extra, Kind, Status};
+use hls_http_laws::reply::{Extra, Status};
 use hls_serve_laws::fault::{core_status, status_of};
 use hls_serve_laws::ingest::Counts;
 use hls_serve_laws::route::Route;
@@ -24,7 +24,7 @@ use std::alloc::{AllocError, Global};
 pub(crate) fn text_answer(status: Status, body: Vec<u8>) -> Answer
     ensures { result ≡ text_answer status body.items }
 {
-    Answer::of_text(status, Kind::Text, Extra::Nothing, body)
+    Answer::of_text(status, Extra::Nothing, body)
 }
 
 /// A refusal by its name.
@@ -52,14 +52,9 @@ fn methods_of(route: Route) -> &'static [u8]
 {
     match route {
         Route::Ingest(_) => b"PUT, POST",
-        Route::Finish(_) => b"POST",
-        Route::LiveMaster => b"GET, HEAD",
-        Route::LiveList(_) => b"GET, HEAD",
-        Route::Media(_) => b"GET, HEAD",
-        Route::CatchUp => b"POST",
+        Route::Finish(_) | Route::CatchUp => b"POST",
         Route::Job(_) => b"GET, HEAD, DELETE",
-        Route::JobFile(_, _) => b"GET, HEAD",
-        Route::Status => b"GET, HEAD",
+        _ => b"GET, HEAD",
     }
 }
 
@@ -69,8 +64,7 @@ pub fn method_answer(alloc: Global, route: Route) -> Result<Answer, AllocError>
 {
     let fault = HttpFault::BadMethod;
     let body = refusal_body(alloc, fault.name())?;
-    let allow = Extra::Allow(methods_of(route));
-    Ok(Answer::of_text(fault.status(), Kind::Text, allow, body))
+    Ok(Answer::of_text(fault.status(), Extra::Allow(methods_of(route)), body))
 }
 
 /// What a rendition's end came to: `finished`, `repeated`, or a refusal by its name.
@@ -95,11 +89,7 @@ fn done_answer(alloc: Global, text: &[u8]) -> Result<Answer, AllocError>
 fn counts_text(alloc: Global, counts: Counts) -> Result<String, AllocError>
     ensures { IfOk result (λ text. string_bytes text ≡ counts_text counts) }
 {
-    let Counts {
-        inits,
-        units,
-        repeats,
-    } = counts;
+    let (inits, units, repeats) = (counts.inits, counts.units, counts.repeats);
     format!(in alloc; "init {inits} accepted {units} repeated {repeats}\n")
 }
 

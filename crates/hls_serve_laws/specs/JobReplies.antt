@@ -3,7 +3,7 @@ use Rattle.std.specs.Prelude.{ℕ, List, [], ◌++◌, length, take, drop, Optio
 use Rattle.std.specs.{Fmt.decimal, List.concat}
 use Rattle.hls_http_laws.specs.declared.fault.HttpFault.TheVariants as http
 use Rattle.hls_http_laws.specs.declared.reply.Status.TheVariants.{Done, Accepted, NoContent, BadRequest, Unavailable}
-use Rattle.hls_http_laws.specs.{declared.reply.Kind.TheVariants.Text, Range.part_of}
+use Rattle.hls_http_laws.specs.Range.{part_of}
 use Rattle.hls_http_laws.specs.declared.reply.Extra.TheVariants as extras
 use Rattle.hls_http_laws.specs.Reply.{extra_line, refusal}
 use Rattle.hls_catchup.specs.{Replies.ReplyData, Resources.parts_in, Jobs.FaultName.job_fault_name}
@@ -13,7 +13,7 @@ use Rattle.hls_catchup.specs.Jobs.Files.{certificate_file, master_file, playlist
 use Rattle.hls_catchup.specs.Jobs.Line.{job_line, version_end}
 use Rattle.hls_serve_laws.specs.declared.route.JobFile.TheVariants as files
 use Rattle.hls_serve_laws.specs.Queries.{query_fault_name}
-use Rattle.hls_serve_laws.specs.Replies.{Answer, fault_answer, list_answer, part_answer, text_answer}
+use Rattle.hls_serve_laws.specs.Replies.{Answer, fault_answer, list_answer, part_answer, text_answer, text_with}
 use Rattle.hls_serve_laws.specs.Types.{Asked, JobFault, Job, QueryFault, JobFile}
 
 -- ---- added, removed
@@ -23,12 +23,7 @@ query_answer fault = text_answer BadRequest (refusal (query_fault_name fault))
 
 -- the job's id, and the version (the number of log entries) of the state that it is answered from; or a full table
 abbrev pub added_answer : ℕ → Result ℕ JobFault → Answer
-added_answer version (Ok id) = record {
-  status = Accepted;
-  kind = Text;
-  field = extra_line (extras.Job id);
-  body = codes "job " ++ (decimal id ++ version_end version);
-}
+added_answer version (Ok id) = text_with (extra_line (extras.Job id)) Accepted (codes "job " ++ (decimal id ++ version_end version))
 added_answer version (Err fault) = text_answer Unavailable (refusal (job_fault_name fault))
 
 -- nothing is told of a job that is gone (RFC 9110, section 15.3.5); a job that isn't there isn't found
@@ -44,14 +39,10 @@ told_answer job = option_map (text_answer Done) (job_line job)
 
 -- ---- files
 
--- so many bytes of a resource from an offset on
-abbrev pub bytes_in : List ℕ → ℕ → ℕ → Option (List ℕ)
-bytes_in bytes from len = Some (take len (drop from bytes))
-
 -- all of a resource, or the part that is asked for; no resource isn't found
 abbrev pub resource_answer : Option (List ℕ) → Asked → Answer
 resource_answer None asked = fault_answer http.NotFound
-resource_answer (Some bytes) asked = part_answer (bytes_in bytes) (length bytes) (part_of asked (length bytes))
+resource_answer (Some bytes) asked = part_answer (λ from len. Some (take len (drop from bytes))) (length bytes) (part_of asked (length bytes))
 
 -- a rendition's resource: its init section and then the programme's units, as the reply's own state has them; none where
 -- the reply is no cut

@@ -1,10 +1,10 @@
 -- What is replied: the refusals, and what a state is shown as.
-use Rattle.std.specs.Prelude.{ℕ, ◌+◌, ◌-◌, Bool, cond, List, [], ◌∷◌, ◌++◌, length, Option, Some, None, Result, Ok, Err, codes}
+use Rattle.std.specs.Prelude.{ℕ, ◌+◌, ◌-◌, Bool, cond, List, [], ◌∷◌, ◌++◌, length, Option, Some, None, option_and_then, option_map, Result, Ok, Err, codes}
 use Rattle.std.specs.Fmt.{decimal}
 use Rattle.hls_http_laws.specs.declared.fault.HttpFault.TheVariants as http
 use Rattle.hls_http_laws.specs.{declared.range.Part.Part, declared.reply.Kind.Kind, declared.reply.Extra.Extra, Range.part_of}
 use Rattle.hls_http_laws.specs.declared.range.Part.TheVariants as parts
-use Rattle.hls_http_laws.specs.declared.reply.Status.TheVariants.{Done, PartialContent, MethodNotAllowed, RangeNotSatisfiable}
+use Rattle.hls_http_laws.specs.declared.reply.Status.TheVariants.{Done, PartialContent}
 use Rattle.hls_http_laws.specs.declared.reply.Kind.TheVariants.{Text, Media, Playlist}
 use Rattle.hls_http_laws.specs.declared.reply.Extra.TheVariants.{Nothing, Range, NoRange}
 use Rattle.hls_http_laws.specs.Reply.{fault_name, fault_status, status_line, content_lines, extra_line, close_line, crlf, refusal}
@@ -29,22 +29,24 @@ abbrev pub answer_text : Answer → Bool → Bool → List ℕ
 answer_text a closing to_head =
     (status_line a.status ++ (content_lines a.status a.kind (length a.body) ++ (a.field ++ (close_line closing ++ crlf)))) ++ cond to_head [] a.body
 
+-- a text, and this field
+abbrev pub text_with : List ℕ → Status → List ℕ → Answer
+text_with field status body = record { status = status; kind = Text; field = field; body = body }
+
 abbrev pub text_answer : Status → List ℕ → Answer
-text_answer status body = record { status = status; kind = Text; field = []; body = body }
+text_answer status body = text_with [] status body
 
 -- ---- refusals
 
+abbrev pub fault_with : List ℕ → HttpFault → Answer
+fault_with field fault = text_with field (fault_status fault) (refusal (fault_name fault))
+
 abbrev pub fault_answer : HttpFault → Answer
-fault_answer fault = text_answer (fault_status fault) (refusal (fault_name fault))
+fault_answer fault = fault_with [] fault
 
 -- a known path with a method that it hasn't (RFC 9110, section 15.5.6)
 abbrev pub method_answer : Route → Answer
-method_answer route = record {
-  status = MethodNotAllowed;
-  kind = Text;
-  field = codes "Allow: " ++ (methods_of route ++ crlf);
-  body = refusal (fault_name http.BadMethod);
-}
+method_answer route = fault_with (codes "Allow: " ++ (methods_of route ++ crlf)) http.BadMethod
 
 -- ---- the end of a rendition
 
@@ -89,12 +91,7 @@ media_given status extra (Some bytes) = record { status = status; kind = Media; 
 
 -- where none of a resource's bytes is asked for, of so many
 abbrev pub outside_answer : ℕ → Answer
-outside_answer total = record {
-  status = RangeNotSatisfiable;
-  kind = Text;
-  field = extra_line (NoRange total);
-  body = refusal (fault_name http.RangeOutside);
-}
+outside_answer total = fault_with (extra_line (NoRange total)) http.RangeOutside
 
 -- by the part that is asked for of a resource, which is told as so many bytes from an offset on, where they are there
 abbrev pub part_answer : (ℕ → ℕ → Option (List ℕ)) → ℕ → Part → Answer
