@@ -1,12 +1,12 @@
 -- Parts of a resource: where any begins in its slices, and of a recording what is kept.
-use Rattle.std.proofs.Common.{◌≡◌, ◌∙◌, ℕ, zero, suc, ◌+◌, ◌-◌, ◌<◌, ◌≤◌, inl, inr, List, [], ◌∷◌, ◌++◌, Option, Some, None, length, get_or, map, take, drop, replicate, min, max, refl, sym, ap, subst, arith, length-append}
-use Rattle.std.specs.List.{Contains, concat}
-use Rattle.std.proofs.lemmas.Bool.{cases_lt, lt-ltb, le-ltb}
+use Rattle.std.proofs.Common.{◌≡◌, ◌∙◌, ℕ, zero, suc, ◌+◌, ◌-◌, ◌<◌, ◌≤◌, List, [], ◌∷◌, ◌++◌, Option, Some, None, length, get_or, map, take, drop, replicate, min, max, refl, sym, ap, subst, arith, length-append}
+use Rattle.std.specs.Prelude.{Contains, option_map}
+use Rattle.std.specs.List.{concat}
 use Rattle.std.proofs.lemmas.List.{length-map, length-replicate, map-append, drop-map, take-map, take_all}
 use Rattle.hls_record.specs.Recorded.{Recorded, offset_at, total_of, bytes_of, range_of}
 use Rattle.hls_record.specs.Valid.{IsRecorded}
 use Rattle.hls_record.proofs.Callers.{bytes_length, gone_range}
-use Rattle.hls_serve_laws.specs.Replies.{media_bytes, onto, whole}
+use Rattle.hls_serve_laws.specs.Replies.{media_bytes, whole}
 use Rattle.hls_replies.specs.Contents.{kept_at, kept_slices}
 
 -- ---- bytes that are all there
@@ -14,14 +14,14 @@ use Rattle.hls_replies.specs.Contents.{kept_at, kept_slices}
 whole-map : (bytes : List ℕ) → whole (map Some bytes) ≡ Some bytes
 unfolding whole
 whole-map [] = refl
-whole-map (b ∷ bytes) = ap (onto (Some b)) (whole-map bytes)
+whole-map (b ∷ bytes) = ap (option_map (λ others. b ∷ others)) (whole-map bytes)
 
 none-at : (xs : List (Option ℕ)) (n : ℕ) → n < length xs → get_or xs n None ≡ None → whole xs ≡ None
 unfolding whole
 none-at [] n within none = absurd (omega arith)
 none-at (None ∷ xs) n within none = refl
 none-at (Some b ∷ xs) zero within none = cc
-none-at (Some b ∷ xs) (suc n) within none = ap (onto (Some b)) (none-at xs n (omega arith) none)
+none-at (Some b ∷ xs) (suc n) within none = ap (option_map (λ others. b ∷ others)) (none-at xs n (omega arith) none)
 
 whole-none : (xs : List (Option ℕ)) → Contains xs None → whole xs ≡ None
 whole-none xs gone = none-at xs gone.0 gone.1 gone.2
@@ -36,12 +36,6 @@ part-gone r from len valid within gone = whole-none (range_of r from (from + len
 abbrev hole : Recorded → ℕ
 hole r = offset_at r r.floor - length r.head
 
-early-at : (r : Recorded) (from : ℕ) → from < length r.head → kept_at r from ≡ from
-early-at r from early = rw (lt-ltb from (length r.head) early) refl
-
-late-at : (r : Recorded) (from : ℕ) → length r.head ≤ from → kept_at r from ≡ from - hole r
-late-at r from late = rw (le-ltb from (length r.head) late) refl
-
 -- the slices joined: the init section, and the bytes of the units that are kept
 kept-joined : (r : Recorded) → IsRecorded r → concat (kept_slices (Some r)) ≡ r.head ++ concat r.units
 kept-joined r valid =
@@ -52,10 +46,7 @@ kept-joined r valid =
 heads : (r : Recorded) → length (map (λ (x : ℕ). Some x) r.head) ≡ length r.head
 heads r = length-map r.head Some
 
-abbrev none-of : (A : Type 0) → Option A
-none-of A = None
-
-holes : (r : Recorded) → length (replicate (hole r) (none-of ℕ)) ≡ hole r
+holes : (r : Recorded) → length {A = Option ℕ} (replicate (hole r) None) ≡ hole r
 holes r = length-replicate (hole r) None
 
 -- what is kept of so many bytes is there
@@ -67,29 +58,21 @@ part-fits r from len valid within kept =
     let a = length-append (map Some r.head ++ replicate (hole r) None) (map Some (concat r.units)) in
     let b = length-append (map Some r.head) (replicate (hole r) None) in
     let c : length (map (λ (x : ℕ). Some x) (concat r.units)) ≡ length (concat r.units) = length-map (concat r.units) Some in
-    let all = bytes_length r valid in
-    elim (cases_lt from (length r.head)) [
-      | inl early ↦ omega (arith, early-at r from early, early, joined, both, a, b, c, all, heads r, holes r, within, kept)
-      | inr late ↦ omega (arith, late-at r from late, late, joined, both, a, b, c, all, heads r, holes r, within, kept)
-    ]
+    omega (arith, joined, both, a, b, c, bytes_length r valid, heads r, holes r, within, kept)
 
 -- what stands from a place on in two lists with another between them stands from one on in the two alone, where nothing between is asked for
 without : {A : Type 0} (xs ns ys : List A) (from len at : ℕ) → min (from + len) (length xs + length ns) ≤ max from (length xs)
-    → (from < length xs → at ≡ from) → (length xs ≤ from → at ≡ from - length ns) → take len (drop from (xs ++ ns ++ ys)) ≡ take len (drop at (xs ++ ys))
-without xs ns ys from zero at kept early late = refl
-without [] [] ys from (suc len) at kept early late =
-    let same : from ≡ at = omega (arith, late (omega arith)) in ap (λ n. take (suc len) (drop n ys)) same
-without [] (n ∷ ns) ys zero (suc len) at kept early late = absurd (omega arith)
-without [] (n ∷ ns) ys (suc from) (suc len) at kept early late =
-    without [] ns ys from (suc len) at (omega arith) (λ few. absurd (omega arith)) (λ past. omega (arith, late (omega arith)))
-without (x ∷ xs) ns ys zero (suc len) at kept early late =
-    rw (early (omega arith)) (ap (λ zs. x ∷ zs) (without xs ns ys 0 len 0 (omega arith) (λ few. refl) (λ past. omega arith)))
-without (x ∷ xs) ns ys (suc from) (suc len) at kept early late =
-    let up : suc (at - 1) ≡ at = elim (cases_lt from (length xs)) [
-      | inl few ↦ omega (arith, early (omega (arith, few)))
-      | inr past ↦ omega (arith, late (omega (arith, past)), past)
-    ] in
-    let more = without xs ns ys from (suc len) (at - 1) (omega arith) (λ few. omega (arith, early (omega (arith, few)))) (λ past. omega (arith, late (omega (arith, past)))) in
+    → at ≡ min from (length xs) + (from - (length xs + length ns)) → take len (drop from (xs ++ ns ++ ys)) ≡ take len (drop at (xs ++ ys))
+without xs ns ys from zero at kept is = refl
+without [] [] ys from (suc len) at kept is =
+    let same : from ≡ at = omega arith in ap (λ n. take (suc len) (drop n ys)) same
+without [] (n ∷ ns) ys zero (suc len) at kept is = absurd (omega arith)
+without [] (n ∷ ns) ys (suc from) (suc len) at kept is = without [] ns ys from (suc len) at (omega arith) (omega arith)
+without (x ∷ xs) ns ys zero (suc len) at kept is =
+    let first : at ≡ 0 = omega arith in rw first (ap (λ zs. x ∷ zs) (without xs ns ys 0 len 0 (omega arith) (omega arith)))
+without (x ∷ xs) ns ys (suc from) (suc len) at kept is =
+    let up : suc (at - 1) ≡ at = omega arith in
+    let more = without xs ns ys from (suc len) (at - 1) (omega arith) (omega arith) in
     subst (λ n. take (suc len) (drop from (xs ++ ns ++ ys)) ≡ take (suc len) (drop n (x ∷ xs ++ ys))) up more
 
 -- where none of them is trimmed, so many bytes from an offset on stand in the slices
@@ -98,10 +81,7 @@ pub part-kept : (r : Recorded) (from len : ℕ) → IsRecorded r → min (from +
 part-kept r from len valid kept =
     let at : ℕ = kept_at r from in
     let span : from + len - from ≡ len = omega arith in
-    let early : from < length (map (λ (x : ℕ). Some x) r.head) → at ≡ from = λ few. early-at r from (omega (arith, few, heads r)) in
-    let late : length (map (λ (x : ℕ). Some x) r.head) ≤ from → at ≡ from - length (replicate (hole r) (none-of ℕ)) =
-    λ past. late-at r from (omega (arith, past, heads r)) ∙ ap (λ n. from - n) (sym (holes r)) in
-    let shown = without (map Some r.head) (replicate (hole r) None) (map Some (concat r.units)) from len at (omega (arith, kept, heads r, holes r)) early late in
+    let shown = without (map Some r.head) (replicate (hole r) None) (map Some (concat r.units)) from len at (omega (arith, kept, heads r, holes r)) (omega (arith, heads r, holes r)) in
     let joined : map Some r.head ++ map Some (concat r.units) ≡ map Some (concat (kept_slices (Some r))) =
     sym (map-append Some r.head (concat r.units)) ∙ ap (map Some) (sym (kept-joined r valid)) in
     let some = ap (take len) (drop-map Some at (concat (kept_slices (Some r)))) ∙ take-map Some len (drop at (concat (kept_slices (Some r)))) in

@@ -1,13 +1,12 @@
 -- What the body of an answer stands in: a text, a recording, or a job's resource, each in slices; or a text that is still being made.
-use Rattle.std.specs.Prelude.{◌≡◌, ℕ, ◌+◌, ◌-◌, ◌≤◌, nat_lt, cond, List, [], ◌∷◌, length, take, drop, Option, Some, None, Result, Ok, Err}
-use Rattle.std.specs.List.{concat}
+use Rattle.std.specs.Prelude.{◌≡◌, ℕ, ◌+◌, ◌-◌, ◌≤◌, min, max, List, [], ◌∷◌, length, take, drop, Option, Some, None, option_and_then, unwrap_or}
+use Rattle.std.specs.{List.concat, Result.result_ok}
 use Rattle.hls_record.specs.Recorded.{Recorded, offset_at}
 use Rattle.hls_core.specs.Reads.{recording_of}
 use Rattle.hls_http_laws.specs.{declared.range.Asked.Asked, declared.range.Part.TheVariants.Outside, Range.part_of, Reply.extra_line}
 use Rattle.hls_lists_laws.specs.Jobs.{units_between}
 use Rattle.hls_output.specs.Slices.{part_at, rest_at}
-use Rattle.hls_catchup.specs.{Replies.ReplyData, Resources.slices_in, declared.jobs.job.Job.Job, declared.jobs.standing.Withheld.Withheld}
-use Rattle.hls_catchup.specs.Jobs.Standing.{files_of}
+use Rattle.hls_catchup.specs.{Resources.parts_in, declared.jobs.job.Job.Job, Jobs.Standing.files_of}
 use Rattle.hls_serve_laws.specs.JobReplies.{resource_of}
 use Rattle.hls_serve_laws.specs.Replies.{Answer, media_bytes, media_given, part_answer}
 use Rattle.hls_replies.specs.{declared.media.Recorded.Recorded as Kept, declared.media.Piece.Piece}
@@ -35,35 +34,23 @@ recorded_of kept = recording_of kept.snapshot.value kept.rendition
 abbrev pub recorded_slices : Kept → List (List ℕ)
 recorded_slices kept = kept_slices (recorded_of kept)
 
--- where a byte that isn't trimmed stands among those that aren't
+-- where a byte that isn't trimmed stands among those that aren't: behind those of the init section, and those of the units that are kept
 abbrev pub kept_at : Recorded → ℕ → ℕ
-kept_at rec at = cond (nat_lt at (length rec.head)) at (at - (offset_at rec rec.floor - length rec.head))
+kept_at rec at = min at (length rec.head) + (at - max (length rec.head) (offset_at rec rec.floor))
 
 -- so many bytes from an offset on, where none of them is trimmed
-abbrev pub bytes_by : Option Recorded → ℕ → ℕ → Option (List ℕ)
-bytes_by None from len = None
-bytes_by (Some rec) from len = media_bytes rec from len
-
 abbrev pub bytes_of : Kept → ℕ → ℕ → Option (List ℕ)
-bytes_of kept from len = bytes_by (recorded_of kept) from len
+bytes_of kept from len = option_and_then (λ rec. media_bytes rec from len) (recorded_of kept)
 
 -- ---- of a job
 
 -- the resource of a rendition in the reply of a job that has one
-abbrev pub resource_by : Result ReplyData Withheld → ℕ → Option (List ℕ)
-resource_by (Ok reply) r = resource_of reply r
-resource_by (Err why) r = None
-
 abbrev pub resource_in : Job → ℕ → Option (List ℕ)
-resource_in job r = resource_by (files_of job) r
+resource_in job r = option_and_then (λ reply. resource_of reply r) (result_ok (files_of job))
 
 -- its slices: the init section, and the units of the programme
-abbrev pub slices_by : Result ReplyData Withheld → ℕ → List (List ℕ)
-slices_by (Ok reply) r = slices_in reply r
-slices_by (Err why) r = []
-
 abbrev pub programme_slices : Made → List (List ℕ)
-programme_slices made = slices_by (files_of made.job) made.rendition
+programme_slices made = unwrap_or (option_and_then (λ reply. parts_in reply made.rendition) (result_ok (files_of made.job))) []
 
 -- ---- of an answer
 

@@ -128,10 +128,8 @@ fn kept_at(recording: &Recording, at: u64) -> u64
     ensures { result ≡ kept_at recording.now at }
 {
     let head = recording.head().len() as u64;
-    if at < head {
-        return at;
-    }
-    at.saturating_sub(recording.offset(recording.floor()) - head)
+    let kept = head.max(recording.offset(recording.floor()));
+    at.min(head) + at.saturating_sub(kept)
 }
 
 /// Where so many bytes of what is kept begin: the number of their slice, and how far in it.
@@ -165,10 +163,7 @@ fn total_in(snapshot: &Snapshot, rendition: usize) -> Option<u64>
     ensures value { result ≡ option_map total_of (recording_of snapshot.now rendition) }
     ensures bound { IfSome result (λ total. total ≤ 2 ^ 40) }
 {
-    match snapshot.recording(rendition) {
-        Some(recording) => Some(recording.total()),
-        None => None,
-    }
+    Some(snapshot.recording(rendition)?.total())
 }
 
 /// The part of a rendition's resource that is asked for: 200 for all of it, 206 for a part, 416 where the part begins at or

@@ -2,7 +2,6 @@
 
 ghost use Rattle.std.specs.Prelude.{◌≡◌, ◌+◌, ◌≤◌, ◌<◌, ◌^◌, drop, length, take, IfOk, option_map};
 ghost use Rattle.std.specs.List.{concat};
-ghost use Rattle.hls_catchup.specs.Resources.{FindsPlace};
 ghost use Rattle.hls_serve_laws.specs.JobReplies as spec;
 ghost use Rattle.hls_replies.specs.Contents.{IsPlaced, programme_slices, resource_in};
 
@@ -38,23 +37,17 @@ impl Resource for Programme {
     }
 }
 
-/// Where a byte of a job's resource stands: the number of its slice, and how far in it. None at or past the end.
-fn find(programme: &Programme, at: u64) -> Option<(u64, u64)>
-    ensures { FindsPlace (programme_slices programme.now) at result }
-{
-    match reply_in(&programme.job) {
-        Ok(reply) => reply_place(reply, programme.rendition, at),
-        Err(_) => None,
-    }
-}
-
-/// Where so many bytes of a job's resource begin.
+/// Where so many bytes of a job's resource begin: the number of their slice, and how far in it.
 fn place_of(programme: &Programme, at: u64, len: u64) -> (u64, u64)
     requires { at + len ≤ length (concat (programme_slices programme.now)) }
     ensures { IsPlaced (programme_slices programme.now) at len result }
 {
+    let found = match reply_in(&programme.job) {
+        Ok(reply) => reply_place(reply, programme.rendition, at),
+        Err(_) => None,
+    };
     // at the end no byte is asked for
-    find(programme, at).unwrap_or((0, 0))
+    found.unwrap_or((0, 0))
 }
 
 /// So many bytes of a job's resource from an offset on, which stay where they are.
@@ -71,10 +64,7 @@ fn programme_part(programme: Programme, from: u64, len: u64) -> Media<Body>
 fn total_in(job: &Job, rendition: usize) -> Option<u64>
     ensures { result ≡ option_map length (resource_in job.now rendition) }
 {
-    match reply_in(job) {
-        Ok(reply) => reply_total(reply, rendition),
-        Err(_) => None,
-    }
+    reply_total(reply_in(job).ok()?, rendition)
 }
 
 /// The part of the resource of a job's rendition that is asked for: 200 for all of it, 206 for a part, 416 where the part

@@ -74,16 +74,10 @@ status_answer s jobs = text_answer Done (status_text s jobs)
 
 -- ---- media
 
--- a byte before others, where all are there
-abbrev pub onto : Option ℕ → Option (List ℕ) → Option (List ℕ)
-onto None bytes = None
-onto (Some b) None = None
-onto (Some b) (Some bytes) = Some (b ∷ bytes)
-
 -- all bytes, where each is there
 unfoldable pub whole : List (Option ℕ) → Option (List ℕ)
 whole [] = Some []
-whole (b ∷ bytes) = onto b (whole bytes)
+whole (b ∷ bytes) = option_and_then (λ first. option_map (λ others. first ∷ others) (whole bytes)) b
 
 abbrev pub media_given : Status → Extra → Option (List ℕ) → Answer
 media_given status extra None = fault_answer http.Gone
