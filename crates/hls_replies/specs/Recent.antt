@@ -1,5 +1,5 @@
 -- Live lists that are at hand.
-use Rattle.std.specs.Prelude.{◌≡◌, ◌≤◌, ℕ, All, List, [], ◌∷◌, length, Option, Some, None}
+use Rattle.std.specs.Prelude.{◌≡◌, ◌≤◌, ℕ, All, List, [], ◌∷◌, length, Option, Some, None, option_and_then}
 use Rattle.std.specs.declared.sync.Arc.{Arc}
 use Rattle.hls_core_laws.specs.State.{State}
 use Rattle.hls_serve_laws.specs.Playlists.{live_text}
@@ -11,11 +11,11 @@ state_noted [] = None
 state_noted ((s, n) ∷ others) = Some s.value
 
 -- the text of a rendition's live list in that state
-abbrev pub IsText : Option State → ℕ → List ℕ → Type 0
-IsText of rendition text = (s : State) × (of ≡ Some s) × (live_text s rendition ≡ Some text)
+abbrev pub list_in : Option State → ℕ → Option (List ℕ)
+list_in of rendition = option_and_then (λ s. live_text s rendition) of
 
 abbrev pub IsOf : Option State → Recent → Type 0
-IsOf of kept = IsText of kept.rendition kept.text.items
+IsOf of kept = list_in of kept.rendition ≡ Some kept.text.items
 
 -- that state has had so many events
 abbrev pub HasHad : Option State → ℕ → Type 0

@@ -36,10 +36,9 @@ impl Content {
     }
 
     /// A live list's text, of which some is made: all that is made in one part.
-    pub fn of_list(alloc: Global, text: LiveText) -> Result<Content, AllocError>
+    pub fn of_list(alloc: Global, mut text: LiveText) -> Result<Content, AllocError>
         ensures { IfOk result (λ content. content_of content ≡ text) }
     {
-        let mut text = text;
         if text.make(alloc)? {
             return Ok(Content::List(text));
         }
@@ -47,10 +46,9 @@ impl Content {
     }
 
     /// A certificate's text, of which some is made: all that is made in one part.
-    pub fn of_certificate(text: CertificateText) -> Result<Content, AllocError>
+    pub fn of_certificate(mut text: CertificateText) -> Result<Content, AllocError>
         ensures { IfOk result (λ content. content_of content ≡ text) }
     {
-        let mut text = text;
         if text.make()? {
             return Ok(Content::Certificate(text));
         }

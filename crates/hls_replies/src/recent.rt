@@ -1,10 +1,9 @@
 //! Live lists that are at hand: players ask for the same few again and again, mostly while the state is the one that was shown last.
 
-ghost use Rattle.std.specs.Prelude.{◌≡◌, ◌≤◌, ℕ, All, IfOk, IfSome, Option, None, Some};
-ghost use Rattle.hls_core_laws.specs.State.{State};
+ghost use Rattle.std.specs.Prelude.{◌≡◌, IfOk, IfSome, None, Some};
 ghost use Rattle.hls_serve_laws.specs.Replies as spec;
 ghost use Rattle.hls_serve_laws.specs.Playlists.{live_text};
-ghost use Rattle.hls_replies.specs.Recent.{IsBehind, IsOf, IsText};
+ghost use Rattle.hls_replies.specs.Recent.{IsBehind, list_in};
 
 use crate::answer::Answer;
 use crate::content::Content;
@@ -52,18 +51,6 @@ impl Model for RecentLists {
     ghost invariant = { λ r. AreOf (state_noted r.of.items) r.version r.lists.items };
 }
 
-/// The text that is kept of a rendition's list.
-fn find(lists: &[Recent], rendition: usize) -> Option<&[u8]>
-    ensures { (of : Option State) → All (IsOf of) lists.now → IfSome result (λ text. IsText of rendition text.now) }
-{
-    for at in 0..lists.len() {
-        if lists[at].rendition == rendition {
-            return Some(lists[at].text.as_slice());
-        }
-    }
-    None
-}
-
 impl RecentLists {
     /// None yet, and of no state. It takes no memory.
     pub fn new(alloc: Global) -> RecentLists
@@ -77,6 +64,18 @@ impl RecentLists {
         }
     }
 
+    /// The text that is kept of a rendition's list.
+    fn find(&self, rendition: usize) -> Option<&[u8]>
+        ensures { IfSome result (λ text. list_in self.now rendition ≡ Some text.now) }
+    {
+        for kept in &self.lists {
+            if kept.rendition == rendition {
+                return Some(kept.text.as_slice());
+            }
+        }
+        None
+    }
+
     /// Goes on to a state: what was made of another one is let go.
     fn go_on_to(&mut self, state: &Arc<Snapshot>)
         requires { IsBehind self.old state.now.value }
@@ -85,14 +84,14 @@ impl RecentLists {
         let version = state.version();
         if version != self.version {
             self.lists.clear();
-            self.version = version;
         }
+        self.version = version;
         self.of = Log::new().and(state, &());
     }
 
     /// Keeps the text of a rendition's list, where it isn't long and there is memory.
     fn keep(&mut self, rendition: usize, text: &[u8])
-        requires { IsText self.old rendition text.now }
+        requires { list_in self.old rendition ≡ Some text.now }
         ensures { self.new ≡ self.old }
     {
         if text.len() > MOST_KEPT {
@@ -109,10 +108,9 @@ impl RecentLists {
         ensures state { self.new ≡ self.old }
         ensures answer { IfOk result (λ a. a ≡ spec.list_answer (live_text state.value rendition)) }
     {
-        let Some(text) = LiveText::new(self.alloc, state, rendition)? else {
+        let Some(mut text) = LiveText::new(self.alloc, state, rendition)? else {
             return fault_answer(self.alloc, HttpFault::NotFound);
         };
-        let mut text = text;
         if text.make(self.alloc)? {
             return Ok(playlist_answer(Content::List(text)));
         }
@@ -129,7 +127,7 @@ impl RecentLists {
         ensures answer { IfOk result (λ a. a ≡ spec.list_answer (live_text state.value rendition)) }
     {
         self.go_on_to(&state);
-        if let Some(text) = find(&self.lists, rendition) {
+        if let Some(text) = self.find(rendition) {
             return Ok(playlist_answer(Content::of_text(Vec::from_slice(self.alloc, text)?)));
         }
         self.make(state, rendition)

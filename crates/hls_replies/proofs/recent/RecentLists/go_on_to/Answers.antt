@@ -15,11 +15,8 @@ invariant_of-self c =
     let follows : IsBehind of b = subst (λ o. IsBehind o b) (sym c.self.view_is) c.requires in
     let had : c.version-version.result ≡ length b.log = c.version-version.ensures.value ∙ ap (λ (s : State). length s.log) c.deref.ensures in
     let noted : state_noted c.and-self-inside.result.items ≡ Some b = ap state_noted (c.and-self-inside.ensures ∙ ap (λ l. l ++ (c.args.state.now, tt {0}) ∷ []) c.new.ensures) in
-    gone_on of _ b inside.version c.version-version.result kept.version inside.lists.items kept.lists.items c.self.invariant follows noted had
+    gone_on of _ b inside.version c.version-version.result inside.lists.items kept.lists.items c.self.invariant follows noted had
     (elim c.if-version-self.branch [
-      | then-version-self w ↦ (ap (λ (i : Inside). i.version) w.self-inside-is, inr (ap (λ (i : Inside). i.lists.items) w.self-inside-is ∙ w.clear.ensures.items))
-      | else-version-self w ↦ (
-        ap (λ (i : Inside). i.version) w.self-inside-is ∙ sym w.if-version-self.false,
-        inl (w.if-version-self.false, ap (λ (i : Inside). i.lists.items) w.self-inside-is),
-      )
+      | then-version-self w ↦ inr (ap (λ (i : Inside). i.lists.items) w.self-inside-is ∙ w.clear.ensures.items)
+      | else-version-self w ↦ inl (w.if-version-self.false, ap (λ (i : Inside). i.lists.items) w.self-inside-is)
     ])
