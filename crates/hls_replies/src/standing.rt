@@ -3,7 +3,7 @@
 ghost use Rattle.std.specs.Prelude.{◌≡◌, ◌++◌, IfOk, length};
 ghost use Rattle.hls_places_laws.specs.Line.Live.{segments_of};
 ghost use Rattle.hls_serve_laws.specs.Replies as spec;
-ghost use Rattle.hls_serve_laws.specs.Replies.{status_row, status_text};
+ghost use Rattle.hls_serve_laws.specs.Replies.{status_row};
 
 use crate::answer::Answer;
 use crate::texts::text_answer;
@@ -32,9 +32,10 @@ fn push_row(out: &mut Vec<u8>, name: &[u8], number: u64) -> Result<(), AllocErro
     Ok(())
 }
 
-/// The lines of a status.
-fn status_text(alloc: Global, snapshot: &Snapshot, jobs: u64) -> Result<Vec<u8>, AllocError>
-    ensures { IfOk result (λ text. text.items ≡ status_text snapshot.now jobs) }
+/// The status of a channel with so many jobs: five lines of the numbers of log entries, places with no trimmed fragment,
+/// segments of the live line, segments that slid away, and jobs.
+pub fn status_answer(alloc: Global, snapshot: &Snapshot, jobs: usize) -> Result<Answer, AllocError>
+    ensures { IfOk result (λ a. a ≡ spec.status_answer snapshot.now jobs) }
 {
     let line = snapshot.line();
     let mut out = Vec::new(alloc);
@@ -42,15 +43,6 @@ fn status_text(alloc: Global, snapshot: &Snapshot, jobs: u64) -> Result<Vec<u8>,
     push_row(&mut out, b"places", kept_count(snapshot))?;
     push_row(&mut out, b"segments", live_count(line))?;
     push_row(&mut out, b"removed", line.removed())?;
-    push_row(&mut out, b"jobs", jobs)?;
-    Ok(out)
-}
-
-/// The status of a channel with so many jobs: five lines of the numbers of log entries, places with no trimmed fragment,
-/// segments of the live line, segments that slid away, and jobs.
-pub fn status_answer(alloc: Global, snapshot: &Snapshot, jobs: usize) -> Result<Answer, AllocError>
-    ensures { IfOk result (λ a. a ≡ spec.status_answer snapshot.now jobs) }
-{
-    let text = status_text(alloc, snapshot, jobs as u64)?;
-    Ok(text_answer(Status::Done, text))
+    push_row(&mut out, b"jobs", jobs as u64)?;
+    Ok(text_answer(Status::Done, out))
 }
