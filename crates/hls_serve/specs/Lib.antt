@@ -5,7 +5,6 @@ pub mod Histories
 pub mod Machine
 pub mod Meanwhile
 pub mod Noted
-pub mod Owned
 pub mod Places
 pub mod Taken
 pub mod Talks

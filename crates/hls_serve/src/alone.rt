@@ -1,8 +1,7 @@
 //! A channel kept on one thread, with its jobs.
 
 ghost use Rattle.std.specs.Prelude.{◌≡◌};
-ghost use Rattle.hls_core_laws.specs.{Moves.IsFittingAsSeen, Known.Submits};
-ghost use Rattle.hls_serve.specs.{Meanwhile.Met, Owned.known_of};
+ghost use Rattle.hls_core_laws.specs.Workers.{events_by};
 
 use crate::keeper::Keeper;
 use hls_catchup::{Job, JobFault, JobTable, Request};
@@ -30,29 +29,8 @@ pub struct Alone {
     pub jobs: JobTable,
 }
 
-impl Alone {
-    /// Lets the state meet the event.
-    fn take(&mut self, event: Event) -> Result<Done, Refusal>
-        requires { IsFittingAsSeen (known_of self.old).seen event }
-        ensures submits { Submits (known_of self.old) event result (known_of self.new) }
-        ensures met { Met (λ a b. b ≡ a) (known_of self.old) event (known_of self.new) }
-    {
-        let version = self.snapshot.version();
-        match step(&self.snapshot, self.alloc, self.number, event) {
-            Ok(Stepped::New(next)) => {
-                self.snapshot = next;
-                Ok(Done::New {
-                    version: version + 1,
-                })
-            }
-            Ok(Stepped::Repeat) => Ok(Done::Repeat),
-            Err(refusal) => Err(refusal),
-        }
-    }
-}
-
 impl Keeper for Alone {
-    ghost known = { known_of };
+    ghost known = { λ alone. record { number = alone.number; seen = alone.snapshot.value; mine = events_by alone.number alone.snapshot.value.log } };
 
     ghost meanwhile = { λ a b. b ≡ a };
 
@@ -74,7 +52,17 @@ impl Keeper for Alone {
     }
 
     fn submit(&mut self, event: Event) -> Result<Done, Refusal> {
-        self.take(event)
+        let version = self.snapshot.version();
+        match step(&self.snapshot, self.alloc, self.number, event) {
+            Ok(Stepped::New(next)) => {
+                self.snapshot = next;
+                Ok(Done::New {
+                    version: version + 1,
+                })
+            }
+            Ok(Stepped::Repeat) => Ok(Done::Repeat),
+            Err(refusal) => Err(refusal),
+        }
     }
 
     fn add_job(&mut self, snapshot: Arc<Snapshot>, request: Request) -> Result<u64, JobFault> {

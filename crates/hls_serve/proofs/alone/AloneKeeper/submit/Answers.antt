@@ -1,6 +1,6 @@
 use Rattle.std.proofs.Common.{inl, refl}
 use Rattle.hls_core_laws.specs.Outcome.{Refused, Repeated}
-use Rattle.hls_serve.proofs.alone.Alone.take.Goals as goal
+use Rattle.hls_serve.proofs.alone.AloneKeeper.submit.Goals as goal
 
 pub returns-in-Err-clause-submits : goal.returns-in-Err-clause-submits
 returns-in-Err-clause-submits c = record {
