@@ -1,13 +1,13 @@
 -- What is told of a visit: all that came of it, and what its keeper has to know.
-use Rattle.std.specs.Prelude.{◌≡◌, ◌<◌, ℕ, length, Option}
+use Rattle.std.specs.Prelude.{◌≡◌, ◌<◌, ℕ, List, length, Option}
 use Rattle.hls_core_laws.specs.Known.{Known}
-use Rattle.hls_serve_laws.specs.Connections.{History, Stage, Between}
+use Rattle.hls_serve_laws.specs.Connections.{History, Stage}
 use Rattle.hls_serve_laws.specs.Linked.{Later}
 use Rattle.hls_serve.specs.{declared.machine.State.State, declared.news.News.News, declared.visit.Standing.Standing}
 use Rattle.hls_serve.specs.declared.machine.State.TheVariants as states
 use Rattle.hls_serve.specs.declared.visit.Standing.TheVariants as standings
 use Rattle.hls_serve.specs.{declared.visit.Visit.Visit, Places.connection_of}
-use Rattle.hls_serve.specs.Machine.{IsOver, failure_in, stage_of}
+use Rattle.hls_serve.specs.Machine.{failure_in, stage_of}
 use Rattle.hls_serve.specs.Talks.{IsSuitedTo, RestsAt, WantsMore, history_of}
 
 abbrev pub history : Visit → History
@@ -33,32 +33,20 @@ Rests v = RestsAt (connection_of v.place)
 
 -- ---- what it waits for
 
-abbrev pub IsDropped : State → Type 0
-IsDropped (states.Drop d) = Unit {0}
-IsDropped state = ⊥
-
-abbrev pub IsFed : State → Type 0
-IsFed (states.Feed f) = Unit {0}
-IsFed state = ⊥
-
-abbrev pub IsMaking : State → Type 0
-IsMaking (states.Make m) = Unit {0}
-IsMaking state = ⊥
-
 -- where nothing waits to be handed out: for a request, of which nothing came or something, for more of a body that is dropped or an
 -- encoder's, or for nothing: a reply is being made, or all is over
-abbrev pub StandsSo : Standing → Visit → Type 0
-StandsSo standings.Idle v = (stage v ≡ Between) × (length (history v).unread ≡ 0)
-StandsSo standings.Head v = (stage v ≡ Between) × (0 < length (history v).unread)
-StandsSo standings.Dropping v = IsDropped (state_of v)
-StandsSo standings.Feeding v = IsFed (state_of v)
-StandsSo standings.Making v = IsMaking (state_of v)
-StandsSo standings.Replying v = ⊥
-StandsSo standings.Over v = IsOver (stage v)
+abbrev pub StandsSo : Standing → State → List ℕ → Type 0
+StandsSo standings.Idle states.Head unread = length unread ≡ 0
+StandsSo standings.Head states.Head unread = 0 < length unread
+StandsSo standings.Dropping (states.Drop d) unread = Unit {0}
+StandsSo standings.Feeding (states.Feed f) unread = Unit {0}
+StandsSo standings.Making (states.Make m) unread = Unit {0}
+StandsSo standings.Over (states.Over end) unread = Unit {0}
+StandsSo standing state unread = ⊥
 
 abbrev pub IsStanding : Standing → Visit → Type 0
 IsStanding standings.Replying v = 0 < length (history v).pending
-IsStanding standing v = (length (history v).pending ≡ 0) × StandsSo standing v
+IsStanding standing v = (length (history v).pending ≡ 0) × StandsSo standing (state_of v) (history v).unread
 
 -- what is to be told where a read failed
 abbrev pub failure_of : Visit → Option News

@@ -77,9 +77,8 @@ impl<'a, T: Wait> Keeper for Station<'a, T> {
     }
 
     fn submit(&mut self, event: Event) -> Result<Done, Refusal> {
-        self.channel
-            .turn
-            .submit(self.rt, self.alloc, &mut self.pass, event)
+        let turn = self.channel.turn;
+        turn.submit(self.rt, self.alloc, &mut self.pass, event)
     }
 
     fn add_job(&mut self, snapshot: Arc<Snapshot>, request: Request) -> Result<u64, JobFault> {

@@ -118,10 +118,7 @@ impl Visit {
     pub fn wants_write(&self) -> bool
         ensures { IsTrue result ↔ (0 < length (history self.now).pending) }
     {
-        match &self.place {
-            Place::Busy(busy) => !busy.talk.machine.output.is_empty(),
-            Place::Idle(_) => false,
-        }
+        !self.output().is_empty()
     }
 
     /// Whether more is to be read.
@@ -131,13 +128,8 @@ impl Visit {
         let Place::Busy(busy) = &self.place else {
             return true;
         };
-        if busy.talk.ended {
-            return false;
-        }
-        if !busy.talk.machine.output.is_empty() {
-            return false;
-        }
-        if busy.talk.machine.is_over() {
+        let machine = &busy.talk.machine;
+        if busy.talk.ended || !machine.output.is_empty() || machine.is_over() {
             return false;
         }
         busy.input.unread().len() < MOST_UNREAD
@@ -151,10 +143,7 @@ impl Visit {
         let Place::Busy(busy) = &self.place else {
             return None;
         };
-        match busy.talk.machine.ending() {
-            Some(end) => Some(end.end()),
-            None => None,
-        }
+        Some(busy.talk.machine.ending()?.end())
     }
 
     /// What the connection waits for, or does.
