@@ -1,6 +1,6 @@
 -- A connection by all that came of it, from one call to the next.
-use Rattle.std.proofs.Common.{◌≡◌, ◌∙◌, ◌==◌, ◌++◌, ℕ, List, [], length, take, drop, refl, sym, ap, subst}
-use Rattle.std.proofs.{lemmas.List.take-append-drop, Math.Seq.drop-append_seam}
+use Rattle.std.proofs.Common.{◌≡◌, ◌∙◌, ℕ, List, [], length, take, drop, refl, sym, subst}
+use Rattle.std.proofs.lemmas.List.{take-append-drop}
 use Rattle.hls_core_laws.specs.{IsState.IsState, Known.Known}
 use Rattle.hls_serve_laws.specs.Acts.{Act, Acted}
 use Rattle.hls_serve_laws.specs.Linked.{Later, Linked}
@@ -10,7 +10,7 @@ use Rattle.hls_serve.specs.declared.machine.State.TheVariants as states
 use Rattle.hls_serve.specs.declared.place.Place.TheVariants as places
 use Rattle.hls_serve.specs.Machine.{Goes, SuitsIn, total}
 use Rattle.hls_serve.specs.Places.{IsFresh, connection_of}
-use Rattle.hls_serve.specs.Talks.{Advances, Connection, HoldsOf, IsSuited, IsSuitedTo, hears, history_of, sends}
+use Rattle.hls_serve.specs.Talks.{Advances, Connection, HoldsOf, IsSuited, IsSuitedTo, history_of, sends}
 use Rattle.hls_serve.proofs.{HoldLaws.holds_sent, PassLaws.usable_after}
 
 -- ---- of which nothing came
@@ -24,26 +24,14 @@ idle_holds i fresh = rw (fresh.asked, fresh.came, fresh.gone)
 
 -- ---- what is read and handed out
 
-pub behind : (unread more now : List ℕ) (before : ℕ) → before ≡ length unread → now ≡ unread ++ more → drop before now ≡ more
-behind unread more now before len is =
-    ap (λ (k : ℕ). drop k now) len ∙ ap (λ (t : List ℕ). drop (length unread) t) is ∙ drop-append_seam unread more
-
--- what was heard, with the end where there was none
-pub heard_end : (c : Connection) (more : List ℕ) {new : Connection} {count : ℕ} → new ≡ hears c more c.ended → length more ≡ count
-    → record new { ended = count == 0 } ≡ hears c more (length more == 0)
-heard_end c more is len = λ i. record (is i) { ended = sym len i == 0 }
-
 pub sends_holds : (c : Connection) (count : ℕ) → HoldsOf c → HoldsOf (sends c count)
 sends_holds c count h = holds_sent (take count c.machine.output) (drop count c.machine.output) (sym (take-append-drop count c.machine.output)) h
 
 -- ---- what the keeper knows
 
 suits_in : (a b : Known) (state : State) → IsState b.seen → Later a b → SuitsIn a state → SuitsIn b state
-suits_in a b states.Head valid later suits = tt
-suits_in a b (states.Drop d) valid later suits = suits
 suits_in a b (states.Feed f) valid later suits = usable_after f.rendition a b f.taken.init valid later.follows suits
-suits_in a b (states.Make m) valid later suits = tt
-suits_in a b (states.Over end) valid later suits = tt
+suits_in a b state valid later suits = suits
 
 pub suited_valid : {known : Known} {count : ℕ} {acts : List Act} {state : State} → IsSuited known count acts state → IsState known.seen
 suited_valid {known} {count} {acts} x = (linked_follows acts x.first known x.valid x.linked).0

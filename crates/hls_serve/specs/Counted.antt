@@ -7,11 +7,9 @@ use Rattle.hls_http.specs.{declared.session.Session.Session, Source.read_failure
 
 -- a session's end tells of a failure only where one was counted, and of no other
 abbrev pub CountsSession : SessionEnd → ℕ → ℕ → ℕ → ℕ → Type 0
-CountsSession ends.Closed old_reads reads old_writes writes = (reads ≡ old_reads) × (writes ≡ old_writes)
-CountsSession ends.Refused old_reads reads old_writes writes = (reads ≡ old_reads) × (writes ≡ old_writes)
-CountsSession ends.CutShort old_reads reads old_writes writes = (reads ≡ old_reads) × (writes ≡ old_writes)
 CountsSession ends.ReadFailed old_reads reads old_writes writes = Rose old_reads reads × (writes ≡ old_writes)
 CountsSession ends.WriteFailed old_reads reads old_writes writes = (reads ≡ old_reads) × Rose old_writes writes
+CountsSession end old_reads reads old_writes writes = (reads ≡ old_reads) × (writes ≡ old_writes)
 
 -- ---- by the counts of a session's own reader and writer
 

@@ -1,7 +1,6 @@
 -- For the proofs of this crate; no public clause cites it.
 -- A session in the middle: what came of it since it began.
 use Rattle.std.specs.Prelude.{◌≡◌, ℕ, List, [], ◌++◌, length, Option, Some, None, IsTrue}
-use Rattle.std.specs.Io.KnownBytes.{Appends, Consumes, IsAtEnd}
 use Rattle.hls_io.specs.Counted.{failures_of, inside_of}
 use Rattle.hls_http_laws.specs.declared.end.SessionEnd.{SessionEnd}
 use Rattle.hls_http.specs.declared.session.Session.{Session}
@@ -9,7 +8,7 @@ use Rattle.hls_http.specs.Source.{held_of, read_failures, reader_of}
 use Rattle.hls_core_laws.specs.Known.{Known}
 use Rattle.hls_serve_laws.specs.Acts.{Acted}
 use Rattle.hls_serve_laws.specs.Sessions as spec
-use Rattle.hls_serve.specs.{declared.talk.Talk.Talk, Counted.CountsSession, Machine.total}
+use Rattle.hls_serve.specs.{declared.machine.Machine.Machine, declared.talk.Talk.Talk, Counted.CountsSession, Machine.total}
 use Rattle.hls_serve.specs.Talks.{Connection, HoldsOf, IsSuitedTo, connection}
 
 -- its connection, what is still to come of its reader and what its writer holds, where they are known, how many of their calls failed,
@@ -32,26 +31,25 @@ moment remaining contents talk session known = record {
   known = known;
 }
 
--- what was held at first, and then so much of what was still to come, was received, its end only where nothing is left; what was handed
--- out is written; and no call failed
+-- all that was asked since then links what the keeper knew to what it knows, and it suits
+abbrev pub Asked : Known → Known → Machine → Type 0
+Asked first now m = IsSuitedTo now m × (m.renditions ≡ length first.seen.config.renditions) × Acted first [] now (total m)
+
+-- where these were known, what was held at first and was still to come was received but for what is left, its end only where nothing is;
+-- what was handed out is written; and no call failed
 pub record Led (first now : Moment) : Type 0 where
-  pub suits : IsSuitedTo now.known now.at.machine
-  pub count : now.at.machine.renditions ≡ length first.known.seen.config.renditions
-  pub acted : Acted first.known [] now.known (total now.at.machine)
+  pub asked : Asked first.known now.known now.at.machine
   pub holds : HoldsOf now.at
-  pub bytes : List ℕ
-  pub received : now.at.received ≡ first.at.unread ++ bytes
-  pub consumes : Consumes first.left now.left bytes
-  pub at_end : IsTrue now.at.ended → IsAtEnd now.left
-  pub written : Appends first.contents now.contents now.at.sent
-  pub reads : now.reads ≡ first.reads
-  pub writes : now.writes ≡ first.writes
+  pub came : (input : List ℕ) → first.left ≡ Some input
+      → (later : List ℕ) × (now.left ≡ Some later) × (first.at.unread ++ input ≡ now.at.received ++ later) × (IsTrue now.at.ended → later ≡ [])
+  pub written : (out : List ℕ) → first.contents ≡ Some out → now.contents ≡ Some (out ++ now.at.sent)
+  pub quiet : (now.reads ≡ first.reads) × (now.writes ≡ first.writes)
 
 -- .. and it ended so; a failure is told only where one was counted
-pub record Ended (first now : Moment) (end : SessionEnd) : Type 0 where
-  pub session : (input out : List ℕ) → first.left ≡ Some input → first.contents ≡ Some out
-      → spec.Session first.known (first.at.unread ++ input) out now.contents now.known end
-  pub counts : CountsSession end first.reads now.reads first.writes now.writes
+abbrev pub Ended : Moment → Moment → SessionEnd → Type 0
+Ended first now end =
+    ((input out : List ℕ) → first.left ≡ Some input → first.contents ≡ Some out → spec.Session first.known (first.at.unread ++ input) out now.contents now.known end)
+    × CountsSession end first.reads now.reads first.writes now.writes
 
 abbrev pub LedTo : Moment → Moment → Option SessionEnd → Type 0
 LedTo first now None = Led first now

@@ -176,9 +176,7 @@ impl Place {
         };
         let busy = &mut **busy;
         let read = busy.talk.read_from(&mut busy.input, reader);
-        if read.is_err() {
-            self.rest();
-        }
+        self.rest();
         read
     }
 

@@ -39,12 +39,13 @@ fn take_more<O: Observer, R: Read, W: Write>(
         (moment R.remaining W.contents talk.new session.new known) }
 {
     let before = session.source.held().len();
-    let filled = session.source.fill();
-    talk.hear(&session.source.input, before);
-    match filled {
-        Filled::More => None,
+    match session.source.fill() {
+        Filled::More => {
+            talk.hear(&session.source.input, before, false);
+            None
+        }
         Filled::AtEnd => {
-            talk.ended = true;
+            talk.hear(&session.source.input, before, true);
             None
         }
         Filled::Failed => {
@@ -93,7 +94,7 @@ pub fn session_on<K: Keeper, O: Observer, T: Wait, R: Read, W: Write>(
 {
     let idle = Idle::new(keeper.renditions());
     let mut talk = idle.begin();
-    talk.hear(&session.source.input, 0);
+    talk.hear(&session.source.input, 0, false);
     for _ in rt.forever() {
         if let Some(end) = turn(&mut talk, session, keeper, observer) {
             return end;

@@ -40,12 +40,13 @@ fn let_go(output: &mut Output<Body>)
 }
 
 impl Talk {
-    /// Notes what was read behind the first `before` unread bytes.
-    pub fn hear(&mut self, input: &Input, before: usize)
+    /// Notes what was read behind the first `before` unread bytes, and whether it was the input's end.
+    pub fn hear(&mut self, input: &Input, before: usize, ended: bool)
         ensures { (unread more : List ℕ) → before ≡ length unread → input.now.unread ≡ unread ++ more
-            → connection self.new input.now.unread ≡ hears (connection self.old unread) more self.old.ended }
+            → connection self.new input.now.unread ≡ hears (connection self.old unread) more ended }
     {
         self.came = self.came.and(input, &before);
+        self.ended = ended;
     }
 
     /// Reads once behind what is unread; no byte is the input's end. After an error nothing has changed.
@@ -61,8 +62,7 @@ impl Talk {
         let before = input.unread().len();
         input.reserve()?;
         let count = input.read_some(reader)?;
-        self.hear(input, before);
-        self.ended = count == 0;
+        self.hear(input, before, count == 0);
         Ok(count)
     }
 

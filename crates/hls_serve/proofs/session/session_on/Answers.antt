@@ -1,4 +1,4 @@
-use Rattle.std.proofs.Common.{◌∙◌, [], refl, ap}
+use Rattle.std.proofs.Common.{◌∙◌, [], false, refl, ap}
 use Rattle.hls_http.specs.Source.{held_of}
 use Rattle.hls_serve.specs.{declared.talk.Talk.Talk, Talking.moment}
 use Rattle.hls_serve.specs.Talks.{connection, hears}
@@ -9,7 +9,7 @@ pub loop-init : goal.loop-init
 loop-init g c =
     let session = c.args.session.now in
     let held = held_of session.source in
-    let heard = c.hear.ensures [] held refl refl ∙ ap (λ (t : Talk). hears (connection t []) held t.ended) c.begin-talk.ensures in
+    let heard = c.hear.ensures [] held refl refl ∙ ap (λ (t : Talk). hears (connection t []) held false) c.begin-talk.ensures in
     record {
       can_next = tt;
       is_finite = tt;
@@ -18,13 +18,13 @@ loop-init g c =
     }
 
 pub turn-requires : goal.turn-requires
-turn-requires g c = record { suits = c.loop.invariant.led.suits }
+turn-requires g c = record { suits = c.loop.invariant.led.asked.0 }
 
 pub loop-preserved : goal.loop-preserved
 loop-preserved g c = record { can_next = tt; is_finite = tt; led = c.in_default.ensures _ c.loop.invariant.led }
 
 pub returns-in-Some-turn-clause-session : goal.returns-in-Some-turn-clause-session
-returns-in-Some-turn-clause-session g c = (c.in-Some-turn.ensures _ c.loop.invariant.led).session
+returns-in-Some-turn-clause-session g c = (c.in-Some-turn.ensures _ c.loop.invariant.led).0
 
 pub returns-in-Some-turn-clause-counts : goal.returns-in-Some-turn-clause-counts
-returns-in-Some-turn-clause-counts g c = (c.in-Some-turn.ensures _ c.loop.invariant.led).counts
+returns-in-Some-turn-clause-counts g c = (c.in-Some-turn.ensures _ c.loop.invariant.led).1

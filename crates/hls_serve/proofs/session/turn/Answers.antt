@@ -14,10 +14,10 @@ returns-then-not-is_empty g c = λ first led. c.hand_out.ensures (g.K.Keeper.kno
 
 pub returns-in-Some : goal.returns-in-Some
 returns-in-Some g c = λ first led.
-    let talk = c.advance.new.self in
-    let now = moment g.R.Read.remaining g.W.Write.contents talk c.args.session.now (g.K.Keeper.known c.advance.new.keeper) in
-    subst (λ (end : SessionEnd). Ended first (record now { at = connection talk c.advance.new.input.unread }) end) (sym c.end.ensures)
-    (ended_itself c.in-Some.end c.in-Some.ensures.over (eqb-true (length talk.machine.output) 0 (sym c.if-not-is_empty.ensures)) (led_advances led c.advance.ensures.advances))
+    let now = moment g.R.Read.remaining g.W.Write.contents c.advance.new.self c.args.session.now (g.K.Keeper.known c.advance.new.keeper) in
+    let empty = eqb-true (length c.advance.new.self.machine.output) 0 (sym c.if-not-is_empty.ensures) in
+    subst (λ (end : SessionEnd). Ended first now end) (sym c.end.ensures)
+    (ended_itself c.in-Some.end c.in-Some.ensures.over empty (led_advances led c.advance.ensures.advances))
 
 pub take_more-requires : goal.take_more-requires
 take_more-requires g c =
