@@ -1,27 +1,16 @@
 //! Who is at the other end of a connection.
 
-use crate::lines::{Ingest, method_name};
+use crate::lines::{Ingest, Request, method_name};
 use hls_house::{Name, tell};
-use hls_http::Method;
-use hls_http_laws::reply::Status;
 use hls_serve::news::{Ingested, News, Observer};
 use hls_serve::path::Path;
-use hls_serve_laws::route::Route;
 use hls_settings::Settings;
 use std::cell::Cell;
 use std::io::Eprint;
 use std::net::SocketAddr;
 
-/// A reply that was made.
-#[derive(Clone, Copy, Drop)]
-pub struct Answered {
-    pub method: Method,
-    pub route: Option<Route>,
-    pub status: Status,
-}
-
 /// A reply that took so many milliseconds to make, while the others of its worker waited; told once a minute at most.
-pub fn tell_long_reply<E: Eprint>(rt: &E, milliseconds: u64, answered: Answered) {
+pub fn tell_long_reply<E: Eprint>(rt: &E, milliseconds: u64, answered: Request) {
     let (method, path) = (method_name(answered.method), Path(answered.route));
     let _ = eprintln!(rt; "serve: a reply took {milliseconds} ms to make: {method} {path}");
 }
@@ -36,22 +25,16 @@ pub struct Client<'a, E> {
     pub address: SocketAddr,
     /// Whether a request's head was whole in this turn.
     pub began: Cell<bool>,
-    /// The reply that was made in this turn.
-    pub answered: Cell<Option<Answered>>,
+    /// The request that was answered in this turn; of the reply nothing was taken yet.
+    pub answered: Cell<Option<Request>>,
 }
 
 impl<'a, E: Eprint> Client<'a, E> {
-    /// The name of a rendition, and nothing where there is no such one.
-    fn name(&self, rendition: usize) -> Name<'_> {
-        match self.settings.config.renditions().get(rendition) {
-            Some(found) => Name(&found.name),
-            None => Name(b""),
-        }
-    }
-
+    /// Tells it by the rendition's name, and by none where there is no such one.
     fn tell_ingested(&self, ingested: Ingested) {
+        let found = self.settings.config.renditions().get(ingested.rendition);
         let line = Ingest {
-            name: self.name(ingested.rendition),
+            name: found.map_or(Name(b""), |found| Name(&found.name)),
             peer: self.address,
             counts: ingested.counts,
             ended: ingested.result,
@@ -69,10 +52,14 @@ impl<'a, E: Eprint> Observer for Client<'a, E> {
                 method,
                 route,
                 status,
-            } => self.answered.set(Some(Answered {
+            } => self.answered.set(Some(Request {
+                peer: self.address,
                 method,
                 route,
                 status,
+                bytes: 0,
+                milliseconds: 0,
+                whole: false,
             })),
         }
     }

@@ -76,7 +76,7 @@ fn number_of(status: Status) -> u16 {
 }
 
 /// A request that was answered, and how its reply was taken.
-#[derive(Drop)]
+#[derive(Clone, Copy, Drop)]
 pub struct Request {
     pub peer: SocketAddr,
     pub method: Method,

@@ -1,14 +1,12 @@
-//! A planner: works on the jobs of catch-up recordings.
+//! The gate that planners pass before each job of a catch-up recording.
 
 ghost use Rattle.std.specs.Prelude.{◌≡◌, true};
 
-use hls_catchup::{Gate, Jobs, work_loop};
-use std::alloc::Global;
-use std::sync::Wait;
+use hls_catchup::Gate;
 
 /// A gate that stands open.
 #[derive(Drop)]
-struct Open;
+pub struct Open;
 
 impl Gate for Open {
     fn enter(&self, _id: u64) -> bool
@@ -16,9 +14,4 @@ impl Gate for Open {
     {
         true
     }
-}
-
-/// Works on one job after the other, until they are closed and none waits. May wait.
-pub fn plan_jobs<R: Wait>(rt: &R, alloc: Global, jobs: &Jobs) {
-    work_loop(rt, alloc, jobs, &Open);
 }

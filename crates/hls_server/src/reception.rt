@@ -67,10 +67,14 @@ impl<'a, R: Wait + Clock + Eprint> Reception<'a, R> {
         }
         let answered = client.answered.get();
         if client.began.get() || (asked.is_none() && answered.is_some()) {
-            *asked = Box::new(self.station.alloc, Asked::new(client.address, then)).ok();
+            let begun = Asked {
+                since: then,
+                answered: None,
+            };
+            *asked = Box::new(self.station.alloc, begun).ok();
         }
-        if let (Some(asked), Some(answered)) = (asked, answered) {
-            asked.answer(answered);
+        if let (Some(asked), Some(_)) = (asked, answered) {
+            asked.answered = answered;
         }
     }
 
@@ -80,7 +84,7 @@ impl<'a, R: Wait + Clock + Eprint> Reception<'a, R> {
             return;
         };
         request.take(count);
-        if !more && request.is_answered() {
+        if !more && request.answered.is_some() {
             request.tell(self.station.rt, milliseconds(self.station.rt), true);
             *asked = None;
         }

@@ -2,10 +2,10 @@
 
 ghost use Rattle.std.specs.Prelude.{◌≡◌, ◌+◌, ◌≤◌, All, max, min};
 
-use crate::planner::plan_jobs;
+use crate::planner::Open;
 use crate::reception::Reception;
 use crate::room::{crew_of, places_of};
-use hls_catchup::Jobs;
+use hls_catchup::{Jobs, work_loop};
 use hls_core::snapshot::Snapshot;
 use hls_house::{Crew, Household, Log, Told, keep_house, tell_ended_worker, tell_fewer_threads};
 use hls_loop::{Door, Post, open_files, widen, work};
@@ -67,22 +67,16 @@ fn passes_for(workers: u64) -> u16
 /// A worker holds many connections at once, and none of them may be silent or slow for ever. Where a thread can't be started, the
 /// rest serve, and the operator is told; want of memory comes before a thread is started, or where no worker could be. Accepts on
 /// the listener don't wait meanwhile. May wait.
-pub fn run_server<
-    'a,
-    R: Net<Listener = TcpListener, Stream = TcpStream>
-        + Threads
-        + Wait
-        + Clock
-        + Eprint
-        + Env
-        + Sync,
->(
+pub fn run_server<'a, R: Net<Listener = TcpListener, Stream = TcpStream>>(
     rt: &R,
     alloc: Global,
     settings: &'a Settings,
     listener: &'a TcpListener,
     connections: Option<u64>,
-) -> Result<(), AllocError> {
+) -> Result<(), AllocError>
+where
+    R: Threads + Wait + Clock + Eprint + Env + Sync,
+{
     let config = settings.config.share()?;
     let snapshot = Snapshot::first(alloc, config)?;
     let workers = settings.plain.workers;
@@ -133,52 +127,25 @@ fn serve<R: Wait + Clock + Eprint>(rt: &R, site: &Site<'_>, post: Post, pass: Pa
 }
 
 /// Keeps house on one thread.
-fn keep<R: Wait + Clock + Eprint + Env>(rt: &R, site: &Site<'_>, pass: Pass)
+fn keep<R: Wait + Clock + Eprint + Env>(rt: &R, site: &Site<'_>, mut pass: Pass)
     requires { pass.turn ≡ site.now.channel.now.turn.now }
 {
-    let mut pass = pass;
-    keep_house(
-        rt,
-        site.alloc,
-        site.channel.turn,
-        site.settings,
-        site,
-        &mut pass,
-    );
-}
-
-/// Starts the thread that keeps house; whether it could be started.
-fn start_keeper<'s, E, R: Wait + Clock + Eprint + Env + Sync>(
-    scope: &Scope<'s, E>,
-    rt: &'s R,
-    site: &'s Site<'s>,
-    pass: Pass,
-) -> bool
-    requires { pass.turn ≡ site.now.channel.now.turn.now }
-{
-    let keeper = scope.spawn(
-        move || -> ()
-            requires { pass.turn ≡ site.now.channel.now.turn.now }
-        { keep(rt, site, pass) },
-    );
-    keeper.is_ok()
+    let turn = site.channel.turn;
+    keep_house(rt, site.alloc, turn, site.settings, site, &mut pass);
 }
 
 /// Starts a thread for each pass, which serves connections: those that there are then.
-fn start_workers<
-    's,
-    E,
-    R: Net<Listener = TcpListener, Stream = TcpStream> + Wait + Clock + Eprint + Sync,
->(
+fn start_workers<'s, E, R: Net<Listener = TcpListener, Stream = TcpStream>>(
     scope: &Scope<'s, E>,
     rt: &'s R,
     site: &'s Site<'s>,
     passes: Vec<Pass>,
-    started: Vec<JoinHandle<()>>,
+    mut started: Vec<JoinHandle<()>>,
 ) -> Vec<JoinHandle<()>>
+where
+    R: Wait + Clock + Eprint + Sync,
     requires { All (λ p. p.turn ≡ site.now.channel.now.turn.now) passes.items }
 {
-    let mut started = started;
     for pass in passes {
         if started.len() as u64 >= site.crew {
             continue;
@@ -208,7 +175,8 @@ fn start_planners<'s, E, R: Wait + Sync>(
 ) -> u64 {
     let mut started: u64 = 0;
     for _ in 0..wanted {
-        if scope.spawn(move || plan_jobs(rt, alloc, jobs)).is_ok() {
+        let planner = scope.spawn(move || work_loop(rt, alloc, jobs, &Open));
+        if planner.is_ok() {
             started = started.saturating_add(1);
         }
     }
@@ -216,15 +184,13 @@ fn start_planners<'s, E, R: Wait + Sync>(
 }
 
 /// Runs a thread for each pass: the last one's keeps house, and the others serve connections. The planners' are beside them.
-fn run_threads<
-    R: Net<Listener = TcpListener, Stream = TcpStream>
-        + Threads
-        + Wait
-        + Clock
-        + Eprint
-        + Env
-        + Sync,
->(rt: &R, site: &Site<'_>, passes: Vec<Pass>) -> Result<(), AllocError>
+fn run_threads<R: Net<Listener = TcpListener, Stream = TcpStream>>(
+    rt: &R,
+    site: &Site<'_>,
+    passes: Vec<Pass>,
+) -> Result<(), AllocError>
+where
+    R: Threads + Wait + Clock + Eprint + Env + Sync,
     requires { All (λ p. p.turn ≡ site.now.channel.now.turn.now) passes.items }
 {
     thread::scope(
@@ -240,10 +206,14 @@ fn run_threads<
             };
             let (jobs, planners) = (site.channel.jobs, site.settings.plain.workers.planners);
             let wanted = Crew::whole(passes.len(), planners);
-            let keeps_house = start_keeper(scope, rt, site, last);
+            let keeper = scope.spawn(
+                move || -> ()
+                    requires { last.turn ≡ site.now.channel.now.turn.now }
+                { keep(rt, site, last) },
+            );
             let workers = start_workers(scope, rt, site, passes, room);
             let started = Crew {
-                keeps_house,
+                keeps_house: keeper.is_ok(),
                 workers: workers.len() as u64,
                 planners: start_planners(scope, rt, site.alloc, jobs, planners),
             };
