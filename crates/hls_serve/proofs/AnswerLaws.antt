@@ -23,31 +23,29 @@ heard {count} {unread} at acts due later follows = record {
 pub replies_dropped : {count : ℕ} {stream first : List ℕ} {d : Dropping} {unread : List ℕ} {result : Result (Unit {0}) DropEnd} (x : IsDropped count stream first d unread result)
     (acts : List Act) {text : List ℕ} {end : Option Ending} {Is : Due → Type 0} → ((due : Due) → Is due → IsSkipped (request_of count x.at.head) d.route acts due result)
     → Replies Is text end (first_of x.at.head (request_of count x.at.head).plan) → RepliesTo count stream first acts unread text end
-replies_dropped {count} {d} {unread} {result} x acts skipped = replies_by x.at.first_is (λ due is later. heard x.at acts due later (skips due later (skipped due is)))
-  where
-    skips : (due : Due) (later : List ℕ) → IsSkipped (request_of count x.at.head) d.route acts due result
-        → SkipsBy (request_of count x.at.head).asks.route (request_of count x.at.head) x.at.body (x.at.behind ++ later) acts due (unread ++ later)
-    skips due later skipped =
-        subst (λ (r : Option Route). SkipsBy r (request_of count x.at.head) x.at.body (x.at.behind ++ later) acts due (unread ++ later)) (sym x.route ∙ x.at.is_call.route)
-        (record { content = x.at.content; last = d.body; runs = x.at.runs later; result = result; drops = x.dropped later; skipped = skipped })
+replies_dropped {count} {d} {unread} {result} x acts skipped =
+    let request = request_of count x.at.head in
+    replies_by x.at.first_is (λ due is later. heard x.at acts due later (
+    subst (λ (r : Option Route). SkipsBy r request x.at.body (x.at.behind ++ later) acts due (unread ++ later)) (sym x.route ∙ x.at.is_call.route)
+    (record { content = x.at.content; last = d.body; runs = x.at.runs later; result = result; drops = x.dropped later; skipped = skipped due is })
+    ))
 
 -- .. to an encoder's
 pub replies_fed : {count : ℕ} {stream first : List ℕ} {f : Feeding} {unread : List ℕ} {result : Result (Unit {0}) Intake} (x : IsFedUp count stream first f unread result)
     {text : List ℕ} {end : Option Ending} {Is : Due → Type 0} → ((due : Due) → Is due → IsFed x.at.head (request_of count x.at.head).plan (not (is_over f.body)) (progress_of f.taken) due result)
     → Replies Is text end (first_of x.at.head (request_of count x.at.head).plan) → RepliesTo count stream first f.taken.acts unread text end
-replies_fed {count} {f} {unread} {result} x fed = replies_by x.at.first_is (λ due is later. heard x.at f.taken.acts due later (feeds due later (fed due is)))
-  where
-    feeds : (due : Due) (later : List ℕ) → IsFed x.at.head (request_of count x.at.head).plan (not (is_over f.body)) (progress_of f.taken) due result
-        → FeedsBy (request_of count x.at.head).asks.route (request_of count x.at.head) x.at.body (x.at.behind ++ later) f.taken.acts due (unread ++ later)
-    feeds due later fed =
-        subst (λ (r : Option Route). FeedsBy r (request_of count x.at.head) x.at.body (x.at.behind ++ later) f.taken.acts due (unread ++ later)) (sym x.route ∙ x.at.is_call.route) (record {
-          content = x.at.content;
-          last = f.body;
-          runs = x.at.runs later;
-          progress = progress_of f.taken;
-          asked = refl;
-          early = not (is_over f.body);
-          result = result;
-          comes = x.comes later;
-          fed = fed;
-        })
+replies_fed {count} {f} {unread} {result} x fed =
+    let request = request_of count x.at.head in
+    replies_by x.at.first_is (λ due is later. heard x.at f.taken.acts due later (
+    subst (λ (r : Option Route). FeedsBy r request x.at.body (x.at.behind ++ later) f.taken.acts due (unread ++ later)) (sym x.route ∙ x.at.is_call.route) (record {
+      content = x.at.content;
+      last = f.body;
+      runs = x.at.runs later;
+      progress = progress_of f.taken;
+      asked = refl;
+      early = not (is_over f.body);
+      result = result;
+      comes = x.comes later;
+      fed = fed due is;
+    })
+    ))

@@ -1,32 +1,28 @@
 -- What holds of a connection, from one step to the next.
-use Rattle.std.proofs.Common.{◌≡◌, ◌<◌, ◌==◌, ◌∙◌, ◌⊎◌, ℕ, Bool, true, false, List, [], ◌∷◌, ◌++◌, length, flat_map, Option, Some, None, inl, inr, refl, sym, ap, subst, arith, append_assoc, append-nil}
+use Rattle.std.proofs.Common.{◌≡◌, ◌<◌, ◌==◌, ◌∙◌, ◌⊎◌, ℕ, Bool, true, false, List, [], ◌∷◌, ◌++◌, length, flat_map, Option, inl, inr, refl, sym, ap, subst, arith, append_assoc, append-nil}
 use Rattle.std.proofs.{lemmas.Grind.flat_map-append, lemmas.List.nil_from_length, Math.Bool.and-false}
 use Rattle.httparse.specs.Grammar.{RequestHead}
 use Rattle.hls_http_laws.specs.{declared.body.Body.Body, declared.fault.HttpFault.HttpFault, declared.plan.Plan.Plan}
 use Rattle.hls_http_laws.specs.{declared.plan.Plan.TheVariants.Refuse, Fields.expects, Requests.fields_of, Order.continues}
-use Rattle.hls_http_laws.specs.Bodies.{IsOpen, Runs, NoStep}
+use Rattle.hls_http_laws.specs.Bodies.{Runs, NoStep}
 use Rattle.hls_http_laws.specs.Heads.{IsUnfinished, ReadsSmall}
 use Rattle.hls_http_laws.proofs.Callers.{heads_stay}
 use Rattle.std.proofs.lemmas.Bool.{cond-false, eqb-false, eqb-true}
-use Rattle.hls_core_laws.specs.Known.{Known}
 use Rattle.hls_serve_laws.specs.{Acts.Act, Replies.fault_answer}
 use Rattle.hls_serve_laws.specs.Heard.{Due, Heard, IsDue, IsDueWithoutHead, RefusesHead, first_of, request_of}
 use Rattle.hls_serve_laws.specs.Connections.{Exchange, History, Serves, IsAsked, IsBetween, IsWithin, EndsByReply, Stands, IsServed, acts_of, text_of, due_in}
 use Rattle.hls_serve.specs.{declared.call.Call.Call, declared.ending.Ending.Ending, declared.dropping.Dropping.Dropping}
-use Rattle.hls_serve.specs.declared.ending.Ending.TheVariants as own
-use Rattle.hls_serve.specs.{declared.feeding.Feeding.Feeding, declared.making.Making.Making, declared.machine.Machine.Machine}
-use Rattle.http_server.specs.declared.log.Log.{Log}
-use Rattle.hls_serve.specs.{declared.machine.State.State, Taken.progress_of}
+use Rattle.hls_serve.specs.{declared.feeding.Feeding.Feeding, declared.making.Making.Making, declared.machine.State.State, Taken.progress_of}
 use Rattle.hls_serve.specs.declared.machine.State.TheVariants as states
-use Rattle.hls_serve.specs.Machine.{Answered, AtHead, GoesOnIn, Holds, HoldsAt, Refuses, StandsIn, SuitsIn, asked_in, asked_now, stage_of, state_behind, total, waited_head}
+use Rattle.hls_serve.specs.Machine.{GoesOnIn, Holds, StandsIn, asked_now, stage_of, state_behind, waited_head}
 use Rattle.hls_serve.specs.Turns.{IsCall, Replies, end_by}
 use Rattle.hls_serve.specs.Within.{HasBody, IsDropping, IsFeeding, IsMaking, RepliesTo}
-use Rattle.hls_serve.proofs.TurnLaws.{replies_as}
+use Rattle.hls_serve.proofs.TurnLaws.{replies_by}
 
 -- ---- lists
 
 -- what holds whatever follows holds where nothing does
-plainly : (P : List ℕ → List ℕ → Type 0) (a b : List ℕ) → ((later : List ℕ) → P (a ++ later) (b ++ later)) → P a b
+pub plainly : (P : List ℕ → List ℕ → Type 0) (a b : List ℕ) → ((later : List ℕ) → P (a ++ later) (b ++ later)) → P a b
 plainly P a b all = rw (append-nil a, append-nil b) at (all [])
 
 pub flat_push : {X A : Type 0} (f : X → List A) (xs : List X) (x : X) → flat_map f (xs ++ x ∷ []) ≡ flat_map f xs ++ f x
@@ -37,23 +33,7 @@ serves_push : (over : List Exchange) (count : ℕ) (x : Exchange) (stream middle
 serves_push [] count x stream middle rest serves heard = (rest, subst (λ (t : List ℕ). Heard count t x.acts (due_in x) rest) serves heard, refl)
 serves_push (y ∷ ys) count x stream middle rest (next, first, serves) heard = (next, first, serves_push ys count x next middle rest serves heard)
 
--- ---- the requests that are over
-
--- nothing was asked beside what the state says
-only_over : {count : ℕ} {state : State} {h : History} (x : Holds count state h) → x.acts ≡ [] → h.acts ≡ acts_of x.over
-only_over x empty = x.asked_is ∙ ap (λ (t : List Act). acts_of x.over ++ t) empty ∙ append-nil (acts_of x.over)
-
--- .. and all was handed out
-answered : {count : ℕ} {state : State} {h : History} (unread : List ℕ) → length h.pending ≡ 0 → (x : Holds count state h) → x.acts ≡ []
-    → Answered count (record h { unread = unread }) x.rest x.text
-answered {count} {state} {h} unread empty x nothing = record {
-  over = x.over;
-  serves = x.serves;
-  asked_is = only_over x nothing;
-  written = sym (append-nil h.sent) ∙ ap (λ (t : List ℕ). h.sent ++ t) (sym (nil_from_length h.pending empty)) ∙ x.written;
-}
-
--- ---- a reply
+-- ---- one step more
 
 -- a refusal with success or not ends the connection so
 stands_over : (success ended : Bool) {count : ℕ} {rest : List ℕ} {acts : List Act} {text unread : List ℕ} → EndsByReply count success rest acts text unread
@@ -61,87 +41,90 @@ stands_over : (success ended : Bool) {count : ℕ} {rest : List ℕ} {acts : Lis
 stands_over true ended x = inr x
 stands_over false ended x = x
 
-module _ {count : ℕ} {h : History} {rest first : List ℕ} (x : Answered count h rest first) (acts : List Act) (text unread : List ℕ) where
+-- where nothing was asked yet for what is looked at, and nothing waits: this is asked, handed out, and unread then
+module _ {count : ℕ} {old : State} {h : History} (x : Holds count old h) (nothing : x.acts ≡ []) (empty : h.pending ≡ []) (acts : List Act) (text unread : List ℕ) where
   abbrev after : History
   after = record h { unread = unread; acts = h.acts ++ acts; pending = text }
 
-  grown : (due : List ℕ) → due ≡ first ++ text → h.sent ++ text ≡ text_of x.over ++ due
-  grown due is = ap (λ (t : List ℕ). t ++ text) x.written ∙ append_assoc (text_of x.over) first text ∙ ap (λ (t : List ℕ). text_of x.over ++ t) (sym is)
+  asked : h.acts ++ acts ≡ acts_of x.over ++ acts
+  asked = ap (λ (t : List Act). t ++ acts) (x.asked_is ∙ ap (λ (t : List Act). acts_of x.over ++ t) nothing ∙ append-nil (acts_of x.over))
 
-  -- the connection goes on
-  goes_on : (due : List ℕ) (success : Bool) → due ≡ first ++ text
-      → ((later : List ℕ) → Heard count (rest ++ later) acts (record { text = due; closing = false; success = success }) (unread ++ later)) → Holds count states.Head after
+  grown : (due : List ℕ) → due ≡ x.text ++ text → h.sent ++ text ≡ text_of x.over ++ due
+  grown due is =
+      let sent : h.sent ≡ text_of x.over ++ x.text = sym (append-nil h.sent) ∙ ap (λ (t : List ℕ). h.sent ++ t) (sym empty) ∙ x.written in
+      ap (λ (t : List ℕ). t ++ text) sent ∙ append_assoc (text_of x.over) x.text text ∙ ap (λ (t : List ℕ). text_of x.over ++ t) (sym is)
+
+  -- no request is over
+  pub goes_to : {new : State} (due : List ℕ) → due ≡ x.text ++ text → StandsIn new count h.ended x.rest acts due unread → Holds count new after
+  goes_to due is stands = record {
+    over = x.over;
+    rest = x.rest;
+    serves = x.serves;
+    acts = acts;
+    asked_is = asked;
+    text = due;
+    written = grown due is;
+    stands = stands;
+  }
+
+  -- one is, and the connection goes on
+  goes_on : (due : List ℕ) (success : Bool) → due ≡ x.text ++ text
+      → ((later : List ℕ) → Heard count (x.rest ++ later) acts (record { text = due; closing = false; success = success }) (unread ++ later)) → Holds count states.Head after
   goes_on due success is heard =
       let e : Exchange = record { acts = acts; reply = due; success = success } in
       record {
         over = x.over ++ e ∷ [];
         rest = unread;
-        serves = λ later. serves_push x.over count e (h.received ++ later) (rest ++ later) (unread ++ later) (x.serves later) (heard later);
+        serves = λ later. serves_push x.over count e (h.received ++ later) (x.rest ++ later) (unread ++ later) (x.serves later) (heard later);
         acts = [];
-        asked_is = ap (λ (t : List Act). t ++ acts) x.asked_is ∙ sym (flat_push (λ (e : Exchange). e.acts) x.over e) ∙ sym (append-nil (acts_of (x.over ++ e ∷ [])));
+        asked_is = asked ∙ sym (flat_push (λ (e : Exchange). e.acts) x.over e) ∙ sym (append-nil (acts_of (x.over ++ e ∷ [])));
         text = [];
         written = grown due is ∙ sym (flat_push (λ (e : Exchange). e.reply) x.over e) ∙ sym (append-nil (text_of (x.over ++ e ∷ [])));
         stands = (refl, refl, refl);
       }
 
   -- the connection is over
-  ends_by : (due : Due) → due.closing ≡ true → due.text ≡ first ++ text → Heard count rest acts due unread ⊎ (RefusesHead rest due × (acts ≡ []) × (unread ≡ rest))
+  ends_by : (due : Due) → due.closing ≡ true → due.text ≡ x.text ++ text → Heard count x.rest acts due unread ⊎ (RefusesHead x.rest due × (acts ≡ []) × (unread ≡ x.rest))
       → Holds count (state_behind (end_by true due.success)) after
-  ends_by due closing is heard = record {
-    over = x.over;
-    rest = rest;
-    serves = x.serves;
-    acts = acts;
-    asked_is = ap (λ (t : List Act). t ++ acts) x.asked_is;
-    text = due.text;
-    written = grown due.text is;
-    stands = stands_over due.success h.ended (record { due = due; closing = closing; success_is = refl; text_is = refl; heard = heard });
-  }
+  ends_by due closing is heard =
+      goes_to due.text is (stands_over due.success h.ended (record { due = due; closing = closing; success_is = refl; text_is = refl; heard = heard }))
 
-  replied : {end : Option Ending} → RepliesTo count rest first acts unread text end → Holds count (state_behind end) after
+  pub replied : {end : Option Ending} → RepliesTo count x.rest x.text acts unread text end → Holds count (state_behind end) after
   replied r = subst (λ (end : Option Ending). Holds count (state_behind end) after) (sym r.ends) (by r.due.text r.due.closing r.due.success r.text_is r.is)
     where
-      by : (due : List ℕ) (closing success : Bool) → due ≡ first ++ text
-          → ((later : List ℕ) → Heard count (rest ++ later) acts (record { text = due; closing = closing; success = success }) (unread ++ later))
+      by : (due : List ℕ) (closing success : Bool) → due ≡ x.text ++ text
+          → ((later : List ℕ) → Heard count (x.rest ++ later) acts (record { text = due; closing = closing; success = success }) (unread ++ later))
           → Holds count (state_behind (end_by closing success)) after
       by due false success is heard = goes_on due success is heard
       by due true success is heard =
           let all : Due = record { text = due; closing = true; success = success } in
-          ends_by all refl is (inl (plainly (λ a b. Heard count a acts all b) rest unread heard))
+          ends_by all refl is (inl (plainly (λ a b. Heard count a acts all b) x.rest unread heard))
+
+-- nothing is handed out
+pub stays : {count : ℕ} {old new : State} {h : History} (acts : List Act) (unread : List ℕ) (x : Holds count old h) → x.acts ≡ [] → h.pending ≡ []
+    → StandsIn new count h.ended x.rest acts x.text unread → Holds count new (record h { unread = unread; acts = h.acts ++ acts; pending = [] })
+stays acts unread x nothing empty stands = goes_to x nothing empty acts [] unread x.text (sym (append-nil x.text)) stands
 
 -- what can't become a head is refused
-pub head_refused : {count : ℕ} {h : History} {text : List ℕ} {end : Option Ending} (fault : HttpFault) → length h.pending ≡ 0 → Holds count states.Head h → Refuses fault h.unread
-    → Replies (IsDueWithoutHead fault) text end [] → Holds count (state_behind end) (record h { acts = h.acts ++ []; pending = text })
-head_refused {count} {h} {text} {end} fault empty x refuses r =
+pub head_refused : {count : ℕ} {h : History} {text : List ℕ} {end : Option Ending} (fault : HttpFault) (x : Holds count states.Head h) → h.pending ≡ []
+    → ((due : Due) → IsDueWithoutHead fault due → RefusesHead h.unread due) → Replies (IsDueWithoutHead fault) text end []
+    → Holds count (state_behind end) (record h { acts = h.acts ++ []; pending = text })
+head_refused {h} {text} fault x empty refuses r =
     let closing : r.due.closing ≡ true = closes r.due r.is in
-    let between = x.stands in
-    let all = subst (λ (t : List ℕ). Answered count h x.rest t) between.2 (answered h.unread empty x between.1) in
-    let refused = subst (λ (t : List ℕ). RefusesHead t r.due) between.0 (refuses r.due r.is) in
-    subst (λ (end : Option Ending). Holds count (state_behind end) (record h { acts = h.acts ++ []; pending = text }))
-    (sym (r.ends ∙ ap (λ (c : Bool). end_by c r.due.success) closing)) (ends_by all [] text h.unread r.due closing r.text_is (inr (refused, refl, between.0)))
+    let refused = subst (λ (t : List ℕ). RefusesHead t r.due) x.stands.0 (refuses r.due r.is) in
+    let is = r.text_is ∙ ap (λ (t : List ℕ). t ++ text) (sym x.stands.2) in
+    rw (r.ends, closing) (ends_by x x.stands.1 empty [] text h.unread r.due closing is (inr (refused, refl, x.stands.0)))
   where
     closes : (due : Due) → IsDueWithoutHead fault due → due.closing ≡ true
     closes due (inl is) = ap (λ (d : Due). d.closing) is
     closes due (inr is) = ap (λ (d : Due). d.closing) is
 
--- ---- a head
-
-pub head_found : {count : ℕ} {h : History} {call : Call} {head : RequestHead} (rest : List ℕ) → length h.pending ≡ 0 → Holds count states.Head h → ReadsSmall h.unread head rest
-    → IsCall count head call → AtHead count (record h { unread = rest }) call
-head_found {count} {h} {call} {head} rest empty x reads is_call = record {
-  rest = x.rest;
-  answered = subst (λ (t : List ℕ). Answered count (record h { unread = rest }) x.rest t) x.stands.2 (answered rest empty x x.stands.1);
-  head = head;
-  reads = λ later. heads_stay x.rest head rest later (subst (λ (t : List ℕ). ReadsSmall t head rest) x.stands.0 reads);
-  is_call = is_call;
-}
-
 -- no head stands at the front yet
-pub head_waits : (empty ended : Bool) (count : ℕ) (stream : List ℕ) (acts : List Act) (text unread : List ℕ) → (length unread == 0) ≡ empty → IsUnfinished unread
-    → IsBetween stream acts text unread → StandsIn (waited_head empty ended) count ended stream acts text unread
-head_waits empty false count stream acts text unread is unfinished s = s
-head_waits true true count stream acts text unread is unfinished s = inl (refl, sym s.0 ∙ nil_from_length unread (eqb-true (length unread) 0 is), s)
-head_waits false true count stream acts text unread is unfinished s =
+pub head_waits : (empty ended : Bool) (count : ℕ) (stream text unread : List ℕ) → (length unread == 0) ≡ empty → IsUnfinished unread
+    → IsBetween stream [] text unread → StandsIn (waited_head empty ended) count ended stream [] text unread
+head_waits empty false count stream text unread is unfinished s = s
+head_waits true true count stream text unread is unfinished s = inl (refl, sym s.0 ∙ nil_from_length unread (eqb-true (length unread) 0 is), s)
+head_waits false true count stream text unread is unfinished s =
     (refl, inl (subst IsUnfinished s.0 unfinished, subst (λ (t : List ℕ). 0 < length t) s.0 (omega (arith, eqb-false (length unread) 0 is)), s))
 
 -- ---- behind a head
@@ -150,42 +133,35 @@ head_waits false true count stream acts text unread is unfinished s =
 no_first : (h : RequestHead) (fault : HttpFault) (closing : Bool) → first_of h (Refuse fault closing) ≡ []
 no_first h fault closing = cond-false (continues h (Refuse fault closing)) _ [] (and-false (expects h.minor (fields_of h)))
 
-module _ {count : ℕ} {h : History} {call : Call} (x : AtHead count h call) where
-  abbrev pub has_body : (plan : Body → Plan) (body : Body) (text : List ℕ) → (request_of count x.head).plan ≡ plan body → text ≡ first_of x.head (request_of count x.head).plan
-      → HasBody count x.rest text call plan body h.unread
+module _ {count : ℕ} {h : History} {call : Call} {head : RequestHead} {rest : List ℕ} (x : Holds count states.Head h) (empty : h.pending ≡ [])
+    (reads : ReadsSmall h.unread head rest) (is_call : IsCall count head call) where
+  pub read : (later : List ℕ) → ReadsSmall (x.rest ++ later) head (rest ++ later)
+  read later = heads_stay x.rest head rest later (subst (λ (t : List ℕ). ReadsSmall t head rest) x.stands.0 reads)
+
+  abbrev pub has_body : (plan : Body → Plan) (body : Body) (text : List ℕ) → (request_of count head).plan ≡ plan body → text ≡ first_of head (request_of count head).plan
+      → HasBody count x.rest text call plan body rest
   has_body plan body text is first_is = record {
     first_is = first_is;
-    head = x.head;
-    behind = h.unread;
-    reads = x.reads;
-    is_call = x.is_call;
+    head = head;
+    behind = rest;
+    reads = read;
+    is_call = is_call;
     body = body;
     plan_is = is;
     content = [];
     runs = λ later. NoStep;
   }
 
-  pub begins : {state : State} (text : List ℕ) → StandsIn state count h.ended x.rest [] text h.unread → Holds count state (record h { pending = text })
-  begins text stands = record {
-    over = x.answered.over;
-    rest = x.rest;
-    serves = x.answered.serves;
-    acts = [];
-    asked_is = x.answered.asked_is ∙ sym (append-nil (acts_of x.answered.over));
-    text = text;
-    written = ap (λ (t : List ℕ). t ++ text) (x.answered.written ∙ append-nil (text_of x.answered.over));
-    stands = stands;
-  }
+  pub begins : {new : State} (text : List ℕ) → StandsIn new count h.ended x.rest [] text rest → Holds count new (record h { unread = rest; acts = h.acts ++ []; pending = text })
+  begins text stands = goes_to x x.stands.1 empty [] text rest text (ap (λ (t : List ℕ). t ++ text) (sym x.stands.2)) stands
 
-  pub refuses : (fault : HttpFault) (closing : Bool) (text : List ℕ) (end : Option Ending) → (request_of count x.head).plan ≡ Refuse fault closing
-      → Replies (IsDue x.head (Refuse fault closing) (fault_answer fault) closing) text end (first_of x.head (Refuse fault closing))
-      → Holds count (state_behind end) (record h { acts = h.acts ++ []; pending = text })
+  pub refuses : (fault : HttpFault) (closing : Bool) (text : List ℕ) (end : Option Ending) → (request_of count head).plan ≡ Refuse fault closing
+      → Replies (IsDue head (Refuse fault closing) (fault_answer fault) closing) text end (first_of head (Refuse fault closing))
+      → Holds count (state_behind end) (record h { unread = rest; acts = h.acts ++ []; pending = text })
   refuses fault closing text end plan r =
-      let Is : Due → Type 0 = IsDue x.head (Refuse fault closing) (fault_answer fault) closing in
-      let Hears : Due → Type 0 = λ due. (later : List ℕ) → Heard count (x.rest ++ later) [] due (h.unread ++ later) in
-      let plain = subst (λ (first : List ℕ). Replies Is text end first) (no_first x.head fault closing) r in
-      let hears : (due : Due) → Is due → Hears due = λ due is later. record { head = x.head; behind = h.unread ++ later; reads = x.reads later; follows = rw plan (refl, refl, is) } in
-      replied x.answered [] text h.unread (replies_as Is Hears text end [] hears plain)
+      let hears : (due : Due) → IsDue head (Refuse fault closing) (fault_answer fault) closing due → (later : List ℕ) → Heard count (x.rest ++ later) [] due (rest ++ later)
+      = λ due is later. record { head = head; behind = rest ++ later; reads = read later; follows = rw plan (refl, refl, is) } in
+      replied x x.stands.1 empty [] text rest (replies_by (x.stands.2 ∙ sym (no_first head fault closing)) hears r)
 
 -- ---- a body
 
@@ -203,10 +179,10 @@ within {stream} {last} {unread} acts at asked = record {
   text_is = at.first_is;
 }
 
-abbrev within_drop : {count : ℕ} {stream first : List ℕ} {d : Dropping} {unread : List ℕ} → IsDropping count stream first d unread → IsWithin count stream [] first unread
+abbrev pub within_drop : {count : ℕ} {stream first : List ℕ} {d : Dropping} {unread : List ℕ} → IsDropping count stream first d unread → IsWithin count stream [] first unread
 within_drop x = within [] x.at (inl (x.at.plan_is, inl refl))
 
-abbrev within_feed : {count : ℕ} {stream first : List ℕ} {f : Feeding} {unread : List ℕ} → IsFeeding count stream first f unread → IsWithin count stream f.taken.acts first unread
+abbrev pub within_feed : {count : ℕ} {stream first : List ℕ} {f : Feeding} {unread : List ℕ} → IsFeeding count stream first f unread → IsWithin count stream f.taken.acts first unread
 within_feed {f} x = within f.taken.acts x.at (inr (x.at.plan_is, (f.rendition, sym x.at.is_call.route ∙ x.route, (progress_of f.taken, x.reached.taken, refl))))
 
 abbrev within_make : {count : ℕ} {stream first : List ℕ} {m : Making} {unread : List ℕ} → IsMaking count stream first m unread → IsWithin count stream m.acts first unread
@@ -222,43 +198,6 @@ within_make {m} x =
         responds = x.answers;
       }),
     ))
-
--- the requests that are over were answered as before, and then it stands so
-pub stands_so : {count : ℕ} {old state new : State} {h : History} {now : Bool} {rest : List ℕ} → state ≡ new → (x : Holds count old h) → StandsIn new count now x.rest x.acts x.text rest
-    → Holds count state (record h { ended = now; unread = rest })
-stands_so {count} {old} {state} {new} {h} {now} {rest} is x stands = record {
-  over = x.over;
-  rest = x.rest;
-  serves = x.serves;
-  acts = x.acts;
-  asked_is = x.asked_is;
-  text = x.text;
-  written = x.written;
-  stands = subst (λ (s : State). StandsIn s count now x.rest x.acts x.text rest) (sym is) stands;
-}
-
--- the reply to a body
-pub body_replied : {count : ℕ} {old : State} {h : History} {rest text : List ℕ} {acts : List Act} {end : Option Ending} → length h.pending ≡ 0 → (x : Holds count old h) → x.acts ≡ []
-    → RepliesTo count x.rest x.text acts rest text end → Holds count (state_behind end) (record h { unread = rest; acts = h.acts ++ acts; pending = text })
-body_replied {rest} {text} {acts} empty x nothing replies = replied (answered rest empty x nothing) acts text rest replies
-
--- the input's end cuts a body short
-module _ {count : ℕ} {state : State} {h : History} {rest : List ℕ} (is : state ≡ states.Over own.CutShort) (end : h.ended ≡ true) where
-  pub drop_cut : {d g : Dropping} (x : Holds count (states.Drop d) h) → IsDropping count x.rest x.text g rest → IsOpen g.body rest → Holds count state (record h { unread = rest })
-  drop_cut x y unfinished = stands_so is x (rw x.stands.1 (end, inr (record { within = within_drop y; unfinished = unfinished })))
-
-  pub feed_cut : {f g : Feeding} (x : Holds count (states.Feed f) h) → IsFeeding count x.rest x.text g rest → IsOpen g.body rest
-      → Holds count state (record h { unread = rest; acts = h.acts ++ g.taken.acts })
-  feed_cut {f} {g} x y unfinished = record {
-    over = x.over;
-    rest = x.rest;
-    serves = x.serves;
-    acts = g.taken.acts;
-    asked_is = ap (λ (t : List Act). t ++ g.taken.acts) (only_over x x.stands.1);
-    text = x.text;
-    written = x.written;
-    stands = rw is (end, inr (record { within = within_feed y; unfinished = unfinished }));
-  }
 
 -- ---- what holds, in the words of connections
 
@@ -308,7 +247,7 @@ stands_more (states.Feed f) count ended now stream acts text unread more going s
     (record { at = body_more more s.0.at; route = s.0.route; reached = s.0.reached }, s.1)
 stands_more (states.Make m) count ended now stream acts text unread more going s =
     let d = s.0.dropped in
-    (record { dropped = record { at = body_more more d.at; route = d.route; dropped = d.dropped; replied = tt }; answers = s.0.answers }, s.1)
+    (record { dropped = record { at = body_more more d.at; route = d.route; dropped = d.dropped; replied = d.replied }; answers = s.0.answers }, s.1)
 stands_more (states.Over end) count ended now stream acts text unread more going s = absurd going
 
 -- so much is received, and perhaps the end
@@ -339,37 +278,8 @@ holds_sent {count} {state} {h} gone waits is x = record {
   stands = x.stands;
 }
 
--- ---- a machine by its fields
-
-pub holds_at : {count : ℕ} {state : State} {h : History} (m : Machine) → m.renditions ≡ count → m.state ≡ state → asked_in m ≡ h.acts → m.output ≡ h.pending → Holds count state h
-    → HoldsAt h.received h.ended h.sent m h.unread
-holds_at m c s a p x = rw (c, s, a, p) x
-
-pub asked_same : (m n : Machine) → n.asked ≡ m.asked → asked_in n ≡ asked_in m
-asked_same m n is = ap (λ (log : Log (List Act) (Unit {0})). flat_map (λ acts. acts.0) log.items) is
-
--- .. of which nothing was asked for what it refused
-pub asked_nothing : (m n : Machine) → n.asked ≡ m.asked → asked_in n ≡ asked_in m ++ []
-asked_nothing m n is = asked_same m n is ∙ sym (append-nil (asked_in m))
+-- ---- what a machine asked
 
 -- one request's acts more
 pub asked_more : {B : Type 0} (old new : List (List Act × B)) (acts : List Act) (u : B) → new ≡ old ++ (acts, u) ∷ [] → flat_map (λ x. x.0) new ≡ flat_map (λ x. x.0) old ++ acts
 asked_more old new acts u is = ap (flat_map (λ x. x.0)) is ∙ flat_push (λ x. x.0) old (acts, u)
-
--- behind a reply
-pub now_behind : (end : Option Ending) → asked_now (state_behind end) ≡ []
-now_behind None = refl
-now_behind (Some end) = refl
-
-pub total_fresh : (m : Machine) (acts : List Act) → asked_now m.state ≡ [] → asked_in m ≡ acts → total m ≡ acts
-total_fresh m acts fresh asked = ap (λ (t : List Act). t ++ asked_now m.state) asked ∙ ap (λ (t : List Act). acts ++ t) fresh ∙ append-nil acts
-
-pub suits_as : (known : Known) {state new : State} → state ≡ new → SuitsIn known new → SuitsIn known state
-suits_as known is suits = subst (λ (s : State). SuitsIn known s) (sym is) suits
-
-pub suits_behind : (known : Known) (end : Option Ending) (state : State) → state ≡ state_behind end → SuitsIn known state
-suits_behind known end state is = suits_as known is (by end)
-  where
-    by : (end : Option Ending) → SuitsIn known (state_behind end)
-    by None = tt
-    by (Some end) = tt

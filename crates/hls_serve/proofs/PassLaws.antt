@@ -10,8 +10,6 @@ use Rattle.hls_boxes_laws.specs.declared.part.Part.TheVariants as parts
 use Rattle.hls_serve_laws.specs.Acts.{Act, Acted, ActsInVain, IsVain, Leads, Looked, Submitted, Submits}
 use Rattle.hls_serve_laws.specs.Ingest.{Progress, FindsInit, PartComes}
 use Rattle.hls_serve_laws.proofs.Callers.{acted_follows}
-use Rattle.hls_serve.specs.declared.machine.State as states
-use Rattle.hls_serve.specs.Machine.{asked_now}
 use Rattle.hls_serve.specs.Taken.{Finds, IsUsable, told_as}
 
 -- ---- what acts lead to
@@ -64,17 +62,5 @@ unit_refused r x z y bytes init f q found there is counts s =
     (inr (record { init = init; looked = z.acts; finds = found_init r x z init found there; facts = f; reads = is; told = λ e. cc; submits = s }), counts ∙ found.0)
 
 -- what was asked behind something else
-pub acted_behind : (front : List Act) (a b : Known) (before after : List Act) → Acted a before b after → Acted a (front ++ before) b (front ++ after)
-acted_behind front a b before after (acts, is, chain) =
-    (acts, ap (λ (t : List Act). front ++ t) is ∙ sym (append_assoc front before acts), chain)
-
-pub acted_to : (front : List Act) (a b : Known) (before : List Act) {after all : List Act} → all ≡ front ++ after → Acted a before b after → Acted a (front ++ before) b all
-acted_to front a b before {after} is acted = subst (λ (acts : List Act). Acted a (front ++ before) b acts) (sym is) (acted_behind front a b before after acted)
-
--- .. in a state by its name
-pub acted_in : (front : List Act) (a b : Known) (before : List Act) {state new : states.State} → state ≡ new → Acted a before b (asked_now new) → Acted a (front ++ before) b (front ++ asked_now state)
-acted_in front a b before is acted = subst (λ (s : states.State). Acted a (front ++ before) b (front ++ asked_now s)) (sym is) (acted_behind front a b before _ acted)
-
--- what was seen is still a state
-pub valid_acted : (a b : Known) (before after : List Act) → Acted a before b after → IsState a.seen → IsState b.seen
-valid_acted a b before after acted valid = (acted_follows a b before after valid acted).0
+pub acted_behind : (front : List Act) (a b : Known) (before : List Act) {after all : List Act} → all ≡ front ++ after → Acted a before b after → Acted a (front ++ before) b all
+acted_behind front a b before is (acts, grown, chain) = (acts, is ∙ ap (λ (t : List Act). front ++ t) grown ∙ sym (append_assoc front before acts), chain)

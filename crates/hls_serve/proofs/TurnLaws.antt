@@ -21,9 +21,6 @@ use Rattle.hls_serve.proofs.PassLaws.{nothing_asked}
 pub replies_by : {P Q : Due → Type 0} {text : List ℕ} {end : Option Ending} {first other : List ℕ} → other ≡ first → ((due : Due) → P due → Q due) → Replies P text end first → Replies Q text end other
 replies_by {text} is map r = record { due = r.due; is = map r.due r.is; text_is = r.text_is ∙ ap (λ (t : List ℕ). t ++ text) (sym is); ends = r.ends }
 
-pub replies_as : (P Q : Due → Type 0) (text : List ℕ) (end : Option Ending) (first : List ℕ) → ((due : Due) → P due → Q due) → Replies P text end first → Replies Q text end first
-replies_as P Q text end first map r = replies_by refl map r
-
 -- to want of memory, whatever was made
 pub memory_replies : {E : Type 0} (first : List ℕ) (made : Result Answer E) (closing head : Bool) {text : List ℕ} {end : Option Ending} → text ≡ no_memory_to head → end ≡ end_by true false
     → Replies (IsMade first made closing head) text end first

@@ -88,10 +88,10 @@ module _ {count : ℕ} {stream first : List ℕ} {d : Dropping} {unread : List �
       record { at = body_goes x.at next [] rest s; route = x.route; all = omega (arith, x.all, (frames d.body next unread rest s).done, length-append x.at.content []) }
 
   pub drop_all : d.body ≡ Length 0 → IsDropped count stream first d unread (Ok tt)
-  drop_all over = record { at = x.at; route = x.route; dropped = λ later. (over, omega (arith, x.all)); replied = tt }
+  drop_all over = record { at = x.at; route = x.route; dropped = λ later. (over, omega (arith, x.all)); replied = λ end is. cc }
 
   pub drop_too_many : (next : Body) (rest : List ℕ) → Steps d.body unread [] next rest → d.room < announced_by next → IsDropped count stream first d unread (Err drops.TooLarge)
-  drop_too_many next rest s many = record { at = x.at; route = x.route; dropped = dropped; replied = tt }
+  drop_too_many next rest s many = record { at = x.at; route = x.route; dropped = dropped; replied = λ end is. cc }
     where
       dropped : (later : List ℕ) → (d.body ≡ Size) × IsPastLimit x.at.content (unread ++ later)
       dropped later =
@@ -100,7 +100,7 @@ module _ {count : ℕ} {stream first : List ℕ} {d : Dropping} {unread : List �
           (line.0, record { size = announced_by next; rest = rest ++ later; line = line.1; many = omega (arith, x.all, many, f.done) })
 
   pub drop_broken : IsBroken d.body unread → IsDropped count stream first d unread (Err (drops.Stopped bodies.BadFraming))
-  drop_broken broken = record { at = x.at; route = x.route; dropped = λ later. (omega (arith, x.all), broken_bodies_stay d.body unread later broken); replied = refl }
+  drop_broken broken = record { at = x.at; route = x.route; dropped = λ later. (omega (arith, x.all), broken_bodies_stay d.body unread later broken); replied = λ end is. cc }
 
 -- ---- where a refusal stands in an encoder's body
 
@@ -169,10 +169,10 @@ module _ {count : ℕ} {stream first : List ℕ} {f : Feeding} {unread : List �
           record { refuses = refused.refuses; few = omega (arith, refused.behind, few, length-take-le len unread found.1, found.1, length-append x.at.content (take len unread)) },
           ap not ends,
         );
-        replied = tt;
+        replied = λ end is. cc;
       }
   feed_untaken reader taken next len untaken.Memory found few fed =
-      record { at = body_goes x.at next (take len unread) (drop len unread) found.2; route = x.route; comes = λ later. fed begun x.at.content x.reached; replied = tt }
+      record { at = body_goes x.at next (take len unread) (drop len unread) found.2; route = x.route; comes = λ later. fed begun x.at.content x.reached; replied = λ end is. cc }
 
   pub feed_over : (result : Result (Unit {0}) StreamFault) → f.body ≡ Length 0
       → ((content : List ℕ) → text_fault content ≡ None → IsLeft content f.reader → EndsSo content result) → IsFedUp count stream first f unread (at_end result)
@@ -180,9 +180,9 @@ module _ {count : ℕ} {stream first : List ℕ} {f : Feeding} {unread : List �
     where
       by : (result : Result (Unit {0}) StreamFault) → EndsSo x.at.content result → IsFedUp count stream first f unread (at_end result)
       by (Ok done) so =
-          record { at = x.at; route = x.route; comes = λ later. (record { over = over; taken = x.reached.taken; ends = so }, ap (λ b. not (is_over b)) over); replied = tt }
+          record { at = x.at; route = x.route; comes = λ later. (record { over = over; taken = x.reached.taken; ends = so }, ap (λ b. not (is_over b)) over); replied = λ end is. cc }
       by (Err fault) so =
-          record { at = x.at; route = x.route; comes = λ later. inl (record { over = over; taken = x.reached.taken; ends = so }, ap (λ b. not (is_over b)) over); replied = tt }
+          record { at = x.at; route = x.route; comes = λ later. inl (record { over = over; taken = x.reached.taken; ends = so }, ap (λ b. not (is_over b)) over); replied = λ end is. cc }
 
   pub feed_broken : IsBroken f.body unread → IsFedUp count stream first f unread (Err (came.Stopped bodies.BadFraming))
-  feed_broken broken = record { at = x.at; route = x.route; comes = λ later. (x.reached.taken, broken_bodies_stay f.body unread later broken); replied = refl }
+  feed_broken broken = record { at = x.at; route = x.route; comes = λ later. (x.reached.taken, broken_bodies_stay f.body unread later broken); replied = λ end is. cc }

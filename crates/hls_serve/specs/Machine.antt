@@ -1,19 +1,15 @@
 -- For the proofs of this crate; no public clause cites it.
 -- A connection but for its input, in the middle of its stream.
 use Rattle.std.specs.Prelude.{◌≡◌, ◌⊎◌, ℕ, ◌<◌, Bool, true, false, List, [], ◌++◌, length, flat_map, Option, Some, None, Err, IsFalse}
-use Rattle.httparse.specs.Grammar.{RequestHead}
 use Rattle.hls_core_laws.specs.{IsState.IsState, Known.Known}
-use Rattle.hls_http_laws.specs.{declared.fault.HttpFault.HttpFault, Heads.ReadsSmall}
 use Rattle.hls_http.specs.declared.body.BodyEnd.TheVariants as bodies
 use Rattle.hls_serve_laws.specs.declared.ingest.Intake.TheVariants as came
-use Rattle.hls_serve_laws.specs.{Acts.Act, Sessions.GoesOn}
+use Rattle.hls_serve_laws.specs.{Acts.Act, Acts.Acted, Sessions.GoesOn}
 use Rattle.hls_serve_laws.specs.Connections.{Exchange, History, Serves, Stage, Between, Within, Over, IsBetween, Stands, acts_of, output, text_of}
-use Rattle.hls_serve_laws.specs.Heard.{Due, IsDueWithoutHead, RefusesHead}
-use Rattle.hls_serve.specs.{declared.call.Call.Call, declared.ending.Ending.Ending, declared.machine.Machine.Machine}
+use Rattle.hls_serve.specs.{declared.ending.Ending.Ending, declared.machine.Machine.Machine, declared.machine.State.State, declared.machine.Step.Step}
 use Rattle.hls_serve.specs.declared.ending.Ending.TheVariants as own
-use Rattle.hls_serve.specs.{declared.machine.State.State, declared.news.News.News, Endings.end_of, Taken.IsUsable, Told.news_of}
+use Rattle.hls_serve.specs.{declared.news.News.News, declared.reply.Reply.Reply, Endings.end_of, Taken.IsUsable, Told.news_of}
 use Rattle.hls_serve.specs.declared.machine.State.TheVariants as states
-use Rattle.hls_serve.specs.Turns.{IsCall}
 use Rattle.hls_serve.specs.Within.{DropsBody, IsDropping, IsFeeding, IsMaking}
 
 -- what was asked for the requests that are over
@@ -72,35 +68,6 @@ HoldsAt received ended sent m unread = Holds m.renditions m.state (history_by re
 abbrev pub Goes : Bool → Machine → List ℕ → Machine → List ℕ → Type 0
 Goes ended old before new after = (received sent : List ℕ) → HoldsAt received ended sent old before → HoldsAt received ended sent new after
 
--- .. from a state that was taken out of the machine
-abbrev pub GoesFrom : State → Bool → Machine → List ℕ → Machine → List ℕ → Type 0
-GoesFrom state ended old before new after =
-    (received sent : List ℕ) → Holds old.renditions state (history_by received ended before (asked_in old) sent old.output) → HoldsAt received ended sent new after
-
--- behind the replies to the requests that are over this was handed out, and all was
-pub record Answered (count : ℕ) (h : History) (rest first : List ℕ) : Type 0 where
-  pub over : List Exchange
-  pub serves : (later : List ℕ) → Serves count (h.received ++ later) over (rest ++ later)
-  pub asked_is : h.acts ≡ acts_of over
-  pub written : h.sent ≡ text_of over ++ first
-
--- a head was just taken, of which this was kept
-pub record AtHead (count : ℕ) (h : History) (call : Call) : Type 0 where
-  pub rest : List ℕ
-  pub answered : Answered count h rest []
-  pub head : RequestHead
-  pub reads : (later : List ℕ) → ReadsSmall (rest ++ later) head (h.unread ++ later)
-  pub is_call : IsCall count head call
-
-abbrev pub GoesBehind : Call → Bool → Machine → Machine → List ℕ → Type 0
-GoesBehind call ended old new unread =
-    (received sent : List ℕ) → AtHead old.renditions (history_by received ended unread (asked_in old) sent old.output) call
-    → HoldsAt received ended sent new unread
-
--- with this at the front, such a fault's reply is due
-abbrev pub Refuses : HttpFault → List ℕ → Type 0
-Refuses fault unread = (due : Due) → IsDueWithoutHead fault due → RefusesHead unread due
-
 -- the keeper suits the machine: it has seen a state, with the init section under which a body is read
 abbrev pub SuitsIn : Known → State → Type 0
 SuitsIn known (states.Drop d) = DropsBody d
@@ -115,14 +82,24 @@ abbrev pub failure_in : State → Option News
 failure_in (states.Feed f) = Some (news_of f (Err (came.Stopped bodies.ReadFailed)))
 failure_in state = None
 
--- nothing was asked for what is looked at now, and a keeper that has seen a state suits it
-pub record AsksNothing (old new : Machine) : Type 0 where
-  pub asked : new.asked ≡ old.asked
-  pub renditions : new.renditions ≡ old.renditions
-  pub fresh : asked_now new.state ≡ []
-  pub suits : (known : Known) → IsState known.seen → SuitsIn known new.state
-
 -- ---- where nothing more can be done
+
+abbrev pub IsOver : Stage → Type 0
+IsOver (Over end) = Unit {0}
+IsOver stage = ⊥
+
+abbrev pub GoesOnIn : State → Type 0
+GoesOnIn state = GoesOn (stage_of state)
+
+-- all is over, or more is to be read and there is room for it
+abbrev pub RestsIn : Bool → State → List ℕ → Type 0
+RestsIn ended state unread = IsOver (stage_of state) ⊎ (IsFalse ended × (length unread < 16384))
+
+-- .. or something waits to be handed out
+abbrev pub Rests : Bool → Machine → List ℕ → Type 0
+Rests ended m unread = (0 < length m.output) ⊎ RestsIn ended m.state unread
+
+-- ---- a step
 
 abbrev pub state_behind : Option Ending → State
 state_behind None = states.Head
@@ -133,13 +110,29 @@ waited_head empty false = states.Head
 waited_head true true = states.Over own.Closed
 waited_head false true = states.Over own.CutShort
 
-abbrev pub IsOver : Stage → Type 0
-IsOver (Over end) = Unit {0}
-IsOver stage = ⊥
+-- nothing is handed out, and no request is over
+abbrev pub step_to : State → Bool → Step
+step_to state more = record { state = state; output = []; acts = []; more = more }
 
-abbrev pub GoesOnIn : State → Type 0
-GoesOnIn state = GoesOn (stage_of state)
+-- behind a reply, for which this was asked
+abbrev pub step_behind : Reply → List Act → Step
+step_behind made acts = record { state = state_behind made.end; output = made.output; acts = acts; more = true }
 
--- something waits to be handed out, or all is over, or more is to be read and there is room for it
-abbrev pub Rests : Bool → Machine → List ℕ → Type 0
-Rests ended m unread = (0 < length m.output) ⊎ (IsOver (stage_of m.state) ⊎ (IsFalse ended × (length unread < 16384)))
+-- where nothing waits to be handed out a step comes to this, whatever was received and handed out before
+abbrev pub ComesTo : ℕ → Bool → State → List ℕ → Step → List ℕ → Type 0
+ComesTo count ended old before step after =
+    (received sent : List ℕ) (asked : List Act) → Holds count old (history_by received ended before asked sent [])
+    → Holds count step.state (history_by received ended after (asked ++ step.acts) sent step.output)
+
+-- what was asked for the request that is over by it, and for what is looked at then
+abbrev pub asked_by : Step → List Act
+asked_by step = step.acts ++ asked_now step.state
+
+-- its acts lead to what the keeper then knows, which suits the state
+pub record AsksBy (a : Known) (old : State) (b : Known) (step : Step) : Type 0 where
+  pub leads : Acted a (asked_now old) b (asked_by step)
+  pub suits : SuitsIn b step.state
+
+-- .. of a keeper that has seen a state nothing is asked
+abbrev pub AsksNothing : State → Step → Type 0
+AsksNothing old step = (known : Known) → IsState known.seen → AsksBy known old known step

@@ -7,7 +7,7 @@ use Rattle.hls_http_laws.specs.{declared.body.Body.Body, declared.plan.Plan.Plan
 use Rattle.hls_http_laws.specs.declared.plan.Plan.TheVariants.{Feed, Skip}
 use Rattle.hls_http_laws.specs.Bodies.{Runs, IsOpen}
 use Rattle.hls_http.specs.declared.body.BodyEnd.TheVariants as bodies
-use Rattle.hls_http.specs.{declared.drain.DropEnd.DropEnd, Drained.announced_by}
+use Rattle.hls_http.specs.{declared.body.BodyEnd.BodyEnd, declared.drain.DropEnd.DropEnd, Drained.announced_by}
 use Rattle.hls_http.specs.declared.drain.DropEnd.TheVariants as drops
 use Rattle.hls_serve_laws.specs.{declared.ingest.Intake.Intake, Acts.Act, Routes.feeds}
 use Rattle.hls_serve_laws.specs.declared.ingest.Intake.TheVariants as came
@@ -50,17 +50,13 @@ pub record IsDropping (count : ℕ) (stream first : List ℕ) (d : Dropping) (un
 abbrev pub DropsBody : Dropping → Type 0
 DropsBody d = feeds (Some d.route) d.call.head.method ≡ false
 
--- a body of which no more comes is replied to where its framing is bad
-abbrev pub IsToDrop : Result (Unit {0}) DropEnd → Type 0
-IsToDrop (Err (drops.Stopped end)) = end ≡ bodies.BadFraming
-IsToDrop result = Unit {0}
-
--- .. of which no more is read, whatever follows
+-- no more of it is read, whatever follows
 pub record IsDropped (count : ℕ) (stream first : List ℕ) (d : Dropping) (unread : List ℕ) (result : Result (Unit {0}) DropEnd) : Type 0 where
   pub at : HasBody count stream first d.call Skip d.body unread
   pub route : d.call.route ≡ Some d.route
   pub dropped : (later : List ℕ) → Drops at.content d.body (unread ++ later) result
-  pub replied : IsToDrop result
+  -- a body of which no more comes is replied to where its framing is bad
+  pub replied : (end : BodyEnd) → result ≡ Err (drops.Stopped end) → end ≡ bodies.BadFraming
 
 abbrev pub DropsOn : ℕ → List ℕ → List ℕ → Dropping → List ℕ → Next DropEnd → Type 0
 DropsOn count stream first d unread More = IsDropping count stream first d unread
@@ -78,15 +74,12 @@ pub record IsFeeding (count : ℕ) (stream first : List ℕ) (f : Feeding) (unre
   pub route : f.call.route ≡ Some (routes.Ingest f.rendition)
   pub reached : Reached (PartComes f.rendition) begun at.content f.reader (progress_of f.taken)
 
-abbrev pub IsToFeed : Result (Unit {0}) Intake → Type 0
-IsToFeed (Err (came.Stopped end)) = end ≡ bodies.BadFraming
-IsToFeed result = Unit {0}
-
+-- no more of it is read, whatever follows
 pub record IsFedUp (count : ℕ) (stream first : List ℕ) (f : Feeding) (unread : List ℕ) (result : Result (Unit {0}) Intake) : Type 0 where
   pub at : HasBody count stream first f.call Feed f.body unread
   pub route : f.call.route ≡ Some (routes.Ingest f.rendition)
   pub comes : (later : List ℕ) → BodyComes f.rendition at.body at.content f.body (unread ++ later) (progress_of f.taken) (not (is_over f.body)) result
-  pub replied : IsToFeed result
+  pub replied : (end : BodyEnd) → result ≡ Err (came.Stopped end) → end ≡ bodies.BadFraming
 
 abbrev pub FeedsOn : ℕ → List ℕ → List ℕ → Feeding → List ℕ → Next Intake → Type 0
 FeedsOn count stream first f unread More = IsFeeding count stream first f unread

@@ -1,11 +1,11 @@
 //! An encoder's body, taken part by part as it comes.
 
 ghost use Rattle.std.specs.Prelude.{◌≡◌, ◌<◌, length};
-ghost use Rattle.hls_http.specs.Bodies.{StepsTo};
 ghost use Rattle.hls_serve_laws.specs.Acts.{Acted};
 ghost use Rattle.hls_serve.specs.{Taken.IsUsable, Within.FeedsFrom};
 ghost use Rattle.hls_serve.specs.declared.next.Next.TheVariants as nexts;
 
+use crate::acts::Acts;
 use crate::call::Call;
 use crate::ingest::{Encoder, Taken};
 use crate::keeper::Keeper;
@@ -14,6 +14,7 @@ use hls_boxes::UnitReader;
 use hls_feed::{end, feed};
 use hls_http::{Body, BodyEnd, Input, Lack, Move, find_move};
 use hls_serve_laws::ingest::Intake;
+use std::mem;
 
 /// A request whose body is an encoder's: what was taken of it, and what was read and not yet taken.
 #[derive(Drop)]
@@ -26,34 +27,15 @@ pub(crate) struct Feeding {
 }
 
 impl Feeding {
-    /// Takes the next bytes of the content: each part that is whole is submitted before anything behind it is looked at.
-    fn piece<K: Keeper>(
-        &mut self,
-        input: &mut Input,
-        keeper: &mut K,
-        len: usize,
-        next: Body,
-    ) -> Next<Intake>
-        requires usable { IsUsable self.old.rendition (K.known keeper.old) self.old.taken.init }
-        requires found { StepsTo self.old.body input.old.unread (Move.Piece len next) }
-        ensures usable { IsUsable self.new.rendition (K.known keeper.new) self.new.taken.init }
-        ensures waits { result ≡ nexts.Wait → length input.new.unread < 16384 }
-        ensures leads { Acted (K.known keeper.old) self.old.taken.acts (K.known keeper.new) self.new.taken.acts }
-        ensures feeds { FeedsFrom self.old input.old.unread self.new input.new.unread result }
-        ensures room { input.new.room ≡ input.old.room }
+    /// What the keeper was asked for it, once no more of it is taken.
+    pub fn take_acts(&mut self) -> Acts
+        ensures { result ≡ self.old.taken.acts }
     {
-        let encoder: Encoder<K> = Encoder::new(self.rendition);
-        let piece = &input.unread()[..len];
-        let fed = feed(&mut self.reader, &encoder, &mut self.taken, keeper, piece);
-        input.take(len);
-        self.body = next;
-        match fed {
-            Ok(()) => Next::More,
-            Err(untaken) => Next::Over(Err(Intake::from(untaken))),
-        }
+        mem::replace(&mut self.taken.acts, Acts::none())
     }
 
-    /// Takes what stands at the input's front.
+    /// Takes what stands at the input's front. Each part of the content that is whole is submitted before anything behind it is looked
+    /// at.
     pub fn step<K: Keeper>(&mut self, input: &mut Input, keeper: &mut K) -> Next<Intake>
         requires usable { IsUsable self.old.rendition (K.known keeper.old) self.old.taken.init }
         ensures usable { IsUsable self.new.rendition (K.known keeper.new) self.new.taken.init }
@@ -69,7 +51,17 @@ impl Feeding {
             };
         }
         match find_move(input.unread(), self.body) {
-            Ok(Move::Piece(len, next)) => self.piece(input, keeper, len, next),
+            Ok(Move::Piece(len, next)) => {
+                let encoder: Encoder<K> = Encoder::new(self.rendition);
+                let piece = &input.unread()[..len];
+                let fed = feed(&mut self.reader, &encoder, &mut self.taken, keeper, piece);
+                input.take(len);
+                self.body = next;
+                match fed {
+                    Ok(()) => Next::More,
+                    Err(untaken) => Next::Over(Err(Intake::from(untaken))),
+                }
+            }
             Ok(Move::Frame(len, next)) => {
                 input.take(len);
                 self.body = next;

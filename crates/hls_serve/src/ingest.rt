@@ -152,10 +152,7 @@ impl<K: Keeper> Encoder<K> {
         ensures leads { Acted (K.known keeper.old) taken.old.acts (K.known keeper.new) taken.new.acts }
         ensures comes { PartComes self.now.rendition (progress_of taken.old) (Part.Unit bytes) (progress_of taken.new) result }
     {
-        match self.find_init(taken, keeper) {
-            Ok(()) => {}
-            Err(untaken) => return Err(untaken),
-        }
+        self.find_init(taken, keeper)?;
         let Some(init) = &taken.init else {
             unreachable!()
         };

@@ -1,12 +1,13 @@
 //! The steps of a connection, each from one place in its stream to the next. No system call is made, and nobody is waited for but
 //! the keeper.
 
-ghost use Rattle.std.specs.Prelude.{◌≡◌, ◌↔◌, ◌++◌, ℕ, List, [], length, Bool, IsFalse, IfNone, IfSome, true};
+ghost use Rattle.std.specs.Prelude.{◌≡◌, ◌↔◌, ℕ, List, [], Bool, IsFalse, IfNone, IfSome, true, false};
+ghost use Rattle.httparse.specs.Grammar.{RequestHead};
 ghost use Rattle.hls_core_laws.specs.{IsState.IsState, Known.Known};
+ghost use Rattle.hls_http_laws.specs.Heads.{ReadsSmall};
 ghost use Rattle.hls_serve_laws.specs.{Acts.Acted, Heard.first_of};
 ghost use Rattle.hls_serve.specs.declared.machine.State.TheVariants as states;
-ghost use Rattle.hls_serve.specs.Machine.{AsksNothing, Goes, GoesBehind, GoesFrom, GoesOnIn, Refuses, Rests, Suits, SuitsIn, asked_in, failure_in, state_behind, total, waited_head};
-ghost use Rattle.httparse.specs.Grammar.{RequestHead};
+ghost use Rattle.hls_serve.specs.Machine.{AsksBy, AsksNothing, ComesTo, Goes, GoesOnIn, Rests, RestsIn, Suits, SuitsIn, asked_by, asked_now, failure_in, state_behind, step_behind, step_to, total, waited_head};
 ghost use Rattle.hls_serve.specs.{Taken.IsUsable, Turns.IsCall, Within.DropsBody};
 
 use crate::acts::Acts;
@@ -58,6 +59,19 @@ pub(crate) struct Machine {
     pub asked: Log<Acts, ()>,
 }
 
+/// What a step leads to.
+#[derive(Drop)]
+pub(crate) struct Step {
+    /// Where the connection then stands.
+    pub state: State,
+    /// What it hands out.
+    pub output: Output<Body>,
+    /// What the keeper was asked for the request that is over, where one is.
+    pub acts: Acts,
+    /// Whether there may be more to do at once.
+    pub more: bool,
+}
+
 /// Puts this in the place of what stood there, which is dropped here alone.
 fn put<T: Drop>(place: &mut T, other: T)
     ensures { place.new ≡ other }
@@ -67,7 +81,9 @@ fn put<T: Drop>(place: &mut T, other: T)
 
 /// Where a connection stands behind a reply.
 fn behind(end: Option<Ending>) -> State
-    ensures { result ≡ state_behind end }
+    ensures is { result ≡ state_behind end }
+    ensures asked { asked_now result ≡ [] }
+    ensures suits { (known : Known) → SuitsIn known result }
 {
     match end {
         None => State::Head,
@@ -75,285 +91,268 @@ fn behind(end: Option<Ending>) -> State
     }
 }
 
-impl Machine {
-    /// Goes on behind a reply: it is handed out, and then the next request is looked for, or the connection is over.
-    fn answer(&mut self, made: Reply)
-        ensures output { self.new.output ≡ made.output }
-        ensures state { self.new.state ≡ state_behind made.end }
-        ensures asks { AsksNothing self.old self.new }
+impl Step {
+    /// Nothing is handed out, and no request is over.
+    fn to(state: State, more: bool) -> Step
+        ensures { result ≡ step_to state more }
     {
-        put(&mut self.output, made.output);
-        let next = behind(made.end);
-        put(&mut self.state, next);
-    }
-
-    /// Refuses what can't become a head.
-    fn refuse<O: Observer>(&mut self, alloc: Global, observer: &O, fault: HttpFault)
-        requires head { self.old.state ≡ State.Head }
-        requires sent { length self.old.output ≡ 0 }
-        ensures goes { (ended : Bool) (unread : List ℕ) → Refuses fault unread → Goes ended self.old unread self.new unread }
-        ensures asks { AsksNothing self.old self.new }
-    {
-        let made = refuse_head(alloc, observer, fault);
-        self.answer(made);
-    }
-
-    /// No head stands at the front yet: waits for more, or ends with the input.
-    fn wait_head(&mut self, empty: bool, ended: bool) -> bool
-        requires head { self.old.state ≡ State.Head }
-        ensures state { self.new.state ≡ waited_head empty ended }
-        ensures output { self.new.output ≡ self.old.output }
-        ensures asked { self.new.asked ≡ self.old.asked }
-        ensures renditions { self.new.renditions ≡ self.old.renditions }
-        ensures stops { IsFalse result }
-    {
-        if ended {
-            let end = if empty {
-                Ending::Closed
-            } else {
-                Ending::CutShort
-            };
-            put(&mut self.state, State::Over(end));
-        }
-        false
-    }
-
-    /// Hands out 100 Continue, where it is waited for and the body will be read.
-    fn write_first(&mut self, call: &Call, plan: Plan)
-        requires sent { length self.old.output ≡ 0 }
-        ensures first { (count : ℕ) (h : RequestHead) → IsCall count h call.now → self.new.output ≡ first_of h plan }
-        ensures state { self.new.state ≡ self.old.state }
-        ensures asked { self.new.asked ≡ self.old.asked }
-        ensures renditions { self.new.renditions ≡ self.old.renditions }
-    {
-        if continues(&call.head, plan) {
-            put(&mut self.output, Output::of_fixed(continue_text()));
+        Step {
+            state,
+            output: Output::new(),
+            acts: Acts::none(),
+            more,
         }
     }
 
-    /// Goes on behind a head as its plan says.
-    fn follow<O: Observer>(&mut self, alloc: Global, observer: &O, call: Call)
-        requires sent { length self.old.output ≡ 0 }
-        ensures goes { (ended : Bool) (unread : List ℕ) → GoesBehind call ended self.old self.new unread }
-        ensures asks { AsksNothing self.old self.new }
+    /// Goes on behind a reply, for which the keeper was asked this: it is handed out, and then the next request is looked for, or
+    /// the connection is over.
+    fn behind(made: Reply, acts: Acts) -> Step
+        ensures is { result ≡ step_behind made acts }
+        ensures asked { asked_by result ≡ acts }
+        ensures suits { (known : Known) → SuitsIn known result.state }
     {
-        let plan = plan_of(&call);
-        match plan {
-            Plan::Refuse { fault, closing } => {
-                let made = refuse(alloc, observer, &call, fault, closing);
-                self.answer(made);
-            }
-            Plan::Feed(body) => match call.route {
-                Some(Route::Ingest(rendition)) => {
-                    self.write_first(&call, plan);
-                    let feeding = Feeding {
-                        call,
-                        rendition,
-                        body,
-                        reader: UnitReader::new(alloc),
-                        taken: Taken::none(),
-                    };
-                    put(&mut self.state, State::Feed(feeding));
-                }
-                _ => unreachable!(),
-            },
-            Plan::Skip(body) => match call.route {
-                Some(route) => {
-                    self.write_first(&call, plan);
-                    let dropping = Dropping {
-                        call,
-                        route,
-                        body,
-                        room: MOST_DROPPED - announced(body),
-                    };
-                    put(&mut self.state, State::Drop(dropping));
-                }
-                None => unreachable!(),
-            },
-        }
-    }
-
-    /// Looks for the next head.
-    fn head<O: Observer>(
-        &mut self,
-        input: &mut Input,
-        ended: bool,
-        alloc: Global,
-        observer: &O,
-    ) -> bool
-        requires head { self.old.state ≡ State.Head }
-        requires sent { length self.old.output ≡ 0 }
-        ensures goes { Goes ended self.old input.old.unread self.new input.new.unread }
-        ensures room { input.new.room ≡ input.old.room }
-        ensures asks { AsksNothing self.old self.new }
-        ensures rests { IsFalse result → Rests ended self.new input.new.unread }
-    {
-        match find_head(input.unread()) {
-            Ok((head, len)) => {
-                input.take(len);
-                let call = read_call(alloc, input.taken(), self.renditions, head);
-                observer.tell(&News::Begun {
-                    method: call.head.method,
-                    route: call.route,
-                });
-                self.follow(alloc, observer, call);
-                true
-            }
-            Err(Look::Hopeless) => {
-                self.refuse(alloc, observer, HttpFault::BadHead);
-                true
-            }
-            Err(Look::TooLarge) => {
-                self.refuse(alloc, observer, HttpFault::HeadTooLarge);
-                true
-            }
-            Err(Look::Partial) => {
-                let empty = input.unread().is_empty();
-                self.wait_head(empty, ended)
-            }
-        }
-    }
-
-    /// Hands out a reply, for which the keeper was asked this.
-    fn close(&mut self, made: Reply, acts: &Acts)
-        ensures output { self.new.output ≡ made.output }
-        ensures state { self.new.state ≡ state_behind made.end }
-        ensures asked { asked_in self.new ≡ asked_in self.old ++ acts.now }
-        ensures total { total self.new ≡ asked_in self.old ++ acts.now }
-        ensures renditions { self.new.renditions ≡ self.old.renditions }
-        ensures suits { (known : Known) → IsState known.seen → SuitsIn known self.new.state }
-    {
-        self.asked = self.asked.and(acts, &());
-        self.answer(made);
-    }
-
-    /// Goes on with a body that is dropped.
-    fn drop_on<K: Keeper, O: Observer>(
-        &mut self,
-        mut dropping: Dropping,
-        input: &mut Input,
-        ended: bool,
-        keeper: &mut K,
-        observer: &O,
-    ) -> bool
-        requires sent { length self.old.output ≡ 0 }
-        requires valid { IsState (K.known keeper.old).seen }
-        requires dropped { DropsBody dropping }
-        ensures goes { GoesFrom (states.Drop dropping) ended self.old input.old.unread self.new input.new.unread }
-        ensures room { input.new.room ≡ input.old.room }
-        ensures leads { Acted (K.known keeper.old) (asked_in self.old) (K.known keeper.new) (total self.new) }
-        ensures renditions { self.new.renditions ≡ self.old.renditions }
-        ensures suits { Suits (K.known keeper.new) self.new }
-        ensures rests { IsFalse result → Rests ended self.new input.new.unread }
-    {
-        match dropping.step(input) {
-            Next::More => {
-                put(&mut self.state, State::Drop(dropping));
-                true
-            }
-            Next::Wait => {
-                if ended {
-                    put(&mut self.state, State::Over(Ending::CutShort));
-                    return false;
-                }
-                put(&mut self.state, State::Drop(dropping));
-                false
-            }
-            Next::Over(result) => {
-                let mut acts = Acts::none();
-                match answer_dropped(&dropping, result, keeper, &mut acts, observer) {
-                    Answered::Now(made) => self.close(made, &acts),
-                    Answered::Later(answer) => {
-                        let making = Making {
-                            dropping,
-                            acts,
-                            answer,
-                        };
-                        put(&mut self.state, State::Make(making));
-                    }
-                }
-                true
-            }
-        }
-    }
-
-    /// Makes one more part of an answer; replies where none is left, or memory is wanted for one.
-    fn make_on<O: Observer>(&mut self, making: Making, alloc: Global, observer: &O) -> bool
-        requires sent { length self.old.output ≡ 0 }
-        ensures goes { (ended : Bool) (unread : List ℕ) → GoesFrom (states.Make making) ended self.old unread self.new unread }
-        ensures leads { (known : Known) → Acted known (asked_in self.old ++ making.acts) known (total self.new) }
-        ensures renditions { self.new.renditions ≡ self.old.renditions }
-        ensures suits { (known : Known) → IsState known.seen → SuitsIn known self.new.state }
-        ensures goes_on { result ≡ true }
-    {
-        let Making {
-            dropping,
+        Step {
+            state: behind(made.end),
+            output: made.output,
             acts,
-            answer,
-        } = making;
-        if answer.is_made() {
-            let made = reply_with(alloc, observer, &dropping.call, Ok(answer), false);
-            self.close(made, &acts);
-            return true;
+            more: true,
         }
-        match answer.make(alloc) {
-            Ok(answer) => {
-                let making = Making {
-                    dropping,
-                    acts,
-                    answer,
+    }
+}
+
+/// No head stands at the front yet: waits for more, or ends with the input.
+fn wait_head(empty: bool, ended: bool) -> Step
+    ensures { result ≡ step_to (waited_head empty ended) false }
+{
+    match (empty, ended) {
+        (_, false) => Step::to(State::Head, false),
+        (true, true) => Step::to(State::Over(Ending::Closed), false),
+        (false, true) => Step::to(State::Over(Ending::CutShort), false),
+    }
+}
+
+/// 100 Continue, where it is waited for and the body will be read.
+fn first_output(call: &Call, plan: Plan) -> Output<Body>
+    ensures { (count : ℕ) (h : RequestHead) → IsCall count h call.now → result ≡ first_of h plan }
+{
+    if continues(&call.head, plan) {
+        Output::of_fixed(continue_text())
+    } else {
+        Output::new()
+    }
+}
+
+/// Goes on behind a head as its plan says.
+fn follow<O: Observer>(alloc: Global, observer: &O, call: Call) -> Step
+    ensures comes { (count : ℕ) (ended : Bool) (before unread : List ℕ) (h : RequestHead) → ReadsSmall before h unread → IsCall count h call
+        → ComesTo count ended states.Head before result unread }
+    ensures asks { AsksNothing states.Head result }
+    ensures goes_on { result.more ≡ true }
+{
+    let plan = plan_of(&call);
+    match plan {
+        Plan::Refuse { fault, closing } => {
+            let made = refuse(alloc, observer, &call, fault, closing);
+            Step::behind(made, Acts::none())
+        }
+        Plan::Feed(body) => match call.route {
+            Some(Route::Ingest(rendition)) => {
+                let feeding = Feeding {
+                    call,
+                    rendition,
+                    body,
+                    reader: UnitReader::new(alloc),
+                    taken: Taken::none(),
                 };
-                put(&mut self.state, State::Make(making));
-            }
-            Err(error) => {
-                let made = reply_with(alloc, observer, &dropping.call, Err(error), false);
-                self.close(made, &acts);
-            }
-        }
-        true
-    }
-
-    /// Goes on with an encoder's body.
-    fn feed_on<K: Keeper, O: Observer>(
-        &mut self,
-        mut feeding: Feeding,
-        input: &mut Input,
-        ended: bool,
-        keeper: &mut K,
-        observer: &O,
-    ) -> bool
-        requires sent { length self.old.output ≡ 0 }
-        requires usable { IsUsable feeding.rendition (K.known keeper.old) feeding.taken.init }
-        ensures goes { GoesFrom (states.Feed feeding) ended self.old input.old.unread self.new input.new.unread }
-        ensures room { input.new.room ≡ input.old.room }
-        ensures leads { Acted (K.known keeper.old) (asked_in self.old ++ feeding.taken.acts) (K.known keeper.new) (total self.new) }
-        ensures renditions { self.new.renditions ≡ self.old.renditions }
-        ensures suits { Suits (K.known keeper.new) self.new }
-        ensures rests { IsFalse result → Rests ended self.new input.new.unread }
-    {
-        match feeding.step(input, keeper) {
-            Next::More => {
-                put(&mut self.state, State::Feed(feeding));
-                true
-            }
-            Next::Wait => {
-                if ended {
-                    observer.tell(&ingested(&feeding, Err(Intake::Stopped(BodyEnd::CutShort))));
-                    self.asked = self.asked.and(&feeding.taken.acts, &());
-                    put(&mut self.state, State::Over(Ending::CutShort));
-                    return false;
+                Step {
+                    state: State::Feed(feeding),
+                    output: first_output(&call, plan),
+                    acts: Acts::none(),
+                    more: true,
                 }
-                put(&mut self.state, State::Feed(feeding));
-                false
             }
-            Next::Over(result) => {
-                let made = answer_fed(keeper.alloc(), &feeding, result, observer);
-                self.close(made, &feeding.taken.acts);
-                true
+            _ => unreachable!(),
+        },
+        Plan::Skip(body) => match call.route {
+            Some(route) => {
+                let dropping = Dropping {
+                    call,
+                    route,
+                    body,
+                    room: MOST_DROPPED - announced(body),
+                };
+                Step {
+                    state: State::Drop(dropping),
+                    output: first_output(&call, plan),
+                    acts: Acts::none(),
+                    more: true,
+                }
+            }
+            None => unreachable!(),
+        },
+    }
+}
+
+/// Looks for the next head.
+fn head<O: Observer>(
+    renditions: usize,
+    input: &mut Input,
+    ended: bool,
+    alloc: Global,
+    observer: &O,
+) -> Step
+    ensures comes { ComesTo renditions ended states.Head input.old.unread result input.new.unread }
+    ensures room { input.new.room ≡ input.old.room }
+    ensures asks { AsksNothing states.Head result }
+    ensures rests { IsFalse result.more → RestsIn ended result.state input.new.unread }
+{
+    match find_head(input.unread()) {
+        Ok((head, len)) => {
+            input.take(len);
+            let call = read_call(alloc, input.taken(), renditions, head);
+            observer.tell(&News::Begun {
+                method: call.head.method,
+                route: call.route,
+            });
+            follow(alloc, observer, call)
+        }
+        Err(Look::Hopeless) => {
+            let made = refuse_head(alloc, observer, HttpFault::BadHead);
+            Step::behind(made, Acts::none())
+        }
+        Err(Look::TooLarge) => {
+            let made = refuse_head(alloc, observer, HttpFault::HeadTooLarge);
+            Step::behind(made, Acts::none())
+        }
+        Err(Look::Partial) => wait_head(input.unread().is_empty(), ended),
+    }
+}
+
+/// Goes on with a body that is dropped.
+fn drop_on<K: Keeper, O: Observer>(
+    mut dropping: Dropping,
+    input: &mut Input,
+    ended: bool,
+    keeper: &mut K,
+    observer: &O,
+) -> Step
+    requires { DropsBody dropping }
+    ensures comes { (count : ℕ) → ComesTo count ended (states.Drop dropping) input.old.unread result input.new.unread }
+    ensures room { input.new.room ≡ input.old.room }
+    ensures asks { AsksBy (K.known keeper.old) (states.Drop dropping) (K.known keeper.new) result }
+    ensures rests { IsFalse result.more → RestsIn ended result.state input.new.unread }
+{
+    match dropping.step(input) {
+        Next::More => Step::to(State::Drop(dropping), true),
+        Next::Wait if ended => Step::to(State::Over(Ending::CutShort), false),
+        Next::Wait => Step::to(State::Drop(dropping), false),
+        Next::Over(result) => {
+            let mut acts = Acts::none();
+            match answer_dropped(&dropping, result, keeper, &mut acts, observer) {
+                Answered::Now(made) => Step::behind(made, acts),
+                Answered::Later(answer) => {
+                    let making = Making {
+                        dropping,
+                        acts,
+                        answer,
+                    };
+                    Step::to(State::Make(making), true)
+                }
             }
         }
     }
+}
 
+/// Makes one more part of an answer; replies where none is left, or memory is wanted for one.
+fn make_on<O: Observer>(making: Making, alloc: Global, observer: &O) -> Step
+    ensures comes { (count : ℕ) (ended : Bool) (unread : List ℕ) → ComesTo count ended (states.Make making) unread result unread }
+    ensures asks { AsksNothing (states.Make making) result }
+    ensures goes_on { result.more ≡ true }
+{
+    let Making {
+        dropping,
+        acts,
+        answer,
+    } = making;
+    if answer.is_made() {
+        let made = reply_with(alloc, observer, &dropping.call, Ok(answer), false);
+        return Step::behind(made, acts);
+    }
+    match answer.make(alloc) {
+        Ok(answer) => {
+            let making = Making {
+                dropping,
+                acts,
+                answer,
+            };
+            Step::to(State::Make(making), true)
+        }
+        Err(error) => {
+            let made = reply_with(alloc, observer, &dropping.call, Err(error), false);
+            Step::behind(made, acts)
+        }
+    }
+}
+
+/// Goes on with an encoder's body.
+fn feed_on<K: Keeper, O: Observer>(
+    mut feeding: Feeding,
+    input: &mut Input,
+    ended: bool,
+    keeper: &mut K,
+    observer: &O,
+) -> Step
+    requires { IsUsable feeding.rendition (K.known keeper.old) feeding.taken.init }
+    ensures comes { (count : ℕ) → ComesTo count ended (states.Feed feeding) input.old.unread result input.new.unread }
+    ensures room { input.new.room ≡ input.old.room }
+    ensures asks { AsksBy (K.known keeper.old) (states.Feed feeding) (K.known keeper.new) result }
+    ensures rests { IsFalse result.more → RestsIn ended result.state input.new.unread }
+{
+    match feeding.step(input, keeper) {
+        Next::More => Step::to(State::Feed(feeding), true),
+        Next::Wait if ended => {
+            observer.tell(&ingested(&feeding, Err(Intake::Stopped(BodyEnd::CutShort))));
+            Step {
+                state: State::Over(Ending::CutShort),
+                output: Output::new(),
+                acts: feeding.take_acts(),
+                more: false,
+            }
+        }
+        Next::Wait => Step::to(State::Feed(feeding), false),
+        Next::Over(result) => {
+            let made = answer_fed(keeper.alloc(), &feeding, result, observer);
+            Step::behind(made, feeding.take_acts())
+        }
+    }
+}
+
+/// One step from a state in which nothing waits to be handed out.
+fn step_from<K: Keeper, O: Observer>(
+    state: State,
+    renditions: usize,
+    input: &mut Input,
+    ended: bool,
+    keeper: &mut K,
+    observer: &O,
+) -> Step
+    requires valid { IsState (K.known keeper.old).seen }
+    requires suits { SuitsIn (K.known keeper.old) state }
+    ensures comes { ComesTo renditions ended state input.old.unread result input.new.unread }
+    ensures room { input.new.room ≡ input.old.room }
+    ensures asks { AsksBy (K.known keeper.old) state (K.known keeper.new) result }
+    ensures rests { IsFalse result.more → RestsIn ended result.state input.new.unread }
+{
+    match state {
+        State::Head => head(renditions, input, ended, keeper.alloc(), observer),
+        State::Drop(dropping) => drop_on(dropping, input, ended, keeper, observer),
+        State::Feed(feeding) => feed_on(feeding, input, ended, keeper, observer),
+        State::Make(making) => make_on(making, keeper.alloc(), observer),
+        State::Over(end) => Step::to(State::Over(end), false),
+    }
+}
+
+impl Machine {
     /// One step, where nothing waits to be handed out. Whether there may be more to do at once.
     pub fn step<K: Keeper, O: Observer>(
         &mut self,
@@ -373,16 +372,12 @@ impl Machine {
         if !self.output.is_empty() {
             return false;
         }
-        match mem::replace(&mut self.state, State::Head) {
-            State::Head => self.head(input, ended, keeper.alloc(), observer),
-            State::Drop(dropping) => self.drop_on(dropping, input, ended, keeper, observer),
-            State::Feed(feeding) => self.feed_on(feeding, input, ended, keeper, observer),
-            State::Make(making) => self.make_on(making, keeper.alloc(), observer),
-            State::Over(end) => {
-                put(&mut self.state, State::Over(end));
-                false
-            }
-        }
+        let state = mem::replace(&mut self.state, State::Head);
+        let step = step_from(state, self.renditions, input, ended, keeper, observer);
+        self.asked = self.asked.and(&step.acts, &());
+        put(&mut self.state, step.state);
+        put(&mut self.output, step.output);
+        step.more
     }
 
     /// Whether an answer is being made.

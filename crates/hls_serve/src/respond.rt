@@ -1,7 +1,7 @@
 //! What a request whose body was dropped comes to.
 
 ghost use Rattle.std.specs.Prelude.{◌≡◌, Some, None, IfOk, true, false};
-ghost use Rattle.hls_serve_laws.specs.Heard.{AsksFor, CatchesUp, Finishes, Serves, ServesJob, ShowsJob, shown_if};
+ghost use Rattle.hls_serve_laws.specs.Heard.{AsksFor, CatchesUp, Finishes, Serves, ServesJob, shown_if};
 ghost use Rattle.hls_serve_laws.specs.Routes as spec;
 ghost use Rattle.hls_serve_laws.specs.Heard as heard;
 ghost use Rattle.hls_serve_laws.specs.Acts.{Acted};
@@ -93,19 +93,7 @@ fn show_found(alloc: Global, call: &Call, route: Route, id: u64, job: Job) -> Ma
     }
 }
 
-/// What is replied of a job that stays; 404 where there is none.
-fn show_job<K: Keeper>(keeper: &K, call: &Call, route: Route, id: u64) -> Made
-    requires { heard.job_at route ≡ Some id }
-    ensures { OfCall call.now (λ h q. IfOk result (ShowsJob id (shown_if q route (spec.allows route q.method)))) }
-{
-    match keeper.job(id) {
-        Ok(job) => show_found(keeper.alloc(), call, route, id, job),
-        Err(JobFault::UnknownJob) => fault_answer(keeper.alloc(), HttpFault::NotFound),
-        Err(_) => Err(AllocError),
-    }
-}
-
-/// By the route of a job: an unknown job comes first, then a method that the route hasn't.
+/// By the route of a job, which may be taken away: an unknown job comes first, then a method that the route hasn't.
 fn serve_job<K: Keeper>(keeper: &mut K, call: &Call, route: Route, id: u64) -> Made
     requires { heard.job_at route ≡ Some id }
     ensures known { K.known keeper.new ≡ K.known keeper.old }
@@ -115,7 +103,11 @@ fn serve_job<K: Keeper>(keeper: &mut K, call: &Call, route: Route, id: u64) -> M
         let removed = keeper.remove_job(id);
         return removed_answer(keeper.alloc(), removed);
     }
-    show_job(keeper, call, route, id)
+    match keeper.job(id) {
+        Ok(job) => show_found(keeper.alloc(), call, route, id, job),
+        Err(JobFault::UnknownJob) => fault_answer(keeper.alloc(), HttpFault::NotFound),
+        Err(_) => Err(AllocError),
+    }
 }
 
 /// By the route, which is no job's, and whose method is one of its own: by what ends a rendition or asks for a recording, or what
@@ -142,11 +134,7 @@ fn serve<K: Keeper>(keeper: &mut K, acts: &mut Acts, call: &Call, route: Route) 
             let jobs = keeper.jobs();
             status_answer(keeper.alloc(), &state, jobs)
         }
-        Route::Finish(_) => unreachable!(),
-        Route::CatchUp => unreachable!(),
-        Route::Ingest(_) => unreachable!(),
-        Route::Job(_) => unreachable!(),
-        Route::JobFile(_, _) => unreachable!(),
+        _ => unreachable!(),
     }
 }
 

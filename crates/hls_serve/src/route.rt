@@ -123,28 +123,10 @@ pub fn route(count: usize, path: &[u8]) -> Option<Route>
     folder(count, path)
 }
 
-fn is_read(method: Method) -> bool
-    ensures { result ≡ spec.is_read method }
-{
-    matches!(method, Method::Get | Method::Head)
-}
-
 fn is_sent(method: Method) -> bool
     ensures { result ≡ spec.is_sent method }
 {
     matches!(method, Method::Put | Method::Post)
-}
-
-fn is_post(method: Method) -> bool
-    ensures { result ≡ spec.is_post method }
-{
-    matches!(method, Method::Post)
-}
-
-fn is_read_or_deleted(method: Method) -> bool
-    ensures { result ≡ spec.is_read_or_deleted method }
-{
-    matches!(method, Method::Get | Method::Head | Method::Delete)
 }
 
 /// Whether a route has a method.
@@ -153,10 +135,10 @@ pub fn allows(route: Route, method: Method) -> bool
 {
     match route {
         Route::Ingest(_) => is_sent(method),
-        Route::Finish(_) => is_post(method),
-        Route::CatchUp => is_post(method),
-        Route::Job(_) => is_read_or_deleted(method),
-        _ => is_read(method),
+        Route::Finish(_) => matches!(method, Method::Post),
+        Route::CatchUp => matches!(method, Method::Post),
+        Route::Job(_) => matches!(method, Method::Get | Method::Head | Method::Delete),
+        _ => matches!(method, Method::Get | Method::Head),
     }
 }
 

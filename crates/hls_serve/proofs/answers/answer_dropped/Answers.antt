@@ -6,7 +6,7 @@ use Rattle.hls_serve.proofs.answers.answer_dropped.Goals as goal
 
 pub returns-then-not-is_made-clause-answers : goal.returns-then-not-is_made-clause-answers
 returns-then-not-is_made-clause-answers g c = λ count stream first unread x. record {
-  dropped = record { at = x.at; route = x.route; dropped = rw c.in-Ok.is at x.dropped; replied = tt };
+  dropped = record { at = x.at; route = x.route; dropped = rw c.in-Ok.is at x.dropped; replied = λ end is. cc };
   answers = rw (c.requires.none, c.in-Ok-respond.is) at (c.respond.ensures.answers count x.at.head x.at.is_call x.route);
 }
 
@@ -31,5 +31,4 @@ returns-in-Err-TooLarge-clause-answers g c = λ count stream first unread x.
 pub returns-in-Err-Stopped-clause-answers : goal.returns-in-Err-Stopped-clause-answers
 returns-in-Err-Stopped-clause-answers g c = λ count stream first unread x.
     let is : c.args.dropped ≡ Err (drops.Stopped c.in-Err-Stopped.field-0-0) = search rules in
-    let bad = rw is at x.replied in
-    replies_dropped x c.args.acts.now (λ due due_is. rw (is, bad) (c.requires.none, due_is)) (c.refuse-in-Err-Stopped.ensures count x.at.head (request_of count x.at.head).plan x.at.is_call)
+    replies_dropped x c.args.acts.now (λ due due_is. rw (is, x.replied _ is) (c.requires.none, due_is)) (c.refuse-in-Err-Stopped.ensures count x.at.head (request_of count x.at.head).plan x.at.is_call)

@@ -28,5 +28,4 @@ returns-in-Err-Memory g c = λ count stream first unread x.
 pub returns-in-Err-Stopped : goal.returns-in-Err-Stopped
 returns-in-Err-Stopped g c = λ count stream first unread x.
     let is : c.args.fed ≡ Err (came.Stopped c.in-Err-Stopped.field-0-0) = search rules in
-    let bad = rw is at x.replied in
-    replies_fed x (λ d due_of. rw (is, bad) due_of) (c.refuse.ensures count x.at.head (request_of count x.at.head).plan x.at.is_call)
+    replies_fed x (λ d due_of. rw (is, x.replied _ is) due_of) (c.refuse.ensures count x.at.head (request_of count x.at.head).plan x.at.is_call)

@@ -7,9 +7,9 @@ use Rattle.hls_serve.proofs.ingest.Encoder.take_unit.Goals as goal
 
 pub submit-requires : goal.submit-requires
 submit-requires g c =
-    let is : IsUnit c.in-Some.init c.args.bytes c.in-Ok-read_facts.facts = search rules in
+    let is : IsUnit c.in-Some.init c.args.bytes c.in-Ok.facts = search rules in
     let found : c.find_init.new.taken.init ≡ Some c.in-Some.init = search rules in
-    fits_unit c.args.self.now.rendition (g.K.Keeper.known c.find_init.new.keeper) c.find_init.new.taken.init c.in-Some.init c.in-Ok-read_facts.facts c.args.bytes c.find_init.ensures.usable found is
+    fits_unit c.args.self.now.rendition (g.K.Keeper.known c.find_init.new.keeper) c.find_init.new.taken.init c.in-Some.init c.in-Ok.facts c.args.bytes c.find_init.ensures.usable found is
 
 pub returns-in-Ok-submit-clause-usable : goal.returns-in-Ok-submit-clause-usable
 returns-in-Ok-submit-clause-usable g c = c.submit.ensures.usable c.args.self.now.rendition c.find_init.new.taken.init c.find_init.ensures.usable
@@ -25,8 +25,8 @@ returns-in-Err-submit-clause-leads g c = acted_on _ _ _ _ _ _ c.find_init.ensure
 
 pub returns-in-Err-submit-clause-comes : goal.returns-in-Err-submit-clause-comes
 returns-in-Err-submit-clause-comes g c =
-    let is : IsUnit c.in-Some.init c.args.bytes c.in-Ok-read_facts.facts = search rules in
+    let is : IsUnit c.in-Some.init c.args.bytes c.in-Ok.facts = search rules in
     let found : c.find_init.new.taken.init ≡ Some c.in-Some.init = search rules in
     let y = progress_of c.find_init.new.taken in
-    rw c.refused.ensures (unit_refused c.args.self.now.rendition (progress_of c.args.taken.now) y (record y { acts = c.submit.new.acts }) c.args.bytes c.in-Some.init c.in-Ok-read_facts.facts
-    c.in-Err-submit.refusal c.in-Ok.ensures.finds found is refl c.in-Err-submit.ensures.submits)
+    rw c.refused.ensures (unit_refused c.args.self.now.rendition (progress_of c.args.taken.now) y (record y { acts = c.submit.new.acts }) c.args.bytes c.in-Some.init c.in-Ok.facts
+    c.in-Err-submit.refusal c.in_ok-find_init.ensures.finds found is refl c.in-Err-submit.ensures.submits)

@@ -1,15 +1,27 @@
-use Rattle.std.proofs.Common.{◌≡◌, ◌++◌, rules, subst, sym}
-use Rattle.hls_serve_laws.specs.Acts.{Acted}
-use Rattle.hls_serve.specs.declared.machine.State.{State}
-use Rattle.hls_serve.specs.declared.machine.State.TheVariants as states
-use Rattle.hls_serve.specs.Machine.{asked_in, asked_now, total}
+use Rattle.std.proofs.Common.{◌≡◌, ◌∙◌, ◌++◌, [], List, append_assoc, ap, rules}
+use Rattle.std.proofs.lemmas.List.{nil_from_length}
+use Rattle.hls_serve_laws.specs.Acts.{Act}
+use Rattle.hls_serve_laws.proofs.Callers.{acted_follows}
+use Rattle.hls_serve.specs.Machine.{asked_in, asked_now}
+use Rattle.hls_serve.proofs.{HoldLaws.asked_more, PassLaws.acted_behind}
 use Rattle.hls_serve.proofs.machine.Machine.step.Goals as goal
 
-pub returns-in-Make-clause-leads : goal.returns-in-Make-clause-leads
-returns-in-Make-clause-leads g c =
-    let a = g.K.Keeper.known c.args.keeper.now in
-    let is : c.args.self.now.state ≡ states.Make c.in-Make.making = search rules in
-    subst (λ (s : State). Acted a (asked_in c.args.self.now ++ asked_now s) a (total c.make_on.new.self)) (sym is) (c.make_on.ensures.leads a)
+pub returns-clause-goes : goal.returns-clause-goes
+returns-clause-goes g c = λ received sent h.
+    let m = c.args.self.now in
+    let empty : m.output ≡ [] = nil_from_length m.output (search rules) in
+    let more = asked_more m.asked.items c.and-self.result.items _ _ c.and-self.ensures in
+    rw (c.put.ensures, c.put-2.ensures, more) (c.step_from-step.ensures.comes received sent (asked_in m) (rw (empty, ← c.replace-state.ensures.value) at h))
 
-pub returns-in-Make-clause-suits : goal.returns-in-Make-clause-suits
-returns-in-Make-clause-suits g c = (c.requires.suits.0, c.make_on.ensures.suits (g.K.Keeper.known c.args.keeper.now) c.requires.suits.0)
+pub returns-clause-leads : goal.returns-clause-leads
+returns-clause-leads g c =
+    let m = c.args.self.now in
+    let step = c.step_from-step.result in
+    let more = asked_more m.asked.items c.and-self.result.items _ _ c.and-self.ensures in
+    let all = ap (λ (t : List Act). t ++ asked_now step.state) more ∙ append_assoc (asked_in m) step.acts (asked_now step.state) in
+    let leads = rw c.replace-state.ensures.value at c.step_from-step.ensures.asks.leads in
+    rw c.put.ensures (acted_behind (asked_in m) _ _ (asked_now m.state) all leads)
+
+pub returns-clause-suits : goal.returns-clause-suits
+returns-clause-suits g c =
+    ((acted_follows _ _ _ _ c.requires.suits.0 c.step_from-step.ensures.asks.leads).0, rw c.put.ensures c.step_from-step.ensures.asks.suits)
