@@ -5,9 +5,9 @@ use Rattle.hls_http.specs.declared.drain.DropEnd.{DropEnd}
 use Rattle.hls_serve_laws.specs.{declared.ingest.Intake.Intake, declared.route.Route.Route, Acts.Act}
 use Rattle.hls_serve_laws.specs.Heard.{Due, FeedsBy, FollowsBy, Heard, IsFed, IsSkipped, SkipsBy, first_of, request_of}
 use Rattle.hls_serve.specs.{declared.call.Call.Call, declared.ending.Ending.Ending, declared.dropping.Dropping.Dropping}
-use Rattle.hls_serve.specs.{declared.feeding.Feeding.Feeding, Taken.progress_of, Turns.Replies}
+use Rattle.hls_serve.specs.{declared.feeding.Feeding.Feeding, Taken.progress_of, Calls.Replies}
 use Rattle.hls_serve.specs.Within.{HasBody, IsDropped, IsFedUp, RepliesTo}
-use Rattle.hls_serve.proofs.TurnLaws.{replies_by}
+use Rattle.hls_serve.proofs.CallLaws.{replies_by}
 
 -- what is read behind a head is heard as its plan says
 heard : {count : ℕ} {stream first : List ℕ} {call : Call} {plan : Body → Plan} {last : Body} {unread : List ℕ} (at : HasBody count stream first call plan last unread) (acts : List Act) (due : Due) (later : List ℕ)

@@ -15,9 +15,9 @@ use Rattle.hls_serve.specs.{declared.call.Call.Call, declared.ending.Ending.Endi
 use Rattle.hls_serve.specs.{declared.feeding.Feeding.Feeding, declared.making.Making.Making, declared.machine.State.State, Taken.progress_of}
 use Rattle.hls_serve.specs.declared.machine.State.TheVariants as states
 use Rattle.hls_serve.specs.Machine.{GoesOnIn, Holds, StandsIn, asked_now, stage_of, state_behind, waited_head}
-use Rattle.hls_serve.specs.Turns.{IsCall, Replies, end_by}
+use Rattle.hls_serve.specs.Calls.{IsCall, Replies, end_by}
 use Rattle.hls_serve.specs.Within.{HasBody, IsDropping, IsFeeding, IsMaking, RepliesTo}
-use Rattle.hls_serve.proofs.TurnLaws.{replies_by}
+use Rattle.hls_serve.proofs.CallLaws.{replies_by}
 
 -- ---- lists
 

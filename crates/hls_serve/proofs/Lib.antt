@@ -3,5 +3,5 @@ mod HoldLaws
 mod PassLaws
 mod SessionLaws
 mod TalkLaws
-mod TurnLaws
+mod CallLaws
 mod WithinLaws

@@ -18,7 +18,7 @@ use Rattle.hls_serve.specs.declared.machine.State.TheVariants as states
 use Rattle.hls_serve.specs.declared.place.Place.TheVariants as places
 use Rattle.hls_serve.specs.Machine.{GoesOnIn, IsOver, stage_of, total}
 use Rattle.hls_serve.specs.Places.{IsFresh, connection_of}
-use Rattle.hls_serve.specs.Talking.{Ended, Led, Moment}
+use Rattle.hls_serve.specs.Moments.{Ended, Led, Moment}
 use Rattle.hls_serve.specs.Talks.{Advances, Connection, RestsAt, WantsMore, hears, history_of, sends}
 use Rattle.hls_serve.proofs.HoldLaws.{holds_more, holds_sent, served_of}
 use Rattle.hls_serve.proofs.TalkLaws.{idle_holds, suited_new}

@@ -1,15 +1,15 @@
+pub mod Calls
 pub mod Counted
 pub mod Endings
 pub mod Exchanges
 pub mod Histories
 pub mod Machine
 pub mod Meanwhile
+pub mod Moments
 pub mod Noted
 pub mod Places
 pub mod Taken
 pub mod Talks
-pub mod Talking
 pub mod Told
-pub mod Turns
 pub mod Visits
 pub mod Within

@@ -14,12 +14,12 @@ use Rattle.hls_serve_laws.specs.declared.ingest.Intake.TheVariants as came
 use Rattle.hls_serve_laws.specs.declared.route.Route.TheVariants as routes
 use Rattle.hls_serve_laws.specs.Heard.{Drops, Heard, asks_of, first_of, request_of}
 use Rattle.hls_serve_laws.specs.Ingest.{BodyComes, PartComes, begun}
-use Rattle.hls_serve.specs.{declared.answers.Answered.Answered, declared.call.Call.Call, declared.dropping.Dropping.Dropping}
-use Rattle.hls_serve.specs.declared.answers.Answered.TheVariants.{Now, Later}
+use Rattle.hls_serve.specs.{declared.after_body.Answered.Answered, declared.call.Call.Call, declared.dropping.Dropping.Dropping}
+use Rattle.hls_serve.specs.declared.after_body.Answered.TheVariants.{Now, Later}
 use Rattle.hls_serve.specs.{declared.ending.Ending.Ending, declared.feeding.Feeding.Feeding, declared.making.Making.Making}
 use Rattle.hls_serve.specs.{declared.next.Next.Next, Taken.progress_of}
 use Rattle.hls_serve.specs.declared.next.Next.TheVariants.{More, Wait, Over}
-use Rattle.hls_serve.specs.Turns.{IsCall, IsResponse, Replies}
+use Rattle.hls_serve.specs.Calls.{IsCall, IsResponse, Replies}
 
 -- at the front of the stream, whatever follows it, stand a head, of which this was kept, and some of a body, which now stands so; this
 -- was written for it first

@@ -8,7 +8,7 @@ ghost use Rattle.hls_http.specs.{Drained.announced_by, Heads.IsHead};
 ghost use Rattle.hls_serve_laws.specs.Heard.{asks_of, plan_for};
 ghost use Rattle.hls_serve_laws.specs.Queries.{query_in};
 ghost use Rattle.hls_serve_laws.specs.Routes as spec;
-ghost use Rattle.hls_serve.specs.Turns.{IsCall};
+ghost use Rattle.hls_serve.specs.Calls.{IsCall};
 
 use crate::route::{feeds, route};
 use hls_http::{Head, Plan, plan, split_target};

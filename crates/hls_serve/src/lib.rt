@@ -6,8 +6,9 @@
 #![tactic(auto)]
 
 pub mod acts;
+mod after_body;
 pub mod alone;
-mod answers;
+mod by_route;
 mod call;
 pub mod channel;
 mod dropping;
@@ -23,7 +24,6 @@ mod next;
 pub mod path;
 mod place;
 mod reply;
-mod respond;
 pub mod route;
 pub mod session;
 pub mod station;

@@ -8,10 +8,10 @@ ghost use Rattle.hls_http_laws.specs.Heads.{ReadsSmall};
 ghost use Rattle.hls_serve_laws.specs.{Acts.Acted, Heard.first_of};
 ghost use Rattle.hls_serve.specs.declared.machine.State.TheVariants as states;
 ghost use Rattle.hls_serve.specs.Machine.{AsksBy, AsksNothing, ComesTo, Goes, GoesOnIn, Rests, RestsIn, Suits, SuitsIn, asked_by, asked_now, failure_in, state_behind, step_behind, step_to, total, waited_head};
-ghost use Rattle.hls_serve.specs.{Taken.IsUsable, Turns.IsCall, Within.DropsBody};
+ghost use Rattle.hls_serve.specs.{Taken.IsUsable, Calls.IsCall, Within.DropsBody};
 
 use crate::acts::Acts;
-use crate::answers::{Answered, answer_dropped, answer_fed, ingested};
+use crate::after_body::{Answered, answer_dropped, answer_fed, ingested};
 use crate::call::{Call, plan_of, read_call};
 use crate::dropping::Dropping;
 use crate::ending::Ending;

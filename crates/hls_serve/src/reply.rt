@@ -5,7 +5,7 @@ ghost use Rattle.httparse.specs.Grammar.{RequestHead};
 ghost use Rattle.hls_http_laws.specs.{declared.plan.Plan.Plan as PlanOf, Reply.no_memory_to, Order.says_close as closes_by};
 ghost use Rattle.hls_serve_laws.specs.Heard.{IsDue, IsDueWithoutHead, first_of, to_head as is_for_head};
 ghost use Rattle.hls_serve_laws.specs.Replies as replies;
-ghost use Rattle.hls_serve.specs.Turns.{IsCall, IsMade, Replies, end_by};
+ghost use Rattle.hls_serve.specs.Calls.{IsCall, IsMade, Replies, end_by};
 
 use crate::call::Call;
 use crate::ending::Ending;

@@ -3,7 +3,7 @@
 ghost use Rattle.hls_core_laws.specs.Known.{Known};
 ghost use Rattle.hls_http.specs.Source.{held_of};
 ghost use Rattle.hls_serve.specs.{Counted.SessionCounts, Exchanges.Exchanges};
-ghost use Rattle.hls_serve.specs.Talking.{LeadsOn, moment};
+ghost use Rattle.hls_serve.specs.Moments.{LeadsOn, moment};
 ghost use Rattle.hls_serve.specs.Talks.{IsSuitedTo, WantsMore, connection};
 
 use crate::keeper::Keeper;

@@ -1,6 +1,6 @@
 use Rattle.std.proofs.Common.{refl}
 use Rattle.hls_serve_laws.specs.{Heard.first_of, Replies.fault_answer}
-use Rattle.hls_serve.proofs.TurnLaws.{due_is, replies_by}
+use Rattle.hls_serve.proofs.CallLaws.{due_is, replies_by}
 use Rattle.hls_serve.proofs.reply.refuse.Goals as goal
 
 pub returns : goal.returns

@@ -1,5 +1,5 @@
 use Rattle.std.proofs.Common.{[], refl}
-use Rattle.hls_serve.proofs.TurnLaws.{refused_head_due, replies_by}
+use Rattle.hls_serve.proofs.CallLaws.{refused_head_due, replies_by}
 use Rattle.hls_serve.proofs.reply.refuse_head.Goals as goal
 
 pub returns : goal.returns

@@ -1,7 +1,7 @@
 use Rattle.std.proofs.Common.{◌∙◌, ap, inl, refl}
 use Rattle.hls_http_laws.specs.Reply.{is_success}
-use Rattle.hls_serve.specs.Turns.{end_by, reply_due}
-use Rattle.hls_serve.proofs.TurnLaws.{memory_replies}
+use Rattle.hls_serve.specs.Calls.{end_by, reply_due}
+use Rattle.hls_serve.proofs.CallLaws.{memory_replies}
 use Rattle.hls_serve.proofs.reply.reply_of.Goals as goal
 
 pub returns-in_default : goal.returns-in_default

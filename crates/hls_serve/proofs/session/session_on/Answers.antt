@@ -1,6 +1,6 @@
 use Rattle.std.proofs.Common.{◌∙◌, [], false, refl, ap}
 use Rattle.hls_http.specs.Source.{held_of}
-use Rattle.hls_serve.specs.{declared.talk.Talk.Talk, Talking.moment}
+use Rattle.hls_serve.specs.{declared.talk.Talk.Talk, Moments.moment}
 use Rattle.hls_serve.specs.Talks.{connection, hears}
 use Rattle.hls_serve.proofs.SessionLaws.{led_first}
 use Rattle.hls_serve.proofs.session.session_on.Goals as goal

@@ -1,4 +1,4 @@
-use Rattle.hls_serve.specs.Talking.{Led, moment}
+use Rattle.hls_serve.specs.Moments.{Led, moment}
 use Rattle.hls_serve.proofs.session.session_on.Given as goal
 
 abbrev pub invariant-loop : goal.invariant-loop

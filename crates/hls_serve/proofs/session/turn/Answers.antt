@@ -1,7 +1,7 @@
 use Rattle.std.proofs.Common.{length, subst, sym}
 use Rattle.std.proofs.lemmas.Bool.{eqb-true}
 use Rattle.hls_http_laws.specs.declared.end.SessionEnd.{SessionEnd}
-use Rattle.hls_serve.specs.Talking.{Ended, moment}
+use Rattle.hls_serve.specs.Moments.{Ended, moment}
 use Rattle.hls_serve.specs.Talks.{connection}
 use Rattle.hls_serve.proofs.SessionLaws.{ended_itself, led_advances, rests_open}
 use Rattle.hls_serve.proofs.session.turn.Goals as goal

@@ -1,8 +1,8 @@
 use Rattle.std.proofs.Common.{◌∙◌, ap, rules, sym}
 use Rattle.hls_serve_laws.specs.Heard.{asks_of, shown_if}
 use Rattle.hls_serve_laws.specs.Routes.{allows, removes}
-use Rattle.hls_serve.proofs.TurnLaws.{shown_job}
-use Rattle.hls_serve.proofs.respond.serve_job.Goals as goal
+use Rattle.hls_serve.proofs.CallLaws.{shown_job}
+use Rattle.hls_serve.proofs.by_route.serve_job.Goals as goal
 
 pub returns-in-Ok-clause-answers : goal.returns-in-Ok-clause-answers
 returns-in-Ok-clause-answers g c = λ count h call.

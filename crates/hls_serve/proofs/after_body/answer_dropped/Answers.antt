@@ -1,8 +1,8 @@
 use Rattle.std.proofs.Common.{◌≡◌, Some, Err, rules}
 use Rattle.hls_http.specs.declared.drain.DropEnd.TheVariants as drops
 use Rattle.hls_serve_laws.specs.Heard.{first_of, request_of}
-use Rattle.hls_serve.proofs.{AnswerLaws.replies_dropped, TurnLaws.skipped_wanting}
-use Rattle.hls_serve.proofs.answers.answer_dropped.Goals as goal
+use Rattle.hls_serve.proofs.{AnswerLaws.replies_dropped, CallLaws.skipped_wanting}
+use Rattle.hls_serve.proofs.after_body.answer_dropped.Goals as goal
 
 pub returns-then-not-is_made-clause-answers : goal.returns-then-not-is_made-clause-answers
 returns-then-not-is_made-clause-answers g c = λ count stream first unread x. record {

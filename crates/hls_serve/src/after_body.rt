@@ -6,12 +6,12 @@ ghost use Rattle.hls_serve.specs.Told.{news_of};
 ghost use Rattle.hls_serve.specs.Within.{AnswersTo, DropsBody, IsDropped, IsFedUp, RepliesTo};
 
 use crate::acts::Acts;
+use crate::by_route::respond;
 use crate::dropping::Dropping;
 use crate::feeding::Feeding;
 use crate::keeper::Keeper;
 use crate::news::{Ingested, News, Observer};
 use crate::reply::{Reply, refuse, reply_with};
-use crate::respond::respond;
 use hls_http::{DropEnd, HttpFault, is_over};
 use hls_replies::{Answer, refused_answer, taken_answer};
 use hls_serve_laws::ingest::Intake;

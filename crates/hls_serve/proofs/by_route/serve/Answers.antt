@@ -1,6 +1,6 @@
 use Rattle.std.proofs.Common.{◌∙◌, Some, ap, rules}
 use Rattle.hls_serve_laws.specs.Routes.{query_of}
-use Rattle.hls_serve.proofs.respond.serve.Goals as goal
+use Rattle.hls_serve.proofs.by_route.serve.Goals as goal
 
 pub returns-in-Finish-clause-answers : goal.returns-in-Finish-clause-answers
 returns-in-Finish-clause-answers g c = λ count h call there. rw c.in-Finish.is c.finish.ensures.answers

@@ -1,6 +1,6 @@
 use Rattle.std.proofs.Common.{Ok, Err, rules}
-use Rattle.hls_serve.proofs.TurnLaws.{finish_made}
-use Rattle.hls_serve.proofs.respond.finish.Goals as goal
+use Rattle.hls_serve.proofs.CallLaws.{finish_made}
+use Rattle.hls_serve.proofs.by_route.finish.Goals as goal
 
 pub returns-in-Ok-clause-answers : goal.returns-in-Ok-clause-answers
 returns-in-Ok-clause-answers g c =

@@ -1,6 +1,6 @@
 use Rattle.std.proofs.Common.{◌≡◌, true, ap, sym, ◌∙◌}
 use Rattle.hls_serve_laws.specs.{Heard.asks_of, Routes.allows}
-use Rattle.hls_serve.proofs.respond.show_found.Goals as goal
+use Rattle.hls_serve.proofs.by_route.show_found.Goals as goal
 
 pub returns-in-JobFile : goal.returns-in-JobFile
 returns-in-JobFile c = λ count h call.

@@ -1,8 +1,8 @@
 use Rattle.std.proofs.Common.{◌≡◌, ◌∙◌, None, ap, sym, rules}
 use Rattle.hls_serve_laws.specs.Heard.{asks_of, job_at}
 use Rattle.hls_serve_laws.specs.Routes.{allows}
-use Rattle.hls_serve.proofs.TurnLaws.{job_made, response_made}
-use Rattle.hls_serve.proofs.respond.respond.Goals as goal
+use Rattle.hls_serve.proofs.CallLaws.{job_made, response_made}
+use Rattle.hls_serve.proofs.by_route.respond.Goals as goal
 
 pub returns-in-Some-clause-answers : goal.returns-in-Some-clause-answers
 returns-in-Some-clause-answers g c = λ count h call there.

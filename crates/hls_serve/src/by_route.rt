@@ -5,7 +5,7 @@ ghost use Rattle.hls_serve_laws.specs.Heard.{AsksFor, CatchesUp, Finishes, Serve
 ghost use Rattle.hls_serve_laws.specs.Routes as spec;
 ghost use Rattle.hls_serve_laws.specs.Heard as heard;
 ghost use Rattle.hls_serve_laws.specs.Acts.{Acted};
-ghost use Rattle.hls_serve.specs.Turns.{IsResponse, Makes, MakesBy, OfCall, OfCallTo, OfQuery};
+ghost use Rattle.hls_serve.specs.Calls.{IsResponse, Makes, MakesBy, OfCall, OfCallTo, OfQuery};
 
 use crate::acts::{Acts, look, submit};
 use crate::call::{Call, Queried};

@@ -3,8 +3,8 @@ use Rattle.hls_http_laws.specs.Order.{is_over}
 use Rattle.hls_serve_laws.specs.declared.ingest.Intake.TheVariants as came
 use Rattle.hls_serve_laws.specs.Heard.{first_of, refused_answer, request_of, taken_answer}
 use Rattle.hls_serve.specs.Taken.{progress_of}
-use Rattle.hls_serve.proofs.{AnswerLaws.replies_fed, TurnLaws.due_is}
-use Rattle.hls_serve.proofs.answers.answer_fed.Goals as goal
+use Rattle.hls_serve.proofs.{AnswerLaws.replies_fed, CallLaws.due_is}
+use Rattle.hls_serve.proofs.after_body.answer_fed.Goals as goal
 
 pub returns-in-Ok : goal.returns-in-Ok
 returns-in-Ok g c = λ count stream first unread x.

@@ -13,7 +13,7 @@ use Rattle.hls_serve_laws.specs.Heard.{Asks, Due, Request, Finishes, IsDue, IsDu
 use Rattle.hls_serve_laws.specs.Replies.{Answer, answer_text, fault_answer, finish_answer}
 use Rattle.hls_serve_laws.specs.Routes.{allows, removes}
 use Rattle.hls_serve.specs.declared.ending.Ending.{Ending}
-use Rattle.hls_serve.specs.Turns.{IsMade, IsResponse, Makes, Replies, end_by, memory_due, reply_due}
+use Rattle.hls_serve.specs.Calls.{IsMade, IsResponse, Makes, Replies, end_by, memory_due, reply_due}
 use Rattle.hls_serve.proofs.PassLaws.{nothing_asked}
 
 -- ---- replies
