@@ -1,23 +1,19 @@
 //! A connection with or without memory of its own: while it is idle it has its notes alone, which take none.
 
-ghost use Rattle.std.specs.Prelude.{◌≡◌, ◌≤◌, length, IfOk, IsFalse, IsTrue, OnErr, OnOk};
+ghost use Rattle.std.specs.Prelude.{◌≡◌, ◌≤◌, length, IsTrue, OnOk};
 ghost use Rattle.hls_serve.specs.declared.place.Place.TheVariants as places;
-ghost use Rattle.hls_serve.specs.Histories.{Reads, ReadsInVain};
 ghost use Rattle.hls_serve.specs.Places.{IsBusy, IsFresh, IsIdle, connection_of, talk_of, unread_of};
-ghost use Rattle.hls_serve.specs.Talks.{Advances, HoldsOf, IsSuitedTo, RestsAt, WantsMore, history_of, sends};
+ghost use Rattle.hls_serve.specs.Talks.{sends};
 
 use crate::acts::Acts;
-use crate::keeper::Keeper;
 use crate::machine::{Machine, State};
-use crate::news::Observer;
 use crate::talk::Talk;
 use hls_http::Input;
 use hls_output::Output;
 use hls_replies::Body;
 use http_server::Log;
 use std::alloc::{AllocError, Global};
-use std::io::Read;
-use std::{io, mem};
+use std::mem;
 
 /// A connection between two requests, of which nothing is unread and for which nothing waits.
 #[derive(Drop)]
@@ -45,7 +41,7 @@ pub(crate) enum Place {
 }
 
 /// Gives the input's buffer back between two requests, where nothing is unread.
-fn release(input: &mut Input, state: &State)
+pub(crate) fn release(input: &mut Input, state: &State)
     ensures { input.new.unread ≡ input.old.unread }
 {
     match state {
@@ -121,7 +117,7 @@ impl Busy {
 
 impl Place {
     /// Takes memory where there is none; where that is wanted, nothing has changed.
-    fn wake(&mut self, alloc: Global) -> Result<(), AllocError>
+    pub fn wake(&mut self, alloc: Global) -> Result<(), AllocError>
         ensures talk { talk_of self.new ≡ talk_of self.old }
         ensures unread { unread_of self.new ≡ unread_of self.old }
         ensures busy { OnOk result (IsBusy self.new) }
@@ -148,7 +144,7 @@ impl Place {
     }
 
     /// Gives its memory back where nothing is to be done.
-    fn rest(&mut self)
+    pub fn rest(&mut self)
         ensures talk { talk_of self.new ≡ talk_of self.old }
         ensures unread { unread_of self.new ≡ unread_of self.old }
     {
@@ -158,43 +154,6 @@ impl Place {
             }
             place => *self = place,
         }
-    }
-
-    /// Reads once behind what is unread; no byte is the input's end. After an error nothing has changed.
-    pub fn read_from<R: Read>(&mut self, alloc: Global, reader: &mut R) -> io::Result<usize>
-        requires wants { WantsMore (connection_of self.old) }
-        ensures ok { IfOk result (Reads (history_of (connection_of self.old)) (history_of (connection_of self.new))
-            (R.remaining reader.old) (R.remaining reader.new)) }
-        ensures err { OnErr result (ReadsInVain (history_of (connection_of self.old)) (history_of (connection_of self.new))
-            (R.remaining reader.old) (R.remaining reader.new)) }
-        ensures holds { HoldsOf (connection_of self.old) → HoldsOf (connection_of self.new) }
-        ensures machine { (connection_of self.new).machine ≡ (connection_of self.old).machine }
-    {
-        self.wake(alloc)?;
-        let Place::Busy(busy) = self else {
-            unreachable!();
-        };
-        let busy = &mut **busy;
-        let read = busy.talk.read_from(&mut busy.input, reader);
-        self.rest();
-        read
-    }
-
-    /// Goes on until it rests, or others are to have their turn, and gives its memory back where nothing is to be done. Whether there
-    /// may be more to do at once.
-    pub fn advance<K: Keeper, O: Observer>(&mut self, keeper: &mut K, observer: &O) -> bool
-        requires suits { IsSuitedTo (K.known keeper.old) (connection_of self.old).machine }
-        ensures advances { Advances (K.known keeper.old) (connection_of self.old) (K.known keeper.new) (connection_of self.new) }
-        ensures rests { IsFalse result → RestsAt (connection_of self.new) }
-    {
-        let Place::Busy(busy) = self else {
-            return false;
-        };
-        let busy = &mut **busy;
-        let more = busy.talk.advance(&mut busy.input, keeper, observer);
-        release(&mut busy.input, &busy.talk.machine.state);
-        self.rest();
-        more
     }
 
     /// So many of the bytes that wait were handed out.

@@ -11,7 +11,7 @@ ghost use Rattle.hls_serve.specs.{Places.connection_of, Talks.HoldsOf};
 use crate::keeper::Keeper;
 use crate::machine::State;
 use crate::news::{News, Observer};
-use crate::place::{Idle, Place};
+use crate::place::{Idle, Place, release};
 use hls_http::SessionEnd;
 use std::alloc::Global;
 use std::io;
@@ -75,7 +75,14 @@ impl Visit {
         ensures renditions { renditions_of self.new ≡ renditions_of self.old }
         ensures suits { (known : Known) → Suits known self.old → Suits known self.new }
     {
-        self.place.read_from(self.alloc, reader)
+        self.place.wake(self.alloc)?;
+        let Place::Busy(busy) = &mut self.place else {
+            unreachable!();
+        };
+        let busy = &mut **busy;
+        let read = busy.talk.read_from(&mut busy.input, reader);
+        self.place.rest();
+        read
     }
 
     /// Answers what was received, until something waits to be handed out, more is to be read, or all is over; and pauses behind so
@@ -90,7 +97,14 @@ impl Visit {
         ensures quiet { StaysQuiet (history self.old) (history self.new) }
         ensures renditions { renditions_of self.new ≡ renditions_of self.old }
     {
-        self.place.advance(keeper, observer)
+        let Place::Busy(busy) = &mut self.place else {
+            return false;
+        };
+        let busy = &mut **busy;
+        let more = busy.talk.advance(&mut busy.input, keeper, observer);
+        release(&mut busy.input, &busy.talk.machine.state);
+        self.place.rest();
+        more
     }
 
     /// The next bytes to hand out; none only where nothing waits.

@@ -3,9 +3,13 @@ use Rattle.hls_serve_laws.proofs.Callers.{acted_follows}
 use Rattle.hls_serve.proofs.TalkLaws.{suited_valid}
 use Rattle.hls_serve.proofs.visit.Visit.advance.Goals as goal
 
-pub invariant_of-self : goal.invariant_of-self
-invariant_of-self g c = record { holds = ∥∥₁_map c.args.self.now.holds c.advance.ensures.advances.holds }
+pub invariant_of-self-2 : goal.invariant_of-self-2
+invariant_of-self-2 g c = record {
+  holds = ∥∥₁_map c.args.self.now.holds (λ h.
+      let held = c.advance-more.ensures.advances.holds (rw c.deref_mut-busy.ensures.value (rw c.in-Busy.is at h)) in
+      rw (c.rest.ensures.talk, c.rest.ensures.unread, c.release.ensures) held);
+}
 
 pub returns-clause-later : goal.returns-clause-later
 returns-clause-later g c =
-    (acted_follows (g.K.Keeper.known c.args.keeper.now) (g.K.Keeper.known c.advance.new.keeper) _ _ (suited_valid c.requires.suits) c.advance.ensures.advances.acted).1
+    (acted_follows (g.K.Keeper.known c.args.keeper.now) (g.K.Keeper.known c.advance-more.new.keeper) _ _ (suited_valid c.requires.suits) c.advance-more.ensures.advances.acted).1
