@@ -131,15 +131,16 @@ fn wait_head(empty: bool, ended: bool) -> Step
     }
 }
 
-/// 100 Continue, where it is waited for and the body will be read.
-fn first_output(call: &Call, plan: Plan) -> Output<Body>
-    ensures { (count : ℕ) (h : RequestHead) → IsCall count h call.now → result ≡ first_of h plan }
+/// Goes on with a body. 100 Continue is handed out, where it is waited for and the body will be read.
+fn begin(call: &Call, plan: Plan, state: State) -> Step
+    ensures is { result ≡ record (step_to state true) { output = result.output } }
+    ensures first { (count : ℕ) (h : RequestHead) → IsCall count h call.now → result.output ≡ first_of h plan }
 {
+    let mut step = Step::to(state, true);
     if continues(&call.head, plan) {
-        Output::of_fixed(continue_text())
-    } else {
-        Output::new()
+        put(&mut step.output, Output::of_fixed(continue_text()));
     }
+    step
 }
 
 /// Goes on behind a head as its plan says.
@@ -164,12 +165,7 @@ fn follow<O: Observer>(alloc: Global, observer: &O, call: Call) -> Step
                     reader: UnitReader::new(alloc),
                     taken: Taken::none(),
                 };
-                Step {
-                    state: State::Feed(feeding),
-                    output: first_output(&call, plan),
-                    acts: Acts::none(),
-                    more: true,
-                }
+                begin(&call, plan, State::Feed(feeding))
             }
             _ => unreachable!(),
         },
@@ -181,12 +177,7 @@ fn follow<O: Observer>(alloc: Global, observer: &O, call: Call) -> Step
                     body,
                     room: MOST_DROPPED - announced(body),
                 };
-                Step {
-                    state: State::Drop(dropping),
-                    output: first_output(&call, plan),
-                    acts: Acts::none(),
-                    more: true,
-                }
+                begin(&call, plan, State::Drop(dropping))
             }
             None => unreachable!(),
         },

@@ -15,18 +15,18 @@ returns-in-Refuse-clause-comes g c = λ count ended before unread h reads call r
 
 pub returns-in-Some-Ingest-clause-comes : goal.returns-in-Some-Ingest-clause-comes
 returns-in-Some-Ingest-clause-comes g c = λ count ended before unread h reads call received sent asked x.
-    let text = c.first_output.result in
+    let text = c.begin.result.output in
     let plan = sym (c.plan_of-plan.ensures.plan count h call) ∙ c.in-Feed.is in
-    let first = c.first_output.ensures count h call ∙ ap (first_of h) (sym plan) in
+    let first = c.begin.ensures.first count h call ∙ ap (first_of h) (sym plan) in
     let comes = PartComes c.in-Some-Ingest.rendition in
     let reached : Reached comes begun [] c.new.result (progress_of c.none-in-Some-Ingest.result) = rw (c.new.ensures, c.none-in-Some-Ingest.ensures) (reached_none comes begun) in
-    rw c.none-in-Some-Ingest-2.ensures (begins x refl reads call text (record { at = has_body x refl reads call Feed c.in-Feed.body text plan first; route = search rules; reached = reached }, refl))
+    rw c.begin.ensures.is (begins x refl reads call text (record { at = has_body x refl reads call Feed c.in-Feed.body text plan first; route = search rules; reached = reached }, refl))
 
 pub returns-in-Some-clause-comes : goal.returns-in-Some-clause-comes
 returns-in-Some-clause-comes g c = λ count ended before unread h reads call received sent asked x.
-    let text = c.first_output-in-Some.result in
+    let text = c.begin-in-Some.result.output in
     let plan = sym (c.plan_of-plan.ensures.plan count h call) ∙ c.in-Skip.is in
-    let first = c.first_output-in-Some.ensures count h call ∙ ap (first_of h) (sym plan) in
+    let first = c.begin-in-Some.ensures.first count h call ∙ ap (first_of h) (sym plan) in
     let fits = c.plan_of-plan.ensures.fits c.in-Skip.body c.in-Skip.is in
-    rw c.none-in-Some.ensures (begins x refl reads call text
+    rw c.begin-in-Some.ensures.is (begins x refl reads call text
     (record { at = has_body x refl reads call Skip c.in-Skip.body text plan first; route = c.in-Some.is; all = omega (arith, c.announced.ensures, fits) }, refl))
