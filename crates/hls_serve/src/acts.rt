@@ -1,11 +1,9 @@
 //! What a keeper was asked, and what it told: noted for proofs alone. It takes no memory, and nothing is done at run time.
 
-ghost use Rattle.std.specs.Prelude.{◌≡◌, ℕ, Option, IfOk, [], ◌∷◌, ◌++◌};
-ghost use Rattle.hls_media_laws.specs.InitData.{InitData};
+ghost use Rattle.std.specs.Prelude.{◌≡◌, IfOk, [], ◌∷◌, ◌++◌};
 ghost use Rattle.hls_core_laws.specs.Moves.{IsFittingAsSeen};
 ghost use Rattle.hls_serve_laws.specs.Acts.{Acted, Submits};
 ghost use Rattle.hls_serve.specs.Noted.{LookedSo, act_of};
-ghost use Rattle.hls_serve.specs.Taken.{IsUsable};
 
 use crate::keeper::Keeper;
 use hls_core::snapshot::Snapshot;
@@ -65,7 +63,6 @@ pub fn look<K: Keeper>(keeper: &mut K, acts: &mut Acts) -> Result<Arc<Snapshot>,
     ensures looks { LookedSo acts.old result acts.new }
     ensures seen { IfOk result (λ s. (K.known keeper.new).seen ≡ s.value) }
     ensures leads { Acted (K.known keeper.old) acts.old (K.known keeper.new) acts.new }
-    ensures usable { (r : ℕ) (found : Option InitData) → IsUsable r (K.known keeper.old) found → IsUsable r (K.known keeper.new) found }
 {
     match keeper.look() {
         Ok(state) => {
@@ -85,7 +82,6 @@ pub fn submit<K: Keeper>(keeper: &mut K, acts: &mut Acts, event: Event) -> Resul
     requires { IsFittingAsSeen (K.known keeper.old).seen event }
     ensures submits { Submits acts.old event result acts.new }
     ensures leads { Acted (K.known keeper.old) acts.old (K.known keeper.new) acts.new }
-    ensures usable { (r : ℕ) (found : Option InitData) → IsUsable r (K.known keeper.old) found → IsUsable r (K.known keeper.new) found }
 {
     let note = Log::new().and(&event, &());
     let done = keeper.submit(event);

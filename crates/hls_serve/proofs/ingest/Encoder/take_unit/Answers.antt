@@ -2,7 +2,7 @@ use Rattle.std.proofs.Common.{◌≡◌, Some, refl, rules}
 use Rattle.hls_media_laws.specs.Meaning.{IsUnit}
 use Rattle.hls_serve_laws.proofs.Callers.{acted_on}
 use Rattle.hls_serve.specs.Taken.{progress_of}
-use Rattle.hls_serve.proofs.PassLaws.{fits_unit, unit_refused}
+use Rattle.hls_serve.proofs.PassLaws.{fits_unit, unit_refused, usable_acted}
 use Rattle.hls_serve.proofs.ingest.Encoder.take_unit.Goals as goal
 
 pub submit-requires : goal.submit-requires
@@ -12,10 +12,10 @@ submit-requires g c =
     fits_unit c.args.self.now.rendition (g.K.Keeper.known c.find_init.new.keeper) c.find_init.new.taken.init c.in-Some.init c.in-Ok.facts c.args.bytes c.find_init.ensures.usable found is
 
 pub returns-in-Ok-submit-clause-usable : goal.returns-in-Ok-submit-clause-usable
-returns-in-Ok-submit-clause-usable g c = c.submit.ensures.usable c.args.self.now.rendition c.find_init.new.taken.init c.find_init.ensures.usable
+returns-in-Ok-submit-clause-usable g c = usable_acted _ _ _ _ _ _ c.submit.ensures.leads c.find_init.ensures.usable
 
 pub returns-in-Err-submit-clause-usable : goal.returns-in-Err-submit-clause-usable
-returns-in-Err-submit-clause-usable g c = c.submit.ensures.usable c.args.self.now.rendition c.find_init.new.taken.init c.find_init.ensures.usable
+returns-in-Err-submit-clause-usable g c = usable_acted _ _ _ _ _ _ c.submit.ensures.leads c.find_init.ensures.usable
 
 pub returns-in-Ok-submit-clause-leads : goal.returns-in-Ok-submit-clause-leads
 returns-in-Ok-submit-clause-leads g c = acted_on _ _ _ _ _ _ c.find_init.ensures.leads c.submit.ensures.leads
