@@ -33,13 +33,10 @@ pub struct Ingest<'a> {
 impl<'a> Display for Ingest<'a> {
     fn fmt<W: Write>(&self, f: &mut Formatter<W>) -> fmt::Result {
         let (how, fault) = ended_as(self.ended);
-        let counts = self.counts;
-        write!(f, "ingest {} from {}: {how}{fault}", self.name, self.peer)?;
-        write!(
-            f,
-            " init {} accepted {} repeated {}",
-            counts.inits, counts.units, counts.repeats
-        )
+        let (name, peer, counts) = (self.name, self.peer, self.counts);
+        let (inits, units, repeats) = (counts.inits, counts.units, counts.repeats);
+        write!(f, "ingest {name} from {peer}: {how}{fault}")?;
+        write!(f, " init {inits} accepted {units} repeated {repeats}")
     }
 }
 
