@@ -101,6 +101,7 @@ fn find_size(held: &[u8]) -> Result<Move, Lack>
 }
 
 /// The trailers.
+#[tactic(auto, using(crate::proofs::BodySteps::trailers_frame))]
 fn find_trailers(held: &[u8]) -> Result<Move, Lack>
     ensures { Moves Body.Trailers held.now result }
 {

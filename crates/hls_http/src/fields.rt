@@ -28,6 +28,7 @@ fn value_named<'a>(text: &'a [u8], header: &HeaderSpan, name: &[u8]) -> Option<&
 }
 
 /// The first value of this name among the fields from one on, and the number of the field behind it.
+#[tactic(auto, using(crate::proofs::Values::none_comes, crate::proofs::Values::none_left, crate::proofs::Values::value_comes))]
 fn find_value<'a>(
     text: &'a [u8],
     headers: &[HeaderSpan],

@@ -107,6 +107,7 @@ fn kept(text: &[u8], headers: &[HeaderSpan], spans: &RequestSpans) -> Head
 }
 
 /// The head at the front of a text, and its length with that of the empty lines before it. No memory is taken.
+#[tactic(auto, using(crate::proofs::HeadLaws::head_past, crate::proofs::HeadLaws::partial_past))]
 pub fn find_head(text: &[u8]) -> Result<(Head, usize), Look>
     ensures { Finds text.now result }
 {

@@ -16,6 +16,7 @@ pub fn find_byte(text: &[u8], byte: u8) -> Option<usize>
 }
 
 /// The number that digits write, or 2^53 where it is larger.
+#[tactic(auto, using(crate::proofs::Digits::capped_more, crate::proofs::Digits::digit_here))]
 pub fn capped_value(digits: &[u8]) -> u64
     requires { all_ascii_digits digits.now ≡ true }
     ensures { result ≡ number_in digits.now }

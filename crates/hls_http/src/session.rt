@@ -50,6 +50,7 @@ impl<R: Drop, W: Drop> Session<R, W> {
 impl<R: Read, W> Session<R, W> {
     /// Takes the next head, reading as much as it needs. The head's text is then what the source has taken last, with
     /// empty lines that stood before it. Nothing is taken on any error. No memory is taken.
+    #[tactic(auto, using(crate::proofs::HeadLaws::heard_ok))]
     pub fn next_head(&mut self) -> Result<Head, HeadEnd>
         ensures hears { FromSource R.remaining self.old.source self.new.source (λ input. Hears input (taken_of self.new.source)) result }
         ensures counts { CountsHead result (read_failures self.old.source) (read_failures self.new.source) }

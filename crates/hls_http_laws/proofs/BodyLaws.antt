@@ -1,14 +1,14 @@
 -- Bodies by steps and by the grammar.
-use Rattle.std.proofs.Common.{◌≡◌, ◌∙◌, ℕ, zero, suc, ◌+◌, ◌<◌, ◌≤◌, inl, inr, List, [], ◌∷◌, ◌++◌, length, refl, sym, ap, subst, append_assoc, append-nil, arith, length-append, ◌⊎◌}
+use Rattle.std.proofs.Common.{◌≡◌, ◌∙◌, ℕ, zero, suc, ◌+◌, ◌<◌, ◌≤◌, inl, inr, List, [], ◌∷◌, ◌++◌, length, refl, sym, ap, subst, append_assoc, append-nil, arith, length-append}
 use Rattle.std.specs.List.{flat_map}
 use Rattle.std.proofs.lemmas.List.{nil_from_length}
 use Rattle.httparse.specs.Grammar.{ChunkLine, Field, LineEnd, crlf, lf, print_chunk_line, print_field, print_section, chunk_size}
 use Rattle.httparse.proofs.{GrammarLemmas.section_unique, ChunkLemmas.chunk_line_unique}
 use Rattle.hls_http_laws.specs.declared.body.Body.{Body}
 use Rattle.hls_http_laws.specs.declared.body.Body.TheVariants.{Length, Size, Data, Trailers}
-use Rattle.hls_http_laws.specs.Bodies.{ReadsLine, ReadsTrailers, after_line, TakesData, EndsData, Steps, Runs, NoStep, StepThen, IsBroken, IsOpen}
+use Rattle.hls_http_laws.specs.Bodies.{ReadsLine, ReadsTrailers, after_line, Steps, Runs, NoStep, StepThen, IsBroken, IsOpen}
 use Rattle.hls_http_laws.specs.Laws.{BodiesByGrammar, BodiesAreOne}
-use Rattle.hls_http_laws.specs.Grammar.{Chunk, chunk_bytes, print_chunk, IsLine, AreChunks, ReadsChunked, ReadsRestOfChunk, IsBody}
+use Rattle.hls_http_laws.specs.Grammar.{Chunk, chunk_bytes, print_chunk, IsLine, AreChunks, ReadsChunked, IsBody}
 
 -- of two ways to cut a text the shorter front begins the longer
 pub cut : (a b c d : List ℕ) → a ++ b ≡ c ++ d → length a ≤ length c → (m : List ℕ) × (c ≡ a ++ m) × (b ≡ m ++ d)

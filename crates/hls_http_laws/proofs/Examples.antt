@@ -1,5 +1,5 @@
 -- The definitions, computed on rows that no test has.
-use Rattle.std.proofs.Common.{◌≡◌, ℕ, true, false, List, [], ◌∷◌, Err, refl, codes}
+use Rattle.std.proofs.Common.{◌≡◌, true, false, [], ◌∷◌, Err, refl, codes}
 use Rattle.hls_http_laws.specs.{declared.fault.HttpFault.TheVariants.BadFraming, Framing.body_of}
 use Rattle.hls_http_laws.specs.declared.range.Part.TheVariants as parts
 use Rattle.hls_text.specs.Digits.{number_of}

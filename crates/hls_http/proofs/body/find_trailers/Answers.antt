@@ -1,17 +1,10 @@
-use Rattle.std.proofs.Common.{arith}
-use Rattle.hls_http.proofs.BodySteps.{long_trailers, no_trailers, trailers_frame}
+use Rattle.hls_http.proofs.BodySteps.{long_trailers, no_trailers}
 use Rattle.hls_http.proofs.body.find_trailers.Goals as goal
 
 pub returns-in-Ok-Complete : goal.returns-in-Ok-Complete
 returns-in-Ok-Complete c =
     let ok = rw c.in-Ok-Complete.field-0-is at c.in-Ok-Complete.ensures in
     long_trailers c.args.held.now c.parse_headers.new.headers c.in-Ok-Complete.len c.in-Ok-Complete.field-0-0-1 ok.complete.0 ok.complete.1 ok.complete.2 c.if-len-gt-MOST_HEAD.true
-
-pub returns-in-Ok-Complete-2 : goal.returns-in-Ok-Complete-2
-returns-in-Ok-Complete-2 c =
-    let ok = rw c.in-Ok-Complete.field-0-is at c.in-Ok-Complete.ensures in
-    trailers_frame c.args.held.now c.parse_headers.new.headers c.in-Ok-Complete.len c.in-Ok-Complete.field-0-0-1 ok.complete.0 ok.complete.1 ok.complete.2
-    (omega (arith, c.parse_headers.auto.headers)) c.if-len-gt-MOST_HEAD.false ok.within.len_fits
 
 pub returns-in-Ok-Partial-2 : goal.returns-in-Ok-Partial-2
 returns-in-Ok-Partial-2 c =

@@ -1,15 +1,8 @@
 use Rattle.std.proofs.Common.{◌∙◌, ◌++◌, Some, sym, ap, arith}
 use Rattle.std.proofs.lemmas.List.{nil_from_length}
-use Rattle.hls_io.specs.Counted.{inside_of}
 use Rattle.hls_http.specs.Source.{held_of}
-use Rattle.hls_http.proofs.HeadLaws.{at_end, heard_ok}
+use Rattle.hls_http.proofs.HeadLaws.{at_end}
 use Rattle.hls_http.proofs.session.Session.next_head.Goals as goal
-
-pub returns-in-Ok-clause-hears : goal.returns-in-Ok-clause-hears
-returns-in-Ok-clause-hears g c = λ rest known.
-    let found = rw c.held.ensures at c.in-Ok.ensures in
-    heard_ok (held_of c.args.self.now.source ++ rest) (held_of c.loop-head.self.source) _ _ _ _ c.in-Ok.head c.in-Ok.len (c.loop-head.invariant.same rest known) found.1 c.take.ensures.held c.take.ensures.taken
-    (ap (λ r. g.R.Read.remaining (inside_of r)) c.take.ensures.reader)
 
 pub returns-in-AtEnd-clause-hears : goal.returns-in-AtEnd-clause-hears
 returns-in-AtEnd-clause-hears g c = λ rest known.
