@@ -28,9 +28,9 @@ whole-none xs gone = none-at xs gone.0 gone.1 gone.2
 
 -- ---- of a recording
 
-pub part-gone : (r : Recorded) (from len : ℕ) → IsRecorded r → from + len ≤ total_of r → max from (length r.head) < min (from + len) (offset_at r r.floor)
+pub part_gone : (r : Recorded) (from len : ℕ) → IsRecorded r → from + len ≤ total_of r → max from (length r.head) < min (from + len) (offset_at r r.floor)
     → media_bytes r from len ≡ None
-part-gone r from len valid within gone = whole-none (range_of r from (from + len)) (gone_range r from (from + len) valid (omega arith, within) gone)
+part_gone r from len valid within gone = whole-none (range_of r from (from + len)) (gone_range r from (from + len) valid (omega arith, within) gone)
 
 -- as many bytes as are trimmed
 abbrev hole : Recorded → ℕ
@@ -50,9 +50,9 @@ holes : (r : Recorded) → length {A = Option ℕ} (replicate (hole r) None) ≡
 holes r = length-replicate (hole r) None
 
 -- what is kept of so many bytes is there
-pub part-fits : (r : Recorded) (from len : ℕ) → IsRecorded r → from + len ≤ total_of r → min (from + len) (offset_at r r.floor) ≤ max from (length r.head)
+pub part_fits : (r : Recorded) (from len : ℕ) → IsRecorded r → from + len ≤ total_of r → min (from + len) (offset_at r r.floor) ≤ max from (length r.head)
     → kept_at r from + len ≤ length (concat (kept_slices (Some r)))
-part-fits r from len valid within kept =
+part_fits r from len valid within kept =
     let joined = ap length (kept-joined r valid) in
     let both = length-append r.head (concat r.units) in
     let a = length-append (map Some r.head ++ replicate (hole r) None) (map Some (concat r.units)) in
@@ -76,9 +76,9 @@ without (x ∷ xs) ns ys (suc from) (suc len) at kept is =
     subst (λ n. take (suc len) (drop from (xs ++ ns ++ ys)) ≡ take (suc len) (drop n (x ∷ xs ++ ys))) up more
 
 -- where none of them is trimmed, so many bytes from an offset on stand in the slices
-pub part-kept : (r : Recorded) (from len : ℕ) → IsRecorded r → min (from + len) (offset_at r r.floor) ≤ max from (length r.head)
+pub part_kept : (r : Recorded) (from len : ℕ) → IsRecorded r → min (from + len) (offset_at r r.floor) ≤ max from (length r.head)
     → media_bytes r from len ≡ Some (take len (drop (kept_at r from) (concat (kept_slices (Some r)))))
-part-kept r from len valid kept =
+part_kept r from len valid kept =
     let at : ℕ = kept_at r from in
     let span : from + len - from ≡ len = omega arith in
     let shown = without (map Some r.head) (replicate (hole r) None) (map Some (concat r.units)) from len at (omega (arith, kept, heads r, holes r)) (omega (arith, heads r, holes r)) in

@@ -143,6 +143,7 @@ fn place_of(recording: &Recording, at: u64, len: u64) -> (u64, u64)
 }
 
 /// So many bytes of a recording from an offset on, which stay where they are; none where one of them is trimmed.
+#[tactic(auto, using(crate::proofs::Parts::part_gone, crate::proofs::Parts::part_fits, crate::proofs::Parts::part_kept))]
 fn kept_part(recorded: Recorded, from: u64, len: u64) -> Option<Media<Body>>
     requires { (rec : RecordedData) → Some rec ≡ recorded_of recorded → from + len ≤ total_of rec }
     ensures { result ≡ bytes_of recorded from len }

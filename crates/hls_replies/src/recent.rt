@@ -90,6 +90,7 @@ impl RecentLists {
     }
 
     /// Keeps the text of a rendition's list, where it isn't long and there is memory.
+    #[tactic(auto, using(crate::proofs::Recents::pushed))]
     fn keep(&mut self, rendition: usize, text: &[u8])
         requires { list_in self.old rendition ≡ Some text.now }
         ensures { self.new ≡ self.old }
