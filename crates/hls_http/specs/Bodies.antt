@@ -1,13 +1,13 @@
 -- What stands at the front of a body's held bytes, and what a reader passes on of a body.
 use Rattle.std.specs.Prelude.{◌≡◌, ℕ, ◌<◌, ◌≤◌, List, [], length, take, drop, Option, Some, Result, Ok, Err}
 use Rattle.hls_io.specs.Rose.{Rose}
-use Rattle.hls_http_laws.specs.{declared.body.Body.Body, declared.body.Body.TheVariants.Length}
+use Rattle.hls_http_laws.specs.{declared.body.Body.Body, declared.body.Body.TheVariants.Length, declared.end.BodyEnd.BodyEnd}
 use Rattle.hls_http_laws.specs.Bodies.{Steps, IsBroken, IsOpen, Goes}
-use Rattle.hls_http.specs.{declared.body.Move.Move, declared.body.Lack.Lack, declared.body.Given.Given, declared.body.BodyEnd.BodyEnd}
+use Rattle.hls_http.specs.{declared.body.Move.Move, declared.body.Lack.Lack, declared.body.Given.Given}
 use Rattle.hls_http.specs.declared.body.Move.TheVariants as moves
 use Rattle.hls_http.specs.declared.body.Lack.TheVariants.{Wait, Bad}
 use Rattle.hls_http.specs.declared.body.Given.TheVariants.{Piece, Over}
-use Rattle.hls_http.specs.declared.body.BodyEnd.TheVariants.{BadFraming, CutShort, ReadFailed}
+use Rattle.hls_http_laws.specs.declared.end.BodyEnd.TheVariants.{BadFraming, CutShort, ReadFailed}
 
 -- the last byte of a body by length is a piece of its own; and no other piece ends a body, since in chunks their last line and the
 -- trailers are still to come

@@ -1,25 +1,17 @@
 -- What is found of a head, and what a reader hears.
-use Rattle.std.specs.Prelude.{◌≡◌, ℕ, ◌<◌, ◌≤◌, List, [], cond, length, take, drop, bytes_eq, codes, Option, Some, Result, Ok, Err}
+use Rattle.std.specs.Prelude.{◌≡◌, ℕ, ◌<◌, ◌≤◌, List, [], length, take, drop, codes, Option, Some, Result, Ok, Err}
 use Rattle.std.specs.Io.KnownBytes.{prepend_known}
 use Rattle.httparse.specs.Grammar.{RequestHead, NeverHasRequest}
 use Rattle.httparse.specs.Spans.{span_bytes}
 use Rattle.hls_io.specs.Rose.{Rose}
 use Rattle.hls_http_laws.specs.Heads.{ReadsSmall, IsUnfinished, IsTooLarge}
+use Rattle.hls_http_laws.specs.Methods.{method_of}
 use Rattle.hls_http_laws.specs.Fields.{closes, expects, values}
 use Rattle.hls_http_laws.specs.Range.{asked_of}
 use Rattle.hls_http_laws.specs.Requests.{begins, fields_of}
-use Rattle.hls_http.specs.{declared.head.Method.Method, declared.head.Head.Head, declared.head.Look.Look, declared.head.HeadEnd.HeadEnd}
-use Rattle.hls_http.specs.declared.head.Method.TheVariants as methods
+use Rattle.hls_http.specs.{declared.head.Head.Head, declared.head.Look.Look, declared.head.HeadEnd.HeadEnd}
 use Rattle.hls_http.specs.declared.head.Look.TheVariants.{Partial, Hopeless, TooLarge}
 use Rattle.hls_http.specs.declared.head.HeadEnd.TheVariants.{Closed, CutShort, BadHead, HeadTooLarge, ReadFailed}
-
-abbrev pub method_of : List ℕ → Method
-method_of name =
-    cond (bytes_eq name (codes "GET")) methods.Get
-    (cond (bytes_eq name (codes "HEAD")) methods.Head
-    (cond (bytes_eq name (codes "POST")) methods.Post
-    (cond (bytes_eq name (codes "PUT")) methods.Put
-    (cond (bytes_eq name (codes "DELETE")) methods.Delete methods.Other))))
 
 -- what is told of the head h, whose text this is
 pub record IsHead (h : RequestHead) (head : Head) (text : List ℕ) : Type 0 where

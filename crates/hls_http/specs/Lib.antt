@@ -1,5 +1,4 @@
 pub mod Bodies
-pub mod Drained
 pub mod Heads
 pub mod Input
 pub mod Replies

@@ -36,17 +36,6 @@ pub enum Given {
     Over,
 }
 
-/// Why no more of a body comes.
-#[derive(Clone, Copy, Debug, PartialEq, Eq, Drop)]
-pub enum BodyEnd {
-    /// The body breaks the grammar of chunks (RFC 9112 7.1), or a size line or the trailers pass their limits.
-    BadFraming,
-    /// The input ended inside the body.
-    CutShort,
-    /// A read failed, and was counted.
-    ReadFailed,
-}
-
 /// Bytes by length: those before the last one, or the last one alone.
 fn find_length(held: &[u8], left: u64) -> Result<Move, Lack>
     requires { 0 < left }

@@ -1,50 +1,18 @@
 //! Heads of requests.
 
-ghost use Rattle.std.specs.Prelude.{◌≡◌, take};
+ghost use Rattle.std.specs.Prelude.{take};
 ghost use Rattle.httparse.specs.Grammar.{RequestHead};
 ghost use Rattle.httparse.specs.Spans.{IsRequestAt, IsRequestWithin};
-ghost use Rattle.hls_http.specs.Heads.{method_of, Finds, IsHead};
+ghost use Rattle.hls_http.specs.Heads.{Finds, IsHead};
 
 use crate::fields::{asked_range, body, closes_connection, waits_for_continue};
 use hls_http_laws::body::Body;
 use hls_http_laws::fault::HttpFault;
 use hls_http_laws::limits::{MOST_FIELDS, MOST_HEAD};
+use hls_http_laws::method::Method;
 use hls_http_laws::range::Asked;
 use httparse::spans::{EMPTY_HEADER_SPAN, HeaderSpan, RequestSpans, Span, parse_request};
 use httparse::{Error, Status};
-
-/// The method of a request, case-sensitive (RFC 9110 9.1).
-#[derive(Clone, Copy, Debug, PartialEq, Eq, Drop)]
-pub enum Method {
-    Get,
-    Head,
-    Post,
-    Put,
-    Delete,
-    /// Any other.
-    Other,
-}
-
-impl Method {
-    /// The method of this name.
-    pub fn of(name: &[u8]) -> Method
-        ensures { result ≡ method_of name.now }
-    {
-        if name == b"GET".as_slice() {
-            Method::Get
-        } else if name == b"HEAD".as_slice() {
-            Method::Head
-        } else if name == b"POST".as_slice() {
-            Method::Post
-        } else if name == b"PUT".as_slice() {
-            Method::Put
-        } else if name == b"DELETE".as_slice() {
-            Method::Delete
-        } else {
-            Method::Other
-        }
-    }
-}
 
 /// What a head says, as far as it matters here. Its text is what the source has taken last.
 #[derive(Clone, Copy, Debug)]

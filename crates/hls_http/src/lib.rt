@@ -17,12 +17,13 @@ mod reply;
 mod session;
 mod source;
 
-pub use body::{BodyEnd, Given, Lack, Move, find_move};
-pub use drain::{DropEnd, announced};
-pub use head::{Head, HeadEnd, Look, Method, find_head};
+pub use body::{Given, Lack, Move, find_move};
+pub use drain::announced;
+pub use head::{Head, HeadEnd, Look, find_head};
 pub use hls_http_laws::body::Body;
-pub use hls_http_laws::end::SessionEnd;
+pub use hls_http_laws::end::{BodyEnd, DropEnd, SessionEnd};
 pub use hls_http_laws::fault::HttpFault;
+pub use hls_http_laws::method::Method;
 pub use hls_http_laws::plan::Plan;
 pub use hls_io::{Counted, write_whole};
 pub use input::{Filled, Input};

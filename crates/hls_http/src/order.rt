@@ -4,7 +4,7 @@ ghost use Rattle.std.specs.Prelude.{◌≡◌, ◌≤◌, List, ℕ};
 ghost use Rattle.httparse.specs.Grammar.{RequestHead};
 ghost use Rattle.hls_http_laws.specs.Order as spec;
 ghost use Rattle.hls_http_laws.specs.Requests.{begins};
-ghost use Rattle.hls_http.specs.{Drained.announced_by, Heads.IsHead};
+ghost use Rattle.hls_http.specs.Heads.{IsHead};
 
 use crate::drain::announced;
 use crate::head::Head;
@@ -26,7 +26,7 @@ pub fn is_over(body: Body) -> bool
 pub fn plan(head: &Head, known: bool, feeds: bool) -> Plan
     ensures plan { (h : RequestHead) (text : List ℕ) → IsHead h head.now text → result ≡ spec.plan_by (begins h) known feeds }
     ensures by { result ≡ spec.plan_by head.now.body known feeds }
-    ensures fits { (body : Body) → result ≡ Plan.Skip body → announced_by body ≤ 65536 }
+    ensures fits { (body : Body) → result ≡ Plan.Skip body → spec.announced_by body ≤ 65536 }
 {
     let (fault, closing) = match head.body {
         Err(fault) => (fault, true),

@@ -8,13 +8,13 @@ ghost use Rattle.hls_http.specs.Heads.{CountsHead, Hears};
 ghost use Rattle.hls_http.specs.Replies.{Answers, CountsAnswer};
 ghost use Rattle.hls_http.specs.Source.{FromSource, read_failures, taken_of};
 
-use crate::body::{BodyEnd, Given, Lack, Move, find_move};
+use crate::body::{Given, Lack, Move, find_move};
 use crate::head::{Head, HeadEnd, Look, find_head};
 use crate::input::Filled;
 use crate::reply::reply_output;
 use crate::source::Source;
 use hls_http_laws::body::Body;
-use hls_http_laws::end::SessionEnd;
+use hls_http_laws::end::{BodyEnd, SessionEnd};
 use hls_http_laws::reply::{ReplyHead, no_memory_reply};
 use hls_io::{Counted, write_whole};
 use hls_output::{Output, Resource, Text};

@@ -5,6 +5,7 @@ pub mod Grammar
 pub mod Heads
 pub mod Laws
 pub mod Limits
+pub mod Methods
 pub mod Order
 pub mod Query
 pub mod Range

@@ -1,4 +1,4 @@
-//! How a stream of requests ends, and how a session does.
+//! How a stream of requests ends, how a body does before its end, and how a session does.
 
 /// What stands behind the last whole request of a stream.
 #[derive(Clone, Copy, Debug, PartialEq, Eq, Drop)]
@@ -13,6 +13,26 @@ pub enum InputEnd {
     HeadTooLarge,
     /// A head whose Host or framing is bad, or a body that breaks the grammar of chunks.
     BadRequest,
+}
+
+/// Why no more of a body comes.
+#[derive(Clone, Copy, Debug, PartialEq, Eq, Drop)]
+pub enum BodyEnd {
+    /// The body breaks the grammar of chunks (RFC 9112 7.1), or a size line or the trailers pass their limits.
+    BadFraming,
+    /// The input ended inside the body.
+    CutShort,
+    /// A read failed, and was counted.
+    ReadFailed,
+}
+
+/// Why a body wasn't dropped to its end.
+#[derive(Clone, Copy, Debug, PartialEq, Eq, Drop)]
+pub enum DropEnd {
+    /// The size line of a chunk that would pass 65536 bytes is next.
+    TooLarge,
+    /// The body stopped.
+    Stopped(BodyEnd),
 }
 
 /// Why a session takes no further request.

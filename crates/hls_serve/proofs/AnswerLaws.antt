@@ -1,7 +1,7 @@
 -- A request is heard once no more of its body is read.
 use Rattle.std.proofs.Common.{◌∙◌, ℕ, not, List, ◌++◌, Option, Result, refl, sym, subst}
 use Rattle.hls_http_laws.specs.{declared.body.Body.Body, declared.plan.Plan.Plan, Order.is_over}
-use Rattle.hls_http.specs.declared.drain.DropEnd.{DropEnd}
+use Rattle.hls_http_laws.specs.declared.end.DropEnd.{DropEnd}
 use Rattle.hls_serve_laws.specs.{declared.ingest.Intake.Intake, declared.route.Route.Route, Acts.Act}
 use Rattle.hls_serve_laws.specs.Heard.{Due, FeedsBy, FollowsBy, Heard, IsFed, IsSkipped, SkipsBy, first_of, request_of}
 use Rattle.hls_serve.specs.{declared.call.Call.Call, declared.ending.Ending.Ending, declared.dropping.Dropping.Dropping}

@@ -10,11 +10,11 @@ use Rattle.hls_http_laws.specs.{declared.body.Body.Body, declared.plan.Plan.Plan
 use Rattle.hls_http_laws.specs.declared.body.Body.TheVariants.{Length, Size, Data, Trailers}
 use Rattle.hls_http_laws.specs.Bodies.{EndsData, IsBroken, ReadsLine, Steps, TakesData, after_line}
 use Rattle.hls_http_laws.proofs.Callers.{Leaves, broken_bodies_stay, run_one, runs_join, runs_leave, runs_stay, step_stays}
-use Rattle.hls_http.specs.declared.body.BodyEnd.TheVariants as bodies
-use Rattle.hls_http.specs.declared.drain.DropEnd.TheVariants as drops
+use Rattle.hls_http_laws.specs.declared.end.BodyEnd.TheVariants as bodies
+use Rattle.hls_http_laws.specs.declared.end.DropEnd.TheVariants as drops
 use Rattle.hls_http.specs.declared.body.Move.TheVariants as moves
 use Rattle.hls_http.specs.Bodies.{IsLastAlone, StepsTo}
-use Rattle.hls_http.specs.Drained.{announced_by}
+use Rattle.hls_http_laws.specs.Order.{announced_by}
 use Rattle.hls_serve_laws.specs.{declared.ingest.Intake.Intake, Heard.IsPastLimit}
 use Rattle.hls_serve_laws.specs.declared.ingest.Intake.TheVariants as came
 use Rattle.hls_serve_laws.specs.Ingest.{PartComes, begun, ends_at, intake_of}

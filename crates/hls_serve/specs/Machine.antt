@@ -2,7 +2,7 @@
 -- A connection but for its input, in the middle of its stream.
 use Rattle.std.specs.Prelude.{◌≡◌, ◌⊎◌, ℕ, ◌<◌, Bool, true, false, List, [], ◌++◌, length, flat_map, Option, Some, None, Err, IsFalse}
 use Rattle.hls_core_laws.specs.{IsState.IsState, Known.Known}
-use Rattle.hls_http.specs.declared.body.BodyEnd.TheVariants as bodies
+use Rattle.hls_http_laws.specs.declared.end.BodyEnd.TheVariants as bodies
 use Rattle.hls_serve_laws.specs.declared.ingest.Intake.TheVariants as came
 use Rattle.hls_serve_laws.specs.{Acts.Act, Acts.Acted, Sessions.GoesOn}
 use Rattle.hls_serve_laws.specs.Connections.{Exchange, History, Serves, Stage, Between, Within, Over, IsBetween, Stands, acts_of, output, text_of}

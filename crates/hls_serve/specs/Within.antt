@@ -6,9 +6,9 @@ use Rattle.hls_feed.specs.Streams.{Reached}
 use Rattle.hls_http_laws.specs.{declared.body.Body.Body, declared.plan.Plan.Plan, Heads.ReadsSmall, Order.is_over}
 use Rattle.hls_http_laws.specs.declared.plan.Plan.TheVariants.{Feed, Skip}
 use Rattle.hls_http_laws.specs.Bodies.{Runs, IsOpen}
-use Rattle.hls_http.specs.declared.body.BodyEnd.TheVariants as bodies
-use Rattle.hls_http.specs.{declared.body.BodyEnd.BodyEnd, declared.drain.DropEnd.DropEnd, Drained.announced_by}
-use Rattle.hls_http.specs.declared.drain.DropEnd.TheVariants as drops
+use Rattle.hls_http_laws.specs.declared.end.BodyEnd.TheVariants as bodies
+use Rattle.hls_http_laws.specs.{declared.end.BodyEnd.BodyEnd, declared.end.DropEnd.DropEnd, Order.announced_by}
+use Rattle.hls_http_laws.specs.declared.end.DropEnd.TheVariants as drops
 use Rattle.hls_serve_laws.specs.{declared.ingest.Intake.Intake, Acts.Act, Routes.feeds}
 use Rattle.hls_serve_laws.specs.declared.ingest.Intake.TheVariants as came
 use Rattle.hls_serve_laws.specs.declared.route.Route.TheVariants as routes

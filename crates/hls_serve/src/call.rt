@@ -3,8 +3,8 @@
 ghost use Rattle.std.specs.Prelude.{◌≡◌, ◌≤◌, ℕ, Some, IfOk, length};
 ghost use Rattle.std.specs.Option.{is_some};
 ghost use Rattle.httparse.specs.{Grammar.RequestHead, Spans.span_bytes};
-ghost use Rattle.hls_http_laws.specs.{declared.body.Body.Body, Order.plan_by};
-ghost use Rattle.hls_http.specs.{Drained.announced_by, Heads.IsHead};
+ghost use Rattle.hls_http_laws.specs.{declared.body.Body.Body, Order.announced_by, Order.plan_by};
+ghost use Rattle.hls_http.specs.Heads.{IsHead};
 ghost use Rattle.hls_serve_laws.specs.Heard.{asks_of, plan_for};
 ghost use Rattle.hls_serve_laws.specs.Queries.{query_in};
 ghost use Rattle.hls_serve_laws.specs.Routes as spec;

@@ -11,8 +11,8 @@ use Rattle.hls_http_laws.specs.Bodies.{Runs as BodyRuns, NoStep}
 use Rattle.hls_http_laws.specs.Order.{is_over, is_past, plan_by}
 use Rattle.hls_http_laws.specs.Requests.{Request as WholeRequest, ReadsOne, begins}
 use Rattle.hls_http_laws.proofs.Callers.{body_taken, runs_leave}
-use Rattle.hls_http.specs.declared.body.BodyEnd.TheVariants as bodies
-use Rattle.hls_http.specs.declared.drain.DropEnd.TheVariants as drops
+use Rattle.hls_http_laws.specs.declared.end.BodyEnd.TheVariants as bodies
+use Rattle.hls_http_laws.specs.declared.end.DropEnd.TheVariants as drops
 use Rattle.hls_serve_laws.specs.declared.ingest.Intake.TheVariants as came
 use Rattle.hls_serve_laws.specs.declared.route.Route.TheVariants as routes
 use Rattle.hls_serve_laws.specs.{Acts.Act, Routes.feeds}

@@ -11,13 +11,12 @@ use Rattle.hls_http_laws.specs.declared.range.Asked.TheVariants as asks
 use Rattle.hls_http_laws.specs.declared.reply.Status.TheVariants as statuses
 use Rattle.hls_http_laws.specs.Heads.{ReadsSmall, IsTooLarge}
 use Rattle.hls_http_laws.specs.Bodies.{Runs, ReadsLine}
-use Rattle.hls_http_laws.specs.{Limits.dropped_limit, Fields.values, Range.asked_of}
+use Rattle.hls_http_laws.specs.{Limits.dropped_limit, Methods.method_of, Fields.values, Range.asked_of}
 use Rattle.hls_http_laws.specs.Requests.{begins, fields_of}
-use Rattle.hls_http_laws.specs.Order.{plan_by, continues, says_close}
+use Rattle.hls_http_laws.specs.Order.{announced_by, plan_by, continues, says_close}
 use Rattle.hls_http_laws.specs.Reply.{continue_text, is_success, no_memory_to}
-use Rattle.hls_http.specs.declared.body.BodyEnd.TheVariants as bodies
-use Rattle.hls_http.specs.declared.drain.DropEnd.TheVariants as drops
-use Rattle.hls_http.specs.{Heads.method_of, Drained.announced_by}
+use Rattle.hls_http_laws.specs.declared.end.BodyEnd.TheVariants as bodies
+use Rattle.hls_http_laws.specs.declared.end.DropEnd.TheVariants as drops
 use Rattle.hls_catchup.specs.declared.fault.JobFault.TheVariants.{UnknownJob}
 use Rattle.hls_serve_laws.specs.declared.ingest.Intake.TheVariants as came
 use Rattle.hls_serve_laws.specs.{declared.query.QueryFault.TheVariants.BadQuery, Faults.status_of}

@@ -16,7 +16,7 @@ use Rattle.hls_core.specs.Reads.{recording_of}
 use Rattle.hls_core_laws.specs.declared.done.Done.TheVariants as done
 use Rattle.hls_http_laws.specs.declared.body.Body.TheVariants.{Length}
 use Rattle.hls_http_laws.specs.Bodies.{IsBroken, IsOpen}
-use Rattle.hls_http.specs.declared.body.BodyEnd.TheVariants as bodies
+use Rattle.hls_http_laws.specs.declared.end.BodyEnd.TheVariants as bodies
 use Rattle.hls_serve_laws.specs.declared.ingest.Counts.{Counts}
 use Rattle.hls_serve_laws.specs.declared.ingest.Intake.TheVariants as came
 use Rattle.hls_serve_laws.specs.Acts.{Act, ActsInVain, Looks, Submits}

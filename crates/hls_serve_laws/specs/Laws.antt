@@ -4,7 +4,7 @@ use Rattle.std.specs.Prelude.{◌≡◌, ◌⊎◌, ℕ, false, List, length, ma
 use Rattle.hls_http_laws.specs.declared.fault.HttpFault.TheVariants as http
 use Rattle.hls_http_laws.specs.declared.reply.Status.TheVariants.{Done}
 use Rattle.hls_http_laws.specs.Requests.{Request as WholeRequest, Cuts}
-use Rattle.hls_http.specs.{declared.head.Method.TheVariants.Other, Heads.method_of}
+use Rattle.hls_http_laws.specs.{declared.method.Method.TheVariants.Other, Methods.method_of}
 use Rattle.hls_catchup.specs.{declared.fault.CatchFault.CatchFault, Plays.IsAnswered, Jobs.Line.result_line}
 use Rattle.hls_catchup.specs.Replies.{ReplyData, IsRightReply}
 use Rattle.hls_serve_laws.specs.Connections.{Exchange, Serves}

@@ -4,7 +4,7 @@ use Rattle.std.specs.Prelude.{List, [], ◌∷◌, length, take, drop, position,
 use Rattle.std.specs.List.{filter, join_by, position_or_len}
 use Rattle.std.specs.Str.{all_ascii_digits}
 use Rattle.hls_text.specs.Digits.{is_plain, number_of}
-use Rattle.hls_http.specs.declared.head.Method.TheVariants.{Get, Head, Post, Put, Delete}
+use Rattle.hls_http_laws.specs.declared.method.Method.TheVariants.{Get, Head, Post, Put, Delete}
 use Rattle.hls_serve_laws.specs.declared.route.Route.TheVariants as routes
 use Rattle.hls_serve_laws.specs.declared.route.JobFile.TheVariants as files
 use Rattle.hls_serve_laws.specs.Types.{Method, Route, JobFile}

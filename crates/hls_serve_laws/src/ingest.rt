@@ -4,7 +4,7 @@ ghost use Rattle.std.specs.Prelude.{◌≡◌};
 ghost use Rattle.hls_serve_laws.specs.Ingest.{intake_of};
 
 use hls_feed::{StreamFault, Untaken};
-use hls_http::BodyEnd;
+use hls_http_laws::end::BodyEnd;
 
 /// How many parts of a body were taken.
 #[derive(Clone, Copy, Debug, PartialEq, Eq, Drop)]

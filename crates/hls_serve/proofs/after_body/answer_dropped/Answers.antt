@@ -1,5 +1,5 @@
 use Rattle.std.proofs.Common.{◌≡◌, Some, Err, rules}
-use Rattle.hls_http.specs.declared.drain.DropEnd.TheVariants as drops
+use Rattle.hls_http_laws.specs.declared.end.DropEnd.TheVariants as drops
 use Rattle.hls_serve_laws.specs.Heard.{first_of, request_of}
 use Rattle.hls_serve.proofs.{AnswerLaws.replies_dropped, CallLaws.skipped_wanting}
 use Rattle.hls_serve.proofs.after_body.answer_dropped.Goals as goal
