@@ -1,6 +1,6 @@
 //! Jobs under a lock, and answers that are kept.
 
-use hls_catchup::{Answered, CostRule, Gate, Job, JobTable, Jobs, Request, work_loop};
+use hls_catchup::{Answered, CostRule, Gate, Job, JobTable, Jobs, Request, answered, work_loop};
 use hls_core::snapshot::Snapshot;
 use hls_fakes::Told;
 use hls_sample_channels::{SECOND, THREE_UNITS, ended_at_last};
@@ -43,7 +43,7 @@ pub fn told_answered(alloc: Global, state: &Arc<Snapshot>) -> Told {
     let Ok(share) = Arc::try_clone(state) else {
         return Told::Wanted;
     };
-    let told = match Answered::of(alloc, share, REQUEST) {
+    let told = match answered(alloc, share, REQUEST) {
         Ok(answered) => told_again(&answered),
         Err(_) => Told::Wanted,
     };

@@ -16,10 +16,10 @@ use Rattle.hls_places_laws.specs.declared.place.Place.{Place}
 use Rattle.hls_places_laws.specs.Sources.{Source, sources_of}
 use Rattle.hls_places_laws.specs.Places.{places_of}
 use Rattle.hls_places_laws.specs.Programmes.{is_kept_above, is_kept, kept, cut_out}
-use Rattle.hls_catchup.specs.declared.request.Request.{Request}
-use Rattle.hls_catchup.specs.declared.cutout.Cutout.{Cutout}
-use Rattle.hls_catchup.specs.Answers.{AreCovered, IsRightCutout}
-use Rattle.hls_catchup.specs.Requests.{goal_for, IsTableFor, AreRecordings, IsRightAnswer}
+use Rattle.hls_catchup_laws.specs.declared.request.Request.{Request}
+use Rattle.hls_catchup_laws.specs.declared.cutout.Cutout.{Cutout}
+use Rattle.hls_catchup_laws.specs.Answers.{AreCovered, IsRightCutout}
+use Rattle.hls_catchup_laws.specs.Requests.{goal_for, IsTableFor, AreRecordings, IsRightAnswer}
 use Rattle.hls_catchup.proofs.Bounded.{Bounded, places-bounded}
 use Rattle.hls_catchup.proofs.States.{same_facts, same_floors}
 

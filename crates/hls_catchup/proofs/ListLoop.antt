@@ -5,7 +5,7 @@ use Rattle.hls_record.specs.Recorded.{Recorded}
 use Rattle.hls_check_laws.specs.Tables.{Table}
 use Rattle.hls_m3u8.specs.declared.playlist.MediaPlaylist.{MediaPlaylist}
 use Rattle.hls_m3u8.specs.Playlist.{Playlist, playlist_of}
-use Rattle.hls_catchup.specs.Lists.{job_list, job_lists}
+use Rattle.hls_catchup_laws.specs.Lists.{job_list, job_lists}
 
 pub one_list_more : (epoch : Option ℤ) (recordings : List (Bor Recorded)) (t : Table) (plan : List ℕ) (lists : List MediaPlaylist) (list : MediaPlaylist) (i : ℕ)
     (recording : Bor Recorded) (whole : List Playlist) →

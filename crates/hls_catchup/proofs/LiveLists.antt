@@ -17,7 +17,7 @@ use Rattle.hls_core_laws.specs.Line.{line}
 use Rattle.hls_catchup.proofs.Cited.{at_beside, at_or, closed-some, has-begun}
 use Rattle.hls_core.specs.Reads.{recorded_from, recorded_at, recording_of}
 use Rattle.hls_lists_laws.specs.Live.{live_uri, listed, list_over, has_closed, list_in, live_list_of}
-use Rattle.hls_catchup.specs.Lists.{cutting}
+use Rattle.hls_catchup_laws.specs.Lists.{cutting}
 use Rattle.hls_catchup.specs.LiveTexts.{list_by, list_with}
 
 -- no segment was closed

@@ -18,7 +18,7 @@ use Rattle.hls_core_laws.specs.State.{State, channel}
 use Rattle.hls_core_laws.specs.IsState.{IsState}
 use Rattle.hls_core_laws.specs.Line.{line}
 use Rattle.hls_lists_laws.specs.Live.{live_cutting, live_uri, listed, list_over, has_closed, list_in, live_list_of}
-use Rattle.hls_catchup.specs.Lists.{cutting}
+use Rattle.hls_catchup_laws.specs.Lists.{cutting}
 use Rattle.hls_catchup.specs.LiveTexts.{Has, HasBy, IsGood, Reaches, ReachesBy, left_by, left_of, lines_by, list_by, list_with}
 use Rattle.hls_catchup.proofs.Cited.{live-lists-have-texts, starts-small}
 

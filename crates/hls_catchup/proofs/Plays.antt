@@ -9,12 +9,12 @@ use Rattle.hls_core_laws.specs.Config.{ConfigData}
 use Rattle.hls_core_laws.specs.State.{State}
 use Rattle.hls_core_laws.specs.Moves.{IsFitting}
 use Rattle.hls_core_laws.specs.Runs.{first_state, next_state, replayed, AreFitting}
-use Rattle.hls_catchup.specs.declared.request.Request.{Request}
-use Rattle.hls_catchup.specs.declared.fault.CatchFault.{CatchFault}
+use Rattle.hls_catchup_laws.specs.declared.request.Request.{Request}
+use Rattle.hls_catchup_laws.specs.declared.fault.CatchFault.{CatchFault}
 use Rattle.hls_catchup.specs.declared.actions.Action.{Action}
 use Rattle.hls_catchup.specs.declared.actions.Action.TheVariants as action
-use Rattle.hls_catchup.specs.Replies.{ReplyData}
-use Rattle.hls_catchup.specs.Plays.{events_in, requests_in, state_before, HasAnswerBehind, IsAnswered, IsPlayed, IsRunTo}
+use Rattle.hls_catchup_laws.specs.Replies.{ReplyData, IsAnswered}
+use Rattle.hls_catchup.specs.Plays.{events_in, requests_in, state_before, HasAnswerBehind, IsPlayed, IsRunTo}
 
 events_in-append : (xs ys : List Action) → events_in (xs ++ ys) ≡ events_in xs ++ events_in ys
 events_in-append [] ys = refl

@@ -15,9 +15,9 @@ use Rattle.hls_m3u8.specs.Playlist.{Playlist}
 use Rattle.hls_core_laws.specs.Config.{IsEpoch}
 use Rattle.hls_lists_laws.specs.Segments.{Cutting, segments_of}
 use Rattle.hls_lists_laws.specs.SegmentLaws.{AreUnits, first_fragment}
-use Rattle.hls_catchup.specs.Lists.{cutting, job_uri, job_list, job_lists}
-use Rattle.hls_catchup.specs.Answers.{IsCovered, AreCovered, IsRightList, AreRightLists, ShowsCut, ShowsNoCut, IsGoodFor}
-use Rattle.hls_catchup.specs.Accepted.{IsAccepted}
+use Rattle.hls_catchup_laws.specs.Lists.{cutting, job_uri, job_list, job_lists}
+use Rattle.hls_catchup_laws.specs.Answers.{IsCovered, AreCovered, IsRightList, AreRightLists, ShowsCut, ShowsNoCut, IsGoodFor}
+use Rattle.hls_catchup_laws.specs.Accepted.{IsAccepted}
 use Rattle.hls_catchup.proofs.Pieces.{have_lengths}
 
 -- what holds of the element at each place holds of all

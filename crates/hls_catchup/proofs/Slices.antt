@@ -11,7 +11,7 @@ use Rattle.hls_record.specs.Search.{Stands}
 use Rattle.hls_record.specs.Valid.{IsRecorded}
 use Rattle.hls_lists_laws.specs.Jobs.{bytes_between, units_between}
 use Rattle.hls_catchup.proofs.Cited.{bytes_are}
-use Rattle.hls_catchup.specs.Resources.{IsPlaceOf}
+use Rattle.hls_catchup_laws.specs.Resources.{IsPlaceOf}
 use Rattle.hls_catchup.proofs.Offsets.{bytes_are_offsets, offsets_add}
 use Rattle.hls_catchup.proofs.Pieces.{have_lengths}
 

@@ -12,12 +12,12 @@ use Rattle.hls_check_laws.specs.Certificates.{Printed}
 use Rattle.hls_m3u8.specs.declared.playlist.MediaPlaylist.{MediaPlaylist}
 use Rattle.hls_lists_laws.specs.Jobs.{units_between}
 use Rattle.hls_lists_laws.specs.SegmentLaws.{first_fragment, end_fragment}
-use Rattle.hls_catchup.specs.declared.cutout.Cutout.TheVariants.{Cut}
+use Rattle.hls_catchup_laws.specs.declared.cutout.Cutout.TheVariants.{Cut}
 use Rattle.hls_catchup.specs.declared.span.Span.{Span}
-use Rattle.hls_catchup.specs.Answers.{IsRightCutout}
-use Rattle.hls_catchup.specs.Requests.{IsRightAnswer}
-use Rattle.hls_catchup.specs.Replies.{ReplyData}
-use Rattle.hls_catchup.specs.Resources.{parts_of}
+use Rattle.hls_catchup_laws.specs.Answers.{IsRightCutout}
+use Rattle.hls_catchup_laws.specs.Requests.{IsRightAnswer}
+use Rattle.hls_catchup_laws.specs.Replies.{ReplyData}
+use Rattle.hls_catchup_laws.specs.Resources.{parts_of}
 use Rattle.hls_catchup.specs.Spans.{IsSpan}
 
 -- a recording is that of a rendition of the channel

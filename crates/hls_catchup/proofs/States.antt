@@ -16,7 +16,7 @@ use Rattle.hls_places_laws.specs.Sources.{source_at}
 use Rattle.hls_core.specs.Reads.{recorded_from, recorded_at, recording_of, finished_at}
 use Rattle.hls_places_laws.specs.declared.place.Place.{Place}
 use Rattle.hls_catchup.specs.Kept.{kept_in}
-use Rattle.hls_catchup.specs.Requests.{AreRecordings}
+use Rattle.hls_catchup_laws.specs.Requests.{AreRecordings}
 
 looked_up : (lanes : List Lane) (r : ℕ) → unwrap_or (option_map (λ (l : Lane). l.finished) (slice_get lanes r)) false ≡ get_or (map is_finished lanes) r false
 looked_up [] r = refl

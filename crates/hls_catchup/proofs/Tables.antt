@@ -16,10 +16,10 @@ use Rattle.hls_places_laws.specs.Order.{no_place, time_of, spots_of, renditions_
 use Rattle.hls_places_laws.specs.Firsts.{first_after, first_from}
 use Rattle.hls_places_laws.specs.Programmes.{is_kept, kept, cut_out, StopsLate}
 use Rattle.hls_catchup.specs.declared.programme.Programme.{Programme}
-use Rattle.hls_catchup.specs.declared.request.Request.{Request}
-use Rattle.hls_catchup.specs.declared.fault.CatchFault.TheVariants.{BeforeRecording, NotYet, AfterRecording, ProgrammeTooLong}
+use Rattle.hls_catchup_laws.specs.declared.request.Request.{Request}
+use Rattle.hls_catchup_laws.specs.declared.fault.CatchFault.TheVariants.{BeforeRecording, NotYet, AfterRecording, ProgrammeTooLong}
 use Rattle.hls_catchup.specs.Kept.{Kept, kept_in, all_kept, kept_from, IsLastBy}
-use Rattle.hls_catchup.specs.Requests.{all_finished, goal_for, IsInRange, IsTableFor}
+use Rattle.hls_catchup_laws.specs.Requests.{all_finished, goal_for, IsInRange, IsTableFor}
 use Rattle.hls_catchup.specs.Programmes.{table_at, ArePlacesFor}
 use Rattle.hls_catchup.proofs.Walks.{after-later, from-later}
 

@@ -1,14 +1,5 @@
--- The jobs of a channel: a table of requests and their answers, and what is served of a job.
-pub mod FaultName
-pub mod Answers
-pub mod Finishes
-pub mod Phases
-pub mod Tables
-pub mod Changes
+-- The table of jobs as it is kept, and what is written of a job in parts.
+pub mod Refusals
 pub mod Rows
 pub mod Kept
-pub mod Shared
-pub mod Standing
-pub mod Files
 pub mod CertificateTexts
-pub mod Line

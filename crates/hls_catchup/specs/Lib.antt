@@ -1,14 +1,7 @@
-pub mod FaultName
-pub mod Lists
 pub mod LiveTexts
-pub mod Accepted
-pub mod Answers
-pub mod Requests
 pub mod Kept
 pub mod Programmes
-pub mod Replies
 pub mod Plays
-pub mod Resources
 pub mod Spans
 pub mod Named
 pub mod Jobs

@@ -12,7 +12,7 @@ use Rattle.hls_core_laws.specs.Line.{line}
 use Rattle.hls_lists_laws.specs.Live.{live_list_of, live_uri, listed}
 use Rattle.hls_lists_laws.specs.Segments.{Cutting}
 use Rattle.hls_places_laws.specs.declared.line.segment.Segment as live_line
-use Rattle.hls_catchup.specs.Lists.{cutting}
+use Rattle.hls_catchup_laws.specs.Lists.{cutting}
 use Rattle.hls_catchup.specs.declared.live_text.LiveText.TheInside.{Inside}
 
 -- the live list over a recording, with these segments

@@ -1,15 +1,14 @@
 -- Runs of events and requests: where they end, and how each request is answered.
-use Rattle.std.specs.Prelude.{◌≡◌, ℕ, List, [], ◌∷◌, ◌++◌, length, take, slice_get, Option, Some, None, Result, Err}
+use Rattle.std.specs.Prelude.{◌≡◌, ℕ, List, [], ◌∷◌, ◌++◌, length, take, slice_get, Some, Result}
 use Rattle.hls_core_laws.specs.declared.event.Event.{Event}
 use Rattle.hls_core_laws.specs.Config.{ConfigData}
 use Rattle.hls_core_laws.specs.State.{State}
 use Rattle.hls_core_laws.specs.Runs.{first_state, replayed, AreFitting}
-use Rattle.hls_catchup.specs.declared.request.Request.{Request}
-use Rattle.hls_catchup.specs.declared.fault.CatchFault.{CatchFault}
-use Rattle.hls_catchup.specs.declared.fault.CatchFault.TheVariants.{Memory}
+use Rattle.hls_catchup_laws.specs.declared.request.Request.{Request}
+use Rattle.hls_catchup_laws.specs.declared.fault.CatchFault.{CatchFault}
 use Rattle.hls_catchup.specs.declared.actions.Action.{Action}
 use Rattle.hls_catchup.specs.declared.actions.Action.TheVariants as action
-use Rattle.hls_catchup.specs.Replies.{ReplyData, IsReplyTo}
+use Rattle.hls_catchup_laws.specs.Replies.{ReplyData, IsAnswered}
 
 -- the events of a run, in order, each with the worker who brought it
 abbrev pub events_in : List Action → List (ℕ × Event)
@@ -26,12 +25,6 @@ requests_in (action.Ask request ∷ rest) = request ∷ requests_in rest
 -- the state before action k of a run
 abbrev pub state_before : ConfigData → List Action → ℕ → State
 state_before config actions k = replayed (first_state config) (events_in (take k actions))
-
--- the answer is there, it is that of the state to the request, and it isn't want of memory, which ends the run
-abbrev pub IsAnswered : State → Request → Option (Result ReplyData CatchFault) → Type 0
-IsAnswered s request None = ⊥
-IsAnswered s request (Some (Err Memory)) = ⊥
-IsAnswered s request (Some answer) = IsReplyTo s request answer
 
 -- one answer more, the right one
 pub record HasAnswerBehind (s : State) (request : Request) (before after : List (Result ReplyData CatchFault)) : Type 0 where

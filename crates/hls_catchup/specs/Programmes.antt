@@ -5,10 +5,10 @@ use Rattle.hls_check_laws.specs.Orders.{IsOrderly}
 use Rattle.hls_places_laws.specs.Order.{spots_of}
 use Rattle.hls_core_laws.specs.State.{State}
 use Rattle.hls_catchup.specs.declared.programme.Programme.{Programme}
-use Rattle.hls_catchup.specs.declared.request.Request.{Request}
-use Rattle.hls_catchup.specs.declared.fault.CatchFault.{CatchFault}
+use Rattle.hls_catchup_laws.specs.declared.request.Request.{Request}
+use Rattle.hls_catchup_laws.specs.declared.fault.CatchFault.{CatchFault}
 use Rattle.hls_catchup.specs.Kept.{kept_from}
-use Rattle.hls_catchup.specs.Requests.{goal_for, IsTableFor}
+use Rattle.hls_catchup_laws.specs.Requests.{goal_for, IsTableFor}
 
 -- the table of a programme's places
 abbrev pub table_at : State → Request → Programme → Table

@@ -2,8 +2,8 @@
 use Rattle.std.specs.Prelude.{◌≡◌, ℕ, ◌≤◌, ◌∷◌, Some}
 use Rattle.hls_lists_laws.specs.Jobs.{units_between}
 use Rattle.hls_catchup.specs.declared.span.Span.{Span}
-use Rattle.hls_catchup.specs.Replies.{ReplyData}
-use Rattle.hls_catchup.specs.Resources.{parts_in}
+use Rattle.hls_catchup_laws.specs.Replies.{ReplyData}
+use Rattle.hls_catchup_laws.specs.Resources.{parts_in}
 
 -- the recording's units from the first to the one before the end are the reply's
 pub record IsSpan (reply : ReplyData) (r : ℕ) (span : Span) : Type 0 where

@@ -2,11 +2,11 @@
 
 ghost use Rattle.std.specs.Prelude.{◌≡◌, Some, IfOk};
 ghost use Rattle.hls_core_laws.specs.Runs.{first_state, AreFitting};
-ghost use Rattle.hls_catchup.specs.Plays.{events_in, HasAnswerBehind, IsAnswered, IsPlayed};
+ghost use Rattle.hls_catchup.specs.Plays.{events_in, HasAnswerBehind, IsPlayed};
+ghost use Rattle.hls_catchup_laws.specs.Replies.{IsAnswered};
 
-use crate::fault::CatchFault;
-use crate::reply::{Reply, answer};
-use crate::request::Request;
+use crate::reply::answer;
+use hls_catchup_laws::{CatchFault, Reply, Request};
 use hls_core::config::Config;
 use hls_core::replay::next;
 use hls_core::snapshot::Snapshot;

@@ -1,30 +1,15 @@
 //! A table cut by a least plan.
 
-ghost use Rattle.std.specs.Prelude.{◌≡◌, length, map, IfOk};
+ghost use Rattle.std.specs.Prelude.{map, IfOk};
 ghost use Rattle.hls_core_laws.specs.Config.{IsEpoch};
-ghost use Rattle.hls_catchup.specs.Answers.{AreCovered, IsRightCutout};
+ghost use Rattle.hls_catchup_laws.specs.Answers.{AreCovered, IsRightCutout};
 
-use crate::laws::good_is_accepted;
 use crate::lists::job_lists;
-use hls_check_laws::{Certificate, PlaceTable};
-use hls_m3u8::MediaPlaylist;
+use hls_catchup_laws::{Cutout, good_is_accepted};
+use hls_check_laws::PlaceTable;
 use hls_plan::{Planned, certificate, plan};
 use hls_record::Recording;
 use std::alloc::{AllocError, Global};
-
-/// What a programme was cut into. The certificate holds the programme's table and the plan, or the closed set.
-#[derive(Drop)]
-pub enum Cutout {
-    /// A least plan: one playlist for each rendition, in order.
-    Cut {
-        playlists: Vec<MediaPlaylist>,
-        certificate: Certificate,
-    },
-    /// The table has no plan.
-    NoCut {
-        certificate: Certificate,
-    },
-}
 
 /// Cuts the programme of a table: a least plan with its playlists, which are dated where the epoch is known, or the proof that
 /// there is no plan.

@@ -3,27 +3,25 @@
 #![tactic(auto)]
 
 pub use actions::{Action, play};
-pub use cutout::{Cutout, cut};
-pub use fault::{CatchFault, JobFault};
+pub use cutout::cut;
+pub use hls_catchup_laws::{
+    Answered, CatchFault, Cutout, Ending, Finished, Job, JobFault, Reply, Request, Withheld, Work,
+    good_is_accepted, reply_in,
+};
 pub use hls_check_laws::CostRule;
-pub use jobs::answered::Answered;
+pub use jobs::answered::answered;
 pub use jobs::certificate_text::CertificateText;
 pub use jobs::files::{certificate_text, master_text, playlist_text};
-pub use jobs::finished::{Ending, Finished, run_job};
+pub use jobs::finished::run_job;
 pub use jobs::gate::{Gate, work_loop};
-pub use jobs::job::Job;
 pub use jobs::line::job_line;
 pub use jobs::shared::Jobs;
-pub use jobs::standing::{Withheld, reply_in};
 pub use jobs::table::JobTable;
-pub use jobs::work::Work;
-pub use laws::good_is_accepted;
 pub use lists::job_lists;
 pub use live::live_playlist;
 pub use live_text::LiveText;
 pub use masters::{job_master, live_master};
-pub use reply::{Reply, answer};
-pub use request::Request;
+pub use reply::answer;
 pub use resource::{resource_piece, resource_place, resource_slice, resource_total};
 pub use segments::{bytes_between, is_break, segment_between, segments_of};
 pub use span::{reply_piece, reply_place, reply_slice, reply_total};
@@ -31,11 +29,9 @@ pub use table::table_of;
 
 mod actions;
 mod cutout;
-mod fault;
 mod floors;
 mod jobs;
 mod kept;
-mod laws;
 mod lists;
 mod live;
 mod live_text;
@@ -43,7 +39,6 @@ mod masters;
 mod programme;
 mod recordings;
 mod reply;
-mod request;
 mod resource;
 mod segments;
 mod span;

@@ -4,7 +4,7 @@ ghost use Rattle.std.specs.Prelude.{◌≡◌, ◌<◌, length, map, All, IfOk};
 ghost use Rattle.hls_record.specs.Valid.{IsRecorded};
 ghost use Rattle.hls_core_laws.specs.Config.{IsEpoch};
 ghost use Rattle.hls_m3u8.specs.Playlist.{playlist_of};
-ghost use Rattle.hls_catchup.specs.Lists.{job_list, job_lists};
+ghost use Rattle.hls_catchup_laws.specs.Lists.{job_list, job_lists};
 
 use crate::resource::resource_uri;
 use crate::segments::segments_of;

@@ -8,7 +8,7 @@ ghost use Rattle.hls_m3u8.specs.Playlist.{playlist_of};
 ghost use Rattle.hls_core_laws.specs.Config.{IsEpoch};
 ghost use Rattle.hls_core_laws.specs.IsState.{IsState};
 ghost use Rattle.hls_lists_laws.specs.Live.{listed, live_list_of};
-ghost use Rattle.hls_catchup.specs.Lists.{cutting};
+ghost use Rattle.hls_catchup_laws.specs.Lists.{cutting};
 ghost use Rattle.hls_catchup.specs.LiveTexts.{list_by, list_with};
 
 use crate::resource::resource_uri;

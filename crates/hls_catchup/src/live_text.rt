@@ -6,7 +6,7 @@ ghost use Rattle.hls_check_laws.specs.Tables.{spot_in};
 ghost use Rattle.hls_m3u8.specs.Lines.{media_text};
 ghost use Rattle.hls_core_laws.specs.Config.{IsEpoch};
 ghost use Rattle.hls_lists_laws.specs.Live.{live_list_of};
-ghost use Rattle.hls_catchup.specs.Lists.{cutting};
+ghost use Rattle.hls_catchup_laws.specs.Lists.{cutting};
 ghost use Rattle.hls_catchup.specs.LiveTexts.{Has, IsGood, Reaches, left_of, lines_by};
 
 use crate::live::{list_with, listed, recording_listed};

@@ -7,8 +7,8 @@ ghost use Rattle.hls_m3u8.specs.Masters.{master_of};
 ghost use Rattle.hls_catchup.specs.Named.{IsNamed};
 ghost use Rattle.hls_lists_laws.specs.Masters.{is_video, list_uri, audio_at, variant_at, audio_from, videos_from, variants_from, master_below, live_master, job_master};
 
-use crate::reply::Reply;
 use bytes::ByteStr;
+use hls_catchup_laws::Reply;
 use hls_core::snapshot::Snapshot;
 use hls_core_laws::rendition::Rendition;
 use hls_m3u8::{AudioRendition, MasterPlaylist, VariantStream};

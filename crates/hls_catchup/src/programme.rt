@@ -1,14 +1,13 @@
 //! The programme of a request among the kept places.
 
 ghost use Rattle.std.specs.Prelude.{◌≡◌, if◌then◌else◌};
-ghost use Rattle.hls_catchup.specs.declared.fault.CatchFault.TheVariants.{NotYet, AfterRecording};
-ghost use Rattle.hls_catchup.specs.Requests.{all_finished, IsInRange};
+ghost use Rattle.hls_catchup_laws.specs.declared.fault.CatchFault.TheVariants.{NotYet, AfterRecording};
+ghost use Rattle.hls_catchup_laws.specs.Requests.{all_finished, IsInRange};
 ghost use Rattle.hls_catchup.specs.Programmes.{IsFound};
 
-use crate::fault::CatchFault;
 use crate::kept::KeptPlaces;
 use crate::recordings::all_finished;
-use crate::request::Request;
+use hls_catchup_laws::{CatchFault, Request};
 use hls_check_laws::{CHARGE_LIMIT, PLACE_LIMIT};
 use hls_core::kept::last_kept_by;
 use hls_core::snapshot::Snapshot;

@@ -4,7 +4,7 @@ ghost use Rattle.std.specs.Prelude.{◌≡◌, ◌≤◌, [], length, map, slice
 ghost use Rattle.hls_check_laws.specs.Tables.{rendition_limit};
 ghost use Rattle.hls_core_laws.specs.State.{channel};
 ghost use Rattle.hls_core_laws.specs.Places.{is_finished, places};
-ghost use Rattle.hls_catchup.specs.Requests.{all_finished, AreRecordings};
+ghost use Rattle.hls_catchup_laws.specs.Requests.{all_finished, AreRecordings};
 
 use hls_core::snapshot::Snapshot;
 use hls_record::Recording;

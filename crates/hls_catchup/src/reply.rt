@@ -1,60 +1,16 @@
 //! Answers to requests.
 
-ghost use Rattle.std.specs.Prelude.{◌≡◌, Err, MatchResult};
-ghost use Rattle.hls_catchup.specs.Requests.{IsTableFor, IsRightAnswer};
-ghost use Rattle.hls_catchup.specs.Replies.{IsReplyTo};
+ghost use Rattle.std.specs.Prelude.{Err, MatchResult};
+ghost use Rattle.hls_catchup_laws.specs.Requests.{IsTableFor, IsRightAnswer};
+ghost use Rattle.hls_catchup_laws.specs.Replies.{IsReplyTo};
 
-use crate::cutout::{Cutout, cut};
-use crate::fault::CatchFault;
+use crate::cutout::cut;
 use crate::recordings::recordings_of;
-use crate::request::Request;
 use crate::table::table_of;
+use hls_catchup_laws::{CatchFault, Cutout, Reply, Request};
 use hls_core::snapshot::Snapshot;
 use std::alloc::Global;
-use std::marker::Model;
 use std::sync::Arc;
-
-/// The answer to a request: it holds the snapshot that it was cut from, so no later event changes it.
-#[derive(Drop)]
-pub struct Reply {
-    snapshot: Arc<Snapshot>,
-    request: Request,
-    cutout: Cutout,
-}
-
-impl Model for Reply {
-    ghost use Rattle.hls_catchup.specs.Replies.{ReplyData, seen};
-    ghost use Rattle.hls_catchup.specs.Requests.{IsRightAnswer};
-
-    ghost Value = { ReplyData };
-
-    ghost view = { seen };
-
-    ghost invariant = { λ r. IsRightAnswer r.snapshot.value r.request r.cutout };
-}
-
-impl Reply {
-    /// The snapshot that was asked.
-    pub fn snapshot(&self) -> &Snapshot
-        ensures value { result.now ≡ self.now.state }
-        ensures right { IsRightAnswer self.now.state self.now.request self.now.cutout }
-    {
-        &self.snapshot
-    }
-
-    pub fn request(&self) -> Request
-        ensures { result ≡ self.now.request }
-    {
-        self.request
-    }
-
-    /// The playlists with their certificate, or the certificate that there is no plan.
-    pub fn cutout(&self) -> &Cutout
-        ensures { result.now ≡ self.now.cutout }
-    {
-        &self.cutout
-    }
-}
 
 /// Answers a request from one snapshot: a least plan of the programme's table with a playlist for each rendition, or the
 /// proof that there is no plan, with its certificate; or the first fault.
@@ -66,11 +22,7 @@ pub fn answer(
     ensures { IsReplyTo snapshot.now.value request result }
 {
     match cut_for(alloc, snapshot, request) {
-        Ok(cutout) => Ok(Reply {
-            snapshot: Arc::try_clone(snapshot)?,
-            request,
-            cutout,
-        }),
+        Ok(cutout) => Ok(Reply::new(Arc::try_clone(snapshot)?, request, cutout)),
         Err(fault) => Err(fault),
     }
 }

@@ -4,8 +4,8 @@ ghost use Rattle.std.specs.Prelude.{◌≡◌, [], ◌∷◌, ◌<◌, ◌≤◌
 ghost use Rattle.std.specs.Option.{option_copied};
 ghost use Rattle.hls_record.specs.Recorded.{unit_piece};
 ghost use Rattle.hls_lists_laws.specs.Jobs.{units_between, resource_of};
-ghost use Rattle.hls_catchup.specs.Resources.{FindsPlace};
-ghost use Rattle.hls_catchup.specs.Lists.{resource_uri};
+ghost use Rattle.hls_catchup_laws.specs.Resources.{FindsPlace};
+ghost use Rattle.hls_catchup_laws.specs.Lists.{resource_uri};
 
 use crate::segments::bytes_between;
 use bytes::ByteStr;

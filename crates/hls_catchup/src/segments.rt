@@ -5,7 +5,7 @@ ghost use Rattle.hls_check_laws.specs.Tables.{spot_in, place_at};
 ghost use Rattle.hls_core_laws.specs.Config.{IsEpoch};
 ghost use Rattle.hls_lists_laws.specs.Jobs.{bytes_between};
 ghost use Rattle.hls_lists_laws.specs.Segments.{is_break, date_at, segment_between, segments_of};
-ghost use Rattle.hls_catchup.specs.Lists.{cutting};
+ghost use Rattle.hls_catchup_laws.specs.Lists.{cutting};
 
 use bytes::ByteStr;
 use hls_check_laws::{PlaceTable, Spots};

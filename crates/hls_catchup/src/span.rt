@@ -2,12 +2,11 @@
 
 ghost use Rattle.std.specs.Prelude.{◌≡◌, ◌<◌, ◌^◌, [], get_or, length, IfNone, IfSome, None};
 ghost use Rattle.std.specs.Option.{option_copied};
-ghost use Rattle.hls_catchup.specs.Resources.{FindsPlace, parts_in, length_of_parts, piece_of, slices_in};
+ghost use Rattle.hls_catchup_laws.specs.Resources.{FindsPlace, parts_in, length_of_parts, piece_of, slices_in};
 ghost use Rattle.hls_catchup.specs.Spans.{IsSpan};
 
-use crate::cutout::Cutout;
-use crate::reply::Reply;
 use crate::resource::{resource_piece, resource_place, resource_slice, resource_total};
+use hls_catchup_laws::{Cutout, Reply};
 use hls_record::Recording;
 
 /// Which units of a recording a reply's resource has: those from number `first` to the one before `end`.

@@ -1,12 +1,11 @@
 //! The table of a request's programme.
 
 ghost use Rattle.std.specs.Prelude.{◌≡◌, IfOk};
-ghost use Rattle.hls_catchup.specs.Requests.{goal_for, IsTableFor};
+ghost use Rattle.hls_catchup_laws.specs.Requests.{goal_for, IsTableFor};
 ghost use Rattle.hls_catchup.specs.Programmes.{table_at, ArePlacesFor};
 
-use crate::fault::CatchFault;
 use crate::programme::{Programme, programme_of};
-use crate::request::Request;
+use hls_catchup_laws::{CatchFault, Request};
 use hls_check_laws::{Goal, PlaceTable, PrintedTable};
 use hls_core::snapshot::Snapshot;
 use std::alloc::{AllocError, Global};

@@ -2,6 +2,6 @@
 #![tactic(auto)]
 
 pub use hls_catchup::{
-    Answered, Ending, Finished, Gate, Job, JobFault, JobTable, Jobs, Withheld, Work,
+    Answered, Ending, Finished, Gate, Job, JobFault, JobTable, Jobs, Withheld, Work, answered,
     certificate_text, job_line, master_text, playlist_text, reply_in, run_job, work_loop,
 };

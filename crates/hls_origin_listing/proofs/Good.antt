@@ -20,7 +20,7 @@ use Rattle.hls_lists_laws.specs.Jobs.{bytes_between}
 use Rattle.hls_lists_laws.specs.Segments.{Cutting, is_break, date_at, segment_between, segments_from, segments_of}
 use Rattle.hls_lists_laws.specs.SegmentLaws.{AreUnits, end_fragment}
 use Rattle.hls_lists_laws.proofs.Callers.{places_small, date_good, some_bytes, few_bytes, segments_are_good}
-use Rattle.hls_catchup.specs.Lists.{cutting}
+use Rattle.hls_catchup_laws.specs.Lists.{cutting}
 use Rattle.hls_origin_listing.specs.Each.{each_place, AllReach}
 
 -- what holds of the element at each place holds of all

@@ -6,7 +6,7 @@ use Rattle.hls_m3u8.specs.declared.playlist.Segment.{Segment}
 use Rattle.hls_m3u8.specs.Forms.{vod_list}
 use Rattle.hls_m3u8.specs.Written.{IsWritten}
 use Rattle.hls_lists_laws.specs.Segments.{segments_of}
-use Rattle.hls_catchup.specs.Lists.{cutting}
+use Rattle.hls_catchup_laws.specs.Lists.{cutting}
 use Rattle.hls_origin_listing.specs.Each.{list_by}
 
 pub written_by : (epoch : Option ℤ) (r : Recorded) (target seconds : ℕ) (uri name : List ℕ) (segments : List Segment) (places : List (List Spot))

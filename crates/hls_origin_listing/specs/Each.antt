@@ -10,7 +10,7 @@ use Rattle.hls_m3u8.specs.Forms.{vod_list}
 use Rattle.hls_m3u8.specs.Playlist.{Playlist}
 use Rattle.hls_m3u8.specs.Written.{IsWritten}
 use Rattle.hls_lists_laws.specs.Segments.{segments_of}
-use Rattle.hls_catchup.specs.Lists.{cutting}
+use Rattle.hls_catchup_laws.specs.Lists.{cutting}
 use Rattle.hls_origin_listing.specs.declared.forms.Listed.{Listed}
 use Rattle.hls_origin_listing.specs.declared.forms.Listed.TheVariants.{Text, NoCut}
 use Rattle.hls_origin_listing.specs.declared.fault.ListFault.{ListFault}

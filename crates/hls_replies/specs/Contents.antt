@@ -6,7 +6,7 @@ use Rattle.hls_core.specs.Reads.{recording_of}
 use Rattle.hls_http_laws.specs.{declared.range.Asked.Asked, declared.range.Part.TheVariants.Outside, Range.part_of, Reply.extra_line}
 use Rattle.hls_lists_laws.specs.Jobs.{units_between}
 use Rattle.hls_output.specs.Slices.{part_at, rest_at}
-use Rattle.hls_catchup.specs.{Resources.parts_in, declared.jobs.job.Job.Job, Jobs.Standing.files_of}
+use Rattle.hls_catchup_laws.specs.{Resources.parts_in, declared.jobs.job.Job.Job, Jobs.Standing.files_of}
 use Rattle.hls_serve_laws.specs.JobReplies.{resource_of}
 use Rattle.hls_serve_laws.specs.Replies.{Answer, media_bytes, media_given, part_answer}
 use Rattle.hls_replies.specs.{declared.media.Recorded.Recorded as Kept, declared.media.Piece.Piece}

@@ -6,7 +6,7 @@ use Rattle.hls_http_laws.specs.declared.fault.HttpFault.TheVariants as faults
 use Rattle.hls_http_laws.specs.Reply.{fault_status, is_success, no_memory_to}
 use Rattle.hls_core_laws.specs.{declared.event.Event.TheVariants.Finish, declared.refusal.Refusal.Refusal}
 use Rattle.hls_core_laws.specs.{declared.refusal.Refusal.TheVariants.Memory, declared.done.Done.Done as Moved}
-use Rattle.hls_catchup.specs.{declared.fault.JobFault.JobFault, declared.jobs.job.Job.Job}
+use Rattle.hls_catchup_laws.specs.{declared.fault.JobFault.JobFault, declared.jobs.job.Job.Job}
 use Rattle.hls_serve_laws.specs.Acts.{Act, ActsInVain, Submits}
 use Rattle.hls_serve_laws.specs.{JobTable.IsTold, declared.route.Route.Route}
 use Rattle.hls_serve_laws.specs.Heard.{Asks, Due, Request, Finishes, IsDue, IsDueWithoutHead, IsSkipped, Serves, ServesAllowed, ServesBy, ServesJob, ShowsJob, due_for_memory, first_of, job_at, to_head}

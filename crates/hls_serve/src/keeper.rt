@@ -2,7 +2,7 @@
 
 ghost use Rattle.std.specs.Prelude.{◌≡◌, IfOk, length};
 ghost use Rattle.hls_core_laws.specs.{IsState.IsState, Moves.IsFittingAsSeen, State.State, Known.Known};
-ghost use Rattle.hls_catchup.specs.Jobs.Shared.{HasCounted, HasRemoved};
+ghost use Rattle.hls_catchup_laws.specs.Jobs.Shared.{HasCounted, HasRemoved};
 ghost use Rattle.hls_core_laws.specs.Known.{LookedOn, Looks, Submits};
 ghost use Rattle.hls_serve_laws.specs.JobTable.{IsAdded, IsTold};
 ghost use Rattle.hls_serve_laws.specs.Playlists.{live_text};

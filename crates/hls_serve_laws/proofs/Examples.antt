@@ -3,7 +3,7 @@ use Rattle.std.proofs.Common.{◌≡◌, pos, false, [], ◌∷◌, ◌++◌, So
 use Rattle.std.specs.Fmt.{digits}
 use Rattle.hls_http_laws.specs.declared.range.Asked.TheVariants as ranges
 use Rattle.hls_text.specs.Digits.{number_of}
-use Rattle.hls_catchup.specs.declared.jobs.job.Job.TheVariants as told
+use Rattle.hls_catchup_laws.specs.declared.jobs.job.Job.TheVariants as told
 use Rattle.hls_serve_laws.specs.{declared.query.Moment.TheVariants.Instant, Queries.wanted_of, Routes.route_of}
 use Rattle.hls_serve_laws.specs.declared.route.Route.TheVariants as routes
 use Rattle.hls_serve_laws.specs.declared.route.JobFile.TheVariants as files

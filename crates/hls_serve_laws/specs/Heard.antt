@@ -17,11 +17,11 @@ use Rattle.hls_http_laws.specs.Order.{announced_by, plan_by, continues, says_clo
 use Rattle.hls_http_laws.specs.Reply.{continue_text, is_success, no_memory_to}
 use Rattle.hls_http_laws.specs.declared.end.BodyEnd.TheVariants as bodies
 use Rattle.hls_http_laws.specs.declared.end.DropEnd.TheVariants as drops
-use Rattle.hls_catchup.specs.declared.fault.JobFault.TheVariants.{UnknownJob}
+use Rattle.hls_catchup_laws.specs.declared.fault.JobFault.TheVariants.{UnknownJob}
 use Rattle.hls_serve_laws.specs.declared.ingest.Intake.TheVariants as came
 use Rattle.hls_serve_laws.specs.{declared.query.QueryFault.TheVariants.BadQuery, Faults.status_of}
 use Rattle.hls_serve_laws.specs.declared.route.Route.TheVariants as routes
-use Rattle.hls_catchup.specs.Jobs.Shared.{HasCounted, HasRemoved}
+use Rattle.hls_catchup_laws.specs.Jobs.Shared.{HasCounted, HasRemoved}
 use Rattle.hls_serve_laws.specs.Acts.{Act, ActsInVain, Looks, Submits}
 use Rattle.hls_serve_laws.specs.Ingest.{BodyComes, Progress, Stops, counts_text}
 use Rattle.hls_serve_laws.specs.JobTable.{IsAdded, IsTold}

@@ -6,11 +6,11 @@ use Rattle.hls_http_laws.specs.declared.reply.Status.TheVariants.{Done, Accepted
 use Rattle.hls_http_laws.specs.Range.{part_of}
 use Rattle.hls_http_laws.specs.declared.reply.Extra.TheVariants as extras
 use Rattle.hls_http_laws.specs.Reply.{extra_line, refusal}
-use Rattle.hls_catchup.specs.{Replies.ReplyData, Resources.parts_in, Jobs.FaultName.job_fault_name}
-use Rattle.hls_catchup.specs.{declared.jobs.standing.Withheld.Withheld, Jobs.Standing.files_of}
-use Rattle.hls_catchup.specs.declared.jobs.standing.Withheld.TheVariants as withheld
-use Rattle.hls_catchup.specs.Jobs.Files.{certificate_file, master_file, playlist_file}
-use Rattle.hls_catchup.specs.Jobs.Line.{job_line, version_end}
+use Rattle.hls_catchup_laws.specs.{Replies.ReplyData, Resources.parts_in, Jobs.FaultName.job_fault_name}
+use Rattle.hls_catchup_laws.specs.{declared.jobs.standing.Withheld.Withheld, Jobs.Standing.files_of}
+use Rattle.hls_catchup_laws.specs.declared.jobs.standing.Withheld.TheVariants as withheld
+use Rattle.hls_catchup_laws.specs.Jobs.Files.{certificate_file, master_file, playlist_file}
+use Rattle.hls_catchup_laws.specs.Jobs.Line.{job_line, version_end}
 use Rattle.hls_serve_laws.specs.declared.route.JobFile.TheVariants as files
 use Rattle.hls_serve_laws.specs.Queries.{query_fault_name}
 use Rattle.hls_serve_laws.specs.Replies.{Answer, fault_answer, list_answer, part_answer, text_answer, text_with}

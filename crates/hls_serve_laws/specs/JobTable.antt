@@ -1,8 +1,8 @@
 -- What a session relies on of the table of jobs, each time that it asks there; what it met once it needn't meet again.
 use Rattle.std.specs.Prelude.{◌≡◌, ℕ, IfOk, Result}
 use Rattle.std.specs.{Global.Global, declared.sync.Arc.Arc}
-use Rattle.hls_catchup.specs.Jobs.Phases.{IsRightJob}
-use Rattle.hls_catchup.specs.Jobs.Shared.{HasAdded, HasGot}
+use Rattle.hls_catchup_laws.specs.Jobs.Phases.{IsRightJob}
+use Rattle.hls_catchup_laws.specs.Jobs.Shared.{HasAdded, HasGot}
 use Rattle.hls_serve_laws.specs.Types.{State, Request, JobFault, Job}
 
 -- a job with this very state was added to some table of jobs

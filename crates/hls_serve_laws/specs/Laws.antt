@@ -5,8 +5,8 @@ use Rattle.hls_http_laws.specs.declared.fault.HttpFault.TheVariants as http
 use Rattle.hls_http_laws.specs.declared.reply.Status.TheVariants.{Done}
 use Rattle.hls_http_laws.specs.Requests.{Request as WholeRequest, Cuts}
 use Rattle.hls_http_laws.specs.{declared.method.Method.TheVariants.Other, Methods.method_of}
-use Rattle.hls_catchup.specs.{declared.fault.CatchFault.CatchFault, Plays.IsAnswered, Jobs.Line.result_line}
-use Rattle.hls_catchup.specs.Replies.{ReplyData, IsRightReply}
+use Rattle.hls_catchup_laws.specs.{declared.fault.CatchFault.CatchFault, Replies.IsAnswered, Jobs.Line.result_line}
+use Rattle.hls_catchup_laws.specs.Replies.{ReplyData, IsRightReply}
 use Rattle.hls_serve_laws.specs.Connections.{Exchange, Serves}
 use Rattle.hls_serve_laws.specs.Heard.{ShowsJob}
 use Rattle.hls_serve_laws.specs.JobReplies.{file_answer, reply_answer, told_answer}

@@ -4,9 +4,9 @@ use Rattle.std.specs.Prelude.{◌==◌, All, slice_get, slice_set}
 use Rattle.std.specs.List.{AllByRecursion, remove}
 use Rattle.std.proofs.lemmas.Bool.{eq-eqb, ne_eqb}
 use Rattle.std.proofs.lemmas.List.Elements.{All-head, All-tail}
-use Rattle.hls_catchup.specs.declared.jobs.row.Row.{Row}
-use Rattle.hls_catchup.specs.declared.jobs.row.Phase.{Phase}
-use Rattle.hls_catchup.specs.Jobs.Tables.{AreRising, phase_at, with_phase, without}
+use Rattle.hls_catchup_laws.specs.declared.jobs.row.Row.{Row}
+use Rattle.hls_catchup_laws.specs.declared.jobs.row.Phase.{Phase}
+use Rattle.hls_catchup_laws.specs.Jobs.Tables.{AreRising, phase_at, with_phase, without}
 
 -- what stands at a number is one row
 pub same_row : (first row : Row) → Some first ≡ Some row → first ≡ row

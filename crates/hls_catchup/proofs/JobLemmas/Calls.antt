@@ -4,13 +4,13 @@ use Rattle.std.specs.Prelude.{All, slice_get}
 use Rattle.std.specs.List.{AllByRecursion, remove}
 use Rattle.std.proofs.lemmas.List.Elements.{All-head, All-tail}
 use Rattle.std.proofs.lemmas.Option.{slice_get_read}
-use Rattle.hls_catchup.specs.declared.jobs.row.Row.{Row}
-use Rattle.hls_catchup.specs.declared.jobs.row.Phase.{Phase}
-use Rattle.hls_catchup.specs.declared.jobs.row.Phase.TheVariants.{Running}
-use Rattle.hls_catchup.specs.declared.jobs.work.Work.{Work}
-use Rattle.hls_catchup.specs.Jobs.Phases.{is_waiting}
-use Rattle.hls_catchup.specs.Jobs.Tables.{AreRising, phase_at, with_phase, without}
-use Rattle.hls_catchup.specs.Jobs.Changes.{IsNext}
+use Rattle.hls_catchup_laws.specs.declared.jobs.row.Row.{Row}
+use Rattle.hls_catchup_laws.specs.declared.jobs.row.Phase.{Phase}
+use Rattle.hls_catchup_laws.specs.declared.jobs.row.Phase.TheVariants.{Running}
+use Rattle.hls_catchup_laws.specs.declared.jobs.work.Work.{Work}
+use Rattle.hls_catchup_laws.specs.Jobs.Phases.{is_waiting}
+use Rattle.hls_catchup_laws.specs.Jobs.Tables.{AreRising, phase_at, with_phase, without}
+use Rattle.hls_catchup_laws.specs.Jobs.Changes.{IsNext}
 use Rattle.hls_catchup.specs.Jobs.Rows.{StandsAt, WaitsAt, Begins, Sets, waiting_row}
 use Rattle.hls_catchup.proofs.JobLemmas.ByIds.{same_row, none_there, phase_is, set_is, removed_is}
 

@@ -7,10 +7,10 @@ use Rattle.hls_check_laws.specs.Certificates.{Printed}
 use Rattle.hls_check_text.specs.Text.{head_lines, place_line, shown_lines, text}
 use Rattle.hls_check_text.proofs.Written.{places_parts, text_parts}
 use Rattle.hls_text.specs.Lines.{joined}
-use Rattle.hls_catchup.specs.Replies.{ReplyData}
-use Rattle.hls_catchup.specs.declared.jobs.standing.Withheld.{Withheld}
+use Rattle.hls_catchup_laws.specs.Replies.{ReplyData}
+use Rattle.hls_catchup_laws.specs.declared.jobs.standing.Withheld.{Withheld}
 use Rattle.hls_catchup.specs.Jobs.CertificateTexts.{certificate_by, left_by, left_in}
-use Rattle.hls_catchup.specs.Jobs.Files.{certificate_of}
+use Rattle.hls_catchup_laws.specs.Jobs.Files.{certificate_of}
 
 -- the places from one number to the one before another are written
 pub places-on : (c : Printed) (places : List (List Spot)) (old new : List ℕ) (written from stop : ℕ) → places ≡ c.table.places → from ≡ min written (length places)

@@ -1,15 +1,15 @@
 -- What a table keeps stays where it is changed.
 use Rattle.std.proofs.Common.{◌≡◌, ℕ, ◌+◌, ◌<◌, ◌≤◌, List, [], ◌∷◌, ◌++◌, length, sym, subst, arith, Vec, Global}
 use Rattle.std.specs.Vec.{vec_capacity}
-use Rattle.hls_catchup.specs.declared.jobs.row.Row.{Row}
-use Rattle.hls_catchup.specs.declared.jobs.row.Phase.{Phase}
+use Rattle.hls_catchup_laws.specs.declared.jobs.row.Row.{Row}
+use Rattle.hls_catchup_laws.specs.declared.jobs.row.Phase.{Phase}
 use Rattle.hls_catchup.specs.declared.jobs.table.JobTable.TheInside.{Inside}
-use Rattle.hls_catchup.specs.declared.request.Request.{Request}
-use Rattle.hls_catchup.specs.declared.jobs.finished.Ending.{Ending}
-use Rattle.hls_catchup.specs.declared.jobs.finished.Ending.TheVariants.{Answered, NoMemory}
-use Rattle.hls_catchup.specs.Jobs.Finishes.{IsEndOf}
-use Rattle.hls_catchup.specs.Jobs.Phases.{IsRightPhase, ended}
-use Rattle.hls_catchup.specs.Jobs.Tables.{IsTable, with_phase, without, place_limit, id_limit}
+use Rattle.hls_catchup_laws.specs.declared.request.Request.{Request}
+use Rattle.hls_catchup_laws.specs.declared.jobs.finished.Ending.{Ending}
+use Rattle.hls_catchup_laws.specs.declared.jobs.finished.Ending.TheVariants.{Answered, NoMemory}
+use Rattle.hls_catchup_laws.specs.Jobs.Finishes.{IsEndOf}
+use Rattle.hls_catchup_laws.specs.Jobs.Phases.{IsRightPhase, ended}
+use Rattle.hls_catchup_laws.specs.Jobs.Tables.{IsTable, with_phase, without, place_limit, id_limit}
 use Rattle.hls_catchup.specs.Jobs.Kept.{seen, IsKept}
 use Rattle.hls_catchup.proofs.JobLemmas.Valid.{table_added, table_changed, table_without}
 

@@ -9,11 +9,11 @@ use Rattle.hls_m3u8.specs.declared.playlist.MediaPlaylist.{MediaPlaylist}
 use Rattle.hls_m3u8.specs.Playlist.{Playlist, playlist_of}
 use Rattle.hls_m3u8.specs.HasText.{HasText}
 use Rattle.hls_core_laws.specs.State.{State}
-use Rattle.hls_catchup.specs.declared.request.Request.{Request}
-use Rattle.hls_catchup.specs.declared.cutout.Cutout.{Cutout}
-use Rattle.hls_catchup.specs.declared.cutout.Cutout.TheVariants.{Cut}
-use Rattle.hls_catchup.specs.Requests.{IsRightAnswer}
-use Rattle.hls_catchup.specs.Answers.{ShowsCut}
+use Rattle.hls_catchup_laws.specs.declared.request.Request.{Request}
+use Rattle.hls_catchup_laws.specs.declared.cutout.Cutout.{Cutout}
+use Rattle.hls_catchup_laws.specs.declared.cutout.Cutout.TheVariants.{Cut}
+use Rattle.hls_catchup_laws.specs.Requests.{IsRightAnswer}
+use Rattle.hls_catchup_laws.specs.Answers.{ShowsCut}
 
 pub shows_text : (epoch : Option ℤ) (recordings : List Recorded) (t : Table) (lists : List Playlist) (shown : Shown) (r : ℕ) (list : Playlist) → length recordings ≡ t.renditions
     → ShowsCut epoch recordings t lists shown → slice_get lists r ≡ Some list → HasText list

@@ -3,10 +3,10 @@ use Rattle.std.proofs.Common.{◌≡◌, ◌≢◌, ℕ, suc, ◌<◌, ◌≤◌
 use Rattle.std.specs.Prelude.{◌==◌, if◌then◌else◌, not}
 use Rattle.std.specs.List.{AllByRecursion}
 use Rattle.std.proofs.lemmas.Bool.Decides.{eqb_tells}
-use Rattle.hls_catchup.specs.declared.jobs.row.Row.{Row}
-use Rattle.hls_catchup.specs.declared.jobs.row.Phase.{Phase}
-use Rattle.hls_catchup.specs.Jobs.Phases.{IsRightPhase}
-use Rattle.hls_catchup.specs.Jobs.Tables.{TableData, IsTable, AreRising, IsUsed, place_limit, id_limit, with_phase, without}
+use Rattle.hls_catchup_laws.specs.declared.jobs.row.Row.{Row}
+use Rattle.hls_catchup_laws.specs.declared.jobs.row.Phase.{Phase}
+use Rattle.hls_catchup_laws.specs.Jobs.Phases.{IsRightPhase}
+use Rattle.hls_catchup_laws.specs.Jobs.Tables.{TableData, IsTable, AreRising, IsUsed, place_limit, id_limit, with_phase, without}
 
 -- what holds of each row and of one more
 pub all_more : (P : Row → Type 0) (rows : List Row) (row : Row) → AllByRecursion P rows → P row → AllByRecursion P (rows ++ row ∷ [])

@@ -3,11 +3,11 @@ use Rattle.std.specs.Prelude.{ℕ, List, [], ◌++◌, drop, map, Option, Some, 
 use Rattle.hls_check_laws.specs.Certificates.{Printed}
 use Rattle.hls_check_text.specs.Text.{place_line, shown_lines}
 use Rattle.hls_text.specs.Lines.{joined}
-use Rattle.hls_catchup.specs.Replies.{ReplyData}
+use Rattle.hls_catchup_laws.specs.Replies.{ReplyData}
 use Rattle.hls_catchup.specs.declared.jobs.certificate_text.CertificateText.TheInside.{Inside}
-use Rattle.hls_catchup.specs.declared.jobs.standing.Withheld.{Withheld}
-use Rattle.hls_catchup.specs.Jobs.Files.{certificate_of, certificate_file}
-use Rattle.hls_catchup.specs.Jobs.Standing.{files_of}
+use Rattle.hls_catchup_laws.specs.declared.jobs.standing.Withheld.{Withheld}
+use Rattle.hls_catchup_laws.specs.Jobs.Files.{certificate_of, certificate_file}
+use Rattle.hls_catchup_laws.specs.Jobs.Standing.{files_of}
 
 -- the certificate of a job that has files
 abbrev pub certificate_by : Result ReplyData Withheld → Option (List ℕ)

@@ -2,7 +2,7 @@
 -- What a table keeps, and what always holds of it.
 use Rattle.std.specs.Prelude.{◌≤◌}
 use Rattle.std.specs.Vec.{vec_capacity}
-use Rattle.hls_catchup.specs.Jobs.Tables.{TableData, IsTable, place_limit}
+use Rattle.hls_catchup_laws.specs.Jobs.Tables.{TableData, IsTable, place_limit}
 use Rattle.hls_catchup.specs.declared.jobs.table.JobTable.TheInside.{Inside}
 
 abbrev pub seen : Inside → TableData

@@ -1,10 +1,10 @@
 -- For the proofs of this crate; no public clause cites it. Where a job stands among the rows.
 use Rattle.std.specs.Prelude.{◌≡◌, ◌≢◌, ℕ, ◌<◌, true, false, List, length, All, Option, MatchOption, slice_get, slice_set, Some, take}
-use Rattle.hls_catchup.specs.declared.jobs.row.Row.{Row}
-use Rattle.hls_catchup.specs.declared.jobs.row.Phase.{Phase}
-use Rattle.hls_catchup.specs.declared.jobs.row.Phase.TheVariants.{Waiting, Running}
-use Rattle.hls_catchup.specs.declared.jobs.work.Work.{Work}
-use Rattle.hls_catchup.specs.Jobs.Phases.{is_waiting}
+use Rattle.hls_catchup_laws.specs.declared.jobs.row.Row.{Row}
+use Rattle.hls_catchup_laws.specs.declared.jobs.row.Phase.{Phase}
+use Rattle.hls_catchup_laws.specs.declared.jobs.row.Phase.TheVariants.{Waiting, Running}
+use Rattle.hls_catchup_laws.specs.declared.jobs.work.Work.{Work}
+use Rattle.hls_catchup_laws.specs.Jobs.Phases.{is_waiting}
 
 -- the job of this id stands at this number
 pub record StandsAt (rows : List Row) (id at : ℕ) : Type 0 where

@@ -1,98 +1,25 @@
-//! A request with its answer.
+//! A request answered, to be kept with its answer.
 
-ghost use Rattle.std.specs.Prelude.{◌≡◌, length, IfOk};
-ghost use Rattle.hls_catchup.specs.Jobs.Answers.{IsRight};
+ghost use Rattle.std.specs.Prelude.{◌≡◌, IfOk};
 
-use crate::fault::CatchFault;
-use crate::reply::{Reply, answer};
-use crate::request::Request;
+use crate::reply::answer;
+use hls_catchup_laws::{Answered, CatchFault, Request};
 use hls_core::snapshot::Snapshot;
 use std::alloc::{AllocError, Global};
-use std::marker::Model;
 use std::sync::Arc;
 
-/// A request with the snapshot that it was answered from, and the answer: a reply, or why there is none. Want of memory is
-/// no answer.
-///
-/// A contract sees these three, and the answer is always the right one. It never changes, and is shared, not copied.
-#[derive(Drop)]
-pub struct Answered {
-    parts: Arc<Parts>,
-}
-
-/// What is shared.
-#[derive(Drop)]
-struct Parts {
+/// Answers a request from one snapshot. Want of memory is the only fault.
+pub fn answered(
+    alloc: Global,
     snapshot: Arc<Snapshot>,
     request: Request,
-    result: Result<Reply, CatchFault>,
-}
-
-impl Model for Answered {
-    ghost use Rattle.hls_catchup.specs.Jobs.Answers.{AnsweredData, seen, IsRight};
-
-    ghost Value = { AnsweredData };
-
-    ghost view = { seen };
-
-    ghost invariant = { λ a. IsRight (seen a) };
-}
-
-impl Answered {
-    /// Answers a request from one snapshot. Want of memory is the only fault.
-    pub fn of(
-        alloc: Global,
-        snapshot: Arc<Snapshot>,
-        request: Request,
-    ) -> Result<Answered, AllocError>
-        ensures { IfOk result (λ a. (a.state ≡ snapshot.value) × (a.request ≡ request)) }
-    {
-        let result = match answer(alloc, &snapshot, request) {
-            Ok(reply) => Ok(reply),
-            Err(CatchFault::Memory) => return Err(AllocError),
-            Err(fault) => Err(fault),
-        };
-        let parts = Arc::new(
-            alloc,
-            Parts {
-                snapshot,
-                request,
-                result,
-            },
-        )?;
-        Ok(Answered { parts })
-    }
-
-    /// The same once more, over the same memory.
-    pub fn again(&self) -> Result<Answered, AllocError>
-        ensures { IfOk result (λ a. a ≡ self.now) }
-    {
-        Ok(Answered {
-            parts: Arc::try_clone(&self.parts)?,
-        })
-    }
-
-    /// The snapshot that was asked.
-    pub fn snapshot(&self) -> &Snapshot
-        ensures value { result.now ≡ self.now.state }
-        ensures right { IsRight self.now }
-    {
-        &self.parts.snapshot
-    }
-
-    /// What was asked.
-    pub fn request(&self) -> Request
-        ensures value { result ≡ self.now.request }
-        ensures right { IsRight self.now }
-    {
-        self.parts.request
-    }
-
-    /// The reply, or why there is none.
-    pub fn result(&self) -> &Result<Reply, CatchFault>
-        ensures value { result.now ≡ self.now.result }
-        ensures right { IsRight self.now }
-    {
-        &self.parts.result
-    }
+) -> Result<Answered, AllocError>
+    ensures { IfOk result (λ a. (a.state ≡ snapshot.value) × (a.request ≡ request)) }
+{
+    let result = match answer(alloc, &snapshot, request) {
+        Ok(reply) => Ok(reply),
+        Err(CatchFault::Memory) => return Err(AllocError),
+        Err(fault) => Err(fault),
+    };
+    Answered::new(alloc, snapshot, request, result)
 }

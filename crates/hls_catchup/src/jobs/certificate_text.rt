@@ -2,11 +2,10 @@
 
 ghost use Rattle.std.specs.Prelude.{◌≡◌, ◌++◌, IfOk};
 ghost use Rattle.hls_catchup.specs.Jobs.CertificateTexts.{certificate_by, left_in};
-ghost use Rattle.hls_catchup.specs.Jobs.Standing.{files_of};
+ghost use Rattle.hls_catchup_laws.specs.Jobs.Standing.{files_of};
 
 use crate::jobs::files::certificate_of;
-use crate::jobs::job::Job;
-use crate::jobs::standing::reply_in;
+use hls_catchup_laws::{Job, reply_in};
 use hls_check_laws::Certificate;
 use hls_check_text::{push_claim, push_head, push_places};
 use std::alloc::{AllocError, Global};

@@ -1,11 +1,10 @@
 //! The texts among a job's files.
 
 ghost use Rattle.std.specs.Prelude.{◌≡◌, IfOk, option_map};
-ghost use Rattle.hls_catchup.specs.Jobs.Files.{certificate_of, certificate_file, master_file, playlist_file};
+ghost use Rattle.hls_catchup_laws.specs.Jobs.Files.{certificate_of, certificate_file, master_file, playlist_file};
 
-use crate::cutout::Cutout;
 use crate::masters::job_master;
-use crate::reply::Reply;
+use hls_catchup_laws::{Cutout, Reply};
 use hls_check_laws::Certificate;
 use hls_check_text::write;
 use hls_m3u8::{write_master, write_media};

@@ -1,74 +1,10 @@
 //! A job run to its end.
 
-ghost use Rattle.std.specs.Prelude.{◌≡◌, length};
-ghost use Rattle.hls_catchup.specs.Jobs.Finishes.{IsFinishOf, IsOfItsJob};
+ghost use Rattle.hls_catchup_laws.specs.Jobs.Finishes.{IsFinishOf};
 
-use crate::jobs::answered::Answered;
-use crate::jobs::work::Work;
-use crate::request::Request;
+use crate::jobs::answered::answered;
+use hls_catchup_laws::{Ending, Finished, Work};
 use std::alloc::Global;
-use std::marker::Model;
-
-/// How a job ended.
-#[derive(Drop)]
-pub enum Ending {
-    /// With an answer.
-    Answered(Answered),
-    /// Memory ran out.
-    NoMemory,
-}
-
-/// What a job came to: its id, and the version (the number of log entries) and the request that it was run for.
-///
-/// Where there is an answer, it is one of that version to that request.
-#[derive(Drop)]
-pub struct Finished {
-    id: u64,
-    version: u64,
-    request: Request,
-    ending: Ending,
-}
-
-impl Model for Finished {
-    ghost use Rattle.hls_catchup.specs.Jobs.Finishes.{FinishedData, seen, IsOfItsJob};
-
-    ghost Value = { FinishedData };
-
-    ghost view = { seen };
-
-    ghost invariant = { λ f. IsOfItsJob (seen f) };
-}
-
-impl Finished {
-    /// The job's id.
-    pub fn id(&self) -> u64
-        ensures { result ≡ self.now.id }
-    {
-        self.id
-    }
-
-    /// The number of log entries of the snapshot that was asked.
-    pub fn version(&self) -> u64
-        ensures { result ≡ self.now.version }
-    {
-        self.version
-    }
-
-    /// What was asked.
-    pub fn request(&self) -> Request
-        ensures { result ≡ self.now.request }
-    {
-        self.request
-    }
-
-    /// The answer, or want of memory.
-    pub fn into_ending(self) -> Ending
-        ensures value { result ≡ self.ending }
-        ensures right { IsOfItsJob self }
-    {
-        self.ending
-    }
-}
 
 /// Runs a job: the answer to its request from its own snapshot, or want of memory. It waits for nobody.
 pub fn run_job(alloc: Global, work: Work) -> Finished
@@ -80,14 +16,9 @@ pub fn run_job(alloc: Global, work: Work) -> Finished
         request,
     } = work;
     let version = snapshot.version();
-    let ending = match Answered::of(alloc, snapshot, request) {
+    let ending = match answered(alloc, snapshot, request) {
         Ok(answered) => Ending::Answered(answered),
         Err(_) => Ending::NoMemory,
     };
-    Finished {
-        id,
-        version,
-        request,
-        ending,
-    }
+    Finished::new(id, version, request, ending)
 }

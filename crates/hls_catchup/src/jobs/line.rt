@@ -2,12 +2,10 @@
 
 ghost use Rattle.std.specs.Prelude.{◌≡◌, IfOk, option_map};
 ghost use Rattle.std.specs.String.{string_bytes};
-ghost use Rattle.hls_catchup.specs.Jobs.Line.{job_line, answer_line, reply_line};
+ghost use Rattle.hls_catchup_laws.specs.Jobs.Line.{job_line, answer_line, reply_line};
 
-use crate::jobs::answered::Answered;
 use crate::jobs::files::certificate_of;
-use crate::jobs::job::Job;
-use crate::reply::Reply;
+use hls_catchup_laws::{Answered, Job, Reply};
 use hls_check_laws::Claim;
 use std::alloc::{AllocError, Global};
 

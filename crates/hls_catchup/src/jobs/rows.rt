@@ -2,11 +2,11 @@
 
 ghost use Rattle.std.specs.Prelude.{◌≡◌, ◌<◌, ◌≤◌, ◌∷◌, [], ◌++◌, length, true};
 ghost use Rattle.std.specs.Vec.{vec_capacity};
-ghost use Rattle.hls_catchup.specs.Jobs.Phases.{is_waiting};
+ghost use Rattle.hls_catchup_laws.specs.Jobs.Phases.{is_waiting};
 ghost use Rattle.hls_catchup.specs.Jobs.Rows.{IsFound, IsFirstWaiting, WaitsAt, Begins, Sets, waiting_row, running_row};
 
-use crate::jobs::row::{Phase, Row};
-use crate::jobs::work::Work;
+use crate::jobs::phase::is_waiting;
+use hls_catchup_laws::{Phase, Row, Work};
 use std::mem;
 
 /// The number of the job of an id among the rows.
@@ -20,7 +20,7 @@ pub fn place_of(rows: &[Row], id: u64) -> Option<usize>
 pub fn first_waiting(rows: &[Row]) -> Option<usize>
     ensures { IsFirstWaiting rows.now result }
 {
-    rows.iter().position(|row| row.phase.is_waiting())
+    rows.iter().position(|row| is_waiting(&row.phase))
 }
 
 /// Puts a row at the end, where there is room.

@@ -1,17 +1,13 @@
 //! The job table under a lock, and a bell for those who wait for work.
 
 ghost use Rattle.std.specs.Prelude.{IfOk, IfSome};
-ghost use Rattle.hls_catchup.specs.Jobs.Changes.{told};
-ghost use Rattle.hls_catchup.specs.Jobs.Phases.{IsRightJob};
-ghost use Rattle.hls_catchup.specs.Jobs.Shared.{HasAdded, HasCounted, HasFinished, HasGot, HasRemoved, HasTaken};
+ghost use Rattle.hls_catchup.specs.Jobs.Refusals.{told};
+ghost use Rattle.hls_catchup_laws.specs.Jobs.Phases.{IsRightJob};
+ghost use Rattle.hls_catchup_laws.specs.Jobs.Shared.{HasAdded, HasCounted, HasFinished, HasGot, HasRemoved, HasTaken};
 
-use crate::fault::{JobFault, Refused};
-use crate::jobs::finished::Finished;
-use crate::jobs::job::Job;
-use crate::jobs::row::Row;
+use crate::jobs::refused::Refused;
 use crate::jobs::table::JobTable;
-use crate::jobs::work::Work;
-use crate::request::Request;
+use hls_catchup_laws::{Finished, Job, JobFault, Request, Row, Work};
 use hls_core::snapshot::Snapshot;
 use std::alloc::{AllocError, Global};
 use std::sync::{Arc, Condvar, Mutex, Wait};

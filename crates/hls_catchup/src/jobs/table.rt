@@ -1,16 +1,14 @@
 //! The job table.
 
 ghost use Rattle.std.specs.Prelude.{◌≡◌, IfOk, IfErr, length};
-ghost use Rattle.hls_catchup.specs.Jobs.Tables.{IsTable, empty_table};
-ghost use Rattle.hls_catchup.specs.Jobs.Changes.{Adds, Takes, Finishes, Gets, Removes, told};
+ghost use Rattle.hls_catchup_laws.specs.Jobs.Tables.{IsTable, empty_table};
+ghost use Rattle.hls_catchup_laws.specs.Jobs.Changes.{Adds, Takes, Finishes, Gets, Removes};
+ghost use Rattle.hls_catchup.specs.Jobs.Refusals.{told};
 
-use crate::fault::{JobFault, Refused};
-use crate::jobs::finished::Finished;
-use crate::jobs::job::Job;
-use crate::jobs::row::{Phase, Row};
+use crate::jobs::phase::{ended, runs_for, shown};
+use crate::jobs::refused::Refused;
 use crate::jobs::rows::{begin, first_waiting, place_of, push, set_phase};
-use crate::jobs::work::Work;
-use crate::request::Request;
+use hls_catchup_laws::{Finished, Job, JobFault, Phase, Request, Row, Work};
 use hls_core::snapshot::Snapshot;
 use std::alloc::{AllocError, Global};
 use std::marker::Model;
@@ -33,7 +31,7 @@ pub struct JobTable {
 }
 
 impl Model for JobTable {
-    ghost use Rattle.hls_catchup.specs.Jobs.Tables.{TableData};
+    ghost use Rattle.hls_catchup_laws.specs.Jobs.Tables.{TableData};
 
     ghost Value = { TableData };
 
@@ -135,16 +133,13 @@ impl JobTable {
                 back: finished,
             });
         };
-        if !self.rows[at]
-            .phase
-            .runs_for(finished.version(), finished.request())
-        {
+        if !runs_for(&self.rows[at].phase, finished.version(), finished.request()) {
             return Err(Refused {
                 fault: JobFault::Stray,
                 back: finished,
             });
         }
-        set_phase(&mut self.rows, at, Phase::of(finished.into_ending()));
+        set_phase(&mut self.rows, at, ended(finished.into_ending()));
         Ok(())
     }
 
@@ -156,7 +151,7 @@ impl JobTable {
         let Some(at) = place_of(&self.rows, id) else {
             return Err(JobFault::UnknownJob);
         };
-        match self.rows[at].phase.shown() {
+        match shown(&self.rows[at].phase) {
             Ok(job) => Ok(job),
             Err(_) => Err(JobFault::Memory),
         }

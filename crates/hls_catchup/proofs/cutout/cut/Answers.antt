@@ -1,7 +1,7 @@
 use Rattle.std.proofs.Common.{◌≡◌, ◌∙◌, ap, map}
 use Rattle.hls_m3u8.specs.Playlist.{playlist_of}
 use Rattle.hls_plan.specs.Planned.{certificate_of}
-use Rattle.hls_catchup.specs.Lists.{job_lists}
+use Rattle.hls_catchup_laws.specs.Lists.{job_lists}
 use Rattle.hls_catchup.proofs.Right.{right_cut, right_none}
 use Rattle.hls_catchup.proofs.cutout.cut.Goals as goal
 

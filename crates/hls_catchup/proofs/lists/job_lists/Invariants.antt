@@ -1,7 +1,7 @@
 use Rattle.std.proofs.Common.{◌≡◌, ◌++◌, map, take, drop, All}
 use Rattle.hls_record.specs.Valid.{IsRecorded}
 use Rattle.hls_m3u8.specs.Playlist.{playlist_of}
-use Rattle.hls_catchup.specs.Lists.{job_lists}
+use Rattle.hls_catchup_laws.specs.Lists.{job_lists}
 use Rattle.hls_catchup.proofs.lists.job_lists.Given as goal
 
 abbrev pub invariant-loop-rendition : goal.invariant-loop-rendition

@@ -2,7 +2,7 @@ use Rattle.std.proofs.Common.{◌≡◌, ◌++◌, ◌<◌, ◌^◌, length, map
 use Rattle.hls_check_laws.specs.Tables.{spot_in}
 use Rattle.hls_places_laws.specs.Line.Live.{segments_of}
 use Rattle.hls_lists_laws.specs.Live.{listed}
-use Rattle.hls_catchup.specs.Lists.{cutting}
+use Rattle.hls_catchup_laws.specs.Lists.{cutting}
 use Rattle.hls_catchup.proofs.live.live_segments.Given as goal
 
 abbrev pub invariant-loop-segment : goal.invariant-loop-segment

@@ -4,7 +4,7 @@ use Rattle.hls_record.specs.Recorded.{Recorded}
 use Rattle.hls_core_laws.specs.Config.{ConfigData}
 use Rattle.hls_core_laws.specs.State.{State}
 use Rattle.hls_core_laws.specs.Places.{places}
-use Rattle.hls_catchup.specs.Requests.{AreRecordings}
+use Rattle.hls_catchup_laws.specs.Requests.{AreRecordings}
 use Rattle.hls_catchup.proofs.Covered.{table-covered, right_answer}
 use Rattle.hls_catchup.proofs.Tables.{placeless}
 use Rattle.hls_catchup.proofs.reply.cut_for.Goals as goal

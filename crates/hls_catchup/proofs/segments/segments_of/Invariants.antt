@@ -1,7 +1,7 @@
 use Rattle.std.proofs.Common.{◌≡◌, ◌<◌, ◌++◌, false, length, drop, All}
 use Rattle.hls_check_laws.specs.Tables.{IsTable}
 use Rattle.hls_lists_laws.specs.Segments.{segments_from}
-use Rattle.hls_catchup.specs.Lists.{cutting}
+use Rattle.hls_catchup_laws.specs.Lists.{cutting}
 use Rattle.hls_catchup.proofs.segments.segments_of.Given as goal
 
 abbrev pub invariant-loop-to : goal.invariant-loop-to

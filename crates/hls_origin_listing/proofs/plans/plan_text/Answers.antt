@@ -3,7 +3,7 @@ use Rattle.hls_m3u8.specs.declared.playlist.Segment.{Segment}
 use Rattle.hls_m3u8.specs.HasText.{HasText}
 use Rattle.hls_m3u8.specs.Forms.{vod_list}
 use Rattle.hls_lists_laws.specs.Segments.{segments_of}
-use Rattle.hls_catchup.specs.Lists.{cutting}
+use Rattle.hls_catchup_laws.specs.Lists.{cutting}
 use Rattle.hls_origin_listing.proofs.Good.{plan_has_text, plan_within}
 use Rattle.hls_origin_listing.proofs.plans.plan_text.Goals as goal
 

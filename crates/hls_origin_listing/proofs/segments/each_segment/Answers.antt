@@ -1,5 +1,5 @@
 use Rattle.std.proofs.Common.{refl, sym, ◌∙◌, ap}
-use Rattle.hls_catchup.specs.Lists.{cutting}
+use Rattle.hls_catchup_laws.specs.Lists.{cutting}
 use Rattle.hls_lists_laws.specs.Segments.{segment_between}
 use Rattle.hls_origin_listing.proofs.Walked.{ones_of, one_more, all_made}
 use Rattle.hls_origin_listing.proofs.segments.each_segment.Goals as goal

@@ -1,7 +1,7 @@
 use Rattle.std.proofs.Common.{◌≡◌, ◌++◌, All, false, length}
 use Rattle.hls_check_laws.specs.Tables.{IsPlaceOf}
 use Rattle.hls_places_laws.specs.Order.{spots_of}
-use Rattle.hls_catchup.specs.Lists.{cutting}
+use Rattle.hls_catchup_laws.specs.Lists.{cutting}
 use Rattle.hls_origin_listing.proofs.Walked.{along}
 use Rattle.hls_origin_listing.proofs.segments.each_segment.Given as goal
 

@@ -1,11 +1,11 @@
 use Rattle.std.proofs.Common.{◌≡◌, ℕ, ◌<◌, List, Some, None, length, get_or, refl, sym, ap, ◌∙◌, subst}
 use Rattle.std.specs.Prelude.{option_map, slice_get}
 use Rattle.std.proofs.lemmas.Option.{slice_get_read, slice_get_past}
-use Rattle.hls_catchup.specs.declared.cutout.Cutout.{Cutout}
+use Rattle.hls_catchup_laws.specs.declared.cutout.Cutout.{Cutout}
 use Rattle.hls_m3u8.specs.declared.playlist.MediaPlaylist.{MediaPlaylist}
 use Rattle.hls_m3u8.specs.Playlist.{playlist_of}
 use Rattle.hls_m3u8.specs.Lines.{media_text}
-use Rattle.hls_catchup.specs.Jobs.Files.{playlist_in}
+use Rattle.hls_catchup_laws.specs.Jobs.Files.{playlist_in}
 use Rattle.hls_catchup.proofs.JobLemmas.Lists.{list_has_text}
 use Rattle.hls_catchup.proofs.jobs.files.playlist_text.Goals as goal
 

@@ -1,10 +1,10 @@
 use Rattle.std.proofs.Common.{◌∙◌, ◌++◌, Result, ap}
 use Rattle.hls_check_laws.specs.Certificates.{Printed}
 use Rattle.hls_check_laws.specs.Tables.{Table}
-use Rattle.hls_catchup.specs.Replies.{ReplyData}
-use Rattle.hls_catchup.specs.declared.jobs.standing.Withheld.{Withheld}
+use Rattle.hls_catchup_laws.specs.Replies.{ReplyData}
+use Rattle.hls_catchup_laws.specs.declared.jobs.standing.Withheld.{Withheld}
 use Rattle.hls_catchup.specs.Jobs.CertificateTexts.{left_by, left_in}
-use Rattle.hls_catchup.specs.Jobs.Files.{certificate_of}
+use Rattle.hls_catchup_laws.specs.Jobs.Files.{certificate_of}
 use Rattle.hls_catchup.proofs.JobLemmas.CertificateTexts.{all-written}
 use Rattle.hls_catchup.proofs.jobs.certificate_text.CertificateText.finish.Goals as goal
 

@@ -2,8 +2,8 @@ use Rattle.std.proofs.Common.{◌∙◌, ℕ, List, ◌++◌, length, ap}
 use Rattle.hls_check_laws.specs.Tables.{Table}
 use Rattle.hls_check_text.specs.Text.{head_lines}
 use Rattle.hls_text.specs.Lines.{joined}
-use Rattle.hls_catchup.specs.Jobs.Files.{certificate_of}
-use Rattle.hls_catchup.specs.Jobs.Standing.{files_of}
+use Rattle.hls_catchup_laws.specs.Jobs.Files.{certificate_of}
+use Rattle.hls_catchup_laws.specs.Jobs.Standing.{files_of}
 use Rattle.hls_catchup.proofs.JobLemmas.CertificateTexts.{head-written}
 use Rattle.hls_catchup.proofs.jobs.certificate_text.CertificateText.new.Goals as goal
 

@@ -1,13 +1,13 @@
 use Rattle.std.proofs.Common.{◌≡◌, ℕ, List, Some, None, refl, ap, subst, ◌∙◌, ◌≢◌}
 use Rattle.std.specs.Prelude.{All}
-use Rattle.hls_catchup.specs.declared.jobs.row.Row.{Row}
-use Rattle.hls_catchup.specs.declared.jobs.row.Phase.{Phase}
-use Rattle.hls_catchup.specs.declared.jobs.row.Phase.TheVariants.{Running}
-use Rattle.hls_catchup.specs.declared.request.Request.{Request}
-use Rattle.hls_catchup.specs.Jobs.Phases.{ended, IsRunningFor}
+use Rattle.hls_catchup_laws.specs.declared.jobs.row.Row.{Row}
+use Rattle.hls_catchup_laws.specs.declared.jobs.row.Phase.{Phase}
+use Rattle.hls_catchup_laws.specs.declared.jobs.row.Phase.TheVariants.{Running}
+use Rattle.hls_catchup_laws.specs.declared.request.Request.{Request}
+use Rattle.hls_catchup_laws.specs.Jobs.Phases.{ended, IsRunningFor}
 use Rattle.hls_catchup.specs.Jobs.Rows.{StandsAt, Sets}
-use Rattle.hls_catchup.specs.Jobs.Tables.{TableData, phase_at}
-use Rattle.hls_catchup.specs.Jobs.Changes.{IsStray, changed}
+use Rattle.hls_catchup_laws.specs.Jobs.Tables.{TableData, phase_at}
+use Rattle.hls_catchup_laws.specs.Jobs.Changes.{IsStray, changed}
 use Rattle.hls_catchup.proofs.JobLemmas.ByIds.{none_is}
 use Rattle.hls_catchup.proofs.JobLemmas.Calls.{phase_read, changed_there}
 use Rattle.hls_catchup.proofs.JobLemmas.Keeps.{kept_changed, right_end}
@@ -39,7 +39,7 @@ invariant_of-self c =
     let f = c.args.finished in
     let rows = c.self.inside.rows.items in
     let stands = subst (λ (x : List Row × ℕ). StandsAt x.0 x.1 c.in-Some.at) (λ i. (c.deref.ensures.value i, c.id.ensures i)) c.in-Some.ensures in
-    let phase : c.of.result ≡ ended f.ending = c.of.ensures ∙ ap ended c.into_ending.ensures.value in
+    let phase : c.ended.result ≡ ended f.ending = c.ended.ensures ∙ ap ended c.into_ending.ensures.value in
     kept_changed c.self.inside c.set_phase.new.rows f.id (ended f.ending) c.self.invariant
     (right_end f.version f.request f.ending c.into_ending.ensures.right)
     (changed_there rows c.set_phase.new.rows.items f.id c.in-Some.at (ended f.ending) c.self.invariant.table.rising stands
@@ -55,7 +55,7 @@ returns-clause-finishes c =
     let row = c.index.result.now in
     let runs = subst (λ (x : ℕ × Request). IsRunningFor x.0 x.1 row.phase) (λ i. (c.version.ensures i, c.request.ensures i))
     (c.runs_for.ensures.yes c.if-not-runs_for.false) in
-    let phase : c.of.result ≡ ended f.ending = c.of.ensures ∙ ap ended c.into_ending.ensures.value in
+    let phase : c.ended.result ≡ ended f.ending = c.ended.ensures ∙ ap ended c.into_ending.ensures.value in
     let changes = changed_there rows c.set_phase.new.rows.items f.id c.in-Some.at (ended f.ending) rising stands
     (subst (λ (p : Phase). Sets rows c.in-Some.at p c.set_phase.new.rows.items) phase c.set_phase.ensures.sets) in
     subst (λ (t : TableData). (phase_at f.id t.rows ≡ Some (Running f.version f.request))

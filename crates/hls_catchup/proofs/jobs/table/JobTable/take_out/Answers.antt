@@ -1,9 +1,9 @@
 use Rattle.std.proofs.Common.{◌≡◌, List, None, refl, ap, subst, ◌≢◌}
 use Rattle.std.specs.Prelude.{All}
-use Rattle.hls_catchup.specs.declared.jobs.row.Row.{Row}
+use Rattle.hls_catchup_laws.specs.declared.jobs.row.Row.{Row}
 use Rattle.hls_catchup.specs.Jobs.Rows.{StandsAt}
-use Rattle.hls_catchup.specs.Jobs.Tables.{TableData, phase_at, without}
-use Rattle.hls_catchup.specs.Jobs.Changes.{IsThere}
+use Rattle.hls_catchup_laws.specs.Jobs.Tables.{TableData, phase_at, without}
+use Rattle.hls_catchup_laws.specs.Jobs.Changes.{IsThere}
 use Rattle.hls_catchup.proofs.JobLemmas.ByIds.{none_is}
 use Rattle.hls_catchup.proofs.JobLemmas.Calls.{phase_there, gone_there}
 use Rattle.hls_catchup.proofs.JobLemmas.Keeps.{kept_without}

@@ -1,9 +1,9 @@
 use Rattle.std.proofs.Common.{◌≡◌, List, length, ap, subst}
-use Rattle.hls_catchup.specs.declared.jobs.row.Row.{Row}
-use Rattle.hls_catchup.specs.declared.jobs.row.Phase.TheVariants.{Running}
+use Rattle.hls_catchup_laws.specs.declared.jobs.row.Row.{Row}
+use Rattle.hls_catchup_laws.specs.declared.jobs.row.Phase.TheVariants.{Running}
 use Rattle.hls_catchup.specs.Jobs.Rows.{WaitsAt}
-use Rattle.hls_catchup.specs.Jobs.Tables.{TableData}
-use Rattle.hls_catchup.specs.Jobs.Changes.{IsNext, changed}
+use Rattle.hls_catchup_laws.specs.Jobs.Tables.{TableData}
+use Rattle.hls_catchup_laws.specs.Jobs.Changes.{IsNext, changed}
 use Rattle.hls_catchup.proofs.JobLemmas.Calls.{next_there, runs_there}
 use Rattle.hls_catchup.proofs.JobLemmas.Keeps.{kept_changed}
 use Rattle.hls_catchup.proofs.jobs.table.JobTable.take_work.Goals as goal

@@ -10,11 +10,11 @@ use Rattle.hls_core.specs.Reads.{recording_of}
 use Rattle.hls_places_laws.specs.declared.fault.ProgrammeFault.{ProgrammeFault}
 use Rattle.hls_places_laws.specs.declared.fault.ProgrammeFault.TheVariants as programme
 use Rattle.hls_places_laws.specs.Programmes.{IsProgramme}
-use Rattle.hls_catchup.specs.declared.request.Request.{Request}
-use Rattle.hls_catchup.specs.declared.fault.CatchFault.{CatchFault}
-use Rattle.hls_catchup.specs.declared.fault.CatchFault.TheVariants.{BadRange, BadPreferred, BadCharge, BeforeRecording, NotYet, AfterRecording, ProgrammeTooLong, Memory}
-use Rattle.hls_catchup.specs.declared.cutout.Cutout.{Cutout}
-use Rattle.hls_catchup.specs.Answers.{AreCovered, IsRightCutout}
+use Rattle.hls_catchup_laws.specs.declared.request.Request.{Request}
+use Rattle.hls_catchup_laws.specs.declared.fault.CatchFault.{CatchFault}
+use Rattle.hls_catchup_laws.specs.declared.fault.CatchFault.TheVariants.{BadRange, BadPreferred, BadCharge, BeforeRecording, NotYet, AfterRecording, ProgrammeTooLong, Memory}
+use Rattle.hls_catchup_laws.specs.declared.cutout.Cutout.{Cutout}
+use Rattle.hls_catchup_laws.specs.Answers.{AreCovered, IsRightCutout}
 
 -- every rendition is finished
 abbrev pub all_finished : State → Bool

@@ -1,6 +1,6 @@
 //! A theorem about the definitions: the function's contract is the law.
 
-ghost use Rattle.hls_catchup.specs.Accepted.{GoodIsAccepted};
+ghost use Rattle.hls_catchup_laws.specs.Accepted.{GoodIsAccepted};
 
 use hls_check::answer_is_one;
 use hls_check_text::laws::{text_has_no_wrong_line, text_is_of_one};

@@ -10,10 +10,10 @@ use Rattle.hls_m3u8.specs.HasText.{HasText}
 use Rattle.hls_lists_laws.specs.Media.{joined_media}
 use Rattle.hls_lists_laws.specs.Jobs.{units_between, resource_of}
 use Rattle.hls_lists_laws.specs.SegmentLaws.{first_fragment, end_fragment, SegmentFits}
-use Rattle.hls_catchup.specs.declared.cutout.Cutout.{Cutout}
-use Rattle.hls_catchup.specs.declared.cutout.Cutout.TheVariants.{Cut, NoCut}
-use Rattle.hls_catchup.specs.Lists.{job_list}
-use Rattle.hls_catchup.specs.Accepted.{IsAccepted}
+use Rattle.hls_catchup_laws.specs.declared.cutout.Cutout.{Cutout}
+use Rattle.hls_catchup_laws.specs.declared.cutout.Cutout.TheVariants.{Cut, NoCut}
+use Rattle.hls_catchup_laws.specs.Lists.{job_list}
+use Rattle.hls_catchup_laws.specs.Accepted.{IsAccepted}
 
 -- the units of the programme in one rendition
 abbrev pub programme_units : Recorded → ℕ → Table → List (List ℕ)

@@ -1,13 +1,13 @@
 -- How far a job is.
 use Rattle.std.specs.Prelude.{◌≡◌, ℕ, Bool, true, false, ⊤}
-use Rattle.hls_catchup.specs.declared.request.Request.{Request}
-use Rattle.hls_catchup.specs.declared.jobs.finished.Ending.{Ending}
-use Rattle.hls_catchup.specs.declared.jobs.finished.Ending.TheVariants.{Answered, NoMemory}
-use Rattle.hls_catchup.specs.declared.jobs.job.Job.{Job}
-use Rattle.hls_catchup.specs.declared.jobs.job.Job.TheVariants as told
-use Rattle.hls_catchup.specs.declared.jobs.row.Phase.{Phase}
-use Rattle.hls_catchup.specs.declared.jobs.row.Phase.TheVariants.{Waiting, Running, Finished, Failed}
-use Rattle.hls_catchup.specs.Jobs.Answers.{IsRight}
+use Rattle.hls_catchup_laws.specs.declared.request.Request.{Request}
+use Rattle.hls_catchup_laws.specs.declared.jobs.finished.Ending.{Ending}
+use Rattle.hls_catchup_laws.specs.declared.jobs.finished.Ending.TheVariants.{Answered, NoMemory}
+use Rattle.hls_catchup_laws.specs.declared.jobs.job.Job.{Job}
+use Rattle.hls_catchup_laws.specs.declared.jobs.job.Job.TheVariants as told
+use Rattle.hls_catchup_laws.specs.declared.jobs.row.Phase.{Phase}
+use Rattle.hls_catchup_laws.specs.declared.jobs.row.Phase.TheVariants.{Waiting, Running, Finished, Failed}
+use Rattle.hls_catchup_laws.specs.Jobs.Answers.{IsRight}
 
 abbrev pub is_waiting : Phase → Bool
 is_waiting (Waiting snapshot request) = true

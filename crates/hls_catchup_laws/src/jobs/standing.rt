@@ -2,7 +2,7 @@
 
 ghost use Rattle.std.specs.Prelude.{◌≡◌};
 ghost use Rattle.std.specs.Result.{result_map_both};
-ghost use Rattle.hls_catchup.specs.Jobs.Standing.{files_of};
+ghost use Rattle.hls_catchup_laws.specs.Jobs.Standing.{files_of};
 
 use crate::jobs::job::Job;
 use crate::reply::Reply;

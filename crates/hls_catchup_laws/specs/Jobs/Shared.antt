@@ -3,13 +3,13 @@ use Rattle.std.specs.Prelude.{◌≡◌, ℕ, length, Option, Result, ⊤}
 use Rattle.std.specs.Global.{Global}
 use Rattle.std.specs.declared.sync.Arc.{Arc}
 use Rattle.hls_core_laws.specs.State.{State}
-use Rattle.hls_catchup.specs.declared.request.Request.{Request}
-use Rattle.hls_catchup.specs.declared.fault.JobFault.{JobFault}
-use Rattle.hls_catchup.specs.declared.jobs.job.Job.{Job}
-use Rattle.hls_catchup.specs.declared.jobs.work.Work.{Work}
-use Rattle.hls_catchup.specs.Jobs.Finishes.{FinishedData}
-use Rattle.hls_catchup.specs.Jobs.Tables.{TableData, IsTable}
-use Rattle.hls_catchup.specs.Jobs.Changes.{Adds, Takes, Finishes, Gets, Removes}
+use Rattle.hls_catchup_laws.specs.declared.request.Request.{Request}
+use Rattle.hls_catchup_laws.specs.declared.fault.JobFault.{JobFault}
+use Rattle.hls_catchup_laws.specs.declared.jobs.job.Job.{Job}
+use Rattle.hls_catchup_laws.specs.declared.jobs.work.Work.{Work}
+use Rattle.hls_catchup_laws.specs.Jobs.Finishes.{FinishedData}
+use Rattle.hls_catchup_laws.specs.Jobs.Tables.{TableData, IsTable}
+use Rattle.hls_catchup_laws.specs.Jobs.Changes.{Adds, Takes, Finishes, Gets, Removes}
 
 -- some table was met, and another left, as the call on a lent table says
 pub record HasAdded (snapshot : Arc State Global) (request : Request) (result : Result ℕ JobFault) : Type 0 where

@@ -2,8 +2,8 @@ use Rattle.std.proofs.Common.{Ok, refl, sym}
 use Rattle.hls_check_laws.specs.Certificates.{Shown, CutShown, NoneShown, IsGoodOver}
 use Rattle.hls_check_laws.specs.Tables.{Table}
 use Rattle.hls_check.specs.Answers.{AnswerOver}
-use Rattle.hls_catchup.specs.Accepted.{verdict_of}
-use Rattle.hls_catchup.proofs.laws.good_is_accepted.Goals as goal
+use Rattle.hls_catchup_laws.specs.Accepted.{verdict_of}
+use Rattle.hls_catchup_laws.proofs.laws.good_is_accepted.Goals as goal
 
 good_answer : (t : Table) (shown : Shown) → IsGoodOver t shown → AnswerOver t shown (Ok (verdict_of shown))
 good_answer t (CutShown total plan prices) good = (refl, good)

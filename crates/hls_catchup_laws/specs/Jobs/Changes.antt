@@ -4,27 +4,21 @@ use Rattle.std.specs.List.{AllByRecursion}
 use Rattle.std.specs.Global.{Global}
 use Rattle.std.specs.declared.sync.Arc.{Arc}
 use Rattle.hls_core_laws.specs.State.{State}
-use Rattle.hls_catchup.specs.declared.request.Request.{Request}
-use Rattle.hls_catchup.specs.declared.fault.JobFault.{JobFault}
-use Rattle.hls_catchup.specs.declared.fault.JobFault.TheVariants.{TableFull, UnknownJob, Stray, Memory}
-use Rattle.hls_catchup.specs.declared.fault.Refused.{Refused}
-use Rattle.hls_catchup.specs.declared.jobs.job.Job.{Job}
-use Rattle.hls_catchup.specs.declared.jobs.row.Row.{Row}
-use Rattle.hls_catchup.specs.declared.jobs.row.Phase.{Phase}
-use Rattle.hls_catchup.specs.declared.jobs.row.Phase.TheVariants.{Waiting, Running}
-use Rattle.hls_catchup.specs.declared.jobs.work.Work.{Work}
-use Rattle.hls_catchup.specs.Jobs.Finishes.{FinishedData}
-use Rattle.hls_catchup.specs.Jobs.Phases.{is_waiting, IsRunningFor, IsFinished, ended, shown}
-use Rattle.hls_catchup.specs.Jobs.Tables.{TableData, place_limit, id_limit, phase_at, with_phase, without}
+use Rattle.hls_catchup_laws.specs.declared.request.Request.{Request}
+use Rattle.hls_catchup_laws.specs.declared.fault.JobFault.{JobFault}
+use Rattle.hls_catchup_laws.specs.declared.fault.JobFault.TheVariants.{TableFull, UnknownJob, Stray, Memory}
+use Rattle.hls_catchup_laws.specs.declared.jobs.job.Job.{Job}
+use Rattle.hls_catchup_laws.specs.declared.jobs.row.Row.{Row}
+use Rattle.hls_catchup_laws.specs.declared.jobs.row.Phase.{Phase}
+use Rattle.hls_catchup_laws.specs.declared.jobs.row.Phase.TheVariants.{Waiting, Running}
+use Rattle.hls_catchup_laws.specs.declared.jobs.work.Work.{Work}
+use Rattle.hls_catchup_laws.specs.Jobs.Finishes.{FinishedData}
+use Rattle.hls_catchup_laws.specs.Jobs.Phases.{is_waiting, IsRunningFor, IsFinished, ended, shown}
+use Rattle.hls_catchup_laws.specs.Jobs.Tables.{TableData, place_limit, id_limit, phase_at, with_phase, without}
 
 -- the table with a job in another phase
 abbrev pub changed : TableData → ℕ → Phase → TableData
 changed t id phase = record { next = t.next; rows = with_phase id phase t.rows }
-
--- what a call tells, apart from what a refused one gives back
-abbrev pub told : {A B : Type 0} → Result A (Refused B) → Result A JobFault
-told (Ok done) = Ok done
-told (Err refused) = Err refused.fault
 
 -- no place is free, or the last id is used
 abbrev pub IsFull : TableData → Type 0

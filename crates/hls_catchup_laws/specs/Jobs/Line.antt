@@ -2,13 +2,13 @@
 use Rattle.std.specs.Prelude.{ℕ, List, ◌++◌, length, codes, Option, Some, None, Result, Ok, Err}
 use Rattle.std.specs.Fmt.{decimal}
 use Rattle.hls_check_laws.specs.Certificates.{Shown, CutShown, NoneShown}
-use Rattle.hls_catchup.specs.declared.fault.CatchFault.{CatchFault}
-use Rattle.hls_catchup.specs.FaultName.{catch_fault_name}
-use Rattle.hls_catchup.specs.Replies.{ReplyData}
-use Rattle.hls_catchup.specs.declared.jobs.job.Job.{Job}
-use Rattle.hls_catchup.specs.declared.jobs.job.Job.TheVariants.{Waiting, Running, Finished, Failed}
-use Rattle.hls_catchup.specs.Jobs.Answers.{AnsweredData}
-use Rattle.hls_catchup.specs.Jobs.Files.{certificate_of}
+use Rattle.hls_catchup_laws.specs.declared.fault.CatchFault.{CatchFault}
+use Rattle.hls_catchup_laws.specs.FaultName.{catch_fault_name}
+use Rattle.hls_catchup_laws.specs.Replies.{ReplyData}
+use Rattle.hls_catchup_laws.specs.declared.jobs.job.Job.{Job}
+use Rattle.hls_catchup_laws.specs.declared.jobs.job.Job.TheVariants.{Waiting, Running, Finished, Failed}
+use Rattle.hls_catchup_laws.specs.Jobs.Answers.{AnsweredData}
+use Rattle.hls_catchup_laws.specs.Jobs.Files.{certificate_of}
 
 -- the version, and the line's end
 abbrev pub version_end : ℕ → List ℕ

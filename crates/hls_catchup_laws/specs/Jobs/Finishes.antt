@@ -1,11 +1,11 @@
 -- What a job came to.
 use Rattle.std.specs.Prelude.{◌≡◌, ℕ, length, ⊤}
-use Rattle.hls_catchup.specs.declared.request.Request.{Request}
-use Rattle.hls_catchup.specs.declared.jobs.work.Work.{Work}
-use Rattle.hls_catchup.specs.declared.jobs.finished.Ending.{Ending}
-use Rattle.hls_catchup.specs.declared.jobs.finished.Ending.TheVariants.{Answered, NoMemory}
-use Rattle.hls_catchup.specs.declared.jobs.finished.Finished.TheInside.{Inside}
-use Rattle.hls_catchup.specs.Jobs.Answers.{IsRight}
+use Rattle.hls_catchup_laws.specs.declared.request.Request.{Request}
+use Rattle.hls_catchup_laws.specs.declared.jobs.work.Work.{Work}
+use Rattle.hls_catchup_laws.specs.declared.jobs.finished.Ending.{Ending}
+use Rattle.hls_catchup_laws.specs.declared.jobs.finished.Ending.TheVariants.{Answered, NoMemory}
+use Rattle.hls_catchup_laws.specs.declared.jobs.finished.Finished.TheInside.{Inside}
+use Rattle.hls_catchup_laws.specs.Jobs.Answers.{IsRight}
 
 -- the job's id, the version and the request that it was run for, and how it ended
 pub record FinishedData : Type 0 where

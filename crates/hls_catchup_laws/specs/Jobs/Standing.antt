@@ -1,11 +1,11 @@
 -- Whether a job has files.
 use Rattle.std.specs.Prelude.{Result, Ok, Err}
-use Rattle.hls_catchup.specs.declared.fault.CatchFault.{CatchFault}
-use Rattle.hls_catchup.specs.Replies.{ReplyData}
-use Rattle.hls_catchup.specs.declared.jobs.job.Job.{Job}
-use Rattle.hls_catchup.specs.declared.jobs.job.Job.TheVariants.{Waiting, Running, Finished, Failed}
-use Rattle.hls_catchup.specs.declared.jobs.standing.Withheld.{Withheld}
-use Rattle.hls_catchup.specs.declared.jobs.standing.Withheld.TheVariants.{Unfinished, Refused, NoMemory}
+use Rattle.hls_catchup_laws.specs.declared.fault.CatchFault.{CatchFault}
+use Rattle.hls_catchup_laws.specs.Replies.{ReplyData}
+use Rattle.hls_catchup_laws.specs.declared.jobs.job.Job.{Job}
+use Rattle.hls_catchup_laws.specs.declared.jobs.job.Job.TheVariants.{Waiting, Running, Finished, Failed}
+use Rattle.hls_catchup_laws.specs.declared.jobs.standing.Withheld.{Withheld}
+use Rattle.hls_catchup_laws.specs.declared.jobs.standing.Withheld.TheVariants.{Unfinished, Refused, NoMemory}
 
 -- of an answer: the reply, or a refused request
 abbrev pub answer_files : Result ReplyData CatchFault → Result ReplyData Withheld

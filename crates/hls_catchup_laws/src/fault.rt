@@ -1,10 +1,10 @@
 //! Why a request has no answer, and why a call on the job table is refused.
 
 ghost use Rattle.std.specs.Prelude.{◌≡◌};
-ghost use Rattle.hls_catchup.specs.FaultName.{catch_fault_name};
-ghost use Rattle.hls_catchup.specs.Jobs.FaultName.{job_fault_name};
-ghost use Rattle.hls_catchup.specs.declared.fault.CatchFault.TheVariants as catch_fault;
-ghost use Rattle.hls_catchup.specs.declared.fault.JobFault.TheVariants as job_fault;
+ghost use Rattle.hls_catchup_laws.specs.FaultName.{catch_fault_name};
+ghost use Rattle.hls_catchup_laws.specs.Jobs.FaultName.{job_fault_name};
+ghost use Rattle.hls_catchup_laws.specs.declared.fault.CatchFault.TheVariants as catch_fault;
+ghost use Rattle.hls_catchup_laws.specs.declared.fault.JobFault.TheVariants as job_fault;
 
 use hls_faults::{WantOfMemory, name_among};
 use std::alloc::AllocError;
@@ -66,13 +66,6 @@ pub enum JobFault {
     Stray,
     /// Memory ran out.
     Memory,
-}
-
-/// Why a call is refused, with what it was given back: a lock can so be let go of before that is.
-#[derive(Drop)]
-pub(crate) struct Refused<T> {
-    pub(crate) fault: JobFault,
-    pub(crate) back: T,
 }
 
 impl JobFault {

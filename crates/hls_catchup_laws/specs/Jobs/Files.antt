@@ -7,9 +7,9 @@ use Rattle.hls_m3u8.specs.Lines.{media_text}
 use Rattle.hls_m3u8.specs.Masters.{master_text}
 use Rattle.hls_core_laws.specs.State.{State}
 use Rattle.hls_lists_laws.specs.Masters.{job_master}
-use Rattle.hls_catchup.specs.declared.cutout.Cutout.{Cutout}
-use Rattle.hls_catchup.specs.declared.cutout.Cutout.TheVariants.{Cut, NoCut}
-use Rattle.hls_catchup.specs.Replies.{ReplyData}
+use Rattle.hls_catchup_laws.specs.declared.cutout.Cutout.{Cutout}
+use Rattle.hls_catchup_laws.specs.declared.cutout.Cutout.TheVariants.{Cut, NoCut}
+use Rattle.hls_catchup_laws.specs.Replies.{ReplyData}
 
 abbrev pub certificate_of : Cutout → Printed
 certificate_of (Cut lists certificate) = certificate

@@ -1,7 +1,7 @@
 -- What a refused call's fault is called.
 use Rattle.std.specs.Prelude.{ℕ, List, codes}
-use Rattle.hls_catchup.specs.declared.fault.JobFault.{JobFault}
-use Rattle.hls_catchup.specs.declared.fault.JobFault.TheVariants.{TableFull, UnknownJob, Stray, Memory}
+use Rattle.hls_catchup_laws.specs.declared.fault.JobFault.{JobFault}
+use Rattle.hls_catchup_laws.specs.declared.fault.JobFault.TheVariants.{TableFull, UnknownJob, Stray, Memory}
 
 abbrev pub job_fault_name : JobFault → List ℕ
 job_fault_name TableFull = codes "TableFull"

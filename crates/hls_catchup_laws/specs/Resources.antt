@@ -4,10 +4,10 @@ use Rattle.std.specs.List.{concat}
 use Rattle.hls_record.specs.Recorded.{unit_piece}
 use Rattle.hls_core_laws.specs.State.{State}
 use Rattle.hls_core.specs.Reads.{recording_of}
-use Rattle.hls_catchup.specs.declared.cutout.Cutout.{Cutout}
-use Rattle.hls_catchup.specs.declared.cutout.Cutout.TheVariants.{Cut, NoCut}
-use Rattle.hls_catchup.specs.Answers.{programme_units}
-use Rattle.hls_catchup.specs.Replies.{ReplyData}
+use Rattle.hls_catchup_laws.specs.declared.cutout.Cutout.{Cutout}
+use Rattle.hls_catchup_laws.specs.declared.cutout.Cutout.TheVariants.{Cut, NoCut}
+use Rattle.hls_catchup_laws.specs.Answers.{programme_units}
+use Rattle.hls_catchup_laws.specs.Replies.{ReplyData}
 
 -- its parts: the init section and each unit of the programme, as the reply's own state has them
 abbrev pub parts_of : State → ℕ → Cutout → Option (List (List ℕ))

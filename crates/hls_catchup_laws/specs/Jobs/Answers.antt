@@ -1,11 +1,10 @@
 -- What an answered request holds, and when it is right.
 use Rattle.std.specs.Prelude.{Some, Result}
 use Rattle.hls_core_laws.specs.State.{State}
-use Rattle.hls_catchup.specs.declared.request.Request.{Request}
-use Rattle.hls_catchup.specs.declared.fault.CatchFault.{CatchFault}
-use Rattle.hls_catchup.specs.Replies.{ReplyData}
-use Rattle.hls_catchup.specs.Plays.{IsAnswered}
-use Rattle.hls_catchup.specs.declared.jobs.answered.Answered.TheInside.{Inside}
+use Rattle.hls_catchup_laws.specs.declared.request.Request.{Request}
+use Rattle.hls_catchup_laws.specs.declared.fault.CatchFault.{CatchFault}
+use Rattle.hls_catchup_laws.specs.Replies.{ReplyData, IsAnswered}
+use Rattle.hls_catchup_laws.specs.declared.jobs.answered.Answered.TheInside.{Inside}
 
 -- the state that was asked, what was asked of it, and the answer
 pub record AnsweredData : Type 0 where

@@ -1,11 +1,12 @@
 -- What a reply holds, and which one answers a request.
-use Rattle.std.specs.Prelude.{◌≡◌, Result, Ok, Err}
+use Rattle.std.specs.Prelude.{◌≡◌, Option, Some, None, Result, Ok, Err}
 use Rattle.hls_core_laws.specs.State.{State}
-use Rattle.hls_catchup.specs.declared.request.Request.{Request}
-use Rattle.hls_catchup.specs.declared.fault.CatchFault.{CatchFault}
-use Rattle.hls_catchup.specs.declared.cutout.Cutout.{Cutout}
-use Rattle.hls_catchup.specs.declared.reply.Reply.TheInside.{Inside}
-use Rattle.hls_catchup.specs.Requests.{IsTableFor, IsRightAnswer}
+use Rattle.hls_catchup_laws.specs.declared.request.Request.{Request}
+use Rattle.hls_catchup_laws.specs.declared.fault.CatchFault.{CatchFault}
+use Rattle.hls_catchup_laws.specs.declared.fault.CatchFault.TheVariants.{Memory}
+use Rattle.hls_catchup_laws.specs.declared.cutout.Cutout.{Cutout}
+use Rattle.hls_catchup_laws.specs.declared.reply.Reply.TheInside.{Inside}
+use Rattle.hls_catchup_laws.specs.Requests.{IsTableFor, IsRightAnswer}
 
 -- the state that was asked, the request, and what the programme was cut into
 pub record ReplyData : Type 0 where
@@ -26,3 +27,9 @@ pub record IsRightReply (s : State) (request : Request) (reply : ReplyData) : Ty
 abbrev pub IsReplyTo : State → Request → Result ReplyData CatchFault → Type 0
 IsReplyTo s request (Ok reply) = IsRightReply s request reply
 IsReplyTo s request (Err fault) = IsTableFor s request (Err fault)
+
+-- the answer is there, it is that of the state to the request, and it isn't want of memory, which is no answer
+abbrev pub IsAnswered : State → Request → Option (Result ReplyData CatchFault) → Type 0
+IsAnswered s request None = ⊥
+IsAnswered s request (Some (Err Memory)) = ⊥
+IsAnswered s request (Some answer) = IsReplyTo s request answer
