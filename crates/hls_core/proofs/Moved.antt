@@ -2,6 +2,7 @@
 use Rattle.std.proofs.Common.{arith, ◌≡◌, ℕ, zero, suc, ◌+◌, ◌<◌, ◌≤◌, Bool, List, [], ◌∷◌, ◌++◌, Option, Some, None, length, map, drop, take, get_or, false, refl, sym, ap, subst, ◌∙◌, append-nil, Result, Ok, Err, IfOk, Global}
 use Rattle.std.specs.declared.sync.Arc.{Arc}
 use Rattle.std.specs.Prelude.{slice_get}
+use Rattle.std.specs.List.{AllZip}
 use Rattle.std.proofs.lemmas.List.{length-map, get_or-map, drop_all}
 use Rattle.std.proofs.lemmas.Option.{same_Some}
 use Rattle.hls_record.specs.Recorded.{Recorded}
@@ -144,6 +145,18 @@ told_end first all now rest n past t =
 
 pub told_here : (first : Live) (all : List Place) (now : Live) (rest : List Place) (n : ℕ) (q : Place) → slice_get rest n ≡ Some q → IsTold first all now (drop n rest) → CanBeTold now (q ∷ drop (n + 1) rest)
 told_here first all now rest n q at t = subst (λ (xs : List Place). CanBeTold now xs) (drop_at rest n q at) t.can
+
+-- sides that are shared once more are the same
+pub same_values : (xs ys : List (Arc Side Global)) → AllZip (λ x y. y.value ≡ x.value) xs ys → map (λ a. a.value) ys ≡ map (λ a. a.value) xs
+same_values [] [] same = refl
+same_values [] (y ∷ ys) same = absurd same
+same_values (x ∷ xs) [] same = absurd same
+same_values (x ∷ xs) (y ∷ ys) same =
+    ap (λ (s : Side). s ∷ map (λ (a : Arc Side Global). a.value) ys) same.0 ∙ ap (λ (ss : List Side). x.value ∷ ss) (same_values xs ys same.1)
+
+-- a value is the same as itself
+pub same_placed : (old p : Placed) → p ≡ old → AreSame old p
+same_placed old p is = subst (λ (x : Placed). AreSame old x) (sym is) (record { places = refl; cursor = refl; line_is = refl })
 
 -- what follows of a value holds of it, where there is one
 pub when_ok : {T E : Type 0} {P Q : T → Type 0} (r : Result T E) → ((x : T) → P x → Q x) → IfOk r P → IfOk r Q

@@ -46,6 +46,13 @@ listed (z ∷ rs) name zero r at same =
     rw test refl
 listed (z ∷ rs) name (suc k) r at same = or_right (bytes_eq z.name name) (bears_name rs name) (listed rs name k r at same)
 
+-- none of the renditions has that name
+pub unlisted : (rs : List Rendition) (name : List ℕ) → ((k : ℕ) (r : Rendition) → slice_get rs k ≡ Some r → bytes_eq r.name name ≡ false) → false ≡ bears_name rs name
+unlisted [] name none = refl
+unlisted (z ∷ rs) name none =
+    let here : bytes_eq z.name name ≡ false = none 0 z refl in
+    rw here (unlisted rs name (λ k r at. none (suc k) r at))
+
 not_found : (rs : List Rendition) (n : ℕ) (r : Rendition) → IsRenditionAt rs n r → (b : Bool) → bears_name (take n rs) r.name ≡ b → not b ≡ true
 not_found rs n r there false is = refl
 not_found rs n r there true is =

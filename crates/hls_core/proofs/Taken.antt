@@ -73,12 +73,12 @@ at_behind (x ∷ xs) ys k p at =
 
 -- what a cursor that is moved on needs, where a side is put in place of another
 pub record Ahead (i : Inside) (config : ConfigData) (sides : List Side) : Type 0 where
-  pub cursor : IsCursor i.placed.cursor.value (sources_by config sides)
-  pub room : next_of i.placed.places + length (places_after (sources_by config sides) i.placed.cursor.value.done) < list_limit
+  pub cursor : IsCursor i.placed.value.cursor.value (sources_by config sides)
+  pub room : next_of i.placed.value.places + length (places_after (sources_by config sides) i.placed.value.cursor.value.done) < list_limit
   pub count : length config.renditions ≡ length sides
   pub some : 1 ≤ length sides
   pub few : length sides ≤ rendition_limit
-  pub told : CanBeTold i.placed.line.value (places_after (sources_by config sides) i.placed.cursor.value.done)
+  pub told : CanBeTold i.placed.value.line.value (places_after (sources_by config sides) i.placed.value.cursor.value.done)
 
 sources_put : (i : Inside) (entry : Entry) (r : ℕ) (side : Side) → IsKept i → MayTake (seen i) entry r side → sources_by i.config (slice_set (sides_of i) r side) ≡ sources (with_side (seen i) entry r side)
 sources_put i entry r side kept take =
@@ -89,9 +89,9 @@ sources_put i entry r side kept take =
     ∙ ap (λ (ch : Channel). ch.lanes) (sym now) in
     ap (λ (ls : List Lane). sources_of (map facts_of ls) (map tolerance_of i.config.renditions) (map is_finished ls)) lanes
 
-moved : (i : Inside) (entry : Entry) (r : ℕ) (side : Side) → IsKept i → MayTake (seen i) entry r side → PlacesContinue (sources (seen i)) (sources (with_side (seen i) entry r side)) i.placed.cursor.value
+moved : (i : Inside) (entry : Entry) (r : ℕ) (side : Side) → IsKept i → MayTake (seen i) entry r side → PlacesContinue (sources (seen i)) (sources (with_side (seen i) entry r side)) i.placed.value.cursor.value
 moved i entry r side kept take =
-    continues (sources (seen i)) (sources (with_side (seen i) entry r side)) i.placed.cursor.value
+    continues (sources (seen i)) (sources (with_side (seen i) entry r side)) i.placed.value.cursor.value
     (sources_grow (seen i) (with_side (seen i) entry r side) take.valid take.continues) take.live kept.cursor kept.through
 
 ahead_put : (i : Inside) (entry : Entry) (r : ℕ) (side : Side) → IsKept i → MayTake (seen i) entry r side → Ahead i i.config (slice_set (sides_of i) r side)
@@ -100,26 +100,26 @@ ahead_put i entry r side kept take =
     let is = sources_put i entry r side kept take in
     let s : State = with_side (seen i) entry r side in
     let few = places_few s take.valid in
-    let told : length i.placed.places.items ≡ length (places (seen i)) = ap (λ p. length p.items) kept.places in
-    let zero_first : i.placed.places.first ≡ 0 = ap (λ p. p.first) kept.places in
-    let whole : length (places s) ≡ length (places (seen i)) + length (places_after (sources s) i.placed.cursor.value.done) =
-    ap length on.places ∙ length-append (places (seen i)) (places_after (sources s) i.placed.cursor.value.done) in
-    let room : next_of i.placed.places + length (places_after (sources s) i.placed.cursor.value.done) < list_limit = omega arith in
-    let told_room : i.placed.line.value.removed + length i.placed.line.value.told.line.segments + 2 * length (places_after (sources s) i.placed.cursor.value.done) + 1 < list_limit =
+    let told : length i.placed.value.places.items ≡ length (places (seen i)) = ap (λ p. length p.items) kept.places in
+    let zero_first : i.placed.value.places.first ≡ 0 = ap (λ p. p.first) kept.places in
+    let whole : length (places s) ≡ length (places (seen i)) + length (places_after (sources s) i.placed.value.cursor.value.done) =
+    ap length on.places ∙ length-append (places (seen i)) (places_after (sources s) i.placed.value.cursor.value.done) in
+    let room : next_of i.placed.value.places + length (places_after (sources s) i.placed.value.cursor.value.done) < list_limit = omega arith in
+    let told_room : i.placed.value.line.value.removed + length i.placed.value.line.value.told.line.segments + 2 * length (places_after (sources s) i.placed.value.cursor.value.done) + 1 < list_limit =
     omega (arith, few, whole, line_few (seen i) kept.valid, ap (λ (l : Live). l.removed) kept.line_is, ap (λ (l : Live). length l.told.line.segments) kept.line_is) in
-    let spots : (k : ℕ) (p : Place) → slice_get (places_after (sources s) i.placed.cursor.value.done) k ≡ Some p → 0 < length p.spots =
+    let spots : (k : ℕ) (p : Place) → slice_get (places_after (sources s) i.placed.value.cursor.value.done) k ≡ Some p → 0 < length p.spots =
     λ k p at. some_spots s take.valid (length (places (seen i)) + k) p
-    (subst (λ (ps : List Place). slice_get ps (length (places (seen i)) + k) ≡ Some p) (sym on.places) (at_behind (places (seen i)) (places_after (sources s) i.placed.cursor.value.done) k p at)) in
+    (subst (λ (ps : List Place). slice_get ps (length (places (seen i)) + k) ≡ Some p) (sym on.places) (at_behind (places (seen i)) (places_after (sources s) i.placed.value.cursor.value.done) k p at)) in
     let sides : length (slice_set (sides_of i) r side) ≡ length i.config.renditions =
     length_set (sides_of i) r side ∙ sym (length-map (sides_of i) lane_of) ∙ ap length kept.lanes ∙ lanes_count i.config i.log.items in
     let rs = kept.valid.configured.renditions in
     record {
-      cursor = subst (λ (x : List Source). IsCursor i.placed.cursor.value x) (sym is) on.cursor;
-      room = subst (λ (x : List Source). next_of i.placed.places + length (places_after x i.placed.cursor.value.done) < list_limit) (sym is) room;
+      cursor = subst (λ (x : List Source). IsCursor i.placed.value.cursor.value x) (sym is) on.cursor;
+      room = subst (λ (x : List Source). next_of i.placed.value.places + length (places_after x i.placed.value.cursor.value.done) < list_limit) (sym is) room;
       count = sym sides;
       some = omega (arith, rs.some);
       few = omega (arith, rs.few);
-      told = subst (λ (x : List Source). CanBeTold i.placed.line.value (places_after x i.placed.cursor.value.done)) (sym is) (record { room = told_room; spots = spots });
+      told = subst (λ (x : List Source). CanBeTold i.placed.value.line.value (places_after x i.placed.value.cursor.value.done)) (sym is) (record { room = told_room; spots = spots });
     }
 
 pub ahead : (i : Inside) (s : State) (entry : Entry) (r : ℕ) (side : Side) (config : ConfigData) (sides : List Side) → seen i ≡ s → IsKept i → MayTake s entry r side → config ≡ i.config → sides ≡ slice_set (sides_of i) r side → Ahead i config sides
@@ -155,7 +155,7 @@ pub record Puts (i n : Inside) (entry : Entry) (r : ℕ) (side : Side) : Type 0 
   pub config : n.config ≡ i.config
   pub log : n.log ≡ record { first = i.log.first; items = i.log.items ++ entry ∷ [] }
   pub sides : sides_of n ≡ slice_set (sides_of i) r side
-  pub placed : IsPlaced (sources_by n.config (sides_of n)) i.placed n.placed
+  pub placed : IsPlaced (sources_by n.config (sides_of n)) i.placed.value n.placed.value
 
 seen_puts : (i n : Inside) (entry : Entry) (r : ℕ) (side : Side) → Puts i n entry r side → seen n ≡ with_side (seen i) entry r side
 seen_puts i n entry r side p =
@@ -175,13 +175,13 @@ kept_puts i n entry r side kept take p =
     let lanes : map lane_of (sides_of n) ≡ (channel (seen n)).lanes = lanes_with i n entry r side kept take.lanes p.sides is in
     let by : sources_by n.config (sides_of n) ≡ sources (seen n) =
     ap (λ (ls : List Lane). sources_of (map facts_of ls) (map tolerance_of n.config.renditions) (map is_finished ls)) lanes in
-    let on : PlacesContinue (sources (seen i)) (sources (seen n)) i.placed.cursor.value =
-    subst (λ (s : State). PlacesContinue (sources (seen i)) (sources s) i.placed.cursor.value) (sym is) (moved i entry r side kept take) in
-    let first : n.placed.places.first ≡ 0 = ap (λ l. l.first) p.placed.places ∙ ap (λ l. l.first) kept.places in
-    let items : n.placed.places.items ≡ places (seen n) =
+    let on : PlacesContinue (sources (seen i)) (sources (seen n)) i.placed.value.cursor.value =
+    subst (λ (s : State). PlacesContinue (sources (seen i)) (sources s) i.placed.value.cursor.value) (sym is) (moved i entry r side kept take) in
+    let first : n.placed.value.places.first ≡ 0 = ap (λ l. l.first) p.placed.places ∙ ap (λ l. l.first) kept.places in
+    let items : n.placed.value.places.items ≡ places (seen n) =
     ap (λ l. l.items) p.placed.places
-    ∙ ap (λ l. l.items ++ places_after (sources_by n.config (sides_of n)) i.placed.cursor.value.done) kept.places
-    ∙ ap (λ (x : List Source). places (seen i) ++ places_after x i.placed.cursor.value.done) by
+    ∙ ap (λ l. l.items ++ places_after (sources_by n.config (sides_of n)) i.placed.value.cursor.value.done) kept.places
+    ∙ ap (λ (x : List Source). places (seen i) ++ places_after x i.placed.value.cursor.value.done) by
     ∙ sym on.places in
     record {
       all = ap (λ l. l.first) p.log ∙ kept.all;
@@ -189,12 +189,12 @@ kept_puts i n entry r side kept take p =
       valid = subst (λ (s : State). IsState s) (sym is) take.valid;
       good = good_puts i n entry r side kept take.good p.sides;
       places = λ k. record { first = first k; items = items k };
-      cursor = subst (λ (x : List Source). IsCursor n.placed.cursor.value x) by p.placed.cursor;
-      through = subst (λ (x : List Source). IsThrough n.placed.cursor.value x) by p.placed.through;
+      cursor = subst (λ (x : List Source). IsCursor n.placed.value.cursor.value x) by p.placed.cursor;
+      through = subst (λ (x : List Source). IsThrough n.placed.value.cursor.value x) by p.placed.through;
       line_is = p.placed.line_is
-          ∙ ap (λ (x : List Source). moved_by i.placed.line.value (places_after x i.placed.cursor.value.done)) by
-          ∙ ap (λ (l : Live). moved_by l (places_after (sources (seen n)) i.placed.cursor.value.done)) kept.line_is
-          ∙ sym (line_goes_on (seen i) (seen n) (places_after (sources (seen n)) i.placed.cursor.value.done) kept.valid p.config on.places
+          ∙ ap (λ (x : List Source). moved_by i.placed.value.line.value (places_after x i.placed.value.cursor.value.done)) by
+          ∙ ap (λ (l : Live). moved_by l (places_after (sources (seen n)) i.placed.value.cursor.value.done)) kept.line_is
+          ∙ sym (line_goes_on (seen i) (seen n) (places_after (sources (seen n)) i.placed.value.cursor.value.done) kept.valid p.config on.places
           (removed_with i n entry r side take.removed is));
     }
 
@@ -202,19 +202,19 @@ kept_puts i n entry r side kept take p =
 log_after : (i : Inside) (entry : Entry) → IsKept i → (inside_after (seen i) entry i.sides i.placed).log ≡ record { first = i.log.first; items = i.log.items ++ entry ∷ [] }
 log_after i entry kept = λ k. record { first = sym kept.all k; items = i.log.items ++ entry ∷ [] }
 
-puts : (i : Inside) (entry : Entry) (r : ℕ) (side : Side) (sides : Vec (Arc Side Global) Global) (placed : Placed) → IsKept i → map (λ a. a.value) sides.items ≡ slice_set (sides_of i) r side →
-    IsPlaced (sources_by i.config (map (λ a. a.value) sides.items)) i.placed placed → Puts i (inside_after (seen i) entry sides placed) entry r side
+puts : (i : Inside) (entry : Entry) (r : ℕ) (side : Side) (sides : Vec (Arc Side Global) Global) (placed : Arc Placed Global) → IsKept i → map (λ a. a.value) sides.items ≡ slice_set (sides_of i) r side →
+    IsPlaced (sources_by i.config (map (λ a. a.value) sides.items)) i.placed.value placed.value → Puts i (inside_after (seen i) entry sides placed) entry r side
 puts i entry r side sides placed kept sides_are on = record { config = refl; log = log_after i entry kept; sides = sides_are; placed = on }
 
-pub kept_put : (i : Inside) (s : State) (entry : Entry) (r : ℕ) (side : Side) (sides : Vec (Arc Side Global) Global) (placed : Placed) → seen i ≡ s → IsKept i → MayTake s entry r side →
-    map (λ a. a.value) sides.items ≡ slice_set (sides_of i) r side → IsPlaced (sources_by i.config (map (λ a. a.value) sides.items)) i.placed placed → IsKept (inside_after s entry sides placed)
+pub kept_put : (i : Inside) (s : State) (entry : Entry) (r : ℕ) (side : Side) (sides : Vec (Arc Side Global) Global) (placed : Arc Placed Global) → seen i ≡ s → IsKept i → MayTake s entry r side →
+    map (λ a. a.value) sides.items ≡ slice_set (sides_of i) r side → IsPlaced (sources_by i.config (map (λ a. a.value) sides.items)) i.placed.value placed.value → IsKept (inside_after s entry sides placed)
 kept_put i s entry r side sides placed is kept take sides_are on =
     subst (λ (x : State). IsKept (inside_after x entry sides placed)) is
     (kept_puts i (inside_after (seen i) entry sides placed) entry r side kept (subst (λ (x : State). MayTake x entry r side) (sym is) take)
     (puts i entry r side sides placed kept sides_are on))
 
 -- the state of the parts after one more entry, and with this side at number r
-pub seen_put : (i : Inside) (s : State) (entry : Entry) (r : ℕ) (side : Side) (sides : Vec (Arc Side Global) Global) (placed : Placed) → seen i ≡ s → IsKept i →
+pub seen_put : (i : Inside) (s : State) (entry : Entry) (r : ℕ) (side : Side) (sides : Vec (Arc Side Global) Global) (placed : Arc Placed Global) → seen i ≡ s → IsKept i →
     map (λ a. a.value) sides.items ≡ slice_set (sides_of i) r side → seen (inside_after s entry sides placed) ≡ with_side s entry r side
 seen_put i s entry r side sides placed is kept sides_are =
     subst (λ (x : State). seen (inside_after x entry sides placed) ≡ with_side x entry r side) is
@@ -229,6 +229,12 @@ side_at i s r side is kept at =
       held = at_map held_of (sides_of i) r side at;
     } in
     subst (λ (x : State). IsAt x r side) is here
+
+-- a rendition of the state has a side
+pub side_within : (i : Inside) (s : State) (r : ℕ) → seen i ≡ s → r < length s.bytes → r < length i.sides.items
+side_within i s r is there =
+    let all : length (map held_of (sides_of i)) ≡ length i.sides.items = length-map (sides_of i) held_of ∙ length-map i.sides.items (λ a. a.value) in
+    omega (arith, all, ap (λ (x : State). length x.bytes) is, there)
 
 -- the opening
 fresh_lanes : (rs : List Rendition) → map lane_of (map fresh_side rs) ≡ map fresh rs
@@ -254,7 +260,7 @@ opening_source config good =
     let lane_at : slice_get (channel s).lanes 0 ≡ Some no_lane = at_map fresh config.renditions 0 first.0 first.1 in
     (omega (arith, sources_count s, slice_get_within (channel s).lanes 0 no_lane lane_at), (source_of s 0 no_lane lane_at).facts)
 
-pub kept_first : (n : Inside) (config : ConfigData) → IsConfig config → n.config ≡ config → n.log ≡ record { first = 0; items = [] } → sides_of n ≡ map fresh_side config.renditions → AreFirst config n.placed → IsKept n
+pub kept_first : (n : Inside) (config : ConfigData) → IsConfig config → n.config ≡ config → n.log ≡ record { first = 0; items = [] } → sides_of n ≡ map fresh_side config.renditions → AreFirst config n.placed.value → IsKept n
 unfolding channel_from told
 kept_first n config good is log sides none_yet =
     let whole : seen n ≡ first_state config = seen_first n config is log sides in
@@ -265,9 +271,9 @@ kept_first n config good is log sides none_yet =
     let fits : IsCursor (first_position (length config.renditions)) (sources (first_state config)) =
     first-cursor (length config.renditions) (sources (first_state config))
     (sym (sources_count (first_state config) ∙ lanes_count config [])) in
-    let items : n.placed.places.items ≡ places (seen n) =
+    let items : n.placed.value.places.items ≡ places (seen n) =
     ap (λ p. p.items) none_yet.places ∙ sym none ∙ ap (λ (s : State). places s) (sym whole) in
-    let first : n.placed.places.first ≡ 0 = ap (λ p. p.first) none_yet.places in
+    let first : n.placed.value.places.first ≡ 0 = ap (λ p. p.first) none_yet.places in
     record {
       all = ap (λ l. l.first) log;
       lanes = ap (map lane_of) sides ∙ fresh_lanes config.renditions ∙ ap (λ (s : State). (channel s).lanes) (sym whole);
@@ -286,30 +292,30 @@ kept_first n config good is log sides none_yet =
 
 -- where the renditions say the same as before, the places stay those of the state
 record AreStill (n : Inside) : Type 0 where
-  pub places : n.placed.places ≡ record { first = 0; items = places (seen n) }
-  pub cursor : IsCursor n.placed.cursor.value (sources (seen n))
-  pub through : IsThrough n.placed.cursor.value (sources (seen n))
+  pub places : n.placed.value.places ≡ record { first = 0; items = places (seen n) }
+  pub cursor : IsCursor n.placed.value.cursor.value (sources (seen n))
+  pub through : IsThrough n.placed.value.cursor.value (sources (seen n))
 
-are_still : (i n : Inside) (now : Live) → IsKept i → sources (seen n) ≡ sources (seen i) → HaveLine i.placed now n.placed → AreStill n
+are_still : (i n : Inside) (now : Live) → IsKept i → sources (seen n) ≡ sources (seen i) → HaveLine i.placed.value now n.placed.value → AreStill n
 are_still i n now kept same p =
-    let first : n.placed.places.first ≡ 0 = ap (λ l. l.first) p.places ∙ ap (λ l. l.first) kept.places in
-    let items : n.placed.places.items ≡ places (seen n) =
+    let first : n.placed.value.places.first ≡ 0 = ap (λ l. l.first) p.places ∙ ap (λ l. l.first) kept.places in
+    let items : n.placed.value.places.items ≡ places (seen n) =
     ap (λ l. l.items) p.places ∙ ap (λ l. l.items) kept.places ∙ ap places_of (sym same) in
     record {
       places = λ k. record { first = first k; items = items k };
-      cursor = subst (λ (x : Position). IsCursor x (sources (seen n))) (sym p.cursor) (subst (λ (x : List Source). IsCursor i.placed.cursor.value x) (sym same) kept.cursor);
-      through = subst (λ (x : Position). IsThrough x (sources (seen n))) (sym p.cursor) (subst (λ (x : List Source). IsThrough i.placed.cursor.value x) (sym same) kept.through);
+      cursor = subst (λ (x : Position). IsCursor x (sources (seen n))) (sym p.cursor) (subst (λ (x : List Source). IsCursor i.placed.value.cursor.value x) (sym same) kept.cursor);
+      through = subst (λ (x : Position). IsThrough x (sources (seen n))) (sym p.cursor) (subst (λ (x : List Source). IsThrough i.placed.value.cursor.value x) (sym same) kept.through);
     }
 
 -- a trim: places and line stay
-kept_trims : (i : Inside) (entry : Entry) (r : ℕ) (side : Side) (sides : Vec (Arc Side Global) Global) (placed : Placed) → IsKept i → MayTrim (seen i) entry r side →
-    map (λ a. a.value) sides.items ≡ slice_set (sides_of i) r side → AreSame i.placed placed → IsKept (inside_after (seen i) entry sides placed)
+kept_trims : (i : Inside) (entry : Entry) (r : ℕ) (side : Side) (sides : Vec (Arc Side Global) Global) (placed : Arc Placed Global) → IsKept i → MayTrim (seen i) entry r side →
+    map (λ a. a.value) sides.items ≡ slice_set (sides_of i) r side → AreSame i.placed.value placed.value → IsKept (inside_after (seen i) entry sides placed)
 kept_trims i entry r side sides placed kept trim sides_are p =
     let n : Inside = inside_after (seen i) entry sides placed in
     let is : seen n ≡ with_side (seen i) entry r side = seen_with i n entry r side refl (log_after i entry kept) sides_are in
     let lanes : map lane_of (sides_of n) ≡ (channel (seen n)).lanes = lanes_with i n entry r side kept trim.lanes sides_are is in
     let same : sources (seen n) ≡ sources (seen i) = ap sources is ∙ trim.same in
-    let still = are_still i n i.placed.line.value kept same p in
+    let still = are_still i n i.placed.value.line.value kept same p in
     record {
       all = refl;
       lanes = lanes;
@@ -321,21 +327,21 @@ kept_trims i entry r side sides placed kept trim sides_are p =
       line_is = p.line_is ∙ kept.line_is ∙ sym (line_stays (seen i) (seen n) refl same (removed_with i n entry r side trim.removed is));
     }
 
-pub kept_trim : (i : Inside) (s : State) (entry : Entry) (r : ℕ) (side : Side) (sides : Vec (Arc Side Global) Global) (placed : Placed) → seen i ≡ s → IsKept i → MayTrim s entry r side →
-    map (λ a. a.value) sides.items ≡ slice_set (sides_of i) r side → AreSame i.placed placed → IsKept (inside_after s entry sides placed)
+pub kept_trim : (i : Inside) (s : State) (entry : Entry) (r : ℕ) (side : Side) (sides : Vec (Arc Side Global) Global) (placed : Arc Placed Global) → seen i ≡ s → IsKept i → MayTrim s entry r side →
+    map (λ a. a.value) sides.items ≡ slice_set (sides_of i) r side → AreSame i.placed.value placed.value → IsKept (inside_after s entry sides placed)
 kept_trim i s entry r side sides placed is kept trim sides_are p =
     subst (λ (x : State). IsKept (inside_after x entry sides placed)) is
     (kept_trims i entry r side sides placed kept (subst (λ (x : State). MayTrim x entry r side) (sym is) trim) sides_are p)
 
 -- a slide: the line alone is another
-seen_slides : (i : Inside) (by count : ℕ) (sides : Vec (Arc Side Global) Global) (placed : Placed) → map (λ a. a.value) sides.items ≡ sides_of i →
+seen_slides : (i : Inside) (by count : ℕ) (sides : Vec (Arc Side Global) Global) (placed : Arc Placed Global) → map (λ a. a.value) sides.items ≡ sides_of i →
     seen (inside_after (seen i) (entry_of by (Slide count)) sides placed) ≡ advanced (seen i) by (Slide count)
 seen_slides i by count sides placed sides_are =
     let bytes : map held_of (map (λ a. a.value) sides.items) ≡ map held_of (sides_of i) = ap (map held_of) sides_are in
     λ k. record { config = i.config; log = i.log.items ++ entry_of by (Slide count) ∷ []; bytes = bytes k }
 
-kept_slides : (i : Inside) (by count : ℕ) (sides : Vec (Arc Side Global) Global) (placed : Placed) → IsKept i → outcome_of (seen i) (Slide count) ≡ New →
-    map (λ a. a.value) sides.items ≡ sides_of i → HaveLine i.placed (slid count (line (seen i))) placed → IsKept (inside_after (seen i) (entry_of by (Slide count)) sides placed)
+kept_slides : (i : Inside) (by count : ℕ) (sides : Vec (Arc Side Global) Global) (placed : Arc Placed Global) → IsKept i → outcome_of (seen i) (Slide count) ≡ New →
+    map (λ a. a.value) sides.items ≡ sides_of i → HaveLine i.placed.value (slid count (line (seen i))) placed.value → IsKept (inside_after (seen i) (entry_of by (Slide count)) sides placed)
 kept_slides i by count sides placed kept new sides_are p =
     let n : Inside = inside_after (seen i) (entry_of by (Slide count)) sides placed in
     let is : seen n ≡ advanced (seen i) by (Slide count) = seen_slides i by count sides placed sides_are in
@@ -355,14 +361,14 @@ kept_slides i by count sides placed kept new sides_are p =
       line_is = p.line_is ∙ sym (line_slides (seen i) by count) ∙ ap line (sym is);
     }
 
-pub kept_slide : (i : Inside) (s : State) (by count : ℕ) (sides : Vec (Arc Side Global) Global) (placed : Placed) → seen i ≡ s → IsKept i → outcome_of s (Slide count) ≡ New →
-    map (λ a. a.value) sides.items ≡ sides_of i → HaveLine i.placed (slid count (line s)) placed → IsKept (inside_after s (entry_of by (Slide count)) sides placed)
+pub kept_slide : (i : Inside) (s : State) (by count : ℕ) (sides : Vec (Arc Side Global) Global) (placed : Arc Placed Global) → seen i ≡ s → IsKept i → outcome_of s (Slide count) ≡ New →
+    map (λ a. a.value) sides.items ≡ sides_of i → HaveLine i.placed.value (slid count (line s)) placed.value → IsKept (inside_after s (entry_of by (Slide count)) sides placed)
 kept_slide i s by count sides placed is kept new sides_are p =
     subst (λ (x : State). IsKept (inside_after x (entry_of by (Slide count)) sides placed)) is
     (kept_slides i by count sides placed kept (subst (λ (x : State). outcome_of x (Slide count) ≡ New) (sym is) new) sides_are
-    (subst (λ (x : State). HaveLine i.placed (slid count (line x)) placed) (sym is) p))
+    (subst (λ (x : State). HaveLine i.placed.value (slid count (line x)) placed.value) (sym is) p))
 
-pub seen_slide : (i : Inside) (s : State) (by count : ℕ) (sides : Vec (Arc Side Global) Global) (placed : Placed) → seen i ≡ s →
+pub seen_slide : (i : Inside) (s : State) (by count : ℕ) (sides : Vec (Arc Side Global) Global) (placed : Arc Placed Global) → seen i ≡ s →
     map (λ a. a.value) sides.items ≡ sides_of i → seen (inside_after s (entry_of by (Slide count)) sides placed) ≡ advanced s by (Slide count)
 seen_slide i s by count sides placed is sides_are =
     subst (λ (x : State). seen (inside_after x (entry_of by (Slide count)) sides placed) ≡ advanced x by (Slide count)) is (seen_slides i by count sides placed sides_are)

@@ -1,6 +1,6 @@
 -- For the proofs of this crate; no public clause cites it.
 -- The recordings of all renditions, or one that has none.
-use Rattle.std.specs.Prelude.{◌≡◌, ℕ, List, Option, Some, None, map, slice_get}
+use Rattle.std.specs.Prelude.{◌≡◌, ℕ, List, Some, None, slice_get}
 use Rattle.hls_core.specs.declared.side.Side.{Side}
 
 -- a rendition that hasn't begun

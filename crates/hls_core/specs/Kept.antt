@@ -26,12 +26,12 @@ pub record IsKept (i : Inside) : Type 0 where
   pub valid : IsState (seen i)
   pub good : (r : ℕ) (side : Side) → slice_get (sides_of i) r ≡ Some side → IsGood side
   -- the common places of the log, and a cursor behind the last of them
-  pub places : i.placed.places ≡ record { first = 0; items = places (seen i) }
-  pub cursor : IsCursor i.placed.cursor.value (sources (seen i))
-  pub through : IsThrough i.placed.cursor.value (sources (seen i))
+  pub places : i.placed.value.places ≡ record { first = 0; items = places (seen i) }
+  pub cursor : IsCursor i.placed.value.cursor.value (sources (seen i))
+  pub through : IsThrough i.placed.value.cursor.value (sources (seen i))
   -- and the live line of these places
-  pub line_is : i.placed.line.value ≡ line (seen i)
+  pub line_is : i.placed.value.line.value ≡ line (seen i)
 
 -- the parts after one more entry: these sides and places
-abbrev pub inside_after : State → Entry → Vec (Arc Side Global) Global → Placed → Inside
+abbrev pub inside_after : State → Entry → Vec (Arc Side Global) Global → Arc Placed Global → Inside
 inside_after s entry sides placed = record { config = s.config; log = record { first = 0; items = s.log ++ entry ∷ [] }; sides = sides; placed = placed }

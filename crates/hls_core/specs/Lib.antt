@@ -5,6 +5,7 @@ pub mod Sides
 pub mod Kept
 pub mod Reads
 pub mod Steps
+pub mod Admits
 pub mod Placed
 pub mod Gathers
 pub mod Upkeeps

@@ -1,8 +1,9 @@
 //! The configuration of a channel, and what may be wrong with one.
 
-ghost use Rattle.std.specs.Prelude.{◌≡◌, ℕ, ◌*◌, ◌<◌, ◌≤◌, ◌↔◌, length, IsTrue, IfOk, slice_get, None, Some, Any, MatchOption};
+ghost use Rattle.std.specs.Prelude.{◌≡◌, ℕ, ◌*◌, ◌<◌, ◌≤◌, ◌↔◌, length, IsTrue, IfOk, slice_get, None, Some, Err, Any, MatchOption};
 ghost use Rattle.std.specs.Str.{bytes_eq};
-ghost use Rattle.hls_core_laws.specs.Config.{is_name_byte, IsName, IsRendition, IsRenditionAt, AreRenditions, IsEpoch};
+ghost use Rattle.hls_core_laws.specs.Config.{is_name_byte, IsName, IsRendition, IsRenditionAt, AreRenditions, IsEpoch, IsConfig};
+ghost use Rattle.hls_core.specs.Configures.{configured_from, Configures};
 ghost use Rattle.hls_core.specs.FirstBad.{IsFirstBad, bears_name};
 
 use bytes::Bytes;
@@ -73,9 +74,6 @@ impl Display for ConfigFault {
 }
 
 impl Config {
-    ghost use Rattle.hls_core_laws.specs.Config.{IsEpoch, IsConfig};
-    ghost use Rattle.hls_core.specs.Configures.{Configures};
-
     /// A configuration of this target in seconds, this preferred length in microseconds, and these renditions in order;
     /// the moment of time 0 isn't known.
     pub fn new(
@@ -99,17 +97,8 @@ impl Config {
     ) -> Result<Config, ConfigFault>
         ensures { Configures target preferred renditions.items epoch result }
     {
-        if target == 0 || target > TARGET_LIMIT {
-            return Err(ConfigFault::BadTarget);
-        }
-        if preferred == 0 || preferred > target * 1000000 {
-            return Err(ConfigFault::BadPreferred);
-        }
-        if let Some(n) = first_bad(&renditions) {
-            return Err(ConfigFault::BadRendition(n));
-        }
-        if !is_epoch(epoch) {
-            return Err(ConfigFault::BadEpoch);
+        if let Some(fault) = fault_of(target, preferred, &renditions, epoch) {
+            return Err(fault);
         }
         match Arc::new(alloc, renditions) {
             Ok(renditions) => Ok(Config {
@@ -166,6 +155,30 @@ impl Config {
     {
         self.epoch
     }
+}
+
+/// What is wrong first with such a configuration, if anything.
+fn fault_of(
+    target: u64,
+    preferred: u64,
+    renditions: &[Rendition],
+    epoch: Option<i64>,
+) -> Option<ConfigFault>
+    ensures { MatchOption result (IsConfig (configured_from target preferred renditions.now epoch)) (λ fault. Configures target preferred renditions.now epoch (Err fault)) }
+{
+    if target == 0 || target > TARGET_LIMIT {
+        return Some(ConfigFault::BadTarget);
+    }
+    if preferred == 0 || preferred > target * 1000000 {
+        return Some(ConfigFault::BadPreferred);
+    }
+    if let Some(n) = first_bad(renditions) {
+        return Some(ConfigFault::BadRendition(n));
+    }
+    if !is_epoch(epoch) {
+        return Some(ConfigFault::BadEpoch);
+    }
+    None
 }
 
 /// Whether time 0 may be at this moment: from 1970 to 9000-01-01T00:00:00Z.
@@ -246,7 +259,10 @@ fn is_name_byte(byte: u8) -> bool
 fn bears_name(renditions: &[Rendition], name: &[u8]) -> bool
     ensures { result ≡ bears_name renditions.now name.now }
 {
-    renditions
-        .iter()
-        .any(|rendition| &rendition.name[..] == name)
+    for rendition in renditions {
+        if &rendition.name[..] == name {
+            return true;
+        }
+    }
+    false
 }

@@ -1,6 +1,7 @@
 //! The kept places of a snapshot, those with no trimmed unit: how many there are, and the last by a moment.
 
 ghost use Rattle.std.specs.Prelude.{◌≡◌, ◌<◌, ◌≤◌, length, Some, MatchOption, slice_get, slice_index};
+ghost use Rattle.std.specs.Option.{option_copied};
 ghost use Rattle.hls_places_laws.specs.Programmes.{is_kept};
 ghost use Rattle.hls_core_laws.specs.IsState.{IsState};
 ghost use Rattle.hls_core_laws.specs.Places.{places, floors, kept_places};
@@ -8,7 +9,6 @@ ghost use Rattle.hls_core.specs.KeptPlaces.{NoKeptBy, IsLastKeptBy};
 ghost use Rattle.hls_core.specs.Fronts.{meets, IsFront};
 
 use crate::snapshot::{Snapshot, fragment_in};
-use hls_blocks::Shared;
 use hls_places::{Place, time_of};
 
 /// So often a search guesses where it ends. Then it goes by halves, which takes few looks however the places come.
@@ -27,7 +27,7 @@ enum Asked {
 pub fn kept_count(snapshot: &Snapshot) -> u64
     ensures { result ≡ length (kept_places snapshot.now) }
 {
-    snapshot.places().next() - count_front(snapshot, Asked::Trimmed)
+    place_count(snapshot) - count_front(snapshot, Asked::Trimmed)
 }
 
 /// The number of the last place at or before a time, in microseconds, that has no trimmed unit; None where there is none. Takes
@@ -56,11 +56,10 @@ fn count_front(snapshot: &Snapshot, asked: Asked) -> u64
         Asked::Trimmed => kept_since(snapshot),
     };
     let mut guesses = MOST_GUESSES;
-    let places = snapshot.places();
     let mut low = 0;
-    let mut high = places.next();
-    let mut since = time_at(places, 0);
-    let mut until = time_at(places, high.saturating_sub(1));
+    let mut high = place_count(snapshot);
+    let mut since = time_at(snapshot, 0);
+    let mut until = time_at(snapshot, high.saturating_sub(1));
     while low < high {
         let spread = until.saturating_sub(since);
         let middle = next_look(low, high, spread, time.saturating_sub(since), guesses);
@@ -115,8 +114,8 @@ fn next_look(low: u64, high: u64, spread: u64, further: u64, guesses: u32) -> u6
 }
 
 /// When the place of number `n` starts, in microseconds; 0 where there is none.
-fn time_at(places: &Shared<Place>, n: u64) -> u64 {
-    match places.get(n) {
+fn time_at(snapshot: &Snapshot, n: u64) -> u64 {
+    match place_at(snapshot, n) {
         Some(place) => time_of(place),
         None => 0,
     }
@@ -128,10 +127,26 @@ pub(crate) fn place_there(snapshot: &Snapshot, n: u64) -> &Place
     ensures there { slice_get (places snapshot.now) n ≡ Some result.now }
     ensures spots { length result.now.spots ≡ length (floors snapshot.now) }
 {
-    let Some(place) = snapshot.places().get(n) else {
+    let Some(place) = place_at(snapshot, n) else {
         unreachable!()
     };
     place
+}
+
+/// How many places there are, those with trimmed units too.
+pub(crate) fn place_count(snapshot: &Snapshot) -> u64
+    ensures count { result ≡ length (places snapshot.now) }
+    ensures valid { IsState snapshot.now }
+{
+    snapshot.places().next()
+}
+
+/// The place of number `n`, where there is one.
+pub(crate) fn place_at(snapshot: &Snapshot, n: u64) -> Option<&Place>
+    ensures there { option_copied result ≡ slice_get (places snapshot.now) n }
+    ensures valid { IsState snapshot.now }
+{
+    snapshot.places().get(n)
 }
 
 /// Whether no unit at which a place stands is trimmed.

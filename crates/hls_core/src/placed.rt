@@ -1,12 +1,12 @@
 //! The common places of a channel and its live line, brought up to what was recorded.
 
-ghost use Rattle.std.specs.Prelude.{◌≡◌, ◌+◌, ◌<◌, ◌≤◌, ◌++◌, Some, None, length, map, IfOk, IfSome};
-ghost use Rattle.hls_blocks.specs.Numbered.{next_of, list_limit};
+ghost use Rattle.std.specs.Prelude.{◌≡◌, ◌+◌, ◌<◌, ◌≤◌, [], ◌∷◌, ◌++◌, Some, None, length, map, take, IfOk, IfSome};
+ghost use Rattle.hls_blocks.specs.Numbered.{next_of, with_item, list_limit};
 ghost use Rattle.hls_places_laws.specs.Places.{places_after};
 ghost use Rattle.hls_places_laws.specs.Positions.{IsCursor};
 ghost use Rattle.hls_places_laws.specs.Line.Live.{moved_by};
 ghost use Rattle.hls_core.specs.Gathers.{Lacks};
-ghost use Rattle.hls_core.specs.Placed.{CanBeTold};
+ghost use Rattle.hls_core.specs.Placed.{CanBeTold, IsPlaced};
 ghost use Rattle.hls_core.specs.Sides.{sources_by};
 ghost use Rattle.hls_check_laws.specs.Tables.{rendition_limit};
 
@@ -27,86 +27,99 @@ pub(crate) struct Placed {
 }
 
 impl Placed {
-    ghost use Rattle.hls_core.specs.Placed.{AreFirst, AreSame, AreAfter, HaveLine, IsPlaced};
+    ghost use Rattle.hls_core.specs.Placed.{AreFirst, AreAfter, HaveLine};
 
     /// No place yet, and before all units of each rendition.
-    pub(crate) fn first(alloc: Global, config: &Config) -> Result<Placed, AllocError>
-        ensures { IfOk result (AreFirst config.now) }
+    pub(crate) fn first(alloc: Global, config: &Config) -> Result<Arc<Placed>, AllocError>
+        ensures { IfOk result (λ p. AreFirst config.now p.value) }
     {
         let cursor = Cursor::first(alloc, config.renditions().len())?;
-        let cursor = Arc::new(alloc, cursor)?;
+        let cursor = shared_cursor(alloc, cursor)?;
         let line = LiveLine::fresh(alloc, config.target(), config.preferred());
-        let line = Arc::new(alloc, line)?;
-        Ok(Placed {
-            places: Shared::empty(alloc),
-            cursor,
-            line,
-        })
-    }
-
-    /// The same once more, over the same memory.
-    pub(crate) fn share(&self, alloc: Global) -> Result<Placed, AllocError>
-        ensures { IfOk result (AreSame self.now) }
-    {
-        Ok(Placed {
-            places: self.places.share(alloc)?,
-            cursor: Arc::try_clone(&self.cursor)?,
-            line: Arc::try_clone(&self.line)?,
-        })
+        let line = shared_line(alloc, line)?;
+        let places = Shared::empty(alloc);
+        placed_of(alloc, places, cursor, line)
     }
 
     /// The same places with another line.
-    pub(crate) fn with_line(&self, alloc: Global, line: LiveLine) -> Result<Placed, AllocError>
-        ensures { IfOk result (HaveLine self.now line) }
+    pub(crate) fn with_line(&self, alloc: Global, line: LiveLine) -> Result<Arc<Placed>, AllocError>
+        ensures { IfOk result (λ p. HaveLine self.now line p.value) }
     {
-        let line = Arc::new(alloc, line)?;
-        Ok(Placed {
-            places: self.places.share(alloc)?,
-            cursor: Arc::try_clone(&self.cursor)?,
-            line,
-        })
-    }
-
-    /// The places with those that are decided by now at their end, which the line is told. While some rendition hasn't begun
-    /// there are none.
-    pub(crate) fn moved_on(
-        &self,
-        alloc: Global,
-        config: &Config,
-        sides: &[Arc<Side>],
-    ) -> Result<Placed, AllocError>
-        requires some { 1 ≤ length sides.now }
-        requires few { length sides.now ≤ rendition_limit }
-        requires count { length config.now.renditions ≡ length sides.now }
-        requires cursor { IsCursor self.now.cursor.value (sources_by config.now (map (λ a. a.value) sides.now)) }
-        requires room { next_of self.now.places + length (places_after (sources_by config.now (map (λ a. a.value) sides.now)) self.now.cursor.value.done) < list_limit }
-        requires told { CanBeTold self.now.line.value (places_after (sources_by config.now (map (λ a. a.value) sides.now)) self.now.cursor.value.done) }
-        ensures { IfOk result (IsPlaced (sources_by config.now (map (λ a. a.value) sides.now)) self.now) }
-    {
-        let gathered = sources_of(alloc, config, sides)?;
-        match gathered {
-            Some(sources) => {
-                let advance = self.cursor.advanced(alloc, &sources)?;
-                self.after(alloc, advance)
-            }
-            None => self.share(alloc),
-        }
+        let line = shared_line(alloc, line)?;
+        let cursor = Arc::try_clone(&self.cursor)?;
+        let places = self.places.share(alloc)?;
+        placed_of(alloc, places, cursor, line)
     }
 
     /// The places with those that an advance passed at their end.
-    fn after(&self, alloc: Global, advance: Advance) -> Result<Placed, AllocError>
+    fn after(&self, alloc: Global, advance: Advance) -> Result<Arc<Placed>, AllocError>
         requires room { next_of self.now.places + length advance.places.items < list_limit }
         requires told { CanBeTold self.now.line.value advance.places.items }
-        ensures { IfOk result (AreAfter self.now advance) }
+        ensures { IfOk result (λ p. AreAfter self.now advance p.value) }
     {
         let line = all_told(alloc, &self.line, &advance.places)?;
+        let cursor = shared_cursor(alloc, advance.cursor)?;
         let places = all_pushed(alloc, &self.places, advance.places)?;
-        Ok(Placed {
-            places,
-            cursor: Arc::new(alloc, advance.cursor)?,
-            line,
-        })
+        placed_of(alloc, places, cursor, line)
     }
+}
+
+/// The places with those that are decided by now at their end, which the line is told. While some rendition hasn't begun
+/// there are none.
+pub(crate) fn moved_on(
+    alloc: Global,
+    placed: &Arc<Placed>,
+    config: &Config,
+    sides: &[Arc<Side>],
+) -> Result<Arc<Placed>, AllocError>
+    requires some { 1 ≤ length sides.now }
+    requires few { length sides.now ≤ rendition_limit }
+    requires count { length config.now.renditions ≡ length sides.now }
+    requires cursor { IsCursor placed.now.value.cursor.value (sources_by config.now (map (λ a. a.value) sides.now)) }
+    requires room { next_of placed.now.value.places + length (places_after (sources_by config.now (map (λ a. a.value) sides.now)) placed.now.value.cursor.value.done) < list_limit }
+    requires told { CanBeTold placed.now.value.line.value (places_after (sources_by config.now (map (λ a. a.value) sides.now)) placed.now.value.cursor.value.done) }
+    ensures { IfOk result (λ p. IsPlaced (sources_by config.now (map (λ a. a.value) sides.now)) placed.now.value p.value) }
+{
+    let old: &Placed = placed;
+    let gathered = sources_of(alloc, config, sides)?;
+    match gathered {
+        Some(sources) => {
+            let advance = old.cursor.advanced(alloc, &sources)?;
+            old.after(alloc, advance)
+        }
+        None => Arc::try_clone(placed),
+    }
+}
+
+/// These parts, as snapshots share them.
+fn placed_of(
+    alloc: Global,
+    places: Shared<Place>,
+    cursor: Arc<Cursor>,
+    line: Arc<LiveLine>,
+) -> Result<Arc<Placed>, AllocError>
+    ensures { IfOk result (λ p. p.value ≡ record { places = places; cursor = cursor; line = line }) }
+{
+    let placed = Placed {
+        places,
+        cursor,
+        line,
+    };
+    Ok(Arc::new(alloc, placed)?)
+}
+
+/// A cursor behind its Arc. What is behind one is let go in one step, and so whatever is made goes behind its own at once.
+fn shared_cursor(alloc: Global, cursor: Cursor) -> Result<Arc<Cursor>, AllocError>
+    ensures { IfOk result (λ shared. shared.value ≡ cursor) }
+{
+    Ok(Arc::new(alloc, cursor)?)
+}
+
+/// A line behind its Arc.
+fn shared_line(alloc: Global, line: LiveLine) -> Result<Arc<LiveLine>, AllocError>
+    ensures { IfOk result (λ shared. shared.value ≡ line) }
+{
+    Ok(Arc::new(alloc, line)?)
 }
 
 /// The renditions as the search for places sees them, or none where one hasn't begun.
@@ -119,16 +132,30 @@ fn sources_of<'a>(
     ensures lacks { IfOk result (λ all. all ≡ None → Lacks (map (λ a. a.value) sides.entry.now)) }
     ensures gathers { IfOk result (λ all. IfSome all (λ v. v.items ≡ sources_by config.now (map (λ a. a.value) sides.entry.now))) }
 {
-    let renditions = config.renditions();
     let mut sources = Vec::with_capacity(alloc, sides.len())?;
     for r in 0..sides.len() {
-        let side: &Side = &sides[r];
-        let Some(recording) = &side.recording else {
+        let Some(source) = source_at(config, sides, r) else {
             return Ok(None);
         };
-        sources.push(Source::new(recording, renditions[r].tolerance, side.finished))?;
+        sources.push(source)?;
     }
     Ok(Some(sources))
+}
+
+/// One rendition as the search for places sees it, or none where it hasn't begun.
+fn source_at<'a>(config: &Config, sides: &'a [Arc<Side>], r: usize) -> Option<Source<'a>>
+    requires count { length config.now.renditions ≡ length sides.now }
+    requires there { r < length sides.now }
+    ensures next { IfSome result (λ source. take (r + 1) (sources_by config.now (map (λ a. a.value) sides.entry.now)) ≡ take r (sources_by config.now (map (λ a. a.value) sides.entry.now)) ++ source ∷ []) }
+    ensures lacks { result ≡ None → Lacks (map (λ a. a.value) sides.entry.now) }
+{
+    let renditions = config.renditions();
+    let side: &Side = &sides[r];
+    let Some(recording) = &side.recording else {
+        return None;
+    };
+    let tolerance = renditions[r].tolerance;
+    Some(Source::new(recording, tolerance, side.finished))
 }
 
 /// The line after all of these places.
@@ -142,7 +169,8 @@ fn all_told(
 {
     let mut all = Arc::try_clone(line)?;
     for place in places {
-        all = Arc::new(alloc, all.told(alloc, place)?)?;
+        let told = all.told(alloc, place)?;
+        all = shared_line(alloc, told)?;
     }
     Ok(all)
 }
@@ -158,7 +186,15 @@ fn all_pushed(
 {
     let mut all = list.share(alloc)?;
     for place in more {
-        all = all.pushed(alloc, place)?;
+        all = pushed(alloc, all, place)?;
     }
     Ok(all)
+}
+
+/// The list with this one at its end.
+fn pushed(alloc: Global, list: Shared<Place>, place: Place) -> Result<Shared<Place>, AllocError>
+    requires { next_of list < list_limit }
+    ensures { IfOk result (λ s. s ≡ with_item list place) }
+{
+    list.pushed(alloc, place)
 }

@@ -4,6 +4,7 @@ ghost use Rattle.std.specs.Prelude.{◌≡◌, ◌↔◌, IsTrue, length, take};
 ghost use Rattle.hls_blocks.specs.Numbered.{Numbered};
 
 use crate::config::Config;
+use crate::snapshot::{entry_at, entry_count};
 use hls_blocks::Shared;
 use hls_core_laws::event::{Entry, Logged};
 use hls_core_laws::rendition::Rendition;
@@ -48,12 +49,16 @@ pub(crate) fn begins(a: &Shared<Entry>, b: &Shared<Entry>) -> bool
     requires other { b.now.first ≡ 0 }
     ensures { IsTrue result ↔ (take (length a.now.items) b.now.items ≡ a.now.items) }
 {
-    if b.next() < a.next() {
+    if entry_count(b) < entry_count(a) {
         return false;
     }
-    for n in 0..a.next() {
-        let Some(x) = a.get(n) else { unreachable!() };
-        let Some(y) = b.get(n) else { unreachable!() };
+    for n in 0..entry_count(a) {
+        let Some(x) = entry_at(a, n) else {
+            unreachable!()
+        };
+        let Some(y) = entry_at(b, n) else {
+            unreachable!()
+        };
         if !same_entry(x, y) {
             return false;
         }

@@ -16,9 +16,10 @@ ghost use Rattle.hls_core_laws.specs.Moves.{advanced};
 ghost use Rattle.hls_core_laws.specs.Workers.{events_by};
 ghost use Rattle.hls_core_laws.specs.Runs.{first_state};
 ghost use Rattle.hls_core.specs.Sides.{fresh_side};
+ghost use Rattle.hls_blocks.specs.Numbered.{next_of, item_at};
 
 use crate::config::Config;
-use crate::placed::Placed;
+use crate::placed::{Placed, moved_on};
 use crate::side::Side;
 use hls_blocks::Shared;
 use hls_core_laws::event::{Entry, Logged};
@@ -41,7 +42,7 @@ pub struct Snapshot {
     config: Config,
     log: Shared<Entry>,
     sides: Vec<Arc<Side>>,
-    placed: Placed,
+    placed: Arc<Placed>,
 }
 
 impl Model for Snapshot {
@@ -65,8 +66,8 @@ impl Snapshot {
     pub fn first(alloc: Global, config: Config) -> Result<Snapshot, AllocError>
         ensures { IfOk result (λ s. s ≡ first_state config) }
     {
-        let sides = fresh_sides(alloc, config.renditions())?;
         let placed = Placed::first(alloc, &config)?;
+        let sides = fresh_sides(alloc, config.renditions())?;
         Ok(Snapshot {
             config,
             log: Shared::empty(alloc),
@@ -96,7 +97,7 @@ impl Snapshot {
         ensures value { result ≡ length self.now.log }
         ensures valid { IsState self.now }
     {
-        self.log.next()
+        entry_count(&self.log)
     }
 
     /// The recording of a rendition, once it has begun.
@@ -104,7 +105,10 @@ impl Snapshot {
         ensures value { option_copied result ≡ recording_of self.now rendition }
         ensures valid { IsState self.now }
     {
-        self.side(rendition)?.recording.as_ref()
+        match self.side(rendition) {
+            Some(side) => side.recording.as_ref(),
+            None => None,
+        }
     }
 
     /// Whether a rendition is finished; none where the channel has no such rendition.
@@ -112,7 +116,10 @@ impl Snapshot {
         ensures value { result ≡ finished_at self.now rendition }
         ensures valid { IsState self.now }
     {
-        Some(self.side(rendition)?.finished)
+        match self.side(rendition) {
+            Some(side) => Some(side.finished),
+            None => None,
+        }
     }
 
     /// The common places so far, in order of time, whether their fragments are trimmed or not; they count from 0.
@@ -136,10 +143,9 @@ impl Snapshot {
     pub fn count_by(&self, by: u16) -> u64
         ensures { result ≡ length (events_by by self.now.log) }
     {
-        let log = &self.log;
         let mut count = 0;
-        for n in 0..log.next() {
-            let Some(entry) = log.get(n) else {
+        for n in 0..self.version() {
+            let Some(entry) = entry_at(&self.log, n) else {
                 unreachable!()
             };
             if entry.by == by {
@@ -182,15 +188,15 @@ impl Snapshot {
         alloc: Global,
         entry: Entry,
         rendition: usize,
-        side: Side,
+        side: Arc<Side>,
     ) -> Result<Arc<Snapshot>, AllocError>
         requires room { length self.now.log < log_limit }
         requires there { rendition < length self.now.bytes }
-        requires take { MayTake self.now entry rendition side }
-        ensures { IfOk result (λ s. s.value ≡ with_side self.now entry rendition side) }
+        requires take { MayTake self.now entry rendition side.value }
+        ensures { IfOk result (λ s. s.value ≡ with_side self.now entry rendition side.value) }
     {
         let sides = replaced_side(alloc, &self.sides, rendition, side)?;
-        let placed = self.placed.moved_on(alloc, &self.config, &sides)?;
+        let placed = moved_on(alloc, &self.placed, &self.config, &sides)?;
         self.next(alloc, entry, sides, placed)
     }
 
@@ -201,15 +207,15 @@ impl Snapshot {
         alloc: Global,
         entry: Entry,
         rendition: usize,
-        side: Side,
+        side: Arc<Side>,
     ) -> Result<Arc<Snapshot>, AllocError>
         requires room { length self.now.log < log_limit }
         requires there { rendition < length self.now.bytes }
-        requires trim { MayTrim self.now entry rendition side }
-        ensures { IfOk result (λ s. s.value ≡ with_side self.now entry rendition side) }
+        requires trim { MayTrim self.now entry rendition side.value }
+        ensures { IfOk result (λ s. s.value ≡ with_side self.now entry rendition side.value) }
     {
+        let placed = Arc::try_clone(&self.placed)?;
         let sides = replaced_side(alloc, &self.sides, rendition, side)?;
-        let placed = self.placed.share(alloc)?;
         self.next(alloc, entry, sides, placed)
     }
 
@@ -226,9 +232,9 @@ impl Snapshot {
         requires slid { now ≡ slid count (line self.now) }
         ensures { IfOk result (λ s. s.value ≡ advanced self.now by (Slide count)) }
     {
-        let event = Logged::Slid { count };
-        let sides = shared_sides(alloc, &self.sides)?;
         let placed = self.placed.with_line(alloc, now)?;
+        let sides = shared_sides(alloc, &self.sides)?;
+        let event = Logged::Slid { count };
         self.next(alloc, Entry { by, event }, sides, placed)
     }
 
@@ -238,15 +244,17 @@ impl Snapshot {
         alloc: Global,
         entry: Entry,
         sides: Vec<Arc<Side>>,
-        placed: Placed,
+        placed: Arc<Placed>,
     ) -> Result<Arc<Snapshot>, AllocError>
         requires room { length self.now.log < log_limit }
         requires kept { IsKept (inside_after self.now entry sides placed) }
         ensures { IfOk result (λ s. s.value ≡ seen (inside_after self.now entry sides placed)) }
     {
+        let config = self.config.share()?;
+        let log = self.log.pushed(alloc, entry)?;
         let next = Snapshot {
-            config: self.config.share()?,
-            log: self.log.pushed(alloc, entry)?,
+            config,
+            log,
             sides,
             placed,
         };
@@ -271,6 +279,20 @@ pub(crate) fn fragment_in(place: &Place, rendition: usize) -> u64
     place.spots.spot(rendition).fragment
 }
 
+/// The number of a log's entries.
+pub(crate) fn entry_count(log: &Shared<Entry>) -> u64
+    ensures { result ≡ next_of log.now }
+{
+    log.next()
+}
+
+/// A log's entry of number `n`.
+pub(crate) fn entry_at(log: &Shared<Entry>, n: u64) -> Option<&Entry>
+    ensures { option_copied result ≡ item_at log.now n }
+{
+    log.get(n)
+}
+
 /// A side for each rendition, none of which has begun.
 fn fresh_sides(alloc: Global, renditions: &[Rendition]) -> Result<Vec<Arc<Side>>, AllocError>
     ensures { IfOk result (λ v. map (λ a. a.value) v.items ≡ map fresh_side renditions.now) }
@@ -290,11 +312,7 @@ fn fresh_sides(alloc: Global, renditions: &[Rendition]) -> Result<Vec<Arc<Side>>
 fn shared_sides(alloc: Global, sides: &[Arc<Side>]) -> Result<Vec<Arc<Side>>, AllocError>
     ensures { IfOk result (λ v. map (λ a. a.value) v.items ≡ map (λ a. a.value) sides.now) }
 {
-    let mut copies = Vec::with_capacity(alloc, sides.len())?;
-    for side in sides {
-        copies.push(Arc::try_clone(side)?)?;
-    }
-    Ok(copies)
+    sides.to_vec(alloc)
 }
 
 /// The sides with another one at the number r.
@@ -302,12 +320,12 @@ fn replaced_side(
     alloc: Global,
     sides: &[Arc<Side>],
     r: usize,
-    side: Side,
+    side: Arc<Side>,
 ) -> Result<Vec<Arc<Side>>, AllocError>
     requires { r < length sides.now }
-    ensures { IfOk result (λ v. map (λ a. a.value) v.items ≡ slice_set (map (λ a. a.value) sides.now) r side) }
+    ensures { IfOk result (λ v. map (λ a. a.value) v.items ≡ slice_set (map (λ a. a.value) sides.now) r side.value) }
 {
     let mut copies = shared_sides(alloc, sides)?;
-    copies[r] = Arc::new(alloc, side)?;
+    copies[r] = side;
     Ok(copies)
 }

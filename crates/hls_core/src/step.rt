@@ -1,14 +1,15 @@
 //! The one step by which a channel changes.
 
-ghost use Rattle.std.specs.Prelude.{◌≡◌, ◌<◌, Some, None, false, length};
+ghost use Rattle.std.specs.Prelude.{◌≡◌, Ok, Err, None, IfOk, IfErr, IfSome};
 ghost use Rattle.hls_media_laws.specs.Meaning.{IsInit};
-ghost use Rattle.hls_record.specs.Recorded.{twin_of};
-ghost use Rattle.hls_core_laws.specs.State.{log_limit};
 ghost use Rattle.hls_core_laws.specs.IsState.{IsState};
 ghost use Rattle.hls_core_laws.specs.declared.event.Event.TheVariants.{Begin, Accept, Finish, Slide, Trim};
-ghost use Rattle.hls_core_laws.specs.Moves.{IsFitting};
-ghost use Rattle.hls_core.specs.Sides.{IsAt};
+ghost use Rattle.hls_core_laws.specs.declared.refusal.Refusal.TheVariants.{Memory};
+ghost use Rattle.hls_core_laws.specs.Moves.{IsFitting, IsRefused};
+ghost use Rattle.hls_core_laws.specs.Outcome.{Repeated, outcome_of};
+ghost use Rattle.hls_core.specs.Admits.{BeginMeets, MayAccept};
 ghost use Rattle.hls_core.specs.Steps.{Steps};
+ghost use Rattle.hls_core.specs.declared.stepped.Stepped.TheVariants.{New};
 
 use crate::side::Side;
 use crate::snapshot::Snapshot;
@@ -20,7 +21,8 @@ use hls_live::LineFault;
 use hls_media_laws::facts::Facts;
 use hls_media_laws::init::Init;
 use hls_record::{RecordFault, Recording};
-use std::alloc::Global;
+use std::alloc::{AllocError, Global};
+use std::sync::Arc;
 
 /// What an event of the worker `by` does to a channel: a new snapshot, a repeat, or the first cause to refuse it.
 ///
@@ -67,28 +69,37 @@ fn begin(
     requires { IsInit bytes init }
     ensures { Steps snapshot.now by (Begin rendition init bytes) result }
 {
-    let Some(old) = snapshot.side(rendition) else {
-        return Err(Refusal::UnknownRendition);
-    };
-    match &old.recording {
-        Some(recording) if *recording.head() == bytes => return Ok(Stepped::Repeat),
-        Some(_) => return Err(Refusal::InitChanged),
-        None => {}
-    }
-    if snapshot.is_full() {
-        return Err(Refusal::LedgerFull);
+    let is_new = begins(snapshot, rendition, &bytes)?;
+    if !is_new {
+        return Ok(Stepped::Repeat);
     }
     let event = Logged::Begun {
         rendition,
         init: init.share()?,
         len: bytes.len() as u64,
     };
-    let side = Side {
-        recording: Some(Recording::begin(alloc, init, bytes)),
-        finished: old.finished,
+    let recording = Recording::begin(alloc, init, bytes);
+    let side = Side::begun(alloc, recording, false)?;
+    answer_of(snapshot.with_side(alloc, Entry { by, event }, rendition, side))
+}
+
+/// Whether a rendition's init section is new; false where it is there already. The tests of `Begin`, which want no memory.
+fn begins(snapshot: &Snapshot, rendition: usize, bytes: &Bytes) -> Result<bool, Refusal>
+    ensures meets { BeginMeets snapshot.now rendition bytes.now result }
+    ensures valid { IsState snapshot.now }
+{
+    let Some(old) = snapshot.side(rendition) else {
+        return Err(Refusal::UnknownRendition);
     };
-    let next = snapshot.with_side(alloc, Entry { by, event }, rendition, side)?;
-    Ok(Stepped::New(next))
+    match &old.recording {
+        Some(recording) if *recording.head() == *bytes => return Ok(false),
+        Some(_) => return Err(Refusal::InitChanged),
+        None => {}
+    }
+    if snapshot.is_full() {
+        return Err(Refusal::LedgerFull);
+    }
+    Ok(true)
 }
 
 fn accept(
@@ -102,6 +113,34 @@ fn accept(
     requires { IsFitting snapshot.now (Accept rendition facts bytes) }
     ensures { Steps snapshot.now by (Accept rendition facts bytes) result }
 {
+    let met = accepts(snapshot, rendition, facts, &bytes)?;
+    let Some(recording) = met else {
+        return Ok(Stepped::Repeat);
+    };
+    let recording = match recording.appended(alloc, facts, bytes) {
+        Ok(recording) => recording,
+        Err(RecordFault::Overlap) => return Err(Refusal::Overlap),
+        Err(RecordFault::Full) => return Err(Refusal::RecordingFull),
+        Err(RecordFault::Memory) => return Err(Refusal::Memory),
+    };
+    let side = Side::begun(alloc, recording, false)?;
+    let event = Logged::Accepted { rendition, facts };
+    answer_of(snapshot.with_side(alloc, Entry { by, event }, rendition, side))
+}
+
+/// The recording that a new unit is to be appended to; none where the unit is there already. The tests of `Accept` but those
+/// of the recording's length and of memory.
+fn accepts<'a>(
+    snapshot: &'a Snapshot,
+    rendition: usize,
+    facts: Facts,
+    bytes: &Bytes,
+) -> Result<Option<&'a Recording>, Refusal>
+    ensures new { IfOk result (λ met. IfSome met (λ recording. MayAccept snapshot.entry.now rendition facts recording.now)) }
+    ensures again { IfOk result (λ met. met ≡ None → outcome_of snapshot.entry.now (Accept rendition facts bytes.now) ≡ Repeated) }
+    ensures refused { IfErr result (IsRefused snapshot.entry.now (Accept rendition facts bytes.now)) }
+    ensures valid { IsState snapshot.entry.now }
+{
     let Some(old) = snapshot.side(rendition) else {
         return Err(Refusal::UnknownRendition);
     };
@@ -109,7 +148,7 @@ fn accept(
         return Err(Refusal::NoInit);
     };
     match recording.twin(facts.start) {
-        Some(twin) if *twin == bytes => return Ok(Stepped::Repeat),
+        Some(twin) if *twin == *bytes => return Ok(None),
         Some(_) => return Err(Refusal::Overlap),
         None => {}
     }
@@ -122,57 +161,7 @@ fn accept(
     if snapshot.is_full() {
         return Err(Refusal::LedgerFull);
     }
-    let unit = Unit {
-        rendition,
-        facts,
-        bytes,
-    };
-    keep(snapshot, alloc, by, unit, old, recording)
-}
-
-/// A unit that is to be kept, and of which rendition it is.
-struct Unit {
-    rendition: usize,
-    facts: Facts,
-    bytes: Bytes,
-}
-
-/// Keeps a unit that no test but those of its length and of memory can refuse.
-fn keep(
-    snapshot: &Snapshot,
-    alloc: Global,
-    by: u16,
-    unit: Unit,
-    old: &Side,
-    recording: &Recording,
-) -> Result<Stepped, Refusal>
-    requires fits { IsFitting snapshot.now (Accept unit.rendition unit.facts unit.bytes) }
-    requires valid { IsState snapshot.now }
-    requires at { IsAt snapshot.now unit.rendition old.now }
-    requires begun { old.now.recording ≡ Some recording.now }
-    requires apart { twin_of recording.now unit.facts.start ≡ None }
-    requires going { old.now.finished ≡ false }
-    requires room { length snapshot.now.log < log_limit }
-    ensures { Steps snapshot.now by (Accept unit.rendition unit.facts unit.bytes) result }
-{
-    let Unit {
-        rendition,
-        facts,
-        bytes,
-    } = unit;
-    let recording = match recording.appended(alloc, facts, bytes) {
-        Ok(recording) => recording,
-        Err(RecordFault::Overlap) => return Err(Refusal::Overlap),
-        Err(RecordFault::Full) => return Err(Refusal::RecordingFull),
-        Err(RecordFault::Memory) => return Err(Refusal::Memory),
-    };
-    let event = Logged::Accepted { rendition, facts };
-    let side = Side {
-        recording: Some(recording),
-        finished: old.finished,
-    };
-    let next = snapshot.with_side(alloc, Entry { by, event }, rendition, side)?;
-    Ok(Stepped::New(next))
+    Ok(Some(recording))
 }
 
 fn finish(snapshot: &Snapshot, alloc: Global, by: u16, rendition: usize) -> Result<Stepped, Refusal>
@@ -190,13 +179,9 @@ fn finish(snapshot: &Snapshot, alloc: Global, by: u16, rendition: usize) -> Resu
     if snapshot.is_full() {
         return Err(Refusal::LedgerFull);
     }
+    let side = Side::begun(alloc, recording.share(alloc)?, true)?;
     let event = Logged::Finished { rendition };
-    let side = Side {
-        recording: Some(recording.share(alloc)?),
-        finished: true,
-    };
-    let next = snapshot.with_side(alloc, Entry { by, event }, rendition, side)?;
-    Ok(Stepped::New(next))
+    answer_of(snapshot.with_side(alloc, Entry { by, event }, rendition, side))
 }
 
 fn slide(snapshot: &Snapshot, alloc: Global, by: u16, count: u64) -> Result<Stepped, Refusal>
@@ -216,8 +201,7 @@ fn slide(snapshot: &Snapshot, alloc: Global, by: u16, count: u64) -> Result<Step
     let Ok(now) = line.slide(alloc, count) else {
         return Err(Refusal::Memory);
     };
-    let next = snapshot.with_slid(alloc, by, count, now)?;
-    Ok(Stepped::New(next))
+    answer_of(snapshot.with_slid(alloc, by, count, now))
 }
 
 fn trim(
@@ -244,11 +228,18 @@ fn trim(
     let Some(recording) = &old.recording else {
         unreachable!()
     };
+    let side = Side::begun(alloc, recording.trimmed(alloc, floor)?, old.finished)?;
     let event = Logged::Trimmed { rendition, floor };
-    let side = Side {
-        recording: Some(recording.trimmed(alloc, floor)?),
-        finished: old.finished,
-    };
-    let next = snapshot.with_trimmed(alloc, Entry { by, event }, rendition, side)?;
-    Ok(Stepped::New(next))
+    answer_of(snapshot.with_trimmed(alloc, Entry { by, event }, rendition, side))
+}
+
+/// The answer of a step that nothing but want of memory could still refuse.
+fn answer_of(next: Result<Arc<Snapshot>, AllocError>) -> Result<Stepped, Refusal>
+    ensures new { IfOk next (λ next. result ≡ Ok (New next)) }
+    ensures refused { IfErr next (λ _. result ≡ Err Memory) }
+{
+    match next {
+        Ok(next) => Ok(Stepped::New(next)),
+        Err(_) => Err(Refusal::Memory),
+    }
 }

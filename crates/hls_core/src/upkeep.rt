@@ -7,7 +7,7 @@ ghost use Rattle.hls_core_laws.specs.Outcome.{outcome_of, logged_by};
 ghost use Rattle.hls_core.specs.Upkeeps.{IsUpkeepOf};
 ghost use Rattle.hls_core.specs.Cuts.{IsOldUntil, NoneOld, IsCutOf, NoCut, IsFirstBelow, ReachedBefore};
 
-use crate::kept::{floor_of, last_kept_by, place_there};
+use crate::kept::{floor_of, last_kept_by, place_at, place_count, place_there};
 use crate::snapshot::{Snapshot, fragment_in};
 use hls_core_laws::event::Event;
 use hls_places::{Place, time_of};
@@ -55,8 +55,13 @@ fn old_until(snapshot: &Snapshot, keep: u64) -> Option<u64>
     ensures some { IfSome result (IsOldUntil snapshot.now keep) }
     ensures none { IfNone result (NoneOld snapshot.now keep) }
 {
-    let front = snapshot.line().front()?;
-    let last = time_of(last_place(snapshot)?);
+    let Some(front) = snapshot.line().front() else {
+        return None;
+    };
+    let Some(last) = last_place(snapshot) else {
+        return None;
+    };
+    let last = time_of(last);
     if last < keep {
         return None;
     }
@@ -71,11 +76,7 @@ fn old_until(snapshot: &Snapshot, keep: u64) -> Option<u64>
 fn last_place(snapshot: &Snapshot) -> Option<&Place>
     ensures { option_copied result ≡ slice_get (places snapshot.now) (length (places snapshot.now) - 1) }
 {
-    let places = snapshot.places();
-    if places.next() == 0 {
-        return None;
-    }
-    places.get(places.next() - 1)
+    place_at(snapshot, place_count(snapshot).saturating_sub(1))
 }
 
 /// The trim of the first rendition that has units before a place.

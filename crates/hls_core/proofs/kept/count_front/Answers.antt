@@ -10,7 +10,7 @@ loop-low-preserved-then-meets c =
     record {
       order = omega (arith, c.next_look-middle.ensures.high);
       within = c.loop-low.invariant.within;
-      met = met-more c.args.snapshot.now c.places-places.ensures.valid c.match-asked.asked middle c.place_there-there.result.now c.place_there-there.ensures.there is;
+      met = met-more c.args.snapshot.now c.place_count-high.ensures.valid c.match-asked.asked middle c.place_there-there.result.now c.place_there-there.ensures.there is;
       unmet = c.loop-low.invariant.unmet;
     }
 
@@ -22,5 +22,5 @@ loop-low-preserved c =
       order = omega (arith, c.next_look-middle.ensures.low);
       within = omega (arith, c.next_look-middle.ensures.high, c.loop-low.invariant.within);
       met = c.loop-low.invariant.met;
-      unmet = unmet-more c.args.snapshot.now c.places-places.ensures.valid c.match-asked.asked middle c.place_there-there.result.now c.place_there-there.ensures.there isnt;
+      unmet = unmet-more c.args.snapshot.now c.place_count-high.ensures.valid c.match-asked.asked middle c.place_there-there.result.now c.place_there-there.ensures.there isnt;
     }

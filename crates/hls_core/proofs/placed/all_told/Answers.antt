@@ -7,7 +7,7 @@ pub loop-place-preserved : goal.loop-place-preserved
 loop-place-preserved c =
     told_next c.args.line.now.value c.args.places.now c.loop-place.all.value c.in_ok-all-2.all.value c.args.places.now
     c.loop-place.place-index _ (at_read _ _ _ c.loop-place-test.true c.place-item.is) c.loop-place.invariant
-    (c.in_ok-all-2.ensures.ok ∙ rw c.deref.ensures at c.in_ok-told.ensures)
+    (c.in_ok-all-2.ensures ∙ rw c.deref.ensures at c.in_ok-told.ensures)
 
 pub returns : goal.returns
 returns c =

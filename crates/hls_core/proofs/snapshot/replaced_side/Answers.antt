@@ -4,5 +4,4 @@ use Rattle.hls_core.proofs.snapshot.replaced_side.Goals as goal
 
 pub returns : goal.returns
 returns c =
-    map-set (λ a. a.value) c.in_ok-copies.copies.items c.args.r c.in_ok-copies-2.field-0
-    ∙ rw (c.in_ok-copies.ensures, c.in_ok-copies-2.ensures.ok) refl
+    map-set (λ a. a.value) c.in_ok-copies.copies.items c.args.r c.args.side ∙ rw c.in_ok-copies.ensures refl

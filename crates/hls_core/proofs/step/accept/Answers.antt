@@ -1,43 +1,64 @@
-use Rattle.std.proofs.Common.{◌≡◌, ◌∙◌, ◌<◌, ◌≤◌, None, refl, sym, ap, arith}
-use Rattle.std.specs.Option.{option_copied}
-use Rattle.hls_media_laws.specs.FactLists.{last_end}
-use Rattle.hls_record.specs.Recorded.{twin_of}
-use Rattle.hls_core.proofs.Goes.{room_of, accept_unknown, accept_unbegun, accept_before, accept_finished, accept_full}
+use Rattle.std.proofs.Common.{rules, ◌≡◌, Err, refl, arith}
+use Rattle.hls_core_laws.specs.declared.refusal.Refusal.TheVariants.{Memory}
+use Rattle.hls_core.proofs.Goes.{accept_large, accept_small, accepts_units, accepts_within, accepts_goes, goes_as, steps_goes}
 use Rattle.hls_core.proofs.step.accept.Goals as goal
 
-pub keep-requires-clause-room : goal.keep-requires-clause-room
-keep-requires-clause-room c = room_of c.args.snapshot.now c.is_full.result c.is_full.ensures c.if-is_full.false
+pub returns-in_err-met : goal.returns-in_err-met
+returns-in_err-met c =
+    let same : c.from_residual.result ≡ Err c.in_err-met.field-0.0 = search rules in
+    rw same (c.in_err-met.ensures.refused, refl)
 
 pub returns-in_default : goal.returns-in_default
-returns-in_default c = (accept_unknown c.args.snapshot.now c.args.rendition c.args.facts c.args.bytes c.in_default.ensures.none, refl)
+returns-in_default c = (c.in_ok-met.ensures.again c.in_default.is, refl)
 
-pub returns-in_default-recording : goal.returns-in_default-recording
-returns-in_default-recording c =
-    (accept_unbegun c.args.snapshot.now c.args.rendition c.in-Some.old.now c.args.facts c.args.bytes c.in-Some.ensures.some c.in_default-recording.is, refl)
+pub appended-requires-clause-room : goal.appended-requires-clause-room
+appended-requires-clause-room c =
+    let may = rw c.in-Some.is at c.in_ok-met.ensures.new in
+    omega (arith, may.room, accepts_units c.args.snapshot.now c.args.rendition c.in-Some.recording.now c.args.facts c.accepts.ensures.valid may)
 
-pub returns-then-facts-last_end : goal.returns-then-facts-last_end
-returns-then-facts-last_end c =
-    let apart : twin_of c.in-Some-recording.recording c.args.facts.start ≡ None = sym c.twin.ensures ∙ ap option_copied c.in-None.is in
-    let before : c.args.facts.start < last_end c.in-Some-recording.recording.facts = omega (arith, c.last_end.ensures, c.if-facts-last_end.true) in (
-      accept_before c.args.snapshot.now c.args.rendition c.in-Some.old.now c.in-Some-recording.recording c.args.facts c.args.bytes
-          c.in-Some.ensures.some c.in-Some-recording.is apart before,
-      refl,
-    )
+pub returns-in-Err-Overlap : goal.returns-in-Err-Overlap
+returns-in-Err-Overlap c =
+    let may = rw c.in-Some.is at c.in_ok-met.ensures.new in
+    let overlap = rw c.in-Err-Overlap.field-0-is at c.in-Err-Overlap.ensures.cases in
+    absurd (omega (arith, may.later, overlap))
 
-pub returns-then-old : goal.returns-then-old
-returns-then-old c =
-    let apart : twin_of c.in-Some-recording.recording c.args.facts.start ≡ None = sym c.twin.ensures ∙ ap option_copied c.in-None.is in
-    let later : last_end c.in-Some-recording.recording.facts ≤ c.args.facts.start = omega (arith, c.last_end.ensures, c.if-facts-last_end.false) in (
-      accept_finished c.args.snapshot.now c.args.rendition c.in-Some.old.now c.in-Some-recording.recording c.args.facts c.args.bytes
-          c.in-Some.ensures.some c.in-Some-recording.is apart later c.if-old.true,
-      refl,
-    )
+pub returns-in-Err-Full : goal.returns-in-Err-Full
+returns-in-Err-Full c =
+    let may = rw c.in-Some.is at c.in_ok-met.ensures.new in
+    let full = rw c.in-Err-Full.field-0-is at c.in-Err-Full.ensures.cases in
+    (accept_large c.args.snapshot.now c.args.rendition c.in-Some.recording.now c.args.facts c.args.bytes may full.1, refl)
 
-pub returns-then-is_full : goal.returns-then-is_full
-returns-then-is_full c =
-    let apart : twin_of c.in-Some-recording.recording c.args.facts.start ≡ None = sym c.twin.ensures ∙ ap option_copied c.in-None.is in
-    let later : last_end c.in-Some-recording.recording.facts ≤ c.args.facts.start = omega (arith, c.last_end.ensures, c.if-facts-last_end.false) in (
-      accept_full c.args.snapshot.now c.args.rendition c.in-Some.old.now c.in-Some-recording.recording c.args.facts c.args.bytes
-          c.in-Some.ensures.some c.in-Some-recording.is apart later c.if-old.false (sym c.is_full.ensures ∙ c.if-is_full.true),
-      refl,
-    )
+pub returns-in-Err-Memory : goal.returns-in-Err-Memory
+returns-in-Err-Memory c =
+    let may = rw c.in-Some.is at c.in_ok-met.ensures.new in
+    let memory = rw c.in-Err-Memory.field-0-is at c.in-Err-Memory.ensures.cases in
+    (accept_small c.args.snapshot.now c.args.rendition c.in-Some.recording.now c.args.facts c.args.bytes may memory.1, refl)
+
+pub returns-in_err-side : goal.returns-in_err-side
+returns-in_err-side c =
+    let may = rw c.in-Some.is at c.in_ok-met.ensures.new in
+    let memory : c.from_residual-in_err-side.result ≡ Err Memory = search rules in
+    rw memory (accept_small c.args.snapshot.now c.args.rendition c.in-Some.recording.now c.args.facts c.args.bytes may c.in-Ok.ensures.cases.0.1, refl)
+
+pub with_side-requires-clause-room : goal.with_side-requires-clause-room
+with_side-requires-clause-room c = let may = rw c.in-Some.is at c.in_ok-met.ensures.new in may.room
+
+pub with_side-requires-clause-there : goal.with_side-requires-clause-there
+with_side-requires-clause-there c =
+    let may = rw c.in-Some.is at c.in_ok-met.ensures.new in
+    accepts_within c.args.snapshot.now c.args.rendition c.in-Some.recording.now c.args.facts may
+
+pub with_side-requires-clause-take : goal.with_side-requires-clause-take
+with_side-requires-clause-take c =
+    let may = rw c.in-Some.is at c.in_ok-met.ensures.new in
+    let goes = accepts_goes c.args.snapshot.now c.args.by c.args.rendition c.in-Some.recording.now c.in-Ok.recording c.args.facts c.args.bytes
+    c.accepts.ensures.valid may c.requires c.in-Ok.ensures.cases.0.1 c.in-Ok.ensures.cases.1 c.in-Ok.ensures.valid in
+    (goes_as c.in_ok-side.ensures goes).take
+
+pub returns : goal.returns
+returns c =
+    let may = rw c.in-Some.is at c.in_ok-met.ensures.new in
+    let goes = accepts_goes c.args.snapshot.now c.args.by c.args.rendition c.in-Some.recording.now c.in-Ok.recording c.args.facts c.args.bytes
+    c.accepts.ensures.valid may c.requires c.in-Ok.ensures.cases.0.1 c.in-Ok.ensures.cases.1 c.in-Ok.ensures.valid in
+    steps_goes _ c.with_side.result c.answer_of.result refl (goes_as c.in_ok-side.ensures goes)
+    c.with_side.ensures c.answer_of.ensures.new c.answer_of.ensures.refused

@@ -2,15 +2,16 @@ use Rattle.std.proofs.Common.{◌∙◌, ap, length, map, sym, subst, arith, Lis
 use Rattle.std.proofs.lemmas.List.{length-map}
 use Rattle.hls_places_laws.specs.declared.place.Place.{Place}
 use Rattle.hls_core.specs.Placed.{CanBeTold}
-use Rattle.hls_core.proofs.Moved.{one_each, when_ok, placed_without}
-use Rattle.hls_core.proofs.placed.Placed.moved_on.Goals as goal
+use Rattle.hls_core.proofs.Moved.{one_each, when_ok, placed_without, same_placed}
+use Rattle.hls_core.proofs.placed.moved_on.Goals as goal
 
 pub returns-in-None : goal.returns-in-None
 returns-in-None c =
-    when_ok c.share.result
-    (λ p. placed_without c.args.config.now (map (λ a. a.value) c.args.sides.now) c.args.self.now p
-    (c.requires.count ∙ sym (length-map c.args.sides.now (λ a. a.value))) (c.in_ok-gathered.ensures.lacks c.in-None.is) c.requires.cursor)
-    c.share.ensures
+    when_ok c.try_clone.result
+    (λ p is. placed_without c.args.config.now (map (λ a. a.value) c.args.sides.now) c.args.placed.now.value p.value
+    (c.requires.count ∙ sym (length-map c.args.sides.now (λ a. a.value))) (c.in_ok-gathered.ensures.lacks c.in-None.is) c.requires.cursor
+    (same_placed c.args.placed.now.value p.value is))
+    c.try_clone.ensures
 
 pub advanced-requires-clause-some : goal.advanced-requires-clause-some
 advanced-requires-clause-some c =
@@ -27,16 +28,16 @@ advanced-requires-clause-few c =
 pub advanced-requires-clause-cursor : goal.advanced-requires-clause-cursor
 advanced-requires-clause-cursor c =
     let are = rw c.in-Some.is at c.in_ok-gathered.ensures.gathers in
-    rw (c.deref.ensures, c.deref-in-Some.ensures.value, are) c.requires.cursor
+    rw (c.deref.ensures, c.deref-old.ensures, c.deref-in-Some.ensures.value, are) c.requires.cursor
 
 pub after-requires-clause-room : goal.after-requires-clause-room
 after-requires-clause-room c =
     let are = rw c.in-Some.is at c.in_ok-gathered.ensures.gathers in
-    let on = rw (c.deref.ensures, c.deref-in-Some.ensures.value, are) at c.in_ok-advance-in-Some.ensures in
-    omega (arith, ap length on.places, c.requires.room)
+    let on = rw (c.deref.ensures, c.deref-old.ensures, c.deref-in-Some.ensures.value, are) at c.in_ok-advance-in-Some.ensures in
+    rw c.deref-old.ensures (omega (arith, ap length on.places, c.requires.room))
 
 pub after-requires-clause-told : goal.after-requires-clause-told
 after-requires-clause-told c =
     let are = rw c.in-Some.is at c.in_ok-gathered.ensures.gathers in
-    let on = rw (c.deref.ensures, c.deref-in-Some.ensures.value, are) at c.in_ok-advance-in-Some.ensures in
-    subst (λ (ps : List Place). CanBeTold c.args.self.now.line.value ps) (sym on.places) c.requires.told
+    let on = rw (c.deref.ensures, c.deref-old.ensures, c.deref-in-Some.ensures.value, are) at c.in_ok-advance-in-Some.ensures in
+    rw c.deref-old.ensures (subst (λ (ps : List Place). CanBeTold c.args.placed.now.value.line.value ps) (sym on.places) c.requires.told)
