@@ -10,6 +10,9 @@ use std::io::{self, ErrorKind, Read, Write};
 /// The most bytes of one write: a longer one keeps the others of its worker waiting.
 const MOST_WRITTEN: usize = 262_144;
 
+/// How many bytes of one read are so many that more has mostly come once they were worked on.
+const MANY: usize = 32_768;
+
 /// Why a call on a socket moved nothing.
 #[derive(Clone, Copy, PartialEq, Eq, Drop)]
 pub(crate) enum Stop {
@@ -116,13 +119,14 @@ impl Wire {
 }
 
 impl Read for Wire {
-    /// A short read says that no more has come, but where the peer has ended its side: its end is still to be read (epoll(7)).
+    /// A short read says that no more has come, but where the peer has ended its side: its end is still to be read (epoll(7)). One of
+    /// many bytes is followed by another all the same, which mostly spares the system's word that there is more.
     fn read(&mut self, buf: &mut [u8]) -> io::Result<usize> {
         let read = self.stream.read(buf);
         match &read {
             Ok(count) => {
                 self.is_at_end = *count == 0;
-                if *count < buf.len() && !self.ends {
+                if *count < buf.len().min(MANY) && !self.ends {
                     self.readable = false;
                 }
             }

@@ -118,6 +118,10 @@ step_to state more = record { state = state; output = []; acts = []; more = more
 abbrev pub step_behind : Reply → List Act → Step
 step_behind made acts = record { state = state_behind made.end; output = made.output; acts = acts; more = true }
 
+-- behind an encoder's body that was cut short, for which this was asked
+abbrev pub step_cut : List Act → Step
+step_cut acts = record { state = states.Over own.CutShort; output = []; acts = acts; more = false }
+
 -- where nothing waits to be handed out a step comes to this, whatever was received and handed out before
 abbrev pub ComesTo : ℕ → Bool → State → List ℕ → Step → List ℕ → Type 0
 ComesTo count ended old before step after =

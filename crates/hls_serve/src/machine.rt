@@ -1,14 +1,15 @@
 //! The steps of a connection, each from one place in its stream to the next. No system call is made, and nobody is waited for but
 //! the keeper.
 
-ghost use Rattle.std.specs.Prelude.{◌≡◌, ◌↔◌, ℕ, List, [], Bool, IsFalse, IfNone, IfSome, true, false};
+ghost use Rattle.std.specs.Prelude.{◌≡◌, ◌≢◌, ◌↔◌, ℕ, List, [], ◌++◌, length, Bool, IsFalse, IfNone, IfSome, true, false};
 ghost use Rattle.httparse.specs.Grammar.{RequestHead};
 ghost use Rattle.hls_core_laws.specs.{IsState.IsState, Known.Known};
 ghost use Rattle.hls_http_laws.specs.Heads.{ReadsSmall};
 ghost use Rattle.hls_serve_laws.specs.{Acts.Acted, Heard.first_of};
 ghost use Rattle.hls_serve.specs.declared.machine.State.TheVariants as states;
-ghost use Rattle.hls_serve.specs.Machine.{AsksBy, AsksNothing, ComesTo, Goes, GoesOnIn, Rests, RestsIn, Suits, SuitsIn, asked_by, asked_now, failure_in, state_behind, step_behind, step_to, total, waited_head};
-ghost use Rattle.hls_serve.specs.{Taken.IsUsable, Calls.IsCall, Within.DropsBody};
+ghost use Rattle.hls_serve.specs.declared.next.Next.TheVariants as nexts;
+ghost use Rattle.hls_serve.specs.Machine.{AsksBy, AsksNothing, ComesTo, Goes, GoesOnIn, Rests, RestsIn, Suits, SuitsIn, asked_by, asked_in, asked_now, failure_in, state_behind, step_behind, step_cut, step_to, total, waited_head};
+ghost use Rattle.hls_serve.specs.{Calls.IsCall, Within.DropsBody, Within.FeedsFrom};
 
 use crate::acts::Acts;
 use crate::after_body::{Answered, answer_dropped, answer_fed, ingested};
@@ -285,40 +286,37 @@ fn make_on<O: Observer>(making: Making, alloc: Global, observer: &O) -> Step
     }
 }
 
-/// Goes on with an encoder's body.
-fn feed_on<K: Keeper, O: Observer>(
-    mut feeding: Feeding,
-    input: &mut Input,
-    ended: bool,
-    keeper: &mut K,
-    observer: &O,
-) -> Step
-    requires { IsUsable feeding.rendition (K.known keeper.old) feeding.taken.init }
-    ensures comes { (count : ℕ) → ComesTo count ended (states.Feed feeding) input.old.unread result input.new.unread }
-    ensures room { input.new.room ≡ input.old.room }
-    ensures asks { AsksBy (K.known keeper.old) (states.Feed feeding) (K.known keeper.new) result }
-    ensures rests { IsFalse result.more → RestsIn ended result.state input.new.unread }
+/// Behind an encoder's body that the input's end cuts short.
+fn cut_short<O: Observer>(feeding: &mut Feeding, observer: &O) -> Step
+    ensures { result ≡ step_cut feeding.old.taken.acts }
 {
-    match feeding.step(input, keeper) {
-        Next::More => Step::to(State::Feed(feeding), true),
-        Next::Wait if ended => {
-            observer.tell(&ingested(&feeding, Err(Intake::Stopped(BodyEnd::CutShort))));
-            Step {
-                state: State::Over(Ending::CutShort),
-                output: Output::new(),
-                acts: feeding.take_acts(),
-                more: false,
-            }
-        }
-        Next::Wait => Step::to(State::Feed(feeding), false),
-        Next::Over(result) => {
-            let made = answer_fed(keeper.alloc(), &feeding, result, observer);
-            Step::behind(made, feeding.take_acts())
-        }
+    observer.tell(&ingested(feeding, Err(Intake::Stopped(BodyEnd::CutShort))));
+    Step {
+        state: State::Over(Ending::CutShort),
+        output: Output::new(),
+        acts: feeding.take_acts(),
+        more: false,
     }
 }
 
-/// One step from a state in which nothing waits to be handed out.
+/// Behind an encoder's body that is over, or of which no more is taken.
+fn feed_over<O: Observer>(
+    alloc: Global,
+    feeding: &mut Feeding,
+    fed: Result<(), Intake>,
+    observer: &O,
+) -> Step
+    ensures comes { (count : ℕ) (ended : Bool) (old : Feeding) (before unread : List ℕ) → FeedsFrom old before feeding.old unread (nexts.Over fed)
+        → ComesTo count ended (states.Feed old) before result unread }
+    ensures asked { asked_by result ≡ feeding.old.taken.acts }
+    ensures suits { (known : Known) → SuitsIn known result.state }
+    ensures goes_on { result.more ≡ true }
+{
+    let made = answer_fed(alloc, feeding, fed, observer);
+    Step::behind(made, feeding.take_acts())
+}
+
+/// One step from a state that is no encoder's body, and in which nothing waits to be handed out.
 fn step_from<K: Keeper, O: Observer>(
     state: State,
     renditions: usize,
@@ -329,6 +327,7 @@ fn step_from<K: Keeper, O: Observer>(
 ) -> Step
     requires valid { IsState (K.known keeper.old).seen }
     requires suits { SuitsIn (K.known keeper.old) state }
+    requires other { (feeding : Feeding) → state ≢ states.Feed feeding }
     ensures comes { ComesTo renditions ended state input.old.unread result input.new.unread }
     ensures room { input.new.room ≡ input.old.room }
     ensures asks { AsksBy (K.known keeper.old) state (K.known keeper.new) result }
@@ -337,13 +336,50 @@ fn step_from<K: Keeper, O: Observer>(
     match state {
         State::Head => head(renditions, input, ended, keeper.alloc(), observer),
         State::Drop(dropping) => drop_on(dropping, input, ended, keeper, observer),
-        State::Feed(feeding) => feed_on(feeding, input, ended, keeper, observer),
+        State::Feed(_) => unreachable!(),
         State::Make(making) => make_on(making, keeper.alloc(), observer),
         State::Over(end) => Step::to(State::Over(end), false),
     }
 }
 
 impl Machine {
+    /// Goes where a step leads. Whether there may be more to do at once.
+    fn go(&mut self, step: Step) -> bool
+        ensures asked { asked_in self.new ≡ asked_in self.old ++ step.acts }
+        ensures state { self.new.state ≡ step.state }
+        ensures output { self.new.output ≡ step.output }
+        ensures renditions { self.new.renditions ≡ self.old.renditions }
+        ensures more { result ≡ step.more }
+    {
+        self.asked = self.asked.and(&step.acts, &());
+        put(&mut self.state, step.state);
+        put(&mut self.output, step.output);
+        step.more
+    }
+
+    /// One step from a state that is no encoder's body, where nothing waits to be handed out. Whether there may be more to do at once.
+    fn step_out<K: Keeper, O: Observer>(
+        &mut self,
+        input: &mut Input,
+        ended: bool,
+        keeper: &mut K,
+        observer: &O,
+    ) -> bool
+        requires suits { Suits (K.known keeper.old) self.old }
+        requires empty { length self.old.output ≡ 0 }
+        requires other { (feeding : Feeding) → self.old.state ≢ states.Feed feeding }
+        ensures goes { Goes ended self.old input.old.unread self.new input.new.unread }
+        ensures room { input.new.room ≡ input.old.room }
+        ensures leads { Acted (K.known keeper.old) (total self.old) (K.known keeper.new) (total self.new) }
+        ensures renditions { self.new.renditions ≡ self.old.renditions }
+        ensures suits { Suits (K.known keeper.new) self.new }
+        ensures rests { IsFalse result → Rests ended self.new input.new.unread }
+    {
+        let state = mem::replace(&mut self.state, State::Head);
+        let step = step_from(state, self.renditions, input, ended, keeper, observer);
+        self.go(step)
+    }
+
     /// One step, where nothing waits to be handed out. Whether there may be more to do at once.
     pub fn step<K: Keeper, O: Observer>(
         &mut self,
@@ -363,12 +399,22 @@ impl Machine {
         if !self.output.is_empty() {
             return false;
         }
-        let state = mem::replace(&mut self.state, State::Head);
-        let step = step_from(state, self.renditions, input, ended, keeper, observer);
-        self.asked = self.asked.and(&step.acts, &());
-        put(&mut self.state, step.state);
-        put(&mut self.output, step.output);
-        step.more
+        if let State::Feed(feeding) = &mut self.state {
+            // (where it stands: to move it there and back would cost more than most of its steps do)
+            return match feeding.step(input, keeper) {
+                Next::More => true,
+                Next::Wait if ended => {
+                    let step = cut_short(feeding, observer);
+                    self.go(step)
+                }
+                Next::Wait => false,
+                Next::Over(fed) => {
+                    let step = feed_over(keeper.alloc(), feeding, fed, observer);
+                    self.go(step)
+                }
+            };
+        }
+        self.step_out(input, ended, keeper, observer)
     }
 
     /// Whether an answer is being made.

@@ -81,7 +81,10 @@ impl Visit {
         };
         let busy = &mut **busy;
         let read = busy.talk.read_from(&mut busy.input, reader);
-        self.place.rest();
+        // (what was read, or that it was the end, leaves something to do)
+        if read.is_err() {
+            self.place.rest();
+        }
         read
     }
 
