@@ -1,5 +1,7 @@
-//! Tests of shared lists: old values beside new ones, and how many slots a push writes.
+//! Tests of shared lists where memory is refused.
 #![tactic(auto)]
 
 #[cfg(test)]
 mod shared;
+#[cfg(test)]
+mod trees;

@@ -1,7 +1,7 @@
-//! Tests of playlists that are read, line by line.
+//! Tests of playlists that are read, where memory is refused.
 #![tactic(auto)]
 
 #[cfg(test)]
-mod read;
+mod refused;
 #[cfg(test)]
 mod texts;

@@ -1,0 +1,65 @@
+//! What comes out of a reader of boxes.
+
+ghost use Rattle.std.specs.Prelude.{◌≡◌, ◌≤◌, length};
+
+use hls_boxes::UnitReader;
+use hls_boxes_laws::fault::BoxFault;
+use hls_boxes_laws::part::Part;
+use std::alloc::AllocError;
+use std::process::Abort;
+
+/// Feeds a piece. Where memory is refused and the reader is as it was, it does so once more.
+pub fn fed(reader: &mut UnitReader, piece: &[u8]) -> Result<(), BoxFault>
+    ensures { 0 ≤ length piece.now }
+{
+    let before = reader.finish();
+    match reader.feed(piece) {
+        Err(BoxFault::Memory) if reader.finish() == before => reader.feed(piece),
+        answer => answer,
+    }
+}
+
+/// Takes a part. Where memory is refused and the reader is as it was, it does so once more.
+pub fn taken(reader: &mut UnitReader) -> Result<Option<Part>, AllocError> {
+    let before = reader.finish();
+    match reader.take() {
+        Err(AllocError) if reader.finish() == before => reader.take(),
+        answer => answer,
+    }
+}
+
+/// What is to come out of a reader.
+#[derive(Clone, Copy)]
+pub enum Next<'a> {
+    Init(&'a [u8]),
+    Unit(&'a [u8]),
+    Nothing,
+}
+
+/// Whether that comes out next.
+pub fn gives(reader: &mut UnitReader, next: Next<'_>) -> bool
+    ensures { result ≡ result }
+{
+    match (taken(reader), next) {
+        (Ok(Some(Part::Init(found))), Next::Init(bytes)) => found.as_slice() == bytes,
+        (Ok(Some(Part::Unit(found))), Next::Unit(bytes)) => found.as_slice() == bytes,
+        (Ok(None), Next::Nothing) => true,
+        _ => false,
+    }
+}
+
+/// Whether nothing more comes out of a stream that is whole.
+pub fn is_at_its_end(reader: &mut UnitReader) -> bool
+    ensures { result ≡ result }
+{
+    gives(reader, Next::Nothing) && reader.finish().is_ok()
+}
+
+/// An init section and a unit come out, and nothing is left.
+pub fn gives_both(rt: &impl Abort, reader: &mut UnitReader, init: &[u8], unit: &[u8])
+    ensures { 0 ≤ length init.now }
+{
+    assert!(rt; gives(reader, Next::Init(init)));
+    assert!(rt; gives(reader, Next::Unit(unit)));
+    assert!(rt; is_at_its_end(reader));
+}

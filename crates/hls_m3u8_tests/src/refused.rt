@@ -1,0 +1,28 @@
+//! A playlist that is read where memory is refused.
+
+use super::texts::ONE_UNIT;
+use hls_m3u8::{ListFault, MediaPlaylist, read_media};
+use std::alloc::Global;
+use std::test::Fail;
+
+// Reads again where memory was refused.
+fn read_again(alloc: Global, text: &[u8]) -> Result<MediaPlaylist, ListFault> {
+    match read_media(alloc, text) {
+        Err(ListFault::Memory) => read_media(alloc, text),
+        answer => answer,
+    }
+}
+
+// With any one request for memory refused the second try gives the list; what is no list is refused without memory.
+#[test]
+fn refused_memory_is_told_last(rt: HostRuntime) -> Result<(), Fail> {
+    let list = read_again(rt.alloc(), ONE_UNIT.as_bytes())?;
+    assert_eq!(rt; list.segments.len(), 1);
+    assert_eq!(rt; list.segments[0].uri.as_str(), "media.mp4");
+    assert_eq!(rt; list.target, 6);
+    match read_media(rt.alloc(), b"#EXTM3U\n#EXTINF:1\na\n#EXT-X-ENDLIST:") {
+        Err(ListFault::BadTag { line }) => assert_eq!(rt; line, 4),
+        _ => assert!(rt; false),
+    }
+    Ok(())
+}
