@@ -14,7 +14,7 @@ import subprocess
 import threading
 import time
 
-from origin_runs import ROOT, ask, free_port, init_section, need, unit, wait_for
+from origin_runs import ROOT, ask, encoders, free_port, init_section, need, unit, wait_for
 
 # How long a list of a target of two seconds is kept at most: a second, and nginx counts whole ones.
 KEPT = 2.2
@@ -50,8 +50,7 @@ http {{
 def install():
     """nginx with its script module, without a server of the whole system."""
     if not os.path.exists(MODULE) or not shutil.which("nginx"):
-        subprocess.run(["apt-get", "-o", "DPkg::Lock::Timeout=600", "install", "-y", "-q", "--no-install-recommends", "nginx", "libnginx-mod-http-js"],
-                       check=True, stdout=subprocess.DEVNULL, env={**os.environ, "RUNLEVEL": "1", "DEBIAN_FRONTEND": "noninteractive"})
+        encoders.install(["nginx", "libnginx-mod-http-js"])
     need(openssl="openssl")
 
 

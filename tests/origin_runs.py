@@ -24,8 +24,7 @@ def need(**packages):
     """Installs the Debian packages of the commands that are missing."""
     missing = sorted({package for command, names in packages.items() if not shutil.which(command) for package in names.split()})
     if missing:
-        subprocess.run(["apt-get", "-o", "DPkg::Lock::Timeout=600", "install", "-y", "-q", "--no-install-recommends", *missing],
-                       check=True, stdout=subprocess.DEVNULL)
+        encoders.install(missing)
 
 
 def end():
