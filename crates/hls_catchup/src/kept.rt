@@ -10,6 +10,7 @@ ghost use Rattle.hls_catchup.specs.Kept.{kept_in, kept_from, IsCountTo};
 
 use crate::floors::floors_of;
 use crate::recordings::rendition_count;
+use crate::walk::{next_place, places_from};
 use hls_blocks::Shared;
 use hls_check_laws::RENDITION_LIMIT;
 use hls_core::snapshot::Snapshot;
@@ -64,7 +65,8 @@ impl<'a> KeptPlaces<'a> {
         ensures { IsCountTo self.now from time result }
     {
         let mut count = 0;
-        for place in self.places.iter_from(from) {
+        let mut walk = places_from(self.places, from);
+        while let Some(place) = next_place(&mut walk) {
             if self.has(place) {
                 count += 1;
                 if time <= time_of(place) {
@@ -91,7 +93,8 @@ impl<'a> KeptPlaces<'a> {
         requires none { spots.old.items ≡ [] }
         ensures { IfOk result (λ done. spots.new.items ≡ spots_of (take count (kept_from self.now from))) }
     {
-        for place in self.places.iter_from(from) {
+        let mut walk = places_from(self.places, from);
+        while let Some(place) = next_place(&mut walk) {
             if spots.len() >= count {
                 return Ok(());
             }

@@ -1,12 +1,14 @@
-//! A walk over the segments of a live line. All of this crate that goes over segments calls these two, so the list's iterator, which
-//! is generic, is called here alone.
+//! Walks over the segments of a live line, and over common places. All of this crate that goes over either calls these, so the lists'
+//! iterator, which is generic, is called here alone.
 
 ghost use Rattle.std.specs.Prelude.{◌≡◌, ◌≤◌, drop, length};
 ghost use Rattle.std.specs.Map.Iter.{TakesFirst, deref};
+ghost use Rattle.hls_blocks.specs.Numbered.{next_of, rest_at};
 ghost use Rattle.hls_places_laws.specs.Line.Live.{segments_of};
 
-use hls_blocks::Iter;
+use hls_blocks::{Iter, Shared};
 use hls_live::{LiveLine, Segment};
+use hls_places::Place;
 
 /// The segments behind the first `n`.
 pub fn segments_behind(line: &LiveLine, n: u64) -> Iter<'_, Segment>
@@ -20,6 +22,22 @@ pub fn segments_behind(line: &LiveLine, n: u64) -> Iter<'_, Segment>
 
 /// The next segment of a walk.
 pub fn next_segment<'a>(walk: &mut Iter<'a, Segment>) -> Option<&'a Segment>
+    ensures { TakesFirst deref walk.old result walk.new }
+{
+    walk.next()
+}
+
+/// The places from number `n` on.
+pub fn places_from(places: &Shared<Place>, n: u64) -> Iter<'_, Place>
+    requires low { places.now.first ≤ n }
+    requires high { n ≤ next_of places.now }
+    ensures { result ≡ rest_at places.now n }
+{
+    places.iter_from(n)
+}
+
+/// The next place of a walk.
+pub fn next_place<'a>(walk: &mut Iter<'a, Place>) -> Option<&'a Place>
     ensures { TakesFirst deref walk.old result walk.new }
 {
     walk.next()

@@ -5,7 +5,7 @@ ghost use Rattle.hls_check_laws.specs.declared.cert_fault.CertFault.TheVariants.
 use hls_check_laws::CertFault;
 
 /// The number of a wrong line, from 1.
-#[derive(Clone, Copy, Debug)]
+#[derive(Clone, Copy)]
 pub struct WrongLine {
     pub line: usize,
 }

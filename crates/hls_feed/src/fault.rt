@@ -41,7 +41,7 @@ impl Display for StreamFault {
 }
 
 /// Why no more of a stream is taken.
-#[derive(Clone, Copy, Debug, PartialEq, Eq, Drop)]
+#[derive(Clone, Copy, Drop)]
 pub enum Untaken {
     /// It is refused.
     Refused(StreamFault),

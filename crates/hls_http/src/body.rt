@@ -10,7 +10,7 @@ use httparse::spans::{EMPTY_HEADER_SPAN, parse_headers};
 use httparse::{Status, parse_chunk_size};
 
 /// What stands at the front of the held bytes of a body.
-#[derive(Clone, Copy, Debug, PartialEq, Eq, Drop)]
+#[derive(Clone, Copy, Drop)]
 pub enum Move {
     /// So many bytes of content, and then the body goes on so.
     Piece(usize, Body),
@@ -19,7 +19,7 @@ pub enum Move {
 }
 
 /// Why nothing of a body stands at the front.
-#[derive(Clone, Copy, Debug, PartialEq, Eq, Drop)]
+#[derive(Clone, Copy, Drop)]
 pub enum Lack {
     /// More bytes are needed.
     Wait,
@@ -28,7 +28,7 @@ pub enum Lack {
 }
 
 /// What a call brought of a body.
-#[derive(Clone, Copy, Debug, PartialEq, Eq, Drop)]
+#[derive(Clone, Copy, Drop)]
 pub enum Given {
     /// The next piece, which isn't empty, is what the source has taken last.
     Piece,

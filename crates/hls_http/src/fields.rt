@@ -47,7 +47,7 @@ fn find_value<'a>(
 }
 
 /// The value of a field that should stand once.
-#[derive(Clone, Copy, Debug)]
+#[derive(Clone, Copy)]
 enum Only<'a> {
     Missing,
     One(&'a [u8]),

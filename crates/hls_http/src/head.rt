@@ -15,7 +15,7 @@ use httparse::spans::{EMPTY_HEADER_SPAN, HeaderSpan, RequestSpans, Span, parse_r
 use httparse::{Error, Status};
 
 /// What a head says, as far as it matters here. Its text is what the source has taken last.
-#[derive(Clone, Copy, Debug)]
+#[derive(Clone, Copy)]
 pub struct Head {
     /// The method.
     pub method: Method,
@@ -32,7 +32,7 @@ pub struct Head {
 }
 
 /// Why a text shows no head.
-#[derive(Clone, Copy, Debug, PartialEq, Eq, Drop)]
+#[derive(Clone, Copy, Drop)]
 pub enum Look {
     /// More bytes are needed.
     Partial,

@@ -21,7 +21,7 @@ const FIRST: usize = 1024;
 const ZEROS: [u8; BUFFER] = [0; BUFFER];
 
 /// What one read brought.
-#[derive(Clone, Copy, Debug, PartialEq, Eq, Drop)]
+#[derive(Clone, Copy, Drop)]
 pub enum Filled {
     /// Some bytes.
     More,

@@ -1,7 +1,7 @@
 //! How a stream of requests ends, how a body does before its end, and how a session does.
 
 /// What stands behind the last whole request of a stream.
-#[derive(Clone, Copy, Debug, PartialEq, Eq, Drop)]
+#[derive(Clone, Copy, Drop)]
 pub enum InputEnd {
     /// Nothing.
     Closed,
@@ -27,7 +27,7 @@ pub enum BodyEnd {
 }
 
 /// Why a body wasn't dropped to its end.
-#[derive(Clone, Copy, Debug, PartialEq, Eq, Drop)]
+#[derive(Clone, Copy, Drop)]
 pub enum DropEnd {
     /// The size line of a chunk that would pass 65536 bytes is next.
     TooLarge,

@@ -4,7 +4,7 @@ use crate::body::Body;
 use crate::fault::HttpFault;
 
 /// What is done with a request whose head was read.
-#[derive(Clone, Copy, Debug, PartialEq, Eq, Drop)]
+#[derive(Clone, Copy, Drop)]
 pub enum Plan {
     /// It is refused before its body is read.
     Refuse {

@@ -14,7 +14,7 @@ pub enum Asked {
 }
 
 /// The part of a resource that a reply gives.
-#[derive(Clone, Copy, Debug, PartialEq, Eq, Drop)]
+#[derive(Clone, Copy, PartialEq, Eq, Drop)]
 pub enum Part {
     /// All of it: 200.
     Whole,

@@ -5,7 +5,7 @@ ghost use Rattle.hls_http_laws.specs.Reply as spec;
 ghost use Rattle.hls_http_laws.specs.Reply.{has_content, is_success, no_memory, no_memory_head, no_memory_to};
 
 /// The status of a reply (RFC 9110 15).
-#[derive(Clone, Copy, Debug, PartialEq, Eq, Drop)]
+#[derive(Clone, Copy, Drop)]
 pub enum Status {
     /// 200.
     Done,
@@ -38,7 +38,7 @@ pub enum Status {
 }
 
 /// The type of a reply's content.
-#[derive(Clone, Copy, Debug, PartialEq, Eq, Drop)]
+#[derive(Clone, Copy, Drop)]
 pub enum Kind {
     /// `text/plain`.
     Text,
@@ -49,7 +49,7 @@ pub enum Kind {
 }
 
 /// The one field that only some replies have.
-#[derive(Clone, Copy, Debug, PartialEq, Eq)]
+#[derive(Clone, Copy)]
 pub enum Extra<'a> {
     /// None.
     Nothing,
@@ -64,7 +64,7 @@ pub enum Extra<'a> {
 }
 
 /// What the head of a reply says, but for the length of its content.
-#[derive(Clone, Copy, Debug, PartialEq, Eq)]
+#[derive(Clone, Copy)]
 pub struct ReplyHead<'a> {
     /// The status.
     pub status: Status,

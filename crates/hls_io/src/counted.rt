@@ -13,7 +13,7 @@ const MOST_FAILURES: u64 = 1 << 63;
 
 /// A reader or writer that counts its failed calls: those that fail, those that are interrupted,
 /// writes that take no byte, and every call after the 2^62nd.
-#[derive(Debug, Drop)]
+#[derive(Drop)]
 pub struct Counted<T> {
     /// The reader or writer itself. Who calls it [starts a call](Counted::starts_call) before, and counts one that failed.
     pub inner: T,

@@ -3,7 +3,7 @@
 use hls_check_laws::CostRule;
 
 /// How a recorded stream is listed.
-#[derive(Clone, Copy, Debug, PartialEq, Eq)]
+#[derive(Clone, Copy)]
 pub enum Listing {
     /// A playlist with one segment from each place to the next.
     Each,
@@ -12,7 +12,7 @@ pub enum Listing {
 }
 
 /// What is listed, byte by byte.
-#[derive(Debug, Drop)]
+#[derive(Drop)]
 pub enum Listed {
     /// The playlist, or the certificate of a least plan.
     Text(Vec<u8>),

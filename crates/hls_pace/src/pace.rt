@@ -13,7 +13,7 @@ const LONGEST_REST: u64 = 2000;
 const QUIET_REST: u64 = 250;
 
 /// What goes on at a connection.
-#[derive(Clone, Copy, Debug, PartialEq, Eq, Drop)]
+#[derive(Clone, Copy, PartialEq, Eq, Drop)]
 pub enum Stage {
     /// Nothing: no byte of a next request has come.
     Idle,
@@ -32,7 +32,7 @@ pub enum Stage {
 }
 
 /// What goes on at a connection, and how many bytes of it have moved since when. Times are milliseconds of one clock.
-#[derive(Clone, Copy, Debug, PartialEq, Eq, Drop)]
+#[derive(Clone, Copy, PartialEq, Eq, Drop)]
 pub struct Pace {
     pub stage: Stage,
     /// When it began, or its bytes were counted anew.

@@ -15,14 +15,14 @@ use std::alloc::{AllocError, Global};
 use std::marker::Model;
 
 /// How far the search for common places has come: in rendition 0, and by a mark in each rendition.
-#[derive(Debug, Drop)]
+#[derive(Drop)]
 pub struct Cursor {
     done: u64,
     marks: Vec<Mark>,
 }
 
 /// A cursor moved on, and the common places that it passed.
-#[derive(Debug, Drop)]
+#[derive(Drop)]
 pub struct Advance {
     pub cursor: Cursor,
     pub places: Vec<Place>,

@@ -7,7 +7,7 @@ ghost use Rattle.hls_plan.specs.Planned.{CanBeShown, certificate_of};
 use hls_check_laws::{Certificate, Claim, PlaceTable};
 
 /// What a planner found. Places are numbered from 0, and costs are in microseconds.
-#[derive(Debug, Drop)]
+#[derive(Drop)]
 pub enum Planned {
     /// A least plan, and for each place the least cost at which it can be reached, or none.
     Cut {

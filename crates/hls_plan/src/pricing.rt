@@ -13,7 +13,7 @@ use hls_time::Ticks;
 use std::alloc::{AllocError, Global};
 
 /// The price of each place, and the place from which a priced one was reached.
-#[derive(Debug, Drop)]
+#[derive(Drop)]
 pub struct Pricing {
     pub prices: Vec<Option<u64>>,
     pub origins: Vec<usize>,

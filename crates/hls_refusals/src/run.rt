@@ -12,7 +12,7 @@ use std::alloc::Global;
 use std::io::Write;
 
 /// How `explain` ended.
-#[derive(Clone, Copy, Debug, PartialEq, Eq)]
+#[derive(Clone, Copy, PartialEq, Eq)]
 pub enum ExplainEnd {
     /// What was asked for was written: status 0.
     Explained,

@@ -11,7 +11,6 @@ use crate::acts::{Acts, look, submit};
 use crate::call::{Call, Queried};
 use crate::keeper::Keeper;
 use crate::reply::Made;
-use crate::route::{allows, is_to_head, job_at, removes};
 use hls_catchup::{Job, JobFault};
 use hls_core_laws::event::Event;
 use hls_core_laws::refusal::Refusal;
@@ -22,6 +21,7 @@ use hls_replies::{
     method_answer, query_answer, removed_answer, request_for, status_answer, told_answer,
     wanted_of,
 };
+use hls_routes::route::{allows, is_to_head, job_at, removes};
 use hls_serve_laws::query::{Query, QueryFault};
 use hls_serve_laws::route::Route;
 use std::alloc::{AllocError, Global};

@@ -10,9 +10,9 @@ ghost use Rattle.hls_serve_laws.specs.Queries.{query_in};
 ghost use Rattle.hls_serve_laws.specs.Routes as spec;
 ghost use Rattle.hls_serve.specs.Calls.{IsCall};
 
-use crate::route::{feeds, route};
 use hls_http::{Head, Plan, plan, split_target};
 use hls_replies::read_query;
+use hls_routes::route::{feeds, route};
 use hls_serve_laws::query::Query;
 use hls_serve_laws::route::Route;
 use std::alloc::{AllocError, Global};
@@ -21,7 +21,7 @@ use std::alloc::{AllocError, Global};
 pub type Queried = Result<Option<Query>, AllocError>;
 
 /// What is kept of a request's head, whose text is gone once its body is read.
-#[derive(Clone, Copy, Debug)]
+#[derive(Clone, Copy)]
 pub struct Call {
     /// What the head says.
     pub head: Head,

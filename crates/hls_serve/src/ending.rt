@@ -6,7 +6,7 @@ ghost use Rattle.hls_serve.specs.Endings.{end_of};
 use hls_http::SessionEnd;
 
 /// How a connection ends by itself: no reader or writer fails.
-#[derive(Clone, Copy, Debug, PartialEq, Eq, Drop)]
+#[derive(Clone, Copy, Drop)]
 pub(crate) enum Ending {
     /// By the input's end between two requests, or a reply that closes and gives what was asked for.
     Closed,

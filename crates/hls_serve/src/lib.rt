@@ -1,5 +1,5 @@
-//! A server of one channel, over any reader and writer: what a path names, who keeps the channel, an encoder's body taken
-//! part by part, and whole sessions.
+//! A server of one channel, over any reader and writer: who keeps the channel, an encoder's body taken part by part, and whole
+//! sessions.
 //!
 //! What a session is stands in `hls_serve_laws`. The channel is kept by a [`Keeper`](keeper::Keeper): by
 //! [`Alone`](alone::Alone) on one thread, by a [`Station`](station::Station) on each of many.
@@ -21,10 +21,8 @@ mod machine;
 mod making;
 pub mod news;
 mod next;
-pub mod path;
 mod place;
 mod reply;
-pub mod route;
 pub mod session;
 pub mod station;
 mod talk;

@@ -6,7 +6,7 @@ use hls_serve_laws::ingest::{Counts, Intake};
 use hls_serve_laws::route::Route;
 
 /// How an encoder's body ended, or why no more of it is taken.
-#[derive(Clone, Copy, Debug, PartialEq, Eq, Drop)]
+#[derive(Clone, Copy, Drop)]
 pub struct Ingested {
     /// The rendition that it was for.
     pub rendition: usize,
@@ -17,7 +17,7 @@ pub struct Ingested {
 }
 
 /// What an operator is told of a session while it goes on. It is no part of what a session promises.
-#[derive(Clone, Copy, Debug, PartialEq, Eq, Drop)]
+#[derive(Clone, Copy, Drop)]
 pub enum News {
     /// A request's head is whole; its body, where it has one, is read next.
     Begun {
@@ -46,7 +46,7 @@ pub trait Observer {
 }
 
 /// Nobody is told.
-#[derive(Clone, Copy, Debug, Drop)]
+#[derive(Clone, Copy, Drop)]
 pub struct Unobserved;
 
 impl Observer for Unobserved {

@@ -1,7 +1,7 @@
 //! What comes next of a body.
 
 /// What comes next of a body.
-#[derive(Clone, Copy, Debug, PartialEq, Eq, Drop)]
+#[derive(Clone, Copy, Drop)]
 pub(crate) enum Next<E> {
     /// Some of it was taken, and there may be more.
     More,

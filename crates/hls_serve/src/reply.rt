@@ -10,11 +10,11 @@ ghost use Rattle.hls_serve.specs.Calls.{IsCall, IsMade, Replies, end_by};
 use crate::call::Call;
 use crate::ending::Ending;
 use crate::news::{News, Observer};
-use crate::route::is_to_head;
 use hls_http::{HttpFault, Method, says_close};
 use hls_http_laws::reply::{Status, no_memory_head_text, no_memory_text};
 use hls_output::Output;
 use hls_replies::{Answer, Body, fault_answer, output_of};
+use hls_routes::route::is_to_head;
 use hls_serve_laws::route::Route;
 use std::alloc::{AllocError, Global};
 

@@ -7,7 +7,7 @@ use hls_feed::{StreamFault, Untaken};
 use hls_http_laws::end::BodyEnd;
 
 /// How many parts of a body were taken.
-#[derive(Clone, Copy, Debug, PartialEq, Eq, Drop)]
+#[derive(Clone, Copy, Drop)]
 pub struct Counts {
     /// New init sections.
     pub inits: u64,
@@ -18,7 +18,7 @@ pub struct Counts {
 }
 
 /// Why no more of a body is taken.
-#[derive(Clone, Copy, Debug, PartialEq, Eq, Drop)]
+#[derive(Clone, Copy, Drop)]
 pub enum Intake {
     /// It is refused.
     Refused(StreamFault),

@@ -2,8 +2,8 @@
 
 use crate::lines::{Ingest, Request, method_name};
 use hls_house::{Name, tell};
+use hls_routes::path::Path;
 use hls_serve::news::{Ingested, News, Observer};
-use hls_serve::path::Path;
 use hls_settings::Settings;
 use std::cell::Cell;
 use std::io::Eprint;

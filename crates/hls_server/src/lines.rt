@@ -3,7 +3,7 @@
 use hls_house::Name;
 use hls_http::{BodyEnd, Method};
 use hls_http_laws::reply::Status;
-use hls_serve::path::Path;
+use hls_routes::path::Path;
 use hls_serve_laws::ingest::{Counts, Intake};
 use hls_serve_laws::route::Route;
 use std::fmt::{self, Display, Formatter, Write};

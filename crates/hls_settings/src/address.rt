@@ -7,7 +7,7 @@ use crate::number::cut_at;
 use hls_text::{MOST_DIGITS, is_plain, read_number};
 
 /// An IPv4 address and a port.
-#[derive(Clone, Copy, Debug, PartialEq, Eq, Drop)]
+#[derive(Clone, Copy, Drop)]
 pub struct Address {
     pub a: u8,
     pub b: u8,

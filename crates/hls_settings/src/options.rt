@@ -33,7 +33,7 @@ const OPTIONS: [(&str, bool); 7] = [
 const DEFAULT_TARGET: u64 = 6;
 
 /// What `cut` is asked for.
-#[derive(Debug, Drop)]
+#[derive(Drop)]
 pub struct Options<'a> {
     /// The playlist's target duration in whole seconds, 1 to 3600 (RFC 8216 section 4.3.3.1).
     target: u64,

@@ -1,7 +1,7 @@
 //! Which word after `cut` is wrong.
 
 /// Which word after `cut` is wrong first, in the order of the variants.
-#[derive(Clone, Copy, Debug, PartialEq, Eq, Drop)]
+#[derive(Clone, Copy, PartialEq, Eq, Drop)]
 pub enum OptionsFault {
     /// An option that there isn't, that stands twice or has no value, or a word that is no option.
     Words,

@@ -13,7 +13,7 @@ use crate::workers::{Workers, read_workers};
 use clap::ArgMatches;
 
 /// Settings but for the channel's renditions.
-#[derive(Clone, Copy, Debug, Drop)]
+#[derive(Clone, Copy, Drop)]
 pub struct Plain {
     pub timing: Timing,
     /// The moment of time 0 in microseconds since 1970-01-01T00:00:00Z, where it is known.

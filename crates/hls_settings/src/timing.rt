@@ -10,7 +10,7 @@ use crate::number::number_in;
 const MOST_NUMBER: u64 = 9_999_999_999_999_999;
 
 /// How long segments, the live window and the recording are.
-#[derive(Clone, Copy, Debug, PartialEq, Eq, Drop)]
+#[derive(Clone, Copy, Drop)]
 pub struct Timing {
     /// The target duration in seconds, 1 to 3600 (RFC 8216 section 4.3.3.1).
     pub target: u64,

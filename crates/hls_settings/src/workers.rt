@@ -6,7 +6,7 @@ use crate::fault::SettingsFault;
 use crate::number::number_in;
 
 /// How many threads there are, how many connections they hold, and how long one may be silent.
-#[derive(Clone, Copy, Debug, PartialEq, Eq, Drop)]
+#[derive(Clone, Copy, Drop)]
 pub struct Workers {
     /// Threads that serve connections, 1 to 63.
     pub workers: u64,

@@ -8,7 +8,7 @@ use crate::jobs::job::Job;
 use crate::reply::Reply;
 
 /// Why a job has no files.
-#[derive(Clone, Copy, Debug, PartialEq, Eq, Drop)]
+#[derive(Clone, Copy, Drop)]
 pub enum Withheld {
     /// It isn't finished.
     Unfinished,

@@ -13,7 +13,7 @@ use std::io::{Read, Write};
 use std::thread::Threads;
 
 /// How `check` ended.
-#[derive(Clone, Copy, Debug, PartialEq, Eq)]
+#[derive(Clone, Copy)]
 pub enum CheckEnd {
     /// The certificate is good, and its verdict was written: status 0.
     Yes,

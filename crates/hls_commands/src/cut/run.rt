@@ -21,7 +21,7 @@ use std::convert::AsStr;
 use std::io::{Read, Write};
 
 /// How `cut` ended.
-#[derive(Clone, Copy, Debug, PartialEq, Eq)]
+#[derive(Clone, Copy)]
 pub enum CutEnd {
     /// The playlist, or the certificate, was written: status 0.
     Done,

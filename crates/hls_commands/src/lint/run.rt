@@ -16,7 +16,7 @@ use std::io::{Read, Write};
 const HELD_BYTES: usize = TEXT_LIMIT + 1;
 
 /// How `lint` ended.
-#[derive(Clone, Copy, Debug, PartialEq, Eq)]
+#[derive(Clone, Copy)]
 pub enum LintEnd {
     /// The text is a media playlist, and what it is was written: status 0.
     Readable,

@@ -15,7 +15,7 @@ use std::thread::Threads;
 use std::time::Clock;
 
 /// How `serve` ended. While it serves it doesn't end, but by a signal.
-#[derive(Clone, Copy, Debug, PartialEq, Eq, Drop)]
+#[derive(Clone, Copy, Drop)]
 pub enum ServeEnd {
     /// The server has ended: status 0.
     Done,

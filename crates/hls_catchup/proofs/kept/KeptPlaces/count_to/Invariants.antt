@@ -6,8 +6,9 @@ use Rattle.hls_catchup.proofs.kept.KeptPlaces.count_to.Given as goal
 
 abbrev pub invariant-loop-place : goal.invariant-loop-place
 invariant-loop-place l = record {
-  can_next : (goal.iterator-loop-place).can_next l.place-iterator;
-  is_finite : (goal.iterator-loop-place).is_finite l.place-iterator;
-  few : l.count + length (kept l.self.floors l.place-iterator) ≡ length (kept_from l.self l.from);
-  first : l.count + first_from l.time (kept l.self.floors l.place-iterator) ≡ first_from l.time (kept_from l.self l.from);
+  few : l.count + length (kept l.self.floors l.walk) ≡ length (kept_from l.self l.from);
+  first : l.count + first_from l.time (kept l.self.floors l.walk) ≡ first_from l.time (kept_from l.self l.from);
 }
+
+abbrev pub decreases-loop-place : goal.decreases-loop-place
+decreases-loop-place l = length l.walk

@@ -13,13 +13,11 @@ loop-place-preserved-in_ok-push c =
     let made : List (List Spot) = c.loop-place.spots.items in
     let p : Place = c.in-Some.place.now in
     let whole : List (List Spot) = spots_of (take c.args.count (kept_from k c.args.from)) in
-    let rest : c.loop-place.place-iterator ≡ p ∷ c.next.new.self = c.in-Some.ensures.steps in
+    let rest : c.loop-place.walk ≡ p ∷ c.next_place.new.walk = c.in-Some.ensures in
     let is : is_kept k.floors p ≡ true = sym c.has.ensures ∙ c.if-has.true in
-    let before : made ++ spots_of (take (c.args.count - length made) (kept k.floors (p ∷ c.next.new.self))) ≡ whole =
+    let before : made ++ spots_of (take (c.args.count - length made) (kept k.floors (p ∷ c.next_place.new.walk))) ≡ whole =
     ap (λ (ps : List Place). made ++ spots_of (take (c.args.count - length made) (kept k.floors ps))) (sym rest) ∙ c.loop-place.invariant.copied in
     rw c.in_ok-push.ensures.items (record {
-      can_next = tt;
-      is_finite = tt;
-      copied = one_copy_more made c.in_ok-share.field-0 c.args.count k.floors p c.next.new.self whole
+      copied = one_copy_more made c.in_ok-share.field-0 c.args.count k.floors p c.next_place.new.walk whole
           (omega (arith, c.len.ensures, c.if-len-count.false)) is c.in_ok-share.ensures before;
     })

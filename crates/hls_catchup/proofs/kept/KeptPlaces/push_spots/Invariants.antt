@@ -6,7 +6,8 @@ use Rattle.hls_catchup.proofs.kept.KeptPlaces.push_spots.Given as goal
 
 abbrev pub invariant-loop-place : goal.invariant-loop-place
 invariant-loop-place l = record {
-  can_next : (goal.iterator-loop-place).can_next l.place-iterator;
-  is_finite : (goal.iterator-loop-place).is_finite l.place-iterator;
-  copied : l.spots.items ++ spots_of (take (l.count - length l.spots.items) (kept l.self.floors l.place-iterator)) ≡ spots_of (take l.count (kept_from l.self l.from));
+  copied : l.spots.items ++ spots_of (take (l.count - length l.spots.items) (kept l.self.floors l.walk)) ≡ spots_of (take l.count (kept_from l.self l.from));
 }
+
+abbrev pub decreases-loop-place : goal.decreases-loop-place
+decreases-loop-place l = length l.walk

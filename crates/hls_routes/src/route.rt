@@ -5,7 +5,7 @@ ghost use Rattle.hls_serve_laws.specs.Heard as heard;
 ghost use Rattle.hls_serve_laws.specs.Routes as spec;
 ghost use Rattle.hls_serve_laws.specs.Routes.{route_of};
 
-use hls_http::Method;
+use hls_http_laws::method::Method;
 use hls_serve_laws::route::{JobFile, Route};
 use hls_text::{MOST_DIGITS, are_digits, is_plain, read_number};
 
