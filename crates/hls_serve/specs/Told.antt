@@ -1,3 +1,4 @@
+-- For the proofs of this crate; no public clause cites it.
 -- What an operator is told of an encoder's body.
 use Rattle.std.specs.Prelude.{Result}
 use Rattle.hls_serve_laws.specs.declared.ingest.Intake.{Intake}
