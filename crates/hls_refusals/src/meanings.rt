@@ -86,8 +86,8 @@ ReadFailed: standard input couldn't be read to its end. Look at what feeds it.
 RecordingFull: the init section and all units of a rendition would pass 2^40 bytes. Start another channel.
 SlideTooMany: the live line was to give up no segment, or more than it keeps. Nothing is to be done.
 SlideTooShort: the live line was to give up so much that a rendition would keep less than three targets. Nothing is to be done.
-Stray: the result of a job that isn't waited for: it was removed, or runs for another request. Nothing is to be done.
-TableFull: no place for a job is free: 64 stand, or the server works on none. Remove one (DELETE /job/<id>), and ask again.
+Stray: the result of a job that doesn't run, or runs for another version or request. Nothing is to be done.
+TableFull: no place for a job is free: 64 stand. Remove one (DELETE /job/<id>), and ask again.
 TableNotSorted: in a certificate's table a place doesn't come after the one before it, or its times are crossed; the number \
 behind the name is the place's. Make it anew; don't trust who made it.
 TimeTooLarge: a unit's time is past 2^53 microseconds or 2^64 ticks; mostly its decode time is negative. Shift it (ffmpeg: \
