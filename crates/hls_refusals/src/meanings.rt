@@ -49,7 +49,7 @@ Send that stream to another rendition or channel.
 LedgerFull: the log has 4194304 entries, and takes no more. Start another process and point the encoders to it; fewer, longer \
 fragments fill it later.
 MdatAlone: an mdat comes without a moof before it: the file isn't fragmented, or holds samples before its first moof. Write it \
-with -movflags +cmaf+frag_keyframe, or +frag_keyframe+empty_moov+default_base_moof.
+with -movflags +frag_keyframe+delay_moov+default_base_moof.
 Memory: memory was wanted and refused; the refused call changed nothing. Give the process more, keep less (--keep), and ask again.
 MissingTag: a playlist has no EXT-X-TARGETDURATION, a URI without EXTINF, or an EXTINF without URI. It may be cut short: let \
 its maker write it whole.

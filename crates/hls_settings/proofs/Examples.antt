@@ -1,10 +1,12 @@
--- Worked examples: words after `cut`, computed.
+-- Worked examples: words after `cut`, and words that can't stand where they do, computed.
 use Rattle.std.proofs.Common.{◌≡◌, [], ◌∷◌, Some, None, Ok, Err, codes, true, false, refl}
 use Rattle.clap.proofs.OnLiterals.{clap_on_literals}
 use Rattle.hls_instants.specs.Instants.{instant_of}
 use Rattle.hls_instants.specs.Shape.{after_pattern}
 use Rattle.hls_text.specs.Digits.{number_of}
 use Rattle.hls_settings.specs.declared.options_fault.OptionsFault.TheVariants as faults
+use Rattle.hls_settings.specs.declared.wrong_word.WordFault.TheVariants as word
+use Rattle.hls_settings.specs.WrongWords.{cut_options, serve_options, wrong_word}
 use Rattle.hls_settings.specs.Options.{cut_app, options_of}
 
 -- no words
@@ -53,6 +55,30 @@ epoch_of_no_shape : options_of (codes "--epoch" ∷ codes "0" ∷ []) ≡ Err fa
 unfolding options_of cut_app clap_on_literals number_of instant_of after_pattern
 epoch_of_no_shape = refl
 
-unknown_word : options_of (codes "--rule" ∷ codes "1" ∷ []) ≡ Err faults.Words
+unknown_word : options_of (codes "--rule" ∷ codes "1" ∷ []) ≡ Err (faults.Words (Some (record { index = 0; fault = word.Unknown })))
 unfolding options_of cut_app clap_on_literals number_of
 unknown_word = refl
+
+-- ---- the first word that can't stand where it does
+
+misspelt : wrong_word serve_options true (codes "127.0.0.1:80" ∷ codes "--prefered=4000000" ∷ codes "--other" ∷ []) ≡ Some (record { index = 1; fault = word.Unknown })
+misspelt = refl
+
+given_twice : wrong_word serve_options true (codes "--target" ∷ codes "6" ∷ codes "--target=6" ∷ []) ≡ Some (record { index = 2; fault = word.Repeated })
+given_twice = refl
+
+-- what begins with a hyphen is no value
+without_value : wrong_word serve_options true (codes "--log" ∷ codes "--target" ∷ codes "6" ∷ []) ≡ Some (record { index = 0; fault = word.NoValue })
+without_value = refl
+
+with_value : wrong_word cut_options false (codes "--each=1" ∷ []) ≡ Some (record { index = 0; fault = word.Unneeded })
+with_value = refl
+
+stray : wrong_word cut_options false (codes "--target" ∷ codes "6" ∷ codes "7" ∷ []) ≡ Some (record { index = 2; fault = word.Stray })
+stray = refl
+
+stray_after_hyphens : wrong_word cut_options false (codes "--" ∷ codes "--each" ∷ []) ≡ Some (record { index = 1; fault = word.Stray })
+stray_after_hyphens = refl
+
+none_wrong : wrong_word serve_options true (codes "--target" ∷ codes "-" ∷ codes "--log=" ∷ codes "--" ∷ codes "--other" ∷ []) ≡ None
+none_wrong = refl

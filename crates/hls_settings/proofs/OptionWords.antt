@@ -1,5 +1,5 @@
 -- The words after `cut`, as `clap` takes or refuses them.
-use Rattle.std.proofs.Common.{◌≡◌, ◌∙◌, ◌⊎◌, ap, ap₂, refl, sym, subst, codes, true, List, [], ◌∷◌, Option, Result, Ok, Err, inl, inr}
+use Rattle.std.proofs.Common.{◌≡◌, ◌∙◌, ◌⊎◌, ap, ap₂, refl, sym, subst, codes, true, false, List, [], ◌∷◌, Option, Result, Ok, Err, inl, inr}
 use Rattle.clap.specs.Words.{App, Text, fault_of, first_of, first_value, found_of, is_simple, is_simple_and_free, kind_of, matches_of, rows_of, HasMatchesOf}
 use Rattle.clap.specs.Kinds.{Kinds, HasKind, IsAmong}
 use Rattle.clap.specs.declared.parser.matches.ArgMatches.{ArgMatches}
@@ -9,6 +9,8 @@ use Rattle.clap.specs.declared.error.kind.ErrorKind.TheVariants as kind
 use Rattle.clap.proofs.WalkLemmas.{first_value-rows}
 use Rattle.hls_settings.specs.declared.options_fault.OptionsFault.{OptionsFault}
 use Rattle.hls_settings.specs.declared.options_fault.OptionsFault.TheVariants as faults
+use Rattle.hls_settings.specs.WrongWords.{cut_options, wrong_word}
+use Rattle.hls_settings.specs.declared.wrong_word.WrongWord.{WrongWord}
 use Rattle.hls_settings.specs.Options.{Choice, ReadsOptions, choice_in, choice_of, cut_app, options_of, refused_option, unless_refused}
 
 pub cut_is_simple : is_simple cut_app ≡ true
@@ -36,7 +38,7 @@ taken_words app words m is has none =
     same_seven _ _ _ _ _ _ _ _ _ _ _ _ _ _ (first_in_rows app words m (codes "each") is has) (first_in_rows app words m (codes "preferred") is has)
     (first_in_rows app words m (codes "certificate") is has) (first_in_rows app words m (codes "target") is has) (first_in_rows app words m (codes "uri") is has)
     (first_in_rows app words m (codes "charge") is has) (first_in_rows app words m (codes "epoch") is has)
-    ∙ sym (ap (λ (ks : Kinds). unless_refused ks (choice_of (matches_of cut_app words))) no_fault)
+    ∙ sym (ap (λ (ks : Kinds). unless_refused ks (wrong_word cut_options false words) (choice_of (matches_of cut_app words))) no_fault)
   where
     same_seven : (a a' b b' c c' d d' e e' f f' g g' : Option Text) → a ≡ a' → b ≡ b' → c ≡ c' → d ≡ d' → e ≡ e' → f ≡ f' → g ≡ g'
         → choice_in a b c d e f g ≡ choice_in a' b' c' d' e' f' g'
@@ -45,29 +47,32 @@ taken_words app words m is has none =
         ∙ ap (λ x. choice_in a' b' c' x e f g) s ∙ ap (λ x. choice_in a' b' c' d' x f g) t ∙ ap₂ (choice_in a' b' c' d' e') u v
 
 -- a refusal is for want of memory, or of the words
-memory_or_words : (k : ErrorKind) → (refused_option k ≡ faults.Memory) ⊎ (refused_option k ≡ faults.Words)
-memory_or_words kind.OutOfMemory = inl refl
-memory_or_words _ = inr refl
+memory_or_words : (k : ErrorKind) (wrong : Option WrongWord) → (refused_option k wrong ≡ faults.Memory) ⊎ (refused_option k wrong ≡ faults.Words wrong)
+memory_or_words kind.OutOfMemory wrong = inl refl
+memory_or_words _ wrong = inr refl
 
-some_fault : (ks : Kinds) (k : ErrorKind) (choice : Result Choice OptionsFault) → IsAmong k ks → unless_refused ks choice ≡ Err faults.Words
-some_fault [] k choice among = absurd among
-some_fault (j ∷ ks) k choice among = refl
+some_fault : (ks : Kinds) (k : ErrorKind) (wrong : Option WrongWord) (choice : Result Choice OptionsFault) → IsAmong k ks → unless_refused ks wrong choice ≡ Err (faults.Words wrong)
+some_fault [] k wrong choice among = absurd among
+some_fault (j ∷ ks) k wrong choice among = refl
 
 without_memory : (words : List Text) (fault : OptionsFault) → fault ≡ faults.Memory → ReadsOptions words (Err fault)
 without_memory words fault is = subst (λ (f : OptionsFault). ReadsOptions words (Err f)) (sym is) tt
 
 -- words that were refused
-pub refused_words : (app : App) (words : List Text) (e : Error) (fault : OptionsFault) → app ≡ cut_app → fault ≡ refused_option (kind_of e) → HasKind (fault_of app words) e → ReadsOptions words (Err fault)
+pub refused_words : (app : App) (words : List Text) (e : Error) (fault : OptionsFault) → app ≡ cut_app → fault ≡ refused_option (kind_of e) (wrong_word cut_options false words)
+    → HasKind (fault_of app words) e → ReadsOptions words (Err fault)
 unfolding options_of
-refused_words app words e fault is by (inl memory) = without_memory words fault (by ∙ ap refused_option memory)
-refused_words app words e fault is by (inr among) = go (memory_or_words (kind_of e))
+refused_words app words e fault is by (inl memory) = without_memory words fault (by ∙ ap (λ (k : ErrorKind). refused_option k (wrong_word cut_options false words)) memory)
+refused_words app words e fault is by (inr among) = go (memory_or_words (kind_of e) (wrong_word cut_options false words))
   where
-    go : (refused_option (kind_of e) ≡ faults.Memory) ⊎ (refused_option (kind_of e) ≡ faults.Words) → ReadsOptions words (Err fault)
+    go : (refused_option (kind_of e) (wrong_word cut_options false words) ≡ faults.Memory)
+        ⊎ (refused_option (kind_of e) (wrong_word cut_options false words) ≡ faults.Words (wrong_word cut_options false words)) → ReadsOptions words (Err fault)
     go (inl memory) = without_memory words fault (by ∙ memory)
     go (inr wrong) =
-        let some : unless_refused (fault_of app words) (choice_of (matches_of cut_app words)) ≡ Err faults.Words = some_fault (fault_of app words) (kind_of e) _ among in
-        let of_cut : options_of words ≡ Err faults.Words =
-        subst (λ (a : App). unless_refused (fault_of a words) (choice_of (matches_of cut_app words)) ≡ Err faults.Words) is some in
+        let some : unless_refused (fault_of app words) (wrong_word cut_options false words) (choice_of (matches_of cut_app words)) ≡ Err (faults.Words (wrong_word cut_options false words)) =
+        some_fault (fault_of app words) (kind_of e) (wrong_word cut_options false words) _ among in
+        let of_cut : options_of words ≡ Err (faults.Words (wrong_word cut_options false words)) =
+        subst (λ (a : App). unless_refused (fault_of a words) (wrong_word cut_options false words) (choice_of (matches_of cut_app words)) ≡ Err (faults.Words (wrong_word cut_options false words))) is some in
         subst (λ (f : OptionsFault). ReadsOptions words (Err f)) (sym (by ∙ wrong)) of_cut
 
 -- what was read is what the words give, but for want of memory

@@ -14,6 +14,8 @@ use Rattle.hls_settings.specs.declared.settings.Settings.{Settings}
 use Rattle.hls_settings.specs.Command.{channel_app, options_app, serve_app, texts_in, texts_of, timing_app}
 use Rattle.hls_settings.specs.Reading.{Reads, SetsBy, SetsIn, refused_by, words_of}
 use Rattle.hls_settings.specs.Settings.{Texts, plain_of}
+use Rattle.hls_settings.specs.WrongWords.{serve_options, wrong_word}
+use Rattle.hls_settings.specs.declared.wrong_word.WrongWord.{WrongWord}
 
 pub serve_is_simple : is_simple serve_app ≡ true
 unfolding serve_app options_app channel_app timing_app
@@ -67,26 +69,29 @@ taken_words app words m result is has none given =
     let no_fault : fault_of serve_app words ≡ [] = sym (ap (λ (a : App). fault_of a words) is) ∙ none in
     let moved : SetsBy (plain_of (texts_of (matches_of serve_app words))) (words_of (texts_of (matches_of serve_app words)).renditions) result =
     subst (λ (t : Texts). SetsBy (plain_of t) (words_of t.renditions) result) texts given in
-    inr (subst (λ (ks : Kinds). SetsIn ks (texts_of (matches_of serve_app words)) result) (sym no_fault) moved)
+    inr (subst (λ (ks : Kinds). SetsIn words ks (texts_of (matches_of serve_app words)) result) (sym no_fault) moved)
 
 -- a refusal is for want of memory, or of the words
-memory_or_words : (k : ErrorKind) → (refused_by k ≡ faults.Memory) ⊎ (refused_by k ≡ faults.Words)
-memory_or_words kind.OutOfMemory = inl refl
-memory_or_words _ = inr refl
+memory_or_words : (k : ErrorKind) (wrong : Option WrongWord) → (refused_by k wrong ≡ faults.Memory) ⊎ (refused_by k wrong ≡ faults.Words wrong)
+memory_or_words kind.OutOfMemory wrong = inl refl
+memory_or_words _ wrong = inr refl
 
-some_fault : (ks : Kinds) (k : ErrorKind) (texts : Texts) → IsAmong k ks → SetsIn ks texts (Err faults.Words)
-some_fault [] k texts among = absurd among
-some_fault (j ∷ ks) k texts among = refl
+some_fault : (words : List Text) (ks : Kinds) (k : ErrorKind) (texts : Texts) → IsAmong k ks → SetsIn words ks texts (Err (faults.Words (wrong_word serve_options true words)))
+some_fault words [] k texts among = absurd among
+some_fault words (j ∷ ks) k texts among = refl
 
 -- words that were refused
-pub refused_words : (app : App) (words : List Text) (e : Error) (fault : SettingsFault) → app ≡ serve_app → fault ≡ refused_by (kind_of e) → HasKind (fault_of app words) e → Reads words (Err fault)
-refused_words app words e fault is by (inl memory) = inl (ap Err (by ∙ ap refused_by memory))
-refused_words app words e fault is by (inr among) = go (memory_or_words (kind_of e))
+pub refused_words : (app : App) (words : List Text) (e : Error) (fault : SettingsFault) → app ≡ serve_app → fault ≡ refused_by (kind_of e) (wrong_word serve_options true words)
+    → HasKind (fault_of app words) e → Reads words (Err fault)
+refused_words app words e fault is by (inl memory) = inl (ap Err (by ∙ ap (λ (k : ErrorKind). refused_by k (wrong_word serve_options true words)) memory))
+refused_words app words e fault is by (inr among) = go (memory_or_words (kind_of e) (wrong_word serve_options true words))
   where
-    go : (refused_by (kind_of e) ≡ faults.Memory) ⊎ (refused_by (kind_of e) ≡ faults.Words) → Reads words (Err fault)
+    go : (refused_by (kind_of e) (wrong_word serve_options true words) ≡ faults.Memory)
+        ⊎ (refused_by (kind_of e) (wrong_word serve_options true words) ≡ faults.Words (wrong_word serve_options true words)) → Reads words (Err fault)
     go (inl memory) = inl (ap Err (by ∙ memory))
     go (inr wrong) =
-        let some : SetsIn (fault_of app words) (texts_of (matches_of serve_app words)) (Err faults.Words) = some_fault (fault_of app words) (kind_of e) _ among in
-        let of_serve : SetsIn (fault_of serve_app words) (texts_of (matches_of serve_app words)) (Err faults.Words) =
-        subst (λ (a : App). SetsIn (fault_of a words) (texts_of (matches_of serve_app words)) (Err faults.Words)) is some in
-        inr (subst (λ (f : SettingsFault). SetsIn (fault_of serve_app words) (texts_of (matches_of serve_app words)) (Err f)) (sym (by ∙ wrong)) of_serve)
+        let some : SetsIn words (fault_of app words) (texts_of (matches_of serve_app words)) (Err (faults.Words (wrong_word serve_options true words))) =
+        some_fault words (fault_of app words) (kind_of e) _ among in
+        let of_serve : SetsIn words (fault_of serve_app words) (texts_of (matches_of serve_app words)) (Err (faults.Words (wrong_word serve_options true words))) =
+        subst (λ (a : App). SetsIn words (fault_of a words) (texts_of (matches_of serve_app words)) (Err (faults.Words (wrong_word serve_options true words)))) is some in
+        inr (subst (λ (f : SettingsFault). SetsIn words (fault_of serve_app words) (texts_of (matches_of serve_app words)) (Err f)) (sym (by ∙ wrong)) of_serve)

@@ -3,6 +3,7 @@ pub mod Renditions
 pub mod Addresses
 pub mod Said
 pub mod Settings
+pub mod WrongWords
 pub mod Command
 pub mod Reading
 pub mod Options

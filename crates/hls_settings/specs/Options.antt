@@ -15,6 +15,8 @@ use Rattle.hls_settings.specs.declared.options_fault.OptionsFault.{OptionsFault}
 use Rattle.hls_settings.specs.declared.options_fault.OptionsFault.TheVariants as faults
 use Rattle.hls_settings.specs.Command.{value_rule, without_name}
 use Rattle.hls_settings.specs.Settings.{epoch_in}
+use Rattle.hls_settings.specs.WrongWords.{cut_options, wrong_word}
+use Rattle.hls_settings.specs.declared.wrong_word.WrongWord.{WrongWord}
 use Rattle.hls_check_laws.specs.Tables.{charge_limit, target_limit}
 
 -- the options: the target duration in seconds, the URI's bytes, the preferred length in µs where a least plan is wanted,
@@ -139,9 +141,10 @@ choice_after target uri value =
     or_wrong faults.Preferred (preferred_in target (value (codes "preferred"))) (λ p. or_wrong faults.Charge (charge_in (value (codes "charge"))) (λ c.
     or_wrong faults.Epoch (epoch_in (value (codes "epoch"))) (λ e. chosen target uri p c e (is_set (value (codes "each"))) (is_set (value (codes "certificate"))))))
 
-abbrev pub unless_refused : Kinds → Result Choice OptionsFault → Result Choice OptionsFault
-unless_refused [] choice = choice
-unless_refused (k ∷ ks) choice = Err faults.Words
+-- words that `clap` refuses are refused by the first that can't stand where it does
+abbrev pub unless_refused : Kinds → Option WrongWord → Result Choice OptionsFault → Result Choice OptionsFault
+unless_refused [] wrong choice = choice
+unless_refused (k ∷ ks) wrong choice = Err (faults.Words wrong)
 
 -- by the value of each option, where it is given
 abbrev pub choice_by : (List ℕ → Option Text) → Result Choice OptionsFault
@@ -154,7 +157,7 @@ choice_of rows = choice_by (λ name. first_of name rows)
 
 -- the options that the words give, or which word is wrong first
 unfoldable pub options_of : List Text → Result Choice OptionsFault
-options_of words = unless_refused (fault_of cut_app words) (choice_of (matches_of cut_app words))
+options_of words = unless_refused (fault_of cut_app words) (wrong_word cut_options false words) (choice_of (matches_of cut_app words))
 
 -- want of memory may come instead
 abbrev pub ReadsOptions : List Text → Result Choice OptionsFault → Type 0
@@ -162,9 +165,9 @@ ReadsOptions words (Err faults.Memory) = Unit {0}
 ReadsOptions words result = options_of words ≡ result
 
 -- words that are refused, but for want of memory. For the code alone
-abbrev pub refused_option : ErrorKind → OptionsFault
-refused_option kinds.OutOfMemory = faults.Memory
-refused_option _ = faults.Words
+abbrev pub refused_option : ErrorKind → Option WrongWord → OptionsFault
+refused_option kinds.OutOfMemory wrong = faults.Memory
+refused_option _ wrong = faults.Words wrong
 
 -- what `clap` finds in the words leads to the options that they give. For the code alone
 abbrev pub FindsOptions : List Text → Result ArgMatches OptionsFault → Type 0

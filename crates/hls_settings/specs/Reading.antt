@@ -1,5 +1,5 @@
 -- What reading the words after `serve` gives.
-use Rattle.std.specs.Prelude.{◌≡◌, ◌⊎◌, ℕ, ℤ, List, [], ◌∷◌, map, take, slice_get, Option, Some, None, Result, Ok, Err, Vec}
+use Rattle.std.specs.Prelude.{◌≡◌, ◌⊎◌, ℕ, ℤ, List, [], ◌∷◌, map, take, slice_get, true, Option, Some, None, Result, Ok, Err, Vec}
 use Rattle.std.specs.declared.alloc.Global.{Global}
 use Rattle.clap.specs.Words.{Text, fault_of, found_of, matches_of}
 use Rattle.clap.specs.declared.parser.matches.ArgMatches.{ArgMatches}
@@ -19,6 +19,8 @@ use Rattle.hls_settings.specs.declared.settings.Settings.{Settings}
 use Rattle.hls_settings.specs.Command.{serve_app, texts_in, texts_of}
 use Rattle.hls_settings.specs.Renditions.{rendition_of}
 use Rattle.hls_settings.specs.Settings.{Texts, plain_of}
+use Rattle.hls_settings.specs.WrongWords.{serve_options, wrong_word}
+use Rattle.hls_settings.specs.declared.wrong_word.WrongWord.{WrongWord}
 
 -- the words of renditions, none where there is no such word
 abbrev pub words_of : Option (List Text) → List Text
@@ -81,18 +83,19 @@ abbrev pub SetsBy : Result Plain SettingsFault → List Text → Result Settings
 SetsBy (Ok plain) words result = Sets plain words result
 SetsBy (Err fault) words result = result ≡ Err fault
 
-abbrev pub SetsIn : Kinds → Texts → Result Settings SettingsFault → Type 0
-SetsIn [] texts result = SetsBy (plain_of texts) (words_of texts.renditions) result
-SetsIn (k ∷ ks) texts result = result ≡ Err faults.Words
+-- words that `clap` refuses are refused by the first that can't stand where it does
+abbrev pub SetsIn : List Text → Kinds → Texts → Result Settings SettingsFault → Type 0
+SetsIn words [] texts result = SetsBy (plain_of texts) (words_of texts.renditions) result
+SetsIn words (k ∷ ks) texts result = result ≡ Err (faults.Words (wrong_word serve_options true words))
 
 -- the settings that the words give, or the first word that is wrong; want of memory may come instead
 abbrev pub Reads : List Text → Result Settings SettingsFault → Type 0
-Reads words result = (result ≡ Err faults.Memory) ⊎ SetsIn (fault_of serve_app words) (texts_of (matches_of serve_app words)) result
+Reads words result = (result ≡ Err faults.Memory) ⊎ SetsIn words (fault_of serve_app words) (texts_of (matches_of serve_app words)) result
 
 -- words that are refused, but for want of memory. For the code alone
-abbrev pub refused_by : ErrorKind → SettingsFault
-refused_by kinds.OutOfMemory = faults.Memory
-refused_by _ = faults.Words
+abbrev pub refused_by : ErrorKind → Option WrongWord → SettingsFault
+refused_by kinds.OutOfMemory wrong = faults.Memory
+refused_by _ wrong = faults.Words wrong
 
 -- what `clap` finds in the words leads to the settings that they give. For the code alone
 abbrev pub Finds : List Text → Result ArgMatches SettingsFault → Type 0

@@ -8,7 +8,7 @@ use clap::{Arg, ArgAction, Command};
 use std::alloc::{AllocError, Global};
 
 /// The options by their long names, and whether each takes a value.
-const OPTIONS: [(&str, bool); 10] = [
+pub const OPTIONS: [(&str, bool); 10] = [
     ("target", true),
     ("preferred", true),
     ("window", true),

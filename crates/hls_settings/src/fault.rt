@@ -1,10 +1,13 @@
 //! Which word is wrong.
 
+use crate::wrong_word::WrongWord;
+
 /// Which word after `serve` is wrong first, in the order of the variants.
 #[derive(Clone, Copy, Debug, PartialEq, Eq, Drop)]
 pub enum SettingsFault {
-    /// An option that there isn't, that stands twice or has no value, or too many words.
-    Words,
+    /// An option that doesn't exist, is given twice or has no value: the first such word, or `None` where `clap` refuses the words
+    /// and none of them is such.
+    Words(Option<WrongWord>),
     /// `--target` isn't 1 to 3600 seconds.
     Target,
     /// `--preferred` isn't 1 microsecond to the target.

@@ -10,6 +10,7 @@ use crate::command::with_options;
 use crate::epoch::read_epoch;
 use crate::number::{given_in, number_in};
 use crate::options_fault::OptionsFault;
+use crate::wrong_word::{WrongWord, find_wrong};
 use clap::error::ErrorKind;
 use clap::{ArgMatches, Command, Error};
 use hls_check_laws::{CHARGE_LIMIT, CostRule, TARGET_LIMIT};
@@ -250,14 +251,14 @@ fn options_in<'a>(matches: &ArgMatches<'a>) -> Result<Options<'a>, OptionsFault>
     options_with(matches, target, uri)
 }
 
-/// Why `clap` took no options.
-fn refused(error: &Error) -> OptionsFault
-    ensures { result ≡ refused_option (kind_of error.now) }
+/// Why `clap` took no options, by the first word that can't stand where it does.
+fn refused(error: &Error, wrong: Option<WrongWord>) -> OptionsFault
+    ensures { result ≡ refused_option (kind_of error.now) wrong }
 {
     if error.kind() == ErrorKind::OutOfMemory {
         OptionsFault::Memory
     } else {
-        OptionsFault::Words
+        OptionsFault::Words(wrong)
     }
 }
 
@@ -270,7 +271,7 @@ fn find_options<'a, S: AsStr>(alloc: Global, words: &'a [S]) -> Result<ArgMatche
     };
     match command.try_get_matches_from(words) {
         Ok(matches) => Ok(matches),
-        Err(error) => Err(refused(&error)),
+        Err(error) => Err(refused(&error, find_wrong(&OPTIONS, false, words))),
     }
 }
 

@@ -1,10 +1,13 @@
 //! Which word after `cut` is wrong.
 
+use crate::wrong_word::WrongWord;
+
 /// Which word after `cut` is wrong first, in the order of the variants.
 #[derive(Clone, Copy, PartialEq, Eq, Drop)]
 pub enum OptionsFault {
-    /// An option that there isn't, that stands twice or has no value, or a word that is no option.
-    Words,
+    /// An option that doesn't exist, is given twice, lacks its value or has one too many, or a word that is no option: the first
+    /// such word, or `None` where `clap` refuses the words and none of them is such.
+    Words(Option<WrongWord>),
     /// `--target` isn't 1 to 3600 seconds.
     Target,
     /// `--uri` can't stand in a playlist.

@@ -7,11 +7,12 @@ ghost use Rattle.clap.specs.Words.{kind_of};
 ghost use Rattle.hls_settings.specs.Reading.{Configures, Finds, Reads, ReadsRendition, ReadsRenditions, Sets, SetsBy, refused_by, words_of};
 ghost use Rattle.hls_settings.specs.Settings.{plain_of};
 
-use crate::command::command;
+use crate::command::{OPTIONS, command};
 use crate::fault::SettingsFault;
 use crate::plain::{Plain, read_plain};
 use crate::rendition::{named, read_word};
 use crate::timing::Timing;
+use crate::wrong_word::{WrongWord, find_wrong};
 use clap::error::ErrorKind;
 use clap::{ArgMatches, Error};
 use hls_core::config::{Config, ConfigFault};
@@ -99,14 +100,14 @@ fn settings_in(alloc: Global, matches: &ArgMatches) -> Result<Settings, Settings
     }
 }
 
-/// Why `clap` took no settings.
-fn refused(error: &Error) -> SettingsFault
-    ensures { result ≡ refused_by (kind_of error.now) }
+/// Why `clap` took no settings, by the first word that can't stand where it does.
+fn refused(error: &Error, wrong: Option<WrongWord>) -> SettingsFault
+    ensures { result ≡ refused_by (kind_of error.now) wrong }
 {
     if error.kind() == ErrorKind::OutOfMemory {
         SettingsFault::Memory
     } else {
-        SettingsFault::Words
+        SettingsFault::Words(wrong)
     }
 }
 
@@ -122,7 +123,7 @@ fn find_settings<'a, S: AsStr>(
     };
     match command.try_get_matches_from(words) {
         Ok(matches) => Ok(matches),
-        Err(error) => Err(refused(&error)),
+        Err(error) => Err(refused(&error, find_wrong(&OPTIONS, true, words))),
     }
 }
 

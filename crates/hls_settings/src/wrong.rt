@@ -2,6 +2,9 @@
 
 use crate::fault::SettingsFault;
 use crate::options_fault::OptionsFault;
+use crate::shown::Shown;
+use crate::wrong_word::{WordFault, WrongWord, head_of};
+use std::convert::AsStr;
 use std::fmt::{self, Display, Formatter, Write};
 
 /// What an epoch may be.
@@ -28,11 +31,44 @@ fn wrong_rendition<W: Write>(f: &mut Formatter<W>, n: usize) -> fmt::Result {
     )
 }
 
-impl Display for SettingsFault {
+/// A word that can't stand where it does: an option by its name alone, without its value.
+fn wrong_word<W: Write>(f: &mut Formatter<W>, word: &str, fault: WordFault) -> fmt::Result {
+    let option = Shown(head_of(word).0);
+    match fault {
+        WordFault::Unknown => write!(f, "unrecognized option {option}"),
+        WordFault::Repeated => write!(f, "{option} is given twice"),
+        WordFault::NoValue => write!(f, "{option} has no value"),
+        WordFault::Unneeded => write!(f, "{option} takes no value"),
+        WordFault::Stray => write!(f, "unexpected argument \"{}\"", Shown(word)),
+    }
+}
+
+/// The first of the words that can't stand where it does.
+fn wrong_words<W: Write, S: AsStr>(
+    f: &mut Formatter<W>,
+    words: &[S],
+    wrong: Option<WrongWord>,
+) -> fmt::Result {
+    let Some(wrong) = wrong else {
+        return f.write_str("unrecognized arguments");
+    };
+    match words.get(wrong.index) {
+        Some(word) => wrong_word(f, word.as_str(), wrong.fault),
+        None => f.write_str("unrecognized arguments"),
+    }
+}
+
+/// A fault, and the words that have it. It is printed as one line, which names the word that is wrong.
+#[derive(Clone, Copy, Drop)]
+pub struct Wrong<'a, F, S> {
+    pub fault: F,
+    pub words: &'a [S],
+}
+
+impl<'a, S: AsStr> Display for Wrong<'a, SettingsFault, S> {
     fn fmt<W: Write>(&self, f: &mut Formatter<W>) -> fmt::Result {
-        let text = match *self {
-            SettingsFault::Words =>
-                "there is an option that isn't known, stands twice or has no value",
+        let text = match self.fault {
+            SettingsFault::Words(wrong) => return wrong_words(f, self.words, wrong),
             SettingsFault::Target => TARGET,
             SettingsFault::Preferred => {
                 "--preferred takes 1 to the target, in microseconds (4000000 if not given): with a target below 4, give it"
@@ -59,12 +95,10 @@ impl Display for SettingsFault {
     }
 }
 
-impl Display for OptionsFault {
+impl<'a, S: AsStr> Display for Wrong<'a, OptionsFault, S> {
     fn fmt<W: Write>(&self, f: &mut Formatter<W>) -> fmt::Result {
-        let text = match *self {
-            OptionsFault::Words => {
-                "there is a word that is no option, or an option that isn't known, stands twice or has no value"
-            }
+        let text = match self.fault {
+            OptionsFault::Words(wrong) => return wrong_words(f, self.words, wrong),
             OptionsFault::Target => TARGET,
             OptionsFault::Uri => {
                 "--uri takes a text that isn't empty, doesn't begin with # and has no line ends or quotation marks"
