@@ -4,6 +4,7 @@ mod JoinedMedia
 mod Dates
 mod Good
 mod Examples
+mod HandoverExamples
 mod Reached
 mod Told
 mod Listed
@@ -12,6 +13,7 @@ mod Totals
 mod Uris
 mod Texts
 mod Follows
+mod Stays
 mod Origins
 mod Handovers
 mod JoinedLists

@@ -1,5 +1,5 @@
 -- For the proofs of this crate; no public clause cites it. Where a job stands among the rows.
-use Rattle.std.specs.Prelude.{◌≡◌, ◌≢◌, ℕ, ◌<◌, true, false, List, length, All, Option, MatchOption, slice_get, slice_set, Some, take}
+use Rattle.std.specs.Prelude.{◌≡◌, ◌≢◌, ℕ, ◌<◌, Bool, true, false, List, length, All, Option, MatchOption, slice_get, slice_set, Some, take}
 use Rattle.hls_catchup_laws.specs.declared.jobs.row.Row.{Row}
 use Rattle.hls_catchup_laws.specs.declared.jobs.row.Phase.{Phase}
 use Rattle.hls_catchup_laws.specs.declared.jobs.row.Phase.TheVariants.{Waiting, Running}
@@ -26,6 +26,11 @@ pub record WaitsAt (rows : List Row) (at : ℕ) : Type 0 where
 
 abbrev pub IsFirstWaiting : List Row → Option ℕ → Type 0
 IsFirstWaiting rows found = MatchOption found (All (λ row. is_waiting row.phase ≡ false) rows) (WaitsAt rows)
+
+-- whether a job waits
+abbrev pub HasWaiting : List Row → Bool → Type 0
+HasWaiting rows true = (at : ℕ) × WaitsAt rows at
+HasWaiting rows false = All (λ row. is_waiting row.phase ≡ false) rows
 
 -- the job at this number is in this phase, and the others are as they were
 abbrev pub Sets : List Row → ℕ → Phase → List Row → Type 0

@@ -1,7 +1,7 @@
 //! The job table under a lock, and a bell for those who wait for work.
 
-ghost use Rattle.std.specs.Prelude.{IfOk, IfSome};
-ghost use Rattle.hls_catchup.specs.Jobs.Refusals.{told};
+ghost use Rattle.std.specs.Prelude.{◌≡◌, ◌⊎◌, IfOk, IfSome, true, false};
+ghost use Rattle.hls_catchup.specs.Jobs.{Refusals.told, Rows.HasWaiting};
 ghost use Rattle.hls_catchup_laws.specs.Jobs.Phases.{IsRightJob};
 ghost use Rattle.hls_catchup_laws.specs.Jobs.Shared.{HasAdded, HasCounted, HasFinished, HasGot, HasRemoved, HasTaken};
 
@@ -17,6 +17,24 @@ use std::sync::{Arc, Condvar, Mutex, Wait};
 struct Desk {
     table: JobTable,
     closed: bool,
+}
+
+impl Desk {
+    /// Closes the table: a loop that finds no waiting job then ends.
+    fn close(&mut self)
+        ensures closed { self.new.closed ≡ true }
+        ensures table { self.new.table ≡ self.old.table }
+    {
+        self.closed = true;
+    }
+
+    /// Whether a loop has to wait: no job waits to be run, and the table isn't closed.
+    fn lacks_work(&self) -> bool
+        ensures yes { result ≡ true → (self.now.closed ≡ false) × HasWaiting self.now.table.rows false }
+        ensures no { result ≡ false → (self.now.closed ≡ true) ⊎ HasWaiting self.now.table.rows true }
+    {
+        !self.closed && !self.table.has_work()
+    }
 }
 
 /// A job table that threads share. Each call takes the lock for as long as it works on the table: nothing is planned, written
@@ -102,7 +120,7 @@ impl Jobs {
 
     /// Ends each loop that finds no waiting job, and wakes those that wait for one. May wait.
     pub fn close<R: Wait>(&self, rt: &R) {
-        self.desk.lock(rt).closed = true;
+        self.desk.lock(rt).close();
         self.bell.notify_all();
     }
 
@@ -111,9 +129,7 @@ impl Jobs {
         ensures { HasTaken result }
     {
         self.bell
-            .wait_while(rt, self.desk.lock(rt), |desk| {
-                !desk.closed && !desk.table.has_work()
-            })
+            .wait_while(rt, self.desk.lock(rt), |desk| desk.lacks_work())
             .table
             .take_work()
     }

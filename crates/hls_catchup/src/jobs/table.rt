@@ -3,7 +3,7 @@
 ghost use Rattle.std.specs.Prelude.{◌≡◌, IfOk, IfErr, length};
 ghost use Rattle.hls_catchup_laws.specs.Jobs.Tables.{IsTable, empty_table};
 ghost use Rattle.hls_catchup_laws.specs.Jobs.Changes.{Adds, Takes, Finishes, Gets, Removes};
-ghost use Rattle.hls_catchup.specs.Jobs.Refusals.{told};
+ghost use Rattle.hls_catchup.specs.Jobs.{Refusals.told, Rows.HasWaiting};
 
 use crate::jobs::phase::{ended, runs_for, shown};
 use crate::jobs::refused::Refused;
@@ -96,7 +96,9 @@ impl JobTable {
     }
 
     /// Whether a job waits.
-    pub(crate) fn has_work(&self) -> bool {
+    pub(crate) fn has_work(&self) -> bool
+        ensures { HasWaiting self.now.rows result }
+    {
         first_waiting(&self.rows).is_some()
     }
 
