@@ -1,2 +1,4 @@
 pub mod Suited
 pub mod Files
+pub mod Steps
+pub mod Traffic

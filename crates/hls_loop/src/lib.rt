@@ -11,6 +11,7 @@ mod host;
 mod listen;
 mod post;
 mod slot;
+mod step;
 mod wire;
 mod worker;
 

@@ -1,19 +1,18 @@
 //! A connection that a worker holds, from its accept to its end.
 
-ghost use Rattle.std.specs.Prelude.{◌≡◌, ◌≤◌};
+ghost use Rattle.std.specs.Prelude.{◌≡◌, ◌≤◌, List, ℕ};
 ghost use Rattle.hls_loop.specs.Suited.{SuitsOn};
+ghost use Rattle.hls_loop.specs.Traffic.{Traffic};
 
 use crate::host::{End, Host};
-use crate::wire::{Stop, Wire, stop_of};
+use crate::step::{MOST_STEPS, Step, Watch, go_on};
+use crate::wire::{Inlet, Known, Outlet, Stop, Wire};
 use hls_pace::{Pace, Stage};
+use mio::event::Event;
 use mio::net::TcpStream;
+use mio::{Interest, Poll, Token};
+use std::io::Read;
 use std::net::{Shutdown, SocketAddr};
-
-/// How many steps a connection takes before the others of its worker have their turn.
-const MOST_STEPS: usize = 64;
-
-/// How many bytes it may move before that.
-const MOST_MOVED: usize = 1_048_576;
 
 /// How a connection stands behind its turn.
 #[derive(Clone, Copy, PartialEq, Eq, Drop)]
@@ -26,41 +25,16 @@ pub(crate) enum Turn {
     Closed,
 }
 
-/// What comes of one step of a turn.
-#[derive(Clone, Copy, Drop)]
-enum Step {
-    /// So many bytes moved, and there may be more to do.
-    On(usize),
-    /// It paused, so that the others of its worker have their turn.
-    Pause,
-    /// Nothing goes on before the system tells.
-    Wait,
-    /// The connection came to its end by itself.
-    End(End),
-    /// Memory is wanted for what there is to read.
-    Starved,
-    /// A call failed for good.
-    Lost,
-}
-
-impl Step {
-    /// What comes of a call that moved nothing.
-    fn stopped(stop: Stop) -> Step {
-        match stop {
-            Stop::Lost => Step::Lost,
-            Stop::Memory => Step::Starved,
-            _ => Step::On(0),
-        }
-    }
-}
-
 /// A connection: its socket, whose it is, and where it stands.
 #[derive(Drop)]
 pub(crate) struct Slot<V> {
-    pub wire: Wire,
+    stream: TcpStream,
+    pub known: Known,
     pub peer: SocketAddr,
     pub pace: Pace,
     pub visit: V,
+    /// Whether its last reply was sent, so that further input is dropped.
+    pub lingers: bool,
     /// Whether it stands in the row of those that go on at the next round.
     pub queued: bool,
 }
@@ -71,21 +45,31 @@ impl<V> Slot<V> {
         ensures { result.visit ≡ visit }
     {
         Slot {
-            wire: Wire::new(stream),
+            stream,
+            known: Known::nothing(),
             peer,
             pace: Pace::begun(Stage::Idle, now),
             visit,
+            lingers: false,
             queued: false,
         }
     }
 
-    /// Counts bytes that moved.
-    fn count(&mut self, bytes: usize, now: u64)
+    /// Has the system tell of the socket; false where it refuses.
+    pub fn join(&mut self, poll: &Poll, token: Token) -> bool
         ensures { self.new.visit ≡ self.old.visit }
     {
-        if bytes > 0 {
-            self.pace = self.pace.after_bytes(bytes as u64, now);
-        }
+        let both = Interest::READABLE | Interest::WRITABLE;
+        poll.registry()
+            .register(&mut self.stream, token, both)
+            .is_ok()
+    }
+
+    /// Notes what the system tells of the socket.
+    pub fn hear(&mut self, event: &Event)
+        ensures { self.new.visit ≡ self.old.visit }
+    {
+        self.known.hear(event);
     }
 
     /// Whether it takes too long, by what is known of it: then its socket is tried once more. Of one that doesn't the bytes are counted
@@ -99,7 +83,7 @@ impl<V> Slot<V> {
             return false;
         }
         if self.pace.is_over(patience, now) {
-            self.wire.try_again();
+            self.known.try_again();
             return true;
         }
         self.pace = self.pace.renewed(patience, now);
@@ -122,26 +106,38 @@ impl<V> Slot<V> {
 
     /// Behind the connection's own end.
     fn end(&mut self, end: End, now: u64) -> Turn
-        ensures { self.new.visit ≡ self.old.visit }
+        ensures visit { self.new.visit ≡ self.old.visit }
+        ensures closed { end ≡ End.Closed → result ≡ Turn.Closed }
     {
         if end == End::Closed
-            || self.wire.is_at_end
-            || self.wire.stream.shutdown(Shutdown::Write).is_err()
+            || self.known.is_at_end
+            || self.stream.shutdown(Shutdown::Write).is_err()
         {
             return Turn::Closed;
         }
+        self.lingers = true;
         self.pace = Pace::begun(Stage::Lingering, now);
-        drop_rest(&mut self.wire, &mut self.pace, now)
+        self.linger(now)
+    }
+
+    /// Drops what has come behind the last reply.
+    fn linger(&mut self, now: u64) -> Turn
+        ensures { self.new.visit ≡ self.old.visit }
+    {
+        let mut wire = Wire::new(&self.stream, &self.stream, self.known);
+        let turn = drop_rest(&mut wire.input, &mut self.pace, now);
+        self.known = wire.known();
+        turn
     }
 }
 
-/// Drops what has come behind the last reply.
-fn drop_rest(wire: &mut Wire, pace: &mut Pace, now: u64) -> Turn {
+/// Drops the input of a reader.
+fn drop_rest<R: Read>(input: &mut Inlet<R>, pace: &mut Pace, now: u64) -> Turn {
     for _ in 0..MOST_STEPS {
-        if !wire.readable {
+        if !input.readable {
             return Turn::Parked;
         }
-        match wire.drop_some() {
+        match input.drop_some() {
             Ok(0) => return Turn::Closed,
             Ok(count) => *pace = pace.after_bytes(count as u64, now),
             Err(Stop::Lost) => return Turn::Closed,
@@ -151,108 +147,67 @@ fn drop_rest(wire: &mut Wire, pace: &mut Pace, now: u64) -> Turn {
     Turn::Again
 }
 
-/// Writes the next bytes that wait.
-fn write<H: Host>(slot: &mut Slot<H::Visit>, host: &H, now: u64) -> Step
-    ensures { (h : H) → H.suits h slot.old.visit → H.suits h slot.new.visit }
-{
-    if !slot.wire.writable {
-        return Step::Wait;
-    }
-    match slot.wire.send(host.output(&slot.visit)) {
-        Ok(count) => {
-            host.sent(&mut slot.visit, count);
-            slot.count(count, now);
-            Step::On(count)
-        }
-        Err(stop) => Step::stopped(stop),
-    }
-}
-
-/// Reads once.
-fn read<H: Host>(slot: &mut Slot<H::Visit>, host: &H, now: u64) -> Step
-    requires { H.reads slot.old.visit }
-    ensures { (h : H) → H.suits h slot.old.visit → H.suits h slot.new.visit }
-{
-    if !slot.wire.readable {
-        return Step::Wait;
-    }
-    match host.read(&mut slot.visit, &mut slot.wire) {
-        Ok(count) => {
-            slot.count(count, now);
-            Step::On(count)
-        }
-        Err(error) => Step::stopped(stop_of(&error)),
-    }
-}
-
-/// One step: of writing what waits, of the connection, or of reading.
-fn step_on<H: Host>(slot: &mut Slot<H::Visit>, host: &mut H, now: u64) -> Step
-    requires suits { H.suits host.old slot.old.visit }
-    ensures suits { H.suits host.new slot.new.visit }
-    ensures others { SuitsOn H.suits host.old host.new }
-{
-    if host.wants_write(&slot.visit) {
-        return write(slot, host, now);
-    }
-    if let Some(end) = host.end(&slot.visit) {
-        return Step::End(end);
-    }
-    if host.advance(&mut slot.visit, slot.peer) {
-        return Step::Pause;
-    }
-    if !host.wants_read(&slot.visit) {
-        return Step::On(0);
-    }
-    read(slot, host, now)
-}
-
 /// Gives a connection up for which memory is wanted, and says so.
 fn starve<H: Host>(slot: &mut Slot<H::Visit>, host: &H, now: u64) -> Turn
     ensures { slot.new.visit ≡ slot.old.visit }
 {
-    let _ = slot.wire.send(host.no_memory());
+    let mut output = Outlet {
+        writer: &slot.stream,
+        writable: true,
+    };
+    let _ = output.send(host.no_memory());
     host.give_up(&slot.visit, slot.peer);
     slot.end(End::Said, now)
 }
 
-/// Lets a connection go on as far as its socket and a share of time allow.
-fn go_on<H: Host>(slot: &mut Slot<H::Visit>, host: &mut H, now: u64) -> Turn
+/// Takes a turn over the socket. Returns the outcome of the last step.
+fn run<H: Host>(slot: &mut Slot<H::Visit>, host: &mut H, now: u64) -> Step
     requires suits { H.suits host.old slot.old.visit }
+    ensures goes { (traffic : Traffic) × H.goes host.old slot.old.visit traffic host.new slot.new.visit }
     ensures suits { H.suits host.new slot.new.visit }
     ensures others { SuitsOn H.suits host.old host.new }
 {
-    let mut moved: usize = 0;
-    for _ in 0..MOST_STEPS {
-        let step = step_on(slot, host, now);
-        slot.pace = slot.pace.entered(host.stage(&slot.visit), now);
-        match step {
-            Step::On(bytes) => moved = moved.saturating_add(bytes),
-            Step::Pause => return Turn::Again,
-            Step::Wait => return Turn::Parked,
-            Step::End(end) => return slot.end(end, now),
-            Step::Starved => return starve(slot, host, now),
-            Step::Lost => {
-                host.give_up(&slot.visit, slot.peer);
-                return Turn::Closed;
-            }
-        }
-        if moved >= MOST_MOVED {
-            return Turn::Again;
+    let mut wire = Wire::new(&slot.stream, &slot.stream, slot.known);
+    let mut watch = Watch {
+        peer: slot.peer,
+        pace: slot.pace,
+        now,
+    };
+    let step = go_on(&mut slot.visit, host, &mut wire, &mut watch);
+    slot.known = wire.known();
+    slot.pace = watch.pace;
+    step
+}
+
+/// Takes a turn over the socket, or drops input once the last reply was sent.
+fn serve<H: Host>(slot: &mut Slot<H::Visit>, host: &mut H, now: u64) -> Turn
+    requires suits { H.suits host.old slot.old.visit }
+    ensures goes { (traffic : Traffic) × H.goes host.old slot.old.visit traffic host.new slot.new.visit }
+    ensures suits { H.suits host.new slot.new.visit }
+    ensures others { SuitsOn H.suits host.old host.new }
+{
+    if slot.lingers {
+        return slot.linger(now);
+    }
+    match run(slot, host, now) {
+        Step::On(_) | Step::Pause => Turn::Again,
+        Step::Wait => Turn::Parked,
+        Step::End(end) => slot.end(end, now),
+        Step::Starved => starve(slot, host, now),
+        Step::Lost => {
+            host.give_up(&slot.visit, slot.peer);
+            Turn::Closed
         }
     }
-    Turn::Again
 }
 
 /// Lets a connection have its turn; how it stands then, and whether it waits for its next one already.
 pub(crate) fn take_turn<H: Host>(slot: &mut Slot<H::Visit>, host: &mut H, now: u64) -> Turn
     requires suits { H.suits host.old slot.old.visit }
+    ensures goes { (traffic : Traffic) × H.goes host.old slot.old.visit traffic host.new slot.new.visit }
     ensures suits { H.suits host.new slot.new.visit }
     ensures others { SuitsOn H.suits host.old host.new }
 {
-    let turn = if slot.pace.stage == Stage::Lingering {
-        drop_rest(&mut slot.wire, &mut slot.pace, now)
-    } else {
-        go_on(slot, host, now)
-    };
+    let turn = serve(slot, host, now);
     slot.stand(turn)
 }

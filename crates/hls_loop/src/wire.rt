@@ -1,10 +1,9 @@
-//! A connection's socket, which never waits, and what the system has told of it.
+//! A connection's reader and writer, which never block, and their readiness as the system reports it.
 
-ghost use Rattle.std.specs.Prelude.{◌≤◌, length, IfOk};
+ghost use Rattle.std.specs.Prelude.{◌≤◌, length, take, IfOk, OnErr};
+ghost use Rattle.std.specs.Io.KnownBytes.{Appends, Keeps};
 
 use mio::event::Event;
-use mio::net::TcpStream;
-use mio::{Interest, Poll, Token};
 use std::io::{self, ErrorKind, Read, Write};
 
 /// The most bytes of one write: a longer one keeps the others of its worker waiting.
@@ -26,16 +25,38 @@ pub(crate) enum Stop {
     Lost,
 }
 
-/// A socket, with what is known of it: whether a read may bring something and a write may take something, and whether the system
-/// says that the peer has ended its side.
-#[derive(Drop)]
-pub(crate) struct Wire {
-    pub stream: TcpStream,
+/// The readiness of a socket: whether a read may bring bytes, whether a write may take bytes, and whether the system reports that the
+/// peer has ended its side.
+#[derive(Clone, Copy, Drop)]
+pub(crate) struct Known {
     pub readable: bool,
     pub writable: bool,
     ends: bool,
     /// Whether all that the peer sent was read, up to its end.
     pub is_at_end: bool,
+}
+
+/// A reader that doesn't block, and its readiness.
+#[derive(Drop)]
+pub(crate) struct Inlet<R> {
+    pub reader: R,
+    pub readable: bool,
+    ends: bool,
+    is_at_end: bool,
+}
+
+/// A writer that doesn't block, and whether a write may take bytes.
+#[derive(Drop)]
+pub(crate) struct Outlet<W> {
+    pub writer: W,
+    pub writable: bool,
+}
+
+/// The reader and the writer of a connection.
+#[derive(Drop)]
+pub(crate) struct Wire<R, W> {
+    pub input: Inlet<R>,
+    pub output: Outlet<W>,
 }
 
 /// What a failed call means.
@@ -48,24 +69,15 @@ pub(crate) fn stop_of(error: &io::Error) -> Stop {
     }
 }
 
-impl Wire {
-    /// A socket of which the system has told nothing yet.
-    pub fn new(stream: TcpStream) -> Wire {
-        Wire {
-            stream,
+impl Known {
+    /// The readiness of a new socket: both calls are tried.
+    pub fn nothing() -> Known {
+        Known {
             readable: true,
             writable: true,
             ends: false,
             is_at_end: false,
         }
-    }
-
-    /// Has the system tell of the socket; false where it refuses.
-    pub fn join(&mut self, poll: &Poll, token: Token) -> bool {
-        let both = Interest::READABLE | Interest::WRITABLE;
-        poll.registry()
-            .register(&mut self.stream, token, both)
-            .is_ok()
     }
 
     /// Notes what the system tells.
@@ -82,18 +94,50 @@ impl Wire {
         }
     }
 
-    /// Both directions are tried once more, whatever the system has told.
+    /// Both calls are tried again, whatever the system has reported.
     pub fn try_again(&mut self) {
         self.readable = true;
         self.writable = true;
     }
+}
 
-    /// Writes the first bytes, as many as the socket takes now.
+impl<R, W> Wire<R, W> {
+    /// A reader and a writer with this readiness.
+    pub fn new(reader: R, writer: W, known: Known) -> Wire<R, W> {
+        Wire {
+            input: Inlet {
+                reader,
+                readable: known.readable,
+                ends: known.ends,
+                is_at_end: known.is_at_end,
+            },
+            output: Outlet {
+                writer,
+                writable: known.writable,
+            },
+        }
+    }
+
+    /// Their readiness.
+    pub fn known(&self) -> Known {
+        Known {
+            readable: self.input.readable,
+            writable: self.output.writable,
+            ends: self.input.ends,
+            is_at_end: self.input.is_at_end,
+        }
+    }
+}
+
+impl<W: Write> Outlet<W> {
+    /// Writes the first bytes, as many as the writer takes now.
     pub fn send(&mut self, bytes: &[u8]) -> Result<usize, Stop>
-        ensures { IfOk result (λ count. count ≤ length bytes.now) }
+        ensures fits { IfOk result (λ count. count ≤ length bytes.now) }
+        ensures taken { IfOk result (λ count. Appends (W.contents self.old.writer) (W.contents self.new.writer) (take count bytes.now)) }
+        ensures kept { OnErr result (Keeps (W.contents self.old.writer) (W.contents self.new.writer)) }
     {
         let most = bytes.len().min(MOST_WRITTEN);
-        match self.stream.write(&bytes[..most]) {
+        match self.writer.write(&bytes[..most]) {
             Ok(count) => {
                 self.writable = count >= most;
                 Ok(count)
@@ -107,7 +151,9 @@ impl Wire {
             }
         }
     }
+}
 
+impl<R: Read> Inlet<R> {
     /// Reads and drops what has come: mostly nothing but the end, and so into few bytes, which are set to zero each time.
     pub fn drop_some(&mut self) -> Result<usize, Stop> {
         let mut buffer = [0; 1024];
@@ -118,11 +164,13 @@ impl Wire {
     }
 }
 
-impl Read for Wire {
+impl<R: Read> Read for Inlet<R> {
+    ghost remaining = { λ inlet. R.remaining inlet.reader };
+
     /// A short read says that no more has come, but where the peer has ended its side: its end is still to be read (epoll(7)). One of
     /// many bytes is followed by another all the same, which mostly spares the system's word that there is more.
     fn read(&mut self, buf: &mut [u8]) -> io::Result<usize> {
-        let read = self.stream.read(buf);
+        let read = self.reader.read(buf);
         match &read {
             Ok(count) => {
                 self.is_at_end = *count == 0;

@@ -205,7 +205,7 @@ impl<'a, H: Host + Drop> Worker<'a, H> {
         ensures suits { SuitsAll H.suits self.new.host self.new.slots }
     {
         match self.slots.get(key) {
-            Some(slot) if slot.pace.stage != Stage::Lingering => {
+            Some(slot) if !slot.lingers => {
                 self.host.give_up(&slot.visit, slot.peer);
             }
             _ => {}
@@ -278,7 +278,7 @@ impl<'a, H: Host + Drop> Worker<'a, H> {
         }
         let key = event.token().0;
         if let Some(slot) = self.slots.get_mut(key) {
-            slot.wire.hear(event);
+            slot.hear(event);
         }
         self.turn(key);
     }
@@ -322,7 +322,7 @@ impl<'a, H: Host + Drop> Worker<'a, H> {
         ensures suits { SuitsAll H.suits self.new.host self.new.slots }
     {
         match self.slots.get_mut(key) {
-            Some(slot) => slot.wire.join(&self.poll, Token(key)),
+            Some(slot) => slot.join(&self.poll, Token(key)),
             None => false,
         }
     }

@@ -1,6 +1,9 @@
 //! Connections of one worker, over sockets, with a host that hands back what it receives.
 
-ghost use Rattle.std.specs.Prelude.{◌≡◌, ◌≤◌};
+ghost use Rattle.std.specs.Prelude.{◌≡◌, ◌≤◌, ◌<◌, ◌∷◌, [], length, if◌then◌else◌, Some, None, IsFalse};
+ghost use Rattle.hls_base_tests.specs.Echoes.{Echoes, echo_follows, echo_stays};
+ghost use Rattle.hls_loop.specs.declared.host.End.TheVariants as ends;
+ghost use Rattle.hls_pace.specs.declared.pace.Stage.TheVariants as stages;
 
 use hls_loop::{Door, End, Host, Post, widen, work};
 use hls_pace::Stage;
@@ -16,11 +19,13 @@ use std::time::{Clock, Duration};
 struct Echo {
     waits: Vec<u8>,
     ended: bool,
+    /// Whether there is no memory for what it still sends.
+    starved: bool,
     /// How often the host had acted when it was lent last.
     seen: u64,
 }
 
-/// A byte for which there is no memory.
+/// A byte behind which there is no memory.
 const TOO_MUCH: u8 = 255;
 
 /// Hands back what its connections send; counts how often it acts.
@@ -35,14 +40,30 @@ impl Host for Mirror {
 
     ghost suits = { λ mirror echo. echo.seen ≤ mirror.acts };
 
+    ghost goes = { λ a before traffic b now. Echoes before.waits.items before.ended traffic now.waits.items now.ended };
+
+    ghost begins = { λ echo. echo.waits.items ≡ [] };
+
     ghost pending = { λ echo. echo.waits.items };
 
-    ghost reads = { λ echo. Unit {0} };
+    ghost reads = { λ echo. IsFalse echo.ended };
+
+    ghost rests = { λ echo. Unit {0} };
+
+    ghost steps = { λ echo. 0 };
+
+    ghost closes = { λ echo. if echo.ended then Some ends.Closed else None };
+
+    ghost stands = { λ echo stage. (length echo.waits.items ≡ 0 → stage ≡ stages.Idle)
+        × (0 < length echo.waits.items → stage ≡ stages.Replying) };
+
+    ghost want = { 110 ∷ 111 ∷ 110 ∷ 101 ∷ [] };
 
     fn begin(&self) -> Echo {
         Echo {
             waits: Vec::new(self.alloc),
             ended: false,
+            starved: false,
             seen: 0,
         }
     }
@@ -56,16 +77,17 @@ impl Host for Mirror {
     }
 
     fn read<R: Read>(&self, visit: &mut Echo, reader: &mut R) -> io::Result<usize> {
-        let mut bytes = [0; 16];
-        let count = reader.read(&mut bytes)?;
-        visit.ended = count == 0;
-        let Some(came) = bytes.get(..count) else {
-            return Err(io::Error::from(ErrorKind::InvalidData));
-        };
-        if came.contains(&TOO_MUCH) {
+        if visit.starved {
             return Err(io::Error::from(ErrorKind::OutOfMemory));
         }
-        visit.waits.extend_from_slice(came)?;
+        visit.waits.reserve(1)?;
+        let mut bytes = [0; 1];
+        let count = reader.read(&mut bytes)?;
+        visit.ended = count == 0;
+        if count > 0 {
+            visit.starved = bytes[0] == TOO_MUCH;
+            visit.waits.push_reserved(bytes[0]);
+        }
         Ok(count)
     }
 
@@ -104,6 +126,10 @@ impl Host for Mirror {
     fn give_up(&self, _visit: &Echo, _peer: SocketAddr) {}
 
     fn fail_accept(&self, _error: io::Error) {}
+
+    ghost stays = { λ mirror echo. echo_stays echo.waits.items echo.ended };
+
+    ghost follows = { λ a b c u v w s t first second. echo_follows u.waits.items v.waits.items w.waits.items u.ended v.ended w.ended s t first second };
 }
 
 /// A client of the worker's, which waits for ten seconds at most.
@@ -127,12 +153,14 @@ fn is_handed_back(stream: &TcpStream, byte: u8) -> bool
     }
 }
 
-/// Whether a byte that there is no memory for is answered so.
-fn is_refused(stream: &TcpStream) -> bool {
+/// Whether the byte behind which there is no memory comes back, and word of that behind it: the two may come at once.
+fn is_refused(stream: &TcpStream) -> bool
+    ensures { result ≡ result }
+{
     let mut stream = stream;
-    let mut back = [0; 4];
-    match (stream.write(&[TOO_MUCH]), stream.read(&mut back)) {
-        (Ok(_), Ok(count)) => count == 4 && back == *b"none",
+    let mut back = [0; 5];
+    match (stream.write(&[TOO_MUCH]), stream.read_exact(&mut back)) {
+        (Ok(_), Ok(())) => back == [TOO_MUCH, b'n', b'o', b'n', b'e'],
         _ => false,
     }
 }

@@ -1,0 +1,15 @@
+use Rattle.std.proofs.Common.{◌∙◌, sym}
+use Rattle.std.proofs.KnownBytes.{Keeps-refl}
+use Rattle.hls_loop.proofs.Moving.{moves_quiet, moves_read}
+use Rattle.hls_loop.proofs.step.read.Goals as goal
+
+pub returns-then-not-wire-clause-moves : goal.returns-then-not-wire-clause-moves
+returns-then-not-wire-clause-moves g c = λ h. moves_quiet (g.met.H.Host.stays h _) (Keeps-refl _) (Keeps-refl _)
+
+pub returns-in-Ok-clause-moves : goal.returns-in-Ok-clause-moves
+returns-in-Ok-clause-moves g c = λ h.
+    let came = c.in-Ok.ensures.ok in
+    moves_read (g.W.Write.contents c.args.wire.now.output.writer) came.0 (came.4 h) came.2 (λ none. came.3 (sym came.1 ∙ none))
+
+pub returns-in-Err-clause-moves : goal.returns-in-Err-clause-moves
+returns-in-Err-clause-moves g c = λ h. moves_quiet (c.in-Err.ensures.err.1 h) c.in-Err.ensures.err.0 (Keeps-refl _)

@@ -1,0 +1,39 @@
+-- The bytes that a connection receives and sends in a turn, and their effect on its reader and its writer.
+use Rattle.std.specs.Prelude.{◌≡◌, ℕ, Bool, false, List, [], ◌++◌, ◌==◌, ◌||◌, length, Option, IsTrue, IfSome}
+use Rattle.std.specs.Io.KnownBytes.{Appends, Consumes}
+
+-- the bytes received, whether the input's end was read, and the bytes sent
+pub record Traffic : Type 0 where
+  pub received : List ℕ
+  pub ended : Bool
+  pub sent : List ℕ
+
+-- nothing was received or sent
+abbrev pub quiet : Traffic
+quiet = record { received = []; ended = false; sent = [] }
+
+-- one read of these bytes; no byte means the input's end
+abbrev pub reading : List ℕ → Traffic
+reading bytes = record { received = bytes; ended = length bytes == 0; sent = [] }
+
+-- these bytes were sent
+abbrev pub sending : List ℕ → Traffic
+sending bytes = record { received = []; ended = false; sent = bytes }
+
+-- one and then the other
+abbrev pub followed_by : Traffic → Traffic → Traffic
+followed_by s t = record { received = s.received ++ t.received; ended = s.ended || t.ended; sent = s.sent ++ t.sent }
+
+-- The reader gave the bytes received, and had no others if its end was read; the writer took the bytes sent. This restricts readers and
+-- writers whose bytes are known, such as those over memory.
+pub record Passes (t : Traffic) (remaining left held holds : Option (List ℕ)) : Type 0 where
+  pub read : Consumes remaining left t.received
+  pub whole : IsTrue t.ended → IfSome remaining (λ text. text ≡ t.received)
+  pub written : Appends held holds t.sent
+
+-- the host served the connection, and the reader and the writer gave and took just its traffic
+pub record Moves {H V : Type 0} (goes : H → V → Traffic → H → V → Type 0) (a : H) (u : V) (b : H) (v : V)
+    (remaining left held holds : Option (List ℕ)) : Type 0 where
+  pub traffic : Traffic
+  pub went : goes a u traffic b v
+  pub passes : Passes traffic remaining left held holds
