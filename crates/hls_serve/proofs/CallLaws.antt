@@ -1,5 +1,5 @@
 -- What is made of an answer, and what is due of it.
-use Rattle.std.proofs.Common.{◌≡◌, ◌≢◌, ◌⊎◌, ◌∙◌, ℕ, Bool, true, false, inl, inr, List, [], ◌++◌, Option, Some, None, IfOk, Result, Ok, Err, refl, sym, ap, subst}
+use Rattle.std.proofs.Common.{◌≡◌, ◌≢◌, ◌⊎◌, ◌∙◌, ℕ, Bool, true, false, inl, inr, List, [], ◌++◌, length, Option, Some, None, IfOk, Result, Ok, Err, refl, sym, ap, subst}
 use Rattle.httparse.specs.Grammar.{RequestHead}
 use Rattle.hls_http_laws.specs.{declared.fault.HttpFault.HttpFault, declared.plan.Plan.Plan, Order.says_close}
 use Rattle.hls_http_laws.specs.declared.fault.HttpFault.TheVariants as faults
@@ -7,14 +7,16 @@ use Rattle.hls_http_laws.specs.Reply.{fault_status, is_success, no_memory_to}
 use Rattle.hls_core_laws.specs.{declared.event.Event.TheVariants.Finish, declared.refusal.Refusal.Refusal}
 use Rattle.hls_core_laws.specs.{declared.refusal.Refusal.TheVariants.Memory, declared.done.Done.Done as Moved}
 use Rattle.hls_catchup_laws.specs.{declared.fault.JobFault.JobFault, declared.jobs.job.Job.Job}
-use Rattle.hls_serve_laws.specs.Acts.{Act, ActsInVain, Submits}
-use Rattle.hls_serve_laws.specs.{JobTable.IsTold, declared.route.Route.Route}
-use Rattle.hls_serve_laws.specs.Heard.{Asks, Due, Request, Finishes, IsDue, IsDueWithoutHead, IsSkipped, Serves, ServesAllowed, ServesBy, ServesJob, ShowsJob, due_for_memory, first_of, job_at, to_head}
+use Rattle.hls_catchup_laws.specs.Jobs.Shared.{HasRemoved}
+use Rattle.hls_serve_laws.specs.Acts.{Act, ActsInVain, Adds, Looks, Removes, Submits}
+use Rattle.hls_serve_laws.specs.{JobReplies.added_answer, JobReplies.removed_answer, JobTable.IsAdded, JobTable.IsTold, declared.route.Route.Route}
+use Rattle.hls_serve_laws.specs.{Queries.request_for, Queries.wanted_of, declared.query.Query.Query, declared.query.QueryFault.QueryFault, declared.wanted.Wanted.Wanted}
+use Rattle.hls_core_laws.specs.State.{State}
+use Rattle.hls_serve_laws.specs.Heard.{AddsWanted, Asks, AsksFor, Due, Request, Finishes, IsDue, IsDueWithoutHead, IsSkipped, RemovesJob, Serves, ServesAllowed, ServesBy, ServesJob, ShowsJob, due_for_memory, first_of, job_at, to_head}
 use Rattle.hls_serve_laws.specs.Replies.{Answer, answer_text, fault_answer, finish_answer}
 use Rattle.hls_serve_laws.specs.Routes.{allows, removes}
 use Rattle.hls_serve.specs.declared.ending.Ending.{Ending}
 use Rattle.hls_serve.specs.Calls.{IsMade, IsResponse, Makes, Replies, end_by, memory_due, reply_due}
-use Rattle.hls_serve.proofs.PassLaws.{nothing_asked}
 
 -- ---- replies
 
@@ -63,10 +65,36 @@ response_made q route a b made of_none allowed serves =
     subst (λ (job : Option ℕ). Makes (λ answer. ServesBy q route a answer b job) a b made) (sym of_none)
     (subst (λ (m : Bool). Makes (λ answer. ServesAllowed q route a answer b m) a b made) (sym allowed) serves)
 
-pub job_made : {E : Type 0} (q : Asks) (route : Route) (id : ℕ) (a : List Act) (made : Result Answer E) → job_at route ≡ Some id
-    → IfOk made (λ x. ServesJob q route id x (removes route q.method)) → Makes (IsResponse q route a a) a a made
-job_made q route id a (Ok x) of_job serves = subst (λ (job : Option ℕ). ServesBy q route a x a job) (sym of_job) (refl, serves)
-job_made q route id a (Err e) of_job serves = inl (nothing_asked a)
+pub job_made : {E : Type 0} (q : Asks) (route : Route) (id : ℕ) (a b : List Act) (made : Result Answer E) → job_at route ≡ Some id
+    → Makes (λ x. ServesJob q route id a x b (removes route q.method)) a b made → Makes (IsResponse q route a b) a b made
+job_made q route id a b made of_job serves = subst (λ (job : Option ℕ). Makes (λ x. ServesBy q route a x b job) a b made) (sym of_job) serves
+
+pub removed_made : {E : Type 0} (id : ℕ) (a b : List Act) (gone : Result (Unit {0}) JobFault) (made : Result Answer E) → Removes a id gone b → HasRemoved id gone
+    → IfOk made (λ x. x ≡ removed_answer gone) → Makes (RemovesJob id a b) a b made
+removed_made id a b gone (Ok x) asked removes is = record { gone = gone; asked = asked; removes = removes; answer_is = is }
+removed_made id a b gone (Err e) asked removes is = inr (removed_answer gone, record { gone = gone; asked = asked; removes = removes; answer_is = refl })
+
+pub added_made : {E : Type 0} (query : Query) (s : State) (wanted : Wanted) (a z b : List Act) (result : Result ℕ JobFault) (made : Result Answer E) → Looks a s z
+    → wanted_of s.config.epoch query ≡ Ok wanted → Adds z s (request_for s wanted) result b → IsAdded s (request_for s wanted) result
+    → IfOk made (λ x. x ≡ added_answer (length s.log) result) → Makes (AsksFor query a b) a b made
+added_made query s wanted a z b result made looks asks asked adds is = by made is
+  where
+    job : (x : Answer) → x ≡ added_answer (length s.log) result → AsksFor query a b x
+    job x told = record {
+      state = s;
+      looked = z;
+      looks = looks;
+      adds = subst (λ (w : Result Wanted QueryFault). AddsWanted s w z b x) (sym asks) (record { result = result; asked = asked; adds = adds; answer_is = told });
+    }
+
+    by : {E : Type 0} (made : Result Answer E) → IfOk made (λ x. x ≡ added_answer (length s.log) result) → Makes (AsksFor query a b) a b made
+    by (Ok x) told = job x told
+    by (Err e) told = inr (added_answer (length s.log) result, job _ refl)
+
+-- for what is only shown nothing is asked
+pub shown_made : {E : Type 0} (P : Answer → Type 0) (a : List Act) (made : Result Answer E) → IfOk made P → Makes (λ x. (a ≡ a) × P x) a a made
+shown_made P a (Ok x) is = (refl, is)
+shown_made P a (Err e) is = inl (inl refl)
 
 pub shown_job : {E : Type 0} (id : ℕ) (shown : Job → Option Answer) (told : Result Job JobFault) (job : Job) (made : Result Answer E) → told ≡ Ok job → IsTold id told
     → IfOk made (λ a. Some a ≡ shown job) → IfOk made (ShowsJob id shown)

@@ -1,22 +1,24 @@
 -- What holds of a connection, from one step to the next.
-use Rattle.std.proofs.Common.{◌≡◌, ◌<◌, ◌==◌, ◌∙◌, ◌⊎◌, ℕ, Bool, true, false, List, [], ◌∷◌, ◌++◌, length, flat_map, Option, inl, inr, refl, sym, ap, subst, arith, append_assoc, append-nil}
+use Rattle.std.proofs.Common.{◌≡◌, ◌<◌, ◌==◌, ◌∙◌, ◌⊎◌, ℕ, Bool, true, false, List, [], ◌∷◌, ◌++◌, length, flat_map, Option, inl, inr, refl, sym, ap, subst, arith, append_assoc, append-nil, length-append}
 use Rattle.std.proofs.{lemmas.Grind.flat_map-append, lemmas.List.nil_from_length, Math.Bool.and-false}
-use Rattle.httparse.specs.Grammar.{RequestHead}
+use Rattle.httparse.specs.Grammar.{RequestHead, print_request}
 use Rattle.hls_http_laws.specs.{declared.body.Body.Body, declared.fault.HttpFault.HttpFault, declared.plan.Plan.Plan}
 use Rattle.hls_http_laws.specs.{declared.plan.Plan.TheVariants.Refuse, Fields.expects, Requests.fields_of, Order.continues}
 use Rattle.hls_http_laws.specs.Bodies.{Runs, NoStep}
 use Rattle.hls_http_laws.specs.Heads.{IsUnfinished, ReadsSmall}
 use Rattle.hls_http_laws.proofs.Callers.{heads_stay}
 use Rattle.std.proofs.lemmas.Bool.{cond-false, eqb-false, eqb-true}
+use Rattle.http_server.proofs.MachineLemmas.{head_is_some}
 use Rattle.hls_serve_laws.specs.{Acts.Act, Replies.fault_answer}
 use Rattle.hls_serve_laws.specs.Heard.{Due, Heard, IsDue, IsDueWithoutHead, RefusesHead, first_of, request_of}
 use Rattle.hls_serve_laws.specs.Connections.{Exchange, History, Serves, IsAsked, IsBetween, IsWithin, EndsByReply, Stands, IsServed, acts_of, text_of, due_in}
 use Rattle.hls_serve.specs.{declared.call.Call.Call, declared.ending.Ending.Ending, declared.dropping.Dropping.Dropping}
 use Rattle.hls_serve.specs.{declared.feeding.Feeding.Feeding, declared.making.Making.Making, declared.machine.State.State, Taken.progress_of}
 use Rattle.hls_serve.specs.declared.machine.State.TheVariants as states
-use Rattle.hls_serve.specs.Machine.{GoesOnIn, Holds, StandsIn, asked_now, stage_of, state_behind, waited_head}
+use Rattle.hls_serve.specs.Machine.{GoesOnIn, Holds, LacksMore, RestsIn, StandsIn, Turns, asked_now, stage_of, state_behind, steps_in, steps_of, waited_head}
 use Rattle.hls_serve.specs.Calls.{IsCall, Replies, end_by}
 use Rattle.hls_serve.specs.Within.{HasBody, IsDropping, IsFeeding, IsMaking, RepliesTo}
+use Rattle.hls_serve.specs.Waits.{EndsBefore, NeedsMore}
 use Rattle.hls_serve.proofs.CallLaws.{replies_by}
 
 -- ---- lists
@@ -105,19 +107,28 @@ pub stays : {count : ℕ} {old new : State} {h : History} (acts : List Act) (unr
     → StandsIn new count h.ended x.rest acts x.text unread → Holds count new (record h { unread = unread; acts = h.acts ++ acts; pending = [] })
 stays acts unread x nothing empty stands = goes_to x nothing empty acts [] unread x.text (sym (append-nil x.text)) stands
 
+-- the reply to what can't become a head closes the connection
+closes : (fault : HttpFault) (due : Due) → IsDueWithoutHead fault due → due.closing ≡ true
+closes fault due (inl is) = ap (λ (d : Due). d.closing) is
+closes fault due (inr is) = ap (λ (d : Due). d.closing) is
+
+-- .. behind which no step is left
+pub refused_last : {text : List ℕ} {end : Option Ending} (fault : HttpFault) → Replies (IsDueWithoutHead fault) text end [] → steps_of (state_behind end) ≡ 0
+refused_last fault r = rw (r.ends, closes fault r.due r.is) (over r.due.success)
+  where
+    over : (success : Bool) → steps_of (state_behind (end_by true success)) ≡ 0
+    over true = refl
+    over false = refl
+
 -- what can't become a head is refused
 pub head_refused : {count : ℕ} {h : History} {text : List ℕ} {end : Option Ending} (fault : HttpFault) (x : Holds count states.Head h) → h.pending ≡ []
     → ((due : Due) → IsDueWithoutHead fault due → RefusesHead h.unread due) → Replies (IsDueWithoutHead fault) text end []
     → Holds count (state_behind end) (record h { acts = h.acts ++ []; pending = text })
 head_refused {h} {text} fault x empty refuses r =
-    let closing : r.due.closing ≡ true = closes r.due r.is in
+    let closing : r.due.closing ≡ true = closes fault r.due r.is in
     let refused = subst (λ (t : List ℕ). RefusesHead t r.due) x.stands.0 (refuses r.due r.is) in
     let is = r.text_is ∙ ap (λ (t : List ℕ). t ++ text) (sym x.stands.2) in
     rw (r.ends, closing) (ends_by x x.stands.1 empty [] text h.unread r.due closing is (inr (refused, refl, x.stands.0)))
-  where
-    closes : (due : Due) → IsDueWithoutHead fault due → due.closing ≡ true
-    closes due (inl is) = ap (λ (d : Due). d.closing) is
-    closes due (inr is) = ap (λ (d : Due). d.closing) is
 
 -- no head stands at the front yet
 pub head_waits : (empty ended : Bool) (count : ℕ) (stream text unread : List ℕ) → (length unread == 0) ≡ empty → IsUnfinished unread
@@ -127,7 +138,24 @@ head_waits true true count stream text unread is unfinished s = inl (refl, sym s
 head_waits false true count stream text unread is unfinished s =
     (refl, inl (subst IsUnfinished s.0 unfinished, subst (λ (t : List ℕ). 0 < length t) s.0 (omega (arith, eqb-false (length unread) 0 is)), s))
 
+-- a step after which more is to be done, or nothing
+pub turns_on : {ended : Bool} {old new : State} {before after : List ℕ} {more : Bool} → more ≡ true → steps_in new after < steps_in old before → Turns ended old before new after more
+turns_on is lowers = record { rests = λ over. absurd (cc (is, over)); lowers = λ on. lowers }
+
+pub turns_off : {ended : Bool} {old new : State} {before after : List ℕ} {more : Bool} → more ≡ false → RestsIn ended new after → Turns ended old before new after more
+turns_off is rests = record { rests = λ over. rests; lowers = λ on. absurd (cc (is, on)) }
+
+-- .. so nothing can be done with what is unread, and there is room for more; or all is over
+pub waits : (empty ended : Bool) (unread : List ℕ) → IsUnfinished unread → RestsIn ended (waited_head empty ended) unread
+waits empty false unread unfinished = inr (refl, unfinished.short, inr unfinished)
+waits true true unread unfinished = inl tt
+waits false true unread unfinished = inl tt
+
 -- ---- behind a head
+
+-- fewer bytes are unread
+pub head_takes : (text : List ℕ) (head : RequestHead) (rest : List ℕ) → ReadsSmall text head rest → length rest < length text
+head_takes text head rest x = omega (arith, head_is_some head, ap length x.reads.1, length-append (print_request head) rest)
 
 -- what is refused before its body has no 100 Continue
 no_first : (h : RequestHead) (fault : HttpFault) (closing : Bool) → first_of h (Refuse fault closing) ≡ []
@@ -221,6 +249,39 @@ served_of {count} {state} {h} x = record {
   written = x.written;
   stands = stands_as state count h.ended x.rest x.acts x.text h.unread x.stands;
 }
+
+-- .. where nothing can be done with what is unread
+abbrev Before : State → ℕ → Bool → List ℕ → List ℕ → List ℕ → List Act → Type 0
+Before state count ended stream text unread acts =
+    (s : Stands (stage_of state) count ended stream (acts ++ asked_now state) text unread)
+    × EndsBefore (stage_of state) count ended stream (acts ++ asked_now state) text unread s
+
+stands_before : (state : State) (count : ℕ) (ended : Bool) (stream : List ℕ) (acts : List Act) (text unread : List ℕ) → StandsIn state count ended stream acts text unread → LacksMore state unread
+    → Before state count ended stream text unread acts
+stands_before states.Head count ended stream acts text unread s lacks = ((s.0, append-nil acts ∙ s.1, s.2), lacks)
+stands_before (states.Drop d) count ended stream acts text unread s lacks =
+    subst (Before (states.Drop d) count ended stream text unread) (sym s.1) (within_drop s.0, lacks)
+stands_before (states.Feed f) count ended stream acts text unread s lacks =
+    subst (Before (states.Feed f) count ended stream text unread) (sym s.1) (within_feed s.0, lacks)
+stands_before (states.Make m) count ended stream acts text unread s lacks = absurd lacks
+stands_before (states.Over end) count ended stream acts text unread s lacks = absurd lacks
+
+pub needs_of : {count : ℕ} {state : State} {h : History} → Holds count state h → LacksMore state h.unread → NeedsMore count (stage_of state) (record h { acts = h.acts ++ asked_now state })
+needs_of {count} {state} {h} x lacks =
+    let s = stands_before state count h.ended x.rest x.acts x.text h.unread x.stands lacks in
+    record {
+      served = record {
+        over = x.over;
+        rest = x.rest;
+        serves = x.serves;
+        acts = x.acts ++ asked_now state;
+        asked = ap (λ (t : List Act). t ++ asked_now state) x.asked_is ∙ append_assoc (acts_of x.over) x.acts (asked_now state);
+        text = x.text;
+        written = x.written;
+        stands = s.0;
+      };
+      before = s.1;
+    }
 
 -- ---- more is received, and handed out
 

@@ -1,56 +1,58 @@
 -- What a keeper has seen, from one act to the next, and what its acts come to.
-use Rattle.std.proofs.Common.{◌≡◌, ℕ, Some, Option, Ok, Err, inl, inr, List, [], ◌∷◌, ◌++◌, refl, sym, subst, ap, ◌∙◌, append_assoc, append-nil}
-use Rattle.std.proofs.lemmas.List.Elements.{All-nil, All-push}
-use Rattle.hls_media_laws.specs.{InitData.InitData, declared.facts.Facts.Facts, Meaning.IsUnit}
-use Rattle.hls_core_laws.specs.{declared.event.Event.Event, declared.event.Event.TheVariants.Accept, declared.refusal.Refusal.Refusal}
+use Rattle.std.specs.{Global.Global, declared.sync.Arc.Arc}
+use Rattle.hls_core_laws.specs.Known as calls
+use Rattle.hls_core_laws.specs.State.{State}
+use Rattle.std.proofs.Common.{◌≡◌, ℕ, Some, Option, IfOk, Result, Ok, Err, inl, inr, List, [], ◌∷◌, ◌++◌, refl, sym, subst, ap, ◌∙◌, append_assoc}
+use Rattle.hls_media_laws.specs.{InitData.InitData, declared.facts.Facts.Facts, Meaning.IsInit, Meaning.IsUnit}
+use Rattle.hls_core_laws.specs.{declared.event.Event.Event, declared.event.Event.TheVariants.Accept, declared.event.Event.TheVariants.Begin, declared.refusal.Refusal.Refusal}
 use Rattle.hls_core_laws.specs.declared.refusal.Refusal.TheVariants as refusals
-use Rattle.hls_core_laws.specs.{IsState.IsState, Moves.IsFittingAsSeen, Follows.Follows, Known.Known}
+use Rattle.hls_core_laws.specs.{IsState.IsState, Moves.IsFittingAsSeen, Follows.Follows}
 use Rattle.hls_core_laws.proofs.Callers.{inits_stay}
 use Rattle.hls_boxes_laws.specs.declared.part.Part.TheVariants as parts
-use Rattle.hls_serve_laws.specs.Acts.{Act, Acted, ActsInVain, IsVain, Leads, Looked, Submitted, Submits}
+use Rattle.hls_serve_laws.specs.Acts.{Act, Acted, Knowledge, Leads, Looked, LookedInVain, LooksAndSubmitsInVain, LooksSo, Meets, Submitted, Submits, known_of}
+use Rattle.hls_serve_laws.specs.Meanwhile.{MayLead, Meanwhile}
 use Rattle.hls_serve_laws.specs.Ingest.{Progress, FindsInit, PartComes}
 use Rattle.hls_serve_laws.proofs.Callers.{acted_follows}
-use Rattle.hls_serve.specs.Taken.{Finds, IsUsable, told_as}
+use Rattle.hls_serve.specs.{Taken.Finds, Taken.IsUsable, Taken.told_as}
 
 -- ---- what acts lead to
 
 -- the init section that was found is still there
-pub usable_after : (r : ℕ) (a b : Known) (found : Option InitData) → IsState b.seen → Follows a.seen b.seen → IsUsable r a found → IsUsable r b found
+pub usable_after : (r : ℕ) (a b : Knowledge) (found : Option InitData) → IsState b.seen → Follows a.seen b.seen → IsUsable r a found → IsUsable r b found
 usable_after r a b found valid follows usable = record {
   valid = valid;
   has = λ init is. let has = usable.has init is in let w = inits_stay a.seen b.seen follows r has.lane init has.at has.init_is in record { lane = w.0; at = w.1; init_is = w.2 };
 }
 
-pub usable_acted : (r : ℕ) (a b : Known) (before after : List Act) (found : Option InitData) → Acted a before b after → IsUsable r a found → IsUsable r b found
-usable_acted r a b before after found acted usable =
-    let w = acted_follows a b before after usable.valid acted in usable_after r a b found w.0 w.1.follows usable
+pub usable_acted : (m : Meanwhile) (r : ℕ) (a b : Knowledge) (before after : List Act) (found : Option InitData) → Acted m a before b after → IsUsable r a found → IsUsable r b found
+usable_acted m r a b before after found acted usable =
+    let w = acted_follows m a b before after usable.valid acted in usable_after r a b found w.0 w.1.follows usable
 
 -- one act
-pub acted_one : (a b : Known) (before after : List Act) (act : Act) → Leads a act b → after ≡ before ++ act ∷ [] → Acted a before b after
-acted_one a b before after act leads is = (act ∷ [], is, (b, leads, refl))
+pub acted_one : (m : Meanwhile) (a b : Knowledge) (before after : List Act) (act : Act) → Leads a act b → Meets m a act b → after ≡ before ++ act ∷ [] → Acted m a before b after
+acted_one m a b before after act leads meets is = (act ∷ [], is, (b, leads, meets, refl))
+
+-- a look, which showed a state or none
+pub acted_looked : {E : Type 0} (m : Meanwhile) (a b : Knowledge) (before after : List Act) (shown : Result (Arc State Global) E) → calls.LookedOn (known_of a) (known_of b)
+    → IfOk shown (λ s. calls.Looks (known_of a) s.value (known_of b)) → MayLead m a.seen b.seen → LooksSo a.acts shown b.acts → LooksSo before shown after → Acted m a before b after
+acted_looked m a b before after (Ok s) looked looks between asked is = acted_one m a b before after (Looked s.value) (record { asked = asked; does = looks }) between is
+acted_looked m a b before after (Err e) looked looks between asked is = acted_one m a b before after LookedInVain (record { asked = asked; does = looked }) between is
 
 -- ---- parts
 
 -- a unit's facts under the init section that was found
-pub fits_unit : (r : ℕ) (known : Known) (found : Option InitData) (init : InitData) (f : Facts) (bytes : List ℕ) → IsUsable r known found → found ≡ Some init → IsUnit init bytes f
+pub fits_unit : (r : ℕ) (known : Knowledge) (found : Option InitData) (init : InitData) (f : Facts) (bytes : List ℕ) → IsUsable r known found → found ≡ Some init → IsUnit init bytes f
     → IsFittingAsSeen known.seen (Accept r f bytes)
 fits_unit r known found init f bytes usable is unit = let has = usable.has init is in (has.lane, init, has.at, has.init_is, unit)
 
--- nothing was asked
-pub nothing_asked : (a : List Act) → ActsInVain a a
-nothing_asked a = record { acts = []; grown = sym (append-nil a); each = All-nil IsVain }
+unit_wanted : (r : ℕ) (x : Progress) (init : InitData) (z y : List Act) (event : Event) → FindsInit r x init z → Submits z event (Err refusals.Memory) y → LooksAndSubmitsInVain x.acts y
+unit_wanted r x init z y event (inl same) s = (z, inl same.1, inr (Submitted event (Err refusals.Memory), tt, s))
+unit_wanted r x init z y event (inr found) s = (z, inr (Looked found.state, tt, found.looks), inr (Submitted event (Err refusals.Memory), tt, s))
 
--- .. and then this in vain
-vain_on : {a b : List Act} (c : List Act) (act : Act) → ActsInVain a b → IsVain act → c ≡ b ++ act ∷ [] → ActsInVain a c
-vain_on {a} c act v vain is = record {
-  acts = v.acts ++ act ∷ [];
-  grown = is ∙ ap (λ (t : List Act). t ++ act ∷ []) v.grown ∙ append_assoc a v.acts (act ∷ []);
-  each = All-push IsVain v.acts act v.each vain;
-}
-
-unit_wanted : (r : ℕ) (x : Progress) (init : InitData) (z y : List Act) (event : Event) → FindsInit r x init z → Submits z event (Err refusals.Memory) y → ActsInVain x.acts y
-unit_wanted r x init z y event (inl same) s = vain_on y (Submitted event (Err refusals.Memory)) (nothing_asked x.acts) tt (rw same.1 at s)
-unit_wanted r x init z y event (inr found) s = vain_on y (Submitted event (Err refusals.Memory)) (vain_on z (Looked found.state) (nothing_asked x.acts) tt found.looks) tt s
+pub init_refused : (r : ℕ) (x y : Progress) (bytes : List ℕ) (init : InitData) (q : Refusal) → IsInit bytes init → y.counts ≡ x.counts → Submits x.acts (Begin r init bytes) (Err q) y.acts
+    → PartComes r x (parts.Init bytes) y (Err (told_as q))
+init_refused r x y bytes init refusals.Memory is counts s = (x.acts, inl refl, inr (Submitted (Begin r init bytes) (Err refusals.Memory), tt, s))
+init_refused r x y bytes init q is counts s = ((λ e. cc, (init, is, s)), counts)
 
 found_init : (r : ℕ) (x y : Progress) (init : InitData) → Finds r x y (Ok tt) → y.init ≡ Some init → FindsInit r x init y.acts
 found_init r x y init (counts, (i, is, finds)) there = let same : i ≡ init = cc (is, there) in subst (λ (j : InitData). FindsInit r x j y.acts) same finds
@@ -62,5 +64,5 @@ unit_refused r x z y bytes init f q found there is counts s =
     (inr (record { init = init; looked = z.acts; finds = found_init r x z init found there; facts = f; reads = is; told = λ e. cc; submits = s }), counts ∙ found.0)
 
 -- what was asked behind something else
-pub acted_behind : (front : List Act) (a b : Known) (before : List Act) {after all : List Act} → all ≡ front ++ after → Acted a before b after → Acted a (front ++ before) b all
-acted_behind front a b before is (acts, grown, chain) = (acts, is ∙ ap (λ (t : List Act). front ++ t) grown ∙ sym (append_assoc front before acts), chain)
+pub acted_behind : (m : Meanwhile) (front : List Act) (a b : Knowledge) (before : List Act) {after all : List Act} → all ≡ front ++ after → Acted m a before b after → Acted m a (front ++ before) b all
+acted_behind m front a b before is (acts, grown, chain) = (acts, is ∙ ap (λ (t : List Act). front ++ t) grown ∙ sym (append_assoc front before acts), chain)

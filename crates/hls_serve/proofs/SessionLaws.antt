@@ -1,5 +1,5 @@
 -- A session, from one moment to the next.
-use Rattle.std.proofs.Common.{◌≡◌, ◌∙◌, ℕ, Bool, true, false, List, [], ◌++◌, length, take, drop, Option, Some, None, IsTrue, inl, inr, refl, sym, ap, subst, append_assoc, append-nil, arith}
+use Rattle.std.proofs.Common.{◌≡◌, ◌∙◌, ℕ, ◌<◌, Bool, true, false, List, [], ◌++◌, length, take, drop, Option, Some, None, IsTrue, IsFalse, inl, inr, refl, sym, ap, subst, append_assoc, append-nil, arith}
 use Rattle.std.proofs.lemmas.List.{nil_from_length, take-append-drop}
 use Rattle.std.specs.Io.KnownBytes.{Consumes, IsAtEnd}
 use Rattle.bytes.specs.Unread.{IsChunkOf}
@@ -7,8 +7,9 @@ use Rattle.hls_io.specs.{Rose.Rose, Writing.Writes}
 use Rattle.hls_http.proofs.Callers.{writes_whole}
 use Rattle.hls_http_laws.specs.declared.end.SessionEnd.{SessionEnd}
 use Rattle.hls_http_laws.specs.declared.end.SessionEnd.TheVariants as ends
-use Rattle.hls_core_laws.specs.{IsState.IsState, Known.Known}
-use Rattle.hls_serve_laws.specs.Acts.{Act, Chain}
+use Rattle.hls_core_laws.specs.{IsState.IsState}
+use Rattle.hls_serve_laws.specs.Acts.{Act, Chain, Knowledge}
+use Rattle.hls_serve_laws.specs.Meanwhile.{Meanwhile}
 use Rattle.hls_serve_laws.specs.Connections.{Stage, Over}
 use Rattle.hls_serve_laws.specs.Sessions.{EndsSo, GoesOn, Session}
 use Rattle.hls_serve_laws.proofs.Callers.{acted_on}
@@ -16,7 +17,7 @@ use Rattle.hls_serve.specs.{declared.ending.Ending.Ending, declared.place.Idle.I
 use Rattle.hls_serve.specs.declared.ending.Ending.TheVariants as own
 use Rattle.hls_serve.specs.declared.machine.State.TheVariants as states
 use Rattle.hls_serve.specs.declared.place.Place.TheVariants as places
-use Rattle.hls_serve.specs.Machine.{GoesOnIn, IsOver, stage_of, total}
+use Rattle.hls_serve.specs.Machine.{GoesOnIn, IsOver, LacksMore, stage_of, total}
 use Rattle.hls_serve.specs.Places.{IsFresh, connection_of}
 use Rattle.hls_serve.specs.Moments.{Ended, Led, Moment}
 use Rattle.hls_serve.specs.Talks.{Advances, Connection, RestsAt, WantsMore, hears, history_of, sends}
@@ -37,11 +38,11 @@ chunk_first waiting chunk is = sym (take-append-drop (length chunk) waiting) ∙
 -- ---- it goes on
 
 -- from its beginning, where nothing came but what was held
-pub led_first : (m : Moment) (i : Idle) → IsFresh i → m.at ≡ hears (connection_of (places.Idle i)) m.at.unread false → IsState m.known.seen
-    → i.renditions ≡ length m.known.seen.config.renditions → Led m m
-led_first m i fresh is valid count =
+pub led_first : (between : Meanwhile) (m : Moment) (i : Idle) → IsFresh i → m.at ≡ hears (connection_of (places.Idle i)) m.at.unread false → IsState m.known.seen
+    → i.renditions ≡ length m.known.seen.config.renditions → Led between m m
+led_first between m i fresh is valid count =
     let nothing : total (connection_of (places.Idle i)).machine ≡ [] = rw fresh.asked in
-    subst (λ (c : Connection). Led m (record m { at = c })) (sym is) (record {
+    subst (λ (c : Connection). Led between m (record m { at = c })) (sym is) (record {
       asked = (suited_new valid count nothing, count, ([], nothing, refl));
       holds = holds_more m.at.unread false tt (idle_holds i fresh);
       came = λ input known. (input, known, rw fresh.came refl, λ never. absurd (cc));
@@ -49,19 +50,19 @@ led_first m i fresh is valid count =
       quiet = (refl, refl);
     })
 
-pub led_advances : {first m : Moment} {b : Known} {c : Connection} → Led first m → Advances m.known m.at b c → Led first (record m { at = c; known = b })
-led_advances {first} {m} {b} {c} x y = record {
-  asked = (y.suits, y.renditions ∙ x.asked.1, acted_on first.known m.known b [] (total m.at.machine) (total c.machine) x.asked.2 y.acted);
+pub led_advances : {between : Meanwhile} {first m : Moment} {b : Knowledge} {c : Connection} → Led between first m → Advances between m.known m.at b c → Led between first (record m { at = c; known = b })
+led_advances {between} {first} {m} {b} {c} x y = record {
+  asked = (y.suits, y.renditions ∙ x.asked.1, acted_on between first.known m.known b [] (total m.at.machine) (total c.machine) x.asked.2 y.acted);
   holds = y.holds x.holds;
   came = rw (y.quiet.received, y.quiet.ended) x.came;
   written = rw y.quiet.sent x.written;
   quiet = x.quiet;
 }
 
-pub led_hears : {first m : Moment} {now : Connection} (more : List ℕ) (ended : Bool) {left : Option (List ℕ)} {reads : ℕ} → now ≡ hears m.at more ended → GoesOnIn m.at.machine.state
-    → Consumes m.left left more → (IsTrue ended → IsAtEnd left) → reads ≡ m.reads → Led first m → Led first (record m { at = now; left = left; reads = reads })
-led_hears {first} {m} more ended {left} {reads} is going consumes at_end same x =
-    subst (λ (c : Connection). Led first (record m { at = c; left = left; reads = reads })) (sym is) (record {
+pub led_hears : {between : Meanwhile} {first m : Moment} {now : Connection} (more : List ℕ) (ended : Bool) {left : Option (List ℕ)} {reads : ℕ} → now ≡ hears m.at more ended → GoesOnIn m.at.machine.state
+    → Consumes m.left left more → (IsTrue ended → IsAtEnd left) → reads ≡ m.reads → Led between first m → Led between first (record m { at = now; left = left; reads = reads })
+led_hears {between} {first} {m} more ended {left} {reads} is going consumes at_end same x =
+    subst (λ (c : Connection). Led between first (record m { at = c; left = left; reads = reads })) (sym is) (record {
       asked = x.asked;
       holds = holds_more more ended going x.holds;
       came = λ input known.
@@ -74,10 +75,10 @@ led_hears {first} {m} more ended {left} {reads} is going consumes at_end same x 
     })
 
 -- so much of what waits was handed out, and written
-led_sent : {first m : Moment} (gone waits : List ℕ) {contents : Option (List ℕ)} {writes : ℕ} → m.at.machine.output ≡ gone ++ waits
-    → ((held : List ℕ) → m.contents ≡ Some held → contents ≡ Some (held ++ gone)) → writes ≡ m.writes → Led first m
-    → Led first (record m { at = record m.at { machine = record m.at.machine { output = waits }; sent = m.at.sent ++ gone }; contents = contents; writes = writes })
-led_sent {first} {m} gone waits is wrote same x = record {
+led_sent : {between : Meanwhile} {first m : Moment} (gone waits : List ℕ) {contents : Option (List ℕ)} {writes : ℕ} → m.at.machine.output ≡ gone ++ waits
+    → ((held : List ℕ) → m.contents ≡ Some held → contents ≡ Some (held ++ gone)) → writes ≡ m.writes → Led between first m
+    → Led between first (record m { at = record m.at { machine = record m.at.machine { output = waits }; sent = m.at.sent ++ gone }; contents = contents; writes = writes })
+led_sent {between} {first} {m} gone waits is wrote same x = record {
   asked = x.asked;
   holds = holds_sent gone waits is x.holds;
   came = x.came;
@@ -85,20 +86,20 @@ led_sent {first} {m} gone waits is wrote same x = record {
   quiet = (x.quiet.0, same ∙ x.quiet.1);
 }
 
-pub led_sends : {first m : Moment} {now : Connection} (chunk : List ℕ) {contents : Option (List ℕ)} {writes : ℕ} → now ≡ sends m.at (length chunk) → IsChunkOf chunk m.at.machine.output
-    → ((held : List ℕ) → m.contents ≡ Some held → Writes held chunk contents true) → writes ≡ m.writes → Led first m
-    → Led first (record m { at = now; contents = contents; writes = writes })
-led_sends {first} {m} chunk {contents} {writes} sent is wrote same x =
+pub led_sends : {between : Meanwhile} {first m : Moment} {now : Connection} (chunk : List ℕ) {contents : Option (List ℕ)} {writes : ℕ} → now ≡ sends m.at (length chunk) → IsChunkOf chunk m.at.machine.output
+    → ((held : List ℕ) → m.contents ≡ Some held → Writes held chunk contents true) → writes ≡ m.writes → Led between first m
+    → Led between first (record m { at = now; contents = contents; writes = writes })
+led_sends {between} {first} {m} chunk {contents} {writes} sent is wrote same x =
     let waiting = m.at.machine.output in
-    subst (λ (c : Connection). Led first (record m { at = c; contents = contents; writes = writes })) (sym sent)
+    subst (λ (c : Connection). Led between first (record m { at = c; contents = contents; writes = writes })) (sym sent)
     (led_sent (take (length chunk) waiting) (drop (length chunk) waiting) (sym (take-append-drop (length chunk) waiting))
     (λ held known. rw is.front (writes_whole held chunk contents (wrote held known))) same x)
 
 -- ---- it ends
 
-session_of : {first m : Moment} (end : SessionEnd) → EndsSo end (stage_of m.at.machine.state) m.at.machine.output → Led first m
-    → (input out : List ℕ) → first.left ≡ Some input → first.contents ≡ Some out → Session first.known (first.at.unread ++ input) out m.contents m.known end
-session_of {first} {m} end so x input out known there =
+session_of : {between : Meanwhile} {first m : Moment} (end : SessionEnd) → EndsSo end (stage_of m.at.machine.state) m.at.machine.output → Led between first m
+    → (input out : List ℕ) → first.left ≡ Some input → first.contents ≡ Some out → Session between first.known (first.at.unread ++ input) out m.contents m.known end
+session_of {between} {first} {m} end so x input out known there =
     let came = x.came input known in
     record {
       stage = stage_of m.at.machine.state;
@@ -108,19 +109,19 @@ session_of {first} {m} end so x input out known there =
       received = came.2;
       at_end = came.3;
       written = x.written out there;
-      leads = subst (λ (acts : List Act). Chain first.known acts m.known) (sym x.asked.2.1) x.asked.2.2;
+      leads = subst (λ (acts : List Act). Chain between first.known acts m.known) (sym x.asked.2.1) x.asked.2.2;
       ends = so;
     }
 
 -- by a failed read
-pub ended_unread : {first m : Moment} {reads : ℕ} → WantsMore m.at → Rose m.reads reads → Led first m → Ended first (record m { reads = reads }) ends.ReadFailed
+pub ended_unread : {between : Meanwhile} {first m : Moment} {reads : ℕ} → WantsMore m.at → Rose m.reads reads → Led between first m → Ended between first (record m { reads = reads }) ends.ReadFailed
 ended_unread {m} wants rose x =
     (session_of ends.ReadFailed (wants.2, nil_from_length m.at.machine.output wants.1) x, (rw x.quiet.0 at rose, x.quiet.1))
 
 -- by a failed write, behind a beginning of what waits first
-pub ended_unwritten : {first m : Moment} (chunk : List ℕ) (contents : Option (List ℕ)) (writes : ℕ) → IsChunkOf chunk m.at.machine.output
-    → ((held : List ℕ) → m.contents ≡ Some held → Writes held chunk contents false) → Rose m.writes writes → Led first m
-    → Ended first (record m { contents = contents; writes = writes }) ends.WriteFailed
+pub ended_unwritten : {between : Meanwhile} {first m : Moment} (chunk : List ℕ) (contents : Option (List ℕ)) (writes : ℕ) → IsChunkOf chunk m.at.machine.output
+    → ((held : List ℕ) → m.contents ≡ Some held → Writes held chunk contents false) → Rose m.writes writes → Led between first m
+    → Ended between first (record m { contents = contents; writes = writes }) ends.WriteFailed
 ended_unwritten {first} {m} chunk contents writes is wrote rose x =
     let rest = drop (length chunk) m.at.machine.output in (
       (λ input out known there.
@@ -134,22 +135,25 @@ ended_unwritten {first} {m} chunk contents writes is wrote rose x =
     )
 
 -- by the connection itself, where all was handed out
-pub ended_itself : {first m : Moment} (end : Ending) → m.at.machine.state ≡ states.Over end → length m.at.machine.output ≡ 0 → Led first m → Ended first m (end_of end)
-ended_itself {first} {m} end over empty x = by end (ap stage_of over, nil_from_length m.at.machine.output empty)
+pub ended_itself : {between : Meanwhile} {first m : Moment} (end : Ending) → m.at.machine.state ≡ states.Over end → length m.at.machine.output ≡ 0 → Led between first m → Ended between first m (end_of end)
+ended_itself {between} {first} {m} end over empty x = by end (ap stage_of over, nil_from_length m.at.machine.output empty)
   where
-    by : (end : Ending) → (stage_of m.at.machine.state ≡ Over (end_of end)) × (m.at.machine.output ≡ []) → Ended first m (end_of end)
+    by : (end : Ending) → (stage_of m.at.machine.state ≡ Over (end_of end)) × (m.at.machine.output ≡ []) → Ended between first m (end_of end)
     by own.Closed is = (session_of ends.Closed is x, x.quiet)
     by own.Refused is = (session_of ends.Refused is x, x.quiet)
     by own.CutShort is = (session_of ends.CutShort is x, x.quiet)
 
 -- ---- a connection that waits for more
 
--- it waits since nothing is to be handed out and the input goes on; there is room
-pub rests_open : (c : Connection) → length c.machine.output ≡ 0 → GoesOnIn c.machine.state → RestsAt c → WantsMore c
-rests_open c empty going (inl some) = absurd (omega (arith, empty, some))
-rests_open c empty going (inr (inl over)) = absurd (not_both (stage_of c.machine.state) going over)
+-- it waits since nothing is to be handed out and the input goes on; nothing can be done with what is unread, and there is room
+pub rests_before : (c : Connection) → length c.machine.output ≡ 0 → GoesOnIn c.machine.state → RestsAt c → IsFalse c.ended × LacksMore c.machine.state c.unread × (length c.unread < 16384)
+rests_before c empty going (inl some) = absurd (omega (arith, empty, some))
+rests_before c empty going (inr (inl over)) = absurd (not_both (stage_of c.machine.state) going over)
   where
     not_both : (stage : Stage) → GoesOn stage → IsOver stage → ⊥
     not_both (Over end) going over = going
     not_both stage going over = over
-rests_open c empty going (inr (inr waits)) = (waits.0, empty, going, omega (arith, waits.1))
+rests_before c empty going (inr (inr waits)) = (waits.0, waits.2, waits.1)
+
+pub rests_open : (c : Connection) → length c.machine.output ≡ 0 → GoesOnIn c.machine.state → RestsAt c → WantsMore c
+rests_open c empty going rests = let waits = rests_before c empty going rests in (waits.0, empty, going, omega (arith, waits.2))

@@ -1,8 +1,9 @@
 -- A connection by all that came of it, from one call to the next.
 use Rattle.std.proofs.Common.{◌≡◌, ◌∙◌, ℕ, List, [], length, take, drop, refl, sym, subst}
 use Rattle.std.proofs.lemmas.List.{take-append-drop}
-use Rattle.hls_core_laws.specs.{IsState.IsState, Known.Known}
-use Rattle.hls_serve_laws.specs.Acts.{Act, Acted}
+use Rattle.hls_core_laws.specs.{IsState.IsState}
+use Rattle.hls_serve_laws.specs.Acts.{Act, Acted, Knowledge}
+use Rattle.hls_serve_laws.specs.Meanwhile.{Meanwhile}
 use Rattle.hls_serve_laws.specs.Linked.{Later, Linked}
 use Rattle.hls_serve_laws.proofs.Callers.{acted_none, acted_on, later_itself, linked_acted, linked_follows, linked_later}
 use Rattle.hls_serve.specs.{declared.machine.Machine.Machine, declared.machine.State.State, declared.place.Idle.Idle, Histories.new_history}
@@ -29,20 +30,20 @@ sends_holds c count h = holds_sent (take count c.machine.output) (drop count c.m
 
 -- ---- what the keeper knows
 
-suits_in : (a b : Known) (state : State) → IsState b.seen → Later a b → SuitsIn a state → SuitsIn b state
+suits_in : (a b : Knowledge) (state : State) → IsState b.seen → Later a b → SuitsIn a state → SuitsIn b state
 suits_in a b (states.Feed f) valid later suits = usable_after f.rendition a b f.taken.init valid later.follows suits
 suits_in a b state valid later suits = suits
 
-pub suited_valid : {known : Known} {count : ℕ} {acts : List Act} {state : State} → IsSuited known count acts state → IsState known.seen
+pub suited_valid : {known : Knowledge} {count : ℕ} {acts : List Act} {state : State} → IsSuited known count acts state → IsState known.seen
 suited_valid {known} {count} {acts} x = (linked_follows acts x.first known x.valid x.linked).0
 
-pub suited_later : (a b : Known) (m : Machine) → IsSuitedTo a m → Later a b → IsSuitedTo b m
+pub suited_later : (a b : Knowledge) (m : Machine) → IsSuitedTo a m → Later a b → IsSuitedTo b m
 suited_later a b m x later =
     let linked = linked_later (total m) x.first a b x.linked later in
     let valid = (linked_follows (total m) x.first b x.valid linked).0 in
     record { first = x.first; valid = x.valid; count_is = x.count_is; linked = linked; body = suits_in a b m.state valid later x.body }
 
-pub suited_new : {known : Known} {count : ℕ} {acts : List Act} → IsState known.seen → count ≡ length known.seen.config.renditions → acts ≡ [] → IsSuited known count acts states.Head
+pub suited_new : {known : Knowledge} {count : ℕ} {acts : List Act} → IsState known.seen → count ≡ length known.seen.config.renditions → acts ≡ [] → IsSuited known count acts states.Head
 suited_new {known} valid count_is nothing = record {
   first = known;
   valid = valid;
@@ -53,27 +54,27 @@ suited_new {known} valid count_is nothing = record {
 
 -- ---- steps
 
-pub advances_none : {known : Known} {c : Connection} → IsSuitedTo known c.machine → Advances known c known c
-advances_none {known} {c} suits = record {
+pub advances_none : (m : Meanwhile) {known : Knowledge} {c : Connection} → IsSuitedTo known c.machine → Advances m known c known c
+advances_none m {known} {c} suits = record {
   suits = suits;
   holds = λ h. h;
-  acted = acted_none known (total c.machine);
+  acted = acted_none m known (total c.machine);
   quiet = record { received = refl; ended = refl; sent = refl };
   renditions = refl;
 }
 
-pub advances_on : {a b c : Known} {old here : Connection} (m : Machine) (now : List ℕ) → Advances a old b here → Goes here.ended here.machine here.unread m now
-    → Acted b (total here.machine) c (total m) → m.renditions ≡ here.machine.renditions → SuitsIn c m.state → Advances a old c (record here { machine = m; unread = now })
-advances_on {a} {b} {c} {old} {here} m now x goes leads count body = record {
+pub advances_on : (between : Meanwhile) {a b c : Knowledge} {old here : Connection} (m : Machine) (now : List ℕ) → Advances between a old b here → Goes here.ended here.machine here.unread m now
+    → Acted between b (total here.machine) c (total m) → m.renditions ≡ here.machine.renditions → SuitsIn c m.state → Advances between a old c (record here { machine = m; unread = now })
+advances_on between {a} {b} {c} {old} {here} m now x goes leads count body = record {
   suits = record {
     first = x.suits.first;
     valid = x.suits.valid;
     count_is = count ∙ x.suits.count_is;
-    linked = linked_acted x.suits.first b c (total here.machine) (total m) x.suits.linked leads;
+    linked = linked_acted between x.suits.first b c (total here.machine) (total m) x.suits.linked leads;
     body = body;
   };
   holds = λ h. goes here.received here.sent (x.holds h);
-  acted = acted_on a b c (total old.machine) (total here.machine) (total m) x.acted leads;
+  acted = acted_on between a b c (total old.machine) (total here.machine) (total m) x.acted leads;
   quiet = record { received = x.quiet.received; ended = x.quiet.ended; sent = x.quiet.sent };
   renditions = count ∙ x.renditions;
 }

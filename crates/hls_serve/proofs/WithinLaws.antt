@@ -1,7 +1,7 @@
 -- A body that is read, step by step.
 use Rattle.std.proofs.Common.{◌≡◌, ◌∙◌, ◌⊎◌, ℕ, zero, suc, ◌+◌, ◌-◌, ◌<◌, ◌≤◌, false, not, nat_eq, inl, inr, List, [], ◌++◌, length, take, drop, None, Result, Ok, Err, refl, sym, ap, subst, arith, append-nil, length-append}
 use Rattle.std.proofs.lemmas.Bool.{eq-eqb, ne_eqb}
-use Rattle.std.proofs.lemmas.List.{length-take-le}
+use Rattle.std.proofs.lemmas.List.{length-drop, length-take-le}
 use Rattle.hls_boxes_laws.specs.Parts.{text_fault}
 use Rattle.hls_feed.specs.{declared.fault.StreamFault.StreamFault, declared.fault.Untaken.Untaken}
 use Rattle.hls_feed.specs.declared.fault.Untaken.TheVariants as untaken
@@ -23,6 +23,10 @@ use Rattle.hls_serve.specs.{declared.ingest.Taken.Taken, Taken.progress_of}
 use Rattle.hls_serve.specs.Within.{HasBody, IsDropped, IsDropping, IsFedUp, IsFeeding}
 
 -- ---- one step more
+
+-- fewer bytes are unread behind some
+pub fewer : (len : ℕ) (unread : List ℕ) → 0 < len → len ≤ length unread → length (drop len unread) < length unread
+fewer len unread some within = omega (arith, some, within, length-drop len unread)
 
 abbrev pub body_goes : {count : ℕ} {stream first : List ℕ} {call : Call} {plan : Body → Plan} {b : Body} {unread : List ℕ} → HasBody count stream first call plan b unread
     → (next : Body) (piece rest : List ℕ) → Steps b unread piece next rest → HasBody count stream first call plan next rest

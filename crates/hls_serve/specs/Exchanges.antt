@@ -4,12 +4,12 @@ use Rattle.hls_io.specs.Counted.{inside_of}
 use Rattle.hls_http_laws.specs.declared.end.SessionEnd.{SessionEnd}
 use Rattle.hls_http.specs.declared.session.Session.{Session}
 use Rattle.hls_http.specs.Source.{held_of, reader_of}
-use Rattle.hls_core_laws.specs.Known.{Known}
+use Rattle.hls_serve_laws.specs.{Acts.Knowledge, Meanwhile.Meanwhile}
 use Rattle.hls_serve_laws.specs.Sessions as spec
 
 -- where the input that is still to come is known, and what the writer holds, they are a session's, from what its keeper knew before it
--- to what it knows now
-abbrev pub Exchanges : {R W : Type 0} → (R → Option (List ℕ)) → (W → Option (List ℕ)) → Session R W → Session R W → Known → Known → SessionEnd → Type 0
-Exchanges remaining contents old new a b end =
+-- to what it knows now, and these may act meanwhile
+abbrev pub Exchanges : {R W : Type 0} → Meanwhile → (R → Option (List ℕ)) → (W → Option (List ℕ)) → Session R W → Session R W → Knowledge → Knowledge → SessionEnd → Type 0
+Exchanges m remaining contents old new a b end =
     (input out : List ℕ) → remaining (reader_of old.source) ≡ Some input → contents (inside_of old.writer) ≡ Some out
-    → spec.Session a (held_of old.source ++ input) out (contents (inside_of new.writer)) b end
+    → spec.Session m a (held_of old.source ++ input) out (contents (inside_of new.writer)) b end

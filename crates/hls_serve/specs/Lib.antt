@@ -1,10 +1,10 @@
+pub mod Alone
 pub mod Calls
 pub mod Counted
 pub mod Endings
 pub mod Exchanges
 pub mod Histories
 pub mod Machine
-pub mod Meanwhile
 pub mod Moments
 pub mod Noted
 pub mod Places
@@ -12,4 +12,5 @@ pub mod Taken
 pub mod Talks
 pub mod Told
 pub mod Visits
+pub mod Waits
 pub mod Within

@@ -1,10 +1,11 @@
 -- For the proofs of this crate; no public clause cites it.
 -- A connection but for its input, in the middle of its stream.
-use Rattle.std.specs.Prelude.{◌≡◌, ◌⊎◌, ℕ, ◌<◌, Bool, true, false, List, [], ◌++◌, length, flat_map, Option, Some, None, Err, IsFalse}
-use Rattle.hls_core_laws.specs.{IsState.IsState, Known.Known}
+use Rattle.std.specs.Prelude.{◌≡◌, ◌⊎◌, ℕ, ◌+◌, ◌*◌, ◌<◌, Bool, true, false, List, [], ◌++◌, length, flat_map, Option, Some, None, Err, IsTrue, IsFalse}
+use Rattle.hls_core_laws.specs.{IsState.IsState}
 use Rattle.hls_http_laws.specs.declared.end.BodyEnd.TheVariants as bodies
+use Rattle.hls_http_laws.specs.{Bodies.IsOpen, Heads.IsUnfinished}
 use Rattle.hls_serve_laws.specs.declared.ingest.Intake.TheVariants as came
-use Rattle.hls_serve_laws.specs.{Acts.Act, Acts.Acted, Sessions.GoesOn}
+use Rattle.hls_serve_laws.specs.{Acts.Act, Acts.Acted, Acts.Knowledge, Meanwhile.Meanwhile, Sessions.GoesOn}
 use Rattle.hls_serve_laws.specs.Connections.{Exchange, History, Serves, Stage, Between, Within, Over, IsBetween, Stands, acts_of, output, text_of}
 use Rattle.hls_serve.specs.{declared.ending.Ending.Ending, declared.machine.Machine.Machine, declared.machine.State.State, declared.machine.Step.Step}
 use Rattle.hls_serve.specs.declared.ending.Ending.TheVariants as own
@@ -69,12 +70,12 @@ abbrev pub Goes : Bool → Machine → List ℕ → Machine → List ℕ → Typ
 Goes ended old before new after = (received sent : List ℕ) → HoldsAt received ended sent old before → HoldsAt received ended sent new after
 
 -- the keeper suits the machine: it has seen a state, with the init section under which a body is read
-abbrev pub SuitsIn : Known → State → Type 0
+abbrev pub SuitsIn : Knowledge → State → Type 0
 SuitsIn known (states.Drop d) = DropsBody d
 SuitsIn known (states.Feed f) = IsUsable f.rendition known f.taken.init
 SuitsIn known state = Unit {0}
 
-abbrev pub Suits : Known → Machine → Type 0
+abbrev pub Suits : Knowledge → Machine → Type 0
 Suits known m = IsState known.seen × SuitsIn known m.state
 
 -- what is told where a read failed
@@ -91,13 +92,41 @@ IsOver stage = ⊥
 abbrev pub GoesOnIn : State → Type 0
 GoesOnIn state = GoesOn (stage_of state)
 
--- all is over, or more is to be read and there is room for it
+-- nothing can be done with what is unread: between two requests it is empty or the beginning of a head, and within a body it ends
+-- before a step of that body. While an answer is made nothing more is needed
+abbrev pub LacksMore : State → List ℕ → Type 0
+LacksMore states.Head unread = (unread ≡ []) ⊎ IsUnfinished unread
+LacksMore (states.Drop d) unread = IsOpen d.body unread
+LacksMore (states.Feed f) unread = IsOpen f.body unread
+LacksMore (states.Make m) unread = ⊥
+LacksMore (states.Over end) unread = ⊥
+
+-- all is over; or more is needed, is still to come, and there is room for it
 abbrev pub RestsIn : Bool → State → List ℕ → Type 0
-RestsIn ended state unread = IsOver (stage_of state) ⊎ (IsFalse ended × (length unread < 16384))
+RestsIn ended state unread = IsOver (stage_of state) ⊎ (IsFalse ended × (length unread < 16384) × LacksMore state unread)
 
 -- .. or something waits to be handed out
 abbrev pub Rests : Bool → Machine → List ℕ → Type 0
 Rests ended m unread = (0 < length m.output) ⊎ RestsIn ended m.state unread
+
+-- ---- how much is still to be done
+
+-- how many steps a state can take before it needs another byte: a body comes before its answer, which is made in 65536 parts at most
+abbrev pub steps_of : State → ℕ
+steps_of (states.Over end) = 0
+steps_of states.Head = 1
+steps_of (states.Make m) = 2 + m.parts
+steps_of (states.Drop d) = 65539
+steps_of (states.Feed f) = 65539
+
+-- .. and with so many bytes, each of which may begin a request
+abbrev pub steps_in : State → List ℕ → ℕ
+steps_in state unread = 65539 * length unread + steps_of state
+
+-- after a step that reports that nothing more is to be done the connection rests; any other step lowers the number of steps left
+pub record Turns (ended : Bool) (old : State) (before : List ℕ) (new : State) (after : List ℕ) (more : Bool) : Type 0 where
+  pub rests : IsFalse more → RestsIn ended new after
+  pub lowers : IsTrue more → steps_in new after < steps_in old before
 
 -- ---- a step
 
@@ -133,10 +162,10 @@ abbrev pub asked_by : Step → List Act
 asked_by step = step.acts ++ asked_now step.state
 
 -- its acts lead to what the keeper then knows, which suits the state
-pub record AsksBy (a : Known) (old : State) (b : Known) (step : Step) : Type 0 where
-  pub leads : Acted a (asked_now old) b (asked_by step)
+pub record AsksBy (m : Meanwhile) (a : Knowledge) (old : State) (b : Knowledge) (step : Step) : Type 0 where
+  pub leads : Acted m a (asked_now old) b (asked_by step)
   pub suits : SuitsIn b step.state
 
 -- .. of a keeper that has seen a state nothing is asked
 abbrev pub AsksNothing : State → Step → Type 0
-AsksNothing old step = (known : Known) → IsState known.seen → AsksBy known old known step
+AsksNothing old step = (m : Meanwhile) (known : Knowledge) → IsState known.seen → AsksBy m known old known step

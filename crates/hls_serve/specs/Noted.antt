@@ -1,9 +1,10 @@
 -- For the proofs of this crate; no public clause cites it but by a list of acts.
 -- What was noted of a keeper's acts.
-use Rattle.std.specs.Prelude.{◌≡◌, List, [], ◌∷◌, ◌++◌, Result, Ok, Err}
+use Rattle.std.specs.Prelude.{ℕ, List, [], ◌∷◌, Result}
 use Rattle.hls_core_laws.specs.{declared.event.Event.Event, declared.refusal.Refusal.Refusal, State.State, declared.done.Done.Done}
 use Rattle.std.specs.declared.sync.Arc.{Arc}
-use Rattle.hls_serve_laws.specs.Acts.{Act, Looked, LookedInVain, Submitted, Looks}
+use Rattle.hls_serve_laws.specs.Acts.{Act, Added, Looked, LookedInVain, Removed, Submitted}
+use Rattle.hls_serve_laws.specs.Types.{Request, JobFault}
 use Rattle.hls_serve.specs.declared.acts.Noted.{Noted}
 use Rattle.hls_serve.specs.declared.acts.Noted.TheVariants as noted
 
@@ -15,15 +16,16 @@ abbrev pub act_of_event : {B : Type 0} → List (Event × B) → Result Done Ref
 act_of_event [] answer = LookedInVain
 act_of_event ((event, n) ∷ others) answer = Submitted event answer
 
+abbrev pub act_of_added : {A B : Type 0} → List (Arc State A × B) → Request → Result ℕ JobFault → Act
+act_of_added [] request result = LookedInVain
+act_of_added ((s, n) ∷ others) request result = Added s.value request result
+
 abbrev pub act_of : Noted → Act
 act_of (noted.Looked note) = act_of_look note.items
 act_of noted.LookedInVain = LookedInVain
 act_of (noted.Submitted note answer) = act_of_event note.items answer
+act_of (noted.Added note request result) = act_of_added note.items request result
+act_of (noted.Removed id result) = Removed id result
 
 abbrev pub act_in : {B : Type 0} → Noted × B → Act
 act_in note = act_of note.0
-
--- a state is shown, or none
-abbrev pub LookedSo : {A E : Type 0} → List Act → Result (Arc State A) E → List Act → Type 0
-LookedSo before (Ok s) after = Looks before s.value after
-LookedSo before (Err e) after = after ≡ before ++ LookedInVain ∷ []

@@ -1,12 +1,12 @@
 -- How far a body was taken.
 use Rattle.std.specs.Prelude.{◌≡◌, ℕ, Option, Some, Result, Ok, Err, slice_get}
 use Rattle.hls_media_laws.specs.InitData.{InitData}
-use Rattle.hls_core_laws.specs.{Channel.Lane, IsState.IsState, declared.refusal.Refusal.Refusal, Known.Known}
+use Rattle.hls_core_laws.specs.{Channel.Lane, IsState.IsState, declared.refusal.Refusal.Refusal}
 use Rattle.hls_core_laws.specs.State.{State, channel}
 use Rattle.hls_core_laws.specs.declared.refusal.Refusal.TheVariants.{NoInit, Memory}
 use Rattle.hls_feed.specs.{declared.fault.StreamFault.TheVariants.Core, declared.fault.Untaken.Untaken}
 use Rattle.hls_feed.specs.declared.fault.Untaken.TheVariants as untaken
-use Rattle.hls_serve_laws.specs.Acts.{ActsInVain}
+use Rattle.hls_serve_laws.specs.Acts.{AtMostOne, IsLook, Knowledge}
 use Rattle.hls_serve_laws.specs.Ingest.{Progress, FindsInit, IsTooEarly}
 use Rattle.hls_serve.specs.declared.ingest.Taken.{Taken}
 
@@ -25,7 +25,7 @@ pub record HasInit (s : State) (r : ℕ) (init : InitData) : Type 0 where
   pub init_is : lane.init ≡ Some init
 
 -- what was seen is a state, in which the rendition has the init section that was found, where one was
-pub record IsUsable (r : ℕ) (known : Known) (found : Option InitData) : Type 0 where
+pub record IsUsable (r : ℕ) (known : Knowledge) (found : Option InitData) : Type 0 where
   pub valid : IsState known.seen
   pub has : (init : InitData) → found ≡ Some init → HasInit known.seen r init
 
@@ -33,4 +33,4 @@ pub record IsUsable (r : ℕ) (known : Known) (found : Option InitData) : Type 0
 abbrev pub Finds : ℕ → Progress → Progress → Result (Unit {0}) Untaken → Type 0
 Finds r x y (Ok done) = (y.counts ≡ x.counts) × ((init : InitData) × (y.init ≡ Some init) × FindsInit r x init y.acts)
 Finds r x y (Err (untaken.Refused fault)) = (y.counts ≡ x.counts) × (fault ≡ Core NoInit) × IsTooEarly r x NoInit y.acts
-Finds r x y (Err untaken.Memory) = ActsInVain x.acts y.acts
+Finds r x y (Err untaken.Memory) = AtMostOne IsLook x.acts y.acts

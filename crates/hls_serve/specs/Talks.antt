@@ -1,11 +1,11 @@
 -- For the proofs of this crate; public clauses cite it by the words of visits alone.
 -- A connection, by all that came of it.
 use Rattle.std.specs.Prelude.{◌≡◌, ◌<◌, ℕ, Bool, List, ◌++◌, flat_map, length, take, drop, IsFalse}
-use Rattle.hls_core_laws.specs.{IsState.IsState, Known.Known}
-use Rattle.hls_serve_laws.specs.Acts.{Act, Acted}
+use Rattle.hls_core_laws.specs.{IsState.IsState}
+use Rattle.hls_serve_laws.specs.{Acts.Act, Acts.Acted, Acts.Knowledge, Meanwhile.Meanwhile}
 use Rattle.hls_serve_laws.specs.{Connections.History, Linked.Linked}
 use Rattle.hls_serve.specs.{declared.machine.Machine.Machine, declared.machine.State.State, declared.talk.Talk.Talk, Histories.StaysQuiet}
-use Rattle.hls_serve.specs.Machine.{GoesOnIn, Holds, Rests, SuitsIn, asked_in, total}
+use Rattle.hls_serve.specs.Machine.{GoesOnIn, Holds, Rests, SuitsIn, asked_in, steps_in, total}
 
 -- its machine, whether its input's end was read, what of that is unread, and all that was read and handed out
 pub record Connection : Type 0 where
@@ -53,24 +53,28 @@ WantsMore c = IsFalse c.ended × (length c.machine.output ≡ 0) × GoesOnIn c.m
 abbrev pub RestsAt : Connection → Type 0
 RestsAt c = Rests c.ended c.machine c.unread
 
+-- how many steps it may still make at most, where nothing more comes
+abbrev pub steps_left : Connection → ℕ
+steps_left c = steps_in c.machine.state c.unread
+
 -- ---- its keeper
 
 -- All that the connection asked for links what some keeper knew at first to what it knows; so it knows the init section under which a
 -- body is read.
-pub record IsSuited (known : Known) (count : ℕ) (acts : List Act) (state : State) : Type 0 where
-  pub first : Known
+pub record IsSuited (known : Knowledge) (count : ℕ) (acts : List Act) (state : State) : Type 0 where
+  pub first : Knowledge
   pub valid : IsState first.seen
   pub count_is : count ≡ length first.seen.config.renditions
   pub linked : Linked first acts known
   pub body : SuitsIn known state
 
-abbrev pub IsSuitedTo : Known → Machine → Type 0
+abbrev pub IsSuitedTo : Knowledge → Machine → Type 0
 IsSuitedTo known m = IsSuited known m.renditions (total m) m.state
 
 -- what steps do: nothing is read or handed out, and what holds and suits goes on to
-pub record Advances (a : Known) (old : Connection) (b : Known) (new : Connection) : Type 0 where
+pub record Advances (m : Meanwhile) (a : Knowledge) (old : Connection) (b : Knowledge) (new : Connection) : Type 0 where
   pub suits : IsSuitedTo b new.machine
   pub holds : HoldsOf old → HoldsOf new
-  pub acted : Acted a (total old.machine) b (total new.machine)
+  pub acted : Acted m a (total old.machine) b (total new.machine)
   pub quiet : StaysQuiet (history_of old) (history_of new)
   pub renditions : new.machine.renditions ≡ old.machine.renditions

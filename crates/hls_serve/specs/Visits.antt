@@ -1,6 +1,6 @@
 -- What is told of a visit: all that came of it, and what its keeper has to know.
 use Rattle.std.specs.Prelude.{◌≡◌, ◌<◌, ℕ, List, length, Option}
-use Rattle.hls_core_laws.specs.Known.{Known}
+use Rattle.hls_serve_laws.specs.Acts.{Knowledge}
 use Rattle.hls_serve_laws.specs.Connections.{History, Stage}
 use Rattle.hls_serve_laws.specs.Linked.{Later}
 use Rattle.hls_serve.specs.{declared.machine.State.State, declared.news.News.News, declared.visit.Standing.Standing}
@@ -8,6 +8,7 @@ use Rattle.hls_serve.specs.declared.machine.State.TheVariants as states
 use Rattle.hls_serve.specs.declared.visit.Standing.TheVariants as standings
 use Rattle.hls_serve.specs.{declared.visit.Visit.Visit, Places.connection_of}
 use Rattle.hls_serve.specs.Machine.{failure_in, stage_of}
+use Rattle.hls_serve.specs.Talks as talks
 use Rattle.hls_serve.specs.Talks.{IsSuitedTo, RestsAt, WantsMore, history_of}
 
 abbrev pub history : Visit → History
@@ -27,9 +28,14 @@ renditions_of v = (connection_of v.place).machine.renditions
 abbrev pub WantsRead : Visit → Type 0
 WantsRead v = WantsMore (connection_of v.place)
 
--- nothing more is to be done: something waits, or all is over, or more is to be read and there is room for it
+-- nothing more is to be done: something waits to be handed out, or all is over; or nothing can be done with what is unread, and more is
+-- to be read and there is room for it
 abbrev pub Rests : Visit → Type 0
 Rests v = RestsAt (connection_of v.place)
+
+-- how many steps it may still make at most until it rests, where nothing more comes
+abbrev pub steps_left : Visit → ℕ
+steps_left v = talks.steps_left (connection_of v.place)
 
 -- ---- what it waits for
 
@@ -56,11 +62,11 @@ failure_of v = failure_in (state_of v)
 
 -- The keeper suits the visit: all that it was asked for it was asked in states of which each follows the one that the last act left, up
 -- to what it knows; others may have acted between.
-abbrev pub Suits : Known → Visit → Type 0
+abbrev pub Suits : Knowledge → Visit → Type 0
 Suits known v = IsSuitedTo known (connection_of v.place).machine
 
 -- ---- laws
 
 -- a keeper that others used suits as before
 abbrev pub SuitsLater : Type 0
-SuitsLater = (a b : Known) (v : Visit) → Suits a v → Later a b → Suits b v
+SuitsLater = (a b : Knowledge) (v : Visit) → Suits a v → Later a b → Suits b v

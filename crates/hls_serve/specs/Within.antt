@@ -100,4 +100,5 @@ pub record IsMaking (count : ℕ) (stream first : List ℕ) (m : Making) (unread
 -- its reply, or an answer that is still being made
 abbrev pub AnswersTo : ℕ → List ℕ → List ℕ → Dropping → List Act → List ℕ → Answered → Type 0
 AnswersTo count stream first d acts unread (Now reply) = RepliesTo count stream first acts unread reply.output reply.end
-AnswersTo count stream first d acts unread (Later answer) = IsMaking count stream first (record { dropping = d; acts = acts; answer = answer }) unread
+AnswersTo count stream first d acts unread (Later answer) =
+    IsMaking count stream first (record { dropping = d; acts = acts; answer = answer; parts = 65536 }) unread

@@ -2,10 +2,13 @@
 
 ghost use Rattle.std.specs.Prelude.{◌≡◌, IfOk, [], ◌∷◌, ◌++◌};
 ghost use Rattle.hls_core_laws.specs.Moves.{IsFittingAsSeen};
-ghost use Rattle.hls_serve_laws.specs.Acts.{Acted, Submits};
-ghost use Rattle.hls_serve.specs.Noted.{LookedSo, act_of};
+ghost use Rattle.hls_serve_laws.specs.Acts.{Acted, Adds, LooksSo, Removes, Submits};
+ghost use Rattle.hls_serve_laws.specs.JobTable.{IsAdded};
+ghost use Rattle.hls_catchup_laws.specs.Jobs.Shared.{HasRemoved};
+ghost use Rattle.hls_serve.specs.Noted.{act_of};
 
 use crate::keeper::Keeper;
+use hls_catchup::{JobFault, Request};
 use hls_core::snapshot::Snapshot;
 use hls_core_laws::done::Done;
 use hls_core_laws::event::Event;
@@ -24,6 +27,10 @@ pub(crate) enum Noted {
     LookedInVain,
     /// An event, and what came of it.
     Submitted(Log<Event, ()>, Result<Done, Refusal>),
+    /// A job that was to be added with this state, and what came of that.
+    Added(Log<Arc<Snapshot>, ()>, Request, Result<u64, JobFault>),
+    /// A job that was to be removed, and what came of that.
+    Removed(u64, Result<(), JobFault>),
 }
 
 /// What a keeper was asked, one after the other. A clause sees the list of acts.
@@ -51,40 +58,73 @@ impl Acts {
     }
 
     /// Notes one act more.
-    fn note(&mut self, noted: Noted)
+    pub(crate) fn note(&mut self, noted: Noted)
         ensures { self.new ≡ self.old ++ act_of noted ∷ [] }
     {
         self.notes = self.notes.and(&noted, &());
+    }
+
+    /// Notes a look, by what was shown.
+    pub(crate) fn note_look(&mut self, shown: &Result<Arc<Snapshot>, AllocError>)
+        ensures { LooksSo self.old shown.now self.new }
+    {
+        match shown {
+            Ok(state) => {
+                let note = Log::new().and(state, &());
+                self.note(Noted::Looked(note));
+            }
+            Err(_) => self.note(Noted::LookedInVain),
+        }
     }
 }
 
 /// Looks, and notes what was shown.
 pub fn look<K: Keeper>(keeper: &mut K, acts: &mut Acts) -> Result<Arc<Snapshot>, AllocError>
-    ensures looks { LookedSo acts.old result acts.new }
+    ensures looks { LooksSo acts.old result acts.new }
     ensures seen { IfOk result (λ s. (K.known keeper.new).seen ≡ s.value) }
-    ensures leads { Acted (K.known keeper.old) acts.old (K.known keeper.new) acts.new }
+    ensures leads { Acted K.meanwhile (K.known keeper.old) acts.old (K.known keeper.new) acts.new }
 {
-    match keeper.look() {
-        Ok(state) => {
-            let note = Log::new().and(&state, &());
-            acts.note(Noted::Looked(note));
-            Ok(state)
-        }
-        Err(error) => {
-            acts.note(Noted::LookedInVain);
-            Err(error)
-        }
-    }
+    let shown = keeper.look();
+    acts.note_look(&shown);
+    shown
 }
 
 /// Submits an event, and notes what came of it.
 pub fn submit<K: Keeper>(keeper: &mut K, acts: &mut Acts, event: Event) -> Result<Done, Refusal>
     requires { IsFittingAsSeen (K.known keeper.old).seen event }
     ensures submits { Submits acts.old event result acts.new }
-    ensures leads { Acted (K.known keeper.old) acts.old (K.known keeper.new) acts.new }
+    ensures leads { Acted K.meanwhile (K.known keeper.old) acts.old (K.known keeper.new) acts.new }
 {
     let note = Log::new().and(&event, &());
     let done = keeper.submit(event);
     acts.note(Noted::Submitted(note, done));
     done
+}
+
+/// Adds a job, and notes what came of that.
+pub fn add_job<K: Keeper>(
+    keeper: &mut K,
+    acts: &mut Acts,
+    snapshot: Arc<Snapshot>,
+    request: Request,
+) -> Result<u64, JobFault>
+    ensures adds { Adds acts.old snapshot.value request result acts.new }
+    ensures added { IsAdded snapshot.value request result }
+    ensures leads { Acted K.meanwhile (K.known keeper.old) acts.old (K.known keeper.new) acts.new }
+{
+    let note = Log::new().and(&snapshot, &());
+    let added = keeper.add_job(snapshot, request);
+    acts.note(Noted::Added(note, request, added));
+    added
+}
+
+/// Takes a job away, and notes what came of that.
+pub fn remove_job<K: Keeper>(keeper: &mut K, acts: &mut Acts, id: u64) -> Result<(), JobFault>
+    ensures removes { Removes acts.old id result acts.new }
+    ensures removed { HasRemoved id result }
+    ensures leads { Acted K.meanwhile (K.known keeper.old) acts.old (K.known keeper.new) acts.new }
+{
+    let removed = keeper.remove_job(id);
+    acts.note(Noted::Removed(id, removed));
+    removed
 }

@@ -38,7 +38,7 @@ pub(crate) fn answer_dropped<K: Keeper, O: Observer>(
     requires none { acts.old ≡ [] }
     ensures answers { (count : ℕ) (stream first unread : List ℕ) → IsDropped count stream first dropping.now unread dropped
         → AnswersTo count stream first dropping.now acts.new unread result }
-    ensures leads { Acted (K.known keeper.old) [] (K.known keeper.new) acts.new }
+    ensures leads { Acted K.meanwhile (K.known keeper.old) [] (K.known keeper.new) acts.new }
 {
     let alloc = keeper.alloc();
     let call = &dropping.call;

@@ -1,8 +1,11 @@
 //! A channel kept on one thread, with its jobs.
 
 ghost use Rattle.std.specs.Prelude.{◌≡◌};
-ghost use Rattle.hls_core_laws.specs.Workers.{events_by};
+ghost use Rattle.hls_core_laws.specs.{Known.Submits, Moves.IsFittingAsSeen};
+ghost use Rattle.hls_serve_laws.specs.{Acts.knows, Meanwhile.Met, Meanwhile.Nobody};
+ghost use Rattle.hls_serve.specs.Alone.{known_alone};
 
+use crate::acts::{Acts, Noted};
 use crate::keeper::Keeper;
 use hls_catchup::{Job, JobFault, JobTable, Request};
 use hls_core::snapshot::Snapshot;
@@ -12,6 +15,7 @@ use hls_core_laws::done::Done;
 use hls_core_laws::event::Event;
 use hls_core_laws::refusal::Refusal;
 use hls_replies::{Answer, list_answer};
+use http_server::Log;
 use std::alloc::{AllocError, Global};
 use std::sync::Arc;
 
@@ -27,12 +31,38 @@ pub struct Alone {
     pub number: u16,
     /// The jobs.
     pub jobs: JobTable,
+    /// What it was asked.
+    pub acts: Acts,
+}
+
+/// Lets a state meet an event of the worker of this number, and puts the one that it leads to in its place.
+fn meet(
+    alloc: Global,
+    number: u16,
+    snapshot: &mut Arc<Snapshot>,
+    event: Event,
+) -> Result<Done, Refusal>
+    requires { IsFittingAsSeen snapshot.old.value event }
+    ensures submits { Submits (known_alone number snapshot.old.value) event result (known_alone number snapshot.new.value) }
+    ensures met { Met Nobody (known_alone number snapshot.old.value) event (known_alone number snapshot.new.value) }
+{
+    let version = snapshot.version();
+    match step(snapshot, alloc, number, event) {
+        Ok(Stepped::New(next)) => {
+            *snapshot = next;
+            Ok(Done::New {
+                version: version + 1,
+            })
+        }
+        Ok(Stepped::Repeat) => Ok(Done::Repeat),
+        Err(refusal) => Err(refusal),
+    }
 }
 
 impl Keeper for Alone {
-    ghost known = { λ alone. record { number = alone.number; seen = alone.snapshot.value; mine = events_by alone.number alone.snapshot.value.log } };
+    ghost known = { λ alone. knows (known_alone alone.number alone.snapshot.value) alone.acts };
 
-    ghost meanwhile = { λ a b. b ≡ a };
+    ghost meanwhile = { Nobody };
 
     fn alloc(&self) -> Global {
         self.alloc
@@ -44,7 +74,9 @@ impl Keeper for Alone {
     }
 
     fn look(&mut self) -> Result<Arc<Snapshot>, AllocError> {
-        Ok(Arc::try_clone(&self.snapshot)?)
+        let shown = Arc::try_clone(&self.snapshot);
+        self.acts.note_look(&shown);
+        shown
     }
 
     fn list(&mut self, state: Arc<Snapshot>, rendition: usize) -> Result<Answer, AllocError> {
@@ -52,21 +84,17 @@ impl Keeper for Alone {
     }
 
     fn submit(&mut self, event: Event) -> Result<Done, Refusal> {
-        let version = self.snapshot.version();
-        match step(&self.snapshot, self.alloc, self.number, event) {
-            Ok(Stepped::New(next)) => {
-                self.snapshot = next;
-                Ok(Done::New {
-                    version: version + 1,
-                })
-            }
-            Ok(Stepped::Repeat) => Ok(Done::Repeat),
-            Err(refusal) => Err(refusal),
-        }
+        let note = Log::new().and(&event, &());
+        let done = meet(self.alloc, self.number, &mut self.snapshot, event);
+        self.acts.note(Noted::Submitted(note, done));
+        done
     }
 
     fn add_job(&mut self, snapshot: Arc<Snapshot>, request: Request) -> Result<u64, JobFault> {
-        self.jobs.add(snapshot, request)
+        let note = Log::new().and(&snapshot, &());
+        let added = self.jobs.add(snapshot, request);
+        self.acts.note(Noted::Added(note, request, added));
+        added
     }
 
     fn job(&self, id: u64) -> Result<Job, JobFault> {
@@ -74,7 +102,9 @@ impl Keeper for Alone {
     }
 
     fn remove_job(&mut self, id: u64) -> Result<(), JobFault> {
-        self.jobs.remove(id)
+        let removed = self.jobs.remove(id);
+        self.acts.note(Noted::Removed(id, removed));
+        removed
     }
 
     fn jobs(&self) -> usize {

@@ -7,7 +7,7 @@ ghost use Rattle.hls_serve_laws.specs.Heard as heard;
 ghost use Rattle.hls_serve_laws.specs.Acts.{Acted};
 ghost use Rattle.hls_serve.specs.Calls.{IsResponse, Makes, MakesBy, OfCall, OfCallTo, OfQuery};
 
-use crate::acts::{Acts, look, submit};
+use crate::acts::{Acts, add_job, look, remove_job, submit};
 use crate::call::{Call, Queried};
 use crate::keeper::Keeper;
 use crate::reply::Made;
@@ -28,7 +28,7 @@ use std::alloc::{AllocError, Global};
 
 /// The end of a rendition.
 fn finish<K: Keeper>(keeper: &mut K, acts: &mut Acts, rendition: usize) -> Made
-    ensures leads { Acted (K.known keeper.old) acts.old (K.known keeper.new) acts.new }
+    ensures leads { Acted K.meanwhile (K.known keeper.old) acts.old (K.known keeper.new) acts.new }
     ensures answers { MakesBy (λ a b. Finishes a rendition b) acts.old acts.new result }
 {
     match submit(keeper, acts, Event::Finish { rendition }) {
@@ -51,7 +51,7 @@ fn range_of(call: &Call) -> Asked
 
 /// Adds the job that a query asks the current state for; or replies why it asks for nothing.
 fn add_wanted<K: Keeper>(keeper: &mut K, acts: &mut Acts, query: Query) -> Made
-    ensures leads { Acted (K.known keeper.old) acts.old (K.known keeper.new) acts.new }
+    ensures leads { Acted K.meanwhile (K.known keeper.old) acts.old (K.known keeper.new) acts.new }
     ensures answers { Makes (AsksFor query acts.old acts.new) acts.old acts.new result }
 {
     let state = look(keeper, acts)?;
@@ -59,7 +59,7 @@ fn add_wanted<K: Keeper>(keeper: &mut K, acts: &mut Acts, query: Query) -> Made
         Ok(wanted) => {
             let version = state.version();
             let request = request_for(&state, wanted);
-            let added = keeper.add_job(state, request);
+            let added = add_job(keeper, acts, state, request);
             added_answer(keeper.alloc(), version, added)
         }
         Err(fault) => query_answer(keeper.alloc(), fault),
@@ -68,7 +68,7 @@ fn add_wanted<K: Keeper>(keeper: &mut K, acts: &mut Acts, query: Query) -> Made
 
 /// A catch-up recording is asked for, by a query that was read before.
 fn catch_up<K: Keeper>(keeper: &mut K, acts: &mut Acts, query: Queried) -> Made
-    ensures leads { Acted (K.known keeper.old) acts.old (K.known keeper.new) acts.new }
+    ensures leads { Acted K.meanwhile (K.known keeper.old) acts.old (K.known keeper.new) acts.new }
     ensures answers { OfQuery query (λ asked. MakesBy (CatchesUp asked) acts.old acts.new result) }
 {
     match query {
@@ -94,13 +94,13 @@ fn show_found(alloc: Global, call: &Call, route: Route, id: u64, job: Job) -> Ma
 }
 
 /// By the route of a job, which may be taken away: an unknown job comes first, then a method that the route hasn't.
-fn serve_job<K: Keeper>(keeper: &mut K, call: &Call, route: Route, id: u64) -> Made
+fn serve_job<K: Keeper>(keeper: &mut K, acts: &mut Acts, call: &Call, route: Route, id: u64) -> Made
     requires { heard.job_at route ≡ Some id }
-    ensures known { K.known keeper.new ≡ K.known keeper.old }
-    ensures answers { OfCall call.now (λ h q. IfOk result (λ a. ServesJob q route id a (spec.removes route q.method))) }
+    ensures leads { Acted K.meanwhile (K.known keeper.old) acts.old (K.known keeper.new) acts.new }
+    ensures answers { OfCall call.now (λ h q. MakesBy (λ a b answer. ServesJob q route id a answer b (spec.removes route q.method)) acts.old acts.new result) }
 {
     if removes(route, call.head.method) {
-        let removed = keeper.remove_job(id);
+        let removed = remove_job(keeper, acts, id);
         return removed_answer(keeper.alloc(), removed);
     }
     match keeper.job(id) {
@@ -116,7 +116,7 @@ fn serve<K: Keeper>(keeper: &mut K, acts: &mut Acts, call: &Call, route: Route) 
     requires of_none { heard.job_at route ≡ None }
     requires dropped { spec.feeds (Some route) call.now.head.method ≡ false }
     requires allowed { spec.allows route call.now.head.method ≡ true }
-    ensures leads { Acted (K.known keeper.old) acts.old (K.known keeper.new) acts.new }
+    ensures leads { Acted K.meanwhile (K.known keeper.old) acts.old (K.known keeper.new) acts.new }
     ensures answers { OfCallTo route call.now
         (λ h q. MakesBy (λ a b answer. Serves q route a answer b) acts.old acts.new result) }
 {
@@ -142,12 +142,12 @@ fn serve<K: Keeper>(keeper: &mut K, acts: &mut Acts, call: &Call, route: Route) 
 /// the route hasn't.
 pub fn respond<K: Keeper>(keeper: &mut K, acts: &mut Acts, call: &Call, route: Route) -> Made
     requires { spec.feeds (Some route) call.now.head.method ≡ false }
-    ensures leads { Acted (K.known keeper.old) acts.old (K.known keeper.new) acts.new }
+    ensures leads { Acted K.meanwhile (K.known keeper.old) acts.old (K.known keeper.new) acts.new }
     ensures answers { OfCallTo route call.now
         (λ h q. MakesBy (IsResponse q route) acts.old acts.new result) }
 {
     if let Some(id) = job_at(route) {
-        return serve_job(keeper, call, route, id);
+        return serve_job(keeper, acts, call, route, id);
     }
     if !allows(route, call.head.method) {
         return method_answer(keeper.alloc(), route);

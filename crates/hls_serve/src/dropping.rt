@@ -1,6 +1,7 @@
 //! A body that is dropped.
 
-ghost use Rattle.std.specs.Prelude.{◌≡◌, ◌<◌, length};
+ghost use Rattle.std.specs.Prelude.{◌≡◌, ◌<◌, ◌≤◌, length};
+ghost use Rattle.hls_http_laws.specs.Bodies.{IsOpen};
 ghost use Rattle.hls_serve.specs.declared.next.Next.TheVariants as nexts;
 ghost use Rattle.hls_serve.specs.Within.{DropsFrom};
 
@@ -23,6 +24,9 @@ impl Dropping {
     pub fn step(&mut self, input: &mut Input) -> Next<DropEnd>
         ensures drops { DropsFrom self.old input.old.unread self.new input.new.unread result }
         ensures waits { result ≡ nexts.Wait → length input.new.unread < 16384 }
+        ensures unfinished { result ≡ nexts.Wait → IsOpen self.new.body input.new.unread }
+        ensures takes { result ≡ nexts.More → length input.new.unread < length input.old.unread }
+        ensures less { length input.new.unread ≤ length input.old.unread }
         ensures room { input.new.room ≡ input.old.room }
         ensures call { self.new.call ≡ self.old.call }
         ensures route { self.new.route ≡ self.old.route }

@@ -1,6 +1,7 @@
 //! An encoder's body, taken part by part as it comes.
 
-ghost use Rattle.std.specs.Prelude.{◌≡◌, ◌<◌, length};
+ghost use Rattle.std.specs.Prelude.{◌≡◌, ◌<◌, ◌≤◌, length};
+ghost use Rattle.hls_http_laws.specs.Bodies.{IsOpen};
 ghost use Rattle.hls_serve_laws.specs.Acts.{Acted};
 ghost use Rattle.hls_serve.specs.{Taken.IsUsable, Within.FeedsFrom};
 ghost use Rattle.hls_serve.specs.declared.next.Next.TheVariants as nexts;
@@ -40,7 +41,10 @@ impl Feeding {
         requires usable { IsUsable self.old.rendition (K.known keeper.old) self.old.taken.init }
         ensures usable { IsUsable self.new.rendition (K.known keeper.new) self.new.taken.init }
         ensures waits { result ≡ nexts.Wait → length input.new.unread < 16384 }
-        ensures leads { Acted (K.known keeper.old) self.old.taken.acts (K.known keeper.new) self.new.taken.acts }
+        ensures unfinished { result ≡ nexts.Wait → IsOpen self.new.body input.new.unread }
+        ensures takes { result ≡ nexts.More → length input.new.unread < length input.old.unread }
+        ensures less { length input.new.unread ≤ length input.old.unread }
+        ensures leads { Acted K.meanwhile (K.known keeper.old) self.old.taken.acts (K.known keeper.new) self.new.taken.acts }
         ensures feeds { FeedsFrom self.old input.old.unread self.new input.new.unread result }
         ensures room { input.new.room ≡ input.old.room }
     {

@@ -100,7 +100,7 @@ impl<K: Keeper> Encoder<K> {
     fn take_init(&self, taken: &mut Taken, keeper: &mut K, bytes: Bytes) -> Result<(), Untaken>
         requires usable { IsUsable self.now.rendition (K.known keeper.old) taken.old.init }
         ensures usable { IsUsable self.now.rendition (K.known keeper.new) taken.new.init }
-        ensures leads { Acted (K.known keeper.old) taken.old.acts (K.known keeper.new) taken.new.acts }
+        ensures leads { Acted K.meanwhile (K.known keeper.old) taken.old.acts (K.known keeper.new) taken.new.acts }
         ensures comes { PartComes self.now.rendition (progress_of taken.old) (Part.Init bytes) (progress_of taken.new) result }
     {
         let init = match read_init(keeper.alloc(), &bytes) {
@@ -126,7 +126,7 @@ impl<K: Keeper> Encoder<K> {
     fn find_init(&self, taken: &mut Taken, keeper: &mut K) -> Result<(), Untaken>
         requires usable { IsUsable self.now.rendition (K.known keeper.old) taken.old.init }
         ensures usable { IsUsable self.now.rendition (K.known keeper.new) taken.new.init }
-        ensures leads { Acted (K.known keeper.old) taken.old.acts (K.known keeper.new) taken.new.acts }
+        ensures leads { Acted K.meanwhile (K.known keeper.old) taken.old.acts (K.known keeper.new) taken.new.acts }
         ensures finds { Finds self.now.rendition (progress_of taken.old) (progress_of taken.new) result }
     {
         if taken.init.is_some() {
@@ -149,7 +149,7 @@ impl<K: Keeper> Encoder<K> {
     fn take_unit(&self, taken: &mut Taken, keeper: &mut K, bytes: Bytes) -> Result<(), Untaken>
         requires usable { IsUsable self.now.rendition (K.known keeper.old) taken.old.init }
         ensures usable { IsUsable self.now.rendition (K.known keeper.new) taken.new.init }
-        ensures leads { Acted (K.known keeper.old) taken.old.acts (K.known keeper.new) taken.new.acts }
+        ensures leads { Acted K.meanwhile (K.known keeper.old) taken.old.acts (K.known keeper.new) taken.new.acts }
         ensures comes { PartComes self.now.rendition (progress_of taken.old) (Part.Unit bytes) (progress_of taken.new) result }
     {
         self.find_init(taken, keeper)?;
@@ -189,11 +189,11 @@ impl<K: Keeper> Taker for Encoder<K> {
 
     ghost fits = { λ encoder taken keeper. IsUsable encoder.rendition (K.known keeper) taken.init };
 
-    ghost goes = { λ taken keeper later now. Acted (K.known keeper) taken.acts (K.known now) later.acts };
+    ghost goes = { λ taken keeper later now. Acted K.meanwhile (K.known keeper) taken.acts (K.known now) later.acts };
 
-    ghost stays = { λ taken keeper. acted_none (K.known keeper) taken.acts };
+    ghost stays = { λ taken keeper. acted_none K.meanwhile (K.known keeper) taken.acts };
 
-    ghost goes_on = { λ taken keeper later now last then. acted_on (K.known keeper) (K.known now) (K.known then) taken.acts later.acts last.acts };
+    ghost goes_on = { λ taken keeper later now last then. acted_on K.meanwhile (K.known keeper) (K.known now) (K.known then) taken.acts later.acts last.acts };
 
     ghost comes = { λ encoder. PartComes encoder.rendition };
 

@@ -1,14 +1,14 @@
 //! The steps of a connection, each from one place in its stream to the next. No system call is made, and nobody is waited for but
 //! the keeper.
 
-ghost use Rattle.std.specs.Prelude.{◌≡◌, ◌≢◌, ◌↔◌, ℕ, List, [], ◌++◌, length, Bool, IsFalse, IfNone, IfSome, true, false};
+ghost use Rattle.std.specs.Prelude.{◌≡◌, ◌≢◌, ◌↔◌, ℕ, List, [], ◌++◌, ◌<◌, ◌≤◌, length, Bool, IsTrue, IsFalse, IfNone, IfSome, true, false};
 ghost use Rattle.httparse.specs.Grammar.{RequestHead};
-ghost use Rattle.hls_core_laws.specs.{IsState.IsState, Known.Known};
+ghost use Rattle.hls_core_laws.specs.{IsState.IsState};
 ghost use Rattle.hls_http_laws.specs.Heads.{ReadsSmall};
-ghost use Rattle.hls_serve_laws.specs.{Acts.Acted, Heard.first_of};
+ghost use Rattle.hls_serve_laws.specs.{Acts.Acted, Acts.Knowledge, Heard.first_of};
 ghost use Rattle.hls_serve.specs.declared.machine.State.TheVariants as states;
 ghost use Rattle.hls_serve.specs.declared.next.Next.TheVariants as nexts;
-ghost use Rattle.hls_serve.specs.Machine.{AsksBy, AsksNothing, ComesTo, Goes, GoesOnIn, Rests, RestsIn, Suits, SuitsIn, asked_by, asked_in, asked_now, failure_in, state_behind, step_behind, step_cut, step_to, total, waited_head};
+ghost use Rattle.hls_serve.specs.Machine.{AsksBy, AsksNothing, ComesTo, Goes, GoesOnIn, Rests, Suits, SuitsIn, Turns, asked_by, asked_in, asked_now, failure_in, state_behind, step_behind, step_cut, step_to, steps_in, steps_of, total, waited_head};
 ghost use Rattle.hls_serve.specs.{Calls.IsCall, Within.DropsBody, Within.FeedsFrom};
 
 use crate::acts::Acts;
@@ -34,6 +34,9 @@ use hls_serve_laws::route::Route;
 use http_server::Log;
 use std::alloc::Global;
 use std::mem;
+
+/// How many parts of an answer are made at most, each in a step of its own. What is left then is made with the reply.
+const MOST_PARTS: u32 = 65536;
 
 /// Where a connection stands.
 #[derive(Drop)]
@@ -84,7 +87,8 @@ fn put<T: Drop>(place: &mut T, other: T)
 fn behind(end: Option<Ending>) -> State
     ensures is { result ≡ state_behind end }
     ensures asked { asked_now result ≡ [] }
-    ensures suits { (known : Known) → SuitsIn known result }
+    ensures suits { (known : Knowledge) → SuitsIn known result }
+    ensures few { steps_of result ≤ 1 }
 {
     match end {
         None => State::Head,
@@ -110,7 +114,8 @@ impl Step {
     fn behind(made: Reply, acts: Acts) -> Step
         ensures is { result ≡ step_behind made acts }
         ensures asked { asked_by result ≡ acts }
-        ensures suits { (known : Known) → SuitsIn known result.state }
+        ensures suits { (known : Knowledge) → SuitsIn known result.state }
+        ensures few { steps_of result.state ≤ 1 }
     {
         Step {
             state: behind(made.end),
@@ -150,6 +155,7 @@ fn follow<O: Observer>(alloc: Global, observer: &O, call: Call) -> Step
         → ComesTo count ended states.Head before result unread }
     ensures asks { AsksNothing states.Head result }
     ensures goes_on { result.more ≡ true }
+    ensures few { steps_of result.state ≤ 65539 }
 {
     let plan = plan_of(&call);
     match plan {
@@ -196,7 +202,7 @@ fn head<O: Observer>(
     ensures comes { ComesTo renditions ended states.Head input.old.unread result input.new.unread }
     ensures room { input.new.room ≡ input.old.room }
     ensures asks { AsksNothing states.Head result }
-    ensures rests { IsFalse result.more → RestsIn ended result.state input.new.unread }
+    ensures turns { Turns ended states.Head input.old.unread result.state input.new.unread result.more }
 {
     match find_head(input.unread()) {
         Ok((head, len)) => {
@@ -231,8 +237,8 @@ fn drop_on<K: Keeper, O: Observer>(
     requires { DropsBody dropping }
     ensures comes { (count : ℕ) → ComesTo count ended (states.Drop dropping) input.old.unread result input.new.unread }
     ensures room { input.new.room ≡ input.old.room }
-    ensures asks { AsksBy (K.known keeper.old) (states.Drop dropping) (K.known keeper.new) result }
-    ensures rests { IsFalse result.more → RestsIn ended result.state input.new.unread }
+    ensures asks { AsksBy K.meanwhile (K.known keeper.old) (states.Drop dropping) (K.known keeper.new) result }
+    ensures turns { Turns ended (states.Drop dropping) input.old.unread result.state input.new.unread result.more }
 {
     match dropping.step(input) {
         Next::More => Step::to(State::Drop(dropping), true),
@@ -247,6 +253,7 @@ fn drop_on<K: Keeper, O: Observer>(
                         dropping,
                         acts,
                         answer,
+                        parts: MOST_PARTS,
                     };
                     Step::to(State::Make(making), true)
                 }
@@ -255,18 +262,20 @@ fn drop_on<K: Keeper, O: Observer>(
     }
 }
 
-/// Makes one more part of an answer; replies where none is left, or memory is wanted for one.
+/// Makes one more part of an answer; replies where none is left, memory is wanted for one, or enough were made.
 fn make_on<O: Observer>(making: Making, alloc: Global, observer: &O) -> Step
     ensures comes { (count : ℕ) (ended : Bool) (unread : List ℕ) → ComesTo count ended (states.Make making) unread result unread }
     ensures asks { AsksNothing (states.Make making) result }
     ensures goes_on { result.more ≡ true }
+    ensures lowers { steps_of result.state < steps_of (states.Make making) }
 {
     let Making {
         dropping,
         acts,
         answer,
+        parts,
     } = making;
-    if answer.is_made() {
+    if parts == 0 || answer.is_made() {
         let made = reply_with(alloc, observer, &dropping.call, Ok(answer), false);
         return Step::behind(made, acts);
     }
@@ -276,6 +285,7 @@ fn make_on<O: Observer>(making: Making, alloc: Global, observer: &O) -> Step
                 dropping,
                 acts,
                 answer,
+                parts: parts - 1,
             };
             Step::to(State::Make(making), true)
         }
@@ -309,8 +319,9 @@ fn feed_over<O: Observer>(
     ensures comes { (count : ℕ) (ended : Bool) (old : Feeding) (before unread : List ℕ) → FeedsFrom old before feeding.old unread (nexts.Over fed)
         → ComesTo count ended (states.Feed old) before result unread }
     ensures asked { asked_by result ≡ feeding.old.taken.acts }
-    ensures suits { (known : Known) → SuitsIn known result.state }
+    ensures suits { (known : Knowledge) → SuitsIn known result.state }
     ensures goes_on { result.more ≡ true }
+    ensures few { steps_of result.state ≤ 1 }
 {
     let made = answer_fed(alloc, feeding, fed, observer);
     Step::behind(made, feeding.take_acts())
@@ -330,8 +341,8 @@ fn step_from<K: Keeper, O: Observer>(
     requires other { (feeding : Feeding) → state ≢ states.Feed feeding }
     ensures comes { ComesTo renditions ended state input.old.unread result input.new.unread }
     ensures room { input.new.room ≡ input.old.room }
-    ensures asks { AsksBy (K.known keeper.old) state (K.known keeper.new) result }
-    ensures rests { IsFalse result.more → RestsIn ended result.state input.new.unread }
+    ensures asks { AsksBy K.meanwhile (K.known keeper.old) state (K.known keeper.new) result }
+    ensures turns { Turns ended state input.old.unread result.state input.new.unread result.more }
 {
     match state {
         State::Head => head(renditions, input, ended, keeper.alloc(), observer),
@@ -370,10 +381,11 @@ impl Machine {
         requires other { (feeding : Feeding) → self.old.state ≢ states.Feed feeding }
         ensures goes { Goes ended self.old input.old.unread self.new input.new.unread }
         ensures room { input.new.room ≡ input.old.room }
-        ensures leads { Acted (K.known keeper.old) (total self.old) (K.known keeper.new) (total self.new) }
+        ensures leads { Acted K.meanwhile (K.known keeper.old) (total self.old) (K.known keeper.new) (total self.new) }
         ensures renditions { self.new.renditions ≡ self.old.renditions }
         ensures suits { Suits (K.known keeper.new) self.new }
         ensures rests { IsFalse result → Rests ended self.new input.new.unread }
+        ensures lowers { IsTrue result → steps_in self.new.state input.new.unread < steps_in self.old.state input.old.unread }
     {
         let state = mem::replace(&mut self.state, State::Head);
         let step = step_from(state, self.renditions, input, ended, keeper, observer);
@@ -391,10 +403,11 @@ impl Machine {
         requires suits { Suits (K.known keeper.old) self.old }
         ensures goes { Goes ended self.old input.old.unread self.new input.new.unread }
         ensures room { input.new.room ≡ input.old.room }
-        ensures leads { Acted (K.known keeper.old) (total self.old) (K.known keeper.new) (total self.new) }
+        ensures leads { Acted K.meanwhile (K.known keeper.old) (total self.old) (K.known keeper.new) (total self.new) }
         ensures renditions { self.new.renditions ≡ self.old.renditions }
         ensures suits { Suits (K.known keeper.new) self.new }
         ensures rests { IsFalse result → Rests ended self.new input.new.unread }
+        ensures lowers { IsTrue result → steps_in self.new.state input.new.unread < steps_in self.old.state input.old.unread }
     {
         if !self.output.is_empty() {
             return false;

@@ -11,4 +11,6 @@ pub(crate) struct Making {
     pub dropping: Dropping,
     pub acts: Acts,
     pub answer: Answer,
+    /// How many more parts of it are made before its reply, at most.
+    pub parts: u32,
 }

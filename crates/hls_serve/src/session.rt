@@ -1,6 +1,6 @@
 //! Sessions.
 
-ghost use Rattle.hls_core_laws.specs.Known.{Known};
+ghost use Rattle.hls_serve_laws.specs.{Acts.Knowledge, Meanwhile.Meanwhile};
 ghost use Rattle.hls_http.specs.Source.{held_of};
 ghost use Rattle.hls_serve.specs.{Counted.SessionCounts, Exchanges.Exchanges};
 ghost use Rattle.hls_serve.specs.Moments.{LeadsOn, moment};
@@ -16,7 +16,7 @@ use std::sync::Wait;
 
 /// Writes the next bytes that wait; how the session ends where they can't be written.
 fn hand_out<R: Read, W: Write>(talk: &mut Talk, session: &mut Session<R, W>) -> Option<SessionEnd>
-    ensures { (known : Known) → LeadsOn (moment R.remaining W.contents talk.old session.old known) result
+    ensures { (m : Meanwhile) (known : Knowledge) → LeadsOn m (moment R.remaining W.contents talk.old session.old known) result
         (moment R.remaining W.contents talk.new session.new known) }
 {
     let next = talk.machine.output.chunk();
@@ -35,7 +35,7 @@ fn take_more<O: Observer, R: Read, W: Write>(
     observer: &O,
 ) -> Option<SessionEnd>
     requires wants { WantsMore (connection talk.old (held_of session.old.source)) }
-    ensures { (known : Known) → LeadsOn (moment R.remaining W.contents talk.old session.old known) result
+    ensures { (m : Meanwhile) (known : Knowledge) → LeadsOn m (moment R.remaining W.contents talk.old session.old known) result
         (moment R.remaining W.contents talk.new session.new known) }
 {
     let before = session.source.held().len();
@@ -63,7 +63,7 @@ fn turn<K: Keeper, O: Observer, R: Read, W: Write>(
     observer: &O,
 ) -> Option<SessionEnd>
     requires suits { IsSuitedTo (K.known keeper.old) talk.old.machine }
-    ensures { LeadsOn (moment R.remaining W.contents talk.old session.old (K.known keeper.old)) result
+    ensures { LeadsOn K.meanwhile (moment R.remaining W.contents talk.old session.old (K.known keeper.old)) result
         (moment R.remaining W.contents talk.new session.new (K.known keeper.new)) }
 {
     if talk.advance(&mut session.source.input, keeper, observer) {
@@ -89,7 +89,7 @@ pub fn session_on<K: Keeper, O: Observer, T: Wait, R: Read, W: Write>(
     keeper: &mut K,
     observer: &O,
 ) -> SessionEnd
-    ensures session { Exchanges R.remaining W.contents session.old session.new (K.known keeper.old) (K.known keeper.new) result }
+    ensures session { Exchanges K.meanwhile R.remaining W.contents session.old session.new (K.known keeper.old) (K.known keeper.new) result }
     ensures counts { SessionCounts session.old session.new result }
 {
     let idle = Idle::new(keeper.renditions());

@@ -1,10 +1,11 @@
 //! A thread's place at a channel that many threads share, and the sessions that it serves.
 
-ghost use Rattle.std.specs.Prelude.{◌≡◌};
-ghost use Rattle.hls_core_laws.specs.Follows.{Follows};
+ghost use Rattle.std.specs.Prelude.{◌≡◌, []};
+ghost use Rattle.hls_serve_laws.specs.{Acts.knows, Meanwhile.Others};
 ghost use Rattle.hls_replies.specs.Recent.{IsBehind};
 ghost use Rattle.hls_serve.specs.{Counted.SessionCounts, Exchanges.Exchanges};
 
+use crate::acts::{Acts, Noted};
 use crate::channel::Channel;
 use crate::keeper::Keeper;
 use crate::news::Unobserved;
@@ -17,6 +18,7 @@ use hls_core_laws::refusal::Refusal;
 use hls_http::{Session, SessionEnd};
 use hls_replies::{Answer, RecentLists};
 use hls_turn::Pass;
+use http_server::Log;
 use std::alloc::{AllocError, Global};
 use std::io::{Read, Write};
 use std::sync::{Arc, Wait};
@@ -34,6 +36,8 @@ pub struct Station<'a, T: Wait> {
     pub channel: Channel<'a>,
     /// What it may do with the turn.
     pub pass: Pass,
+    /// What it was asked.
+    pub acts: Acts,
     lists: RecentLists,
     ghost ours: { pass.turn ≡ channel.turn.now },
     ghost listed: { IsBehind lists pass.known.seen },
@@ -43,22 +47,24 @@ impl<'a, T: Wait> Station<'a, T> {
     /// The place of a pass that came with the channel's turn.
     pub fn new(rt: &'a T, alloc: Global, channel: &Channel<'a>, pass: Pass) -> Station<'a, T>
         requires { pass.turn ≡ channel.now.turn.now }
-        ensures { result.pass.known ≡ pass.known }
+        ensures known { result.pass.known ≡ pass.known }
+        ensures acts { result.acts ≡ [] }
     {
         Station {
             rt,
             alloc,
             channel: *channel,
             pass,
+            acts: Acts::none(),
             lists: RecentLists::new(alloc),
         }
     }
 }
 
 impl<'a, T: Wait> Keeper for Station<'a, T> {
-    ghost known = { λ station. station.pass.known };
+    ghost known = { λ station. knows station.pass.known station.acts };
 
-    ghost meanwhile = { Follows };
+    ghost meanwhile = { Others };
 
     fn alloc(&self) -> Global {
         self.alloc
@@ -69,7 +75,10 @@ impl<'a, T: Wait> Keeper for Station<'a, T> {
     }
 
     fn look(&mut self) -> Result<Arc<Snapshot>, AllocError> {
-        self.channel.turn.look(self.rt, self.alloc, &mut self.pass)
+        let turn = self.channel.turn;
+        let shown = turn.look(self.rt, self.alloc, &mut self.pass);
+        self.acts.note_look(&shown);
+        shown
     }
 
     fn list(&mut self, state: Arc<Snapshot>, rendition: usize) -> Result<Answer, AllocError> {
@@ -77,12 +86,18 @@ impl<'a, T: Wait> Keeper for Station<'a, T> {
     }
 
     fn submit(&mut self, event: Event) -> Result<Done, Refusal> {
+        let note = Log::new().and(&event, &());
         let turn = self.channel.turn;
-        turn.submit(self.rt, self.alloc, &mut self.pass, event)
+        let done = turn.submit(self.rt, self.alloc, &mut self.pass, event);
+        self.acts.note(Noted::Submitted(note, done));
+        done
     }
 
     fn add_job(&mut self, snapshot: Arc<Snapshot>, request: Request) -> Result<u64, JobFault> {
-        self.channel.jobs.add(self.rt, snapshot, request)
+        let note = Log::new().and(&snapshot, &());
+        let added = self.channel.jobs.add(self.rt, snapshot, request);
+        self.acts.note(Noted::Added(note, request, added));
+        added
     }
 
     fn job(&self, id: u64) -> Result<Job, JobFault> {
@@ -90,7 +105,9 @@ impl<'a, T: Wait> Keeper for Station<'a, T> {
     }
 
     fn remove_job(&mut self, id: u64) -> Result<(), JobFault> {
-        self.channel.jobs.remove(self.rt, id)
+        let removed = self.channel.jobs.remove(self.rt, id);
+        self.acts.note(Noted::Removed(id, removed));
+        removed
     }
 
     fn jobs(&self) -> usize {
@@ -103,7 +120,8 @@ pub fn serve_session<T: Wait, R: Read, W: Write>(
     session: &mut Session<R, W>,
     station: &mut Station<'_, T>,
 ) -> SessionEnd
-    ensures session { Exchanges R.remaining W.contents session.old session.new station.old.pass.known station.new.pass.known result }
+    ensures session { Exchanges Others R.remaining W.contents session.old session.new
+        (knows station.old.pass.known station.old.acts) (knows station.new.pass.known station.new.acts) result }
     ensures counts { SessionCounts session.old session.new result }
 {
     session_on(station.rt, session, station, &Unobserved)

@@ -1,8 +1,8 @@
 //! A connection but for its input's buffer, with notes of all that came of it. The notes are for proofs alone.
 
-ghost use Rattle.std.specs.Prelude.{◌≡◌, ◌≤◌, ℕ, List, ◌++◌, length, IfOk, IsFalse, OnErr};
+ghost use Rattle.std.specs.Prelude.{◌≡◌, ◌<◌, ◌≤◌, ℕ, List, ◌++◌, length, IfOk, IsTrue, IsFalse, OnErr};
 ghost use Rattle.hls_serve.specs.Histories.{Reads, ReadsInVain};
-ghost use Rattle.hls_serve.specs.Talks.{Advances, HoldsOf, IsSuitedTo, RestsAt, WantsMore, connection, hears, history_of, sends};
+ghost use Rattle.hls_serve.specs.Talks.{Advances, HoldsOf, IsSuitedTo, RestsAt, WantsMore, connection, hears, history_of, sends, steps_left};
 
 use crate::keeper::Keeper;
 use crate::machine::Machine;
@@ -74,9 +74,10 @@ impl Talk {
         observer: &O,
     ) -> bool
         requires suits { IsSuitedTo (K.known keeper.old) self.old.machine }
-        ensures advances { Advances (K.known keeper.old) (connection self.old input.old.unread)
+        ensures advances { Advances K.meanwhile (K.known keeper.old) (connection self.old input.old.unread)
             (K.known keeper.new) (connection self.new input.new.unread) }
         ensures rests { IsFalse result → RestsAt (connection self.new input.new.unread) }
+        ensures lowers { IsTrue result → steps_left (connection self.new input.new.unread) < steps_left (connection self.old input.old.unread) }
         ensures room { input.new.room ≡ input.old.room }
     {
         for _ in 0..MOST_STEPS {

@@ -2,11 +2,11 @@
 
 ghost use Rattle.std.specs.Prelude.{◌≡◌, ◌≤◌, ◌<◌, ◌↔◌, length, IsTrue, IsFalse, IfOk, IfSome, IfNone, OnErr};
 ghost use Rattle.bytes.specs.Unread.{IsChunkOf};
-ghost use Rattle.hls_core_laws.specs.Known.{Known};
+ghost use Rattle.hls_serve_laws.specs.Acts.{Knowledge};
 ghost use Rattle.hls_serve_laws.specs.{Acts.Acted, Linked.Later, Sessions.GoesOn};
 ghost use Rattle.hls_serve_laws.specs.Connections.{IsServed, Over};
 ghost use Rattle.hls_serve.specs.Histories.{Reads, ReadsInVain, StaysQuiet, after_sent, new_history};
-ghost use Rattle.hls_serve.specs.{Places.connection_of, Talks.HoldsOf};
+ghost use Rattle.hls_serve.specs.{Places.connection_of, Talks.HoldsOf, Waits.NeedsMore};
 
 use crate::keeper::Keeper;
 use crate::machine::State;
@@ -52,7 +52,7 @@ pub struct Visit {
 }
 
 impl Visit {
-    ghost use Rattle.hls_serve.specs.Visits.{IsStanding, Rests, Suits, WantsRead, failure_of, history, renditions_of, stage};
+    ghost use Rattle.hls_serve.specs.Visits.{IsStanding, Rests, Suits, WantsRead, failure_of, history, renditions_of, stage, steps_left};
 
     /// A connection to the keeper's channel, of which nothing came yet. It takes no memory.
     pub fn new<K: Keeper>(keeper: &K) -> Visit
@@ -73,7 +73,7 @@ impl Visit {
         ensures err { OnErr result (ReadsInVain (history self.old) (history self.new) (R.remaining reader.old) (R.remaining reader.new)) }
         ensures stage { stage self.new ≡ stage self.old }
         ensures renditions { renditions_of self.new ≡ renditions_of self.old }
-        ensures suits { (known : Known) → Suits known self.old → Suits known self.new }
+        ensures suits { (known : Knowledge) → Suits known self.old → Suits known self.new }
     {
         self.place.wake(self.alloc)?;
         let Place::Busy(busy) = &mut self.place else {
@@ -95,8 +95,9 @@ impl Visit {
         requires suits { Suits (K.known keeper.old) self.old }
         ensures suits { Suits (K.known keeper.new) self.new }
         ensures later { Later (K.known keeper.old) (K.known keeper.new) }
-        ensures acts { Acted (K.known keeper.old) (history self.old).acts (K.known keeper.new) (history self.new).acts }
+        ensures acts { Acted K.meanwhile (K.known keeper.old) (history self.old).acts (K.known keeper.new) (history self.new).acts }
         ensures rests { IsFalse result → Rests self.new }
+        ensures progress { IsTrue result → steps_left self.new < steps_left self.old }
         ensures quiet { StaysQuiet (history self.old) (history self.new) }
         ensures renditions { renditions_of self.new ≡ renditions_of self.old }
     {
@@ -126,7 +127,7 @@ impl Visit {
         ensures history { history self.new ≡ after_sent (history self.old) count }
         ensures stage { stage self.new ≡ stage self.old }
         ensures renditions { renditions_of self.new ≡ renditions_of self.old }
-        ensures suits { (known : Known) → Suits known self.old → Suits known self.new }
+        ensures suits { (known : Knowledge) → Suits known self.old → Suits known self.new }
     {
         self.place.sent(count);
     }
@@ -204,5 +205,14 @@ impl Visit {
     /// A law: what was received is answered in order, and what was handed out and waits are the replies.
     pub fn served(&self)
         ensures { ∥ IsServed (renditions_of self.now) (stage self.now) (history self.now) ∥₁ }
+    {}
+
+    /// A law: one that rests though it isn't over and nothing waits to be handed out needs more of its stream, which hasn't ended.
+    pub fn needs_more(&self)
+        requires rests { Rests self.now }
+        requires nothing { length (history self.now).pending ≡ 0 }
+        requires goes_on { GoesOn (stage self.now) }
+        ensures unended { IsFalse (history self.now).ended }
+        ensures needs { ∥ NeedsMore (renditions_of self.now) (stage self.now) (history self.now) ∥₁ }
     {}
 }

@@ -22,7 +22,7 @@ use Rattle.hls_serve_laws.specs.declared.ingest.Intake.TheVariants as came
 use Rattle.hls_serve_laws.specs.{declared.query.QueryFault.TheVariants.BadQuery, Faults.status_of}
 use Rattle.hls_serve_laws.specs.declared.route.Route.TheVariants as routes
 use Rattle.hls_catchup_laws.specs.Jobs.Shared.{HasCounted, HasRemoved}
-use Rattle.hls_serve_laws.specs.Acts.{Act, ActsInVain, Looks, Submits}
+use Rattle.hls_serve_laws.specs.Acts.{Act, ActsInVain, Adds, Looks, Removes, Submits}
 use Rattle.hls_serve_laws.specs.Ingest.{BodyComes, Progress, Stops, counts_text}
 use Rattle.hls_serve_laws.specs.JobTable.{IsAdded, IsTold}
 use Rattle.hls_serve_laws.specs.Playlists.{live_master_text, live_text}
@@ -58,7 +58,7 @@ abbrev pub range_for : Bool → Asked → Asked
 range_for to_head range = cond to_head asks.All range
 
 -- ---- acts on the channel: at most one look or one event for each request that isn't an encoder's body. `a` is what was asked before
--- it, and `b` what was asked up to its end
+-- it, and `b` what was asked up to its end: no case allows more than it names
 
 -- the state that is seen is replied
 abbrev pub ShowsState : List Act → List Act → (State → Answer) → Answer → Type 0
@@ -68,24 +68,26 @@ ShowsState a b shown answer = (s : State) × Looks a s b × (answer ≡ shown s)
 abbrev pub Finishes : List Act → ℕ → List Act → Answer → Type 0
 Finishes a r b answer = (done : Result Done Refusal) × Submits a (Finish r) done b × (done ≢ Err Memory) × (answer ≡ finish_answer done)
 
--- ---- acts on the table of jobs: one for each request
+-- ---- acts on the table of jobs: one addition where a recording is asked for, one removal where a job is deleted, and no other
 
 -- a job is added with a state, and what came of that is replied
-pub record AddsJob (s : State) (wanted : Wanted) (answer : Answer) : Type 0 where
+pub record AddsJob (s : State) (wanted : Wanted) (a b : List Act) (answer : Answer) : Type 0 where
   pub result : Result ℕ JobFault
+  pub asked : Adds a s (request_for s wanted) result b
   pub adds : IsAdded s (request_for s wanted) result
   pub answer_is : answer ≡ added_answer (length s.log) result
 
 -- a query that asks for nothing comes before a full table
-abbrev pub AddsWanted : State → Result Wanted QueryFault → Answer → Type 0
-AddsWanted s (Err fault) answer = answer ≡ query_answer fault
-AddsWanted s (Ok wanted) answer = AddsJob s wanted answer
+abbrev pub AddsWanted : State → Result Wanted QueryFault → List Act → List Act → Answer → Type 0
+AddsWanted s (Err fault) a b answer = (b ≡ a) × (answer ≡ query_answer fault)
+AddsWanted s (Ok wanted) a b answer = AddsJob s wanted a b answer
 
 -- by the epoch of the state that is seen, which is every state's of the channel
 pub record AsksFor (query : Query) (a b : List Act) (answer : Answer) : Type 0 where
   pub state : State
-  pub looks : Looks a state b
-  pub adds : AddsWanted state (wanted_of state.config.epoch query) answer
+  pub looked : List Act
+  pub looks : Looks a state looked
+  pub adds : AddsWanted state (wanted_of state.config.epoch query) looked b answer
 
 -- what isn't a query in any channel needs no look
 abbrev pub CatchesUp : Option Query → List Act → List Act → Answer → Type 0
@@ -112,9 +114,16 @@ abbrev pub shown_if : Asks → Route → Bool → Job → Option Answer
 shown_if q route true job = shown_at q route job
 shown_if q route false job = Some (method_answer route)
 
-abbrev pub ServesJob : Asks → Route → ℕ → Answer → Bool → Type 0
-ServesJob q route id answer true = (gone : Result (Unit {0}) JobFault) × HasRemoved id gone × (answer ≡ removed_answer gone)
-ServesJob q route id answer false = ShowsJob id (shown_if q route (allows route q.method)) answer
+-- that job is removed and no other, and what came of that is replied
+pub record RemovesJob (id : ℕ) (a b : List Act) (answer : Answer) : Type 0 where
+  pub gone : Result (Unit {0}) JobFault
+  pub asked : Removes a id gone b
+  pub removes : HasRemoved id gone
+  pub answer_is : answer ≡ removed_answer gone
+
+abbrev pub ServesJob : Asks → Route → ℕ → List Act → Answer → List Act → Bool → Type 0
+ServesJob q route id a answer b true = RemovesJob id a b answer
+ServesJob q route id a answer b false = (b ≡ a) × ShowsJob id (shown_if q route (allows route q.method)) answer
 
 -- ---- by the route
 
@@ -140,7 +149,7 @@ job_at route = None
 
 -- an unknown job comes before a method that the route hasn't
 abbrev pub ServesBy : Asks → Route → List Act → Answer → List Act → Option ℕ → Type 0
-ServesBy q route a answer b (Some id) = (b ≡ a) × ServesJob q route id answer (removes route q.method)
+ServesBy q route a answer b (Some id) = ServesJob q route id a answer b (removes route q.method)
 ServesBy q route a answer b None = ServesAllowed q route a answer b (allows route q.method)
 
 -- the answer to a request, or want of memory for one

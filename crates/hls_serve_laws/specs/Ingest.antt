@@ -19,7 +19,7 @@ use Rattle.hls_http_laws.specs.Bodies.{IsBroken, IsOpen}
 use Rattle.hls_http_laws.specs.declared.end.BodyEnd.TheVariants as bodies
 use Rattle.hls_serve_laws.specs.declared.ingest.Counts.{Counts}
 use Rattle.hls_serve_laws.specs.declared.ingest.Intake.TheVariants as came
-use Rattle.hls_serve_laws.specs.Acts.{Act, ActsInVain, Looks, Submits}
+use Rattle.hls_serve_laws.specs.Acts.{Act, Looks, LooksAndSubmitsInVain, Submits}
 use Rattle.hls_serve_laws.specs.Types.{StreamFault, Refusal, State, Done, Body, BodyEnd, Intake}
 
 -- ---- counts
@@ -120,11 +120,11 @@ abbrev pub Refuses : ℕ → Progress → Part → StreamFault → List Act → 
 Refuses r x (parts.Init bytes) fault z = RefusesInit r x.acts bytes fault z
 Refuses r x (parts.Unit bytes) fault z = RefusesUnit r x bytes fault z
 
--- what one part comes to: it is taken, or refused; where memory is wanted nothing comes of it
+-- what one part comes to: it is taken, or refused; where memory is wanted nothing comes of it, behind one look and one event at most
 abbrev pub PartComes : ℕ → Progress → Part → Progress → Result (Unit {0}) Untaken → Type 0
 PartComes r x part y (Ok taken) = Takes r x part y
 PartComes r x part y (Err (untaken.Refused fault)) = Refuses r x part fault y.acts × (y.counts ≡ x.counts)
-PartComes r x part y (Err untaken.Memory) = ActsInVain x.acts y.acts
+PartComes r x part y (Err untaken.Memory) = LooksAndSubmitsInVain x.acts y.acts
 
 -- ---- a body, by the whole of its content
 

@@ -7,6 +7,7 @@ pub mod JobReplies
 pub mod JobTable
 pub mod Laws
 pub mod Linked
+pub mod Meanwhile
 pub mod Playlists
 pub mod Queries
 pub mod Replies

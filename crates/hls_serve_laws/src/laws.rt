@@ -28,7 +28,7 @@ pub fn requests_are_read()
 {}
 
 /// Acts that lead on from one another link to those of the same connection before, whatever others did between.
-#[tactic(auto, using(crate::proofs::Linking::linked_acted, crate::proofs::Linking::linked_later))]
+#[tactic(auto, using(crate::proofs::Linking::linked_later))]
 pub fn acts_link()
     ensures link { ActsLink }
     ensures stay { LinksStay }

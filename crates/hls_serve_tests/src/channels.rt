@@ -7,6 +7,7 @@ use hls_catchup::{JobFault, JobTable, run_job};
 use hls_core::config::Config;
 use hls_core::snapshot::Snapshot;
 use hls_core_laws::rendition::Rendition;
+use hls_serve::acts::Acts;
 use hls_serve::alone::Alone;
 use std::alloc::{AllocError, Global};
 use std::sync::Arc;
@@ -40,6 +41,7 @@ pub fn owned(alloc: Global, snapshot: Snapshot) -> Result<Alone, AllocError>
         snapshot: Arc::new(alloc, snapshot)?,
         number: 0,
         jobs: JobTable::new(alloc)?,
+        acts: Acts::none(),
     })
 }
 

@@ -1,9 +1,7 @@
-use Rattle.hls_serve_laws.specs.Acts.{Looked, LookedInVain}
-use Rattle.hls_serve.proofs.PassLaws.{acted_one}
+use Rattle.hls_serve.proofs.PassLaws.{acted_looked}
 use Rattle.hls_serve.proofs.acts.look.Goals as goal
 
-pub returns-in-Ok-clause-leads : goal.returns-in-Ok-clause-leads
-returns-in-Ok-clause-leads g c = acted_one _ _ _ _ (Looked c.in-Ok.state.value) c.in-Ok.ensures.looks (rw (c.and-note.ensures, c.new.ensures) at c.note.ensures)
-
-pub returns-in-Err-clause-leads : goal.returns-in-Err-clause-leads
-returns-in-Err-clause-leads g c = acted_one _ _ _ _ LookedInVain c.look.ensures.looked c.note-in-Err.ensures
+pub returns-clause-leads : goal.returns-clause-leads
+returns-clause-leads g c =
+    acted_looked g.K.Keeper.meanwhile (g.K.Keeper.known c.args.keeper.now) (g.K.Keeper.known c.look-shown.new.self) c.args.acts.now c.note_look.new.self c.look-shown.result
+    c.look-shown.ensures.looked c.look-shown.ensures.looks c.look-shown.ensures.meanwhile c.look-shown.ensures.asked c.note_look.ensures

@@ -4,4 +4,6 @@ use Rattle.hls_serve.proofs.acts.submit.Goals as goal
 
 pub returns-clause-leads : goal.returns-clause-leads
 returns-clause-leads g c =
-    acted_one _ _ _ _ (Submitted c.args.event c.submit-done.result) (c.requires, c.submit-done.ensures.submits) (rw (c.and-note.ensures, c.new.ensures) at c.note.ensures)
+    let done = c.submit-done.ensures in
+    acted_one _ _ _ _ _ (Submitted c.args.event c.submit-done.result) (record { asked = done.asked; does = (c.requires, done.submits) }) done.met
+    (rw (c.and-note.ensures, c.new.ensures) at c.note.ensures)

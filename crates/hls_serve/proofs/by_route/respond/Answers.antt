@@ -6,7 +6,7 @@ use Rattle.hls_serve.proofs.by_route.respond.Goals as goal
 
 pub returns-in-Some-clause-answers : goal.returns-in-Some-clause-answers
 returns-in-Some-clause-answers g c = λ count h call there.
-    job_made (asks_of count h) c.args.route c.in-Some.id c.args.acts.now c.serve_job.result (sym c.job_at.ensures ∙ c.in-Some.is) (c.serve_job.ensures.answers count h call)
+    job_made (asks_of count h) c.args.route c.in-Some.id c.args.acts.now c.serve_job.new.acts c.serve_job.result (sym c.job_at.ensures ∙ c.in-Some.is) (c.serve_job.ensures.answers count h call)
 
 pub returns-clause-answers : goal.returns-clause-answers
 returns-clause-answers g c = λ count h call there.

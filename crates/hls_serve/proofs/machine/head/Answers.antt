@@ -1,8 +1,8 @@
-use Rattle.std.proofs.Common.{◌==◌, ◌∙◌, inl, inr, List, [], ℕ, length, refl, sym, ap, subst}
+use Rattle.std.proofs.Common.{◌==◌, ◌∙◌, inl, inr, List, [], ℕ, length, refl, sym, ap, subst, arith}
 use Rattle.hls_http_laws.specs.declared.fault.HttpFault.TheVariants.{BadHead, HeadTooLarge}
 use Rattle.hls_http_laws.specs.Heads.{ReadsSmall}
 use Rattle.hls_http.specs.{Heads.IsHead, Texts.Texts}
-use Rattle.hls_serve.proofs.HoldLaws.{head_refused, head_waits, stays}
+use Rattle.hls_serve.proofs.HoldLaws.{head_refused, head_takes, head_waits, refused_last, stays, turns_off, turns_on, waits}
 use Rattle.hls_serve.proofs.machine.head.Goals as goal
 
 pub returns-in-Ok-clause-comes : goal.returns-in-Ok-clause-comes
@@ -32,3 +32,22 @@ returns-in-Err-Partial-clause-comes g c = λ received sent asked h.
     let unfinished = rw (c.in-Err-Partial.field-0-is, c.unread.ensures.unread) at c.in-Err-Partial.ensures in
     rw c.wait_head.ensures (stays [] unread h h.stands.1 refl
     (head_waits c.is_empty.result c.args.ended c.args.renditions h.rest h.text unread (sym empty) unfinished (h.stands.0, refl, h.stands.2)))
+
+pub returns-in-Ok-clause-turns : goal.returns-in-Ok-clause-turns
+returns-in-Ok-clause-turns g c =
+    let unread = c.args.input.now.unread in
+    let found = rw c.unread.ensures.unread at c.in-Ok.ensures in
+    let gone = ap (λ (t : Texts). t.unread) c.take.ensures in
+    let reads = subst (λ (t : List ℕ). ReadsSmall unread found.1.tree t) (sym gone) found.1.reads in
+    turns_on c.follow.ensures.goes_on (omega (arith, c.follow.ensures.few, head_takes unread found.1.tree c.take.new.self.unread reads))
+
+pub returns-in-Err-Hopeless-clause-turns : goal.returns-in-Err-Hopeless-clause-turns
+returns-in-Err-Hopeless-clause-turns g c = rw c.behind.ensures.is (turns_on refl (omega (arith, refused_last BadHead c.refuse_head-made.ensures)))
+
+pub returns-in-Err-TooLarge-clause-turns : goal.returns-in-Err-TooLarge-clause-turns
+returns-in-Err-TooLarge-clause-turns g c = rw c.behind-in-Err-TooLarge.ensures.is (turns_on refl (omega (arith, refused_last HeadTooLarge c.refuse_head-made-in-Err-TooLarge.ensures)))
+
+pub returns-in-Err-Partial-clause-turns : goal.returns-in-Err-Partial-clause-turns
+returns-in-Err-Partial-clause-turns g c =
+    let unfinished = rw (c.in-Err-Partial.field-0-is, c.unread.ensures.unread) at c.in-Err-Partial.ensures in
+    rw c.wait_head.ensures (turns_off refl (waits c.is_empty.result c.args.ended c.args.input.now.unread unfinished))

@@ -4,11 +4,11 @@ use Rattle.hls_serve.proofs.SessionLaws.{ended_unwritten, led_sends}
 use Rattle.hls_serve.proofs.session.hand_out.Goals as goal
 
 pub returns-then-not-write_whole : goal.returns-then-not-write_whole
-returns-then-not-write_whole g c = λ known first led.
+returns-then-not-write_whole g c = λ m known first led.
     let w = c.if-not-write_whole.ensures in
     ended_unwritten c.chunk-next.result.now (g.W.Write.contents (inside_of c.write_whole.new.output)) (failures_of c.write_whole.new.output) c.chunk-next.ensures w.writes w.counts led
 
 pub returns : goal.returns
-returns g c = λ known first led.
+returns g c = λ m known first led.
     let w = c.if-not-write_whole.ensures in
     led_sends c.chunk-next.result.now (c.sent.ensures (held_of c.args.session.now.source)) c.chunk-next.ensures w.writes w.counts led

@@ -13,7 +13,7 @@ loop-init g c =
     record {
       can_next = tt;
       is_finite = tt;
-      led = led_first (moment g.R.Read.remaining g.W.Write.contents c.hear.new.self session (g.K.Keeper.known c.args.keeper.now)) c.new-idle.result c.new-idle.ensures.fresh heard
+      led = led_first _ (moment g.R.Read.remaining g.W.Write.contents c.hear.new.self session (g.K.Keeper.known c.args.keeper.now)) c.new-idle.result c.new-idle.ensures.fresh heard
           c.renditions.ensures.valid (c.new-idle.ensures.renditions ∙ c.renditions.ensures.count);
     }
 

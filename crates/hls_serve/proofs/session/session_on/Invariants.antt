@@ -7,5 +7,5 @@ invariant-loop g l =
     record {
       can_next : (goal.iterator-loop g).can_next l.iterator';
       is_finite : (goal.iterator-loop g).is_finite l.iterator';
-      led : Led (at l.initial.talk l.initial.session (g.K.Keeper.known l.initial.keeper)) (at l.talk l.session (g.K.Keeper.known l.keeper));
+      led : Led g.K.Keeper.meanwhile (at l.initial.talk l.initial.session (g.K.Keeper.known l.initial.keeper)) (at l.talk l.session (g.K.Keeper.known l.keeper));
     }

@@ -10,13 +10,13 @@ pub returns-then-advance : goal.returns-then-advance
 returns-then-advance g c = λ first led. led_advances led c.advance.ensures.advances
 
 pub returns-then-not-is_empty : goal.returns-then-not-is_empty
-returns-then-not-is_empty g c = λ first led. c.hand_out.ensures (g.K.Keeper.known c.advance.new.keeper) first (led_advances led c.advance.ensures.advances)
+returns-then-not-is_empty g c = λ first led. c.hand_out.ensures g.K.Keeper.meanwhile (g.K.Keeper.known c.advance.new.keeper) first (led_advances led c.advance.ensures.advances)
 
 pub returns-in-Some : goal.returns-in-Some
 returns-in-Some g c = λ first led.
     let now = moment g.R.Read.remaining g.W.Write.contents c.advance.new.self c.args.session.now (g.K.Keeper.known c.advance.new.keeper) in
     let empty = eqb-true (length c.advance.new.self.machine.output) 0 (sym c.if-not-is_empty.ensures) in
-    subst (λ (end : SessionEnd). Ended first now end) (sym c.end.ensures)
+    subst (λ (end : SessionEnd). Ended g.K.Keeper.meanwhile first now end) (sym c.end.ensures)
     (ended_itself c.in-Some.end c.in-Some.ensures.over empty (led_advances led c.advance.ensures.advances))
 
 pub take_more-requires : goal.take_more-requires
@@ -28,4 +28,4 @@ take_more-requires g c =
     }
 
 pub returns : goal.returns
-returns g c = λ first led. c.take_more.ensures (g.K.Keeper.known c.advance.new.keeper) first (led_advances led c.advance.ensures.advances)
+returns g c = λ first led. c.take_more.ensures g.K.Keeper.meanwhile (g.K.Keeper.known c.advance.new.keeper) first (led_advances led c.advance.ensures.advances)

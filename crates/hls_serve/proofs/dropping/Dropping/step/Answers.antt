@@ -29,3 +29,6 @@ returns-in-Err-Wait-clause-waits c = λ is. (rw (c.in-Err-Wait.field-0-is, c.unr
 
 pub returns-in-Err-Wait-clause-drops : goal.returns-in-Err-Wait-clause-drops
 returns-in-Err-Wait-clause-drops c = λ count stream first x. (x, (rw (c.in-Err-Wait.field-0-is, c.unread.ensures.unread) at c.in-Err-Wait.ensures).1)
+
+pub returns-in-Err-Wait-clause-unfinished : goal.returns-in-Err-Wait-clause-unfinished
+returns-in-Err-Wait-clause-unfinished c = λ is. (rw (c.in-Err-Wait.field-0-is, c.unread.ensures.unread) at c.in-Err-Wait.ensures).1

@@ -12,16 +12,16 @@ submit-requires g c =
     fits_unit c.args.self.now.rendition (g.K.Keeper.known c.find_init.new.keeper) c.find_init.new.taken.init c.in-Some.init c.in-Ok.facts c.args.bytes c.find_init.ensures.usable found is
 
 pub returns-in-Ok-submit-clause-usable : goal.returns-in-Ok-submit-clause-usable
-returns-in-Ok-submit-clause-usable g c = usable_acted _ _ _ _ _ _ c.submit.ensures.leads c.find_init.ensures.usable
+returns-in-Ok-submit-clause-usable g c = usable_acted _ _ _ _ _ _ _ c.submit.ensures.leads c.find_init.ensures.usable
 
 pub returns-in-Err-submit-clause-usable : goal.returns-in-Err-submit-clause-usable
-returns-in-Err-submit-clause-usable g c = usable_acted _ _ _ _ _ _ c.submit.ensures.leads c.find_init.ensures.usable
+returns-in-Err-submit-clause-usable g c = usable_acted _ _ _ _ _ _ _ c.submit.ensures.leads c.find_init.ensures.usable
 
 pub returns-in-Ok-submit-clause-leads : goal.returns-in-Ok-submit-clause-leads
-returns-in-Ok-submit-clause-leads g c = acted_on _ _ _ _ _ _ c.find_init.ensures.leads c.submit.ensures.leads
+returns-in-Ok-submit-clause-leads g c = acted_on _ _ _ _ _ _ _ c.find_init.ensures.leads c.submit.ensures.leads
 
 pub returns-in-Err-submit-clause-leads : goal.returns-in-Err-submit-clause-leads
-returns-in-Err-submit-clause-leads g c = acted_on _ _ _ _ _ _ c.find_init.ensures.leads c.submit.ensures.leads
+returns-in-Err-submit-clause-leads g c = acted_on _ _ _ _ _ _ _ c.find_init.ensures.leads c.submit.ensures.leads
 
 pub returns-in-Err-submit-clause-comes : goal.returns-in-Err-submit-clause-comes
 returns-in-Err-submit-clause-comes g c =

@@ -35,11 +35,11 @@ returns-in-Wait-clause-leads g c =
     let step = c.cut_short-step.result in
     let acts = ap (λ (s : Step). s.acts) c.cut_short-step.ensures in
     let all = ap (λ (t : List Act). t ++ []) (c.go.ensures.asked ∙ ap (λ (t : List Act). asked_in m ++ t) acts) ∙ append-nil _ in
-    rw (c.go.ensures.state, c.cut_short-step.ensures, c.in-Feed.is) (acted_behind (asked_in m) _ _ _ all c.step.ensures.leads)
+    rw (c.go.ensures.state, c.cut_short-step.ensures, c.in-Feed.is) (acted_behind _ (asked_in m) _ _ _ all c.step.ensures.leads)
 
 pub returns-in-Wait-clause-suits : goal.returns-in-Wait-clause-suits
 returns-in-Wait-clause-suits g c =
-    ((acted_follows _ _ _ _ c.requires.suits.0 c.step.ensures.leads).0, rw (c.go.ensures.state, c.cut_short-step.ensures) tt)
+    ((acted_follows _ _ _ _ _ c.requires.suits.0 c.step.ensures.leads).0, rw (c.go.ensures.state, c.cut_short-step.ensures) tt)
 
 pub returns-in-Over-clause-goes : goal.returns-in-Over-clause-goes
 returns-in-Over-clause-goes g c = λ received sent h.
@@ -55,8 +55,8 @@ returns-in-Over-clause-leads g c =
     let step = c.feed_over-step.result in
     let all = ap (λ (t : List Act). t ++ asked_now step.state) c.go-in-Over.ensures.asked ∙ append_assoc (asked_in m) step.acts (asked_now step.state)
     ∙ ap (λ (t : List Act). asked_in m ++ t) c.feed_over-step.ensures.asked in
-    rw (c.go-in-Over.ensures.state, c.in-Feed.is) (acted_behind (asked_in m) _ _ _ all c.step.ensures.leads)
+    rw (c.go-in-Over.ensures.state, c.in-Feed.is) (acted_behind _ (asked_in m) _ _ _ all c.step.ensures.leads)
 
 pub returns-in-Over-clause-suits : goal.returns-in-Over-clause-suits
 returns-in-Over-clause-suits g c =
-    ((acted_follows _ _ _ _ c.requires.suits.0 c.step.ensures.leads).0, rw c.go-in-Over.ensures.state (c.feed_over-step.ensures.suits _))
+    ((acted_follows _ _ _ _ _ c.requires.suits.0 c.step.ensures.leads).0, rw c.go-in-Over.ensures.state (c.feed_over-step.ensures.suits _))

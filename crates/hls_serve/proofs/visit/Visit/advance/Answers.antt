@@ -1,5 +1,5 @@
 use Rattle.std.proofs.Math.Logic.{∥∥₁_map}
-use Rattle.hls_serve_laws.proofs.Callers.{acted_follows}
+use Rattle.hls_serve_laws.proofs.Callers.{acted_follows, later_itself}
 use Rattle.hls_serve.proofs.TalkLaws.{suited_valid}
 use Rattle.hls_serve.proofs.visit.Visit.advance.Goals as goal
 
@@ -12,4 +12,7 @@ invariant_of-self-2 g c = record {
 
 pub returns-clause-later : goal.returns-clause-later
 returns-clause-later g c =
-    (acted_follows (g.K.Keeper.known c.args.keeper.now) (g.K.Keeper.known c.advance-more.new.keeper) _ _ (suited_valid c.requires.suits) c.advance-more.ensures.advances.acted).1
+    (acted_follows _ (g.K.Keeper.known c.args.keeper.now) (g.K.Keeper.known c.advance-more.new.keeper) _ _ (suited_valid c.requires.suits) c.advance-more.ensures.advances.acted).1
+
+pub returns-in_default-clause-later : goal.returns-in_default-clause-later
+returns-in_default-clause-later g c = later_itself (g.K.Keeper.known c.args.keeper.now)

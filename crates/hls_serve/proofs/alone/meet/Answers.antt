@@ -1,11 +1,11 @@
 use Rattle.std.proofs.Common.{inl, refl}
 use Rattle.hls_core_laws.specs.Outcome.{Refused, Repeated}
-use Rattle.hls_serve.proofs.alone.AloneKeeper.submit.Goals as goal
+use Rattle.hls_serve.proofs.alone.meet.Goals as goal
 
 pub returns-in-Err-clause-submits : goal.returns-in-Err-clause-submits
 returns-in-Err-clause-submits c = record {
   number = refl;
-  met = c.args.self.now.snapshot.value;
+  met = c.args.snapshot.now.value;
   outcome = Refused c.in-Err.refusal;
   follows = inl refl;
   entries = refl;
@@ -15,7 +15,7 @@ returns-in-Err-clause-submits c = record {
 
 pub returns-in-Err-clause-met : goal.returns-in-Err-clause-met
 returns-in-Err-clause-met c = record {
-  met = c.args.self.now.snapshot.value;
+  met = c.args.snapshot.now.value;
   outcome = Refused c.in-Err.refusal;
   between = refl;
   moves = rw c.deref-2.ensures at c.in-Err.ensures;
@@ -24,7 +24,7 @@ returns-in-Err-clause-met c = record {
 pub returns-in-Ok-Repeat-clause-submits : goal.returns-in-Ok-Repeat-clause-submits
 returns-in-Ok-Repeat-clause-submits c = record {
   number = refl;
-  met = c.args.self.now.snapshot.value;
+  met = c.args.snapshot.now.value;
   outcome = Repeated;
   follows = inl refl;
   entries = refl;
