@@ -35,7 +35,8 @@ use hls_commands::{CheckEnd, CutEnd, CutFault, LintEnd, run_check, run_cut, run_
 use hls_io::Counted;
 use hls_origin_listing::ListFault;
 use hls_refusals::{ExplainEnd, MEANINGS, run_explain};
-use std::io::Eprint;
+use hls_settings::{Shown, Wrong};
+use std::io::{Eprint, ErrorKind};
 use std::net::{Net, TcpListener, TcpStream};
 use std::process::ExitCode;
 use std::rt::{Env, Files};
@@ -52,6 +53,10 @@ const USAGE: &str =
        hls_origin explain [NAME]
        hls_origin serve [OPTIONS] ADDRESS SPEC..
        hls_origin --help | --version
+";
+
+/// How `serve` is used: its own line of the usage alone, so that the line that is wrong stays among the last ones of a journal.
+const SERVE_USAGE: &str = "usage: hls_origin serve [OPTIONS] ADDRESS SPEC..
 ";
 
 const HELP: &str = "
@@ -90,11 +95,12 @@ may follow check or lint.
 An example: a channel of one rendition, one encoder, one player.
   hls_origin serve 127.0.0.1:8080 v720:video:3000000:0 &
   ffmpeg -nostdin -re -f lavfi -i testsrc=s=1280x720:r=25 -c:v libx264 -pix_fmt yuv420p -g 50 \\
-         -sc_threshold 0 -f mp4 -movflags +cmaf+frag_keyframe -method PUT http://127.0.0.1:8080/ingest/0 &
+         -sc_threshold 0 -f mp4 -movflags +frag_keyframe+delay_moov+default_base_moof \\
+         -method PUT http://127.0.0.1:8080/ingest/0 &
   sleep 15; ffplay http://127.0.0.1:8080/live/master.m3u8
 ";
 
-/// The words after the program's own name.
+/// The arguments, without the program's own name.
 fn words_of(rt: &HostRuntime) -> io::Result<Vec<String>> {
     let mut words = Vec::new(rt.alloc());
     for word in env::args(rt)?.skip(1) {
@@ -103,12 +109,26 @@ fn words_of(rt: &HostRuntime) -> io::Result<Vec<String>> {
     Ok(words)
 }
 
-/// Tells how the program is used, after the line that is wrong.
-fn usage_fault(rt: &HostRuntime) -> ExitCode
+/// Prints that the first of the arguments is unexpected, and how the program is used.
+fn usage_fault(rt: &HostRuntime, unexpected: &[String]) -> ExitCode
+    ensures { exit_status result ≡ usage_status }
+{
+    let argument = Shown(match unexpected {
+        [first, ..] => first.as_str(),
+        [] => "",
+    });
+    let _ = eprint!(rt;
+        "hls_origin: unexpected argument \"{argument}\"; hls_origin --help says more\n{USAGE}"
+    );
+    ExitCode::from(2)
+}
+
+/// Prints that an argument isn't text, and how the program is used.
+fn no_text(rt: &HostRuntime) -> ExitCode
     ensures { exit_status result ≡ usage_status }
 {
     let _ = eprint!(rt;
-        "hls_origin: these words aren't understood; hls_origin --help says more\n{USAGE}"
+        "hls_origin: an argument isn't UTF-8; hls_origin --help says more\n{USAGE}"
     );
     ExitCode::from(2)
 }
@@ -139,7 +159,7 @@ fn print_refusal(rt: &HostRuntime, fault: CutFault) -> io::Result<()> {
 }
 
 /// Ends the program as `cut` ended.
-fn end_cut(rt: &HostRuntime, end: CutEnd) -> ExitCode
+fn end_cut(rt: &HostRuntime, words: &[String], end: CutEnd) -> ExitCode
     ensures { exit_status result ≡ cut_status end }
 {
     match end {
@@ -153,7 +173,8 @@ fn end_cut(rt: &HostRuntime, end: CutEnd) -> ExitCode
             ExitCode::from(1)
         }
         CutEnd::Usage(fault) => {
-            let _ = eprint!(rt; "cut: {fault}; hls_origin --help says more\n{USAGE}");
+            let wrong = Wrong { fault, words };
+            let _ = eprint!(rt; "cut: {wrong}; hls_origin --help says more\n{USAGE}");
             ExitCode::from(2)
         }
     }
@@ -163,7 +184,8 @@ fn end_cut(rt: &HostRuntime, end: CutEnd) -> ExitCode
 fn run_cut_words(rt: &HostRuntime, words: &[String]) -> ExitCode {
     let mut input = Counted::new(rt.stdin());
     let mut output = Counted::new(io::writer(rt));
-    end_cut(rt, run_cut(rt.alloc(), words, &mut input, &mut output))
+    let end = run_cut(rt.alloc(), words, &mut input, &mut output);
+    end_cut(rt, words, end)
 }
 
 /// Ends the program as `check` ended.
@@ -191,7 +213,7 @@ fn run_check_words(
     words: &[String],
 ) -> ExitCode {
     if !words.is_empty() {
-        return usage_fault(rt);
+        return usage_fault(rt, words);
     }
     let mut input = Counted::new(rt.stdin());
     let mut output = Counted::new(io::writer(rt));
@@ -219,7 +241,7 @@ fn end_lint(rt: &HostRuntime, end: LintEnd) -> ExitCode
 /// Does `lint`, after which no word may stand.
 fn run_lint_words(rt: &HostRuntime, words: &[String]) -> ExitCode {
     if !words.is_empty() {
-        return usage_fault(rt);
+        return usage_fault(rt, words);
     }
     let mut input = Counted::new(rt.stdin());
     let mut output = Counted::new(io::writer(rt));
@@ -233,8 +255,9 @@ fn end_explain(rt: &HostRuntime, word: &str, end: ExplainEnd) -> ExitCode
     match end {
         ExplainEnd::Explained => ExitCode::SUCCESS,
         ExplainEnd::Unknown => {
+            let name = Shown(word);
             let _ = eprintln!(rt;
-                "explain: no refusal is named {word}; hls_origin explain has the names"
+                "explain: no refusal is named {name}; hls_origin explain has the names"
             );
             ExitCode::from(1)
         }
@@ -254,7 +277,7 @@ fn run_explain_words(rt: &HostRuntime, words: &[String]) -> ExitCode {
     let word = match words {
         [] => None,
         [word] => Some(word.as_str()),
-        _ => return usage_fault(rt),
+        [_, rest @ ..] => return usage_fault(rt, rest),
     };
     let name = word.map(|word| word.as_bytes());
     let mut output = Counted::new(io::writer(rt));
@@ -263,13 +286,14 @@ fn run_explain_words(rt: &HostRuntime, words: &[String]) -> ExitCode {
 }
 
 /// Ends the program as `serve` ended.
-fn end_serve(rt: &HostRuntime, end: ServeEnd) -> ExitCode
+fn end_serve(rt: &HostRuntime, words: &[String], end: ServeEnd) -> ExitCode
     ensures { exit_status result ≡ serve_status end }
 {
     match end {
         ServeEnd::Done => ExitCode::SUCCESS,
         ServeEnd::Usage(fault) => {
-            let _ = eprint!(rt; "serve: {fault}; hls_origin --help says more\n{USAGE}");
+            let wrong = Wrong { fault, words };
+            let _ = eprint!(rt; "serve: {wrong}; hls_origin --help says more\n{SERVE_USAGE}");
             ExitCode::from(2)
         }
         ServeEnd::BindFailed => {
@@ -315,15 +339,17 @@ where
         "check" => run_check_words(rt, threads, rest),
         "lint" => run_lint_words(rt, rest),
         "explain" => run_explain_words(rt, rest),
-        "serve" => end_serve(rt, run_serve(threads, rt.alloc(), rest)),
+        "serve" => end_serve(rt, rest, run_serve(threads, rt.alloc(), rest)),
         "--version" if rest.is_empty() => print_version(rt),
-        _ => usage_fault(rt),
+        "help" | "--help" | "-h" | "--version" => usage_fault(rt, rest),
+        _ => usage_fault(rt, words),
     }
 }
 
 fn main(rt: HostRuntime) -> ExitCode {
     match words_of(&rt) {
         Ok(words) => run_words(&rt, &rt, words.as_slice()),
-        Err(_) => end_cut(&rt, CutEnd::Refused(CutFault::Memory)),
+        Err(fault) if fault.kind() == ErrorKind::InvalidData => no_text(&rt),
+        Err(_) => end_cut(&rt, &[], CutEnd::Refused(CutFault::Memory)),
     }
 }

@@ -1,6 +1,12 @@
 //! Who serves the connections of a worker.
 
-ghost use Rattle.hls_serve.specs.Visits.{Suits, WantsRead, history};
+ghost use Rattle.std.specs.Prelude.{◌≡◌};
+ghost use Rattle.hls_http_laws.specs.Reply.{no_memory};
+ghost use Rattle.hls_serve_laws.specs.Acts.{knows};
+ghost use Rattle.hls_serve.specs.Histories.{new_history};
+ghost use Rattle.hls_serve.specs.Visits.{Rests, Suits, WantsRead, history, stage, steps_left};
+ghost use Rattle.hls_server.specs.Going.{goes_on, goes_still};
+ghost use Rattle.hls_server.specs.Guests.{Goes, StandsAs, closing_of};
 
 use crate::client::{Client, tell_long_reply};
 use crate::guest::{Asked, Guest};
@@ -94,11 +100,26 @@ impl<'a, R: Wait + Clock + Eprint> Reception<'a, R> {
 impl<'a, R: Wait + Clock + Eprint> Host for Reception<'a, R> {
     type Visit = Guest;
 
-    ghost suits = { λ reception guest. Suits reception.station.pass.known guest.visit };
+    ghost suits = { λ reception guest. Suits (knows reception.station.pass.known reception.station.acts) guest.visit };
+
+    ghost goes = { λ a before traffic b now. Goes (knows a.station.pass.known a.station.acts) before.visit traffic
+        (knows b.station.pass.known b.station.acts) now.visit };
+
+    ghost begins = { λ guest. history guest.visit ≡ new_history };
 
     ghost pending = { λ guest. (history guest.visit).pending };
 
     ghost reads = { λ guest. WantsRead guest.visit };
+
+    ghost rests = { λ guest. Rests guest.visit };
+
+    ghost steps = { λ guest. steps_left guest.visit };
+
+    ghost closes = { λ guest. closing_of (stage guest.visit) };
+
+    ghost stands = { λ guest standing. StandsAs standing guest.visit };
+
+    ghost want = { no_memory };
 
     fn begin(&self) -> Guest {
         Guest {
@@ -174,4 +195,8 @@ impl<'a, R: Wait + Clock + Eprint> Host for Reception<'a, R> {
             tell_failed_accept(rt, error);
         }
     }
+
+    ghost stays = { λ reception guest. goes_still (knows reception.station.pass.known reception.station.acts) guest.visit };
+
+    ghost follows = { λ a b c u v w s t first second. goes_on s t first second };
 }
