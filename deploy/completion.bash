@@ -1,4 +1,5 @@
-# Completion of hls_origin's words for bash, from what the program itself prints; nothing is to be changed for a site.
+# Completion for bash of hls_origin's words, and of the options of the tools around it, from what each prints of itself; nothing is to
+# be changed for a site.
 
 _hls_origin() {
     local word=${COMP_WORDS[COMP_CWORD]} command=${COMP_WORDS[1]-}
@@ -13,3 +14,16 @@ _hls_origin() {
             sort -u)" -- "$word")
     fi
 } && complete -F _hls_origin hls_origin
+
+# What begins with - is an option that the tool's help has; anything else a channel of this machine, or a file.
+_hls_tool() {
+    local word=${COMP_WORDS[COMP_CWORD]} tool=${COMP_WORDS[0]##*/}
+    if [[ $word == -* ]]; then
+        mapfile -t COMPREPLY < <(compgen -W "$("$tool" --help 2> /dev/null | grep -oE -- '--[a-z][a-z-]+' | sort -u)" -- "$word")
+    else
+        mapfile -t COMPREPLY < <(
+            compgen -W "$(find /etc/hls_origin -maxdepth 1 -name '*.conf' -printf '%f\n' 2> /dev/null | sed 's/\.conf$//')" -- "$word"
+            compgen -f -- "$word"
+        )
+    fi
+} && complete -o filenames -F _hls_tool hls_archive hls_catchupd hls_edge hls_follow hls_handover hls_ingest hls_master hls_memory hls_metrics hls_places hls_programme hls_reap hls_run

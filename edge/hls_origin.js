@@ -155,6 +155,19 @@ function is_known(r) {
     return equal(r.variables.in_token, signature(r.variables.hls_secret, job_place(r.variables))) ? '1' : '';
 }
 
+// Whether a Range field names bytes of a reply of this size.
+function in_range(range, size) {
+    const found = /^bytes=([0-9]{1,15})-([0-9]{0,15})$/.exec(range);
+    return found === null ? /^bytes=-[1-9][0-9]{0,14}$/.test(range) :
+        Number(found[1]) < size && (found[2] === '' || Number(found[1]) <= Number(found[2]));
+}
+
+// For js_set: `1`, or nothing where the client's range has no byte of the segment that the path names.
+function is_in_range(r) {
+    const named = /\/([0-9]+)-([0-9]+)-[A-Za-z0-9_-]{16}\.[a-z0-9]+$/.exec(r.uri);
+    return named && in_range(r.variables.http_range || '', Number(named[2]) - Number(named[1]) + 1) ? '1' : '';
+}
+
 // For js_set: the address of a job for viewers, as a Link field. The job is that of the path, or the one that was just made.
 function job_link(r) {
     const v = r.variables;
@@ -237,6 +250,6 @@ function job_master(r) {
 }
 
 export default {
-    live, live_master, job, job_master, is_signed, is_known, job_link,
-    live_list, job_list, master_list, half_target, signature,
+    live, live_master, job, job_master, is_signed, is_known, is_in_range, job_link,
+    in_range, live_list, job_list, master_list, half_target, signature,
 };
