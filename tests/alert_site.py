@@ -8,6 +8,7 @@ import http.client
 import json
 import os
 import re
+import signal
 import subprocess
 import threading
 import time
@@ -111,24 +112,70 @@ class Channel:
 
 # Who watches
 
+class Reports(threading.Thread):
+    """What an hls_ingest writes of itself, each second, without one: it can be silent, and count."""
+
+    def __init__(self, site, name, stop=None):
+        super().__init__(daemon=True)
+        self.path, self.silent, self.a_second, self.stop = os.path.join(site.ingests, name, "state.json"), False, 0, stop or site.stop
+        self.found = {"input": "up", "since": int(time.time()), "written": 0, "pictures_left_out": 0, "encoder_restarts": 0}
+        os.makedirs(os.path.dirname(self.path))
+        self.start()
+
+    def run(self):
+        while not self.stop.wait(1):
+            self.found = {**self.found, "written": int(time.time()), "pictures_left_out": self.found["pictures_left_out"] + self.a_second}
+            if self.silent:
+                continue
+            try:
+                with open(self.path + ".new", "w", encoding="ascii") as file:
+                    json.dump(self.found, file)
+                os.replace(self.path + ".new", self.path)
+            except FileNotFoundError:
+                return              # the site's folder is gone: all is over
+
+
 class Site:
     """A folder, and what runs in it beside channels."""
 
     def __init__(self, program, folder):
         self.program, self.folder, self.words, self.cgroups = program, folder, os.path.join(folder, "words"), os.path.join(folder, "cgroups")
-        os.makedirs(self.words)
+        self.ingests, self.handovers, self.commands = (os.path.join(folder, name) for name in ("ingests", "handovers", "commands"))
+        for path in (self.words, self.ingests, self.handovers, self.commands):
+            os.makedirs(path)
         self.metrics_port, self.catchupd_port, self.edge, self.stop = free_port(), free_port(), None, threading.Event()
 
-    def edge_of(self, channels):
-        self.edge = Edge(self.folder, channels)
+    def edge_of(self, channels, changes=()):
+        self.edge = Edge(self.folder, channels, changes=changes)
+        self.certify(90)
         return self.edge
+
+    def certify(self, days):
+        """A certificate that lasts so long, which nginx presents from now on."""
+        subprocess.run(["openssl", "req", "-x509", "-newkey", "ec", "-pkeyopt", "ec_paramgen_curve:prime256v1", "-nodes", "-keyout", os.path.join(self.edge.folder, "edge.key"),
+                        "-out", self.edge.certificate, "-days", str(days), "-subj", "/CN=localhost", "-addext", "subjectAltName=DNS:localhost,IP:127.0.0.1"],
+                       check=True, stderr=subprocess.DEVNULL)
+        self.edge.process.send_signal(signal.SIGHUP)
+
+    def systemd(self, *services):
+        """A systemctl that has these services, each by its properties."""
+        blocks = ["\n".join(f"{key}={value}" for key, value in {"Type": "simple", "NRestarts": "0", **own}.items()) for own in services]
+        path = os.path.join(self.commands, "systemctl")
+        with open(path + ".new", "w", encoding="ascii") as file:
+            # without --all systemd's own leaves out what is inactive; this one says nothing then
+            file.write("#!/bin/sh\ncase \" $* \" in *' --all '*) ;; *) exit ;; esac\ncat <<'END'\n" + "\n\n".join(blocks) + "\nEND\n")
+        os.chmod(path + ".new", 0o755)
+        os.replace(path + ".new", path)
 
     def watch(self):
         """hls_metrics on all of it."""
         edge = self.edge and ["--edge-status", f"http://127.0.0.1:{self.edge.inner}/stub_status", "--edge-log", os.path.join(self.edge.folder, "hls_origin.log"),
-                              "--edge-failovers", os.path.join(self.edge.folder, "hls_origin_failover.log")]
+                              "--edge-failovers", os.path.join(self.edge.folder, "hls_origin_failover.log"), "--edge-folder", self.edge.files,
+                              "--edge-certificate", f"127.0.0.1:{self.edge.port}", "--edge-disk", os.path.join(self.edge.folder, "cache"), "--edge-disk", self.edge.folder]
+        units = ["--units"] if os.listdir(self.commands) else []
         tool = encoders.run(os.path.join(ROOT, "deploy", "hls_metrics"), "--words", self.words, "--listen", f"127.0.0.1:{self.metrics_port}", "--cgroups", self.cgroups,
-                            *(edge or []), stdin=subprocess.DEVNULL, stderr=open(os.path.join(self.folder, "metrics.log"), "a", encoding="utf-8"))
+                            "--ingests", self.ingests, "--handovers", self.handovers, *units, *(edge or []), stdin=subprocess.DEVNULL,
+                            stderr=open(os.path.join(self.folder, "metrics.log"), "a", encoding="utf-8"), env={**os.environ, "PATH": self.commands + ":" + os.environ["PATH"]})
         wait_for(self.metrics_port)
         return tool
 
@@ -182,9 +229,6 @@ class Prometheus:
             config = shown + "  - job_name: hls_origin\n" + hidden.replace("  # ", "  ").replace("10.0.0.1:8080", f"127.0.0.1:{status}")
         for shipped, here in (("127.0.0.1:9815", site.metrics_port), ("127.0.0.1:8078", site.catchupd_port)):
             config = config.replace(shipped, f"127.0.0.1:{here}")
-        if not site.edge:
-            # a house without viewers' programmes
-            config = re.sub(r"\n  # deploy/hls_catchupd.*?\n\n", "\n", config, flags=re.S)
         with open(os.path.join(self.folder, "prometheus.yml"), "w", encoding="utf-8") as file:
             file.write(config)
         told = subprocess.run(["promtool", "check", "config", os.path.join(self.folder, "prometheus.yml")], capture_output=True, text=True)
@@ -205,6 +249,10 @@ class Prometheus:
     def value(self, query):
         """The values that an expression has now, each behind its labels."""
         return {tuple(sorted(one["metric"].items())): float(one["value"][1]) for one in self.get("query", query=query)["result"]}
+
+    def alerts(self, name):
+        """The labels of an alarm that has come, of each time that it has."""
+        return [one["labels"] for one in self.get("alerts")["alerts"] if one["state"] == "firing" and one["labels"]["alertname"] == name]
 
     def firing(self):
         """The alarms that have come, each with whose it is, and its annotations."""

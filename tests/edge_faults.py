@@ -12,10 +12,10 @@ TOLD = {"return", "rewrite", "add_header", "proxy_pass", "proxy_set_header", "pr
 # What a client says, as he says it: a line feed or a slash in it would make two of one.
 RAW = re.compile(r"\$(?:uri|hls_said|document_uri|request_uri|args|query_string|http_\w+|arg_\w+|cookie_\w+|request|request_body)\b")
 # Where that is as it should be: HTTP keeps line feeds out of these, the first goes back to who sent it, and the last is the log's.
-RAW_ALLOWED = {("return", "https://$host$request_uri"), ("proxy_pass", "http://$hls_process/catchup$is_args$args"), ("proxy_set_header", "$http_range"),
+RAW_ALLOWED = {("return", "301 https://$hls_own_host$request_uri"), ("proxy_pass", "http://$hls_process/catchup$is_args$args"), ("proxy_pass", "http://127.0.0.1:8078/$hls_channel/watch$is_args$args"), ("proxy_set_header", "$http_range"),
                ("set", "$hls_said $uri")}
 # Where a request may go: variables that maps make of known channels.
-TARGETS = {"hls_inner", "hls_inner$in_path", "$hls_process", "$hls_process$hls_path", "$in_origins", "$in_process", "$in_range_of"}
+TARGETS = {"127.0.0.1:8078", "hls_inner", "hls_inner$in_path", "$hls_process", "$hls_process$hls_path", "$in_origins", "$in_process", "$in_range_of"}
 # What a location that has a field of its own mustn't lose of those around it.
 SECURITY = {"x-content-type-options", "strict-transport-security", "referrer-policy", "content-security-policy", "cache-control", "x-frame-options"}
 

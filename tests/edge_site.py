@@ -3,6 +3,7 @@
 No script of its own: tests/edge, tests/players and tests/two_origins import it.
 """
 import base64
+import hashlib
 import http.client
 import os
 import re
@@ -40,7 +41,7 @@ http {{
     scgi_temp_path {folder}/temporary_scgi;
     sendfile on;
     tcp_nopush on;
-    access_log off;
+    access_log {folder}/access.log;
     include {folder}/conf.d/*.conf;
     include {folder}/sites-enabled/*;
 }}
@@ -62,7 +63,8 @@ def write(path, text, mode=0o644):
 
 
 def hashed(password):
-    return subprocess.run(["openssl", "passwd", "-apr1", "-stdin"], input=password, capture_output=True, text=True, check=True).stdout.strip()
+    """As `htpasswd -s` has it."""
+    return "{SHA}" + base64.b64encode(hashlib.sha1(password.encode()).digest()).decode()
 
 
 class Edge:
@@ -72,7 +74,7 @@ class Edge:
         install()
         self.folder, self.process = os.path.join(folder, "edge"), None
         self.files = os.path.join(self.folder, "hls_origin")
-        self.port, self.open, self.plain, self.inner = (free_port() for _ in range(4))
+        self.port, self.open, self.plain, self.inner, self.catchup = (free_port() for _ in range(5))
         for name in ("conf.d", "sites-enabled", "snippets", "cache", "hls_origin/state", "hls_origin/masters", "pages"):
             os.makedirs(os.path.join(self.folder, name))
         for path in (folder, self.folder):
@@ -81,18 +83,16 @@ class Edge:
         subprocess.run(["openssl", "req", "-x509", "-newkey", "ec", "-pkeyopt", "ec_paramgen_curve:prime256v1", "-nodes",
                         "-keyout", os.path.join(self.folder, "edge.key"), "-out", self.certificate, "-days", "2", "-subj", "/CN=localhost",
                         "-addext", "subjectAltName=DNS:localhost,DNS:sport.localhost,IP:127.0.0.1"], check=True, stderr=subprocess.DEVNULL)
-        for name, (user, password) in (("operators", OPERATOR), ("encoders", ENCODER)):
-            write(os.path.join(self.files, name + ".htpasswd"), f"{user}:{hashed(password)}\n")
         self.set_channels(channels)
         self.copy("conf.d", "hls_origin.conf", changes)
         self.copy("sites-enabled", "hls_site.conf", [
             ("listen 80;", f"listen 127.0.0.1:{self.plain};"), ("listen [::]:80;", f"listen [::1]:{self.plain};"),
             # without TLS too, for players that don't take a certificate of today
             ("listen 443 ", f"listen 127.0.0.1:{self.open};\n    listen 127.0.0.1:{self.port} "), ("listen [::]:443 ", f"listen [::1]:{self.port} "),
-            ("edge.example.org;", "localhost 127.0.0.1 \"\";"), ("/var/www/acme", f"{self.folder}/acme"),
+            ("edge.example.org;", "localhost 127.0.0.1 \"\";"), ("#include snippets/hls_catchup.conf;", "include snippets/hls_catchup.conf;"), ("/var/www/acme", f"{self.folder}/acme"),
             ("/etc/nginx/edge.crt", self.certificate), ("/etc/nginx/edge.key", f"{self.folder}/edge.key"), *site_changes])
         for name in os.listdir(os.path.join(ROOT, "edge")):
-            if re.fullmatch(r"hls_(server|viewers|lists|kept_lists|segments|operators|pages)\.conf", name):
+            if re.fullmatch(r"hls_(server|viewers|lists|kept_lists|segments|operators|pages|catchup)\.conf", name):
                 self.copy("snippets", name)
         write(os.path.join(self.folder, "sites-enabled", "other"), more)
         self.conf = os.path.join(self.folder, "nginx.conf")
@@ -115,7 +115,7 @@ class Edge:
             text = text.replace(old, new)
         for old, new in [("/etc/nginx/hls_origin", self.files), ("/usr/share/hls_origin/edge", os.path.join(ROOT, "edge")),
                          ("/usr/share/hls_origin/pages", os.path.join(self.folder, "pages")), ("/var/lib/nginx", f"{self.folder}/cache"),
-                         ("/var/log/nginx", self.folder), ("127.0.0.1:8079", f"127.0.0.1:{self.inner}")]:
+                         ("/var/log/nginx", self.folder), ("127.0.0.1:8079", f"127.0.0.1:{self.inner}"), ("127.0.0.1:8078", f"127.0.0.1:{self.catchup}")]:
             text = text.replace(old, new)
         write(os.path.join(self.folder, to, name), text)
 
@@ -149,7 +149,16 @@ class Edge:
         return self.tool("hls_edge", *words)
 
     def set_channels(self, text):
+        """The file of channels, and passwords for those that have none."""
         write(os.path.join(self.files, "channels"), text)
+        names = re.findall(r"^[a-z0-9_-]+", text, re.M)
+        self.set_passwords(*(name for name in names if not os.path.exists(os.path.join(self.files, "operators", f"{name}.htpasswd"))))
+
+    def set_passwords(self, *names, users=(OPERATOR, ENCODER)):
+        """An operator and an encoder of each channel."""
+        for name in names:
+            for door, (user, password) in zip(("operators", "encoders"), users):
+                write(os.path.join(self.files, door, f"{name}.htpasswd"), f"{user}:{hashed(password)}\n")
 
     def set_state(self, name, text):
         write(os.path.join(self.files, "state", name + ".json"), text)

@@ -199,11 +199,36 @@ def at_once(one):
     one.channel.seen("three at once")
 
 
+def by_timer_and_by_hand(one):
+    """The timer's run meets one by hand: it has nothing to do, and has not failed."""
+    process = one.site.handover("--drain", "2")
+    while not os.path.exists(os.path.join(one.site.state, "news.json")):
+        time.sleep(0.05)
+    status, said = one.handover("--above", "0")
+    check("a timer's run that meets one by hand has nothing to do", status == 0 and said.count("\n") == 1 and "another hls_handover of news is at work" in said, (status, said))
+    check("and that is through", one.done(process)[0] == 0)
+    one.channel.seen("a timer's run that meets one by hand")
+
+
+def does_not_start(one):
+    """The new process can't start: what serves stays, and the other instance is ended again, as systemd's `disable --now` would."""
+    site, before, rest = one.site, one.site.serving(), one.at_rest()
+    called = os.path.join(site.folder, "called")
+    site.script("fails", f"echo start $1 >>{called}; echo no such word >&2; exit 1")
+    site.script("noted", f"echo stop $1 >>{called}; exec {site.folder}/stop.sh $1")
+    status, said = one.handover("--start", f"{site.folder}/fails.sh I", "--stop", f"{site.folder}/noted.sh I")
+    with open(called, encoding="utf-8") as file:
+        words = file.read()
+    check("a process that doesn't start is ended again", status == 1 and words == f"start {rest}\nstop {rest}\n", (status, words))
+    check("and it says why", "no such word" in said and f"journalctl -u hls_origin@{rest}" in said and site.serving() == before, said)
+    one.through("a process that didn't start")
+
+
 def moved_on(one):
     """Somebody begins another run meanwhile: what was begun is forgotten, and it begins anew from what is served."""
     site = one.site
     one.filled()
-    told = site.edge.tool("hls_run", "next", "news")
+    told = site.edge.tool("hls_run", "next", "news", "--force")
     check("another run begins meanwhile", told.returncode == 0, told.stderr)
     time.sleep(1)
     for viewer in one.channel.viewers:
@@ -263,7 +288,7 @@ def words_that_are_none(one):
 
 def run_broken(program, channel_of, loose, done):
     import tempfile
-    for parts, more in (([words_that_are_none, edge_that_fails], {}), ([at_once, processes_that_die], {}), ([dies_while_it_drains, one_that_does_not_end, encoders_turned_late, moved_on, started_again], {"window": 60, "viewer": loose})):
+    for parts, more in (([words_that_are_none, edge_that_fails], {}), ([at_once, by_timer_and_by_hand, does_not_start, processes_that_die], {}), ([dies_while_it_drains, one_that_does_not_end, encoders_turned_late, moved_on, started_again], {"window": 60, "viewer": loose})):
         with tempfile.TemporaryDirectory() as folder, channel_of(folder, program, 4, **more) as channel:
             one = Broken(channel, done)
             for part in parts:

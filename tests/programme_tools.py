@@ -10,12 +10,15 @@ import os
 import re
 import signal
 import socket
+import ssl
 import subprocess
 import threading
 import time
 import urllib.parse
+from importlib.machinery import SourceFileLoader
 
 import origin_runs
+import presented
 from edge_site import OPERATOR
 from origin_runs import ROOT, ask, encoders, wait_for
 
@@ -39,6 +42,11 @@ def run(tool, *words, seconds=240, **more):
     done = subprocess.run([os.path.join(DEPLOY, tool), *map(str, words)], capture_output=True, text=True, timeout=seconds,
                           env=os.environ, **more)
     return done.returncode, done.stdout, done.stderr
+
+
+def tool(name):
+    """A tool as a module."""
+    return SourceFileLoader(name, os.path.join(DEPLOY, name)).load_module()
 
 
 def background(tool, *words):
@@ -65,15 +73,14 @@ class Clip:
 
     def __init__(self, folder):
         self.files = [os.path.join(folder, f"sent{n}.mp4") for n in range(3)]
-        video = ["-c:v", "libx264", "-preset", "ultrafast", "-pix_fmt", "yuv420p", "-g", "48", "-sc_threshold", "0"]
-        kinds = [(["-f", "lavfi", "-i", f"testsrc=s={size}:r=25"], video, "+cmaf+frag_keyframe+frag_discont+skip_trailer", []) for size in ("160x90", "80x44")]
-        kinds.append((["-f", "lavfi", "-i", "sine=f=440:r=48000"], ["-c:a", "aac"], "+cmaf+frag_discont+skip_trailer", ["-frag_duration", "100000"]))
-        for (source, kind, _, _), path in zip(kinds, self.files):
-            subprocess.run(["ffmpeg", "-nostdin", "-v", "error", *source, "-t", str(CLIP), *kind, "-f", "mp4", path + ".mp4"], check=True)
+        video = ["-c:v", "libx264", "-preset", "veryfast", "-pix_fmt", "yuv420p", "-g", "48", "-sc_threshold", "0"]
+        kinds = [("0:v", size, video, "+frag_keyframe", []) for size in ("160x90", "80x44")] + [("1:a", "16x16", ["-c:a", "aac"], "", ["-frag_duration", "100000"])]
+        for (track, size, kind, _, _), path in zip(kinds, self.files):
+            subprocess.run(["ffmpeg", "-nostdin", "-v", "error", *presented.source("25", 48, CLIP, size), "-map", track, *kind, "-f", "mp4", path + ".mp4"], check=True)
         self.begins = int(time.time()) - CLIP - 5
-        for (_, _, flags, more), path in zip(kinds, self.files):
-            subprocess.run(["ffmpeg", "-nostdin", "-v", "error", "-i", path + ".mp4", "-c", "copy", "-f", "mp4", "-movflags", flags, *more,
-                            "-output_ts_offset", f"{self.begins}.0213334", path], check=True)
+        for (_, _, _, flags, more), path in zip(kinds, self.files):
+            subprocess.run(["ffmpeg", "-nostdin", "-v", "error", "-i", path + ".mp4", "-c", "copy", "-f", "mp4",
+                            "-movflags", flags + "+delay_moov+default_base_moof+frag_discont+skip_trailer", *more, "-output_ts_offset", str(self.begins), path], check=True)
         self.sent = [open(path, "rb").read() for path in self.files]
 
     def send(self, port, numbers=(0, 1, 2)):
@@ -113,10 +120,10 @@ def packets(path, stream, folder=None):
 # Origins that are slow, or none
 
 class Slow:
-    """Hands connections on to an origin, so slowly that a tool can be ended in the middle."""
+    """Hands connections on to an origin, so slowly that a tool can be ended in the middle; by TLS, where it has a certificate for that."""
 
-    def __init__(self, port, bytes_a_second):
-        self.to, self.pace = port, bytes_a_second
+    def __init__(self, port, bytes_a_second, context=None):
+        self.to, self.pace, self.context = port, bytes_a_second, context
         self.listener = socket.create_server(("127.0.0.1", 0))
         self.port = self.listener.getsockname()[1]
         threading.Thread(target=self.accept, daemon=True).start()
@@ -124,6 +131,11 @@ class Slow:
     def accept(self):
         while True:
             one = self.listener.accept()[0]
+            if self.context:
+                try:
+                    one = self.context.wrap_socket(one, server_side=True)
+                except (OSError, ssl.SSLError):
+                    continue
             other = socket.create_connection(("127.0.0.1", self.to))
             threading.Thread(target=self.pump, args=(one, other, None), daemon=True).start()
             threading.Thread(target=self.pump, args=(other, one, self.pace), daemon=True).start()
