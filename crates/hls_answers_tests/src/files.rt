@@ -2,11 +2,12 @@
 
 use crate::jobs::REQUEST;
 use hls_catchup::{
-    Job, JobTable, certificate_text, job_line, master_text, playlist_text, reply_in, run_job,
+    Job, JobTable, certificate_text, find_reply, master_text, playlist_text, run_job,
+    write_job_line,
 };
 use hls_core::snapshot::Snapshot;
-use hls_fakes::Told;
-use hls_sample_channels::{THREE_UNITS, ended_at_last};
+use hls_fakes::CallOutcome;
+use hls_sample_channels::{THREE_UNITS, end_channel_with_retry};
 use std::alloc::Global;
 use std::sync::Arc;
 
@@ -25,7 +26,7 @@ fn certificate() -> &'static [u8] {
 }
 
 /// A job that has an answer; none where memory was refused.
-pub fn job(alloc: Global, state: &Arc<Snapshot>) -> Option<Job> {
+pub fn finish_job(alloc: Global, state: &Arc<Snapshot>) -> Option<Job> {
     let mut jobs = JobTable::new(alloc).ok()?;
     let id = jobs.add(Arc::try_clone(state).ok()?, REQUEST).ok()?;
     let work = jobs.take_work()?;
@@ -36,77 +37,83 @@ pub fn job(alloc: Global, state: &Arc<Snapshot>) -> Option<Job> {
     }
 }
 
-fn job_at_last(alloc: Global, state: &Arc<Snapshot>) -> Option<Job> {
-    match job(alloc, state) {
+fn job_with_retry(alloc: Global, state: &Arc<Snapshot>) -> Option<Job> {
+    match finish_job(alloc, state) {
         Some(job) => Some(job),
-        None => job(alloc, state),
+        None => finish_job(alloc, state),
     }
 }
 
-fn is_text(text: &Option<Vec<u8>>, wanted: &[u8]) -> bool {
+fn is_text(text: &Option<Vec<u8>>, expected: &[u8]) -> bool {
     match text {
-        Some(text) => text.as_slice() == wanted,
+        Some(text) => text.as_slice() == expected,
         None => false,
     }
 }
 
-pub fn told_master(alloc: Global, job: &Job) -> Told {
-    let Ok(reply) = reply_in(job) else {
-        return Told::Astray;
+pub fn outcome_of_master(alloc: Global, job: &Job) -> CallOutcome {
+    let Ok(reply) = find_reply(job) else {
+        return CallOutcome::Wrong;
     };
     match master_text(alloc, reply) {
-        Ok(text) => Told::answer(is_text(&text, master())),
-        Err(_) => Told::Wanted,
+        Ok(text) => CallOutcome::from_answer(is_text(&text, master())),
+        Err(_) => CallOutcome::OutOfMemory,
     }
 }
 
-pub fn told_playlist(alloc: Global, job: &Job) -> Told {
-    let Ok(reply) = reply_in(job) else {
-        return Told::Astray;
+pub fn outcome_of_playlist(alloc: Global, job: &Job) -> CallOutcome {
+    let Ok(reply) = find_reply(job) else {
+        return CallOutcome::Wrong;
     };
     match playlist_text(alloc, reply, 0) {
-        Ok(text) => Told::answer(is_text(&text, playlist())),
-        Err(_) => Told::Wanted,
+        Ok(text) => CallOutcome::from_answer(is_text(&text, playlist())),
+        Err(_) => CallOutcome::OutOfMemory,
     }
 }
 
 /// What is told of a rendition that isn't there, for which no memory is taken.
-pub fn told_no_playlist(alloc: Global, job: &Job) -> Told {
-    let Ok(reply) = reply_in(job) else {
-        return Told::Astray;
+pub fn outcome_of_no_playlist(alloc: Global, job: &Job) -> CallOutcome {
+    let Ok(reply) = find_reply(job) else {
+        return CallOutcome::Wrong;
     };
     match playlist_text(alloc, reply, 1) {
-        Ok(text) => Told::answer(text.is_none()),
-        Err(_) => Told::Astray,
+        Ok(text) => CallOutcome::from_answer(text.is_none()),
+        Err(_) => CallOutcome::Wrong,
     }
 }
 
-pub fn told_certificate(alloc: Global, job: &Job) -> Told {
-    let Ok(reply) = reply_in(job) else {
-        return Told::Astray;
+pub fn outcome_of_certificate(alloc: Global, job: &Job) -> CallOutcome {
+    let Ok(reply) = find_reply(job) else {
+        return CallOutcome::Wrong;
     };
     match certificate_text(alloc, reply) {
-        Ok(text) => Told::answer(text.as_slice() == certificate()),
-        Err(_) => Told::Wanted,
+        Ok(text) => CallOutcome::from_answer(text.as_slice() == certificate()),
+        Err(_) => CallOutcome::OutOfMemory,
     }
 }
 
-pub fn told_line(alloc: Global, job: &Job) -> Told {
-    match job_line(alloc, job) {
-        Ok(Some(line)) => Told::answer(line.as_str() == LINE),
-        Ok(None) => Told::Astray,
-        Err(_) => Told::Wanted,
+pub fn outcome_of_line(alloc: Global, job: &Job) -> CallOutcome {
+    match write_job_line(alloc, job) {
+        Ok(Some(line)) => CallOutcome::from_answer(line.as_str() == LINE),
+        Ok(None) => CallOutcome::Wrong,
+        Err(_) => CallOutcome::OutOfMemory,
     }
 }
 
 #[test]
-fn refused_memory_writes_the_files_once_more(rt: HostRuntime) {
+fn out_of_memory_then_writes_the_files_again(rt: HostRuntime) {
     let alloc = rt.alloc();
-    let state = ended_at_last(alloc, &THREE_UNITS).expect(&rt, "a channel");
-    let job = job_at_last(alloc, &state).expect(&rt, "a job");
-    assert!(rt; told_line(alloc, &job).is_held(told_line(alloc, &job)));
-    assert!(rt; told_master(alloc, &job).is_held(told_master(alloc, &job)));
-    assert!(rt; told_playlist(alloc, &job).is_held(told_playlist(alloc, &job)));
-    assert!(rt; told_no_playlist(alloc, &job).is_held(told_no_playlist(alloc, &job)));
-    assert!(rt; told_certificate(alloc, &job).is_held(told_certificate(alloc, &job)));
+    let state = end_channel_with_retry(alloc, &THREE_UNITS).expect(&rt, "a channel");
+    let job = job_with_retry(alloc, &state).expect(&rt, "a job");
+    assert!(rt; outcome_of_line(alloc, &job).is_consistent_with(outcome_of_line(alloc, &job)));
+    assert!(rt; outcome_of_master(alloc, &job).is_consistent_with(outcome_of_master(alloc, &job)));
+    assert!(rt;
+        outcome_of_playlist(alloc, &job).is_consistent_with(outcome_of_playlist(alloc, &job))
+    );
+    assert!(rt;
+        outcome_of_no_playlist(alloc, &job).is_consistent_with(outcome_of_no_playlist(alloc, &job))
+    );
+    assert!(rt;
+        outcome_of_certificate(alloc, &job).is_consistent_with(outcome_of_certificate(alloc, &job))
+    );
 }

@@ -1,9 +1,11 @@
 //! Jobs under a lock, and answers that are kept.
 
-use hls_catchup::{Answered, CostRule, Gate, Job, JobTable, Jobs, Request, answered, work_loop};
+use hls_catchup::{
+    CostRule, Gate, Job, JobAnswer, JobTable, Jobs, Request, answer_request, work_loop,
+};
 use hls_core::snapshot::Snapshot;
-use hls_fakes::Told;
-use hls_sample_channels::{SECOND, THREE_UNITS, ended_at_last};
+use hls_fakes::CallOutcome;
+use hls_sample_channels::{SECOND, THREE_UNITS, end_channel_with_retry};
 use std::alloc::Global;
 use std::sync::{Arc, Wait};
 
@@ -17,53 +19,53 @@ pub const REQUEST: Request = Request {
 
 /// Lets every job in.
 #[derive(Drop)]
-struct Open;
+struct OpenGate;
 
-impl Gate for Open {
+impl Gate for OpenGate {
     fn enter(&self, _id: u64) -> bool {
         true
     }
 }
 
-fn is_answered(answered: &Answered) -> bool {
+fn is_answered(answered: &JobAnswer) -> bool {
     answered.snapshot().version() == 5 && answered.request() == REQUEST && answered.result().is_ok()
 }
 
 /// What is told of an answer that is kept once more.
-pub fn told_again(answered: &Answered) -> Told {
-    let told = match answered.again() {
-        Ok(again) => Told::answer(is_answered(&again)),
-        Err(_) => Told::Wanted,
+pub fn outcome_of_share(answered: &JobAnswer) -> CallOutcome {
+    let outcome = match answered.share() {
+        Ok(again) => CallOutcome::from_answer(is_answered(&again)),
+        Err(_) => CallOutcome::OutOfMemory,
     };
-    told.kept(is_answered(answered))
+    outcome.require_unchanged(is_answered(answered))
 }
 
 /// What is answered of the channel, and kept once more.
-pub fn told_answered(alloc: Global, state: &Arc<Snapshot>) -> Told {
+pub fn outcome_of_request(alloc: Global, state: &Arc<Snapshot>) -> CallOutcome {
     let Ok(share) = Arc::try_clone(state) else {
-        return Told::Wanted;
+        return CallOutcome::OutOfMemory;
     };
-    let told = match answered(alloc, share, REQUEST) {
-        Ok(answered) => told_again(&answered),
-        Err(_) => Told::Wanted,
+    let outcome = match answer_request(alloc, share, REQUEST) {
+        Ok(answered) => outcome_of_share(&answered),
+        Err(_) => CallOutcome::OutOfMemory,
     };
-    told.kept(state.version() == 5)
+    outcome.require_unchanged(state.version() == 5)
 }
 
-pub fn told_table(alloc: Global) -> Told {
+pub fn outcome_of_table(alloc: Global) -> CallOutcome {
     match JobTable::new(alloc) {
-        Ok(jobs) => Told::answer(jobs.len() == 0),
-        Err(_) => Told::Wanted,
+        Ok(jobs) => CallOutcome::from_answer(jobs.len() == 0),
+        Err(_) => CallOutcome::OutOfMemory,
     }
 }
 
 #[test]
-fn refused_memory_is_no_answer(rt: HostRuntime) {
+fn out_of_memory_is_no_answer(rt: HostRuntime) {
     let alloc = rt.alloc();
-    let state = ended_at_last(alloc, &THREE_UNITS).expect(&rt, "a channel");
-    let first = told_answered(alloc, &state);
-    assert!(rt; first.is_held(told_answered(alloc, &state)));
-    assert!(rt; told_table(alloc).is_held(told_table(alloc)));
+    let state = end_channel_with_retry(alloc, &THREE_UNITS).expect(&rt, "a channel");
+    let first = outcome_of_request(alloc, &state);
+    assert!(rt; first.is_consistent_with(outcome_of_request(alloc, &state)));
+    assert!(rt; outcome_of_table(alloc).is_consistent_with(outcome_of_table(alloc)));
 }
 
 /// Whether it's the only job, and gone once it was taken away.
@@ -72,29 +74,29 @@ fn is_only_job<T: Wait>(rt: &T, jobs: &Jobs, id: u64) -> bool {
 }
 
 /// What the job of the next id comes to in a loop, and that it's gone once it was taken away.
-pub fn told_loop<T: Wait>(
+pub fn outcome_of_loop<T: Wait>(
     rt: &T,
     alloc: Global,
     jobs: &Jobs,
     state: &Arc<Snapshot>,
     id: u64,
-) -> Told {
+) -> CallOutcome {
     let Ok(share) = Arc::try_clone(state) else {
-        return Told::Wanted;
+        return CallOutcome::OutOfMemory;
     };
     if jobs.add(rt, share, REQUEST) != Ok(id) {
-        return Told::Astray;
+        return CallOutcome::Wrong;
     }
-    work_loop(rt, alloc, jobs, &Open);
-    let told = match jobs.get(rt, id) {
-        Ok(Job::Finished(answered)) => Told::answer(is_answered(&answered)),
-        Ok(Job::Failed) => Told::wanted(state.version() == 5),
-        _ => Told::Astray,
+    work_loop(rt, alloc, jobs, &OpenGate);
+    let outcome = match jobs.get(rt, id) {
+        Ok(Job::Finished(answered)) => CallOutcome::from_answer(is_answered(&answered)),
+        Ok(Job::Failed) => CallOutcome::from_refusal(state.version() == 5),
+        _ => CallOutcome::Wrong,
     };
-    told.kept(is_only_job(rt, jobs, id))
+    outcome.require_unchanged(is_only_job(rt, jobs, id))
 }
 
-pub fn jobs_at_last(alloc: Global) -> Option<Jobs> {
+pub fn jobs_with_retry(alloc: Global) -> Option<Jobs> {
     match Jobs::new(alloc) {
         Ok(jobs) => Some(jobs),
         Err(_) => Jobs::new(alloc).ok(),
@@ -102,11 +104,11 @@ pub fn jobs_at_last(alloc: Global) -> Option<Jobs> {
 }
 
 #[test]
-fn refused_memory_fails_a_job_and_works_the_next_off(rt: HostRuntime) {
+fn out_of_memory_fails_a_job_and_works_the_next_off(rt: HostRuntime) {
     let alloc = rt.alloc();
-    let state = ended_at_last(alloc, &THREE_UNITS).expect(&rt, "a channel");
-    let jobs = jobs_at_last(alloc).expect(&rt, "jobs");
+    let state = end_channel_with_retry(alloc, &THREE_UNITS).expect(&rt, "a channel");
+    let jobs = jobs_with_retry(alloc).expect(&rt, "jobs");
     jobs.close(&rt);
-    let first = told_loop(&rt, alloc, &jobs, &state, 1);
-    assert!(rt; first.is_held(told_loop(&rt, alloc, &jobs, &state, 2)));
+    let first = outcome_of_loop(&rt, alloc, &jobs, &state, 1);
+    assert!(rt; first.is_consistent_with(outcome_of_loop(&rt, alloc, &jobs, &state, 2)));
 }

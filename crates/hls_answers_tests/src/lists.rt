@@ -4,9 +4,9 @@
 use crate::jobs::REQUEST;
 use hls_catchup::{CatchFault, Reply, answer, job_master, live_master, live_playlist, table_of};
 use hls_core::snapshot::Snapshot;
-use hls_fakes::Told;
-use hls_m3u8::{MasterPlaylist, MediaPlaylist, Segment, write_master, write_media};
-use hls_sample_channels::{SECOND, THREE_UNITS, ended_at_last, recorded_at_last};
+use hls_fakes::CallOutcome;
+use hls_m3u8::{MasterPlaylist, MediaPlaylist, MediaSegment, write_master, write_media};
+use hls_sample_channels::{SECOND, THREE_UNITS, end_channel_with_retry, record_channel_with_retry};
 use std::alloc::{AllocError, Global};
 use std::sync::Arc;
 
@@ -19,14 +19,14 @@ fn master() -> &'static [u8] {
 }
 
 /// Whether it's a segment of 4 s whose bytes begin there.
-fn is_segment(segment: &Segment, offset: u64) -> bool {
+fn is_segment(segment: &MediaSegment, offset: u64) -> bool {
     match segment.range {
         Some(bytes) => segment.us == 4 * SECOND && bytes.length == 1000 && bytes.offset == offset,
         None => false,
     }
 }
 
-fn are_live(segments: &[Segment]) -> bool {
+fn are_live(segments: &[MediaSegment]) -> bool {
     match segments {
         [first, second] => is_segment(first, 600) && is_segment(second, 1600),
         _ => false,
@@ -41,17 +41,17 @@ fn is_live(list: &MediaPlaylist) -> bool {
 }
 
 /// Whether it's the channel as it was.
-fn stays(state: &Snapshot) -> bool {
+fn is_unchanged(state: &Snapshot) -> bool {
     state.version() == 4 && state.line().segments().next() == 2
 }
 
-pub fn told_list(alloc: Global, state: &Snapshot) -> Told {
-    let told = match live_playlist(alloc, state, 0) {
-        Ok(Some(list)) => Told::answer(is_live(&list)),
-        Ok(None) => Told::Astray,
-        Err(_) => Told::Wanted,
+pub fn outcome_of_list(alloc: Global, state: &Snapshot) -> CallOutcome {
+    let outcome = match live_playlist(alloc, state, 0) {
+        Ok(Some(list)) => CallOutcome::from_answer(is_live(&list)),
+        Ok(None) => CallOutcome::Wrong,
+        Err(_) => CallOutcome::OutOfMemory,
     };
-    told.kept(stays(state))
+    outcome.require_unchanged(is_unchanged(state))
 }
 
 /// The text of a rendition's live list.
@@ -66,13 +66,13 @@ fn live_text(
     }
 }
 
-pub fn told_text(alloc: Global, state: &Snapshot) -> Told {
-    let told = match live_text(alloc, state, 0) {
-        Ok(Some(text)) => Told::answer(text.as_slice() == live()),
-        Ok(None) => Told::Astray,
-        Err(_) => Told::Wanted,
+pub fn outcome_of_text(alloc: Global, state: &Snapshot) -> CallOutcome {
+    let outcome = match live_text(alloc, state, 0) {
+        Ok(Some(text)) => CallOutcome::from_answer(text.as_slice() == live()),
+        Ok(None) => CallOutcome::Wrong,
+        Err(_) => CallOutcome::OutOfMemory,
     };
-    told.kept(stays(state))
+    outcome.require_unchanged(is_unchanged(state))
 }
 
 fn is_master(list: &MasterPlaylist, uri: &str) -> bool {
@@ -84,58 +84,64 @@ fn is_master(list: &MasterPlaylist, uri: &str) -> bool {
     }
 }
 
-pub fn told_master(alloc: Global, state: &Snapshot) -> Told {
-    let told = match live_master(alloc, state) {
-        Ok(list) => Told::answer(is_master(&list, "/live/0.m3u8")),
-        Err(_) => Told::Wanted,
+pub fn outcome_of_master(alloc: Global, state: &Snapshot) -> CallOutcome {
+    let outcome = match live_master(alloc, state) {
+        Ok(list) => CallOutcome::from_answer(is_master(&list, "/live/0.m3u8")),
+        Err(_) => CallOutcome::OutOfMemory,
     };
-    told.kept(stays(state))
+    outcome.require_unchanged(is_unchanged(state))
 }
 
 /// What is told of the list's text, and that the list stays.
-pub fn told_written(alloc: Global, list: &MasterPlaylist) -> Told {
-    let told = match write_master(alloc, list) {
-        Ok(text) => Told::answer(text.as_slice() == master()),
-        Err(_) => Told::Wanted,
+pub fn outcome_of_written(alloc: Global, list: &MasterPlaylist) -> CallOutcome {
+    let outcome = match write_master(alloc, list) {
+        Ok(text) => CallOutcome::from_answer(text.as_slice() == master()),
+        Err(_) => CallOutcome::OutOfMemory,
     };
-    told.kept(is_master(list, "/live/0.m3u8"))
+    outcome.require_unchanged(is_master(list, "/live/0.m3u8"))
 }
 
-pub fn told_master_text(alloc: Global, state: &Snapshot) -> Told {
-    let told = match live_master(alloc, state) {
-        Ok(list) => told_written(alloc, &list),
-        Err(_) => Told::Wanted,
+pub fn outcome_of_master_text(alloc: Global, state: &Snapshot) -> CallOutcome {
+    let outcome = match live_master(alloc, state) {
+        Ok(list) => outcome_of_written(alloc, &list),
+        Err(_) => CallOutcome::OutOfMemory,
     };
-    told.kept(stays(state))
+    outcome.require_unchanged(is_unchanged(state))
 }
 
 #[test]
-fn refused_memory_lists_the_channel_once_more(rt: HostRuntime) {
+fn out_of_memory_then_lists_the_channel_again(rt: HostRuntime) {
     let alloc = rt.alloc();
-    let state = recorded_at_last(alloc, &THREE_UNITS).expect(&rt, "a channel");
-    assert!(rt; told_list(alloc, &state).is_held(told_list(alloc, &state)));
-    assert!(rt; told_master(alloc, &state).is_held(told_master(alloc, &state)));
+    let state = record_channel_with_retry(alloc, &THREE_UNITS).expect(&rt, "a channel");
+    assert!(rt; outcome_of_list(alloc, &state).is_consistent_with(outcome_of_list(alloc, &state)));
+    assert!(rt;
+        outcome_of_master(alloc, &state).is_consistent_with(outcome_of_master(alloc, &state))
+    );
 }
 
 #[test]
-fn refused_memory_writes_playlists_once_more(rt: HostRuntime) {
+fn out_of_memory_then_writes_playlists_again(rt: HostRuntime) {
     let alloc = rt.alloc();
-    let state = recorded_at_last(alloc, &THREE_UNITS).expect(&rt, "a channel");
-    assert!(rt; told_text(alloc, &state).is_held(told_text(alloc, &state)));
-    assert!(rt; told_master_text(alloc, &state).is_held(told_master_text(alloc, &state)));
+    let state = record_channel_with_retry(alloc, &THREE_UNITS).expect(&rt, "a channel");
+    assert!(rt; outcome_of_text(alloc, &state).is_consistent_with(outcome_of_text(alloc, &state)));
+    assert!(rt;
+        outcome_of_master_text(alloc, &state).is_consistent_with(outcome_of_master_text(
+            alloc, &state
+        ))
+    );
 }
 
 /// The table that the request is answered from.
-pub fn told_table(alloc: Global, state: &Snapshot) -> Told {
-    let told = match table_of(alloc, state, REQUEST) {
-        Ok(table) => Told::answer(table.len() == 4),
-        Err(CatchFault::Memory) => Told::Wanted,
-        Err(_) => Told::Astray,
+pub fn outcome_of_table(alloc: Global, state: &Snapshot) -> CallOutcome {
+    let outcome = match table_of(alloc, state, REQUEST) {
+        Ok(table) => CallOutcome::from_answer(table.len() == 4),
+        Err(CatchFault::Memory) => CallOutcome::OutOfMemory,
+        Err(_) => CallOutcome::Wrong,
     };
-    told.kept(state.version() == 5)
+    outcome.require_unchanged(state.version() == 5)
 }
 
-pub fn replied_at_last(alloc: Global, state: &Arc<Snapshot>) -> Option<Reply> {
+pub fn answer_with_retry(alloc: Global, state: &Arc<Snapshot>) -> Option<Reply> {
     match answer(alloc, state, REQUEST) {
         Ok(reply) => Some(reply),
         Err(_) => answer(alloc, state, REQUEST).ok(),
@@ -143,20 +149,20 @@ pub fn replied_at_last(alloc: Global, state: &Arc<Snapshot>) -> Option<Reply> {
 }
 
 /// The master playlist of a reply.
-pub fn told_of_reply(alloc: Global, reply: &Reply) -> Told {
+pub fn outcome_of_job_master(alloc: Global, reply: &Reply) -> CallOutcome {
     match job_master(alloc, reply) {
-        Ok(list) => Told::answer(is_master(&list, "0.m3u8")),
-        Err(_) => Told::Wanted,
+        Ok(list) => CallOutcome::from_answer(is_master(&list, "0.m3u8")),
+        Err(_) => CallOutcome::OutOfMemory,
     }
 }
 
 #[test]
-fn refused_memory_lists_the_job_once_more(rt: HostRuntime) {
+fn out_of_memory_then_lists_the_job_again(rt: HostRuntime) {
     let alloc = rt.alloc();
-    let state = ended_at_last(alloc, &THREE_UNITS).expect(&rt, "a channel");
-    let first = told_table(alloc, &state);
-    assert!(rt; first.is_held(told_table(alloc, &state)));
-    let reply = replied_at_last(alloc, &state).expect(&rt, "a reply");
-    let first = told_of_reply(alloc, &reply);
-    assert!(rt; first.is_held(told_of_reply(alloc, &reply)));
+    let state = end_channel_with_retry(alloc, &THREE_UNITS).expect(&rt, "a channel");
+    let first = outcome_of_table(alloc, &state);
+    assert!(rt; first.is_consistent_with(outcome_of_table(alloc, &state)));
+    let reply = answer_with_retry(alloc, &state).expect(&rt, "a reply");
+    let first = outcome_of_job_master(alloc, &reply);
+    assert!(rt; first.is_consistent_with(outcome_of_job_master(alloc, &reply)));
 }

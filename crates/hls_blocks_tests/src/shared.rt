@@ -8,7 +8,7 @@ use std::alloc::{AllocError, Global};
 use std::test::Fail;
 
 /// A push, tried again where memory was refused.
-fn pushed_again(alloc: Global, list: &Shared<u64>, item: u64) -> Result<Shared<u64>, AllocError>
+fn push_with_retry(alloc: Global, list: &Shared<u64>, item: u64) -> Result<Shared<u64>, AllocError>
     requires { next_of list.now < list_limit }
     ensures { IfOk result (λ s. s ≡ with_item list.now item) }
 {
@@ -19,7 +19,11 @@ fn pushed_again(alloc: Global, list: &Shared<u64>, item: u64) -> Result<Shared<u
 }
 
 /// The list from number `n` on, tried again where memory was refused.
-fn dropped_again(alloc: Global, list: &Shared<u64>, n: u64) -> Result<Shared<u64>, AllocError>
+fn drop_front_with_retry(
+    alloc: Global,
+    list: &Shared<u64>,
+    n: u64,
+) -> Result<Shared<u64>, AllocError>
     requires { (list.now.first ≤ n) × (n ≤ next_of list.now) }
     ensures { IfOk result (λ s. s ≡ from_number list.now n) }
 {
@@ -31,17 +35,17 @@ fn dropped_again(alloc: Global, list: &Shared<u64>, n: u64) -> Result<Shared<u64
 
 /// With any one allocation refused, a second try gives what was wanted, and the list before it is as it was.
 #[test]
-fn refused_memory_changes_nothing(rt: HostRuntime) -> Result<(), Fail> {
+fn out_of_memory_changes_nothing(rt: HostRuntime) -> Result<(), Fail> {
     let alloc = rt.alloc();
     let mut list = Shared::empty(alloc);
     for n in 0..130 {
-        let next = pushed_again(alloc, &list, n)?;
+        let next = push_with_retry(alloc, &list, n)?;
         assert_tree(&rt, &list, 0, n);
         list = next;
     }
-    let rest = dropped_again(alloc, &list, 60)?;
+    let rest = drop_front_with_retry(alloc, &list, 60)?;
     assert_eq!(rt; rest.next(), 130);
-    let last = dropped_again(alloc, &rest, 128)?;
+    let last = drop_front_with_retry(alloc, &rest, 128)?;
     assert_tree(&rt, &list, 0, 130);
     assert_tree(&rt, &rest, 60, 130);
     assert_tree(&rt, &last, 128, 130);

@@ -1,2 +1,2 @@
-pub mod Intake
+pub mod Feed
 pub mod Reader

@@ -1,12 +1,12 @@
 //! The reader of a stream.
 
 ghost use Rattle.std.specs.Prelude.{◌≡◌, ◌≢◌, [], ◌++◌, Err, IfOk, IfErr, OnOk, OnErr, None};
-ghost use Rattle.hls_boxes_laws.specs.Parts.{cut_of, text_fault, fault_at_end};
-ghost use Rattle.hls_boxes.specs.Reader.{IsRefusal, IsTaken, HasPart, Tells};
+ghost use Rattle.hls_boxes_laws.specs.Parts.{stream_cut, text_fault, fault_at_end};
+ghost use Rattle.hls_boxes.specs.Reader.{IsFeedRefusal, TakesNextPart, HasPart, ReportsFault};
 
-use crate::begun::{Begun, Mark};
-use crate::intake::take_in;
-use crate::whole::Whole;
+use crate::complete_part::CompletePart;
+use crate::feed::feed_piece;
+use crate::pending_part::{Checkpoint, PendingPart};
 use hls_boxes_laws::fault::BoxFault;
 use hls_boxes_laws::part::Part;
 use std::alloc::{AllocError, Global};
@@ -19,21 +19,21 @@ use std::marker::Model;
 pub struct UnitReader {
     alloc: Global,
     /// The parts that are whole and not yet taken, in order.
-    whole: VecDeque<Whole>,
+    whole: VecDeque<CompletePart>,
     /// What came behind them.
-    begun: Begun,
+    pending: PendingPart,
     fault: Option<BoxFault>,
 }
 
 impl Model for UnitReader {
     ghost use Rattle.std.specs.Prelude.{ℕ, List};
-    ghost use Rattle.hls_boxes.specs.Intake.{Settles, fed_bytes};
+    ghost use Rattle.hls_boxes.specs.Feed.{IsReaderState, reader_bytes};
 
     ghost Value = { List ℕ };
 
-    ghost view = { λ r. fed_bytes r.whole.items r.begun };
+    ghost view = { λ r. reader_bytes r.whole.items r.pending };
 
-    ghost invariant = { λ r. Settles r.whole.items r.begun r.fault };
+    ghost invariant = { λ r. IsReaderState r.whole.items r.pending r.fault };
 }
 
 impl UnitReader {
@@ -44,7 +44,7 @@ impl UnitReader {
         UnitReader {
             alloc,
             whole: VecDeque::new(alloc),
-            begun: Begun::nothing(alloc),
+            pending: PendingPart::empty(alloc),
             fault: None,
         }
     }
@@ -59,7 +59,7 @@ impl UnitReader {
     /// piece would bring.
     pub fn feed(&mut self, piece: &[u8]) -> Result<(), BoxFault>
         ensures ok { OnOk result ((self.new ≡ self.old ++ piece.now) × (text_fault self.new ≡ None)) }
-        ensures err { IfErr result (λ fault. IsRefusal fault self.old piece.now self.new) }
+        ensures err { IfErr result (λ fault. IsFeedRefusal fault self.old piece.now self.new) }
         ensures empty { piece.now ≡ [] → result ≢ Err BoxFault.Memory }
     {
         if let Some(fault) = self.fault {
@@ -68,9 +68,9 @@ impl UnitReader {
         if piece.is_empty() {
             return Ok(());
         }
-        let mark = Mark::of(&self.begun, &self.whole);
-        let Ok(fault) = take_in(self.alloc, &mut self.begun, &mut self.whole, piece) else {
-            mark.take_back(&mut self.begun, &mut self.whole);
+        let checkpoint = Checkpoint::save(&self.pending, &self.whole);
+        let Ok(fault) = feed_piece(self.alloc, &mut self.pending, &mut self.whole, piece) else {
+            checkpoint.restore(&mut self.pending, &mut self.whole);
             return Err(BoxFault::Memory);
         };
         self.fault = fault;
@@ -83,7 +83,7 @@ impl UnitReader {
     /// Takes out the first part of what was fed; none where no part is whole yet. Nothing is lost
     /// where memory is refused.
     pub fn take(&mut self) -> Result<Option<Part>, AllocError>
-        ensures ok { IfOk result (λ part. IsTaken part self.old self.new) }
+        ensures ok { IfOk result (λ part. TakesNextPart part self.old self.new) }
         ensures err { OnErr result ((self.new ≡ self.old) × HasPart self.old) }
     {
         let Some(first) = self.whole.pop_front() else {
@@ -103,15 +103,15 @@ impl UnitReader {
     /// A fault of `feed` stays the answer for ever. `Truncated` is the answer where the stream ends
     /// inside a box, or after a `moof` whose `mdat` hasn't come.
     pub fn finish(&self) -> Result<(), BoxFault>
-        ensures { Tells result (fault_at_end (cut_of self.now).left) }
+        ensures { ReportsFault result (fault_at_end (stream_cut self.now).left) }
     {
         if let Some(fault) = self.fault {
             return Err(fault);
         }
-        if self.begun.at < self.begun.bytes.len() {
+        if self.pending.at < self.pending.bytes.len() {
             return Err(BoxFault::Truncated);
         }
-        if self.begun.has_moof {
+        if self.pending.has_moof {
             return Err(BoxFault::Truncated);
         }
         Ok(())

@@ -9,8 +9,8 @@ use Rattle.hls_media_laws.specs.declared.facts.Facts.{Facts}
 use Rattle.hls_check_laws.specs.declared.spot.Spot.{Spot}
 use Rattle.hls_places_laws.specs.declared.place.Place.{Place}
 use Rattle.hls_places_laws.specs.Sources.{Source, first_facts, fact_at, no_facts}
-use Rattle.hls_places_laws.specs.Spots.{near, spot_at, first_entry}
-use Rattle.hls_places_laws.specs.Places.{spots, with_spot, place_of, common_at, has_ended, end_in, closing_of, places_of}
+use Rattle.hls_places_laws.specs.Spots.{near_spot, spot_at, first_entry}
+use Rattle.hls_places_laws.specs.Places.{spots, with_spot, place_of, common_at, has_ended, source_end_spot, closing_places, places_of}
 use Rattle.hls_catchup.proofs.Cited.{filter_map-all, all-snoc}
 
 -- spots side by side with the renditions, none past the last fragment's end
@@ -32,7 +32,7 @@ below_is k m n below same = omega arith
 all_of : (n : ℕ) → n ≤ n
 all_of n = omega arith
 
-near-bounded : (s : Source) (t : ℕ) (spot : Spot) → near s t ≡ Some spot → spot.fragment ≤ length s.facts
+near-bounded : (s : Source) (t : ℕ) (spot : Spot) → near_spot s t ≡ Some spot → spot.fragment ≤ length s.facts
 near-bounded s t spot is =
     let k : ℕ = first_entry (t - s.tolerance) s.facts in
     let parts = taken_true (nat_lt k (length s.facts) && nat_le (fact_at s.facts k).start_us (t + s.tolerance)) (spot_at s.facts k) spot is in
@@ -51,9 +51,9 @@ both_there s sources (Some spot) (Some more) found is first others =
 spots-bounded : (sources : List Source) (t : ℕ) (found : List Spot) → spots sources t ≡ Some found → Bounded sources found
 spots-bounded [] t found is = subst (Bounded []) (same_Some [] found is) tt
 spots-bounded (s ∷ sources) t found is =
-    both_there s sources (near s t) (spots sources t) found is (near-bounded s t) (spots-bounded sources t)
+    both_there s sources (near_spot s t) (spots sources t) found is (near-bounded s t) (spots-bounded sources t)
 
-ends-bounded : (sources : List Source) → Bounded sources (map end_in sources)
+ends-bounded : (sources : List Source) → Bounded sources (map source_end_spot sources)
 ends-bounded [] = tt
 ends-bounded (s ∷ sources) = (all_of (length s.facts), ends-bounded sources)
 
@@ -84,11 +84,11 @@ places-bounded sources =
     filter_map-all (common_at sources) P no_facts fs (λ k p h at. place-bounded sources (get_or fs k no_facts) p at) in
     elim (cases_Bool (list_all has_ended sources)) [
       | inl over ↦
-          (let closing : closing_of sources ≡ (record { spots = map end_in sources; closing = true }) ∷ [] = cond-true (list_all has_ended sources) _ _ over in
+          (let closing : closing_places sources ≡ (record { spots = map source_end_spot sources; closing = true }) ∷ [] = cond-true (list_all has_ended sources) _ _ over in
           subst (λ (ps : List Place). All P (filter_map (common_at sources) fs ++ ps)) (sym closing)
-          (all-snoc P (filter_map (common_at sources) fs) (record { spots = map end_in sources; closing = true }) found (ends-bounded sources)))
+          (all-snoc P (filter_map (common_at sources) fs) (record { spots = map source_end_spot sources; closing = true }) found (ends-bounded sources)))
       | inr going ↦
-          (let closing : closing_of sources ≡ [] = cond-false (list_all has_ended sources) _ _ going in
+          (let closing : closing_places sources ≡ [] = cond-false (list_all has_ended sources) _ _ going in
           subst (λ (ps : List Place). All P (filter_map (common_at sources) fs ++ ps)) (sym closing)
           (subst (All P) (sym (append-nil (filter_map (common_at sources) fs))) found))
     ]

@@ -8,36 +8,36 @@ use Rattle.std.proofs.lemmas.List.Elements.{All-nil, All-cons, All-head, All-tai
 use Rattle.hls_media_laws.specs.declared.facts.Facts.{Facts}
 use Rattle.hls_check_laws.specs.declared.spot.Spot.{Spot}
 use Rattle.hls_check_laws.specs.Tables.{Table, IsTable, IsPlaceOf, spot_in, place_at}
-use Rattle.hls_record.specs.Recorded.{Recorded}
+use Rattle.hls_record.specs.RecordingData.{RecordingData}
 use Rattle.hls_core_laws.specs.State.{State, channel}
 use Rattle.hls_core_laws.specs.Places.{is_finished, tolerance_of, sources, kept_places}
 use Rattle.hls_catchup.proofs.Cited.{lanes_count}
 use Rattle.hls_places_laws.specs.declared.place.Place.{Place}
 use Rattle.hls_places_laws.specs.Sources.{Source, sources_of}
 use Rattle.hls_places_laws.specs.Places.{places_of}
-use Rattle.hls_places_laws.specs.Programmes.{is_kept_above, is_kept, kept, cut_out}
+use Rattle.hls_places_laws.specs.Programmes.{is_kept_above, is_kept, filter_kept, table_between}
 use Rattle.hls_catchup_laws.specs.declared.request.Request.{Request}
-use Rattle.hls_catchup_laws.specs.declared.cutout.Cutout.{Cutout}
-use Rattle.hls_catchup_laws.specs.Answers.{AreCovered, IsRightCutout}
+use Rattle.hls_catchup_laws.specs.declared.cut_result.CutResult.{CutResult}
+use Rattle.hls_catchup_laws.specs.Answers.{AreCovered, IsRightCutResult}
 use Rattle.hls_catchup_laws.specs.Requests.{goal_for, IsTableFor, AreRecordings, IsRightAnswer}
 use Rattle.hls_catchup.proofs.Bounded.{Bounded, places-bounded}
 use Rattle.hls_catchup.proofs.States.{same_facts, same_floors}
 
 -- the recordings side by side with the tolerances and with what is finished, and their floors
-abbrev sources_with : List Recorded → List ℕ → List Bool → List Source
-sources_with recordings tolerances finished = sources_of (map (λ (r : Recorded). r.facts) recordings) tolerances finished
+abbrev sources_with : List RecordingData → List ℕ → List Bool → List Source
+sources_with recordings tolerances finished = sources_of (map (λ (r : RecordingData). r.facts) recordings) tolerances finished
 
-abbrev floors_with : List Recorded → List ℕ
-floors_with recordings = map (λ (r : Recorded). r.floor) recordings
+abbrev floors_with : List RecordingData → List ℕ
+floors_with recordings = map (λ (r : RecordingData). r.floor) recordings
 
 -- spots side by side with the recordings, each between the floor and the count
-abbrev pub Within : List Recorded → List Spot → Type 0
+abbrev pub Within : List RecordingData → List Spot → Type 0
 Within [] [] = ⊤
 Within [] (spot ∷ others) = ⊥
 Within (r ∷ recordings) [] = ⊥
 Within (r ∷ recordings) (spot ∷ others) = (r.floor ≤ spot.fragment) × (spot.fragment ≤ length r.facts) × Within recordings others
 
-within-from : (recordings : List Recorded) (tolerances : List ℕ) (finished : List Bool) (spots : List Spot) →
+within-from : (recordings : List RecordingData) (tolerances : List ℕ) (finished : List Bool) (spots : List Spot) →
     length tolerances ≡ length recordings → length finished ≡ length recordings →
     Bounded (sources_with recordings tolerances finished) spots → is_kept_above (floors_with recordings) spots ≡ true → Within recordings spots
 within-from [] tolerances finished [] same also bounded is_kept = tt
@@ -60,47 +60,47 @@ filtered test P Q (x ∷ xs) each all =
     (λ passes. All-cons Q x (filter test xs) (each x passes (All-head P x xs all)) rest) (λ fails. rest)
 
 -- every kept place lies within the recordings
-kept-within : (recordings : List Recorded) (tolerances : List ℕ) (finished : List Bool) →
+kept-within : (recordings : List RecordingData) (tolerances : List ℕ) (finished : List Bool) →
     length tolerances ≡ length recordings → length finished ≡ length recordings →
-    All (λ (p : Place). Within recordings p.spots) (kept (floors_with recordings) (places_of (sources_with recordings tolerances finished)))
+    All (λ (p : Place). Within recordings p.spots) (filter_kept (floors_with recordings) (places_of (sources_with recordings tolerances finished)))
 kept-within recordings tolerances finished same also =
     let sources : List Source = sources_with recordings tolerances finished in
     filtered (is_kept (floors_with recordings)) (λ (p : Place). Bounded sources p.spots) (λ (p : Place). Within recordings p.spots) (places_of sources)
     (λ p passes bounded. within-from recordings tolerances finished p.spots same also bounded passes)
     (places-bounded sources)
 
-state-within : (s : State) (recordings : List Recorded) → AreRecordings s recordings → All (λ (p : Place). Within recordings p.spots) (kept_places s)
+state-within : (s : State) (recordings : List RecordingData) → AreRecordings s recordings → All (λ (p : Place). Within recordings p.spots) (kept_places s)
 state-within s recordings are =
     let tolerances : List ℕ = map tolerance_of s.config.renditions in
     let finished : List Bool = map is_finished (channel s).lanes in
     let same : length tolerances ≡ length recordings = length-map s.config.renditions tolerance_of ∙ sym (lanes_count s.config s.log) ∙ sym are.count in
     let also : length finished ≡ length recordings = length-map (channel s).lanes is_finished ∙ sym are.count in
     let P : List Place → Type 0 = All (λ (p : Place). Within recordings p.spots) in
-    subst (λ (fs : List ℕ). P (kept fs (places_of (sources s)))) (same_floors s recordings are)
-    (subst (λ (lists : List (List Facts)). P (kept (floors_with recordings) (places_of (sources_of lists tolerances finished)))) (same_facts s recordings are)
+    subst (λ (fs : List ℕ). P (filter_kept fs (places_of (sources s)))) (same_floors s recordings are)
+    (subst (λ (lists : List (List Facts)). P (filter_kept (floors_with recordings) (places_of (sources_of lists tolerances finished)))) (same_facts s recordings are)
     (kept-within recordings tolerances finished same also))
 
-within-long : (recordings : List Recorded) (spots : List Spot) → Within recordings spots → length spots ≡ length recordings
+within-long : (recordings : List RecordingData) (spots : List Spot) → Within recordings spots → length spots ≡ length recordings
 within-long [] [] within = refl
 within-long [] (spot ∷ spots) within = absurd within
 within-long (r ∷ recordings) [] within = absurd within
 within-long (r ∷ recordings) (spot ∷ spots) within = ap suc (within-long recordings spots within.2)
 
-within-at : (recordings : List Recorded) (spots : List Spot) → Within recordings spots → (r : ℕ) (recorded : Recorded) →
+within-at : (recordings : List RecordingData) (spots : List Spot) → Within recordings spots → (r : ℕ) (recorded : RecordingData) →
     slice_get recordings r ≡ Some recorded → (recorded.floor ≤ (spot_in spots r).fragment) × ((spot_in spots r).fragment ≤ length recorded.facts)
 within-at [] spots within r recorded at = cc
 within-at (first ∷ recordings) [] within r recorded at = absurd within
 within-at (first ∷ recordings) (spot ∷ spots) within zero recorded at =
     let same : first ≡ recorded = cc in
-    subst (λ (x : Recorded). (x.floor ≤ spot.fragment) × (spot.fragment ≤ length x.facts)) same (within.0, within.1)
+    subst (λ (x : RecordingData). (x.floor ≤ spot.fragment) × (spot.fragment ≤ length x.facts)) same (within.0, within.1)
 within-at (first ∷ recordings) (spot ∷ spots) within (suc r) recorded at = within-at recordings spots within.2 r recorded at
 
-pub table-covered : (s : State) (request : Request) (t : Table) (recordings : List Recorded) → AreRecordings s recordings → IsTable t →
+pub table-covered : (s : State) (request : Request) (t : Table) (recordings : List RecordingData) → AreRecordings s recordings → IsTable t →
     IsTableFor s request (Ok t) → AreCovered t recordings
 table-covered s request t recordings are valid is =
     let places : List Place = kept_places s in
     let found = is.programme.0 in
-    let cut : cut_out (goal_for s request) places found.s found.e ≡ t = sym found.is in
+    let cut : table_between (goal_for s request) places found.s found.e ≡ t = sym found.is in
     let range : List Place = slice_range places found.s (found.e + 1) in
     let P : Place → Type 0 = λ p. Within recordings p.spots in
     let all : All P range = All-take P (found.e + 1 - found.s) (drop found.s places) (All-drop P found.s places (state-within s recordings are)) in
@@ -118,15 +118,15 @@ table-covered s request t recordings are valid is =
     }
 
 -- an answer over the recordings of the state is right
-pub right_answer : (s : State) (epoch : Option ℤ) (request : Request) (table : Table) (recordings : List Recorded) (cutout : Cutout) →
-    epoch ≡ s.config.epoch → IsTableFor s request (Ok table) → AreRecordings s recordings → IsTable table → IsRightCutout epoch recordings table cutout →
-    IsRightAnswer s request cutout
-right_answer s epoch request table recordings cutout known defined are valid right =
+pub right_answer : (s : State) (epoch : Option ℤ) (request : Request) (table : Table) (recordings : List RecordingData) (cut_result : CutResult) →
+    epoch ≡ s.config.epoch → IsTableFor s request (Ok table) → AreRecordings s recordings → IsTable table → IsRightCutResult epoch recordings table cut_result →
+    IsRightAnswer s request cut_result
+right_answer s epoch request table recordings cut_result known defined are valid right =
     record {
       table = table;
       defined = defined;
       recordings = recordings;
       are = are;
       covered = table-covered s request table recordings are valid defined;
-      right = subst (λ (e : Option ℤ). IsRightCutout e recordings table cutout) known right;
+      right = subst (λ (e : Option ℤ). IsRightCutResult e recordings table cut_result) known right;
     }

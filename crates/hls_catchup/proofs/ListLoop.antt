@@ -1,14 +1,14 @@
 -- One list more in a loop over the renditions.
 use Rattle.std.proofs.Common.{◌≡◌, ℕ, suc, ◌+◌, ◌<◌, ℤ, Option, List, [], ◌∷◌, ◌++◌, length, map, drop, get_or, sym, ◌∙◌, ap, Bor, append_assoc, drop-cons, add-one}
 use Rattle.std.proofs.lemmas.List.{map-append}
-use Rattle.hls_record.specs.Recorded.{Recorded}
+use Rattle.hls_record.specs.RecordingData.{RecordingData}
 use Rattle.hls_check_laws.specs.Tables.{Table}
 use Rattle.hls_m3u8.specs.declared.playlist.MediaPlaylist.{MediaPlaylist}
 use Rattle.hls_m3u8.specs.Playlist.{Playlist, playlist_of}
-use Rattle.hls_catchup_laws.specs.Lists.{job_list, job_lists}
+use Rattle.hls_catchup_laws.specs.JobPlaylists.{job_list, job_lists}
 
-pub one_list_more : (epoch : Option ℤ) (recordings : List (Bor Recorded)) (t : Table) (plan : List ℕ) (lists : List MediaPlaylist) (list : MediaPlaylist) (i : ℕ)
-    (recording : Bor Recorded) (whole : List Playlist) →
+pub one_list_more : (epoch : Option ℤ) (recordings : List (Bor RecordingData)) (t : Table) (plan : List ℕ) (lists : List MediaPlaylist) (list : MediaPlaylist) (i : ℕ)
+    (recording : Bor RecordingData) (whole : List Playlist) →
     i < length recordings → recording ≡ get_or recordings i recording → playlist_of list ≡ job_list epoch recording.now i t plan →
     map playlist_of lists ++ job_lists epoch i (map (λ r. r.now) (drop i recordings)) t plan ≡ whole →
     map playlist_of (lists ++ list ∷ []) ++ job_lists epoch (i + 1) (map (λ r. r.now) (drop (i + 1) recordings)) t plan ≡ whole

@@ -7,7 +7,7 @@ use Rattle.std.proofs.lemmas.Str.{IsUtf8-from_ascii}
 use Rattle.std.proofs.lemmas.Str.Ascii.{IsAscii-from_all}
 use Rattle.hls_core_laws.specs.Config.{is_name_byte, IsName, IsConfig, ConfigData}
 use Rattle.hls_core_laws.specs.declared.rendition.Rendition.{Rendition}
-use Rattle.hls_catchup.specs.Named.{IsNamed}
+use Rattle.hls_catchup.specs.RenditionNames.{IsNamed}
 
 byte_small : (b : ℕ) → IsTrue (is_name_byte b) → b < 128
 byte_small b spelled = grind (arith, spelled)

@@ -5,10 +5,10 @@ use Rattle.std.specs.Prelude.{slice_get}
 use Rattle.std.specs.List.{concat}
 use Rattle.hls_media_laws.specs.declared.facts.Facts.{Facts}
 use Rattle.hls_catchup.proofs.Cited.{units_are_bounded, at_drop, no_piece, bytes_are}
-use Rattle.hls_record.specs.Recorded.{Recorded, offset_at, unit_piece, piece_at}
-use Rattle.hls_record.specs.Valid.{IsRecorded}
+use Rattle.hls_record.specs.RecordingData.{RecordingData, offset_at, unit_piece, piece_at}
+use Rattle.hls_record.specs.IsRecorded.{IsRecorded}
 use Rattle.hls_media_laws.specs.FactLists.{len_of}
-use Rattle.hls_lists_laws.specs.Jobs.{bytes_between, units_between, resource_of, HaveLengths}
+use Rattle.hls_lists_laws.specs.JobResource.{bytes_between, units_between, resource_of, HaveLengths}
 use Rattle.hls_catchup.proofs.Offsets.{offsets_add}
 
 -- lengths side by side
@@ -24,14 +24,14 @@ same_lengths (f ∷ fs) (u ∷ us) lens long =
     ap (λ n. n ∷ map len_of fs) here ∙ ap (λ ns. length u ∷ ns) rest
 
 -- a recording's kept units are as long as their facts say
-pub have_lengths : (r : Recorded) → IsRecorded r → HaveLengths r.facts r.floor r.units
+pub have_lengths : (r : RecordingData) → IsRecorded r → HaveLengths r.facts r.floor r.units
 have_lengths r valid =
     let count : length (drop r.floor r.facts) ≡ length r.facts - r.floor = length-drop r.floor r.facts in
     same_lengths (drop r.floor r.facts) r.units
     (λ k f u at_f at_u. (units_are_bounded r.init u f (valid.fits k f u (sym (at_drop r.facts r.floor k) ∙ at_f) at_u)).len_is)
     (omega (arith, valid.kept))
 
-pub resource_long : (r : Recorded) (first end : ℕ) → IsRecorded r → r.floor ≤ first →
+pub resource_long : (r : RecordingData) (first end : ℕ) → IsRecorded r → r.floor ≤ first →
     length (resource_of r.head r.floor r.units first end) ≡ length r.head + bytes_between r.facts first end
 resource_long r first end valid kept =
     length-append r.head (concat (units_between r.floor r.units first end))
@@ -60,7 +60,7 @@ within_first (u ∷ us) (suc d) y inside =
     ]
 
 -- past the units there is nothing
-pub piece_past : (r : Recorded) (first end at : ℕ) → IsRecorded r → r.floor ≤ first → length r.head ≤ at →
+pub piece_past : (r : RecordingData) (first end at : ℕ) → IsRecorded r → r.floor ≤ first → length r.head ≤ at →
     bytes_between r.facts first end ≤ at - length r.head →
     unit_piece (r.head ∷ units_between r.floor r.units first end) at ≡ None
 piece_past r first end at valid kept behind_head past =
@@ -69,7 +69,7 @@ piece_past r first end at valid kept behind_head past =
     rw (le-ltb at (length r.head) behind_head) (no_piece (units_between r.floor r.units first end) (at - length r.head) (omega arith))
 
 -- within them the recording has the piece, further back
-pub piece_there : (r : Recorded) (first end at : ℕ) → IsRecorded r → r.floor ≤ first → length r.head ≤ at →
+pub piece_there : (r : RecordingData) (first end at : ℕ) → IsRecorded r → r.floor ≤ first → length r.head ≤ at →
     at - length r.head < bytes_between r.facts first end →
     piece_at r (offset_at r first + (at - length r.head)) ≡ unit_piece (r.head ∷ units_between r.floor r.units first end) at
 piece_there r first end at valid kept behind_head inside =

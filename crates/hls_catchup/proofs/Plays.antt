@@ -8,13 +8,13 @@ use Rattle.hls_core_laws.specs.declared.event.Event.{Event}
 use Rattle.hls_core_laws.specs.Config.{ConfigData}
 use Rattle.hls_core_laws.specs.State.{State}
 use Rattle.hls_core_laws.specs.Moves.{IsFitting}
-use Rattle.hls_core_laws.specs.Runs.{first_state, next_state, replayed, AreFitting}
+use Rattle.hls_core_laws.specs.Runs.{first_state, next_state, replayed_state, AreFitting}
 use Rattle.hls_catchup_laws.specs.declared.request.Request.{Request}
 use Rattle.hls_catchup_laws.specs.declared.fault.CatchFault.{CatchFault}
 use Rattle.hls_catchup.specs.declared.actions.Action.{Action}
 use Rattle.hls_catchup.specs.declared.actions.Action.TheVariants as action
 use Rattle.hls_catchup_laws.specs.Replies.{ReplyData, IsAnswered}
-use Rattle.hls_catchup.specs.Plays.{events_in, requests_in, state_before, HasAnswerBehind, IsPlayed, IsRunTo}
+use Rattle.hls_catchup.specs.Play.{events_in, requests_in, state_before, AppendsAnswer, IsPlayed, IsRunTo}
 
 events_in-append : (xs ys : List Action) → events_in (xs ++ ys) ≡ events_in xs ++ events_in ys
 events_in-append [] ys = refl
@@ -26,7 +26,7 @@ requests_in-append [] ys = refl
 requests_in-append (action.Event by event ∷ xs) ys = requests_in-append xs ys
 requests_in-append (action.Ask request ∷ xs) ys = ap (λ (rs : List Request). request ∷ rs) (requests_in-append xs ys)
 
-replayed-append : (s : State) (xs ys : List (ℕ × Event)) → replayed s (xs ++ ys) ≡ replayed (replayed s xs) ys
+replayed-append : (s : State) (xs ys : List (ℕ × Event)) → replayed_state s (xs ++ ys) ≡ replayed_state (replayed_state s xs) ys
 replayed-append s [] ys = refl
 replayed-append s (e ∷ xs) ys = replayed-append (next_state s e.0 e.1) xs ys
 
@@ -77,7 +77,7 @@ event_played config actions i state next answers a by event within is kind befor
     record {
       reached = stepped ∙ ap (λ (s : State). next_state s by event) before.reached
           ∙ sym (replayed-append (first_state config) (events_in (take i actions)) ((by, event) ∷ []))
-          ∙ ap (replayed (first_state config)) (sym upto);
+          ∙ ap (replayed_state (first_state config)) (sym upto);
       fitting = subst (λ (s : State). AreFitting s (events_in (drop (i + 1) actions))) (sym stepped) fits.1;
       count = before.count ∙ ap (λ (rs : List Request). length rs) (sym asked);
       each = λ k request below at.
@@ -119,7 +119,7 @@ ask_answered config actions i state answers a request answer within is kind befo
     let rest : events_in (drop i actions) ≡ events_in (drop (i + 1) actions) =
     ap events_in (here.rest ∙ ap (λ (x : Action). x ∷ drop (i + 1) actions) kind) in
     record {
-      reached = before.reached ∙ ap (replayed (first_state config)) (sym upto);
+      reached = before.reached ∙ ap (replayed_state (first_state config)) (sym upto);
       fitting = subst (AreFitting state) rest before.fitting;
       count =
           let more : length (answers ++ answer ∷ []) ≡ length answers + 1 = length-append answers (answer ∷ []) in
@@ -151,22 +151,22 @@ ask_answered config actions i state answers a request answer within is kind befo
 
 pub ask_played : (config : ConfigData) (actions : List Action) (i : ℕ) (state : State) (answers more : List (Result ReplyData CatchFault)) (a : Action)
     (request : Request) → i < length actions → a ≡ get_or actions i a → a ≡ action.Ask request →
-    IsPlayedTo config actions i state answers → HasAnswerBehind state request answers more → IsPlayedTo config actions (i + 1) state more
+    IsPlayedTo config actions i state answers → AppendsAnswer state request answers more → IsPlayedTo config actions (i + 1) state more
 ask_played config actions i state answers more a request within is kind before has =
-    subst (IsPlayedTo config actions (i + 1) state) (sym has.behind) (ask_answered config actions i state answers a request has.answer within is kind before has.right)
+    subst (IsPlayedTo config actions (i + 1) state) (sym has.appended) (ask_answered config actions i state answers a request has.answer within is kind before has.right)
 
 pub all_played : (config : ConfigData) (actions : List Action) (i : ℕ) (state : State) (answers : List (Result ReplyData CatchFault)) →
     length actions ≤ i → IsPlayedTo config actions i state answers → IsPlayed config actions state answers
 all_played config actions i state answers all played =
     let whole : take i actions ≡ actions = take_all i actions all in
     record {
-      state = played.reached ∙ ap (λ (xs : List Action). replayed (first_state config) (events_in xs)) whole;
+      state = played.reached ∙ ap (λ (xs : List Action). replayed_state (first_state config) (events_in xs)) whole;
       count = played.count ∙ ap (λ (xs : List Action). length (requests_in xs)) whole;
       each = λ k request at. let within : k < length actions = slice_get_within actions k (action.Ask request) at in played.each k request (omega arith) at;
     }
 
 -- one more event that fits in the state where the others lead
-fitting-more : (s : State) (events : List (ℕ × Event)) (by : ℕ) (event : Event) → AreFitting s events → IsFitting (replayed s events) event →
+fitting-more : (s : State) (events : List (ℕ × Event)) (by : ℕ) (event : Event) → AreFitting s events → IsFitting (replayed_state s events) event →
     AreFitting s (events ++ ((by, event) ∷ []))
 fitting-more s [] by event fitting fits = (fits, tt)
 fitting-more s (e ∷ events) by event fitting fits = (fitting.0, fitting-more (next_state s e.0 e.1) events by event fitting.1 fits)
@@ -175,17 +175,17 @@ fitting-more s (e ∷ events) by event fitting fits = (fitting.0, fitting-more (
 pub run_with_event : (config : ConfigData) (actions : List Action) (state next : State) (by : ℕ) (event : Event) → IsRunTo config actions state →
     IsFitting state event → next ≡ next_state state by event → IsRunTo config (actions ++ action.Event by event ∷ []) next
 run_with_event config actions state next by event run fits stepped =
-    let told : events_in (actions ++ action.Event by event ∷ []) ≡ events_in actions ++ ((by, event) ∷ []) = events_in-append actions (action.Event by event ∷ []) in
-    let fits_there : IsFitting (replayed (first_state config) (events_in actions)) event = subst (λ (s : State). IsFitting s event) run.1 fits in (
-      subst (AreFitting (first_state config)) (sym told) (fitting-more (first_state config) (events_in actions) by event run.0 fits_there),
+    let reported : events_in (actions ++ action.Event by event ∷ []) ≡ events_in actions ++ ((by, event) ∷ []) = events_in-append actions (action.Event by event ∷ []) in
+    let fits_there : IsFitting (replayed_state (first_state config) (events_in actions)) event = subst (λ (s : State). IsFitting s event) run.1 fits in (
+      subst (AreFitting (first_state config)) (sym reported) (fitting-more (first_state config) (events_in actions) by event run.0 fits_there),
       stepped ∙ ap (λ (s : State). next_state s by event) run.1
           ∙ sym (replayed-append (first_state config) (events_in actions) ((by, event) ∷ []))
-          ∙ ap (replayed (first_state config)) (sym told),
+          ∙ ap (replayed_state (first_state config)) (sym reported),
     )
 
 -- a run with a request more
 pub run_with_request : (config : ConfigData) (actions : List Action) (state : State) (request : Request) → IsRunTo config actions state →
     IsRunTo config (actions ++ action.Ask request ∷ []) state
 run_with_request config actions state request run =
-    let told : events_in (actions ++ action.Ask request ∷ []) ≡ events_in actions = events_in-append actions (action.Ask request ∷ []) ∙ append-nil (events_in actions) in
-    (subst (AreFitting (first_state config)) (sym told) run.0, run.1 ∙ ap (replayed (first_state config)) (sym told))
+    let reported : events_in (actions ++ action.Ask request ∷ []) ≡ events_in actions = events_in-append actions (action.Ask request ∷ []) ∙ append-nil (events_in actions) in
+    (subst (AreFitting (first_state config)) (sym reported) run.0, run.1 ∙ ap (replayed_state (first_state config)) (sym reported))

@@ -6,12 +6,12 @@ use Rattle.std.proofs.lemmas.Bool.{cases_lt, le-ltb}
 use Rattle.std.proofs.lemmas.List.{get_or-drop, get_or-take, get_or_past, take-take, take_all}
 use Rattle.std.proofs.lemmas.Option.{unwrap_or-slice_get}
 use Rattle.std.proofs.Math.Seq.{drop-append-add}
-use Rattle.hls_record.specs.Recorded.{Recorded, offset_at, total_of, unit_at}
-use Rattle.hls_record.specs.Search.{Stands}
-use Rattle.hls_record.specs.Valid.{IsRecorded}
-use Rattle.hls_lists_laws.specs.Jobs.{bytes_between, units_between}
+use Rattle.hls_record.specs.RecordingData.{RecordingData, offset_at, total_of, unit_at}
+use Rattle.hls_record.specs.Search.{IsInUnit}
+use Rattle.hls_record.specs.IsRecorded.{IsRecorded}
+use Rattle.hls_lists_laws.specs.JobResource.{bytes_between, units_between}
 use Rattle.hls_catchup.proofs.Cited.{bytes_are}
-use Rattle.hls_catchup_laws.specs.Resources.{IsPlaceOf}
+use Rattle.hls_catchup_laws.specs.Resources.{IsPositionOf}
 use Rattle.hls_catchup.proofs.Offsets.{bytes_are_offsets, offsets_add}
 use Rattle.hls_catchup.proofs.Pieces.{have_lengths}
 
@@ -24,7 +24,7 @@ behind_slices (u ∷ us) (suc m) w =
     ap (λ n. drop n (u ++ concat us)) long ∙ drop-append-add u (concat us) (length (concat (take m us)) + w) ∙ behind_slices us m w
 
 -- the slice of a unit is the unit
-unit_at_slice : (r : Recorded) (first end k : ℕ) → r.floor ≤ first → k < end - first
+unit_at_slice : (r : RecordingData) (first end k : ℕ) → r.floor ≤ first → k < end - first
     → unwrap_or (unit_at r (first + k)) [] ≡ get_or (units_between r.floor r.units first end) k []
 unit_at_slice r first end k kept within =
     let moved : first + k - r.floor ≡ first - r.floor + k = omega arith in
@@ -32,7 +32,7 @@ unit_at_slice r first end k kept within =
     (unwrap_or-slice_get r.units (first + k - r.floor) [] ∙ ap (λ n. get_or r.units n []) moved
     ∙ sym (get_or-take (end - first) (drop (first - r.floor) r.units) k [] within ∙ get_or-drop (first - r.floor) r.units k []))
 
-pub unit_slice : (r : Recorded) (first end number : ℕ) (found : Option (List ℕ)) → r.floor ≤ first → 0 < number → number ≤ end - first
+pub unit_slice : (r : RecordingData) (first end number : ℕ) (found : Option (List ℕ)) → r.floor ≤ first → 0 < number → number ≤ end - first
     → found ≡ unit_at r (first + (number - 1))
     → unwrap_or found [] ≡ get_or (r.head ∷ units_between r.floor r.units first end) number []
 unit_slice r first end number found kept some within is =
@@ -40,30 +40,30 @@ unit_slice r first end number found kept some within is =
     ap (λ (o : Option (List ℕ)). unwrap_or o []) is ∙ unit_at_slice r first end (number - 1) kept (omega arith)
     ∙ sym (ap (λ n. get_or (r.head ∷ units_between r.floor r.units first end) n []) next)
 
-pub few_units : (r : Recorded) (first end : ℕ) → length (units_between r.floor r.units first end) ≤ length r.units
+pub few_units : (r : RecordingData) (first end : ℕ) → length (units_between r.floor r.units first end) ≤ length r.units
 few_units r first end =
     omega (arith, length-take (end - first) (drop (first - r.floor) r.units), length-drop (first - r.floor) r.units)
 
 -- past the last unit there is no slice
-pub no_slice : (r : Recorded) (first end number : ℕ) → end - first < number → [] ≡ get_or (r.head ∷ units_between r.floor r.units first end) number []
+pub no_slice : (r : RecordingData) (first end number : ℕ) → end - first < number → [] ≡ get_or (r.head ∷ units_between r.floor r.units first end) number []
 no_slice r first end number past =
     let long : length (r.head ∷ units_between r.floor r.units first end) ≤ number =
     omega (arith, length-take (end - first) (drop (first - r.floor) r.units)) in
     sym (get_or_past (r.head ∷ units_between r.floor r.units first end) number [] long)
 
 -- the resource is as long as its init section and the bytes between
-long_slices : (r : Recorded) (first end : ℕ) → IsRecorded r → r.floor ≤ first
+long_slices : (r : RecordingData) (first end : ℕ) → IsRecorded r → r.floor ≤ first
     → length (concat (r.head ∷ units_between r.floor r.units first end)) ≡ length r.head + bytes_between r.facts first end
 long_slices r first end valid kept =
     length-append r.head (concat (units_between r.floor r.units first end))
     ∙ ap (λ n. length r.head + n) (sym (bytes_are r.facts r.floor r.units first end kept (have_lengths r valid)))
 
-pub none_past : (r : Recorded) (first end at : ℕ) → IsRecorded r → r.floor ≤ first → length r.head ≤ at → bytes_between r.facts first end ≤ at - length r.head
+pub none_past : (r : RecordingData) (first end at : ℕ) → IsRecorded r → r.floor ≤ first → length r.head ≤ at → bytes_between r.facts first end ≤ at - length r.head
     → length (concat (r.head ∷ units_between r.floor r.units first end)) ≤ at
 none_past r first end at valid kept behind past = omega (arith, long_slices r first end valid kept, behind, past)
 
 -- a unit in which a byte of those between stands is one of them
-pub unit_between : (r : Recorded) (first end at n : ℕ) → offset_at r first ≤ at → at < offset_at r end → Stands r at n → (first ≤ n) × (n < end)
+pub unit_between : (r : RecordingData) (first end at n : ℕ) → offset_at r first ≤ at → at < offset_at r end → IsInUnit r at n → (first ≤ n) × (n < end)
 unit_between r first end at n low high there =
     let up : first ≤ n = elim (cases_lt n first) [
       | inl early ↦ absurd (omega (arith, low, there.until, offsets_add r (n + 1) first (omega arith)))
@@ -75,9 +75,9 @@ unit_between r first end at n low high there =
     ] in
     (up, down)
 
-pub place_there : (r : Recorded) (first end at n : ℕ) → IsRecorded r → r.floor ≤ first → length r.head ≤ at → at - length r.head < bytes_between r.facts first end
-    → Stands r (offset_at r first + (at - length r.head)) n
-    → (first ≤ n) × IsPlaceOf (r.head ∷ units_between r.floor r.units first end) at (n - first + 1) (offset_at r first + (at - length r.head) - offset_at r n)
+pub place_there : (r : RecordingData) (first end at n : ℕ) → IsRecorded r → r.floor ≤ first → length r.head ≤ at → at - length r.head < bytes_between r.facts first end
+    → IsInUnit r (offset_at r first + (at - length r.head)) n
+    → (first ≤ n) × IsPositionOf (r.head ∷ units_between r.floor r.units first end) at (n - first + 1) (offset_at r first + (at - length r.head) - offset_at r n)
 place_there r first end at n valid kept behind inside there =
     let units : List (List ℕ) = units_between r.floor r.units first end in
     let from : ℕ = offset_at r first + (at - length r.head) in
@@ -99,16 +99,16 @@ place_there r first end at n valid kept behind inside there =
       },
     )
 
-init_offset : (r : Recorded) → offset_at r 0 ≡ length r.head
+init_offset : (r : RecordingData) → offset_at r 0 ≡ length r.head
 init_offset r = omega arith
 
-pub nothing_past : (r : Recorded) (first end at init between : ℕ) → IsRecorded r → r.floor ≤ first → init ≡ offset_at r 0 → init ≤ at
+pub nothing_past : (r : RecordingData) (first end at init between : ℕ) → IsRecorded r → r.floor ≤ first → init ≡ offset_at r 0 → init ≤ at
     → between ≡ bytes_between r.facts first end → between ≤ at - init → length (concat (r.head ∷ units_between r.floor r.units first end)) ≤ at
 nothing_past r first end at init between valid kept init_is behind between_is past =
     none_past r first end at valid kept (omega (arith, init_is, init_offset r, behind)) (omega (arith, init_is, init_offset r, between_is, past))
 
 -- no unit begins behind the end
-offset_small : (r : Recorded) (n : ℕ) → offset_at r n ≤ total_of r
+offset_small : (r : RecordingData) (n : ℕ) → offset_at r n ≤ total_of r
 offset_small r n =
     let all : offset_at r (length r.facts) ≡ total_of r = rw (take_all (length r.facts) r.facts (omega arith)) refl in
     elim (cases_lt n (length r.facts)) [
@@ -116,22 +116,22 @@ offset_small r n =
       | inr past ↦ (let same : offset_at r n ≡ total_of r = rw (take_all n r.facts past) refl in omega (arith, same))
     ]
 
-pub is_kept_byte : (r : Recorded) (first from rest : ℕ) → r.floor ≤ first → from ≡ offset_at r first → offset_at r r.floor ≤ from + rest
+pub is_kept_byte : (r : RecordingData) (first from rest : ℕ) → r.floor ≤ first → from ≡ offset_at r first → offset_at r r.floor ≤ from + rest
 is_kept_byte r first from rest kept is = omega (arith, is, offsets_add r r.floor first kept)
 
-pub before_total : (r : Recorded) (first end from rest between : ℕ) → from ≡ offset_at r first → between ≡ bytes_between r.facts first end → rest < between
+pub before_total : (r : RecordingData) (first end from rest between : ℕ) → from ≡ offset_at r first → between ≡ bytes_between r.facts first end → rest < between
     → from + rest < total_of r
 before_total r first end from rest between is between_is inside =
     omega (arith, is, between_is, inside, bytes_are_offsets r first end, offset_small r end)
 
 -- the place by the numbers that were read
-pub place_is : (r : Recorded) (first end at init from n unit between : ℕ) → IsRecorded r → r.floor ≤ first → init ≡ offset_at r 0 → init ≤ at
-    → between ≡ bytes_between r.facts first end → at - init < between → from ≡ offset_at r first → Stands r (from + (at - init)) n → unit ≡ offset_at r n
-    → (first ≤ n) × IsPlaceOf (r.head ∷ units_between r.floor r.units first end) at (n - first + 1) (from + (at - init) - unit)
+pub place_is : (r : RecordingData) (first end at init from n unit between : ℕ) → IsRecorded r → r.floor ≤ first → init ≡ offset_at r 0 → init ≤ at
+    → between ≡ bytes_between r.facts first end → at - init < between → from ≡ offset_at r first → IsInUnit r (from + (at - init)) n → unit ≡ offset_at r n
+    → (first ≤ n) × IsPositionOf (r.head ∷ units_between r.floor r.units first end) at (n - first + 1) (from + (at - init) - unit)
 place_is r first end at init from n unit between valid kept init_is behind between_is inside from_is there unit_is =
     let head : init ≡ length r.head = init_is ∙ init_offset r in
     let offset : from + (at - init) ≡ offset_at r first + (at - length r.head) = omega (arith, head, from_is) in
     let placed = place_there r first end at n valid kept (omega (arith, head, behind)) (omega (arith, head, between_is, inside))
-    (subst (λ (m : ℕ). Stands r m n) offset there) in
+    (subst (λ (m : ℕ). IsInUnit r m n) offset there) in
     let within : offset_at r first + (at - length r.head) - offset_at r n ≡ from + (at - init) - unit = omega (arith, offset, unit_is) in
-    (placed.0, subst (λ (m : ℕ). IsPlaceOf (r.head ∷ units_between r.floor r.units first end) at (n - first + 1) m) within placed.1)
+    (placed.0, subst (λ (m : ℕ). IsPositionOf (r.head ∷ units_between r.floor r.units first end) at (n - first + 1) m) within placed.1)

@@ -5,17 +5,17 @@ use Rattle.std.specs.List.{list_all}
 use Rattle.std.proofs.lemmas.Bool.{cases_lt}
 use Rattle.std.proofs.lemmas.List.{length-map, map-append, get_or_past, get_or-map, at_drop_more}
 use Rattle.hls_media_laws.specs.InitData.{InitData}
-use Rattle.hls_record.specs.Recorded.{Recorded}
+use Rattle.hls_record.specs.RecordingData.{RecordingData}
 use Rattle.hls_catchup.proofs.Cited.{some_at, at_snoc, lanes_count, sources_count, source_of, at_map, at_or, after-without}
 use Rattle.hls_core_laws.specs.Channel.{Lane, no_lane}
-use Rattle.hls_core_laws.specs.State.{State, Held, channel}
+use Rattle.hls_core_laws.specs.State.{State, HeldBytes, channel}
 use Rattle.hls_core_laws.specs.IsState.{IsState}
-use Rattle.hls_core_laws.specs.Outcome.{held}
+use Rattle.hls_core_laws.specs.Outcome.{held_bytes}
 use Rattle.hls_core_laws.specs.Places.{facts_of, is_finished, floor_of, sources, places, floors}
 use Rattle.hls_places_laws.specs.Sources.{source_at}
-use Rattle.hls_core.specs.Reads.{recorded_from, recorded_at, recording_of, finished_at}
+use Rattle.hls_core.specs.Getters.{recorded_from, recorded_at, recording_of, finished_at}
 use Rattle.hls_places_laws.specs.declared.place.Place.{Place}
-use Rattle.hls_catchup.specs.Kept.{kept_in}
+use Rattle.hls_catchup.specs.KeptPlaces.{places_and_floors_of}
 use Rattle.hls_catchup_laws.specs.Requests.{AreRecordings}
 
 looked_up : (lanes : List Lane) (r : ℕ) → unwrap_or (option_map (λ (l : Lane). l.finished) (slice_get lanes r)) false ≡ get_or (map is_finished lanes) r false
@@ -27,48 +27,48 @@ pub finished_there : (s : State) (r : ℕ) → unwrap_or (finished_at s r) false
 finished_there s r = looked_up (channel s).lanes r
 
 -- one recording more
-pub one_recording_more : (s : State) (recordings : List (Bor Recorded)) (recording : Bor Recorded) →
-    ((r : ℕ) (recorded : Recorded) → slice_get (map (λ r. r.now) recordings) r ≡ Some recorded → recording_of s r ≡ Some recorded) →
+pub one_recording_more : (s : State) (recordings : List (Bor RecordingData)) (recording : Bor RecordingData) →
+    ((r : ℕ) (recorded : RecordingData) → slice_get (map (λ r. r.now) recordings) r ≡ Some recorded → recording_of s r ≡ Some recorded) →
     recording_of s (length recordings) ≡ Some recording.now →
-    (r : ℕ) (recorded : Recorded) → slice_get (map (λ r. r.now) (recordings ++ recording ∷ [])) r ≡ Some recorded → recording_of s r ≡ Some recorded
+    (r : ℕ) (recorded : RecordingData) → slice_get (map (λ r. r.now) (recordings ++ recording ∷ [])) r ≡ Some recorded → recording_of s r ≡ Some recorded
 one_recording_more s recordings recording before is r recorded at =
-    let apart : map (λ (r : Bor Recorded). r.now) (recordings ++ recording ∷ []) ≡ map (λ (r : Bor Recorded). r.now) recordings ++ recording.now ∷ [] =
-    map-append (λ (r : Bor Recorded). r.now) recordings (recording ∷ []) in
-    let there : slice_get (map (λ (r : Bor Recorded). r.now) recordings ++ recording.now ∷ []) r ≡ Some recorded = ap (λ rs. slice_get rs r) (sym apart) ∙ at in
-    elim (at_snoc (map (λ (r : Bor Recorded). r.now) recordings) recording.now r recorded there) [
+    let apart : map (λ (r : Bor RecordingData). r.now) (recordings ++ recording ∷ []) ≡ map (λ (r : Bor RecordingData). r.now) recordings ++ recording.now ∷ [] =
+    map-append (λ (r : Bor RecordingData). r.now) recordings (recording ∷ []) in
+    let there : slice_get (map (λ (r : Bor RecordingData). r.now) recordings ++ recording.now ∷ []) r ≡ Some recorded = ap (λ rs. slice_get rs r) (sym apart) ∙ at in
+    elim (at_snoc (map (λ (r : Bor RecordingData). r.now) recordings) recording.now r recorded there) [
       | inl old ↦ before r recorded old
       | inr new ↦
-          (let number : r ≡ length recordings = new.0 ∙ length-map recordings (λ (r : Bor Recorded). r.now) in
-          ap (recording_of s) number ∙ is ∙ ap (λ (x : Recorded). Some x) (sym new.1))
+          (let number : r ≡ length recordings = new.0 ∙ length-map recordings (λ (r : Bor RecordingData). r.now) in
+          ap (recording_of s) number ∙ is ∙ ap (λ (x : RecordingData). Some x) (sym new.1))
     ]
 
-pub are_recordings : (s : State) (recordings : List (Bor Recorded)) → length recordings ≡ length s.config.renditions →
-    ((r : ℕ) (recorded : Recorded) → slice_get (map (λ r. r.now) recordings) r ≡ Some recorded → recording_of s r ≡ Some recorded) →
+pub are_recordings : (s : State) (recordings : List (Bor RecordingData)) → length recordings ≡ length s.config.renditions →
+    ((r : ℕ) (recorded : RecordingData) → slice_get (map (λ r. r.now) recordings) r ≡ Some recorded → recording_of s r ≡ Some recorded) →
     AreRecordings s (map (λ r. r.now) recordings)
 are_recordings s recordings count each = record {
-  count = length-map recordings (λ (r : Bor Recorded). r.now) ∙ count ∙ sym (lanes_count s.config s.log);
+  count = length-map recordings (λ (r : Bor RecordingData). r.now) ∙ count ∙ sym (lanes_count s.config s.log);
   each = each;
 }
 
 -- a recording has the facts and the floor of its lane
-pub record IsOfLane (l : Lane) (recorded : Recorded) : Type 0 where
+pub record IsOfLane (l : Lane) (recorded : RecordingData) : Type 0 where
   pub facts : recorded.facts ≡ l.facts
   pub floor : recorded.floor ≡ l.floor
 
-of_init : (o : Option InitData) (l : Lane) (h : Held) (recorded : Recorded) → recorded_from o l h ≡ Some recorded → IsOfLane l recorded
+of_init : (o : Option InitData) (l : Lane) (h : HeldBytes) (recorded : RecordingData) → recorded_from o l h ≡ Some recorded → IsOfLane l recorded
 of_init None l h recorded is = cc
 of_init (Some init) l h recorded is =
-    let made : Recorded = record { init = init; head = h.head; facts = l.facts; floor = l.floor; units = h.units } in
+    let made : RecordingData = record { init = init; head = h.head; facts = l.facts; floor = l.floor; units = h.units } in
     let same : made ≡ recorded = cc in
-    record { facts = sym (ap (λ (x : Recorded). x.facts) same); floor = sym (ap (λ (x : Recorded). x.floor) same) }
+    record { facts = sym (ap (λ (x : RecordingData). x.facts) same); floor = sym (ap (λ (x : RecordingData). x.floor) same) }
 
-of_lane : (s : State) (r : ℕ) (l : Lane) (recorded : Recorded) → slice_get (channel s).lanes r ≡ Some l → recording_of s r ≡ Some recorded → IsOfLane l recorded
+of_lane : (s : State) (r : ℕ) (l : Lane) (recorded : RecordingData) → slice_get (channel s).lanes r ≡ Some l → recording_of s r ≡ Some recorded → IsOfLane l recorded
 of_lane s r l recorded at is =
-    let there : recorded_at (Some l) (held s r) ≡ Some recorded = ap (λ o. recorded_at o (held s r)) (sym at) ∙ is in
-    of_init l.init l (held s r) recorded there
+    let there : recorded_at (Some l) (held_bytes s r) ≡ Some recorded = ap (λ o. recorded_at o (held_bytes s r)) (sym at) ∙ is in
+    of_init l.init l (held_bytes s r) recorded there
 
 -- a rendition that hasn't begun has no facts, and nothing of it is trimmed
-no_init : (o : Option InitData) (l : Lane) (h : Held) → recorded_from o l h ≡ None → o ≡ None
+no_init : (o : Option InitData) (l : Lane) (h : HeldBytes) → recorded_from o l h ≡ None → o ≡ None
 no_init None l h is = refl
 no_init (Some init) l h is = cc
 
@@ -78,9 +78,9 @@ record IsBare (l : Lane) : Type 0 where
 
 bare_lane : (s : State) → IsState s → (r : ℕ) (l : Lane) → r < length (channel s).lanes → slice_get (channel s).lanes r ≡ Some l → recording_of s r ≡ None → IsBare l
 bare_lane s valid r l within at unbegun =
-    let there : recorded_at (Some l) (held s r) ≡ None = ap (λ o. recorded_at o (held s r)) (sym at) ∙ unbegun in
-    let none : l.init ≡ None = no_init l.init l (held s r) there in
-    let bytes = some_at s.bytes r (omega (arith, valid.sides)) in
+    let there : recorded_at (Some l) (held_bytes s r) ≡ None = ap (λ o. recorded_at o (held_bytes s r)) (sym at) ∙ unbegun in
+    let none : l.init ≡ None = no_init l.init l (held_bytes s r) there in
+    let bytes = some_at s.bytes r (omega (arith, valid.counts_agree)) in
     let bare = (valid.fits r l bytes.0 at bytes.1).none none in
     record { facts = bare.0; floor = bare.1 }
 
@@ -113,16 +113,16 @@ same_maps f g (x ∷ xs) [] count each = absurd (omega arith)
 same_maps f g (x ∷ xs) (y ∷ ys) count each =
     ap (λ c. c ∷ map f xs) (each 0 x y refl refl) ∙ ap (λ cs. g y ∷ cs) (same_maps f g xs ys (omega arith) (λ r u v at_u at_v. each (suc r) u v at_u at_v))
 
-pub same_facts : (s : State) (recordings : List Recorded) → AreRecordings s recordings →
-    map (λ (r : Recorded). r.facts) recordings ≡ map facts_of (channel s).lanes
+pub same_facts : (s : State) (recordings : List RecordingData) → AreRecordings s recordings →
+    map (λ (r : RecordingData). r.facts) recordings ≡ map facts_of (channel s).lanes
 same_facts s recordings are =
-    same_maps (λ (r : Recorded). r.facts) facts_of recordings (channel s).lanes are.count
+    same_maps (λ (r : RecordingData). r.facts) facts_of recordings (channel s).lanes are.count
     (λ r recorded l at there. (of_lane s r l recorded there (are.each r recorded at)).facts)
 
-pub same_floors : (s : State) (recordings : List Recorded) → AreRecordings s recordings →
-    map (λ (r : Recorded). r.floor) recordings ≡ floors s
+pub same_floors : (s : State) (recordings : List RecordingData) → AreRecordings s recordings →
+    map (λ (r : RecordingData). r.floor) recordings ≡ floors s
 same_floors s recordings are =
-    same_maps (λ (r : Recorded). r.floor) floor_of recordings (channel s).lanes are.count
+    same_maps (λ (r : RecordingData). r.floor) floor_of recordings (channel s).lanes are.count
     (λ r recorded l at there. (of_lane s r l recorded there (are.each r recorded at)).floor)
 
 -- one rendition more that is finished, or isn't
@@ -134,7 +134,7 @@ all_finished_from s r within =
 
 -- the kept places of a state, by its own places and as many floors as it has renditions
 pub kept_is : (s : State) (items : List Place) (above : List ℕ) (n : ℕ) → items ≡ places s → n ≡ length s.config.renditions →
-    take (length (channel s).lanes) above ≡ floors s → record { items = items; floors = take n above } ≡ kept_in s
+    take (length (channel s).lanes) above ≡ floors s → record { items = items; floors = take n above } ≡ places_and_floors_of s
 kept_is s items above n items_are count above_are =
     let all : n ≡ length (channel s).lanes = count ∙ sym (lanes_count s.config s.log) in
     let taken : take n above ≡ floors s = ap (λ (k : ℕ). take k above) all ∙ above_are in

@@ -14,13 +14,13 @@ use Rattle.hls_places_laws.specs.declared.place.Place.{Place}
 use Rattle.hls_places_laws.specs.Sources.{AreSources}
 use Rattle.hls_places_laws.specs.Order.{no_place, time_of, spots_of, renditions_in, AreOrdered, ArePlaces}
 use Rattle.hls_places_laws.specs.Firsts.{first_after, first_from}
-use Rattle.hls_places_laws.specs.Programmes.{is_kept, kept, cut_out, StopsLate}
+use Rattle.hls_places_laws.specs.Programmes.{is_kept, filter_kept, table_between, StopsLate}
 use Rattle.hls_catchup.specs.declared.programme.Programme.{Programme}
 use Rattle.hls_catchup_laws.specs.declared.request.Request.{Request}
 use Rattle.hls_catchup_laws.specs.declared.fault.CatchFault.TheVariants.{BeforeRecording, NotYet, AfterRecording, ProgrammeTooLong}
-use Rattle.hls_catchup.specs.Kept.{Kept, kept_in, all_kept, kept_from, IsLastBy}
+use Rattle.hls_catchup.specs.KeptPlaces.{PlacesAndFloors, places_and_floors_of, all_kept_places, kept_places_from, IsLastBy}
 use Rattle.hls_catchup_laws.specs.Requests.{all_finished, goal_for, IsInRange, IsTableFor}
-use Rattle.hls_catchup.specs.Programmes.{table_at, ArePlacesFor}
+use Rattle.hls_catchup.specs.Programmes.{programme_table, ArePlacesFor}
 use Rattle.hls_catchup.proofs.Walks.{after-later, from-later}
 
 -- where there is no place there is no table
@@ -28,7 +28,7 @@ pub placeless : (s : State) (request : Request) (t : Table) → places s ≡ [] 
 placeless s request t none is =
     let first = is.programme.0.begins in
     let there : is.programme.0.s < length (kept_places s) = first.there in
-    let few : length (kept_places s) ≡ 0 = ap (λ (ps : List Place). length (kept (floors s) ps)) none in
+    let few : length (kept_places s) ≡ 0 = ap (λ (ps : List Place). length (filter_kept (floors s) ps)) none in
     omega arith
 
 apart-step : (start stop : ℕ) → start < stop → (p : Place) (ks : List Place) (a : ℕ) → first_after start ks ≡ a →
@@ -64,18 +64,18 @@ first-apart start stop order (p ∷ ks) some =
 -- what the walks say of the kept places
 record AreApart (s : State) (request : Request) (n : ℕ) : Type 0 where
   some : 1 ≤ first_after request.start_us (kept_places s)
-  rest : kept_from (kept_in s) n ≡ drop (first_after request.start_us (kept_places s) - 1) (kept_places s)
-  to : first_from request.stop_us (kept_places s) ≡ (first_after request.start_us (kept_places s) - 1) + first_from request.stop_us (kept_from (kept_in s) n)
-  long : length (kept_places s) ≡ (first_after request.start_us (kept_places s) - 1) + length (kept_from (kept_in s) n)
+  rest : kept_places_from (places_and_floors_of s) n ≡ drop (first_after request.start_us (kept_places s) - 1) (kept_places s)
+  to : first_from request.stop_us (kept_places s) ≡ (first_after request.start_us (kept_places s) - 1) + first_from request.stop_us (kept_places_from (places_and_floors_of s) n)
+  long : length (kept_places s) ≡ (first_after request.start_us (kept_places s) - 1) + length (kept_places_from (places_and_floors_of s) n)
 
-are_apart : (s : State) (request : Request) (n : ℕ) → IsInRange s request → IsLastBy (kept_in s) request.start_us n → AreApart s request n
+are_apart : (s : State) (request : Request) (n : ℕ) → IsInRange s request → IsLastBy (places_and_floors_of s) request.start_us n → AreApart s request n
 are_apart s request n range last =
     let ks : List Place = kept_places s in
     let a : ℕ = first_after request.start_us ks in
     let some : 1 ≤ a = last.some in
-    let rest : kept_from (kept_in s) n ≡ drop (a - 1) ks = last.rest in
+    let rest : kept_places_from (places_and_floors_of s) n ≡ drop (a - 1) ks = last.rest in
     let few : a ≤ length ks = prefix_len-le-length (λ (p : Place). not (nat_lt request.start_us (time_of p))) ks in
-    let count : length (kept_from (kept_in s) n) ≡ length ks - (a - 1) = ap length rest ∙ length-drop (a - 1) ks in
+    let count : length (kept_places_from (places_and_floors_of s) n) ≡ length ks - (a - 1) = ap length rest ∙ length-drop (a - 1) ks in
     record {
       some = some;
       rest = rest;
@@ -95,41 +95,41 @@ past_shown : (s : State) (request : Request) (over : Bool) → all_finished s �
 past_shown s request true is range late = record { in_range = range; programme = (late, is) }
 past_shown s request false is range late = record { in_range = range; programme = (late, is) }
 
-pub past_all : (s : State) (request : Request) (k : Kept) (n : ℕ) → AreSources (sources s) → k ≡ kept_in s → IsInRange s request →
-    IsLastBy k request.start_us n → length (kept_from k n) ≤ first_from request.stop_us (kept_from k n) →
+pub past_all : (s : State) (request : Request) (k : PlacesAndFloors) (n : ℕ) → AreSources (sources s) → k ≡ places_and_floors_of s → IsInRange s request →
+    IsLastBy k request.start_us n → length (kept_places_from k n) ≤ first_from request.stop_us (kept_places_from k n) →
     IsTableFor s request (Err (if all_finished s then AfterRecording else NotYet))
 past_all s request k n are same range found end =
-    let last : IsLastBy (kept_in s) request.start_us n = subst (λ (x : Kept). IsLastBy x request.start_us n) same found in
-    let past : length (kept_from (kept_in s) n) ≤ first_from request.stop_us (kept_from (kept_in s) n) =
-    subst (λ (x : Kept). length (kept_from x n) ≤ first_from request.stop_us (kept_from x n)) same end in
+    let last : IsLastBy (places_and_floors_of s) request.start_us n = subst (λ (x : PlacesAndFloors). IsLastBy x request.start_us n) same found in
+    let past : length (kept_places_from (places_and_floors_of s) n) ≤ first_from request.stop_us (kept_places_from (places_and_floors_of s) n) =
+    subst (λ (x : PlacesAndFloors). length (kept_places_from x n) ≤ first_from request.stop_us (kept_places_from x n)) same end in
     let apart = are_apart s request n range last in
     let late : length (kept_places s) ≤ first_from request.stop_us (kept_places s) = omega (arith, apart.to, apart.long) in
     past_shown s request (all_finished s) refl range
     (stops-late (kept_places s) (kept-are_places s are) request.start_us request.stop_us apart.some late)
 
-pub none_before : (s : State) (request : Request) (k : Kept) → AreSources (sources s) → k ≡ kept_in s → IsInRange s request →
-    first_after request.start_us (all_kept k) ≡ 0 → IsTableFor s request (Err BeforeRecording)
+pub none_before : (s : State) (request : Request) (k : PlacesAndFloors) → AreSources (sources s) → k ≡ places_and_floors_of s → IsInRange s request →
+    first_after request.start_us (all_kept_places k) ≡ 0 → IsTableFor s request (Err BeforeRecording)
 none_before s request k are same range none = record {
   in_range = range;
   programme = none-by (kept_places s) (kept-are_places s are) request.start_us
-      (subst (λ (x : Kept). first_after request.start_us (all_kept x) ≡ 0) same none);
+      (subst (λ (x : PlacesAndFloors). first_after request.start_us (all_kept_places x) ≡ 0) same none);
 }
 
 -- how many kept places a programme has, from place number n on
-pub record IsCounted (k : Kept) (request : Request) (n count : ℕ) : Type 0 where
+pub record IsCounted (k : PlacesAndFloors) (request : Request) (n count : ℕ) : Type 0 where
   pub last : IsLastBy k request.start_us n
-  pub count_is : count ≡ first_from request.stop_us (kept_from k n) + 1
-  pub there : count ≤ length (kept_from k n)
+  pub count_is : count ≡ first_from request.stop_us (kept_places_from k n) + 1
+  pub there : count ≤ length (kept_places_from k n)
 
 -- the number of places from the last one at or before the start to the first one at or after the stop
-count_is : (s : State) (request : Request) (n count : ℕ) → AreApart s request n → count ≡ first_from request.stop_us (kept_from (kept_in s) n) + 1 →
+count_is : (s : State) (request : Request) (n count : ℕ) → AreApart s request n → count ≡ first_from request.stop_us (kept_places_from (places_and_floors_of s) n) + 1 →
     first_from request.stop_us (kept_places s) + 1 - (first_after request.start_us (kept_places s) - 1) ≡ count
 count_is s request n count apart is = omega (arith, apart.to, apart.some)
 
-pub too_long : (s : State) (request : Request) (k : Kept) (n count : ℕ) → AreSources (sources s) → k ≡ kept_in s → IsInRange s request →
+pub too_long : (s : State) (request : Request) (k : PlacesAndFloors) (n count : ℕ) → AreSources (sources s) → k ≡ places_and_floors_of s → IsInRange s request →
     IsCounted k request n count → place_limit < count → IsTableFor s request (Err ProgrammeTooLong)
 too_long s request k n count are is_kept_in range found long =
-    let counted : IsCounted (kept_in s) request n count = subst (λ (x : Kept). IsCounted x request n count) is_kept_in found in
+    let counted : IsCounted (places_and_floors_of s) request n count = subst (λ (x : PlacesAndFloors). IsCounted x request n count) is_kept_in found in
     let apart = are_apart s request n range counted.last in
     let within : first_from request.stop_us (kept_places s) < length (kept_places s) = omega (arith, apart.to, apart.long, counted.count_is, counted.there) in
     let same = count_is s request n count apart counted.count_is in
@@ -151,18 +151,18 @@ start_before s request range some within =
     omega (arith, start-before_stop request.start_us request.stop_us (kept_places s) range.order within)
 
 pub programme_there : (s : State) (request : Request) (p : Programme) → IsState s → AreSources (sources s) → IsInRange s request →
-    p.places ≡ kept_in s → IsCounted p.places request p.from p.count → p.count ≤ place_limit → ArePlacesFor s request p
+    p.places ≡ places_and_floors_of s → IsCounted p.places request p.from p.count → p.count ≤ place_limit → ArePlacesFor s request p
 programme_there s request p valid are range same_places found few =
-    let counted : IsCounted (kept_in s) request p.from p.count = subst (λ (x : Kept). IsCounted x request p.from p.count) same_places found in
+    let counted : IsCounted (places_and_floors_of s) request p.from p.count = subst (λ (x : PlacesAndFloors). IsCounted x request p.from p.count) same_places found in
     let ks : List Place = kept_places s in
     let a : ℕ = first_after request.start_us ks in
     let to : ℕ = first_from request.stop_us ks in
     let apart = are_apart s request p.from range counted.last in
     let within : to < length ks = omega (arith, apart.to, apart.long, counted.count_is, counted.there) in
     let same : to + 1 - (a - 1) ≡ p.count = count_is s request p.from p.count apart counted.count_is in
-    let table : Table = cut_out (goal_for s request) ks (a - 1) to in
-    let part : kept_from p.places p.from ≡ drop (a - 1) ks = ap (λ (k : Kept). kept_from k p.from) same_places ∙ apart.rest in
-    let made : table ≡ table_at s request p =
+    let table : Table = table_between (goal_for s request) ks (a - 1) to in
+    let part : kept_places_from p.places p.from ≡ drop (a - 1) ks = ap (λ (k : PlacesAndFloors). kept_places_from k p.from) same_places ∙ apart.rest in
+    let made : table ≡ programme_table s request p =
     ap (λ (r : ℕ). table_of (goal_for s request) r (spots_of (take (to + 1 - (a - 1)) (drop (a - 1) ks)))) (renditions_are s are (omega arith))
     ∙ ap (λ (n : ℕ). table_of (goal_for s request) (length s.config.renditions) (spots_of (take n (drop (a - 1) ks)))) same
     ∙ ap (λ (qs : List Place). table_of (goal_for s request) (length s.config.renditions) (spots_of (take p.count qs))) (sym part) in
@@ -174,7 +174,7 @@ programme_there s request p valid are range same_places found few =
       defined = record {
         in_range = range;
         programme = programme-fits (goal_for s request) ks places_are request.start_us request.stop_us range.order apart.some within
-            (omega (arith, same, few)) (table_at s request p) (sym made);
+            (omega (arith, same, few)) (programme_table s request p) (sym made);
       };
       valid = subst IsTable made (cut_out-is_table (goal_for s request) ks (a - 1) to places_are span
           (record {

@@ -6,17 +6,17 @@ use Rattle.hls_check_laws.specs.declared.spot.Spot.{Spot}
 use Rattle.hls_places_laws.specs.declared.place.Place.{Place}
 use Rattle.hls_places_laws.specs.Order.{time_of, spots_of}
 use Rattle.hls_places_laws.specs.Firsts.{first_after, first_from}
-use Rattle.hls_places_laws.specs.Programmes.{is_kept, kept}
+use Rattle.hls_places_laws.specs.Programmes.{is_kept, filter_kept}
 use Rattle.hls_core_laws.specs.State.{State}
 use Rattle.hls_core_laws.specs.Places.{places, floors}
 use Rattle.hls_core.specs.KeptPlaces.{IsLastKeptBy, NoKeptBy}
-use Rattle.hls_catchup.specs.Kept.{Kept, kept_in, all_kept, IsLastBy}
+use Rattle.hls_catchup.specs.KeptPlaces.{PlacesAndFloors, places_and_floors_of, all_kept_places, IsLastBy}
 
-pub kept-more : (floors : List ℕ) (p : Place) (ps : List Place) → is_kept floors p ≡ true → kept floors (p ∷ ps) ≡ p ∷ kept floors ps
-kept-more floors p ps is = cond-true (is_kept floors p) (p ∷ kept floors ps) (kept floors ps) is
+pub kept-more : (floors : List ℕ) (p : Place) (ps : List Place) → is_kept floors p ≡ true → filter_kept floors (p ∷ ps) ≡ p ∷ filter_kept floors ps
+kept-more floors p ps is = cond-true (is_kept floors p) (p ∷ filter_kept floors ps) (filter_kept floors ps) is
 
-pub kept-same : (floors : List ℕ) (p : Place) (ps : List Place) → is_kept floors p ≡ false → kept floors (p ∷ ps) ≡ kept floors ps
-kept-same floors p ps is = cond-false (is_kept floors p) (p ∷ kept floors ps) (kept floors ps) is
+pub kept-same : (floors : List ℕ) (p : Place) (ps : List Place) → is_kept floors p ≡ false → filter_kept floors (p ∷ ps) ≡ filter_kept floors ps
+kept-same floors p ps is = cond-false (is_kept floors p) (p ∷ filter_kept floors ps) (filter_kept floors ps) is
 
 pub after-here : (time : ℕ) (p : Place) (ps : List Place) → nat_lt time (time_of p) ≡ true → first_after time (p ∷ ps) ≡ 0
 after-here time p ps late = rw late refl
@@ -29,23 +29,23 @@ from-later time p ps early = rw early refl
 
 -- where no kept place is by a time, the first after it is the first of all
 none-first : (floors : List ℕ) (time : ℕ) (ps : List Place) → ((k : ℕ) (p : Place) → slice_get ps k ≡ Some p → is_kept floors p ≡ true → time < time_of p) →
-    first_after time (kept floors ps) ≡ 0
+    first_after time (filter_kept floors ps) ≡ 0
 none-first floors time [] each = refl
 none-first floors time (p ∷ ps) each =
-    let rest : first_after time (kept floors ps) ≡ 0 = none-first floors time ps (λ k q at is. each (suc k) q at is) in
+    let rest : first_after time (filter_kept floors ps) ≡ 0 = none-first floors time ps (λ k q at is. each (suc k) q at is) in
     elim (cases_Bool (is_kept floors p)) [
-      | inl is ↦ ap (first_after time) (kept-more floors p ps is) ∙ after-here time p (kept floors ps) (lt-ltb time (time_of p) (each 0 p refl is))
+      | inl is ↦ ap (first_after time) (kept-more floors p ps is) ∙ after-here time p (filter_kept floors ps) (lt-ltb time (time_of p) (each 0 p refl is))
       | inr isnt ↦ ap (first_after time) (kept-same floors p ps isnt) ∙ rest
     ]
 
-abbrev of : List ℕ → List Place → Kept
+abbrev of : List ℕ → List Place → PlacesAndFloors
 of floors ps = record { items = ps; floors = floors }
 
 -- a place before the others that isn't kept changes nothing
 passed : (floors : List ℕ) (time : ℕ) (p : Place) (ps : List Place) (m : ℕ) → is_kept floors p ≡ false →
     IsLastBy (of floors ps) time m → IsLastBy (of floors (p ∷ ps)) time (suc m)
 passed floors time p ps m isnt last =
-    let same : kept floors (p ∷ ps) ≡ kept floors ps = kept-same floors p ps isnt in
+    let same : filter_kept floors (p ∷ ps) ≡ filter_kept floors ps = kept-same floors p ps isnt in
     record {
       within = omega (arith, last.within);
       some = rw same last.some;
@@ -56,8 +56,8 @@ passed floors time p ps m isnt last =
 followed : (floors : List ℕ) (time : ℕ) (p : Place) (ps : List Place) (m : ℕ) → is_kept floors p ≡ true → nat_lt time (time_of p) ≡ false →
     IsLastBy (of floors ps) time m → IsLastBy (of floors (p ∷ ps)) time (suc m)
 followed floors time p ps m is early last =
-    let ks : List Place = kept floors ps in
-    let same : kept floors (p ∷ ps) ≡ p ∷ ks = kept-more floors p ps is in
+    let ks : List Place = filter_kept floors ps in
+    let same : filter_kept floors (p ∷ ps) ≡ p ∷ ks = kept-more floors p ps is in
     let count : first_after time (p ∷ ks) ≡ 1 + first_after time ks = after-later time p ks early in
     let some : 1 ≤ first_after time ks = last.some in
     let before : first_after time (p ∷ ks) - 1 ≡ suc (first_after time ks - 1) = omega arith in
@@ -69,10 +69,10 @@ followed floors time p ps m is early last =
 
 -- the last one by the time
 here : (floors : List ℕ) (time : ℕ) (p : Place) (ps : List Place) → is_kept floors p ≡ true → nat_lt time (time_of p) ≡ false →
-    first_after time (kept floors ps) ≡ 0 → IsLastBy (of floors (p ∷ ps)) time 0
+    first_after time (filter_kept floors ps) ≡ 0 → IsLastBy (of floors (p ∷ ps)) time 0
 here floors time p ps is early none =
-    let ks : List Place = kept floors ps in
-    let same : kept floors (p ∷ ps) ≡ p ∷ ks = kept-more floors p ps is in
+    let ks : List Place = filter_kept floors ps in
+    let same : filter_kept floors (p ∷ ps) ≡ p ∷ ks = kept-more floors p ps is in
     let count : first_after time (p ∷ ks) ≡ 1 + first_after time ks = after-later time p ks early in
     let before : first_after time (p ∷ ks) - 1 ≡ 0 = omega arith in
     record {
@@ -104,29 +104,29 @@ last-at floors time (suc m) (p ∷ ps) place at is early late =
     ]
 
 -- what the search finds, along the kept places
-pub last-is : (s : State) (time n : ℕ) → IsLastKeptBy s time n → IsLastBy (kept_in s) time n
+pub last-is : (s : State) (time n : ℕ) → IsLastKeptBy s time n → IsLastBy (places_and_floors_of s) time n
 last-is s time n found = last-at (floors s) time n (places s) found.place found.there found.kept found.by.early found.by.late
 
-pub none-is : (s : State) (time : ℕ) → NoKeptBy s time → first_after time (all_kept (kept_in s)) ≡ 0
+pub none-is : (s : State) (time : ℕ) → NoKeptBy s time → first_after time (all_kept_places (places_and_floors_of s)) ≡ 0
 none-is s time none = none-first (floors s) time (places s) none
 
 -- no more are kept than there are
-pub kept-few : (floors : List ℕ) (ps : List Place) → length (kept floors ps) ≤ length ps
+pub kept-few : (floors : List ℕ) (ps : List Place) → length (filter_kept floors ps) ≤ length ps
 kept-few floors [] = omega arith
 kept-few floors (p ∷ ps) =
-    let rest : length (kept floors ps) ≤ length ps = kept-few floors ps in
-    cond_both (is_kept floors p) (p ∷ kept floors ps) (kept floors ps) (λ ks. length ks ≤ length (p ∷ ps)) (λ is. omega arith) (λ isnt. omega arith)
+    let rest : length (filter_kept floors ps) ≤ length ps = kept-few floors ps in
+    cond_both (is_kept floors p) (p ∷ filter_kept floors ps) (filter_kept floors ps) (λ ks. length ks ≤ length (p ∷ ps)) (λ is. omega arith) (λ isnt. omega arith)
 
 -- one kept place more is copied
 pub one_copy_more : (spots : List (List Spot)) (copy : List Spot) (count : ℕ) (floors : List ℕ) (p : Place) (ps : List Place) (whole : List (List Spot)) →
     length spots < count → is_kept floors p ≡ true → copy ≡ p.spots →
-    spots ++ spots_of (take (count - length spots) (kept floors (p ∷ ps))) ≡ whole →
-    (spots ++ copy ∷ []) ++ spots_of (take (count - length (spots ++ copy ∷ [])) (kept floors ps)) ≡ whole
+    spots ++ spots_of (take (count - length spots) (filter_kept floors (p ∷ ps))) ≡ whole →
+    (spots ++ copy ∷ []) ++ spots_of (take (count - length (spots ++ copy ∷ [])) (filter_kept floors ps)) ≡ whole
 one_copy_more spots copy count floors p ps whole room is same before =
     let rest : ℕ = count - length (spots ++ copy ∷ []) in
     let long : length (spots ++ copy ∷ []) ≡ length spots + 1 = length-append spots (copy ∷ []) in
     let more : count - length spots ≡ suc rest = omega arith in
-    let taken : take (count - length spots) (kept floors (p ∷ ps)) ≡ p ∷ take rest (kept floors ps) = rw (kept-more floors p ps is, more) refl in
-    append_assoc spots (copy ∷ []) (spots_of (take rest (kept floors ps)))
-    ∙ ap (λ (c : List Spot). spots ++ c ∷ spots_of (take rest (kept floors ps))) same
+    let taken : take (count - length spots) (filter_kept floors (p ∷ ps)) ≡ p ∷ take rest (filter_kept floors ps) = rw (kept-more floors p ps is, more) refl in
+    append_assoc spots (copy ∷ []) (spots_of (take rest (filter_kept floors ps)))
+    ∙ ap (λ (c : List Spot). spots ++ c ∷ spots_of (take rest (filter_kept floors ps))) same
     ∙ ap (λ (qs : List Place). spots ++ spots_of qs) (sym taken) ∙ before

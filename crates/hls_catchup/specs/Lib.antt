@@ -1,7 +1,7 @@
-pub mod LiveTexts
-pub mod Kept
+pub mod LiveWriter
+pub mod KeptPlaces
 pub mod Programmes
-pub mod Plays
-pub mod Spans
-pub mod Named
+pub mod Play
+pub mod ReplyUnits
+pub mod RenditionNames
 pub mod Jobs

@@ -7,22 +7,22 @@ use Rattle.hls_core_laws.specs.State.{State}
 use Rattle.hls_catchup.specs.declared.programme.Programme.{Programme}
 use Rattle.hls_catchup_laws.specs.declared.request.Request.{Request}
 use Rattle.hls_catchup_laws.specs.declared.fault.CatchFault.{CatchFault}
-use Rattle.hls_catchup.specs.Kept.{kept_from}
+use Rattle.hls_catchup.specs.KeptPlaces.{kept_places_from}
 use Rattle.hls_catchup_laws.specs.Requests.{goal_for, IsTableFor}
 
 -- the table of a programme's places
-abbrev pub table_at : State → Request → Programme → Table
-table_at s request p =
-    table_of (goal_for s request) (length s.config.renditions) (spots_of (take p.count (kept_from p.places p.from)))
+abbrev pub programme_table : State → Request → Programme → Table
+programme_table s request p =
+    table_of (goal_for s request) (length s.config.renditions) (spots_of (take p.count (kept_places_from p.places p.from)))
 
 -- the places of the table that a request asks for
 pub record ArePlacesFor (s : State) (request : Request) (p : Programme) : Type 0 where
   pub within : p.from ≤ length p.places.items
-  pub defined : IsTableFor s request (Ok (table_at s request p))
-  pub valid : IsTable (table_at s request p)
-  pub orderly : IsOrderly (table_at s request p)
+  pub defined : IsTableFor s request (Ok (programme_table s request p))
+  pub valid : IsTable (programme_table s request p)
+  pub orderly : IsOrderly (programme_table s request p)
 
 -- the programme, or the first fault
-abbrev pub IsFound : State → Request → Result Programme CatchFault → Type 0
-IsFound s request (Ok p) = ArePlacesFor s request p
-IsFound s request (Err fault) = IsTableFor s request (Err fault)
+abbrev pub IsProgrammeOrFault : State → Request → Result Programme CatchFault → Type 0
+IsProgrammeOrFault s request (Ok p) = ArePlacesFor s request p
+IsProgrammeOrFault s request (Err fault) = IsTableFor s request (Err fault)

@@ -2,13 +2,13 @@
 
 ghost use Rattle.std.specs.Prelude.{◌≡◌, Some, IfOk};
 ghost use Rattle.hls_core_laws.specs.Runs.{first_state, AreFitting};
-ghost use Rattle.hls_catchup.specs.Plays.{events_in, HasAnswerBehind, IsPlayed};
+ghost use Rattle.hls_catchup.specs.Play.{events_in, AppendsAnswer, IsPlayed};
 ghost use Rattle.hls_catchup_laws.specs.Replies.{IsAnswered};
 
 use crate::reply::answer;
 use hls_catchup_laws::{CatchFault, Reply, Request};
 use hls_core::config::Config;
-use hls_core::replay::next;
+use hls_core::replay::apply_event;
 use hls_core::snapshot::Snapshot;
 use hls_core_laws::event::Event;
 use std::alloc::{AllocError, Global};
@@ -37,7 +37,7 @@ pub fn play(
     let mut answers = Vec::new(alloc);
     for action in actions {
         match action {
-            Action::Event(by, event) => state = next(alloc, state, *by, event)?,
+            Action::Event(by, event) => state = apply_event(alloc, state, *by, event)?,
             Action::Ask(request) => push_answer(alloc, &mut answers, &state, *request)?,
         }
     }
@@ -51,14 +51,14 @@ fn push_answer(
     state: &Arc<Snapshot>,
     request: Request,
 ) -> Result<(), AllocError>
-    ensures { IfOk result (λ done. HasAnswerBehind state.now.value request answers.old.items answers.new.items) }
+    ensures { IfOk result (λ done. AppendsAnswer state.now.value request answers.old.items answers.new.items) }
 {
-    answers.push(answered(alloc, state, request)?)?;
+    answers.push(try_answer(alloc, state, request)?)?;
     Ok(())
 }
 
 /// The answer to a request, where no memory was refused.
-fn answered(
+fn try_answer(
     alloc: Global,
     state: &Arc<Snapshot>,
     request: Request,

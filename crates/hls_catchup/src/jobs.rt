@@ -3,14 +3,14 @@
 //!
 //! A job's answer is right for the snapshot and the request that it holds: its type says so, under the lock and out of it.
 
-pub mod answered;
-pub mod certificate_text;
+pub mod answer_request;
+pub mod certificate_writer;
+pub mod error;
 pub mod files;
-pub mod finished;
 pub mod gate;
-pub mod line;
-pub mod phase;
-pub mod refused;
+pub mod job_line;
 pub mod rows;
+pub mod run_job;
 pub mod shared;
+pub mod state;
 pub mod table;

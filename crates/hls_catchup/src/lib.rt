@@ -3,44 +3,44 @@
 #![tactic(auto)]
 
 pub use actions::{Action, play};
-pub use cutout::cut;
+pub use cut::cut_programme;
 pub use hls_catchup_laws::{
-    Answered, CatchFault, Cutout, Ending, Finished, Job, JobFault, Reply, Request, Withheld, Work,
-    good_is_accepted, reply_in,
+    CatchFault, CutResult, FilesUnavailable, Finished, Job, JobAnswer, JobFault, JobOutcome, Reply,
+    Request, Work, find_reply, good_certificates_are_accepted,
 };
 pub use hls_check_laws::CostRule;
-pub use jobs::answered::answered;
-pub use jobs::certificate_text::CertificateText;
+pub use job_playlists::make_job_lists;
+pub use jobs::answer_request::answer_request;
+pub use jobs::certificate_writer::CertificateWriter;
 pub use jobs::files::{certificate_text, master_text, playlist_text};
-pub use jobs::finished::run_job;
 pub use jobs::gate::{Gate, work_loop};
-pub use jobs::line::job_line;
+pub use jobs::job_line::write_job_line;
+pub use jobs::run_job::run_job;
 pub use jobs::shared::Jobs;
 pub use jobs::table::JobTable;
-pub use lists::job_lists;
 pub use live::live_playlist;
-pub use live_text::LiveText;
+pub use live_writer::LivePlaylistWriter;
 pub use masters::{job_master, live_master};
+pub use place_table::table_of;
 pub use reply::answer;
-pub use resource::{resource_piece, resource_place, resource_slice, resource_total};
-pub use segments::{bytes_between, is_break, segment_between, segments_of};
-pub use span::{reply_piece, reply_place, reply_slice, reply_total};
-pub use table::table_of;
+pub use reply_units::{locate_reply_byte, reply_piece, reply_slice, reply_total};
+pub use resource::{locate_resource_byte, resource_piece, resource_slice, resource_total};
+pub use segments::{bytes_between, is_break, make_plan_segments, segment_between};
 
 mod actions;
-mod cutout;
+mod cut;
 mod floors;
+mod iterators;
+mod job_playlists;
 mod jobs;
-mod kept;
-mod lists;
+mod kept_places;
 mod live;
-mod live_text;
+mod live_writer;
 mod masters;
+mod place_table;
 mod programme;
 mod recordings;
 mod reply;
+mod reply_units;
 mod resource;
 mod segments;
-mod span;
-mod table;
-mod walk;

@@ -7,17 +7,17 @@ ghost use Rattle.hls_places_laws.specs.Line.Live.{segments_of};
 ghost use Rattle.hls_m3u8.specs.Playlist.{playlist_of};
 ghost use Rattle.hls_core_laws.specs.Config.{IsEpoch};
 ghost use Rattle.hls_core_laws.specs.IsState.{IsState};
-ghost use Rattle.hls_lists_laws.specs.Live.{listed, live_list_of};
-ghost use Rattle.hls_catchup_laws.specs.Lists.{cutting};
-ghost use Rattle.hls_catchup.specs.LiveTexts.{list_by, list_with};
+ghost use Rattle.hls_lists_laws.specs.Live.{live_media_segment, live_list_of};
+ghost use Rattle.hls_catchup_laws.specs.JobPlaylists.{job_layout};
+ghost use Rattle.hls_catchup.specs.LiveWriter.{live_list_by, list_over_segments};
 
+use crate::iterators::{iter_segments_from, next_segment};
 use crate::resource::resource_uri;
 use crate::segments::segment_between;
-use crate::walk::{next_segment, segments_behind};
 use bytes::ByteStr;
 use hls_core::snapshot::Snapshot;
 use hls_live::LiveLine;
-use hls_m3u8::{MediaPlaylist, Segment};
+use hls_m3u8::{MediaPlaylist, MediaSegment};
 use hls_record::Recording;
 use std::alloc::{AllocError, Global};
 
@@ -32,18 +32,18 @@ pub fn live_playlist(
     ensures list { IfOk result (λ found. option_map playlist_of found ≡ live_list_of snapshot.now rendition) }
     ensures valid { IsState snapshot.now }
 {
-    let Some(recording) = recording_listed(snapshot, rendition) else {
+    let Some(recording) = find_listed_recording(snapshot, rendition) else {
         return Ok(None);
     };
     let uri = resource_uri(alloc, "/media/", rendition)?;
     let epoch = snapshot.config().epoch();
-    let segments = live_segments(alloc, recording, epoch, rendition, &uri, snapshot.line())?;
-    Ok(Some(list_with(snapshot, recording, uri, segments)))
+    let segments = make_live_segments(alloc, recording, epoch, rendition, &uri, snapshot.line())?;
+    Ok(Some(make_live_playlist(snapshot, recording, uri, segments)))
 }
 
 /// The recording of a rendition that has a live list.
-pub(crate) fn recording_listed(snapshot: &Snapshot, rendition: usize) -> Option<&Recording>
-    ensures list { MatchOption result (live_list_of snapshot.now rendition ≡ None) (λ recording. live_list_of snapshot.now rendition ≡ Some (list_by snapshot.now rendition recording.now)) }
+pub(crate) fn find_listed_recording(snapshot: &Snapshot, rendition: usize) -> Option<&Recording>
+    ensures list { MatchOption result (live_list_of snapshot.now rendition ≡ None) (λ recording. live_list_of snapshot.now rendition ≡ Some (live_list_by snapshot.now rendition recording.now)) }
     ensures valid { IsState snapshot.now }
 {
     let Some(recording) = snapshot.recording(rendition) else {
@@ -56,13 +56,13 @@ pub(crate) fn recording_listed(snapshot: &Snapshot, rendition: usize) -> Option<
 }
 
 /// The live list over a recording, at a URI, with these segments.
-pub(crate) fn list_with(
+pub(crate) fn make_live_playlist(
     snapshot: &Snapshot,
     recording: &Recording,
     uri: ByteStr,
-    segments: Vec<Segment>,
+    segments: Vec<MediaSegment>,
 ) -> MediaPlaylist
-    ensures { playlist_of result ≡ list_with snapshot.now recording.now uri segments.items }
+    ensures { playlist_of result ≡ list_over_segments snapshot.now recording.now uri segments.items }
 {
     let line = snapshot.line();
     MediaPlaylist::live(
@@ -70,44 +70,44 @@ pub(crate) fn list_with(
         line.removed(),
         line.removed_breaks(),
         uri,
-        recording.head().len() as u64,
+        recording.init_section_bytes().len() as u64,
         segments,
         line.ended(),
     )
 }
 
 /// The kept segments of the live line in one rendition, with ranges in its recording.
-fn live_segments(
+fn make_live_segments(
     alloc: Global,
     recording: &Recording,
     epoch: Option<i64>,
     rendition: usize,
     uri: &ByteStr,
     line: &LiveLine,
-) -> Result<Vec<Segment>, AllocError>
+) -> Result<Vec<MediaSegment>, AllocError>
     requires epoch { IsEpoch epoch }
     requires starts { All (λ s. (spot_in s.from.spots rendition).start < 2 ^ 53) (segments_of line.now) }
-    ensures { IfOk result (λ v. v.items ≡ map (listed (cutting epoch recording.now rendition uri.now 0)) (segments_of line.now)) }
+    ensures { IfOk result (λ v. v.items ≡ map (live_media_segment (job_layout epoch recording.now rendition uri.now 0)) (segments_of line.now)) }
 {
     let mut list = Vec::new(alloc);
-    let mut walk = segments_behind(line, 0);
+    let mut walk = iter_segments_from(line, 0);
     while let Some(segment) = next_segment(&mut walk) {
-        list.push(listed(recording, epoch, rendition, uri, segment)?)?;
+        list.push(make_media_segment(recording, epoch, rendition, uri, segment)?)?;
     }
     Ok(list)
 }
 
 /// A segment of the live line in one rendition, with its range in the recording.
-pub(crate) fn listed(
+pub(crate) fn make_media_segment(
     recording: &Recording,
     epoch: Option<i64>,
     rendition: usize,
     uri: &ByteStr,
-    segment: &hls_live::Segment,
-) -> Result<Segment, AllocError>
+    segment: &hls_live::LiveSegment,
+) -> Result<MediaSegment, AllocError>
     requires epoch { IsEpoch epoch }
     requires start { (spot_in segment.now.from.spots rendition).start < 2 ^ 53 }
-    ensures { IfOk result (λ made. made ≡ listed (cutting epoch recording.now rendition uri.now 0) segment.now) }
+    ensures { IfOk result (λ made. made ≡ live_media_segment (job_layout epoch recording.now rendition uri.now 0) segment.now) }
 {
     let uri = uri.clone()?;
     Ok(segment_between(

@@ -4,7 +4,7 @@ ghost use Rattle.std.specs.Prelude.{◌≡◌, All, IfOk};
 ghost use Rattle.std.specs.List.{list_any};
 ghost use Rattle.hls_core_laws.specs.Config.{IsName};
 ghost use Rattle.hls_m3u8.specs.Masters.{master_of};
-ghost use Rattle.hls_catchup.specs.Named.{IsNamed};
+ghost use Rattle.hls_catchup.specs.RenditionNames.{IsNamed};
 ghost use Rattle.hls_lists_laws.specs.Masters.{is_video, list_uri, audio_at, variant_at, audio_from, videos_from, variants_from, master_below, live_master, job_master};
 
 use bytes::ByteStr;
@@ -30,7 +30,7 @@ fn name_of(rendition: &Rendition) -> Result<ByteStr, AllocError>
     Ok(ByteStr::from_known_utf8(rendition.name.clone()?))
 }
 
-fn audio_at(
+fn make_audio(
     alloc: Global,
     folder: &str,
     number: usize,
@@ -45,7 +45,7 @@ fn audio_at(
     })
 }
 
-fn variant_at(
+fn make_variant(
     alloc: Global,
     folder: &str,
     number: usize,
@@ -60,7 +60,7 @@ fn variant_at(
 }
 
 /// The audio renditions in order.
-fn audio_group(
+fn make_audio_group(
     alloc: Global,
     folder: &str,
     renditions: &[Rendition],
@@ -71,14 +71,14 @@ fn audio_group(
     let mut group = Vec::new(alloc);
     for (number, rendition) in renditions.iter().enumerate() {
         if !rendition.video {
-            group.push(audio_at(alloc, folder, number, rendition)?)?;
+            group.push(make_audio(alloc, folder, number, rendition)?)?;
         }
     }
     Ok(group)
 }
 
 /// The video renditions in order.
-fn videos(
+fn make_video_variants(
     alloc: Global,
     folder: &str,
     renditions: &[Rendition],
@@ -88,14 +88,14 @@ fn videos(
     let mut variants = Vec::new(alloc);
     for (number, rendition) in renditions.iter().enumerate() {
         if rendition.video {
-            variants.push(variant_at(alloc, folder, number, rendition)?)?;
+            variants.push(make_variant(alloc, folder, number, rendition)?)?;
         }
     }
     Ok(variants)
 }
 
 /// All renditions in order.
-fn variants(
+fn make_variants(
     alloc: Global,
     folder: &str,
     renditions: &[Rendition],
@@ -104,7 +104,7 @@ fn variants(
 {
     let mut variants = Vec::new(alloc);
     for (number, rendition) in renditions.iter().enumerate() {
-        variants.push(variant_at(alloc, folder, number, rendition)?)?;
+        variants.push(make_variant(alloc, folder, number, rendition)?)?;
     }
     Ok(variants)
 }
@@ -116,7 +116,7 @@ fn has_video(renditions: &[Rendition]) -> bool
 }
 
 /// The master playlist of renditions whose media playlists are in a folder.
-fn master_below(
+fn make_master(
     alloc: Global,
     folder: &str,
     renditions: &[Rendition],
@@ -126,13 +126,13 @@ fn master_below(
 {
     if has_video(renditions) {
         return Ok(MasterPlaylist {
-            audio: audio_group(alloc, folder, renditions)?,
-            variants: videos(alloc, folder, renditions)?,
+            audio: make_audio_group(alloc, folder, renditions)?,
+            variants: make_video_variants(alloc, folder, renditions)?,
         });
     }
     Ok(MasterPlaylist {
         audio: Vec::new(alloc),
-        variants: variants(alloc, folder, renditions)?,
+        variants: make_variants(alloc, folder, renditions)?,
     })
 }
 
@@ -142,12 +142,12 @@ fn master_below(
 pub fn live_master(alloc: Global, snapshot: &Snapshot) -> Result<MasterPlaylist, AllocError>
     ensures { IfOk result (λ list. master_of list ≡ live_master snapshot.now) }
 {
-    master_below(alloc, "/live/", snapshot.config().renditions())
+    make_master(alloc, "/live/", snapshot.config().renditions())
 }
 
 /// The master playlist of a job's playlists, which stand beside it as `<rendition>.m3u8`; by the rule of `live_master`.
 pub fn job_master(alloc: Global, reply: &Reply) -> Result<MasterPlaylist, AllocError>
     ensures { IfOk result (λ list. master_of list ≡ job_master reply.now.state) }
 {
-    master_below(alloc, "", reply.snapshot().config().renditions())
+    make_master(alloc, "", reply.snapshot().config().renditions())
 }

@@ -3,16 +3,17 @@
 ghost use Rattle.std.specs.Prelude.{◌≡◌, if◌then◌else◌};
 ghost use Rattle.hls_catchup_laws.specs.declared.fault.CatchFault.TheVariants.{NotYet, AfterRecording};
 ghost use Rattle.hls_catchup_laws.specs.Requests.{all_finished, IsInRange};
-ghost use Rattle.hls_catchup.specs.Programmes.{IsFound};
+ghost use Rattle.hls_catchup.specs.Programmes.{IsProgrammeOrFault};
 
-use crate::kept::KeptPlaces;
+use crate::kept_places::KeptPlaces;
 use crate::recordings::all_finished;
 use hls_catchup_laws::{CatchFault, Request};
 use hls_check_laws::{CHARGE_LIMIT, PLACE_LIMIT};
-use hls_core::kept::last_kept_by;
+use hls_core::place_search::last_kept_place_by;
 use hls_core::snapshot::Snapshot;
 
-/// The places of a programme: the first `count` kept ones from number `from` on.
+/// A programme is what a catch-up request gets: the kept places from the last one at or before its start to the first one at or after
+/// its end. Here: the first `count` kept ones from number `from` on.
 #[derive(Drop)]
 pub struct Programme<'a> {
     pub places: KeptPlaces<'a>,
@@ -21,8 +22,8 @@ pub struct Programme<'a> {
 }
 
 /// The programme that a request asks for, or the first fault. Takes no memory.
-pub fn programme_of(snapshot: &Snapshot, request: Request) -> Result<Programme<'_>, CatchFault>
-    ensures { IsFound snapshot.now request result }
+pub fn find_programme(snapshot: &Snapshot, request: Request) -> Result<Programme<'_>, CatchFault>
+    ensures { IsProgrammeOrFault snapshot.now request result }
 {
     if request.stop_us <= request.start_us {
         return Err(CatchFault::BadRange);
@@ -36,20 +37,20 @@ pub fn programme_of(snapshot: &Snapshot, request: Request) -> Result<Programme<'
     if CHARGE_LIMIT < request.rule.charge() {
         return Err(CatchFault::BadCharge);
     }
-    programme_within(snapshot, request)
+    find_places(snapshot, request)
 }
 
 /// The kept places from the last one at or before the start to the first one at or after the stop.
-fn programme_within(snapshot: &Snapshot, request: Request) -> Result<Programme<'_>, CatchFault>
+fn find_places(snapshot: &Snapshot, request: Request) -> Result<Programme<'_>, CatchFault>
     requires { IsInRange snapshot.now request }
-    ensures { IsFound snapshot.now request result }
+    ensures { IsProgrammeOrFault snapshot.now request result }
 {
-    let places = KeptPlaces::of(snapshot);
-    let Some(from) = last_kept_by(snapshot, request.start_us) else {
+    let places = KeptPlaces::new(snapshot);
+    let Some(from) = last_kept_place_by(snapshot, request.start_us) else {
         return Err(CatchFault::BeforeRecording);
     };
-    let Some(count) = places.count_to(from, request.stop_us) else {
-        return Err(fault_past(snapshot));
+    let Some(count) = places.count_up_to(from, request.stop_us) else {
+        return Err(find_late_fault(snapshot));
     };
     if PLACE_LIMIT < count {
         return Err(CatchFault::ProgrammeTooLong);
@@ -62,7 +63,7 @@ fn programme_within(snapshot: &Snapshot, request: Request) -> Result<Programme<'
 }
 
 /// Why there is no place at or after a stop.
-fn fault_past(snapshot: &Snapshot) -> CatchFault
+fn find_late_fault(snapshot: &Snapshot) -> CatchFault
     ensures { result ≡ (if all_finished snapshot.now then AfterRecording else NotYet) }
 {
     if all_finished(snapshot) {

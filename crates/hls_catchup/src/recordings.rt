@@ -20,7 +20,7 @@ pub fn rendition_count(snapshot: &Snapshot) -> usize
 }
 
 /// The recordings of all renditions; None where one hasn't begun, and so there is no common place yet.
-pub fn recordings_of(
+pub fn collect_recordings(
     alloc: Global,
     snapshot: &Snapshot,
 ) -> Result<Option<Vec<&Recording>>, AllocError>
@@ -51,5 +51,5 @@ pub fn all_finished(snapshot: &Snapshot) -> bool
 fn is_finished(snapshot: &Snapshot, rendition: usize) -> bool
     ensures { result ≡ slice_index_or (map is_finished (channel snapshot.now).lanes) rendition false }
 {
-    snapshot.finished(rendition).unwrap_or(false)
+    snapshot.is_finished(rendition).unwrap_or(false)
 }

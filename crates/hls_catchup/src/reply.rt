@@ -4,10 +4,10 @@ ghost use Rattle.std.specs.Prelude.{Err, MatchResult};
 ghost use Rattle.hls_catchup_laws.specs.Requests.{IsTableFor, IsRightAnswer};
 ghost use Rattle.hls_catchup_laws.specs.Replies.{IsReplyTo};
 
-use crate::cutout::cut;
-use crate::recordings::recordings_of;
-use crate::table::table_of;
-use hls_catchup_laws::{CatchFault, Cutout, Reply, Request};
+use crate::cut::cut_programme;
+use crate::place_table::table_of;
+use crate::recordings::collect_recordings;
+use hls_catchup_laws::{CatchFault, CutResult, Reply, Request};
 use hls_core::snapshot::Snapshot;
 use std::alloc::Global;
 use std::sync::Arc;
@@ -21,24 +21,28 @@ pub fn answer(
 ) -> Result<Reply, CatchFault>
     ensures { IsReplyTo snapshot.now.value request result }
 {
-    match cut_for(alloc, snapshot, request) {
-        Ok(cutout) => Ok(Reply::new(Arc::try_clone(snapshot)?, request, cutout)),
+    match cut_request(alloc, snapshot, request) {
+        Ok(cut_result) => Ok(Reply::new(Arc::try_clone(snapshot)?, request, cut_result)),
         Err(fault) => Err(fault),
     }
 }
 
 /// What the programme of a request is cut into, or the first fault.
-fn cut_for(alloc: Global, snapshot: &Snapshot, request: Request) -> Result<Cutout, CatchFault>
+fn cut_request(
+    alloc: Global,
+    snapshot: &Snapshot,
+    request: Request,
+) -> Result<CutResult, CatchFault>
     ensures { MatchResult result (IsRightAnswer snapshot.now request) (λ fault. IsTableFor snapshot.now request (Err fault)) }
 {
     match table_of(alloc, snapshot, request) {
         Ok(table) => {
             let _ = table.len();
-            let Some(recordings) = recordings_of(alloc, snapshot)? else {
+            let Some(recordings) = collect_recordings(alloc, snapshot)? else {
                 unreachable!()
             };
             let epoch = snapshot.config().epoch();
-            Ok(cut(alloc, recordings.as_slice(), epoch, table)?)
+            Ok(cut_programme(alloc, recordings.as_slice(), epoch, table)?)
         }
         Err(fault) => Err(fault),
     }

@@ -2,10 +2,10 @@
 
 ghost use Rattle.std.specs.Prelude.{◌≡◌, [], ◌∷◌, ◌<◌, ◌≤◌, ◌^◌, get_or, length, IfOk};
 ghost use Rattle.std.specs.Option.{option_copied};
-ghost use Rattle.hls_record.specs.Recorded.{unit_piece};
-ghost use Rattle.hls_lists_laws.specs.Jobs.{units_between, resource_of};
-ghost use Rattle.hls_catchup_laws.specs.Resources.{FindsPlace};
-ghost use Rattle.hls_catchup_laws.specs.Lists.{resource_uri};
+ghost use Rattle.hls_record.specs.RecordingData.{unit_piece};
+ghost use Rattle.hls_lists_laws.specs.JobResource.{units_between, resource_of};
+ghost use Rattle.hls_catchup_laws.specs.Resources.{LocatesByte};
+ghost use Rattle.hls_catchup_laws.specs.JobPlaylists.{resource_uri};
 
 use crate::segments::bytes_between;
 use bytes::ByteStr;
@@ -56,7 +56,7 @@ pub fn resource_slice(recording: &Recording, first: u64, end: u64, number: u64) 
 {
     let _ = recording.count();
     if number == 0 {
-        return recording.head().as_slice();
+        return recording.init_section_bytes().as_slice();
     }
     if end.saturating_sub(first) < number {
         return b"";
@@ -69,9 +69,14 @@ pub fn resource_slice(recording: &Recording, first: u64, end: u64, number: u64) 
 
 /// Where byte `at` of that resource stands: the number of its slice, and how far in it. None at or past the end. Found in
 /// logarithmic time.
-pub fn resource_place(recording: &Recording, first: u64, end: u64, at: u64) -> Option<(u64, u64)>
+pub fn locate_resource_byte(
+    recording: &Recording,
+    first: u64,
+    end: u64,
+    at: u64,
+) -> Option<(u64, u64)>
     requires kept { recording.now.floor ≤ first }
-    ensures { FindsPlace (recording.now.head ∷ units_between recording.now.floor recording.now.units first end) at result }
+    ensures { LocatesByte (recording.now.head ∷ units_between recording.now.floor recording.now.units first end) at result }
 {
     let _ = recording.count();
     let init_length = recording.offset(0);
@@ -82,6 +87,6 @@ pub fn resource_place(recording: &Recording, first: u64, end: u64, at: u64) -> O
         return None;
     }
     let offset = recording.offset(first) + (at - init_length);
-    let unit = recording.unit_of(offset);
+    let unit = recording.find_unit(offset);
     Some((unit - first + 1, offset - recording.offset(unit)))
 }

@@ -3,13 +3,13 @@
 ghost use Rattle.std.specs.Prelude.{◌≡◌, ◌+◌, ◌<◌, ◌≤◌, ◌^◌, length, All, IfOk};
 ghost use Rattle.hls_check_laws.specs.Tables.{spot_in, place_at};
 ghost use Rattle.hls_core_laws.specs.Config.{IsEpoch};
-ghost use Rattle.hls_lists_laws.specs.Jobs.{bytes_between};
-ghost use Rattle.hls_lists_laws.specs.Segments.{is_break, date_at, segment_between, segments_of};
-ghost use Rattle.hls_catchup_laws.specs.Lists.{cutting};
+ghost use Rattle.hls_lists_laws.specs.JobResource.{bytes_between};
+ghost use Rattle.hls_lists_laws.specs.Segments.{is_break, date_at, segment_between, plan_segments};
+ghost use Rattle.hls_catchup_laws.specs.JobPlaylists.{job_layout};
 
 use bytes::ByteStr;
 use hls_check_laws::{PlaceTable, Spots};
-use hls_m3u8::{ByteRange, Segment};
+use hls_m3u8::{ByteRange, MediaSegment};
 use hls_record::Recording;
 use std::alloc::{AllocError, Global};
 
@@ -54,18 +54,18 @@ pub fn segment_between(
     mark: bool,
     from: &Spots,
     to: &Spots,
-) -> Segment
+) -> MediaSegment
     requires epoch { IsEpoch epoch }
     requires start { (spot_in from.now rendition).start < 2 ^ 53 }
-    ensures { result ≡ segment_between (cutting epoch recording.now rendition uri first) mark from.now to.now }
+    ensures { result ≡ segment_between (job_layout epoch recording.now rendition uri first) mark from.now to.now }
 {
-    let from = from.spot(rendition);
-    let to = to.spot(rendition);
+    let from = from.get_or_zero(rendition);
+    let to = to.get_or_zero(rendition);
     let range = ByteRange {
         length: bytes_between(recording, from.fragment, to.fragment),
         offset: recording.offset(0) + bytes_between(recording, first, from.fragment),
     };
-    Segment {
+    MediaSegment {
         mark,
         date: date_at(epoch, from.start),
         us: to.prev_end.saturating_sub(from.start),
@@ -77,7 +77,7 @@ pub fn segment_between(
 /// The segments of a plan in a rendition, one a step: their ranges count in a resource that has the recording's init section
 /// and then the units from number `first` on, and their dates from the epoch, if it is known.
 #[tactic(auto, using(crate::proofs::Places::start_small))]
-pub fn segments_of(
+pub fn make_plan_segments(
     alloc: Global,
     recording: &Recording,
     epoch: Option<i64>,
@@ -86,10 +86,10 @@ pub fn segments_of(
     first: u64,
     table: &PlaceTable,
     plan: &[usize],
-) -> Result<Vec<Segment>, AllocError>
+) -> Result<Vec<MediaSegment>, AllocError>
     requires epoch { IsEpoch epoch }
     requires plan { All (λ p. p < length table.now.places) plan.now }
-    ensures { IfOk result (λ v. v.items ≡ segments_of (cutting epoch recording.now rendition uri.now first) table.now.places plan.now) }
+    ensures { IfOk result (λ v. v.items ≡ plan_segments (job_layout epoch recording.now rendition uri.now first) table.now.places plan.now) }
 {
     let _ = table.len();
     let mut segments = Vec::new(alloc);

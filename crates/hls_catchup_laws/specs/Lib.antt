@@ -1,6 +1,6 @@
 pub mod FaultName
-pub mod Lists
-pub mod Accepted
+pub mod JobPlaylists
+pub mod AcceptedLaw
 pub mod Answers
 pub mod Requests
 pub mod Replies

@@ -4,7 +4,7 @@ use Rattle.hls_core_laws.specs.State.{State}
 use Rattle.hls_catchup_laws.specs.declared.request.Request.{Request}
 use Rattle.hls_catchup_laws.specs.declared.fault.CatchFault.{CatchFault}
 use Rattle.hls_catchup_laws.specs.declared.fault.CatchFault.TheVariants.{Memory}
-use Rattle.hls_catchup_laws.specs.declared.cutout.Cutout.{Cutout}
+use Rattle.hls_catchup_laws.specs.declared.cut_result.CutResult.{CutResult}
 use Rattle.hls_catchup_laws.specs.declared.reply.Reply.TheInside.{Inside}
 use Rattle.hls_catchup_laws.specs.Requests.{IsTableFor, IsRightAnswer}
 
@@ -12,16 +12,16 @@ use Rattle.hls_catchup_laws.specs.Requests.{IsTableFor, IsRightAnswer}
 pub record ReplyData : Type 0 where
   pub state : State
   pub request : Request
-  pub cutout : Cutout
+  pub cut_result : CutResult
 
-abbrev pub seen : Inside → ReplyData
-seen r = record { state = r.snapshot.value; request = r.request; cutout = r.cutout }
+abbrev pub model_of : Inside → ReplyData
+model_of r = record { state = r.snapshot.value; request = r.request; cut_result = r.cut_result }
 
 -- the reply of this very state to this request, with a right answer
 pub record IsRightReply (s : State) (request : Request) (reply : ReplyData) : Type 0 where
   pub state : reply.state ≡ s
   pub request_is : reply.request ≡ request
-  pub right : IsRightAnswer s request reply.cutout
+  pub right : IsRightAnswer s request reply.cut_result
 
 -- a right reply, or the first fault
 abbrev pub IsReplyTo : State → Request → Result ReplyData CatchFault → Type 0

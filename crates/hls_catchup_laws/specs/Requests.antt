@@ -3,18 +3,18 @@ use Rattle.std.specs.Prelude.{◌≡◌, ℕ, ◌*◌, ◌<◌, ◌≤◌, Bool,
 use Rattle.std.specs.List.{list_all}
 use Rattle.hls_check_laws.specs.declared.goal.Goal.{Goal}
 use Rattle.hls_check_laws.specs.Tables.{Table, charge_of, charge_limit, goal_of}
-use Rattle.hls_record.specs.Recorded.{Recorded}
+use Rattle.hls_record.specs.RecordingData.{RecordingData}
 use Rattle.hls_core_laws.specs.State.{State, channel}
 use Rattle.hls_core_laws.specs.Places.{is_finished, kept_places}
-use Rattle.hls_core.specs.Reads.{recording_of}
+use Rattle.hls_core.specs.Getters.{recording_of}
 use Rattle.hls_places_laws.specs.declared.fault.ProgrammeFault.{ProgrammeFault}
 use Rattle.hls_places_laws.specs.declared.fault.ProgrammeFault.TheVariants as programme
 use Rattle.hls_places_laws.specs.Programmes.{IsProgramme}
 use Rattle.hls_catchup_laws.specs.declared.request.Request.{Request}
 use Rattle.hls_catchup_laws.specs.declared.fault.CatchFault.{CatchFault}
 use Rattle.hls_catchup_laws.specs.declared.fault.CatchFault.TheVariants.{BadRange, BadPreferred, BadCharge, BeforeRecording, NotYet, AfterRecording, ProgrammeTooLong, Memory}
-use Rattle.hls_catchup_laws.specs.declared.cutout.Cutout.{Cutout}
-use Rattle.hls_catchup_laws.specs.Answers.{AreCovered, IsRightCutout}
+use Rattle.hls_catchup_laws.specs.declared.cut_result.CutResult.{CutResult}
+use Rattle.hls_catchup_laws.specs.Answers.{AreCovered, IsRightCutResult}
 
 -- every rendition is finished
 abbrev pub all_finished : State → Bool
@@ -39,7 +39,7 @@ pub record IsInRange (s : State) (request : Request) : Type 0 where
   pub charge : CanCharge request
 
 -- what the kept places of the state give a request that is in range
-pub record Gives (s : State) (request : Request) (found : Result Table ProgrammeFault) : Type 0 where
+pub record HasTableOrFault (s : State) (request : Request) (found : Result Table ProgrammeFault) : Type 0 where
   pub in_range : IsInRange s request
   pub programme : IsProgramme (goal_for s request) (kept_places s) (all_finished s) request.start_us request.stop_us found
 
@@ -49,23 +49,23 @@ abbrev pub IsTableFor : State → Request → Result Table CatchFault → Type 0
 IsTableFor s request (Err BadRange) = request.stop_us ≤ request.start_us
 IsTableFor s request (Err BadPreferred) = (request.start_us < request.stop_us) × ¬ CanPrefer s request
 IsTableFor s request (Err BadCharge) = (request.start_us < request.stop_us) × CanPrefer s request × ¬ CanCharge request
-IsTableFor s request (Err BeforeRecording) = Gives s request (Err programme.BeforeRecording)
-IsTableFor s request (Err NotYet) = Gives s request (Err programme.NotYet)
-IsTableFor s request (Err AfterRecording) = Gives s request (Err programme.AfterRecording)
-IsTableFor s request (Err ProgrammeTooLong) = Gives s request (Err programme.ProgrammeTooLong)
-IsTableFor s request (Ok t) = Gives s request (Ok t)
-IsTableFor s request (Err Memory) = Gives s request (Err programme.Memory)
+IsTableFor s request (Err BeforeRecording) = HasTableOrFault s request (Err programme.BeforeRecording)
+IsTableFor s request (Err NotYet) = HasTableOrFault s request (Err programme.NotYet)
+IsTableFor s request (Err AfterRecording) = HasTableOrFault s request (Err programme.AfterRecording)
+IsTableFor s request (Err ProgrammeTooLong) = HasTableOrFault s request (Err programme.ProgrammeTooLong)
+IsTableFor s request (Ok t) = HasTableOrFault s request (Ok t)
+IsTableFor s request (Err Memory) = HasTableOrFault s request (Err programme.Memory)
 
 -- the recordings of all renditions
-pub record AreRecordings (s : State) (recordings : List Recorded) : Type 0 where
+pub record AreRecordings (s : State) (recordings : List RecordingData) : Type 0 where
   pub count : length recordings ≡ length (channel s).lanes
-  pub each : (r : ℕ) (recorded : Recorded) → slice_get recordings r ≡ Some recorded → recording_of s r ≡ Some recorded
+  pub each : (r : ℕ) (recorded : RecordingData) → slice_get recordings r ≡ Some recorded → recording_of s r ≡ Some recorded
 
 -- a right answer: it is that of the programme's table, over the recordings of this very state, and dated by its epoch
-pub record IsRightAnswer (s : State) (request : Request) (cutout : Cutout) : Type 0 where
+pub record IsRightAnswer (s : State) (request : Request) (cut_result : CutResult) : Type 0 where
   pub table : Table
   pub defined : IsTableFor s request (Ok table)
-  pub recordings : List Recorded
+  pub recordings : List RecordingData
   pub are : AreRecordings s recordings
   pub covered : AreCovered table recordings
-  pub right : IsRightCutout s.config.epoch recordings table cutout
+  pub right : IsRightCutResult s.config.epoch recordings table cut_result

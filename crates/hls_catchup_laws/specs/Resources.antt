@@ -1,21 +1,21 @@
 -- The resource of a rendition, from the reply alone.
 use Rattle.std.specs.Prelude.{◌≡◌, ℕ, ◌≤◌, List, [], ◌∷◌, length, drop, Option, Some, None, option_map, unwrap_or}
 use Rattle.std.specs.List.{concat}
-use Rattle.hls_record.specs.Recorded.{unit_piece}
+use Rattle.hls_record.specs.RecordingData.{unit_piece}
 use Rattle.hls_core_laws.specs.State.{State}
-use Rattle.hls_core.specs.Reads.{recording_of}
-use Rattle.hls_catchup_laws.specs.declared.cutout.Cutout.{Cutout}
-use Rattle.hls_catchup_laws.specs.declared.cutout.Cutout.TheVariants.{Cut, NoCut}
+use Rattle.hls_core.specs.Getters.{recording_of}
+use Rattle.hls_catchup_laws.specs.declared.cut_result.CutResult.{CutResult}
+use Rattle.hls_catchup_laws.specs.declared.cut_result.CutResult.TheVariants.{Cut, NoCut}
 use Rattle.hls_catchup_laws.specs.Answers.{programme_units}
 use Rattle.hls_catchup_laws.specs.Replies.{ReplyData}
 
 -- its parts: the init section and each unit of the programme, as the reply's own state has them
-abbrev pub parts_of : State → ℕ → Cutout → Option (List (List ℕ))
+abbrev pub parts_of : State → ℕ → CutResult → Option (List (List ℕ))
 parts_of s r (Cut lists certificate) = option_map (λ recorded. recorded.head ∷ programme_units recorded r certificate.table) (recording_of s r)
 parts_of s r (NoCut certificate) = None
 
 abbrev pub parts_in : ReplyData → ℕ → Option (List (List ℕ))
-parts_in reply r = parts_of reply.state r reply.cutout
+parts_in reply r = parts_of reply.state r reply.cut_result
 
 -- the length of the parts joined
 abbrev pub length_of_parts : Option (List (List ℕ)) → Option ℕ
@@ -31,10 +31,10 @@ abbrev pub slices_in : ReplyData → ℕ → List (List ℕ)
 slices_in reply r = unwrap_or (parts_in reply r) []
 
 -- a place in slices, one's number and how far in it, from which on the same stands as from byte `at` of the slices joined
-pub record IsPlaceOf (slices : List (List ℕ)) (at number within : ℕ) : Type 0 where
+pub record IsPositionOf (slices : List (List ℕ)) (at number within : ℕ) : Type 0 where
   pub rest : drop within (concat (drop number slices)) ≡ drop at (concat slices)
   pub back : within ≤ at
 
-abbrev pub FindsPlace : List (List ℕ) → ℕ → Option (ℕ × ℕ) → Type 0
-FindsPlace slices at None = length (concat slices) ≤ at
-FindsPlace slices at (Some place) = IsPlaceOf slices at place.0 place.1
+abbrev pub LocatesByte : List (List ℕ) → ℕ → Option (ℕ × ℕ) → Type 0
+LocatesByte slices at None = length (concat slices) ≤ at
+LocatesByte slices at (Some place) = IsPositionOf slices at place.0 place.1

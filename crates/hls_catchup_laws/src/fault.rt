@@ -6,7 +6,7 @@ ghost use Rattle.hls_catchup_laws.specs.Jobs.FaultName.{job_fault_name};
 ghost use Rattle.hls_catchup_laws.specs.declared.fault.CatchFault.TheVariants as catch_fault;
 ghost use Rattle.hls_catchup_laws.specs.declared.fault.JobFault.TheVariants as job_fault;
 
-use hls_faults::{WantOfMemory, name_among};
+use hls_faults::{AllocFailure, variant_name};
 use std::alloc::AllocError;
 use std::fmt::{self, Display, Formatter, Write};
 use thiserror::Error;
@@ -37,7 +37,7 @@ impl CatchFault {
     pub fn name(&self) -> &'static str
         ensures { result.now ≡ catch_fault_name self.now }
     {
-        name_among!(self; CatchFault: BadRange, BadPreferred, BadCharge, BeforeRecording, NotYet, AfterRecording, ProgrammeTooLong, Memory)
+        variant_name!(self; CatchFault: BadRange, BadPreferred, BadCharge, BeforeRecording, NotYet, AfterRecording, ProgrammeTooLong, Memory)
     }
 }
 
@@ -47,10 +47,10 @@ impl Display for CatchFault {
     }
 }
 
-impl<E: WantOfMemory> From<E> for CatchFault {
+impl<E: AllocFailure> From<E> for CatchFault {
     ghost from_gives = { λ _ e. e ≡ catch_fault.Memory };
 
-    fn from(_want: E) -> CatchFault {
+    fn from(_failure: E) -> CatchFault {
         CatchFault::Memory
     }
 }
@@ -73,7 +73,7 @@ impl JobFault {
     pub fn name(&self) -> &'static str
         ensures { result.now ≡ job_fault_name self.now }
     {
-        name_among!(self; JobFault: TableFull, UnknownJob, Stray, Memory)
+        variant_name!(self; JobFault: TableFull, UnknownJob, Stray, Memory)
     }
 }
 

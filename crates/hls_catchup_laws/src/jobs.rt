@@ -2,9 +2,9 @@
 //!
 //! A job's answer is right for the snapshot and the request that it holds: its type says so.
 
-pub mod answered;
+pub mod answer;
+pub mod find_reply;
 pub mod finished;
 pub mod job;
 pub mod row;
-pub mod standing;
 pub mod work;

@@ -1,15 +1,15 @@
 //! A theorem about the definitions: the function's contract is the law.
 
-ghost use Rattle.hls_catchup_laws.specs.Accepted.{GoodIsAccepted};
+ghost use Rattle.hls_catchup_laws.specs.AcceptedLaw.{GoodCertificatesAreAccepted};
 
-use hls_check::answer_is_one;
-use hls_check_text::laws::{text_has_no_wrong_line, text_is_of_one};
+use hls_check::check_result_is_unique;
+use hls_check_text::text_laws::{text_has_no_wrong_line, text_is_unique};
 
 /// A good certificate that is printed is read as itself, and the checker answers yes.
-pub fn good_is_accepted()
-    ensures { GoodIsAccepted }
+pub fn good_certificates_are_accepted()
+    ensures { GoodCertificatesAreAccepted }
 {
-    text_is_of_one();
+    text_is_unique();
     text_has_no_wrong_line();
-    answer_is_one();
+    check_result_is_unique();
 }

@@ -7,20 +7,20 @@
 //! they are right: what finds them is `hls_catchup`.
 #![tactic(auto)]
 
-pub use cutout::Cutout;
+pub use cut_result::CutResult;
 pub use fault::{CatchFault, JobFault};
 pub use hls_check_laws::CostRule;
-pub use jobs::answered::Answered;
-pub use jobs::finished::{Ending, Finished};
+pub use jobs::answer::JobAnswer;
+pub use jobs::find_reply::{FilesUnavailable, find_reply};
+pub use jobs::finished::{Finished, JobOutcome};
 pub use jobs::job::Job;
-pub use jobs::row::{Phase, Row};
-pub use jobs::standing::{Withheld, reply_in};
+pub use jobs::row::{JobRow, JobState};
 pub use jobs::work::Work;
-pub use laws::good_is_accepted;
+pub use laws::good_certificates_are_accepted;
 pub use reply::Reply;
 pub use request::Request;
 
-mod cutout;
+mod cut_result;
 mod fault;
 mod jobs;
 mod laws;

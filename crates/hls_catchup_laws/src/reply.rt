@@ -4,7 +4,7 @@ ghost use Rattle.std.specs.Prelude.{◌≡◌};
 ghost use Rattle.hls_catchup_laws.specs.Requests.{IsRightAnswer};
 ghost use Rattle.hls_catchup_laws.specs.Replies.{IsRightReply};
 
-use crate::cutout::Cutout;
+use crate::cut_result::CutResult;
 use crate::request::Request;
 use hls_core::snapshot::Snapshot;
 use std::marker::Model;
@@ -15,38 +15,38 @@ use std::sync::Arc;
 pub struct Reply {
     snapshot: Arc<Snapshot>,
     request: Request,
-    cutout: Cutout,
+    cut_result: CutResult,
 }
 
 impl Model for Reply {
-    ghost use Rattle.hls_catchup_laws.specs.Replies.{ReplyData, seen};
+    ghost use Rattle.hls_catchup_laws.specs.Replies.{ReplyData, model_of};
     ghost use Rattle.hls_catchup_laws.specs.Requests.{IsRightAnswer};
 
     ghost Value = { ReplyData };
 
-    ghost view = { seen };
+    ghost view = { model_of };
 
-    ghost invariant = { λ r. IsRightAnswer r.snapshot.value r.request r.cutout };
+    ghost invariant = { λ r. IsRightAnswer r.snapshot.value r.request r.cut_result };
 }
 
 impl Reply {
-    /// The reply of a snapshot to a request, for which the cutout is right.
-    pub fn new(snapshot: Arc<Snapshot>, request: Request, cutout: Cutout) -> Reply
-        requires { IsRightAnswer snapshot.value request cutout }
+    /// The reply of a snapshot to a request, for which the cut result is right.
+    pub fn new(snapshot: Arc<Snapshot>, request: Request, cut_result: CutResult) -> Reply
+        requires { IsRightAnswer snapshot.value request cut_result }
         ensures reply { IsRightReply snapshot.value request result }
-        ensures cutout { result.cutout ≡ cutout }
+        ensures cut_result { result.cut_result ≡ cut_result }
     {
         Reply {
             snapshot,
             request,
-            cutout,
+            cut_result,
         }
     }
 
     /// The snapshot that was asked.
     pub fn snapshot(&self) -> &Snapshot
         ensures value { result.now ≡ self.now.state }
-        ensures right { IsRightAnswer self.now.state self.now.request self.now.cutout }
+        ensures right { IsRightAnswer self.now.state self.now.request self.now.cut_result }
     {
         &self.snapshot
     }
@@ -58,9 +58,9 @@ impl Reply {
     }
 
     /// The playlists with their certificate, or the certificate that there is no plan.
-    pub fn cutout(&self) -> &Cutout
-        ensures { result.now ≡ self.now.cutout }
+    pub fn cut_result(&self) -> &CutResult
+        ensures { result.now ≡ self.now.cut_result }
     {
-        &self.cutout
+        &self.cut_result
     }
 }

@@ -8,16 +8,21 @@ use hls_sample_channels::{SECOND, rendition};
 use std::alloc::Global;
 
 /// Adds a rendition to others.
-fn add(alloc: Global, renditions: &mut Vec<Rendition>, name: &[u8], video: bool) -> Option<()> {
+fn add_rendition(
+    alloc: Global,
+    renditions: &mut Vec<Rendition>,
+    name: &[u8],
+    video: bool,
+) -> Option<()> {
     renditions.push(rendition(alloc, name, video, 0).ok()?).ok()
 }
 
 /// A video rendition, and an audio one where two are asked for.
 pub fn renditions(alloc: Global, two: bool) -> Option<Vec<Rendition>> {
     let mut renditions = Vec::new(alloc);
-    add(alloc, &mut renditions, b"v1", true)?;
+    add_rendition(alloc, &mut renditions, b"v1", true)?;
     if two {
-        add(alloc, &mut renditions, b"en", false)?;
+        add_rendition(alloc, &mut renditions, b"en", false)?;
     }
     Some(renditions)
 }
@@ -26,6 +31,6 @@ pub fn config(alloc: Global, two: bool) -> Option<Config> {
     Config::new(alloc, 6, 4 * SECOND, renditions(alloc, two)?).ok()
 }
 
-pub fn opening(alloc: Global, two: bool) -> Option<Snapshot> {
+pub fn first_snapshot(alloc: Global, two: bool) -> Option<Snapshot> {
     Snapshot::first(alloc, config(alloc, two)?).ok()
 }

@@ -4,11 +4,11 @@ ghost use Rattle.std.specs.Prelude.{IfSome};
 ghost use Rattle.hls_places_laws.specs.Order.{ArePlaces};
 
 use hls_check_laws::{CostRule, Goal, PlaceTable, Spots};
-use hls_fakes::Told;
-use hls_places::{Cursor, Place, common, programme};
+use hls_fakes::CallOutcome;
+use hls_places::{Place, PlaceCursor, common, programme};
 use hls_places_laws::ProgrammeFault;
 use hls_record::Recording;
-use hls_sample_channels::{SECOND, THREE_UNITS, ended_at_last};
+use hls_sample_channels::{SECOND, THREE_UNITS, end_channel_with_retry};
 use std::alloc::Global;
 
 /// Whether it's the place of a number, 4 s behind the one before it; the fourth is the closing one.
@@ -37,24 +37,24 @@ fn are_places(places: &[Place]) -> bool {
 }
 
 /// The places of the recording.
-pub fn found(alloc: Global, recording: &Recording) -> Option<Vec<Place>>
+pub fn find_places(alloc: Global, recording: &Recording) -> Option<Vec<Place>>
     ensures { IfSome result (λ places. ArePlaces places.items) }
 {
     common(alloc, &[recording], &[0], &[true]).ok()
 }
 
-pub fn told_common(alloc: Global, recording: &Recording) -> Told {
-    let told = match common(alloc, &[recording], &[0], &[true]) {
-        Ok(places) => Told::answer(are_places(&places)),
-        Err(_) => Told::Wanted,
+pub fn outcome_of_common(alloc: Global, recording: &Recording) -> CallOutcome {
+    let outcome = match common(alloc, &[recording], &[0], &[true]) {
+        Ok(places) => CallOutcome::from_answer(are_places(&places)),
+        Err(_) => CallOutcome::OutOfMemory,
     };
-    told.kept(recording.count() == 3)
+    outcome.require_unchanged(recording.count() == 3)
 }
 
-pub fn told_cursor(alloc: Global) -> Told {
-    match Cursor::first(alloc, 1) {
-        Ok(_) => Told::Ample,
-        Err(_) => Told::Wanted,
+pub fn outcome_of_cursor(alloc: Global) -> CallOutcome {
+    match PlaceCursor::first(alloc, 1) {
+        Ok(_) => CallOutcome::Right,
+        Err(_) => CallOutcome::OutOfMemory,
     }
 }
 
@@ -78,11 +78,11 @@ fn is_programme(table: &PlaceTable) -> bool {
 }
 
 /// The programme from 5 s to 9 s.
-pub fn told_programme(alloc: Global, places: &[Place]) -> Told
+pub fn outcome_of_programme(alloc: Global, places: &[Place]) -> CallOutcome
     requires { ArePlaces places.now }
 {
     let [first, second, third, last] = places else {
-        return Told::Astray;
+        return CallOutcome::Wrong;
     };
     let goal = Goal {
         target: 6,
@@ -90,39 +90,39 @@ pub fn told_programme(alloc: Global, places: &[Place]) -> Told
         rule: CostRule::Deviation,
     };
     let all = [first, second, third, last];
-    let told = match programme(alloc, &all, goal, true, 5 * SECOND, 9 * SECOND) {
-        Ok(table) => Told::answer(is_programme(&table)),
-        Err(ProgrammeFault::Memory) => Told::Wanted,
-        Err(_) => Told::Astray,
+    let outcome = match programme(alloc, &all, goal, true, 5 * SECOND, 9 * SECOND) {
+        Ok(table) => CallOutcome::from_answer(is_programme(&table)),
+        Err(ProgrammeFault::Memory) => CallOutcome::OutOfMemory,
+        Err(_) => CallOutcome::Wrong,
     };
-    told.kept(are_places(places))
+    outcome.require_unchanged(are_places(places))
 }
 
 #[test]
-fn refused_memory_finds_places_once_more(rt: HostRuntime) {
+fn out_of_memory_then_finds_places_again(rt: HostRuntime) {
     let alloc = rt.alloc();
-    let state = ended_at_last(alloc, &THREE_UNITS).expect(&rt, "a channel");
+    let state = end_channel_with_retry(alloc, &THREE_UNITS).expect(&rt, "a channel");
     let recording = state.recording(0).expect(&rt, "a recording");
-    let first = told_common(alloc, recording);
-    assert!(rt; first.is_held(told_common(alloc, recording)));
-    assert!(rt; told_cursor(alloc).is_held(told_cursor(alloc)));
+    let first = outcome_of_common(alloc, recording);
+    assert!(rt; first.is_consistent_with(outcome_of_common(alloc, recording)));
+    assert!(rt; outcome_of_cursor(alloc).is_consistent_with(outcome_of_cursor(alloc)));
 }
 
-fn found_at_last(alloc: Global, recording: &Recording) -> Option<Vec<Place>>
+fn find_places_with_retry(alloc: Global, recording: &Recording) -> Option<Vec<Place>>
     ensures { IfSome result (λ places. ArePlaces places.items) }
 {
-    match found(alloc, recording) {
+    match find_places(alloc, recording) {
         Some(places) => Some(places),
-        None => found(alloc, recording),
+        None => find_places(alloc, recording),
     }
 }
 
 #[test]
-fn refused_memory_cuts_programmes_once_more(rt: HostRuntime) {
+fn out_of_memory_then_cuts_programmes_again(rt: HostRuntime) {
     let alloc = rt.alloc();
-    let state = ended_at_last(alloc, &THREE_UNITS).expect(&rt, "a channel");
+    let state = end_channel_with_retry(alloc, &THREE_UNITS).expect(&rt, "a channel");
     let recording = state.recording(0).expect(&rt, "a recording");
-    let places = found_at_last(alloc, recording).expect(&rt, "places");
-    let first = told_programme(alloc, &places);
-    assert!(rt; first.is_held(told_programme(alloc, &places)));
+    let places = find_places_with_retry(alloc, recording).expect(&rt, "places");
+    let first = outcome_of_programme(alloc, &places);
+    assert!(rt; first.is_consistent_with(outcome_of_programme(alloc, &places)));
 }

@@ -1,7 +1,7 @@
 //! Configurations, events, and the states that they come to.
 
 ghost use Rattle.std.specs.Prelude.{IfSome};
-ghost use Rattle.hls_media_laws.specs.Meaning.{IsInit};
+ghost use Rattle.hls_media_laws.specs.IsInitOrUnit.{IsInit};
 
 use crate::channel::{config, renditions};
 use bytes::Bytes;
@@ -10,11 +10,11 @@ use hls_core::replay::replay;
 use hls_core::snapshot::Snapshot;
 use hls_core_laws::event::Event;
 use hls_core_laws::rendition::Rendition;
-use hls_fakes::Told;
+use hls_fakes::CallOutcome;
 use hls_media::read_init;
 use hls_media_laws::init::Init;
 use hls_record::Recording;
-use hls_sample_channels::{THREE_UNITS, ended_at_last, recorded_at_last};
+use hls_sample_channels::{THREE_UNITS, end_channel_with_retry, record_channel_with_retry};
 use hls_samples::init_bytes;
 use std::alloc::Global;
 
@@ -29,25 +29,25 @@ fn is_config(config: &Config) -> bool {
     are_renditions(config.renditions()) && config.target() == 6 && config.preferred() == 4_000_000
 }
 
-pub fn told_config(alloc: Global) -> Told {
+pub fn outcome_of_config(alloc: Global) -> CallOutcome {
     let Some(renditions) = renditions(alloc, true) else {
-        return Told::Wanted;
+        return CallOutcome::OutOfMemory;
     };
     match Config::new(alloc, 6, 4_000_000, renditions) {
-        Ok(config) => Told::answer(is_config(&config)),
-        Err(ConfigFault::Memory) => Told::Wanted,
-        Err(_) => Told::Astray,
+        Ok(config) => CallOutcome::from_answer(is_config(&config)),
+        Err(ConfigFault::Memory) => CallOutcome::OutOfMemory,
+        Err(_) => CallOutcome::Wrong,
     }
 }
 
 /// What a wrong preferred length is told, for which no memory is taken but that of the renditions.
-pub fn told_preferred(alloc: Global) -> Told {
+pub fn outcome_of_preferred(alloc: Global) -> CallOutcome {
     let Some(renditions) = renditions(alloc, true) else {
-        return Told::Wanted;
+        return CallOutcome::OutOfMemory;
     };
     match Config::new(alloc, 6, 6_000_001, renditions) {
-        Err(ConfigFault::BadPreferred) => Told::Ample,
-        _ => Told::Astray,
+        Err(ConfigFault::BadPreferred) => CallOutcome::Right,
+        _ => CallOutcome::Wrong,
     }
 }
 
@@ -57,26 +57,26 @@ fn is_opening(state: &Snapshot, shared: &Config) -> bool {
 }
 
 /// The opening state of a configuration, and the configuration shared.
-pub fn told_opening(alloc: Global) -> Told {
+pub fn outcome_of_opening(alloc: Global) -> CallOutcome {
     let Some(config) = config(alloc, true) else {
-        return Told::Wanted;
+        return CallOutcome::OutOfMemory;
     };
     let Ok(shared) = config.share() else {
-        return Told::wanted(is_config(&config));
+        return CallOutcome::from_refusal(is_config(&config));
     };
     match Snapshot::first(alloc, config) {
-        Ok(state) => Told::answer(is_opening(&state, &shared)),
-        Err(_) => Told::wanted(is_config(&shared)),
+        Ok(state) => CallOutcome::from_answer(is_opening(&state, &shared)),
+        Err(_) => CallOutcome::from_refusal(is_config(&shared)),
     }
 }
 
 /// Whether it's the state after two events, one of each worker: the video rendition's begin and its end.
-fn is_run(state: &Snapshot) -> bool {
+fn is_replayed(state: &Snapshot) -> bool {
     state.version() == 2
-        && state.count_by(0) == 1
-        && state.count_by(1) == 1
-        && state.finished(0) == Some(true)
-        && state.finished(1) == Some(false)
+        && state.count_entries_by(0) == 1
+        && state.count_entries_by(1) == 1
+        && state.is_finished(0) == Some(true)
+        && state.is_finished(1) == Some(false)
 }
 
 /// An init section of 600 bytes, and its bytes.
@@ -90,12 +90,12 @@ fn init(alloc: Global) -> Option<(Init, Bytes)>
 }
 
 /// A run of three events by two workers, of which the first is refused.
-pub fn told_replay(alloc: Global) -> Told {
+pub fn outcome_of_replay(alloc: Global) -> CallOutcome {
     let Some(config) = config(alloc, true) else {
-        return Told::Wanted;
+        return CallOutcome::OutOfMemory;
     };
     let Some((init, bytes)) = init(alloc) else {
-        return Told::Wanted;
+        return CallOutcome::OutOfMemory;
     };
     let video = Event::Begin {
         rendition: 0,
@@ -108,8 +108,8 @@ pub fn told_replay(alloc: Global) -> Told {
         (1, Event::Finish { rendition: 0 }),
     ];
     match replay(alloc, config, &events) {
-        Ok(state) => Told::answer(is_run(&state)),
-        Err(_) => Told::Wanted,
+        Ok(state) => CallOutcome::from_answer(is_replayed(&state)),
+        Err(_) => CallOutcome::OutOfMemory,
     }
 }
 
@@ -126,9 +126,9 @@ fn is_begin(event: &Event) -> bool {
 }
 
 /// An event shared.
-pub fn told_shared(alloc: Global) -> Told {
+pub fn outcome_of_shared(alloc: Global) -> CallOutcome {
     let Some((init, bytes)) = init(alloc) else {
-        return Told::Wanted;
+        return CallOutcome::OutOfMemory;
     };
     let event = Event::Begin {
         rendition: 1,
@@ -136,24 +136,24 @@ pub fn told_shared(alloc: Global) -> Told {
         bytes,
     };
     match event.share() {
-        Ok(shared) => Told::answer(is_begin(&shared)),
-        Err(_) => Told::Wanted,
+        Ok(shared) => CallOutcome::from_answer(is_begin(&shared)),
+        Err(_) => CallOutcome::OutOfMemory,
     }
 }
 
 #[test]
-fn refused_memory_opens_channels_once_more(rt: HostRuntime) {
+fn out_of_memory_then_opens_channels_again(rt: HostRuntime) {
     let alloc = rt.alloc();
-    assert!(rt; told_config(alloc).is_held(told_config(alloc)));
-    assert!(rt; told_preferred(alloc).is_held(told_preferred(alloc)));
-    assert!(rt; told_opening(alloc).is_held(told_opening(alloc)));
-    assert!(rt; told_replay(alloc).is_held(told_replay(alloc)));
+    assert!(rt; outcome_of_config(alloc).is_consistent_with(outcome_of_config(alloc)));
+    assert!(rt; outcome_of_preferred(alloc).is_consistent_with(outcome_of_preferred(alloc)));
+    assert!(rt; outcome_of_opening(alloc).is_consistent_with(outcome_of_opening(alloc)));
+    assert!(rt; outcome_of_replay(alloc).is_consistent_with(outcome_of_replay(alloc)));
 }
 
 #[test]
-fn refused_memory_shares_events_once_more(rt: HostRuntime) {
+fn out_of_memory_then_shares_events_again(rt: HostRuntime) {
     let alloc = rt.alloc();
-    assert!(rt; told_shared(alloc).is_held(told_shared(alloc)));
+    assert!(rt; outcome_of_shared(alloc).is_consistent_with(outcome_of_shared(alloc)));
 }
 
 /// Whether it's a recording of three units.
@@ -162,28 +162,28 @@ fn is_recording(recording: &Recording) -> bool {
 }
 
 /// A recording shared, of three units.
-pub fn told_recording(alloc: Global, state: &Snapshot) -> Told {
+pub fn outcome_of_recording(alloc: Global, state: &Snapshot) -> CallOutcome {
     let Some(recording) = state.recording(0) else {
-        return Told::Astray;
+        return CallOutcome::Wrong;
     };
     match recording.share(alloc) {
-        Ok(shared) => Told::answer(is_recording(&shared)),
-        Err(_) => Told::wanted(is_recording(recording)),
+        Ok(shared) => CallOutcome::from_answer(is_recording(&shared)),
+        Err(_) => CallOutcome::from_refusal(is_recording(recording)),
     }
 }
 
 #[test]
-fn refused_memory_shares_recordings_once_more(rt: HostRuntime) {
+fn out_of_memory_then_shares_recordings_again(rt: HostRuntime) {
     let alloc = rt.alloc();
-    let state = ended_at_last(alloc, &THREE_UNITS).expect(&rt, "a channel");
-    let first = told_recording(alloc, &state);
-    assert!(rt; first.is_held(told_recording(alloc, &state)));
+    let state = end_channel_with_retry(alloc, &THREE_UNITS).expect(&rt, "a channel");
+    let first = outcome_of_recording(alloc, &state);
+    assert!(rt; first.is_consistent_with(outcome_of_recording(alloc, &state)));
 }
 
 #[test]
-fn refused_memory_makes_channels_once_more(rt: HostRuntime) {
+fn out_of_memory_then_makes_channels_again(rt: HostRuntime) {
     let alloc = rt.alloc();
-    let more = recorded_at_last(alloc, &THREE_UNITS).expect(&rt, "a channel");
-    let ended = ended_at_last(alloc, &THREE_UNITS).expect(&rt, "an ended channel");
+    let more = record_channel_with_retry(alloc, &THREE_UNITS).expect(&rt, "a channel");
+    let ended = end_channel_with_retry(alloc, &THREE_UNITS).expect(&rt, "an ended channel");
     assert!(rt; more.version() == 4 && ended.version() == 5);
 }

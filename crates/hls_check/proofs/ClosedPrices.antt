@@ -3,46 +3,46 @@ use Rattle.std.proofs.lemmas.List.{length-map}
 use Rattle.hls_check_laws.specs.declared.cert_fault.CertFault.TheVariants.{PriceStep}
 use Rattle.hls_check_laws.specs.Tables.{Table}
 use Rattle.hls_check_laws.specs.Steps.{cost}
-use Rattle.hls_check_laws.specs.Certificates.{Shown, CutShown, NoneShown, price_at, is_closed, Keeps, NoneKeeps, IsForm}
-use Rattle.hls_check.specs.Faults.{IsFirstBroken}
-use Rattle.hls_check.specs.Answers.{AnswerOver}
-use Rattle.hls_check.specs.Rows.{price_of_mark, prices_shown, KeepsTo, IsOpen}
+use Rattle.hls_check_laws.specs.Certificates.{ClaimData, CutClaim, NoneClaim, price_at, is_closed, KeepsPrice, NoneKeepsClosed, IsForm}
+use Rattle.hls_check.specs.Faults.{IsFirstBrokenStep}
+use Rattle.hls_check.specs.CheckResults.{CheckResultOver}
+use Rattle.hls_check.specs.Rows.{price_if_closed, claimed_prices, StepKeepsPrices, HasNoEarlyFault}
 
 -- the price of a place is that of its mark
-pub price_of_closed : (closed : List Bool) (p : ℕ) → price_at (map price_of_mark closed) p ≡ price_of_mark (is_closed closed p)
+pub price_of_closed : (closed : List Bool) (p : ℕ) → price_at (map price_if_closed closed) p ≡ price_if_closed (is_closed closed p)
 price_of_closed [] p = refl
 price_of_closed (mark ∷ closed) zero = refl
 price_of_closed (mark ∷ closed) (suc p) = price_of_closed closed p
 
 -- there is one price for each place
-pub one_price_each : (count : ℕ) (shown : Shown) → IsForm count shown → length (prices_shown shown) ≡ count
-one_price_each count (CutShown total plan prices) form = form.one_each
-one_price_each count (NoneShown closed) form = length-map closed price_of_mark ∙ form
+pub one_price_each : (count : ℕ) (shown : ClaimData) → IsForm count shown → length (claimed_prices shown) ≡ count
+one_price_each count (CutClaim total plan prices) form = form.one_each
+one_price_each count (NoneClaim closed) form = length-map closed price_if_closed ∙ form
 
 -- a step keeps to the prices of a closed set just where it stays in it
-marks_keep : (step : ℕ) (from to : Bool) → Keeps step (price_of_mark from) (price_of_mark to) → from ≡ true → to ≡ true
+marks_keep : (step : ℕ) (from to : Bool) → KeepsPrice step (price_if_closed from) (price_if_closed to) → from ≡ true → to ≡ true
 marks_keep step true true keeps inside = refl
 marks_keep step true false keeps inside = absurd keeps
 marks_keep step false to keeps inside = cc
 
-keep_marks : (step : ℕ) (from to : Bool) → (from ≡ true → to ≡ true) → Keeps step (price_of_mark from) (price_of_mark to)
+keep_marks : (step : ℕ) (from to : Bool) → (from ≡ true → to ≡ true) → KeepsPrice step (price_if_closed from) (price_if_closed to)
 keep_marks step true true stays = omega arith
 keep_marks step true false stays = let no : false ≡ true = stays refl in cc
 keep_marks step false to stays = tt
 
-pub stays_in : (t : Table) (closed : List Bool) (p q : ℕ) → KeepsTo t (NoneShown closed) p q → NoneKeeps t closed p q
+pub stays_in : (t : Table) (closed : List Bool) (p q : ℕ) → StepKeepsPrices t (NoneClaim closed) p q → NoneKeepsClosed t closed p q
 stays_in t closed p q keeps rises allowed =
     marks_keep (cost t p q) (is_closed closed p) (is_closed closed q)
     (rw (← price_of_closed closed p, ← price_of_closed closed q) (keeps rises allowed))
 
-pub keeps_in : (t : Table) (closed : List Bool) (p q : ℕ) → NoneKeeps t closed p q → KeepsTo t (NoneShown closed) p q
+pub keeps_in : (t : Table) (closed : List Bool) (p q : ℕ) → NoneKeepsClosed t closed p q → StepKeepsPrices t (NoneClaim closed) p q
 keeps_in t closed p q stays rises allowed =
     rw (price_of_closed closed p, price_of_closed closed q)
     (keep_marks (cost t p q) (is_closed closed p) (is_closed closed q) (stays rises allowed))
 
 -- so the first step that doesn't is the first that leaves it
-pub first_that_leaves : (t : Table) (closed : List Bool) (p q : ℕ) → IsFirstBroken (KeepsTo t (NoneShown closed)) p q →
-    IsFirstBroken (NoneKeeps t closed) p q
+pub first_that_leaves : (t : Table) (closed : List Bool) (p q : ℕ) → IsFirstBrokenStep (StepKeepsPrices t (NoneClaim closed)) p q →
+    IsFirstBrokenStep (NoneKeepsClosed t closed) p q
 first_that_leaves t closed p q first = record {
   in_row = record {
     broken = λ stays. first.in_row.broken (keeps_in t closed p q stays);
@@ -52,7 +52,7 @@ first_that_leaves t closed p q first = record {
 }
 
 -- and the answer to what is shown
-pub broken_answer : (t : Table) (shown : Shown) (p q : ℕ) → IsOpen t shown → IsFirstBroken (KeepsTo t shown) p q →
-    AnswerOver t shown (Err (PriceStep p q))
-broken_answer t (CutShown total plan prices) p q so_far first = (so_far.0, so_far.1, so_far.2, so_far.3, first)
-broken_answer t (NoneShown closed) p q so_far first = (so_far.0, so_far.1, first_that_leaves t closed p q first)
+pub broken_answer : (t : Table) (shown : ClaimData) (p q : ℕ) → HasNoEarlyFault t shown → IsFirstBrokenStep (StepKeepsPrices t shown) p q →
+    CheckResultOver t shown (Err (PriceStep p q))
+broken_answer t (CutClaim total plan prices) p q so_far first = (so_far.0, so_far.1, so_far.2, so_far.3, first)
+broken_answer t (NoneClaim closed) p q so_far first = (so_far.0, so_far.1, first_that_leaves t closed p q first)

@@ -6,19 +6,19 @@ use Rattle.std.proofs.lemmas.Bool.{cases_lt, cases_eq}
 use Rattle.rayon.specs.Lists.{filter_by_mask}
 use Rattle.rayon.specs.Numbers.{nat_range}
 use Rattle.hls_check_laws.specs.Tables.{Table}
-use Rattle.hls_check_laws.specs.Certificates.{Shown}
-use Rattle.hls_check.specs.Faults.{IsFirstBroken}
-use Rattle.hls_check.specs.Rows.{KeepsTo, RowsKeep, BlockKeeps, IsFirstBadBlock, IsFirstOfRows}
+use Rattle.hls_check_laws.specs.Certificates.{ClaimData}
+use Rattle.hls_check.specs.Faults.{IsFirstBrokenStep}
+use Rattle.hls_check.specs.Rows.{StepKeepsPrices, RowsKeepPrices, BlockKeepsPrices, IsFirstBadBlock, IsFirstOfRows}
 use Rattle.hls_check.proofs.Blocks.{first_of_all}
 
 -- the answer that was given at a block
-abbrev pub IsToldAt : Table → Shown → ℕ → Bool → Type 0
-IsToldAt t shown b bad = (p : Bor ℕ) × (p.now ≡ b) × MatchBool bad (BlockKeeps t shown p.now → ⊥) (BlockKeeps t shown p.now)
+abbrev pub IsToldAt : Table → ClaimData → ℕ → Bool → Type 0
+IsToldAt t shown b bad = (p : Bor ℕ) × (p.now ≡ b) × MatchBool bad (BlockKeepsPrices t shown p.now → ⊥) (BlockKeepsPrices t shown p.now)
 
 -- the first at which it was yes
-first_yes : (t : Table) (shown : Shown) (a n : ℕ) (bs : List Bool) → AllZip (IsToldAt t shown) (range_with_len a n) bs →
+first_yes : (t : Table) (shown : ClaimData) (a n : ℕ) (bs : List Bool) → AllZip (IsToldAt t shown) (range_with_len a n) bs →
     MatchOption (slice_get (filter_by_mask (range_with_len a n) bs) 0)
-    ((b : ℕ) → a ≤ b → b < a + n → BlockKeeps t shown b) (IsFirstBadBlock t shown a (a + n))
+    ((b : ℕ) → a ≤ b → b < a + n → BlockKeepsPrices t shown b) (IsFirstBadBlock t shown a (a + n))
 first_yes t shown a zero [] told = λ b from below. absurd (omega arith)
 first_yes t shown a zero (x ∷ bs) told = absurd told
 first_yes t shown a (suc n) [] told = absurd told
@@ -29,12 +29,12 @@ first_yes t shown a (suc n) (true ∷ bs) told = record {
   before = λ b from below. absurd (omega arith);
 }
 first_yes t shown a (suc n) (false ∷ bs) told =
-    let here : BlockKeeps t shown a = rw told.0.1 at told.0.2 in
+    let here : BlockKeepsPrices t shown a = rw told.0.1 at told.0.2 in
     later (slice_get (filter_by_mask (range_with_len (a + 1) n) bs) 0) here (first_yes t shown (a + 1) n bs told.1)
   where
-    later : (r : Option ℕ) → BlockKeeps t shown a →
-        MatchOption r ((b : ℕ) → a + 1 ≤ b → b < a + 1 + n → BlockKeeps t shown b) (IsFirstBadBlock t shown (a + 1) (a + 1 + n)) →
-        MatchOption r ((b : ℕ) → a ≤ b → b < a + suc n → BlockKeeps t shown b) (IsFirstBadBlock t shown a (a + suc n))
+    later : (r : Option ℕ) → BlockKeepsPrices t shown a →
+        MatchOption r ((b : ℕ) → a + 1 ≤ b → b < a + 1 + n → BlockKeepsPrices t shown b) (IsFirstBadBlock t shown (a + 1) (a + 1 + n)) →
+        MatchOption r ((b : ℕ) → a ≤ b → b < a + suc n → BlockKeepsPrices t shown b) (IsFirstBadBlock t shown a (a + suc n))
     later None here rest = λ b from below.
         elim (cases_eq b a) [
           | inl same ↦ rw same here
@@ -51,10 +51,10 @@ first_yes t shown a (suc n) (false ∷ bs) told =
           ];
     }
 
-pub first_told : (t : Table) (shown : Shown) (from to start end : ℕ) → from ≤ to → start ≡ from → end ≡ to →
+pub first_told : (t : Table) (shown : ClaimData) (from to start end : ℕ) → from ≤ to → start ≡ from → end ≡ to →
     (xs : List ℕ) (bs : List Bool) (r : Option ℕ) → xs ≡ nat_range start end → AllZip (IsToldAt t shown) xs bs →
     r ≡ slice_get (filter_by_mask xs bs) 0 →
-    MatchOption r ((b : ℕ) → from ≤ b → b < to → BlockKeeps t shown b) (IsFirstBadBlock t shown from to)
+    MatchOption r ((b : ℕ) → from ≤ b → b < to → BlockKeepsPrices t shown b) (IsFirstBadBlock t shown from to)
 first_told t shown from to start end order is_start is_end xs bs r is told found =
     let whole : from + (to - from) ≡ to = omega (arith, order) in
     let list : xs ≡ range_with_len from (to - from) = rw (is_start, is_end) at is in
@@ -62,14 +62,14 @@ first_told t shown from to start end order is_start is_end xs bs r is told found
     rw (found, list) (rw whole at first)
 
 -- the rows of some blocks
-pub rows_of_blocks : (t : Table) (shown : Shown) (n : ℕ) → ((b : ℕ) → b < n → BlockKeeps t shown b) → RowsKeep t shown 0 (n * 32)
+pub rows_of_blocks : (t : Table) (shown : ClaimData) (n : ℕ) → ((b : ℕ) → b < n → BlockKeepsPrices t shown b) → RowsKeepPrices t shown 0 (n * 32)
 rows_of_blocks t shown n keep i j from below = keep (i / 32) (omega (arith, below)) i j (omega arith) (omega arith)
 
 -- so the first step of the first bad block is the first of all
-pub first_of_bad : (t : Table) (shown : Shown) (done end block : ℕ) (r : Option (ℕ × ℕ)) →
-    ((b : ℕ) → b < done → BlockKeeps t shown b) → IsFirstBadBlock t shown done end block →
-    MatchOption r (BlockKeeps t shown block) (λ step. IsFirstOfRows t shown (block * 32) (block * 32 + 32) step.0 step.1) →
-    MatchOption r ((p q : ℕ) → KeepsTo t shown p q) (λ step. IsFirstBroken (KeepsTo t shown) step.0 step.1)
+pub first_of_bad : (t : Table) (shown : ClaimData) (done end block : ℕ) (r : Option (ℕ × ℕ)) →
+    ((b : ℕ) → b < done → BlockKeepsPrices t shown b) → IsFirstBadBlock t shown done end block →
+    MatchOption r (BlockKeepsPrices t shown block) (λ step. IsFirstOfRows t shown (block * 32) (block * 32 + 32) step.0 step.1) →
+    MatchOption r ((p q : ℕ) → StepKeepsPrices t shown p q) (λ step. IsFirstBrokenStep (StepKeepsPrices t shown) step.0 step.1)
 first_of_bad t shown done end block None before first keeps = absurd (first.bad keeps)
 first_of_bad t shown done end block (Some step) before first found =
     first_of_all t shown (block * 32) (block * 32 + 32) step.0 step.1
@@ -81,7 +81,7 @@ first_of_bad t shown done end block (Some step) before first found =
     found
 
 -- where all blocks keep to the prices each step does
-pub all_of_blocks : (t : Table) (shown : Shown) (blocks : ℕ) → length t.places ≤ blocks * 32 →
-    ((b : ℕ) → b < blocks → BlockKeeps t shown b) → (p q : ℕ) → KeepsTo t shown p q
+pub all_of_blocks : (t : Table) (shown : ClaimData) (blocks : ℕ) → length t.places ≤ blocks * 32 →
+    ((b : ℕ) → b < blocks → BlockKeepsPrices t shown b) → (p q : ℕ) → StepKeepsPrices t shown p q
 all_of_blocks t shown blocks enough keep p q rises allowed =
     rows_of_blocks t shown blocks keep p q (omega arith) (omega (arith, allowed.from, enough)) rises allowed

@@ -4,13 +4,13 @@ use Rattle.hls_check_laws.specs.declared.cert_fault.CertFault.TheVariants.{Form,
 use Rattle.hls_check_laws.specs.declared.verdict.Verdict.{Verdict}
 use Rattle.hls_check_laws.specs.declared.verdict.Verdict.TheVariants.{Cut, NoCut}
 use Rattle.hls_check_laws.specs.Tables.{Table, IsTable}
-use Rattle.hls_check_laws.specs.Certificates.{Printed, Shown, CutShown, NoneShown, IsGoodCut, IsGoodNone, IsGoodOver, IsGood}
-use Rattle.hls_check.specs.Answers.{CutAnswer, NoneAnswer, AnswerOver, IsAnswer}
+use Rattle.hls_check_laws.specs.Certificates.{CertificateData, ClaimData, CutClaim, NoneClaim, IsGoodCut, IsGoodNone, IsGoodOver, IsGood}
+use Rattle.hls_check.specs.CheckResults.{CutCheckResult, NoneCheckResult, CheckResultOver, IsCheckResult}
 use Rattle.hls_check.proofs.PlanLists.{ends_from_plan, steps_from_plan}
 
 -- a cut that is answered by a fault isn't good
 pub cut_fault : (t : Table) → IsTable t → (total : ℕ) (plan : List ℕ) (prices : List (Option ℕ)) (fault : CertFault) →
-    CutAnswer t total plan prices (Err fault) → IsGoodCut t total plan prices → ⊥
+    CutCheckResult t total plan prices (Err fault) → IsGoodCut t total plan prices → ⊥
 cut_fault t ok total plan prices (Form line) answer good = answer
 cut_fault t ok total plan prices (TableNotSorted p) answer good = answer.unsorted (good.sorted p answer.in_range)
 cut_fault t ok total plan prices PlanEnds answer good = answer.1 (ends_from_plan t plan good.is_plan)
@@ -26,7 +26,7 @@ cut_fault t ok total plan prices EndReached answer good = answer
 cut_fault t ok total plan prices Memory answer good = answer
 
 pub none_fault : (t : Table) (closed : List Bool) (fault : CertFault) →
-    NoneAnswer t closed (Err fault) → IsGoodNone t closed → ⊥
+    NoneCheckResult t closed (Err fault) → IsGoodNone t closed → ⊥
 none_fault t closed (Form line) answer good = answer
 none_fault t closed (TableNotSorted p) answer good = answer.unsorted (good.sorted p answer.in_range)
 none_fault t closed PlanEnds answer good = answer
@@ -42,23 +42,23 @@ none_fault t closed EndReached answer good =
 none_fault t closed Memory answer good = answer
 
 -- a yes is given of good certificates alone, and of each
-pub good_from_ok : (c : Printed) (r : Result Verdict CertFault) → IsAnswer c r → IsOk r → IsGood c
+pub good_from_ok : (c : CertificateData) (r : Result Verdict CertFault) → IsCheckResult c r → IsOk r → IsGood c
 good_from_ok c r answer is_ok = good_over c.table c.shown r answer is_ok
   where
-    good_over : (t : Table) (shown : Shown) (r : Result Verdict CertFault) → AnswerOver t shown r → IsOk r → IsGoodOver t shown
-    good_over t (CutShown total plan prices) (Ok (Cut cost)) answer is_ok = answer.1
-    good_over t (CutShown total plan prices) (Ok NoCut) answer is_ok = absurd answer
-    good_over t (NoneShown closed) (Ok (Cut cost)) answer is_ok = absurd answer
-    good_over t (NoneShown closed) (Ok NoCut) answer is_ok = answer
+    good_over : (t : Table) (shown : ClaimData) (r : Result Verdict CertFault) → CheckResultOver t shown r → IsOk r → IsGoodOver t shown
+    good_over t (CutClaim total plan prices) (Ok (Cut cost)) answer is_ok = answer.1
+    good_over t (CutClaim total plan prices) (Ok NoCut) answer is_ok = absurd answer
+    good_over t (NoneClaim closed) (Ok (Cut cost)) answer is_ok = absurd answer
+    good_over t (NoneClaim closed) (Ok NoCut) answer is_ok = answer
     good_over t shown (Err fault) answer is_ok = cc
 
-ok_over : (t : Table) → IsTable t → (shown : Shown) (r : Result Verdict CertFault) → AnswerOver t shown r →
+ok_over : (t : Table) → IsTable t → (shown : ClaimData) (r : Result Verdict CertFault) → CheckResultOver t shown r →
     IsGoodOver t shown → IsOk r
-ok_over t ok (CutShown total plan prices) (Ok verdict) answer good = refl
-ok_over t ok (CutShown total plan prices) (Err fault) answer good =
+ok_over t ok (CutClaim total plan prices) (Ok verdict) answer good = refl
+ok_over t ok (CutClaim total plan prices) (Err fault) answer good =
     absurd (cut_fault t ok total plan prices fault answer good)
-ok_over t ok (NoneShown closed) (Ok verdict) answer good = refl
-ok_over t ok (NoneShown closed) (Err fault) answer good = absurd (none_fault t closed fault answer good)
+ok_over t ok (NoneClaim closed) (Ok verdict) answer good = refl
+ok_over t ok (NoneClaim closed) (Err fault) answer good = absurd (none_fault t closed fault answer good)
 
-pub ok_from_good : (c : Printed) → IsTable c.table → (r : Result Verdict CertFault) → IsAnswer c r → IsGood c → IsOk r
+pub ok_from_good : (c : CertificateData) → IsTable c.table → (r : Result Verdict CertFault) → IsCheckResult c r → IsGood c → IsOk r
 ok_from_good c ok r answer good = ok_over c.table ok c.shown r answer good

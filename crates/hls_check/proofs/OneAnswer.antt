@@ -7,9 +7,9 @@ use Rattle.hls_check_laws.specs.declared.verdict.Verdict.TheVariants.{Cut, NoCut
 use Rattle.hls_check_laws.specs.Tables.{Table, IsTable}
 use Rattle.hls_check_laws.specs.Orders.{IsSorted, IsFirstUnsorted}
 use Rattle.hls_check_laws.specs.Plans.{IsPlan}
-use Rattle.hls_check_laws.specs.Certificates.{IsCertificate, Printed, Shown, CutShown, NoneShown}
-use Rattle.hls_check.specs.Faults.{IsFirstBadPair, IsFirstBroken}
-use Rattle.hls_check.specs.Answers.{CutAnswer, NoneAnswer, AnswerOver, IsAnswer}
+use Rattle.hls_check_laws.specs.Certificates.{IsCertificate, CertificateData, ClaimData, CutClaim, NoneClaim}
+use Rattle.hls_check.specs.Faults.{IsFirstBadPair, IsFirstBrokenStep}
+use Rattle.hls_check.specs.CheckResults.{CutCheckResult, NoneCheckResult, CheckResultOver, IsCheckResult}
 use Rattle.hls_check.proofs.PlanLists.{ends_from_plan, steps_from_plan}
 use Rattle.hls_check.proofs.GoodAnswers.{cut_fault, none_fault}
 
@@ -41,17 +41,17 @@ bad_pair_plan t ok plan p q sorted first is_plan =
     first.bad (rw (← first.is_from, ← first.is_to) (steps_from_plan t ok sorted plan is_plan first.at first.in_plan))
 
 -- the first broken step is one
-one_row : (Holds : ℕ → ℕ → Type 0) (p q i j : ℕ) → IsFirstBroken Holds p q → IsFirstBroken Holds i j → p ≡ i
+one_row : (Holds : ℕ → ℕ → Type 0) (p q i j : ℕ) → IsFirstBrokenStep Holds p q → IsFirstBrokenStep Holds i j → p ≡ i
 one_row Holds p q i j one other =
     one_first p i (λ below. one.in_row.broken (other.rows p q below)) (λ above. other.in_row.broken (one.rows i j above))
 
-one_place : (Holds : ℕ → ℕ → Type 0) (p q j : ℕ) → IsFirstBroken Holds p q → IsFirstBroken Holds p j → q ≡ j
+one_place : (Holds : ℕ → ℕ → Type 0) (p q j : ℕ) → IsFirstBrokenStep Holds p q → IsFirstBrokenStep Holds p j → q ≡ j
 one_place Holds p q j one other =
     one_first q j (λ below. one.in_row.broken (other.in_row.before q below)) (λ above. other.in_row.broken (one.in_row.before j above))
 
 -- two faults of one cut are one
 cut_faults : (t : Table) → IsTable t → (total : ℕ) (plan : List ℕ) (prices : List (Option ℕ)) (one other : CertFault) →
-    CutAnswer t total plan prices (Err one) → CutAnswer t total plan prices (Err other) → one ≡ other
+    CutCheckResult t total plan prices (Err one) → CutCheckResult t total plan prices (Err other) → one ≡ other
 cut_faults t ok total plan prices (TableNotSorted p) (TableNotSorted q) a b = ap (λ (x : ℕ). TableNotSorted x) (one_unsorted t p q a b)
 cut_faults t ok total plan prices (TableNotSorted p) PlanEnds a b = absurd (unsorted_sorted t p a b.0)
 cut_faults t ok total plan prices (TableNotSorted p) (PlanStep i j) a b = absurd (unsorted_sorted t p a b.0)
@@ -106,7 +106,7 @@ cut_faults t ok total plan prices one Memory a b = absurd b
 
 -- two faults of one closed set are one
 none_faults : (t : Table) (closed : List Bool) (one other : CertFault) →
-    NoneAnswer t closed (Err one) → NoneAnswer t closed (Err other) → one ≡ other
+    NoneCheckResult t closed (Err one) → NoneCheckResult t closed (Err other) → one ≡ other
 none_faults t closed (TableNotSorted p) (TableNotSorted q) a b = ap (λ (x : ℕ). TableNotSorted x) (one_unsorted t p q a b)
 none_faults t closed (TableNotSorted p) PriceStart a b = absurd (unsorted_sorted t p a b.0)
 none_faults t closed (TableNotSorted p) (PriceStep i j) a b = absurd (unsorted_sorted t p a b.0)
@@ -138,23 +138,23 @@ none_faults t closed one PlanCost a b = absurd b
 none_faults t closed one Memory a b = absurd b
 
 -- two answers to one certificate are one
-one_over : (t : Table) → IsTable t → (shown : Shown) (one other : Result Verdict CertFault) →
-    AnswerOver t shown one → AnswerOver t shown other → one ≡ other
-one_over t ok (CutShown total plan prices) (Ok (Cut x)) (Ok (Cut y)) a b =
+one_over : (t : Table) → IsTable t → (shown : ClaimData) (one other : Result Verdict CertFault) →
+    CheckResultOver t shown one → CheckResultOver t shown other → one ≡ other
+one_over t ok (CutClaim total plan prices) (Ok (Cut x)) (Ok (Cut y)) a b =
     ap (λ (v : ℕ). Ok (Cut v)) (a.0 ∙ sym b.0)
-one_over t ok (CutShown total plan prices) (Ok (Cut x)) (Err fault) a b = absurd (cut_fault t ok total plan prices fault b a.1)
-one_over t ok (CutShown total plan prices) (Err fault) (Ok (Cut x)) a b = absurd (cut_fault t ok total plan prices fault a b.1)
-one_over t ok (CutShown total plan prices) (Err x) (Err y) a b =
+one_over t ok (CutClaim total plan prices) (Ok (Cut x)) (Err fault) a b = absurd (cut_fault t ok total plan prices fault b a.1)
+one_over t ok (CutClaim total plan prices) (Err fault) (Ok (Cut x)) a b = absurd (cut_fault t ok total plan prices fault a b.1)
+one_over t ok (CutClaim total plan prices) (Err x) (Err y) a b =
     ap (λ (v : CertFault). Err v) (cut_faults t ok total plan prices x y a b)
-one_over t ok (CutShown total plan prices) (Ok NoCut) other a b = absurd a
-one_over t ok (CutShown total plan prices) one (Ok NoCut) a b = absurd b
-one_over t ok (NoneShown closed) (Ok NoCut) (Ok NoCut) a b = refl
-one_over t ok (NoneShown closed) (Ok NoCut) (Err fault) a b = absurd (none_fault t closed fault b a)
-one_over t ok (NoneShown closed) (Err fault) (Ok NoCut) a b = absurd (none_fault t closed fault a b)
-one_over t ok (NoneShown closed) (Err x) (Err y) a b = ap (λ (v : CertFault). Err v) (none_faults t closed x y a b)
-one_over t ok (NoneShown closed) (Ok (Cut x)) other a b = absurd a
-one_over t ok (NoneShown closed) one (Ok (Cut x)) a b = absurd b
+one_over t ok (CutClaim total plan prices) (Ok NoCut) other a b = absurd a
+one_over t ok (CutClaim total plan prices) one (Ok NoCut) a b = absurd b
+one_over t ok (NoneClaim closed) (Ok NoCut) (Ok NoCut) a b = refl
+one_over t ok (NoneClaim closed) (Ok NoCut) (Err fault) a b = absurd (none_fault t closed fault b a)
+one_over t ok (NoneClaim closed) (Err fault) (Ok NoCut) a b = absurd (none_fault t closed fault a b)
+one_over t ok (NoneClaim closed) (Err x) (Err y) a b = ap (λ (v : CertFault). Err v) (none_faults t closed x y a b)
+one_over t ok (NoneClaim closed) (Ok (Cut x)) other a b = absurd a
+one_over t ok (NoneClaim closed) one (Ok (Cut x)) a b = absurd b
 
-pub one_answer : (c : Printed) (one other : Result Verdict CertFault) → IsCertificate c →
-    IsAnswer c one → IsAnswer c other → one ≡ other
+pub one_answer : (c : CertificateData) (one other : Result Verdict CertFault) → IsCertificate c →
+    IsCheckResult c one → IsCheckResult c other → one ≡ other
 one_answer c one other certificate a b = one_over c.table certificate.table c.shown one other a b

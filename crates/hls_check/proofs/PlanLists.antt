@@ -2,12 +2,12 @@ use Rattle.std.proofs.Common.{◌≡◌, ℕ, zero, suc, ◌+◌, ◌-◌, ◌<�
 use Rattle.hls_check_laws.specs.Tables.{Table, IsTable}
 use Rattle.hls_check_laws.specs.Steps.{cost}
 use Rattle.hls_check_laws.specs.Orders.{IsSorted}
-use Rattle.hls_check_laws.specs.Plans.{Leads, end_of, cost_from, IsPlan, plan_cost, HasEnds}
+use Rattle.hls_check_laws.specs.Plans.{StepsAreAllowed, last_place, cost_from, IsPlan, plan_cost, HasEnds}
 use Rattle.hls_check_laws.proofs.Walks.{Allowed-rises}
 use Rattle.hls_check.specs.Faults.{IsForwardStep, HasSteps}
 
 -- the end of a walk is its last place
-end_of-get_or : (p : ℕ) (rest : List ℕ) → end_of p rest ≡ get_or (p ∷ rest) (length rest) 0
+end_of-get_or : (p : ℕ) (rest : List ℕ) → last_place p rest ≡ get_or (p ∷ rest) (length rest) 0
 end_of-get_or p [] = refl
 end_of-get_or p (q ∷ rest) = end_of-get_or q rest
 
@@ -35,7 +35,7 @@ last_from_ends t (p ∷ rest) ends =
 
 -- steps pair by pair lead along the plan
 leads_from_steps : (t : Table) (p : ℕ) (rest : List ℕ) →
-    ((k : ℕ) → k < length rest → IsForwardStep t (get_or (p ∷ rest) k 0) (get_or rest k 0)) → Leads t p rest
+    ((k : ℕ) → k < length rest → IsForwardStep t (get_or (p ∷ rest) k 0) (get_or rest k 0)) → StepsAreAllowed t p rest
 leads_from_steps t p [] steps = tt
 leads_from_steps t p (q ∷ rest) steps =
     ((steps 0 (omega arith)).allowed, leads_from_steps t q rest (λ k h. steps (suc k) (omega arith)))
@@ -55,7 +55,7 @@ pub ends_from_plan : (t : Table) (plan : List ℕ) → IsPlan t plan → HasEnds
 ends_from_plan t [] is_plan = is_plan
 ends_from_plan t (p ∷ rest) is_plan = (is_plan.0, is_plan.1)
 
-steps_from_leads : (t : Table) → IsTable t → IsSorted t → (p : ℕ) (rest : List ℕ) → Leads t p rest →
+steps_from_leads : (t : Table) → IsTable t → IsSorted t → (p : ℕ) (rest : List ℕ) → StepsAreAllowed t p rest →
     (k : ℕ) → k < length rest → IsForwardStep t (get_or (p ∷ rest) k 0) (get_or rest k 0)
 steps_from_leads t ok sorted p [] leads k h = absurd (omega arith)
 steps_from_leads t ok sorted p (q ∷ rest) leads zero h =

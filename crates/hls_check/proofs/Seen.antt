@@ -5,22 +5,22 @@ use Rattle.std.specs.Prelude.{IsTrue, MatchOption}
 use Rattle.std.specs.Bool.{MatchBool}
 use Rattle.hls_check_laws.specs.Tables.{Table}
 use Rattle.hls_check_laws.specs.Steps.{Allowed, cost}
-use Rattle.hls_check_laws.specs.Certificates.{Shown, Keeps, price_at}
-use Rattle.hls_check.specs.Rows.{prices_shown, KeepsTo, RowsKeep, ColumnKeeps, IsFirstOfColumn, IsFirstFound, IsFloor, IsFoundOfRows}
+use Rattle.hls_check_laws.specs.Certificates.{ClaimData, KeepsPrice, price_at}
+use Rattle.hls_check.specs.Rows.{claimed_prices, StepKeepsPrices, RowsKeepPrices, ColumnKeepsPrices, IsFirstOfColumn, IsFirstFound, IsLowerBound, IsFirstOfRowsOrNone}
 
 -- a place without a price keeps to every step from it
-pub unpriced : (t : Table) (shown : Shown) (p q : ℕ) → price_at (prices_shown shown) p ≡ None → KeepsTo t shown p q
+pub unpriced : (t : Table) (shown : ClaimData) (p q : ℕ) → price_at (claimed_prices shown) p ≡ None → StepKeepsPrices t shown p q
 unpriced t shown p q none = λ forward allowed. rw none tt
 
 -- a price that is kept to
-pub kept : (t : Table) (shown : Shown) (p q price between : ℕ) (to : Option ℕ) → Some price ≡ price_at (prices_shown shown) p
-    → between ≡ cost t p q → to ≡ price_at (prices_shown shown) q → Keeps between (Some price) to → KeepsTo t shown p q
+pub kept : (t : Table) (shown : ClaimData) (p q price between : ℕ) (to : Option ℕ) → Some price ≡ price_at (claimed_prices shown) p
+    → between ≡ cost t p q → to ≡ price_at (claimed_prices shown) q → KeepsPrice between (Some price) to → StepKeepsPrices t shown p q
 kept t shown p q price between to from_is between_is to_is keeps = λ forward allowed. (rw (from_is, between_is, to_is) at keeps)
 
 -- one that isn't, by whether the step is allowed
-pub unkept : (t : Table) (shown : Shown) (p q price between : ℕ) (to : Option ℕ) (step : Bool) → p < q → Some price ≡ price_at (prices_shown shown) p
-    → between ≡ cost t p q → to ≡ price_at (prices_shown shown) q → (Keeps between (Some price) to → IsTrue false) → (IsTrue step ↔ Allowed t p q)
-    → MatchBool step (KeepsTo t shown p q → ⊥) (KeepsTo t shown p q)
+pub unkept : (t : Table) (shown : ClaimData) (p q price between : ℕ) (to : Option ℕ) (step : Bool) → p < q → Some price ≡ price_at (claimed_prices shown) p
+    → between ≡ cost t p q → to ≡ price_at (claimed_prices shown) q → (KeepsPrice between (Some price) to → IsTrue false) → (IsTrue step ↔ Allowed t p q)
+    → MatchBool step (StepKeepsPrices t shown p q → ⊥) (StepKeepsPrices t shown p q)
 unkept t shown p q price between to true forward from_is between_is to_is breaks is_step =
     λ keeps. let no : false ≡ true = breaks (rw (from_is, between_is, to_is) (keeps forward (is_step.0 refl))) in cc
 unkept t shown p q price between to false forward from_is between_is to_is breaks is_step =
@@ -37,13 +37,13 @@ more_columns P first end q before here i j from below to =
     elim (cases_eq j q) [ inl same ↦ rw same (here i from below) | inr other ↦ before i j from below (omega arith) ]
 
 -- one block more
-pub more_rows : (t : Table) (shown : Shown) (first end next : ℕ) → RowsKeep t shown first end → RowsKeep t shown end next → RowsKeep t shown first next
+pub more_rows : (t : Table) (shown : ClaimData) (first end next : ℕ) → RowsKeepPrices t shown first end → RowsKeepPrices t shown end next → RowsKeepPrices t shown first next
 more_rows t shown first end next before here i j from below = elim (cases_lt i end) [ inl low ↦ before i j from low | inr high ↦ here i j high below ]
 
 -- from the places from q on no step leads forward to q
-pub whole_column : (t : Table) (shown : Shown) (first end q before : ℕ) (found : Option ℕ) → before ≡ min end q
-    → MatchOption found (ColumnKeeps t shown first before q) (IsFirstOfColumn t shown first before q)
-    → MatchOption found (ColumnKeeps t shown first end q) (IsFirstOfColumn t shown first end q)
+pub whole_column : (t : Table) (shown : ClaimData) (first end q before : ℕ) (found : Option ℕ) → before ≡ min end q
+    → MatchOption found (ColumnKeepsPrices t shown first before q) (IsFirstOfColumn t shown first before q)
+    → MatchOption found (ColumnKeepsPrices t shown first end q) (IsFirstOfColumn t shown first end q)
 whole_column t shown first end q before None before_is keeps = λ i from below forward. keeps i from (omega arith) forward
 whole_column t shown first end q before (Some p) before_is is = record {
   from = is.from;
@@ -53,24 +53,24 @@ whole_column t shown first end q before (Some p) before_is is = record {
 }
 
 -- before the first column none is seen
-pub no_columns : (t : Table) (shown : Shown) (first end : ℕ) → (i j : ℕ) → first ≤ i → i < end → j < first + 1 → KeepsTo t shown i j
+pub no_columns : (t : Table) (shown : ClaimData) (first end : ℕ) → (i j : ℕ) → first ≤ i → i < end → j < first + 1 → StepKeepsPrices t shown i j
 no_columns t shown first end i j from below to = λ forward. absurd (omega arith)
 
 -- what is seen of a block's rows once a step from place p is found, which is the least place that one leads from
-pub record IsCut (t : Table) (shown : Shown) (first p q price start : ℕ) : Type 0 where
+pub record IsCut (t : Table) (shown : ClaimData) (first p q price start : ℕ) : Type 0 where
   pub within : p ≤ first + 32
-  pub so_far : (i j : ℕ) → first ≤ i → i < p → j < q + 1 → KeepsTo t shown i j
+  pub so_far : (i j : ℕ) → first ≤ i → i < p → j < q + 1 → StepKeepsPrices t shown i j
   pub found : IsFirstFound t shown first p q
-  pub floor : IsFloor t shown first p price start
+  pub lower_bound : IsLowerBound t shown first p price start
 
-pub cut_at : (t : Table) (shown : Shown) (first end p q price start : ℕ) → end ≤ first + 32
-    → ((i j : ℕ) → first ≤ i → i < end → j < q → KeepsTo t shown i j) → IsFloor t shown first end price start
+pub cut_at : (t : Table) (shown : ClaimData) (first end p q price start : ℕ) → end ≤ first + 32
+    → ((i j : ℕ) → first ≤ i → i < end → j < q → StepKeepsPrices t shown i j) → IsLowerBound t shown first end price start
     → IsFirstOfColumn t shown first end q p → IsCut t shown first p q price start
-cut_at t shown first end p q price start within so_far floor here =
+cut_at t shown first end p q price start within so_far lower_bound here =
     let below : p < end = here.below in
     record {
       within = omega arith;
-      so_far = more_columns (KeepsTo t shown) first p q (λ i j from under. so_far i j from (omega arith)) here.column;
+      so_far = more_columns (StepKeepsPrices t shown) first p q (λ i j from under. so_far i j from (omega arith)) here.column;
       found = record {
         from = here.from;
         below = omega arith;
@@ -79,14 +79,14 @@ cut_at t shown first end p q price start within so_far floor here =
           before = λ j to. so_far p j here.from below to;
         };
       };
-      floor = λ i v from under. floor i v from (omega arith);
+      lower_bound = λ i v from under. lower_bound i v from (omega arith);
     }
 
 -- what a search through all columns of a block has found
-pub found_of_rows : (t : Table) (shown : Shown) (first end q : ℕ) (found : Option (ℕ × ℕ)) → length t.places ≤ q
-    → ((i j : ℕ) → first ≤ i → i < end → j < q → KeepsTo t shown i j)
+pub found_of_rows : (t : Table) (shown : ClaimData) (first end q : ℕ) (found : Option (ℕ × ℕ)) → length t.places ≤ q
+    → ((i j : ℕ) → first ≤ i → i < end → j < q → StepKeepsPrices t shown i j)
     → MatchOption found (end ≡ min (length t.places) (first + 32)) (λ step. (step.0 ≡ end) × IsFirstFound t shown first step.0 step.1)
-    → IsFoundOfRows t shown first (first + 32) found
+    → IsFirstOfRowsOrNone t shown first (first + 32) found
 found_of_rows t shown first end q None past so_far all =
     λ i j from below forward allowed. so_far i j from (omega (arith, allowed.from)) (omega (arith, allowed.to)) forward allowed
 found_of_rows t shown first end q (Some step) past so_far is = record {
@@ -97,5 +97,5 @@ found_of_rows t shown first end q (Some step) past so_far is = record {
 }
 
 -- no step leads from behind the last place
-pub all_rows : (t : Table) (shown : Shown) (first : ℕ) → length t.places ≤ first → RowsKeep t shown 0 first → (p q : ℕ) → KeepsTo t shown p q
+pub all_rows : (t : Table) (shown : ClaimData) (first : ℕ) → length t.places ≤ first → RowsKeepPrices t shown 0 first → (p q : ℕ) → StepKeepsPrices t shown p q
 all_rows t shown first past rows p q = λ forward allowed. rows p q (omega arith) (omega (arith, allowed.from)) forward allowed

@@ -31,6 +31,6 @@ pub record IsFirstInRow (Holds : ℕ → ℕ → Type 0) (p q : ℕ) : Type 0 wh
   pub before : (j : ℕ) → j < q → Holds p j
 
 -- the first step that breaks a rule: the least p, then the least q
-pub record IsFirstBroken (Holds : ℕ → ℕ → Type 0) (p q : ℕ) : Type 0 where
+pub record IsFirstBrokenStep (Holds : ℕ → ℕ → Type 0) (p q : ℕ) : Type 0 where
   pub in_row : IsFirstInRow Holds p q
   pub rows : (i j : ℕ) → i < p → Holds i j

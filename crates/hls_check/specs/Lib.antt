@@ -1,4 +1,4 @@
 pub mod Faults
-pub mod Answers
+pub mod CheckResults
 pub mod Rows
 pub mod Laws

@@ -6,93 +6,93 @@ use Rattle.std.specs.Bool.{MatchBool}
 use Rattle.hls_check_laws.specs.Tables.{Table, spot_in, place_at}
 use Rattle.hls_check_laws.specs.Plans.{IsPlan}
 use Rattle.hls_check_laws.specs.Orders.{IsSorted}
-use Rattle.hls_check_laws.specs.Certificates.{Shown, CutShown, NoneShown, price_at, is_closed, CutKeeps, IsPaid}
-use Rattle.hls_check.specs.Faults.{IsFirstInRow, IsFirstBroken}
+use Rattle.hls_check_laws.specs.Certificates.{ClaimData, CutClaim, NoneClaim, price_at, is_closed, CutKeepsPrices, HasEqualCosts}
+use Rattle.hls_check.specs.Faults.{IsFirstInRow, IsFirstBrokenStep}
 
 -- the price that a mark of a closed set stands for
-abbrev pub price_of_mark : Bool → Option ℕ
-price_of_mark true = Some 0
-price_of_mark false = None
+abbrev pub price_if_closed : Bool → Option ℕ
+price_if_closed true = Some 0
+price_if_closed false = None
 
 -- the prices that are shown
-abbrev pub prices_shown : Shown → List (Option ℕ)
-prices_shown (CutShown total plan prices) = prices
-prices_shown (NoneShown closed) = map price_of_mark closed
+abbrev pub claimed_prices : ClaimData → List (Option ℕ)
+claimed_prices (CutClaim total plan prices) = prices
+claimed_prices (NoneClaim closed) = map price_if_closed closed
 
 -- a step from place p to place q keeps to them
-abbrev pub KeepsTo : Table → Shown → ℕ → ℕ → Type 0
-KeepsTo t shown = CutKeeps t (prices_shown shown)
+abbrev pub StepKeepsPrices : Table → ClaimData → ℕ → ℕ → Type 0
+StepKeepsPrices t shown = CutKeepsPrices t (claimed_prices shown)
 
 -- so do all steps from the places from first on and below end
-abbrev pub RowsKeep : Table → Shown → ℕ → ℕ → Type 0
-RowsKeep t shown first end = (i j : ℕ) → first ≤ i → i < end → KeepsTo t shown i j
+abbrev pub RowsKeepPrices : Table → ClaimData → ℕ → ℕ → Type 0
+RowsKeepPrices t shown first end = (i j : ℕ) → first ≤ i → i < end → StepKeepsPrices t shown i j
 
 -- the first step that doesn't, of those from the places from first on and below end
-pub record IsFirstOfRows (t : Table) (shown : Shown) (first end p q : ℕ) : Type 0 where
+pub record IsFirstOfRows (t : Table) (shown : ClaimData) (first end p q : ℕ) : Type 0 where
   pub from : first ≤ p
   pub below : p < end
-  pub in_row : IsFirstInRow (KeepsTo t shown) p q
-  pub rows : RowsKeep t shown first p
+  pub in_row : IsFirstInRow (StepKeepsPrices t shown) p q
+  pub rows : RowsKeepPrices t shown first p
 
 -- the first step from place p that doesn't, where p is from first on
-pub record IsFirstFound (t : Table) (shown : Shown) (first p q : ℕ) : Type 0 where
+pub record IsFirstFound (t : Table) (shown : ClaimData) (first p q : ℕ) : Type 0 where
   pub from : first ≤ p
   pub below : p < first + 32
-  pub in_row : IsFirstInRow (KeepsTo t shown) p q
+  pub in_row : IsFirstInRow (StepKeepsPrices t shown) p q
 
 -- all steps from a block of 32 places keep to the prices
-abbrev pub BlockKeeps : Table → Shown → ℕ → Type 0
-BlockKeeps t shown block = RowsKeep t shown (block * 32) (block * 32 + 32)
+abbrev pub BlockKeepsPrices : Table → ClaimData → ℕ → Type 0
+BlockKeepsPrices t shown block = RowsKeepPrices t shown (block * 32) (block * 32 + 32)
 
 -- the first of some blocks from which one doesn't
-pub record IsFirstBadBlock (t : Table) (shown : Shown) (first end block : ℕ) : Type 0 where
+pub record IsFirstBadBlock (t : Table) (shown : ClaimData) (first end block : ℕ) : Type 0 where
   pub from : first ≤ block
   pub below : block < end
-  pub bad : BlockKeeps t shown block → ⊥
-  pub before : (b : ℕ) → first ≤ b → b < block → BlockKeeps t shown b
+  pub bad : BlockKeepsPrices t shown block → ⊥
+  pub before : (b : ℕ) → first ≤ b → b < block → BlockKeepsPrices t shown b
 
 -- so do all steps to place q from the places from first on and below end
-abbrev pub ColumnKeeps : Table → Shown → ℕ → ℕ → ℕ → Type 0
-ColumnKeeps t shown first end q = (i : ℕ) → first ≤ i → i < end → KeepsTo t shown i q
+abbrev pub ColumnKeepsPrices : Table → ClaimData → ℕ → ℕ → ℕ → Type 0
+ColumnKeepsPrices t shown first end q = (i : ℕ) → first ≤ i → i < end → StepKeepsPrices t shown i q
 
 -- the first of these places from which one doesn't
-pub record IsFirstOfColumn (t : Table) (shown : Shown) (first end q p : ℕ) : Type 0 where
+pub record IsFirstOfColumn (t : Table) (shown : ClaimData) (first end q p : ℕ) : Type 0 where
   pub from : first ≤ p
   pub below : p < end
-  pub broken : KeepsTo t shown p q → ⊥
-  pub column : ColumnKeeps t shown first p q
+  pub broken : StepKeepsPrices t shown p q → ⊥
+  pub column : ColumnKeepsPrices t shown first p q
 
 -- no priced place from first on and below end has a lower price, and none starts later
-abbrev pub IsFloor : Table → Shown → ℕ → ℕ → ℕ → ℕ → Type 0
-IsFloor t shown first end price start =
-    (p v : ℕ) → first ≤ p → p < end → price_at (prices_shown shown) p ≡ Some v →
+abbrev pub IsLowerBound : Table → ClaimData → ℕ → ℕ → ℕ → ℕ → Type 0
+IsLowerBound t shown first end price start =
+    (p v : ℕ) → first ≤ p → p < end → price_at (claimed_prices shown) p ≡ Some v →
     (price ≤ v) × ((spot_in (place_at t.places p) 0).start ≤ start)
 
 -- a price under which, with this floor, a place keeps to all steps to it
-abbrev pub IsLow : Table → Shown → ℕ → ℕ → ℕ → Type 0
-IsLow t shown price start q = (first end : ℕ) → IsFloor t shown first end price start → ColumnKeeps t shown first end q
+abbrev pub IsBelowBound : Table → ClaimData → ℕ → ℕ → ℕ → Type 0
+IsBelowBound t shown price start q = (first end : ℕ) → IsLowerBound t shown first end price start → ColumnKeepsPrices t shown first end q
 
 -- none, where all steps from the places from first on and below end keep to the prices; else the first that doesn't
-abbrev pub IsFoundOfRows : Table → Shown → ℕ → ℕ → Option (ℕ × ℕ) → Type 0
-IsFoundOfRows t shown first end found =
-    MatchOption found (RowsKeep t shown first end) (λ step. IsFirstOfRows t shown first end step.0 step.1)
+abbrev pub IsFirstOfRowsOrNone : Table → ClaimData → ℕ → ℕ → Option (ℕ × ℕ) → Type 0
+IsFirstOfRowsOrNone t shown first end found =
+    MatchOption found (RowsKeepPrices t shown first end) (λ step. IsFirstOfRows t shown first end step.0 step.1)
 
 -- so of all steps
-abbrev pub IsFound : Table → Shown → Option (ℕ × ℕ) → Type 0
-IsFound t shown found =
-    MatchOption found ((p q : ℕ) → KeepsTo t shown p q) (λ step. IsFirstBroken (KeepsTo t shown) step.0 step.1)
+abbrev pub IsFirstBrokenOrNone : Table → ClaimData → Option (ℕ × ℕ) → Type 0
+IsFirstBrokenOrNone t shown found =
+    MatchOption found ((p q : ℕ) → StepKeepsPrices t shown p q) (λ step. IsFirstBrokenStep (StepKeepsPrices t shown) step.0 step.1)
 
 -- so of some blocks
-abbrev pub IsFoundOfBlocks : Table → Shown → ℕ → ℕ → Option ℕ → Type 0
-IsFoundOfBlocks t shown first end found =
-    MatchOption found ((b : ℕ) → first ≤ b → b < end → BlockKeeps t shown b) (IsFirstBadBlock t shown first end)
+abbrev pub IsFirstBadBlockOrNone : Table → ClaimData → ℕ → ℕ → Option ℕ → Type 0
+IsFirstBadBlockOrNone t shown first end found =
+    MatchOption found ((b : ℕ) → first ≤ b → b < end → BlockKeepsPrices t shown b) (IsFirstBadBlock t shown first end)
 
 -- whether a block has a step that doesn't
-abbrev pub IsToldOf : Table → Shown → ℕ → Bool → Type 0
-IsToldOf t shown block bad = MatchBool bad (BlockKeeps t shown block → ⊥) (BlockKeeps t shown block)
+abbrev pub DecidesBlock : Table → ClaimData → ℕ → Bool → Type 0
+DecidesBlock t shown block bad = MatchBool bad (BlockKeepsPrices t shown block → ⊥) (BlockKeepsPrices t shown block)
 
 -- what the tests before those of the steps ask of what is shown
-abbrev pub IsOpen : Table → Shown → Type 0
-IsOpen t (CutShown total plan prices) =
-    IsSorted t × IsPlan t plan × IsPaid t total plan prices × (price_at prices 0 ≡ Some 0)
-IsOpen t (NoneShown closed) = IsSorted t × (is_closed closed 0 ≡ true)
+abbrev pub HasNoEarlyFault : Table → ClaimData → Type 0
+HasNoEarlyFault t (CutClaim total plan prices) =
+    IsSorted t × IsPlan t plan × HasEqualCosts t total plan prices × (price_at prices 0 ≡ Some 0)
+HasNoEarlyFault t (NoneClaim closed) = IsSorted t × (is_closed closed 0 ≡ true)

@@ -1,8 +1,8 @@
 //! Laws of the checker's answers.
 
-ghost use Rattle.hls_check.specs.Laws.{AnswerIsOne};
+ghost use Rattle.hls_check.specs.Laws.{CheckResultIsUnique};
 
 /// A certificate has at most one answer: its verdict, or the first fault with its numbers.
-pub fn answer_is_one()
-    ensures { AnswerIsOne }
+pub fn check_result_is_unique()
+    ensures { CheckResultIsUnique }
 {}

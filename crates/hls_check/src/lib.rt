@@ -4,16 +4,16 @@
 
 pub use checker::{check, check_rows};
 pub use hls_check_laws::{
-    CertFault, Certificate, Claim, CostRule, Goal, PrintedTable, Spot, Spots, Verdict,
+    CertFault, Certificate, CertificateTable, Claim, CostRule, Goal, Spot, Spots, Verdict,
     good_cut_is_least, good_none_has_no_plan,
 };
 pub use hls_check_text::{read, write};
-pub use laws::answer_is_one;
+pub use laws::check_result_is_unique;
 
 mod checker;
 mod laws;
+mod parallel;
 mod plans;
 mod prices;
 mod rows;
-mod side_by_side;
 mod steps;

@@ -5,9 +5,9 @@ ghost use Rattle.hls_check_laws.specs.Tables.{IsTable};
 ghost use Rattle.hls_check_laws.specs.Plans.{plan_cost, HasEnds};
 ghost use Rattle.hls_check.specs.Faults.{HasSteps, IsForwardStep, IsFirstBadPair};
 
-use hls_check_laws::PrintedTable;
+use hls_check_laws::CertificateTable;
 
-pub fn has_ends(table: &PrintedTable, plan: &[usize]) -> bool
+pub fn has_ends(table: &CertificateTable, plan: &[usize]) -> bool
     requires { 0 < length plan.now }
     ensures { IsTrue result ↔ HasEnds table.now plan.now }
 {
@@ -15,14 +15,14 @@ pub fn has_ends(table: &PrintedTable, plan: &[usize]) -> bool
     plan[0] == 0 && plan[plan.len() - 1] == last
 }
 
-fn is_forward_step(table: &PrintedTable, p: usize, q: usize) -> bool
+fn is_forward_step(table: &CertificateTable, p: usize, q: usize) -> bool
     ensures { IsTrue result ↔ IsForwardStep table.now p q }
 {
-    p < q && table.allowed(p, q)
+    p < q && table.is_allowed(p, q)
 }
 
 /// The first pair of a plan that doesn't rise or isn't an allowed step.
-pub fn first_bad_pair(table: &PrintedTable, plan: &[usize]) -> Option<(usize, usize)>
+pub fn first_bad_pair(table: &CertificateTable, plan: &[usize]) -> Option<(usize, usize)>
     ensures { MatchOption result (HasSteps table.now plan.now) (λ pair. IsFirstBadPair table.now plan.now pair.0 pair.1) }
 {
     for k in 1..plan.len() {
@@ -36,7 +36,7 @@ pub fn first_bad_pair(table: &PrintedTable, plan: &[usize]) -> Option<(usize, us
 }
 
 /// What a plan costs, in microseconds.
-pub fn cost_of_plan(table: &PrintedTable, plan: &[usize]) -> u64
+pub fn plan_cost(table: &CertificateTable, plan: &[usize]) -> u64
     requires valid { IsTable table.now }
     requires some { 0 < length plan.now }
     requires in_range { All (λ p. p < length table.now.places) plan.now }

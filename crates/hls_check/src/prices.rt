@@ -1,14 +1,14 @@
 //! What a claim says of one place.
 
 ghost use Rattle.std.specs.Prelude.{◌≡◌, ◌<◌, ◌↔◌, length, IsTrue, Some};
-ghost use Rattle.hls_check_laws.specs.Certificates.{price_at, is_closed, shown_by};
-ghost use Rattle.hls_check.specs.Rows.{prices_shown};
+ghost use Rattle.hls_check_laws.specs.Certificates.{price_at, is_closed, claim_data};
+ghost use Rattle.hls_check.specs.Rows.{claimed_prices};
 
 use hls_check_laws::Claim;
 
 /// Whether place `p` is in the closed set.
 #[inline(always)]
-pub fn is_in(closed: &[bool], p: usize) -> bool
+pub fn is_closed(closed: &[bool], p: usize) -> bool
     requires { p < length closed.now }
     ensures { result ≡ is_closed closed.now p }
 {
@@ -27,13 +27,13 @@ pub fn has_price(prices: &[Option<u64>], p: usize, price: u64) -> bool
 #[inline(always)]
 #[tactic(auto, using(crate::proofs::ClosedPrices::price_of_closed))]
 pub fn price_of(claim: &Claim, p: usize) -> Option<u64>
-    requires { p < length (prices_shown (shown_by claim.now)) }
-    ensures { result ≡ price_at (prices_shown (shown_by claim.now)) p }
+    requires { p < length (claimed_prices (claim_data claim.now)) }
+    ensures { result ≡ price_at (claimed_prices (claim_data claim.now)) p }
 {
     match claim {
         Claim::Cut { prices, .. } => prices[p],
         Claim::NoCut { closed } => {
-            if is_in(closed.as_slice(), p) {
+            if is_closed(closed.as_slice(), p) {
                 Some(0)
             } else {
                 None

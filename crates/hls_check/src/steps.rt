@@ -6,17 +6,17 @@ ghost use Rattle.std.specs.Prelude.{◌≡◌, ◌<◌, ◌↔◌, length, IsTru
 ghost use Rattle.hls_check_laws.specs.Tables.{IsTable};
 ghost use Rattle.hls_check_laws.specs.Steps.{Allowed};
 
-use hls_check_laws::{PrintedTable, spot_allowed};
+use hls_check_laws::{CertificateTable, spot_allowed};
 
 /// Whether rendition `r` doesn't allow the step from place `p` to place `q`; false where there is no such rendition.
 #[inline(always)]
-fn refuses(table: &PrintedTable, p: usize, q: usize, r: usize) -> bool
+fn refuses_step(table: &CertificateTable, p: usize, q: usize, r: usize) -> bool
     requires valid { IsTable table.now }
     requires from_in { p < length table.now.places }
     requires to_in { q < length table.now.places }
     ensures { IsTrue result → Allowed table.now p q → ⊥ }
 {
-    r < table.renditions()
+    r < table.rendition_count()
         && !spot_allowed(
             table.goal().target,
             table.place(p).get(r),
@@ -26,14 +26,14 @@ fn refuses(table: &PrintedTable, p: usize, q: usize, r: usize) -> bool
 
 /// The first rendition that doesn't allow the step from place `p` to place `q`.
 #[inline(always)]
-fn first_refusing(table: &PrintedTable, p: usize, q: usize) -> Option<usize>
+fn first_refusing_rendition(table: &CertificateTable, p: usize, q: usize) -> Option<usize>
     requires valid { IsTable table.now }
     requires from_in { p < length table.now.places }
     requires to_in { q < length table.now.places }
     ensures { MatchOption result (Allowed table.now p q) (λ r. Allowed table.now p q → ⊥) }
 {
     let (from, to) = (table.place(p), table.place(q));
-    for r in 0..table.renditions() {
+    for r in 0..table.rendition_count() {
         if !spot_allowed(table.goal().target, from.get(r), to.get(r)) {
             return Some(r);
         }
@@ -45,7 +45,7 @@ fn first_refusing(table: &PrintedTable, p: usize, q: usize) -> Option<usize>
 /// which refuses takes their place.
 #[inline(always)]
 pub fn is_step(
-    table: &PrintedTable,
+    table: &CertificateTable,
     p: usize,
     q: usize,
     row: &mut usize,
@@ -56,13 +56,13 @@ pub fn is_step(
     requires to_in { q < length table.now.places }
     ensures { IsTrue result ↔ Allowed table.now p q }
 {
-    if refuses(table, p, q, *row) {
+    if refuses_step(table, p, q, *row) {
         return false;
     }
-    if refuses(table, p, q, *column) {
+    if refuses_step(table, p, q, *column) {
         return false;
     }
-    let Some(refusing) = first_refusing(table, p, q) else {
+    let Some(refusing) = first_refusing_rendition(table, p, q) else {
         return true;
     };
     *row = refusing;

@@ -5,32 +5,32 @@ use Rattle.std.proofs.lemmas.List.{append_cancel_left, nil_from_length}
 use Rattle.std.specs.Fmt.{decimal}
 use Rattle.std.proofs.lemmas.List.Elements.{All-cons, All-nil, All-append}
 use Rattle.hls_text.specs.Lines.{cut_text, IsFirstLine}
-use Rattle.hls_text.specs.Numbers.{words, number_line, spaced, IsNumber, HasNoNumber, AreNumbers}
+use Rattle.hls_text.specs.Numbers.{numbers_text, number_line, spaced_numbers, StartsWithNumber, StartsWithNoNumber, AreNumbers}
 use Rattle.hls_check_text.proofs.Cited.{same_number, first_cut, front_number}
 use Rattle.hls_check_text.specs.Text.{plan_line, closed_line}
-use Rattle.hls_check_text.specs.Stages.{Refuses, IsNumberLine, IsPlanLine, IsPriceLine, IsClosedLine}
+use Rattle.hls_check_text.specs.Stages.{IsWrongLineAfter, IsNumberLine, IsPlanLine, IsPriceLine, IsClosedLine}
 use Rattle.hls_check_text.proofs.Spellings.{number_same, priced_line_same}
 use Rattle.hls_check_text.proofs.Sames.{words_all, below_small}
 
-its_number : (line word digits : List ℕ) (n : ℕ) → line ≡ word ++ digits → n < 2 ^ 53 → line ≡ word ++ words (n ∷ []) →
-    IsNumber digits n []
-unfolding spaced
+its_number : (line word digits : List ℕ) (n : ℕ) → line ≡ word ++ digits → n < 2 ^ 53 → line ≡ word ++ numbers_text (n ∷ []) →
+    StartsWithNumber digits n []
+unfolding spaced_numbers
 its_number line word digits n is small spelled =
-    let same : digits ≡ words (n ∷ []) = append_cancel_left word digits (words (n ∷ [])) (sym is ∙ spelled) in
-    subst (λ (xs : List ℕ). IsNumber xs n []) (sym same) (front_number n [] small)
+    let same : digits ≡ numbers_text (n ∷ []) = append_cancel_left word digits (numbers_text (n ∷ [])) (sym is ∙ spelled) in
+    subst (λ (xs : List ℕ). StartsWithNumber xs n []) (sym same) (front_number n [] small)
 
-pub no_number : (line word digits : List ℕ) → line ≡ word ++ digits → HasNoNumber digits →
-    (n : ℕ) → n < 2 ^ 53 → line ≡ word ++ words (n ∷ []) → ⊥
+pub no_number : (line word digits : List ℕ) → line ≡ word ++ digits → StartsWithNoNumber digits →
+    (n : ℕ) → n < 2 ^ 53 → line ≡ word ++ numbers_text (n ∷ []) → ⊥
 no_number line word digits is none n small spelled = none n [] (its_number line word digits n is small spelled)
 
-pub number_read : (line word digits : List ℕ) (n : ℕ) (rest : List ℕ) → line ≡ word ++ digits → IsNumber digits n rest →
-    length rest ≡ 0 → (n < 2 ^ 53) × (line ≡ word ++ words (n ∷ []))
-unfolding words spaced
+pub number_read : (line word digits : List ℕ) (n : ℕ) (rest : List ℕ) → line ≡ word ++ digits → StartsWithNumber digits n rest →
+    length rest ≡ 0 → (n < 2 ^ 53) × (line ≡ word ++ numbers_text (n ∷ []))
+unfolding numbers_text spaced_numbers
 number_read line word digits n rest is at ended =
     (at.small, is ∙ ap (λ (xs : List ℕ). word ++ xs) (subst (λ (xs : List ℕ). digits ≡ decimal n ++ xs) (nil_from_length rest ended) at.is))
 
-pub more_behind : (line word digits : List ℕ) (m : ℕ) (rest : List ℕ) → line ≡ word ++ digits → IsNumber digits m rest →
-    0 < length rest → (n : ℕ) → n < 2 ^ 53 → line ≡ word ++ words (n ∷ []) → ⊥
+pub more_behind : (line word digits : List ℕ) (m : ℕ) (rest : List ℕ) → line ≡ word ++ digits → StartsWithNumber digits m rest →
+    0 < length rest → (n : ℕ) → n < 2 ^ 53 → line ≡ word ++ numbers_text (n ∷ []) → ⊥
 more_behind line word digits m rest is at some n small spelled =
     let same : (m ≡ n) × (rest ≡ []) = same_number digits m n rest [] at (its_number line word digits n is small spelled) in
     let none : length rest ≡ 0 = ap length same.1 in
@@ -47,7 +47,7 @@ plan_words : (line rest : List ℕ) (count : ℕ) → count ≤ 16384 → line �
 plan_words line rest count few is at = record {
   some = at.not_empty;
   small = below_small count at.plan few at.in_range;
-  is = append_cancel_left (codes "plan ") rest (words at.plan) (sym is ∙ at.is);
+  is = append_cancel_left (codes "plan ") rest (numbers_text at.plan) (sym is ∙ at.is);
 }
 
 pub no_plan : (line rest : List ℕ) (count : ℕ) → count ≤ 16384 → line ≡ codes "plan " ++ rest → ((ns : List ℕ) → AreNumbers rest ns → ⊥) →
@@ -55,7 +55,7 @@ pub no_plan : (line rest : List ℕ) (count : ℕ) → count ≤ 16384 → line 
 no_plan line rest count few is none at = none at.plan (plan_words line rest count few is at)
 
 pub no_prefix : (line : List ℕ) (count : ℕ) → ((rest : List ℕ) → line ≡ codes "plan " ++ rest → ⊥) → IsPlanLine count line → ⊥
-no_prefix line count none at = none (words at.plan) at.is
+no_prefix line count none at = none (numbers_text at.plan) at.is
 
 pub plan_too_far : (line rest ns : List ℕ) (count : ℕ) → count ≤ 16384 → line ≡ codes "plan " ++ rest → AreNumbers rest ns →
     (All (λ p. p < count) ns → ⊥) → IsPlanLine count line → ⊥
@@ -66,41 +66,41 @@ plan_too_far line rest ns count few is are far at =
 
 -- a line of two numbers
 two_there : (line word numbers : List ℕ) (m n : ℕ) → line ≡ word ++ numbers → m < 2 ^ 53 →
-    line ≡ word ++ words (m ∷ n ∷ []) → IsNumber numbers m (32 ∷ (decimal n ++ []))
-unfolding spaced words
+    line ≡ word ++ numbers_text (m ∷ n ∷ []) → StartsWithNumber numbers m (32 ∷ (decimal n ++ []))
+unfolding spaced_numbers numbers_text
 two_there line word numbers m n is small spelled =
-    subst (λ (xs : List ℕ). IsNumber xs m (32 ∷ (decimal n ++ [])))
-    (sym (append_cancel_left word numbers (words (m ∷ n ∷ [])) (sym is ∙ spelled))) (front_number m (n ∷ []) small)
+    subst (λ (xs : List ℕ). StartsWithNumber xs m (32 ∷ (decimal n ++ [])))
+    (sym (append_cancel_left word numbers (numbers_text (m ∷ n ∷ [])) (sym is ∙ spelled))) (front_number m (n ∷ []) small)
 
-pub no_first : (line word numbers : List ℕ) → line ≡ word ++ numbers → HasNoNumber numbers →
-    (m n : ℕ) → m < 2 ^ 53 → n < 2 ^ 53 → line ≡ word ++ words (m ∷ n ∷ []) → ⊥
+pub no_first : (line word numbers : List ℕ) → line ≡ word ++ numbers → StartsWithNoNumber numbers →
+    (m n : ℕ) → m < 2 ^ 53 → n < 2 ^ 53 → line ≡ word ++ numbers_text (m ∷ n ∷ []) → ⊥
 no_first line word numbers is none m n m_small n_small spelled =
     none m (32 ∷ (decimal n ++ [])) (two_there line word numbers m n is m_small spelled)
 
-space_there : (line word numbers : List ℕ) (k : ℕ) (space : List ℕ) → line ≡ word ++ numbers → IsNumber numbers k space →
-    (m n : ℕ) → m < 2 ^ 53 → line ≡ word ++ words (m ∷ n ∷ []) → (k ≡ m) × (space ≡ 32 ∷ (decimal n ++ []))
+space_there : (line word numbers : List ℕ) (k : ℕ) (space : List ℕ) → line ≡ word ++ numbers → StartsWithNumber numbers k space →
+    (m n : ℕ) → m < 2 ^ 53 → line ≡ word ++ numbers_text (m ∷ n ∷ []) → (k ≡ m) × (space ≡ 32 ∷ (decimal n ++ []))
 space_there line word numbers k space is at m n m_small spelled =
     same_number numbers k m space (32 ∷ (decimal n ++ [])) at (two_there line word numbers m n is m_small spelled)
 
-pub no_space : (line word numbers : List ℕ) (k : ℕ) (space : List ℕ) → line ≡ word ++ numbers → IsNumber numbers k space →
+pub no_space : (line word numbers : List ℕ) (k : ℕ) (space : List ℕ) → line ≡ word ++ numbers → StartsWithNumber numbers k space →
     ((rest : List ℕ) → space ≡ (32 ∷ []) ++ rest → ⊥) →
-    (m n : ℕ) → m < 2 ^ 53 → n < 2 ^ 53 → line ≡ word ++ words (m ∷ n ∷ []) → ⊥
+    (m n : ℕ) → m < 2 ^ 53 → n < 2 ^ 53 → line ≡ word ++ numbers_text (m ∷ n ∷ []) → ⊥
 no_space line word numbers k space is at none m n m_small n_small spelled =
     none (decimal n ++ []) (space_there line word numbers k space is at m n m_small spelled).1
 
-pub no_second : (line word numbers : List ℕ) (k : ℕ) (space rest : List ℕ) → line ≡ word ++ numbers → IsNumber numbers k space →
-    space ≡ (32 ∷ []) ++ rest → ((n : ℕ) → n < 2 ^ 53 → rest ≡ [] ++ words (n ∷ []) → ⊥) →
-    (m n : ℕ) → m < 2 ^ 53 → n < 2 ^ 53 → line ≡ word ++ words (m ∷ n ∷ []) → ⊥
-unfolding spaced words
+pub no_second : (line word numbers : List ℕ) (k : ℕ) (space rest : List ℕ) → line ≡ word ++ numbers → StartsWithNumber numbers k space →
+    space ≡ (32 ∷ []) ++ rest → ((n : ℕ) → n < 2 ^ 53 → rest ≡ [] ++ numbers_text (n ∷ []) → ⊥) →
+    (m n : ℕ) → m < 2 ^ 53 → n < 2 ^ 53 → line ≡ word ++ numbers_text (m ∷ n ∷ []) → ⊥
+unfolding spaced_numbers numbers_text
 no_second line word numbers k space rest is at space_is none m n m_small n_small spelled =
     let there : space ≡ 32 ∷ (decimal n ++ []) = (space_there line word numbers k space is at m n m_small spelled).1 in
     let both : 32 ∷ rest ≡ 32 ∷ (decimal n ++ []) = sym space_is ∙ there in
     none n n_small (ap (drop 1) both)
 
-pub two_read : (line word numbers : List ℕ) (m n : ℕ) (space rest : List ℕ) → line ≡ word ++ numbers → IsNumber numbers m space →
-    space ≡ (32 ∷ []) ++ rest → (n < 2 ^ 53) × (rest ≡ [] ++ words (n ∷ [])) →
-    (m < 2 ^ 53) × (n < 2 ^ 53) × (line ≡ word ++ words (m ∷ n ∷ []))
-unfolding spaced words
+pub two_read : (line word numbers : List ℕ) (m n : ℕ) (space rest : List ℕ) → line ≡ word ++ numbers → StartsWithNumber numbers m space →
+    space ≡ (32 ∷ []) ++ rest → (n < 2 ^ 53) × (rest ≡ [] ++ numbers_text (n ∷ [])) →
+    (m < 2 ^ 53) × (n < 2 ^ 53) × (line ≡ word ++ numbers_text (m ∷ n ∷ []))
+unfolding spaced_numbers numbers_text
 two_read line word numbers m n space rest is at space_is second = (
   at.small,
   second.0,
@@ -109,34 +109,34 @@ two_read line word numbers m n space rest is at space_is second = (
 
 -- the lines of prices and of the closed set
 pub no_price : (line : List ℕ) (low count : ℕ) → count ≤ 16384 →
-    ((m n : ℕ) → m < 2 ^ 53 → n < 2 ^ 53 → line ≡ codes "price " ++ words (m ∷ n ∷ []) → ⊥) → IsPriceLine low count line → ⊥
+    ((m n : ℕ) → m < 2 ^ 53 → n < 2 ^ 53 → line ≡ codes "price " ++ numbers_text (m ∷ n ∷ []) → ⊥) → IsPriceLine low count line → ⊥
 no_price line low count few none at =
-    let below : at.priced.place < count = at.below in
-    none at.priced.place at.priced.price (omega arith) at.small at.is
+    let below : at.priced_place.place < count = at.below in
+    none at.priced_place.place at.priced_place.price (omega arith) at.small at.is
 
 price_place : (line : List ℕ) (low count m n : ℕ) → count ≤ 16384 → m < 2 ^ 53 → n < 2 ^ 53 →
-    line ≡ codes "price " ++ words (m ∷ n ∷ []) → IsPriceLine low count line → (low ≤ m) × (m < count)
+    line ≡ codes "price " ++ numbers_text (m ∷ n ∷ []) → IsPriceLine low count line → (low ≤ m) × (m < count)
 price_place line low count m n few m_small n_small spelled at =
-    let below : at.priced.place < count = at.below in
-    let above : low ≤ at.priced.place = at.above in
-    let same : (m ≡ at.priced.place) × (n ≡ at.priced.price) =
-    priced_line_same (record { place = m; price = n }) at.priced m_small n_small (omega arith) at.small (sym spelled ∙ at.is) in
+    let below : at.priced_place.place < count = at.below in
+    let above : low ≤ at.priced_place.place = at.above in
+    let same : (m ≡ at.priced_place.place) × (n ≡ at.priced_place.price) =
+    priced_line_same (record { place = m; price = n }) at.priced_place m_small n_small (omega arith) at.small (sym spelled ∙ at.is) in
     (omega arith, omega arith)
 
 pub price_too_low : (line : List ℕ) (low count m n : ℕ) → count ≤ 16384 → m < low →
-    (m < 2 ^ 53) × (n < 2 ^ 53) × (line ≡ codes "price " ++ words (m ∷ n ∷ [])) → IsPriceLine low count line → ⊥
+    (m < 2 ^ 53) × (n < 2 ^ 53) × (line ≡ codes "price " ++ numbers_text (m ∷ n ∷ [])) → IsPriceLine low count line → ⊥
 price_too_low line low count m n few less read at =
     let range : (low ≤ m) × (m < count) = price_place line low count m n few read.0 read.1 read.2 at in
     absurd (omega arith)
 
 pub price_too_far : (line : List ℕ) (low count m n : ℕ) → count ≤ 16384 → count ≤ m →
-    (m < 2 ^ 53) × (n < 2 ^ 53) × (line ≡ codes "price " ++ words (m ∷ n ∷ [])) → IsPriceLine low count line → ⊥
+    (m < 2 ^ 53) × (n < 2 ^ 53) × (line ≡ codes "price " ++ numbers_text (m ∷ n ∷ [])) → IsPriceLine low count line → ⊥
 price_too_far line low count m n few more read at =
     let range : (low ≤ m) × (m < count) = price_place line low count m n few read.0 read.1 read.2 at in
     absurd (omega arith)
 
 pub no_closed : (line : List ℕ) (low count : ℕ) → count ≤ 16384 →
-    ((n : ℕ) → n < 2 ^ 53 → line ≡ codes "closed " ++ words (n ∷ []) → ⊥) → IsClosedLine low count line → ⊥
+    ((n : ℕ) → n < 2 ^ 53 → line ≡ codes "closed " ++ numbers_text (n ∷ []) → ⊥) → IsClosedLine low count line → ⊥
 no_closed line low count few none at =
     let below : at.place < count = at.below in
     none at.place (omega arith) at.is
@@ -174,9 +174,9 @@ below_more numbers places more i count small below read pushed =
     )
 
 -- a first line that isn't good
-pub line_refused : (IsGood : List ℕ → Type 0) (rest line after : List ℕ) (passed : ℕ) → IsFirstLine rest line after →
-    (IsGood line → ⊥) → Refuses IsGood rest passed (passed + 1)
-line_refused IsGood rest line after passed first bad = (
+pub line_refused : (IsGood : List ℕ → Type 0) (rest line after : List ℕ) (lines_read : ℕ) → IsFirstLine rest line after →
+    (IsGood line → ⊥) → IsWrongLineAfter IsGood rest lines_read (lines_read + 1)
+line_refused IsGood rest line after lines_read first bad = (
   refl,
   λ other others here good.
       let same : line ∷ (cut_text after).lines ≡ other ∷ others = sym (first_cut rest line after first).0 ∙ here in
@@ -185,10 +185,10 @@ line_refused IsGood rest line after passed first bad = (
 )
 
 -- a number outside its range
-pub out_of_range : (word rest line after : List ℕ) (m low high passed : ℕ) → IsFirstLine rest line after →
-    (m < 2 ^ 53) × (line ≡ word ++ words (m ∷ [])) → high < 2 ^ 53 → ((low ≤ m) × (m ≤ high) → ⊥) →
-    Refuses (IsNumberLine (number_line word) (λ n. (low ≤ n) × (n ≤ high))) rest passed (passed + 1)
-out_of_range word rest line after m low high passed first read small out = (
+pub out_of_range : (word rest line after : List ℕ) (m low high lines_read : ℕ) → IsFirstLine rest line after →
+    (m < 2 ^ 53) × (line ≡ word ++ numbers_text (m ∷ [])) → high < 2 ^ 53 → ((low ≤ m) × (m ≤ high) → ⊥) →
+    IsWrongLineAfter (IsNumberLine (number_line word) (λ n. (low ≤ n) × (n ≤ high))) rest lines_read (lines_read + 1)
+out_of_range word rest line after m low high lines_read first read small out = (
   refl,
   λ other others here good.
       let same : line ∷ (cut_text after).lines ≡ other ∷ others = sym (first_cut rest line after first).0 ∙ here in

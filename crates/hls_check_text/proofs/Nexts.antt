@@ -5,8 +5,8 @@ use Rattle.hls_check_laws.specs.declared.cost_rule.CostRule.{CostRule}
 use Rattle.hls_check_laws.specs.declared.cost_rule.CostRule.TheVariants.{Deviation, Charged}
 use Rattle.hls_check_laws.specs.declared.spot.Spot.{Spot}
 use Rattle.hls_check_laws.specs.Tables.{Table, IsTable, IsPlaceOf, charge_of}
-use Rattle.hls_check_text.specs.Text.{header_line, ruled_header_line, rule_lines, target_line, preferred_line, renditions_line, places_line, end_line, price_line, closed_line, place_line, head_lines, table_lines, Priced}
-use Rattle.hls_check_text.specs.Stages.{IsPlaceLine, IsPriceLine, IsClosedLine, past_priced, past_members}
+use Rattle.hls_check_text.specs.Text.{header_line, ruled_header_line, rule_lines, target_line, preferred_line, renditions_line, places_line, end_line, price_line, closed_line, place_line, head_lines, table_lines, PricedPlace}
+use Rattle.hls_check_text.specs.Stages.{IsPlaceLine, IsPriceLine, IsClosedLine, place_after_priced, place_after_closed}
 use Rattle.hls_check_text.proofs.Spellings.{number_same, other_first, RisesFrom, ClimbsFrom, priced_line_same}
 
 -- a line follows, and it is a good one
@@ -107,15 +107,15 @@ table_passed t u tail xs t_good u_good e =
     (alike.count, places_passed t.places u.places tail xs alike.count alike.places)
 
 -- one more price, or the end
-pub price_next : (k count : ℕ) (ps qs : List Priced) (xs : List (List ℕ)) → count ≤ 16384 →
+pub price_next : (k count : ℕ) (ps qs : List PricedPlace) (xs : List (List ℕ)) → count ≤ 16384 →
     RisesFrom k count ps → RisesFrom k count qs →
     map price_line ps ++ (end_line ∷ []) ≡ map price_line qs ++ xs →
-    Next (λ line. (line ≡ end_line) ⊎ IsPriceLine (past_priced k qs) count line) xs
+    Next (λ line. (line ≡ end_line) ⊎ IsPriceLine (place_after_priced k qs) count line) xs
 price_next k count [] [] xs few p_rises q_rises e =
     subst (Next (λ line. (line ≡ end_line) ⊎ IsPriceLine k count line)) e (inl refl)
 price_next k count (p ∷ ps) [] xs few p_rises q_rises e =
     subst (Next (λ line. (line ≡ end_line) ⊎ IsPriceLine k count line)) e
-    (inr (record { priced = p; above = p_rises.0; below = p_rises.1; small = p_rises.2; is = refl }))
+    (inr (record { priced_place = p; above = p_rises.0; below = p_rises.1; small = p_rises.2; is = refl }))
 price_next k count [] (q ∷ qs) xs few p_rises q_rises e =
     absurd (other_first end_line (price_line q) (λ z. omega (arith, z)) (ap (λ (ls : List (List ℕ)). get_or ls 0 []) e))
 price_next k count (p ∷ ps) (q ∷ qs) xs few p_rises q_rises e =
@@ -131,7 +131,7 @@ price_next k count (p ∷ ps) (q ∷ qs) xs few p_rises q_rises e =
 pub closed_next : (k count : ℕ) (ps qs : List ℕ) (xs : List (List ℕ)) → count ≤ 16384 →
     ClimbsFrom k count ps → ClimbsFrom k count qs →
     map closed_line ps ++ (end_line ∷ []) ≡ map closed_line qs ++ xs →
-    Next (λ line. (line ≡ end_line) ⊎ IsClosedLine (past_members k qs) count line) xs
+    Next (λ line. (line ≡ end_line) ⊎ IsClosedLine (place_after_closed k qs) count line) xs
 closed_next k count [] [] xs few p_climbs q_climbs e =
     subst (Next (λ line. (line ≡ end_line) ⊎ IsClosedLine k count line)) e (inl refl)
 closed_next k count (p ∷ ps) [] xs few p_climbs q_climbs e =

@@ -6,16 +6,16 @@ use Rattle.hls_check_laws.specs.declared.cost_rule.CostRule.{CostRule}
 use Rattle.hls_check_laws.specs.declared.goal.Goal.{Goal}
 use Rattle.hls_check_laws.specs.declared.spot.Spot.{Spot}
 use Rattle.hls_check_laws.specs.Tables.{Table, IsTable, IsPlaceOf, goal_of, table_of}
-use Rattle.hls_check_laws.specs.Certificates.{Printed, Shown, CutShown, NoneShown, IsForm, IsCertificate}
-use Rattle.hls_text.specs.Numbers.{words, ArePrintable}
+use Rattle.hls_check_laws.specs.Certificates.{CertificateData, ClaimData, CutClaim, NoneClaim, IsForm, IsCertificate}
+use Rattle.hls_text.specs.Numbers.{numbers_text, ArePrintable}
 use Rattle.hls_check_text.proofs.Cited.{IsSmall}
-use Rattle.hls_check_text.specs.Text.{cut_line, none_line, end_line, price_line, closed_line, place_line, place_numbers, table_lines, shown_lines, lines, Priced, priced, priced_from, members_from}
-use Rattle.hls_check_text.specs.Stages.{printed}
+use Rattle.hls_check_text.specs.Text.{cut_line, none_line, end_line, price_line, closed_line, place_line, place_numbers, table_lines, claim_lines, lines, PricedPlace, priced_place, priced_places_from, closed_places_from}
+use Rattle.hls_check_text.specs.Stages.{certificate_with}
 use Rattle.hls_check_text.proofs.Spellings.{words_same, number_same, other_first, numbers_printable, place_same, RisesFrom, ClimbsFrom, priced_rises, members_climb, priced_line_same}
 use Rattle.hls_check_text.proofs.Nexts.{tables_alike, places_passed}
 
 pub words_all : (ms ns : List ℕ) → ArePrintable ms → ArePrintable ns → 0 < length ms → 0 < length ns →
-    words ms ≡ words ns → ms ≡ ns
+    numbers_text ms ≡ numbers_text ns → ms ≡ ns
 words_all [] ns ms_small ns_small some others e = absurd (omega arith)
 words_all (m ∷ ms) [] ms_small ns_small some others e = absurd (omega arith)
 words_all (m ∷ ms) (n ∷ ns) ms_small ns_small some others e = words_same m n ms ns ms_small ns_small e
@@ -73,7 +73,7 @@ table_same t u tail xs t_good u_good e =
       places_passed t.places u.places tail xs alike.count alike.places,
     )
 
-priced_made : (a b a' b' : ℕ) → a ≡ a' → b ≡ b' → priced a b ≡ priced a' b'
+priced_made : (a b a' b' : ℕ) → a ≡ a' → b ≡ b' → priced_place a b ≡ priced_place a' b'
 priced_made a b a' b' p q = rw (p, q) refl
 
 -- lines before an end line, which is none of them, tell what they are of, and nothing stands behind them
@@ -94,15 +94,15 @@ ended_same {A} line IsGood no_end told (p ∷ ps) (q ∷ qs) xs p_good q_good e 
     (ap₂ (λ (y : A) (ys : List A). y ∷ ys) same rest.0, rest.1)
 
 -- the same prices are shown, and nothing behind them
-abbrev IsPricedIn : ℕ → Priced → Type 0
+abbrev IsPricedIn : ℕ → PricedPlace → Type 0
 IsPricedIn count p = (p.place < count) × (p.price < 2 ^ 53)
 
-rises_within : (k count : ℕ) (ps : List Priced) → RisesFrom k count ps → All (IsPricedIn count) ps
+rises_within : (k count : ℕ) (ps : List PricedPlace) → RisesFrom k count ps → All (IsPricedIn count) ps
 rises_within k count [] rises = All-nil (IsPricedIn count)
 rises_within k count (p ∷ ps) rises =
     All-cons (IsPricedIn count) p ps (rises.1, rises.2) (rises_within (p.place + 1) count ps rises.3)
 
-price_lines_same : (k count : ℕ) (ps qs : List Priced) (xs : List (List ℕ)) → count ≤ 16384 →
+price_lines_same : (k count : ℕ) (ps qs : List PricedPlace) (xs : List (List ℕ)) → count ≤ 16384 →
     RisesFrom k count ps → RisesFrom k count qs →
     map price_line ps ++ (end_line ∷ []) ≡ (map price_line qs ++ (end_line ∷ [])) ++ xs → (ps ≡ qs) × (xs ≡ [])
 price_lines_same k count ps qs xs few p_rises q_rises e =
@@ -127,38 +127,38 @@ closed_lines_same k count ps qs xs few p_climbs q_climbs e =
     ps qs xs (climbs_within k count ps p_climbs) (climbs_within k count qs q_climbs) e
 
 -- prices are told by the places that have one
-priced_above : (j : ℕ) (prices : List (Option ℕ)) (r : Priced) (rs : List Priced) → priced_from j prices ≡ r ∷ rs → j ≤ r.place
-unfolding priced_from
+priced_above : (j : ℕ) (prices : List (Option ℕ)) (r : PricedPlace) (rs : List PricedPlace) → priced_places_from j prices ≡ r ∷ rs → j ≤ r.place
+unfolding priced_places_from
 priced_above j [] r rs e = absurd cc
 priced_above j (None ∷ prices) r rs e =
     let above : j + 1 ≤ r.place = priced_above (j + 1) prices r rs e in
     omega arith
 priced_above j (Some v ∷ prices) r rs e =
-    let first : priced j v ≡ r = cc in
-    let place : j ≡ r.place = ap (λ (p : Priced). p.place) first in
+    let first : priced_place j v ≡ r = cc in
+    let place : j ≡ r.place = ap (λ (p : PricedPlace). p.place) first in
     omega arith
 
-prices_same : (k : ℕ) (ps qs : List (Option ℕ)) → length ps ≡ length qs → priced_from k ps ≡ priced_from k qs → ps ≡ qs
-unfolding priced_from
+prices_same : (k : ℕ) (ps qs : List (Option ℕ)) → length ps ≡ length qs → priced_places_from k ps ≡ priced_places_from k qs → ps ≡ qs
+unfolding priced_places_from
 prices_same k [] [] len e = refl
 prices_same k [] (q ∷ qs) len e = absurd (omega arith)
 prices_same k (p ∷ ps) [] len e = absurd (omega arith)
 prices_same k (None ∷ ps) (None ∷ qs) len e =
     ap (λ (ys : List (Option ℕ)). None ∷ ys) (prices_same (k + 1) ps qs (omega arith) e)
 prices_same k (None ∷ ps) (Some w ∷ qs) len e =
-    let above : k + 1 ≤ k = priced_above (k + 1) ps (priced k w) (priced_from (k + 1) qs) e in
+    let above : k + 1 ≤ k = priced_above (k + 1) ps (priced_place k w) (priced_places_from (k + 1) qs) e in
     absurd (omega arith)
 prices_same k (Some v ∷ ps) (None ∷ qs) len e =
-    let above : k + 1 ≤ k = priced_above (k + 1) qs (priced k v) (priced_from (k + 1) ps) (sym e) in
+    let above : k + 1 ≤ k = priced_above (k + 1) qs (priced_place k v) (priced_places_from (k + 1) ps) (sym e) in
     absurd (omega arith)
 prices_same k (Some v ∷ ps) (Some w ∷ qs) len e =
-    let first : priced k v ≡ priced k w = cc in
-    let price : v ≡ w = ap (λ (p : Priced). p.price) first in
-    let rest : priced_from (k + 1) ps ≡ priced_from (k + 1) qs = cc in
+    let first : priced_place k v ≡ priced_place k w = cc in
+    let price : v ≡ w = ap (λ (p : PricedPlace). p.price) first in
+    let rest : priced_places_from (k + 1) ps ≡ priced_places_from (k + 1) qs = cc in
     ap₂ (λ (y : ℕ) (ys : List (Option ℕ)). Some y ∷ ys) price (prices_same (k + 1) ps qs (omega arith) rest)
 
-members_above : (j : ℕ) (closed : List Bool) (r : ℕ) (rs : List ℕ) → members_from j closed ≡ r ∷ rs → j ≤ r
-unfolding members_from
+members_above : (j : ℕ) (closed : List Bool) (r : ℕ) (rs : List ℕ) → closed_places_from j closed ≡ r ∷ rs → j ≤ r
+unfolding closed_places_from
 members_above j [] r rs e = absurd cc
 members_above j (false ∷ closed) r rs e =
     let above : j + 1 ≤ r = members_above (j + 1) closed r rs e in
@@ -167,21 +167,21 @@ members_above j (true ∷ closed) r rs e =
     let first : j ≡ r = cc in
     omega arith
 
-closed_same : (k : ℕ) (ps qs : List Bool) → length ps ≡ length qs → members_from k ps ≡ members_from k qs → ps ≡ qs
-unfolding members_from
+closed_same : (k : ℕ) (ps qs : List Bool) → length ps ≡ length qs → closed_places_from k ps ≡ closed_places_from k qs → ps ≡ qs
+unfolding closed_places_from
 closed_same k [] [] len e = refl
 closed_same k [] (q ∷ qs) len e = absurd (omega arith)
 closed_same k (p ∷ ps) [] len e = absurd (omega arith)
 closed_same k (false ∷ ps) (false ∷ qs) len e =
     ap (λ (ys : List Bool). false ∷ ys) (closed_same (k + 1) ps qs (omega arith) e)
 closed_same k (false ∷ ps) (true ∷ qs) len e =
-    let above : k + 1 ≤ k = members_above (k + 1) ps k (members_from (k + 1) qs) e in
+    let above : k + 1 ≤ k = members_above (k + 1) ps k (closed_places_from (k + 1) qs) e in
     absurd (omega arith)
 closed_same k (true ∷ ps) (false ∷ qs) len e =
-    let above : k + 1 ≤ k = members_above (k + 1) qs k (members_from (k + 1) ps) (sym e) in
+    let above : k + 1 ≤ k = members_above (k + 1) qs k (closed_places_from (k + 1) ps) (sym e) in
     absurd (omega arith)
 closed_same k (true ∷ ps) (true ∷ qs) len e =
-    let rest : members_from (k + 1) ps ≡ members_from (k + 1) qs = cc in
+    let rest : closed_places_from (k + 1) ps ≡ closed_places_from (k + 1) qs = cc in
     ap (λ (ys : List Bool). true ∷ ys) (closed_same (k + 1) ps qs (omega arith) rest)
 
 pub below_small : (count : ℕ) (ps : List ℕ) → count ≤ 16384 → All (λ p. p < count) ps → ArePrintable ps
@@ -191,47 +191,47 @@ below_small count (p ∷ ps) few below =
     All-cons IsSmall p ps (omega arith) (below_small count ps few (All-tail (λ (q : ℕ). q < count) p ps below))
 
 cut_made : (a : ℕ) (b : List ℕ) (c : List (Option ℕ)) (a' : ℕ) (b' : List ℕ) (c' : List (Option ℕ)) →
-    a ≡ a' → b ≡ b' → c ≡ c' → CutShown a b c ≡ CutShown a' b' c'
+    a ≡ a' → b ≡ b' → c ≡ c' → CutClaim a b c ≡ CutClaim a' b' c'
 cut_made a b c a' b' c' p q r = rw (p, q, r) refl
 
 -- what is shown over as many places
-pub shown_same : (count : ℕ) (s z : Shown) (xs : List (List ℕ)) → count ≤ 16384 → IsForm count s → IsForm count z →
-    shown_lines s ≡ shown_lines z ++ xs → (s ≡ z) × (xs ≡ [])
-unfolding shown_lines
-shown_same count (CutShown a plan prices) (CutShown b plan' prices') xs few s_good z_good e =
+pub shown_same : (count : ℕ) (s z : ClaimData) (xs : List (List ℕ)) → count ≤ 16384 → IsForm count s → IsForm count z →
+    claim_lines s ≡ claim_lines z ++ xs → (s ≡ z) × (xs ≡ [])
+unfolding claim_lines
+shown_same count (CutClaim a plan prices) (CutClaim b plan' prices') xs few s_good z_good e =
     let p_whole : length prices ≡ count = s_good.one_each in
     let q_whole : length prices' ≡ count = z_good.one_each in
-    let priced_same : (priced_from 0 prices ≡ priced_from 0 prices') × (xs ≡ []) =
-    price_lines_same 0 count (priced_from 0 prices) (priced_from 0 prices') xs few
+    let priced_same : (priced_places_from 0 prices ≡ priced_places_from 0 prices') × (xs ≡ []) =
+    price_lines_same 0 count (priced_places_from 0 prices) (priced_places_from 0 prices') xs few
     (priced_rises 0 count prices (omega arith) s_good.prices_small)
     (priced_rises 0 count prices' (omega arith) z_good.prices_small) (ap (drop 2) e) in
     let plans : plan ≡ plan' =
     words_all plan plan' (below_small count plan few s_good.in_range) (below_small count plan' few z_good.in_range)
     s_good.not_empty z_good.not_empty
-    (append_cancel_left (codes "plan ") (words plan) (words plan') (ap (λ (ls : List (List ℕ)). get_or ls 1 []) e)) in
+    (append_cancel_left (codes "plan ") (numbers_text plan) (numbers_text plan') (ap (λ (ls : List (List ℕ)). get_or ls 1 []) e)) in
     let totals : a ≡ b =
     number_same (codes "cut ") a b s_good.total_small z_good.total_small (ap (λ (ls : List (List ℕ)). get_or ls 0 []) e) in
     (cut_made a plan prices b plan' prices' totals plans (prices_same 0 prices prices' (omega arith) priced_same.0), priced_same.1)
-shown_same count (CutShown a plan prices) (NoneShown closed) xs few s_good z_good e =
+shown_same count (CutClaim a plan prices) (NoneClaim closed) xs few s_good z_good e =
     absurd (other_first none_line (cut_line a) (λ z. omega (arith, z)) (sym (ap (λ (ls : List (List ℕ)). get_or ls 0 []) e)))
-shown_same count (NoneShown closed) (CutShown b plan' prices') xs few s_good z_good e =
+shown_same count (NoneClaim closed) (CutClaim b plan' prices') xs few s_good z_good e =
     absurd (other_first none_line (cut_line b) (λ z. omega (arith, z)) (ap (λ (ls : List (List ℕ)). get_or ls 0 []) e))
-shown_same count (NoneShown closed) (NoneShown closed') xs few s_good z_good e =
+shown_same count (NoneClaim closed) (NoneClaim closed') xs few s_good z_good e =
     let p_whole : length closed ≡ count = s_good in
     let q_whole : length closed' ≡ count = z_good in
-    let same : (members_from 0 closed ≡ members_from 0 closed') × (xs ≡ []) =
-    closed_lines_same 0 count (members_from 0 closed) (members_from 0 closed') xs few
+    let same : (closed_places_from 0 closed ≡ closed_places_from 0 closed') × (xs ≡ []) =
+    closed_lines_same 0 count (closed_places_from 0 closed) (closed_places_from 0 closed') xs few
     (members_climb 0 count closed (omega arith)) (members_climb 0 count closed' (omega arith)) (ap (drop 1) e) in
-    (ap NoneShown (closed_same 0 closed closed' (omega arith) same.0), same.1)
+    (ap NoneClaim (closed_same 0 closed closed' (omega arith) same.0), same.1)
 
-pub lines_same : (c d : Printed) (xs : List (List ℕ)) → IsCertificate c → IsCertificate d → lines c ≡ lines d ++ xs →
+pub lines_same : (c d : CertificateData) (xs : List (List ℕ)) → IsCertificate c → IsCertificate d → lines c ≡ lines d ++ xs →
     (c ≡ d) × (xs ≡ [])
 unfolding lines
 lines_same c d xs c_good d_good e =
-    let told : (c.table ≡ d.table) × (shown_lines c.shown ≡ shown_lines d.shown ++ xs) =
-    table_same c.table d.table (shown_lines c.shown) (shown_lines d.shown ++ xs) c_good.table d_good.table
-    (e ∙ append_assoc (table_lines d.table) (shown_lines d.shown) xs) in
+    let told : (c.table ≡ d.table) × (claim_lines c.shown ≡ claim_lines d.shown ++ xs) =
+    table_same c.table d.table (claim_lines c.shown) (claim_lines d.shown ++ xs) c_good.table d_good.table
+    (e ∙ append_assoc (table_lines d.table) (claim_lines d.shown) xs) in
     let rest : (c.shown ≡ d.shown) × (xs ≡ []) =
     shown_same (length d.table.places) c.shown d.shown xs d_good.table.count.1
     (subst (λ (t : Table). IsForm (length t.places) c.shown) told.0 c_good.form) d_good.form told.1 in
-    (ap₂ printed told.0 rest.0, rest.1)
+    (ap₂ certificate_with told.0 rest.0, rest.1)

@@ -5,20 +5,20 @@ use Rattle.std.proofs.lemmas.List.{append_cancel_left}
 use Rattle.hls_check_laws.specs.declared.spot.Spot.{Spot}
 use Rattle.hls_check_laws.specs.Tables.{IsSpotInRange}
 use Rattle.hls_check_laws.specs.Certificates.{IsPriceInRange}
-use Rattle.hls_text.specs.Numbers.{spaced, words, ArePrintable, IsNumber}
+use Rattle.hls_text.specs.Numbers.{spaced_numbers, numbers_text, ArePrintable, StartsWithNumber}
 use Rattle.hls_check_text.proofs.Cited.{same_number, IsSmall, spaced_same, no_digit}
-use Rattle.hls_check_text.specs.Text.{place_numbers, Priced, price_line, priced_from, members_from}
+use Rattle.hls_check_text.specs.Text.{place_numbers, PricedPlace, price_line, priced_places_from, closed_places_from}
 
 pub words_same : (m n : ℕ) (ms ns : List ℕ) → ArePrintable (m ∷ ms) → ArePrintable (n ∷ ns) →
-    words (m ∷ ms) ≡ words (n ∷ ns) → m ∷ ms ≡ n ∷ ns
-unfolding words
+    numbers_text (m ∷ ms) ≡ numbers_text (n ∷ ns) → m ∷ ms ≡ n ∷ ns
+unfolding numbers_text
 words_same m n ms ns ms_small ns_small e =
-    let here : IsNumber (words (m ∷ ms)) m (spaced ms) =
+    let here : StartsWithNumber (numbers_text (m ∷ ms)) m (spaced_numbers ms) =
     record { small = All-head IsSmall m ms ms_small; is = refl; ends = no_digit ms } in
-    let there : IsNumber (words (m ∷ ms)) n (spaced ns) =
+    let there : StartsWithNumber (numbers_text (m ∷ ms)) n (spaced_numbers ns) =
     record { small = All-head IsSmall n ns ns_small; is = e; ends = no_digit ns } in
-    let same : (m ≡ n) × (spaced ms ≡ spaced ns) =
-    same_number (words (m ∷ ms)) m n (spaced ms) (spaced ns) here there in
+    let same : (m ≡ n) × (spaced_numbers ms ≡ spaced_numbers ns) =
+    same_number (numbers_text (m ∷ ms)) m n (spaced_numbers ms) (spaced_numbers ns) here there in
     ap₂ (λ (x : ℕ) (xs : List ℕ). x ∷ xs) same.0
     (spaced_same ms ns (All-tail IsSmall m ms ms_small) (All-tail IsSmall n ns ns_small) same.1)
 
@@ -26,11 +26,11 @@ pub one_small : (n : ℕ) → n < 2 ^ 53 → ArePrintable (n ∷ [])
 one_small n small = All-cons IsSmall n [] small (All-nil IsSmall)
 
 pub number_same : (word : List ℕ) (m n : ℕ) → m < 2 ^ 53 → n < 2 ^ 53 →
-    word ++ words (m ∷ []) ≡ word ++ words (n ∷ []) → m ≡ n
+    word ++ numbers_text (m ∷ []) ≡ word ++ numbers_text (n ∷ []) → m ≡ n
 number_same word m n m_small n_small e =
     let same : m ∷ [] ≡ n ∷ [] =
     words_same m n [] [] (one_small m m_small) (one_small n n_small)
-    (append_cancel_left word (words (m ∷ [])) (words (n ∷ [])) e) in
+    (append_cancel_left word (numbers_text (m ∷ [])) (numbers_text (n ∷ [])) e) in
     cc
 
 pub other_first : (xs ys : List ℕ) → (get_or xs 0 0 ≡ get_or ys 0 0 → ⊥) → xs ≡ ys → ⊥
@@ -74,21 +74,21 @@ place_same (p ∷ ps) (q ∷ qs) len e =
     (place_same ps qs (omega arith) rest)
 
 -- places with a price, upwards from place k and below a count
-abbrev pub RisesFrom : ℕ → ℕ → List Priced → Type 0
+abbrev pub RisesFrom : ℕ → ℕ → List PricedPlace → Type 0
 RisesFrom k count [] = Unit {0}
 RisesFrom k count (p ∷ ps) =
     (k ≤ p.place) × (p.place < count) × (p.price < 2 ^ 53) × RisesFrom (p.place + 1) count ps
 
-rises_later : (j k count : ℕ) (ps : List Priced) → j ≤ k → RisesFrom k count ps → RisesFrom j count ps
+rises_later : (j k count : ℕ) (ps : List PricedPlace) → j ≤ k → RisesFrom k count ps → RisesFrom j count ps
 rises_later j k count [] h rises = tt
 rises_later j k count (p ∷ ps) h rises = (omega arith, rises.1, rises.2, rises.3)
 
 pub priced_rises : (k count : ℕ) (prices : List (Option ℕ)) → k + length prices ≤ count → All IsPriceInRange prices →
-    RisesFrom k count (priced_from k prices)
-unfolding priced_from
+    RisesFrom k count (priced_places_from k prices)
+unfolding priced_places_from
 priced_rises k count [] h small = tt
 priced_rises k count (None ∷ prices) h small =
-    rises_later k (k + 1) count (priced_from (k + 1) prices) (omega arith)
+    rises_later k (k + 1) count (priced_places_from (k + 1) prices) (omega arith)
     (priced_rises (k + 1) count prices (omega arith) (All-tail IsPriceInRange None prices small))
 priced_rises k count (Some v ∷ prices) h small =
     let first : v < 2 ^ 53 = All-head IsPriceInRange (Some v) prices small in (
@@ -108,21 +108,21 @@ climbs_later j k count [] h climbs = tt
 climbs_later j k count (p ∷ ps) h climbs = (omega arith, climbs.1, climbs.2)
 
 pub members_climb : (k count : ℕ) (closed : List Bool) → k + length closed ≤ count →
-    ClimbsFrom k count (members_from k closed)
-unfolding members_from
+    ClimbsFrom k count (closed_places_from k closed)
+unfolding closed_places_from
 members_climb k count [] h = tt
 members_climb k count (false ∷ closed) h =
-    climbs_later k (k + 1) count (members_from (k + 1) closed) (omega arith) (members_climb (k + 1) count closed (omega arith))
+    climbs_later k (k + 1) count (closed_places_from (k + 1) closed) (omega arith) (members_climb (k + 1) count closed (omega arith))
 members_climb k count (true ∷ closed) h = (omega arith, omega arith, members_climb (k + 1) count closed (omega arith))
 
-pub priced_line_same : (p q : Priced) → p.place < 2 ^ 53 → p.price < 2 ^ 53 → q.place < 2 ^ 53 → q.price < 2 ^ 53 →
+pub priced_line_same : (p q : PricedPlace) → p.place < 2 ^ 53 → p.price < 2 ^ 53 → q.place < 2 ^ 53 → q.price < 2 ^ 53 →
     price_line p ≡ price_line q → (p.place ≡ q.place) × (p.price ≡ q.price)
 priced_line_same p q a b c d e =
     let same : p.place ∷ p.price ∷ [] ≡ q.place ∷ q.price ∷ [] =
     words_same p.place q.place (p.price ∷ []) (q.price ∷ [])
     (All-cons IsSmall p.place (p.price ∷ []) a (one_small p.price b))
     (All-cons IsSmall q.place (q.price ∷ []) c (one_small q.price d))
-    (append_cancel_left (codes "price ") (words (p.place ∷ p.price ∷ [])) (words (q.place ∷ q.price ∷ [])) e) in
+    (append_cancel_left (codes "price ") (numbers_text (p.place ∷ p.price ∷ [])) (numbers_text (q.place ∷ q.price ∷ [])) e) in
     let first : p.place ≡ q.place = cc in
     let second : p.price ≡ q.price = cc in
     (first, second)

@@ -8,11 +8,11 @@ use Rattle.hls_check_laws.specs.declared.cost_rule.CostRule.TheVariants.{Deviati
 use Rattle.hls_check_laws.specs.declared.goal.Goal.{Goal}
 use Rattle.hls_check_laws.specs.declared.spot.Spot.{Spot}
 use Rattle.hls_check_laws.specs.Tables.{Table, IsTable, IsSpotInRange, IsPlaceOf, IsGoal, goal_of, no_spot}
-use Rattle.hls_check_laws.specs.Certificates.{Printed, CutShown, NoneShown, IsCertificate, IsPriceInRange}
-use Rattle.hls_check_text.specs.Text.{rule_lines, target_line, preferred_line, renditions_line, cut_line, none_line, plan_line, price_line, closed_line, place_line, end_line, head_lines, table_lines, shown_lines, lines, Priced, priced_from, members_from}
-use Rattle.hls_check_text.specs.Wrong.{Begins}
-use Rattle.hls_check_text.specs.declared.head.Head.{Head}
-use Rattle.hls_check_text.specs.Stages.{Stage, AtHeader, AtRule, AtTarget, AtPreferred, AtRenditions, AtCount, AtPlace, AtClaim, AtPlan, AtPrice, AtClosed, AtEnd, lines_of, front, IsStage, IsHead, ArePlaces, IsPlanned, ArePrices, IsClosing, IsRule, IsTarget, IsRenditions}
+use Rattle.hls_check_laws.specs.Certificates.{CertificateData, CutClaim, NoneClaim, IsCertificate, IsPriceInRange}
+use Rattle.hls_check_text.specs.Text.{rule_lines, target_line, preferred_line, renditions_line, cut_line, none_line, plan_line, price_line, closed_line, place_line, end_line, head_lines, table_lines, claim_lines, lines, PricedPlace, priced_places_from, closed_places_from}
+use Rattle.hls_check_text.specs.WrongLines.{BeginsCertificate}
+use Rattle.hls_check_text.specs.declared.certificate_head.CertificateHead.{CertificateHead}
+use Rattle.hls_check_text.specs.Stages.{ReadingStage, AtHeader, AtRule, AtTarget, AtPreferred, AtRenditions, AtCount, AtPlace, AtClaim, AtPlan, AtPrice, AtClosed, AtEnd, lines_of_head, lines_before, IsStage, IsHead, AreFirstPlaces, IsPlanForm, AreFirstPrices, AreFirstClosed, IsRule, IsTarget, IsRenditionCount}
 use Rattle.hls_check_text.proofs.Nexts.{behind_rule, rule_first}
 use Rattle.hls_check_text.proofs.Stagings.{IsOpen}
 
@@ -32,19 +32,19 @@ blank_good renditions = record {
       });
 }
 
-abbrev completed : Head → List (List Spot) → Table
+abbrev completed : CertificateHead → List (List Spot) → Table
 completed h places = record {
   goal = h.goal;
   renditions = h.renditions;
   places = places ++ replicate (h.count - length places) (blank h.renditions);
 }
 
-completed_count : (h : Head) (places : List (List Spot)) → length places ≤ h.count →
+completed_count : (h : CertificateHead) (places : List (List Spot)) → length places ≤ h.count →
     length (places ++ replicate (h.count - length places) (blank h.renditions)) ≡ h.count
 completed_count h places room =
     simp (length-append, length-replicate) (omega arith)
 
-completed_good : (h : Head) (places : List (List Spot)) → IsHead h → length places ≤ h.count →
+completed_good : (h : CertificateHead) (places : List (List Spot)) → IsHead h → length places ≤ h.count →
     All (IsPlaceOf h.renditions) places → IsTable (completed h places)
 completed_good h places good room each =
     let count : length (completed h places).places ≡ h.count = completed_count h places room in
@@ -57,23 +57,23 @@ completed_good h places good room each =
     }
 
 -- a table without a cut
-abbrev uncut : Table → Printed
-uncut t = record { table = t; shown = NoneShown (replicate (length t.places) false) }
+abbrev uncut : Table → CertificateData
+uncut t = record { table = t; shown = NoneClaim (replicate (length t.places) false) }
 
 uncut_good : (t : Table) → IsTable t → IsCertificate (uncut t)
 uncut_good t good = record { table = good; form = length-replicate (length t.places) false }
 
-abbrev head_of : Goal → ℕ → Head
+abbrev head_of : Goal → ℕ → CertificateHead
 head_of goal renditions = record { goal = goal; renditions = renditions; count = 2 }
 
 -- a certificate of two blank places
 abbrev first_table : Goal → ℕ → Table
 first_table goal renditions = completed (head_of goal renditions) []
 
-abbrev first_of : Goal → ℕ → Printed
+abbrev first_of : Goal → ℕ → CertificateData
 first_of goal renditions = uncut (first_table goal renditions)
 
-first_good : (goal : Goal) (renditions : ℕ) → IsGoal goal → IsRenditions renditions → IsCertificate (first_of goal renditions)
+first_good : (goal : Goal) (renditions : ℕ) → IsGoal goal → IsRenditionCount renditions → IsCertificate (first_of goal renditions)
 first_good goal renditions g r =
     uncut_good (first_table goal renditions)
     (completed_good (head_of goal renditions) [] (record { goal = g; renditions = r; count = (omega arith, omega arith) })
@@ -81,17 +81,17 @@ first_good goal renditions g r =
 
 -- its lines behind the rule's
 abbrev first_rest : Goal → ℕ → List (List ℕ)
-first_rest goal renditions = behind_rule (first_table goal renditions) (shown_lines (first_of goal renditions).shown)
+first_rest goal renditions = behind_rule (first_table goal renditions) (claim_lines (first_of goal renditions).shown)
 
 first_lines : (goal : Goal) (renditions : ℕ) → lines (first_of goal renditions) ≡ rule_lines goal.rule ++ first_rest goal renditions
 unfolding lines
-first_lines goal renditions = rule_first (first_table goal renditions) (shown_lines (first_of goal renditions).shown)
+first_lines goal renditions = rule_first (first_table goal renditions) (claim_lines (first_of goal renditions).shown)
 
 -- what is read of the rule, of the target and of the goal, completed
 rule_goal : (rule : CostRule) → IsRule rule → IsGoal (goal_of 1 1 rule)
 rule_goal rule good = record { target = (omega arith, omega arith); preferred = (omega arith, omega arith); charge = good }
 
-rule_begins : (rule : CostRule) → IsRule rule → Begins (rule_lines rule)
+rule_begins : (rule : CostRule) → IsRule rule → BeginsCertificate (rule_lines rule)
 rule_begins rule good = record {
   certificate = first_of (goal_of 1 1 rule) 1;
   is_certificate = first_good (goal_of 1 1 rule) 1 (rule_goal rule good) (omega arith, omega arith);
@@ -99,7 +99,7 @@ rule_begins rule good = record {
   is = first_lines (goal_of 1 1 rule) 1;
 }
 
-target_begins : (rule : CostRule) (target : ℕ) → IsRule rule → IsTarget target → Begins (rule_lines rule ++ (target_line target ∷ []))
+target_begins : (rule : CostRule) (target : ℕ) → IsRule rule → IsTarget target → BeginsCertificate (rule_lines rule ++ (target_line target ∷ []))
 target_begins rule target good t =
     let goal : Goal = goal_of target 1 rule in
     record {
@@ -109,7 +109,7 @@ target_begins rule target good t =
       is = first_lines goal 1 ∙ sym (append_assoc (rule_lines rule) (target_line target ∷ []) (drop 1 (first_rest goal 1)));
     }
 
-goal_begins : (goal : Goal) → IsGoal goal → Begins (rule_lines goal.rule ++ (target_line goal.target ∷ preferred_line goal.preferred ∷ []))
+goal_begins : (goal : Goal) → IsGoal goal → BeginsCertificate (rule_lines goal.rule ++ (target_line goal.target ∷ preferred_line goal.preferred ∷ []))
 goal_begins goal good = record {
   certificate = first_of goal 1;
   is_certificate = first_good goal 1 good (omega arith, omega arith);
@@ -118,8 +118,8 @@ goal_begins goal good = record {
       ∙ sym (append_assoc (rule_lines goal.rule) (target_line goal.target ∷ preferred_line goal.preferred ∷ []) (drop 2 (first_rest goal 1)));
 }
 
-renditions_begin : (goal : Goal) (renditions : ℕ) → IsGoal goal → IsRenditions renditions →
-    Begins (rule_lines goal.rule ++ (target_line goal.target ∷ preferred_line goal.preferred ∷ renditions_line renditions ∷ []))
+renditions_begin : (goal : Goal) (renditions : ℕ) → IsGoal goal → IsRenditionCount renditions →
+    BeginsCertificate (rule_lines goal.rule ++ (target_line goal.target ∷ preferred_line goal.preferred ∷ renditions_line renditions ∷ []))
 renditions_begin goal renditions good r = record {
   certificate = first_of goal renditions;
   is_certificate = first_good goal renditions good r;
@@ -129,13 +129,13 @@ renditions_begin goal renditions good r = record {
       (drop 3 (first_rest goal renditions)));
 }
 
-places_begin : (h : Head) (places : List (List Spot)) → ArePlaces h places → Begins (lines_of h ++ map place_line places)
+places_begin : (h : CertificateHead) (places : List (List Spot)) → AreFirstPlaces h places → BeginsCertificate (lines_of_head h ++ map place_line places)
 unfolding lines table_lines
 places_begin h places good =
     let room : length places < h.count = good.room in
     let count : length (completed h places).places ≡ h.count = completed_count h places (omega arith) in
     let blanks : List (List ℕ) = map place_line (replicate (h.count - length places) (blank h.renditions)) in
-    let shown : List (List ℕ) = shown_lines (uncut (completed h places)).shown in
+    let shown : List (List ℕ) = claim_lines (uncut (completed h places)).shown in
     record {
       certificate = uncut (completed h places);
       is_certificate = uncut_good (completed h places) (completed_good h places good.head (omega arith) good.each);
@@ -145,30 +145,30 @@ places_begin h places good =
           (ap (λ (xs : List (List ℕ)). xs ++ shown)
           (map-append place_line places (replicate (h.count - length places) (blank h.renditions)))
           ∙ append_assoc (map place_line places) blanks shown)
-          ∙ sym (append_assoc (lines_of h) (map place_line places) (blanks ++ shown));
+          ∙ sym (append_assoc (lines_of_head h) (map place_line places) (blanks ++ shown));
     }
 
-pub unpriced : (k : ℕ) (prices : List (Option ℕ)) (n : ℕ) → priced_from k (prices ++ replicate n None) ≡ priced_from k prices
-unfolding priced_from
+pub unpriced : (k : ℕ) (prices : List (Option ℕ)) (n : ℕ) → priced_places_from k (prices ++ replicate n None) ≡ priced_places_from k prices
+unfolding priced_places_from
 unpriced k [] zero = refl
 unpriced k [] (suc n) = unpriced (k + 1) [] n
 unpriced k (None ∷ prices) n = unpriced (k + 1) prices n
-unpriced k (Some v ∷ prices) n = ap (λ (ps : List Priced). record { place = k; price = v } ∷ ps) (unpriced (k + 1) prices n)
+unpriced k (Some v ∷ prices) n = ap (λ (ps : List PricedPlace). record { place = k; price = v } ∷ ps) (unpriced (k + 1) prices n)
 
-pub left_out : (k : ℕ) (closed : List Bool) (n : ℕ) → members_from k (closed ++ replicate n false) ≡ members_from k closed
-unfolding members_from
+pub left_out : (k : ℕ) (closed : List Bool) (n : ℕ) → closed_places_from k (closed ++ replicate n false) ≡ closed_places_from k closed
+unfolding closed_places_from
 left_out k [] zero = refl
 left_out k [] (suc n) = left_out (k + 1) [] n
 left_out k (false ∷ closed) n = left_out (k + 1) closed n
 left_out k (true ∷ closed) n = ap (λ (ps : List ℕ). k ∷ ps) (left_out (k + 1) closed n)
 
 -- a table with prices, or with a set, that are completed
-abbrev priced_out : Table → ℕ → List ℕ → List (Option ℕ) → Printed
+abbrev priced_out : Table → ℕ → List ℕ → List (Option ℕ) → CertificateData
 priced_out t total plan prices =
-    record { table = t; shown = CutShown total plan (prices ++ replicate (length t.places - length prices) None) }
+    record { table = t; shown = CutClaim total plan (prices ++ replicate (length t.places - length prices) None) }
 
 priced_good : (t : Table) (total : ℕ) (plan : List ℕ) (prices : List (Option ℕ)) → IsTable t →
-    IsPlanned (length t.places) total plan → length prices ≤ length t.places → All IsPriceInRange prices →
+    IsPlanForm (length t.places) total plan → length prices ≤ length t.places → All IsPriceInRange prices →
     IsCertificate (priced_out t total plan prices)
 priced_good t total plan prices table planned within small = record {
   table = table;
@@ -183,51 +183,51 @@ priced_good t total plan prices table planned within small = record {
 }
 
 price_begins : (t : Table) (total : ℕ) (plan : List ℕ) (prices : List (Option ℕ)) → IsTable t →
-    IsPlanned (length t.places) total plan → ArePrices (length t.places) prices →
-    Begins (table_lines t ++ (cut_line total ∷ plan_line plan ∷ map price_line (priced_from 0 prices)))
-unfolding lines shown_lines
+    IsPlanForm (length t.places) total plan → AreFirstPrices (length t.places) prices →
+    BeginsCertificate (table_lines t ++ (cut_line total ∷ plan_line plan ∷ map price_line (priced_places_from 0 prices)))
+unfolding lines claim_lines
 price_begins t total plan prices table planned good = record {
   certificate = priced_out t total plan prices;
   is_certificate = priced_good t total plan prices table planned good.within good.small;
   more = end_line ∷ [];
   is =
-      ap (λ (ps : List Priced). table_lines t ++ (cut_line total ∷ plan_line plan ∷ (map price_line ps ++ (end_line ∷ []))))
+      ap (λ (ps : List PricedPlace). table_lines t ++ (cut_line total ∷ plan_line plan ∷ (map price_line ps ++ (end_line ∷ []))))
       (unpriced 0 prices (length t.places - length prices))
-      ∙ sym (append_assoc (table_lines t) (cut_line total ∷ plan_line plan ∷ map price_line (priced_from 0 prices)) (end_line ∷ []));
+      ∙ sym (append_assoc (table_lines t) (cut_line total ∷ plan_line plan ∷ map price_line (priced_places_from 0 prices)) (end_line ∷ []));
 }
 
-first_place : (t : Table) → IsTable t → (total : ℕ) → total < 2 ^ 53 → IsPlanned (length t.places) total (0 ∷ [])
+first_place : (t : Table) → IsTable t → (total : ℕ) → total < 2 ^ 53 → IsPlanForm (length t.places) total (0 ∷ [])
 first_place t good total small = record {
   total_small = small;
   not_empty = omega arith;
   in_range = All-cons (λ (p : ℕ). p < length t.places) 0 [] (omega (arith, good.count)) (All-nil (λ (p : ℕ). p < length t.places));
 }
 
-cost_begins : (t : Table) (total : ℕ) → IsTable t → total < 2 ^ 53 → Begins (table_lines t ++ (cut_line total ∷ []))
-unfolding lines shown_lines
+cost_begins : (t : Table) (total : ℕ) → IsTable t → total < 2 ^ 53 → BeginsCertificate (table_lines t ++ (cut_line total ∷ []))
+unfolding lines claim_lines
 cost_begins t total good small = record {
   certificate = priced_out t total (0 ∷ []) [];
   is_certificate = priced_good t total (0 ∷ []) [] good (first_place t good total small) (omega arith) (All-nil IsPriceInRange);
-  more = drop 1 (shown_lines (priced_out t total (0 ∷ []) []).shown);
-  is = sym (append_assoc (table_lines t) (cut_line total ∷ []) (drop 1 (shown_lines (priced_out t total (0 ∷ []) []).shown)));
+  more = drop 1 (claim_lines (priced_out t total (0 ∷ []) []).shown);
+  is = sym (append_assoc (table_lines t) (cut_line total ∷ []) (drop 1 (claim_lines (priced_out t total (0 ∷ []) []).shown)));
 }
 
-closed_begins : (t : Table) (closed : List Bool) → IsTable t → IsClosing (length t.places) closed →
-    Begins (table_lines t ++ (none_line ∷ map closed_line (members_from 0 closed)))
-unfolding lines shown_lines
+closed_begins : (t : Table) (closed : List Bool) → IsTable t → AreFirstClosed (length t.places) closed →
+    BeginsCertificate (table_lines t ++ (none_line ∷ map closed_line (closed_places_from 0 closed)))
+unfolding lines claim_lines
 closed_begins t closed table good =
     let within : length closed ≤ length t.places = good.within in
     record {
-      certificate = record { table = t; shown = NoneShown (closed ++ replicate (length t.places - length closed) false) };
+      certificate = record { table = t; shown = NoneClaim (closed ++ replicate (length t.places - length closed) false) };
       is_certificate = record { table = table; form = simp (length-append, length-replicate) (omega arith) };
       more = end_line ∷ [];
       is =
           ap (λ (ps : List ℕ). table_lines t ++ (none_line ∷ (map closed_line ps ++ (end_line ∷ []))))
           (left_out 0 closed (length t.places - length closed))
-          ∙ sym (append_assoc (table_lines t) (none_line ∷ map closed_line (members_from 0 closed)) (end_line ∷ []));
+          ∙ sym (append_assoc (table_lines t) (none_line ∷ map closed_line (closed_places_from 0 closed)) (end_line ∷ []));
     }
 
-pub stage_begins : (s : Stage) → IsOpen s → IsStage s → Begins (front s)
+pub stage_begins : (s : ReadingStage) → IsOpen s → IsStage s → BeginsCertificate (lines_before s)
 unfolding lines table_lines
 stage_begins AtHeader open_ good = record {
   certificate = first_of (goal_of 1 1 Deviation) 1;
@@ -249,7 +249,7 @@ stage_begins (AtPlace head places) open_ good = places_begin head places good
 stage_begins (AtClaim table) open_ good = record {
   certificate = uncut table;
   is_certificate = uncut_good table good;
-  more = shown_lines (uncut table).shown;
+  more = claim_lines (uncut table).shown;
   is = refl;
 }
 stage_begins (AtPlan table total) open_ good = cost_begins table total good.0 good.1

@@ -1,7 +1,7 @@
 pub mod Text
 pub mod SpotTexts
 pub mod LineTexts
-pub mod Wrong
+pub mod WrongLines
 pub mod Stages
-pub mod Nexts
-pub mod Laws
+pub mod NextLines
+pub mod TextLaws

@@ -1,22 +1,22 @@
 -- For the proofs of this crate; no public clause cites it.
 -- What is read of one line of each kind.
 use Rattle.std.specs.Prelude.{◌≡◌, ℕ, ◌^◌, ◌<◌, ◌≤◌, List, [], ◌∷◌, ◌++◌, length, All, codes}
-use Rattle.hls_text.specs.Numbers.{words}
+use Rattle.hls_text.specs.Numbers.{numbers_text}
 use Rattle.hls_check_text.specs.Text.{plan_line, closed_line}
 
 -- a line of a word and a number
 abbrev pub HasNumber : List ℕ → List ℕ → ℕ → Type 0
-HasNumber word line n = (n < 2 ^ 53) × (line ≡ word ++ words (n ∷ []))
+HasNumber word line n = (n < 2 ^ 53) × (line ≡ word ++ numbers_text (n ∷ []))
 
 abbrev pub HasNoNumber : List ℕ → List ℕ → Type 0
-HasNoNumber word line = (n : ℕ) → n < 2 ^ 53 → line ≡ word ++ words (n ∷ []) → ⊥
+HasNoNumber word line = (n : ℕ) → n < 2 ^ 53 → line ≡ word ++ numbers_text (n ∷ []) → ⊥
 
 -- a line of a word and two numbers
 abbrev pub HasNumbers : List ℕ → List ℕ → ℕ × ℕ → Type 0
-HasNumbers word line f = (f.0 < 2 ^ 53) × (f.1 < 2 ^ 53) × (line ≡ word ++ words (f.0 ∷ f.1 ∷ []))
+HasNumbers word line f = (f.0 < 2 ^ 53) × (f.1 < 2 ^ 53) × (line ≡ word ++ numbers_text (f.0 ∷ f.1 ∷ []))
 
 abbrev pub HasNoNumbers : List ℕ → List ℕ → Type 0
-HasNoNumbers word line = (m n : ℕ) → m < 2 ^ 53 → n < 2 ^ 53 → line ≡ word ++ words (m ∷ n ∷ []) → ⊥
+HasNoNumbers word line = (m n : ℕ) → m < 2 ^ 53 → n < 2 ^ 53 → line ≡ word ++ numbers_text (m ∷ n ∷ []) → ⊥
 
 -- each of these places is there
 abbrev pub AreBelow : ℕ → List ℕ → Type 0
@@ -27,7 +27,7 @@ abbrev pub HasPlan : ℕ → List ℕ → List ℕ → Type 0
 HasPlan count line plan = (0 < length plan) × AreBelow count plan × (line ≡ plan_line plan)
 
 abbrev pub HasPrice : ℕ → ℕ → List ℕ → ℕ × ℕ → Type 0
-HasPrice low count line f = (low ≤ f.0) × (f.0 < count) × (f.1 < 2 ^ 53) × (line ≡ codes "price " ++ words (f.0 ∷ f.1 ∷ []))
+HasPrice low count line f = (low ≤ f.0) × (f.0 < count) × (f.1 < 2 ^ 53) × (line ≡ codes "price " ++ numbers_text (f.0 ∷ f.1 ∷ []))
 
 abbrev pub HasClosed : ℕ → ℕ → List ℕ → ℕ → Type 0
 HasClosed low count line p = (low ≤ p) × (p < count) × (line ≡ closed_line p)

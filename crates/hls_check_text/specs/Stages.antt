@@ -7,50 +7,50 @@ use Rattle.hls_check_laws.specs.declared.goal.Goal.{Goal}
 use Rattle.hls_check_laws.specs.declared.spot.Spot.{Spot}
 use Rattle.hls_check_laws.specs.declared.cert_fault.CertFault.{CertFault}
 use Rattle.hls_check_laws.specs.Tables.{Table, IsTable, IsPlaceOf, IsGoal, charge_of, table_of, target_limit, preferred_limit, charge_limit, rendition_limit, place_limit}
-use Rattle.hls_check_laws.specs.Certificates.{Printed, Shown, CutShown, NoneShown, IsCertificate, IsPriceInRange}
+use Rattle.hls_check_laws.specs.Certificates.{CertificateData, ClaimData, CutClaim, NoneClaim, IsCertificate, IsPriceInRange}
 use Rattle.hls_text.specs.Lines.{cut_text}
-use Rattle.hls_check_text.specs.declared.head.Head.{Head}
+use Rattle.hls_check_text.specs.declared.certificate_head.CertificateHead.{CertificateHead}
 use Rattle.hls_check_text.specs.declared.wrong_line.WrongLine.{WrongLine}
-use Rattle.hls_check_text.specs.Wrong.{IsFirstWrong, IsGoodText, IsReadingFault, IsReading}
-use Rattle.hls_check_text.specs.Text.{header_line, ruled_header_line, charge_line, rule_lines, target_line, preferred_line, renditions_line, places_line, cut_line, none_line, end_line, plan_line, price_line, closed_line, place_line, head_lines, table_lines, lines, Priced, priced_from, members_from}
+use Rattle.hls_check_text.specs.WrongLines.{IsFirstWrongLine, IsCertificateText, IsReadFault, IsReadResult}
+use Rattle.hls_check_text.specs.Text.{header_line, ruled_header_line, charge_line, rule_lines, target_line, preferred_line, renditions_line, places_line, cut_line, none_line, end_line, plan_line, price_line, closed_line, place_line, head_lines, table_lines, lines, PricedPlace, priced_places_from, closed_places_from}
 
 -- the lines above the places
-abbrev pub lines_of : Head → List (List ℕ)
-lines_of h = head_lines h.goal h.renditions h.count
+abbrev pub lines_of_head : CertificateHead → List (List ℕ)
+lines_of_head h = head_lines h.goal h.renditions h.count
 
-abbrev pub printed : Table → Shown → Printed
-printed t shown = record { table = t; shown = shown }
+abbrev pub certificate_with : Table → ClaimData → CertificateData
+certificate_with t shown = record { table = t; shown = shown }
 
-pub data Stage : Type 0 where
-  AtHeader : Stage
-  AtRule : Stage
-  AtTarget : (rule : CostRule) → Stage
-  AtPreferred : (rule : CostRule) (target : ℕ) → Stage
-  AtRenditions : (goal : Goal) → Stage
-  AtCount : (goal : Goal) (renditions : ℕ) → Stage
-  AtPlace : (head : Head) (places : List (List Spot)) → Stage
-  AtClaim : (table : Table) → Stage
-  AtPlan : (table : Table) (total : ℕ) → Stage
-  AtPrice : (table : Table) (total : ℕ) (plan : List ℕ) (prices : List (Option ℕ)) → Stage
-  AtClosed : (table : Table) (closed : List Bool) → Stage
-  AtEnd : (certificate : Printed) → Stage
+pub data ReadingStage : Type 0 where
+  AtHeader : ReadingStage
+  AtRule : ReadingStage
+  AtTarget : (rule : CostRule) → ReadingStage
+  AtPreferred : (rule : CostRule) (target : ℕ) → ReadingStage
+  AtRenditions : (goal : Goal) → ReadingStage
+  AtCount : (goal : Goal) (renditions : ℕ) → ReadingStage
+  AtPlace : (head : CertificateHead) (places : List (List Spot)) → ReadingStage
+  AtClaim : (table : Table) → ReadingStage
+  AtPlan : (table : Table) (total : ℕ) → ReadingStage
+  AtPrice : (table : Table) (total : ℕ) (plan : List ℕ) (prices : List (Option ℕ)) → ReadingStage
+  AtClosed : (table : Table) (closed : List Bool) → ReadingStage
+  AtEnd : (certificate : CertificateData) → ReadingStage
 
 -- the lines that were passed
-abbrev pub front : Stage → List (List ℕ)
-front AtHeader = []
-front AtRule = ruled_header_line ∷ []
-front (AtTarget rule) = rule_lines rule
-front (AtPreferred rule target) = rule_lines rule ++ (target_line target ∷ [])
-front (AtRenditions goal) = rule_lines goal.rule ++ (target_line goal.target ∷ preferred_line goal.preferred ∷ [])
-front (AtCount goal renditions) =
+abbrev pub lines_before : ReadingStage → List (List ℕ)
+lines_before AtHeader = []
+lines_before AtRule = ruled_header_line ∷ []
+lines_before (AtTarget rule) = rule_lines rule
+lines_before (AtPreferred rule target) = rule_lines rule ++ (target_line target ∷ [])
+lines_before (AtRenditions goal) = rule_lines goal.rule ++ (target_line goal.target ∷ preferred_line goal.preferred ∷ [])
+lines_before (AtCount goal renditions) =
     rule_lines goal.rule ++ (target_line goal.target ∷ preferred_line goal.preferred ∷ renditions_line renditions ∷ [])
-front (AtPlace head places) = lines_of head ++ map place_line places
-front (AtClaim table) = table_lines table
-front (AtPlan table total) = table_lines table ++ (cut_line total ∷ [])
-front (AtPrice table total plan prices) =
-    table_lines table ++ (cut_line total ∷ plan_line plan ∷ map price_line (priced_from 0 prices))
-front (AtClosed table closed) = table_lines table ++ (none_line ∷ map closed_line (members_from 0 closed))
-front (AtEnd certificate) = lines certificate
+lines_before (AtPlace head places) = lines_of_head head ++ map place_line places
+lines_before (AtClaim table) = table_lines table
+lines_before (AtPlan table total) = table_lines table ++ (cut_line total ∷ [])
+lines_before (AtPrice table total plan prices) =
+    table_lines table ++ (cut_line total ∷ plan_line plan ∷ map price_line (priced_places_from 0 prices))
+lines_before (AtClosed table closed) = table_lines table ++ (none_line ∷ map closed_line (closed_places_from 0 closed))
+lines_before (AtEnd certificate) = lines certificate
 
 abbrev pub IsCharge : ℕ → Type 0
 IsCharge n = (0 ≤ n) × (n ≤ charge_limit)
@@ -64,60 +64,60 @@ IsTarget n = (1 ≤ n) × (n ≤ target_limit)
 abbrev pub IsPreferred : ℕ → Type 0
 IsPreferred n = (1 ≤ n) × (n ≤ preferred_limit)
 
-abbrev pub IsRenditions : ℕ → Type 0
-IsRenditions n = (1 ≤ n) × (n ≤ rendition_limit)
+abbrev pub IsRenditionCount : ℕ → Type 0
+IsRenditionCount n = (1 ≤ n) × (n ≤ rendition_limit)
 
-abbrev pub IsCount : ℕ → Type 0
-IsCount n = (2 ≤ n) × (n ≤ place_limit)
+abbrev pub IsPlaceCount : ℕ → Type 0
+IsPlaceCount n = (2 ≤ n) × (n ≤ place_limit)
 
-pub record IsHead (h : Head) : Type 0 where
+pub record IsHead (h : CertificateHead) : Type 0 where
   pub goal : IsGoal h.goal
-  pub renditions : IsRenditions h.renditions
-  pub count : IsCount h.count
+  pub renditions : IsRenditionCount h.renditions
+  pub count : IsPlaceCount h.count
 
-pub record ArePlaces (h : Head) (places : List (List Spot)) : Type 0 where
+pub record AreFirstPlaces (h : CertificateHead) (places : List (List Spot)) : Type 0 where
   pub head : IsHead h
   pub room : length places < h.count
   pub each : All (IsPlaceOf h.renditions) places
 
 -- one more than the last place that has a price, the first entry being place p
-abbrev pub past_priced : ℕ → List Priced → ℕ
-past_priced p [] = p
-past_priced p (q ∷ rest) = past_priced (q.place + 1) rest
+abbrev pub place_after_priced : ℕ → List PricedPlace → ℕ
+place_after_priced p [] = p
+place_after_priced p (q ∷ rest) = place_after_priced (q.place + 1) rest
 
 -- one more than the last of these places, or p
-abbrev pub past_members : ℕ → List ℕ → ℕ
-past_members p [] = p
-past_members p (q ∷ rest) = past_members (q + 1) rest
+abbrev pub place_after_closed : ℕ → List ℕ → ℕ
+place_after_closed p [] = p
+place_after_closed p (q ∷ rest) = place_after_closed (q + 1) rest
 
-pub record IsPlanned (count total : ℕ) (plan : List ℕ) : Type 0 where
+pub record IsPlanForm (count total : ℕ) (plan : List ℕ) : Type 0 where
   pub total_small : total < 2 ^ 53
   pub not_empty : 0 < length plan
   pub in_range : All (λ p. p < count) plan
 
 -- prices up to the last that was read, and no further
-pub record ArePrices (count : ℕ) (prices : List (Option ℕ)) : Type 0 where
+pub record AreFirstPrices (count : ℕ) (prices : List (Option ℕ)) : Type 0 where
   pub within : length prices ≤ count
-  pub just : length prices ≡ past_priced 0 (priced_from 0 prices)
+  pub ends_after_last : length prices ≡ place_after_priced 0 (priced_places_from 0 prices)
   pub small : All IsPriceInRange prices
 
-pub record IsClosing (count : ℕ) (closed : List Bool) : Type 0 where
+pub record AreFirstClosed (count : ℕ) (closed : List Bool) : Type 0 where
   pub within : length closed ≤ count
-  pub just : length closed ≡ past_members 0 (members_from 0 closed)
+  pub ends_after_last : length closed ≡ place_after_closed 0 (closed_places_from 0 closed)
 
-abbrev pub IsStage : Stage → Type 0
+abbrev pub IsStage : ReadingStage → Type 0
 IsStage AtHeader = Unit {0}
 IsStage AtRule = Unit {0}
 IsStage (AtTarget rule) = IsRule rule
 IsStage (AtPreferred rule target) = IsRule rule × IsTarget target
 IsStage (AtRenditions goal) = IsGoal goal
-IsStage (AtCount goal renditions) = IsGoal goal × IsRenditions renditions
-IsStage (AtPlace head places) = ArePlaces head places
+IsStage (AtCount goal renditions) = IsGoal goal × IsRenditionCount renditions
+IsStage (AtPlace head places) = AreFirstPlaces head places
 IsStage (AtClaim table) = IsTable table
 IsStage (AtPlan table total) = IsTable table × (total < 2 ^ 53)
 IsStage (AtPrice table total plan prices) =
-    IsTable table × IsPlanned (length table.places) total plan × ArePrices (length table.places) prices
-IsStage (AtClosed table closed) = IsTable table × IsClosing (length table.places) closed
+    IsTable table × IsPlanForm (length table.places) total plan × AreFirstPrices (length table.places) prices
+IsStage (AtClosed table closed) = IsTable table × AreFirstClosed (length table.places) closed
 IsStage (AtEnd certificate) = IsCertificate certificate
 
 -- a line of a word and a number in a range
@@ -138,11 +138,11 @@ pub record IsPlanLine (count : ℕ) (line : List ℕ) : Type 0 where
   pub is : line ≡ plan_line plan
 
 pub record IsPriceLine (low count : ℕ) (line : List ℕ) : Type 0 where
-  pub priced : Priced
-  pub above : low ≤ priced.place
-  pub below : priced.place < count
-  pub small : priced.price < 2 ^ 53
-  pub is : line ≡ price_line priced
+  pub priced_place : PricedPlace
+  pub above : low ≤ priced_place.place
+  pub below : priced_place.place < count
+  pub small : priced_place.price < 2 ^ 53
+  pub is : line ≡ price_line priced_place
 
 pub record IsClosedLine (low count : ℕ) (line : List ℕ) : Type 0 where
   pub place : ℕ
@@ -151,13 +151,13 @@ pub record IsClosedLine (low count : ℕ) (line : List ℕ) : Type 0 where
   pub is : line ≡ closed_line place
 
 -- which line may come next
-abbrev pub IsNext : Stage → List ℕ → Type 0
+abbrev pub IsNext : ReadingStage → List ℕ → Type 0
 IsNext AtHeader line = (line ≡ header_line) ⊎ (line ≡ ruled_header_line)
 IsNext AtRule line = IsNumberLine charge_line IsCharge line
 IsNext (AtTarget rule) line = IsNumberLine target_line IsTarget line
 IsNext (AtPreferred rule target) line = IsNumberLine preferred_line IsPreferred line
-IsNext (AtRenditions goal) line = IsNumberLine renditions_line IsRenditions line
-IsNext (AtCount goal renditions) line = IsNumberLine places_line IsCount line
+IsNext (AtRenditions goal) line = IsNumberLine renditions_line IsRenditionCount line
+IsNext (AtCount goal renditions) line = IsNumberLine places_line IsPlaceCount line
 IsNext (AtPlace head places) line = IsPlaceLine head.renditions line
 IsNext (AtClaim table) line = (line ≡ none_line) ⊎ IsNumberLine cut_line (λ n. n < 2 ^ 53) line
 IsNext (AtPlan table total) line = IsPlanLine (length table.places) line
@@ -168,91 +168,91 @@ IsNext (AtClosed table closed) line =
 IsNext (AtEnd certificate) line = ⊥
 
 -- a text of which some lines were passed, and what is left of it
-pub record IsAt (s : Stage) (bytes rest : List ℕ) (passed : ℕ) : Type 0 where
+pub record IsReadUpTo (s : ReadingStage) (bytes rest : List ℕ) (lines_read : ℕ) : Type 0 where
   pub is_stage : IsStage s
-  pub lines : (cut_text bytes).lines ≡ front s ++ (cut_text rest).lines
+  pub lines : (cut_text bytes).lines ≡ lines_before s ++ (cut_text rest).lines
   pub tail : (cut_text bytes).tail ≡ (cut_text rest).tail
-  pub count : passed ≡ length (front s)
+  pub count : lines_read ≡ length (lines_before s)
 
--- the line behind `passed` lines, which is number n, isn't there, or isn't good
-abbrev pub Refuses : (List ℕ → Type 0) → List ℕ → ℕ → ℕ → Type 0
-Refuses IsGood rest passed n =
-    (n ≡ passed + 1) × ((line : List ℕ) (after : List (List ℕ)) → (cut_text rest).lines ≡ line ∷ after → IsGood line → ⊥)
+-- the line behind `lines_read` lines, which is number n, isn't there, or isn't good
+abbrev pub IsWrongLineAfter : (List ℕ → Type 0) → List ℕ → ℕ → ℕ → Type 0
+IsWrongLineAfter IsGood rest lines_read n =
+    (n ≡ lines_read + 1) × ((line : List ℕ) (after : List (List ℕ)) → (cut_text rest).lines ≡ line ∷ after → IsGood line → ⊥)
 
 -- the same of a reader that takes memory, which may be refused it
-abbrev pub RefusesOrLacks : (List ℕ → Type 0) → List ℕ → ℕ → CertFault → Type 0
-RefusesOrLacks IsGood rest passed fault = IsReadingFault (Refuses IsGood rest passed) (Unit {0}) fault
+abbrev pub IsWrongLineOrMemory : (List ℕ → Type 0) → List ℕ → ℕ → CertFault → Type 0
+IsWrongLineOrMemory IsGood rest lines_read fault = IsReadFault (IsWrongLineAfter IsGood rest lines_read) (Unit {0}) fault
 
 -- a text's certificate, its first wrong line, or want of memory
-abbrev pub Builds : List ℕ → Result Printed CertFault → Type 0
-Builds bytes (Ok c) = IsReading bytes (Ok c)
-Builds bytes (Err fault) = IsReadingFault (IsFirstWrong bytes) (Unit {0}) fault
+abbrev pub Builds : List ℕ → Result CertificateData CertFault → Type 0
+Builds bytes (Ok c) = IsReadResult bytes (Ok c)
+Builds bytes (Err fault) = IsReadFault (IsFirstWrongLine bytes) (Unit {0}) fault
 
 -- what scanning a text comes to: that it is a certificate's, or its first wrong line
 abbrev pub Scans : List ℕ → Result (Unit {0}) WrongLine → Type 0
-Scans bytes (Ok done) = IsGoodText bytes
-Scans bytes (Err wrong) = IsFirstWrong bytes wrong.line
+Scans bytes (Ok done) = IsCertificateText bytes
+Scans bytes (Err wrong) = IsFirstWrongLine bytes wrong.line
 
 -- a table's places were passed over, and its claim comes next
-pub record PassesPlaces (head : Head) (bytes rest : List ℕ) (passed : ℕ) : Type 0 where
+pub record SkipsPlaces (head : CertificateHead) (bytes rest : List ℕ) (lines_read : ℕ) : Type 0 where
   pub places : List (List Spot)
   pub count : length places ≡ head.count
-  pub at : IsAt (AtClaim (table_of head.goal head.renditions places)) bytes rest passed
+  pub at : IsReadUpTo (AtClaim (table_of head.goal head.renditions places)) bytes rest lines_read
 
 -- a goal was read, and the count of renditions comes next
 abbrev pub HasGoal : List ℕ → Goal → List ℕ → ℕ → Type 0
-HasGoal bytes goal rest passed = IsAt (AtRenditions goal) bytes rest passed
+HasGoal bytes goal rest lines_read = IsReadUpTo (AtRenditions goal) bytes rest lines_read
 
 -- the lines above the places were read, and the first place comes next
-abbrev pub HasHead : List ℕ → Head → List ℕ → ℕ → Type 0
-HasHead bytes head rest passed = IsAt (AtPlace head []) bytes rest passed
+abbrev pub HasHead : List ℕ → CertificateHead → List ℕ → ℕ → Type 0
+HasHead bytes head rest lines_read = IsReadUpTo (AtPlace head []) bytes rest lines_read
 
 -- a table's places were read, which begin behind `first` lines, and its claim comes next
-abbrev pub HasPlaces : Head → List ℕ → ℕ → List (List Spot) → List ℕ → Type 0
+abbrev pub HasPlaces : CertificateHead → List ℕ → ℕ → List (List Spot) → List ℕ → Type 0
 HasPlaces head bytes first places rest =
-    IsAt (AtClaim (table_of head.goal head.renditions places)) bytes rest (first + head.count)
+    IsReadUpTo (AtClaim (table_of head.goal head.renditions places)) bytes rest (first + head.count)
 
 -- the whole of a cut, or of a closed set, was read
 abbrev pub EndsCut : List ℕ → Table → ℕ → List ℕ → List (Option ℕ) → List ℕ → ℕ → Type 0
-EndsCut bytes t total plan prices rest passed = IsAt (AtEnd (printed t (CutShown total plan prices))) bytes rest passed
+EndsCut bytes t total plan prices rest lines_read = IsReadUpTo (AtEnd (certificate_with t (CutClaim total plan prices))) bytes rest lines_read
 
 abbrev pub EndsNone : List ℕ → Table → List Bool → List ℕ → ℕ → Type 0
-EndsNone bytes t closed rest passed = IsAt (AtEnd (printed t (NoneShown closed))) bytes rest passed
+EndsNone bytes t closed rest lines_read = IsReadUpTo (AtEnd (certificate_with t (NoneClaim closed))) bytes rest lines_read
 
 -- building a text, or scanning it, comes to this
 abbrev pub StopsBuilding : List ℕ → CertFault → Type 0
 StopsBuilding bytes fault = Builds bytes (Err fault)
 
 abbrev pub StopsScanning : List ℕ → WrongLine → Type 0
-StopsScanning bytes wrong = IsFirstWrong bytes wrong.line
+StopsScanning bytes wrong = IsFirstWrongLine bytes wrong.line
 
 -- what holds of every text of which this is left behind its rule
-abbrev pub OfGoals : CostRule → List ℕ → ℕ → (List ℕ → Type 0) → Type 0
-OfGoals rule rest passed Then = (bytes : List ℕ) → IsAt (AtTarget rule) bytes rest passed → Then bytes
+abbrev pub WhenAtTarget : CostRule → List ℕ → ℕ → (List ℕ → Type 0) → Type 0
+WhenAtTarget rule rest lines_read Then = (bytes : List ℕ) → IsReadUpTo (AtTarget rule) bytes rest lines_read → Then bytes
 
 -- behind its goal
-abbrev pub OfCounts : Goal → List ℕ → ℕ → (List ℕ → Type 0) → Type 0
-OfCounts goal rest passed Then = (bytes : List ℕ) → HasGoal bytes goal rest passed → Then bytes
+abbrev pub WhenAtRenditions : Goal → List ℕ → ℕ → (List ℕ → Type 0) → Type 0
+WhenAtRenditions goal rest lines_read Then = (bytes : List ℕ) → HasGoal bytes goal rest lines_read → Then bytes
 
 -- behind its head
-abbrev pub OfPlaces : Head → List ℕ → ℕ → (List ℕ → Type 0) → Type 0
-OfPlaces head rest passed Then = (bytes : List ℕ) → IsAt (AtPlace head []) bytes rest passed → Then bytes
+abbrev pub WhenAtPlace : CertificateHead → List ℕ → ℕ → (List ℕ → Type 0) → Type 0
+WhenAtPlace head rest lines_read Then = (bytes : List ℕ) → IsReadUpTo (AtPlace head []) bytes rest lines_read → Then bytes
 
 -- of which this is left at the claim, at the plan, behind the plan, or behind the line that says none, over a table of so
 -- many places
-abbrev pub OfClaims : ℕ → List ℕ → ℕ → (List ℕ → Type 0) → Type 0
-OfClaims count rest passed Then = (bytes : List ℕ) (t : Table) → length t.places ≡ count → IsAt (AtClaim t) bytes rest passed → Then bytes
+abbrev pub WhenAtClaim : ℕ → List ℕ → ℕ → (List ℕ → Type 0) → Type 0
+WhenAtClaim count rest lines_read Then = (bytes : List ℕ) (t : Table) → length t.places ≡ count → IsReadUpTo (AtClaim t) bytes rest lines_read → Then bytes
 
-abbrev pub OfPlans : ℕ → List ℕ → ℕ → (List ℕ → Type 0) → Type 0
-OfPlans count rest passed Then =
-    (bytes : List ℕ) (t : Table) (total : ℕ) → length t.places ≡ count → IsAt (AtPlan t total) bytes rest passed → Then bytes
+abbrev pub WhenAtPlan : ℕ → List ℕ → ℕ → (List ℕ → Type 0) → Type 0
+WhenAtPlan count rest lines_read Then =
+    (bytes : List ℕ) (t : Table) (total : ℕ) → length t.places ≡ count → IsReadUpTo (AtPlan t total) bytes rest lines_read → Then bytes
 
-abbrev pub OfPrices : ℕ → List ℕ → ℕ → (List ℕ → (List (Option ℕ) → List ℕ → ℕ → Type 0) → Type 0) → Type 0
-OfPrices count rest passed Then =
-    (bytes plan : List ℕ) (t : Table) (total : ℕ) → length t.places ≡ count → IsAt (AtPrice t total plan []) bytes rest passed →
+abbrev pub WhenAtPrice : ℕ → List ℕ → ℕ → (List ℕ → (List (Option ℕ) → List ℕ → ℕ → Type 0) → Type 0) → Type 0
+WhenAtPrice count rest lines_read Then =
+    (bytes plan : List ℕ) (t : Table) (total : ℕ) → length t.places ≡ count → IsReadUpTo (AtPrice t total plan []) bytes rest lines_read →
     Then bytes (EndsCut bytes t total plan)
 
-abbrev pub OfClosed : ℕ → List ℕ → ℕ → (List ℕ → (List Bool → List ℕ → ℕ → Type 0) → Type 0) → Type 0
-OfClosed count rest passed Then =
-    (bytes : List ℕ) (t : Table) → length t.places ≡ count → IsAt (AtClosed t []) bytes rest passed →
+abbrev pub WhenAtClosed : ℕ → List ℕ → ℕ → (List ℕ → (List Bool → List ℕ → ℕ → Type 0) → Type 0) → Type 0
+WhenAtClosed count rest lines_read Then =
+    (bytes : List ℕ) (t : Table) → length t.places ≡ count → IsReadUpTo (AtClosed t []) bytes rest lines_read →
     Then bytes (EndsNone bytes t)

@@ -8,9 +8,9 @@ use Rattle.hls_check_laws.specs.declared.spot.Spot.{Spot}
 use Rattle.hls_check_laws.specs.declared.certificate.Claim.{Claim}
 use Rattle.hls_check_laws.specs.declared.certificate.Claim.TheVariants.{Cut, NoCut}
 use Rattle.hls_check_laws.specs.Tables.{Table}
-use Rattle.hls_check_laws.specs.Certificates.{Printed, Shown, CutShown, NoneShown}
-use Rattle.hls_text.specs.Lines.{joined}
-use Rattle.hls_text.specs.Numbers.{words, number_line}
+use Rattle.hls_check_laws.specs.Certificates.{CertificateData, ClaimData, CutClaim, NoneClaim}
+use Rattle.hls_text.specs.Lines.{text_of_lines}
+use Rattle.hls_text.specs.Numbers.{numbers_text, number_line}
 
 abbrev pub header_line : List ℕ
 header_line = codes "HLS-CUT-CERTIFICATE 1"
@@ -46,22 +46,22 @@ abbrev pub closed_line : ℕ → List ℕ
 closed_line p = number_line (codes "closed ") p
 
 abbrev pub plan_line : List ℕ → List ℕ
-plan_line plan = codes "plan " ++ words plan
+plan_line plan = codes "plan " ++ numbers_text plan
 
 -- a place and its price
-pub record Priced : Type 0 where
+pub record PricedPlace : Type 0 where
   pub place : ℕ
   pub price : ℕ
 
-abbrev pub priced : ℕ → ℕ → Priced
-priced place price = record { place = place; price = price }
+abbrev pub priced_place : ℕ → ℕ → PricedPlace
+priced_place place price = record { place = place; price = price }
 
-abbrev pub price_line : Priced → List ℕ
-price_line p = codes "price " ++ words (p.place ∷ p.price ∷ [])
+abbrev pub price_line : PricedPlace → List ℕ
+price_line p = codes "price " ++ numbers_text (p.place ∷ p.price ∷ [])
 
 -- a spot's numbers behind that of its fragment
-abbrev pub after_fragment : Spot → List ℕ
-after_fragment s = s.prev_end ∷ s.start ∷ s.run_in ∷ s.run_out ∷ []
+abbrev pub fields_after_fragment : Spot → List ℕ
+fields_after_fragment s = s.prev_end ∷ s.start ∷ s.run_in ∷ s.run_out ∷ []
 
 -- the numbers of a place's line, spot by spot
 unfoldable pub place_numbers : List Spot → List ℕ
@@ -70,19 +70,19 @@ place_numbers (s ∷ spots) =
     s.fragment ∷ s.prev_end ∷ s.start ∷ s.run_in ∷ s.run_out ∷ place_numbers spots
 
 abbrev pub place_line : List Spot → List ℕ
-place_line place = words (place_numbers place)
+place_line place = numbers_text (place_numbers place)
 
 -- the places that have a price, the first entry being place p
-unfoldable pub priced_from : ℕ → List (Option ℕ) → List Priced
-priced_from p [] = []
-priced_from p (None ∷ prices) = priced_from (p + 1) prices
-priced_from p (Some v ∷ prices) = record { place = p; price = v } ∷ priced_from (p + 1) prices
+unfoldable pub priced_places_from : ℕ → List (Option ℕ) → List PricedPlace
+priced_places_from p [] = []
+priced_places_from p (None ∷ prices) = priced_places_from (p + 1) prices
+priced_places_from p (Some v ∷ prices) = record { place = p; price = v } ∷ priced_places_from (p + 1) prices
 
 -- the places of a set, the first entry being place p
-unfoldable pub members_from : ℕ → List Bool → List ℕ
-members_from p [] = []
-members_from p (false ∷ closed) = members_from (p + 1) closed
-members_from p (true ∷ closed) = p ∷ members_from (p + 1) closed
+unfoldable pub closed_places_from : ℕ → List Bool → List ℕ
+closed_places_from p [] = []
+closed_places_from p (false ∷ closed) = closed_places_from (p + 1) closed
+closed_places_from p (true ∷ closed) = p ∷ closed_places_from (p + 1) closed
 
 -- the lines that tell the version, and with it the rule
 abbrev pub rule_lines : CostRule → List (List ℕ)
@@ -97,17 +97,17 @@ head_lines goal renditions count =
 unfoldable pub table_lines : Table → List (List ℕ)
 table_lines t = head_lines t.goal t.renditions (length t.places) ++ map place_line t.places
 
-unfoldable pub shown_lines : Shown → List (List ℕ)
-shown_lines (CutShown total plan prices) =
-    cut_line total ∷ plan_line plan ∷ (map price_line (priced_from 0 prices) ++ (end_line ∷ []))
-shown_lines (NoneShown closed) = none_line ∷ (map closed_line (members_from 0 closed) ++ (end_line ∷ []))
+unfoldable pub claim_lines : ClaimData → List (List ℕ)
+claim_lines (CutClaim total plan prices) =
+    cut_line total ∷ plan_line plan ∷ (map price_line (priced_places_from 0 prices) ++ (end_line ∷ []))
+claim_lines (NoneClaim closed) = none_line ∷ (map closed_line (closed_places_from 0 closed) ++ (end_line ∷ []))
 
-unfoldable pub lines : Printed → List (List ℕ)
-lines c = table_lines c.table ++ shown_lines c.shown
+unfoldable pub lines : CertificateData → List (List ℕ)
+lines c = table_lines c.table ++ claim_lines c.shown
 
 -- the certificate's text
-unfoldable pub text : Printed → List ℕ
-text c = joined (lines c)
+unfoldable pub text : CertificateData → List ℕ
+text c = text_of_lines (lines c)
 
 -- a claim that has lines: a plan isn't empty
 abbrev pub IsShowable : Claim → Type 0

@@ -1,16 +1,16 @@
 //! The one text of a certificate: what writes it, and what reads it back or names the first wrong line.
 #![tactic(auto)]
 
-mod head;
-pub mod laws;
+mod certificate_head;
 mod line;
-mod next;
+mod next_line;
 mod place;
 mod reader;
-mod scan;
-mod write_text;
+pub mod text_laws;
+mod writer;
 mod wrong_line;
+mod wrong_lines;
 
 pub use reader::read;
-pub use scan::first_wrong;
-pub use write_text::{push_claim, push_head, push_places, write};
+pub use writer::{push_claim, push_head, push_places, write};
+pub use wrong_lines::first_wrong_line;

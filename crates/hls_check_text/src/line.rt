@@ -4,7 +4,7 @@ ghost use Rattle.hls_check_laws.specs.Tables.{place_limit};
 ghost use Rattle.hls_check_text.specs.LineTexts.{HasNumber, HasNoNumber, HasNumbers, HasNoNumbers, AreBelow, HasPlan, HasPrice, HasClosed};
 ghost use Rattle.hls_check_text.specs.Stages.{IsPlanLine, IsPriceLine, IsClosedLine};
 
-use hls_text::{are_numbers_below, numbers_of, take_number, take_prefix};
+use hls_text::{are_numbers_below, parse_numbers, take_number, take_prefix};
 use std::alloc::{AllocError, Global};
 
 /// Whether a line is just this word.
@@ -15,7 +15,7 @@ pub fn is_word(line: &[u8], word: &[u8]) -> bool
 }
 
 /// The number of a line that is a word and one number; None where the line isn't that.
-pub fn number_in(line: &[u8], word: &[u8]) -> Option<u64>
+pub fn parse_number_line(line: &[u8], word: &[u8]) -> Option<u64>
     ensures { MatchOption result (HasNoNumber word.now line.now) (HasNumber word.now line.now) }
 {
     let Some(digits) = take_prefix(line, word) else {
@@ -28,7 +28,7 @@ pub fn number_in(line: &[u8], word: &[u8]) -> Option<u64>
 }
 
 // Place numbers, if each is below the count.
-fn places_below(
+fn check_places_below(
     alloc: Global,
     numbers: &[u64],
     count: usize,
@@ -46,17 +46,21 @@ fn places_below(
 }
 
 /// The plan's line; None where the line isn't one over that many places.
-pub fn plan_in(alloc: Global, line: &[u8], count: usize) -> Result<Option<Vec<usize>>, AllocError>
+pub fn parse_plan(
+    alloc: Global,
+    line: &[u8],
+    count: usize,
+) -> Result<Option<Vec<usize>>, AllocError>
     requires { count ≤ place_limit }
     ensures { IfOk result (λ plan. MatchOption plan (IsPlanLine count line.now → ⊥) (λ v. HasPlan count line.now v.items)) }
 {
     let Some(rest) = take_prefix(line, b"plan ") else {
         return Ok(None);
     };
-    let Some(numbers) = numbers_of(alloc, rest)? else {
+    let Some(numbers) = parse_numbers(alloc, rest)? else {
         return Ok(None);
     };
-    let plan = places_below(alloc, &numbers, count)?;
+    let plan = check_places_below(alloc, &numbers, count)?;
     match plan {
         Some(plan) => Ok(Some(plan)),
         None => Ok(None),
@@ -64,7 +68,7 @@ pub fn plan_in(alloc: Global, line: &[u8], count: usize) -> Result<Option<Vec<us
 }
 
 /// Whether a line is that of a plan over so many places. It takes no memory.
-pub fn is_plan(line: &[u8], count: usize) -> bool
+pub fn is_plan_line(line: &[u8], count: usize) -> bool
     requires { count ≤ place_limit }
     ensures { IsTrue result ↔ IsPlanLine count line.now }
 {
@@ -75,7 +79,7 @@ pub fn is_plan(line: &[u8], count: usize) -> bool
 }
 
 // The two numbers of a line that is a word and these.
-fn two_numbers_in(line: &[u8], word: &[u8]) -> Option<(u64, u64)>
+fn parse_two_numbers(line: &[u8], word: &[u8]) -> Option<(u64, u64)>
     ensures { MatchOption result (HasNoNumbers word.now line.now) (HasNumbers word.now line.now) }
 {
     let Some(numbers) = take_prefix(line, word) else {
@@ -87,18 +91,18 @@ fn two_numbers_in(line: &[u8], word: &[u8]) -> Option<(u64, u64)>
     let Some(rest) = take_prefix(space, b" ") else {
         return None;
     };
-    match number_in(rest, b"") {
+    match parse_number_line(rest, b"") {
         Some(second) => Some((first, second)),
         None => None,
     }
 }
 
 /// The line of a place's price, of a place from `low` on and below the count; None where the line isn't one.
-pub fn price_in(line: &[u8], low: usize, count: usize) -> Option<(usize, u64)>
+pub fn parse_price(line: &[u8], low: usize, count: usize) -> Option<(usize, u64)>
     requires { count ≤ place_limit }
     ensures { MatchOption result (IsPriceLine low count line.now → ⊥) (HasPrice low count line.now) }
 {
-    match two_numbers_in(line, b"price ") {
+    match parse_two_numbers(line, b"price ") {
         Some((place, price)) => {
             if place < low as u64 {
                 return None;
@@ -113,11 +117,11 @@ pub fn price_in(line: &[u8], low: usize, count: usize) -> Option<(usize, u64)>
 }
 
 /// The line of a place of the closed set, from `low` on and below the count; None where the line isn't one.
-pub fn closed_in(line: &[u8], low: usize, count: usize) -> Option<usize>
+pub fn parse_closed(line: &[u8], low: usize, count: usize) -> Option<usize>
     requires { count ≤ place_limit }
     ensures { MatchOption result (IsClosedLine low count line.now → ⊥) (HasClosed low count line.now) }
 {
-    match number_in(line, b"closed ") {
+    match parse_number_line(line, b"closed ") {
         Some(place) => {
             if place < low as u64 {
                 return None;

@@ -1,11 +1,11 @@
 //! A place's line, read number by number up to its end.
 ghost use Rattle.std.specs.Prelude.{ℕ, List, MatchOption, IfOk};
 ghost use Rattle.hls_check_laws.specs.declared.spot.Spot.{Spot};
-ghost use Rattle.hls_check_text.specs.Stages.{IsRenditions};
-ghost use Rattle.hls_check_text.specs.SpotTexts.{IsFirstSpot, IsNextSpot, HasPlace, HasNoPlace, PassesPlace, PassesNone};
+ghost use Rattle.hls_check_text.specs.Stages.{IsRenditionCount};
+ghost use Rattle.hls_check_text.specs.SpotTexts.{IsFirstSpot, IsNextSpot, HasPlace, HasNoPlace, SkipsPlace, SkipsNoPlace};
 
 use hls_check_laws::{Spot, Spots};
-use hls_text::{take_byte, take_number, take_spaced};
+use hls_text::{take_byte, take_number, take_space_and_number};
 use std::alloc::{AllocError, Global};
 
 // A place's first spot, and what follows its numbers.
@@ -16,16 +16,16 @@ fn take_spot(text: &[u8]) -> Option<(Spot, &[u8])>
     let Some((fragment, after_fragment)) = take_number(text) else {
         return None;
     };
-    let Some((prev_end, after_prev_end)) = take_spaced(after_fragment) else {
+    let Some((prev_end, after_prev_end)) = take_space_and_number(after_fragment) else {
         return None;
     };
-    let Some((start, after_start)) = take_spaced(after_prev_end) else {
+    let Some((start, after_start)) = take_space_and_number(after_prev_end) else {
         return None;
     };
-    let Some((run_in, after_run_in)) = take_spaced(after_start) else {
+    let Some((run_in, after_run_in)) = take_space_and_number(after_start) else {
         return None;
     };
-    let Some((run_out, rest)) = take_spaced(after_run_in) else {
+    let Some((run_out, rest)) = take_space_and_number(after_run_in) else {
         return None;
     };
     let spot = Spot {
@@ -59,15 +59,15 @@ pub fn take_place(
     text: &[u8],
     renditions: usize,
 ) -> Result<Option<(Spots, &[u8])>, AllocError>
-    requires { IsRenditions renditions }
+    requires { IsRenditionCount renditions }
     ensures { IfOk result (λ found. MatchOption found (HasNoPlace renditions text.entry.now) (λ f. HasPlace renditions text.entry.now f.0 f.1.now)) }
 {
-    let Some((first, behind)) = take_spot(text) else {
+    let Some((first, after_first)) = take_spot(text) else {
         return Ok(None);
     };
     let mut spots = Vec::with_capacity(alloc, renditions)?;
     spots.push(first)?;
-    let mut rest = behind;
+    let mut rest = after_first;
     for _r in 1..renditions {
         let Some((spot, after)) = take_next_spot(rest) else {
             return Ok(None);
@@ -84,13 +84,13 @@ pub fn take_place(
 /// What follows the line's end of the place that a text begins with, of five numbers a rendition; None where the text
 /// doesn't begin with such a line. It takes no memory.
 pub fn skip_place(text: &[u8], renditions: usize) -> Option<&[u8]>
-    requires { IsRenditions renditions }
-    ensures { MatchOption result (PassesNone renditions text.now) (λ after. PassesPlace renditions text.now after.now) }
+    requires { IsRenditionCount renditions }
+    ensures { MatchOption result (SkipsNoPlace renditions text.now) (λ after. SkipsPlace renditions text.now after.now) }
 {
-    let Some((_first, behind)) = take_spot(text) else {
+    let Some((_first, after_first)) = take_spot(text) else {
         return None;
     };
-    let mut rest = behind;
+    let mut rest = after_first;
     for _skipped in 1..renditions {
         let Some((_spot, after)) = take_next_spot(rest) else {
             return None;

@@ -1,30 +1,30 @@
 //! A certificate's text, line by line. Each part speaks of the whole text, of which it is passed what is left.
 ghost use Rattle.std.specs.Prelude.{◌≡◌, ◌+◌, ◌^◌, ◌<◌, ◌≤◌, ℕ, List, [], length, MatchResult, IfOk, All};
 ghost use Rattle.hls_check_laws.specs.Tables.{place_limit};
-ghost use Rattle.hls_check_laws.specs.Certificates.{Printed, IsCertificate, IsPriceInRange};
+ghost use Rattle.hls_check_laws.specs.Certificates.{CertificateData, IsCertificate, IsPriceInRange};
 ghost use Rattle.hls_check_text.specs.Text.{text};
-ghost use Rattle.hls_check_text.specs.Wrong.{IsReading, Gives};
-ghost use Rattle.hls_check_text.specs.Stages.{Builds, StopsBuilding, IsAt, AtClaim, AtPlan, AtClosed, IsHead};
-ghost use Rattle.hls_check_text.specs.Stages.{OfPlaces, OfPrices, OfClosed, HasPlaces};
+ghost use Rattle.hls_check_text.specs.WrongLines.{IsReadResult, IsCertificateOrMemory};
+ghost use Rattle.hls_check_text.specs.Stages.{Builds, StopsBuilding, IsReadUpTo, AtClaim, AtPlan, AtClosed, IsHead};
+ghost use Rattle.hls_check_text.specs.Stages.{WhenAtPlace, WhenAtPrice, WhenAtClosed, HasPlaces};
 
-use crate::head::{Head, read_head};
-use crate::line::{closed_in, is_word, number_in, price_in};
-use crate::next::{next_place, next_plan};
-use crate::scan::first_wrong;
-use hls_check_laws::{CertFault, Certificate, Claim, PrintedTable, Spots};
+use crate::certificate_head::{CertificateHead, read_head};
+use crate::line::{is_word, parse_closed, parse_number_line, parse_price};
+use crate::next_line::{next_place, next_plan};
+use crate::wrong_lines::first_wrong_line;
+use hls_check_laws::{CertFault, Certificate, CertificateTable, Claim, Spots};
 use hls_text::take_line;
 use std::alloc::Global;
 
 // The places' lines.
 fn read_places<'a>(
     alloc: Global,
-    head: Head,
+    head: CertificateHead,
     text: &'a [u8],
     first: usize,
 ) -> Result<(Vec<Spots>, &'a [u8]), CertFault>
     requires room { first + length text.now + 1 < 2 ^ 64 }
     requires head { IsHead head }
-    ensures at { OfPlaces head text.entry.now first (λ bytes. MatchResult result (λ f. HasPlaces head bytes first f.0.items f.1.now) (StopsBuilding bytes)) }
+    ensures at { WhenAtPlace head text.entry.now first (λ bytes. MatchResult result (λ f. HasPlaces head bytes first f.0.items f.1.now) (StopsBuilding bytes)) }
     ensures shorter { IfOk result (λ f. head.count + length f.1.now ≤ length text.entry.now) }
 {
     let mut places = Vec::new(alloc);
@@ -46,28 +46,32 @@ fn read_prices<'a>(
 ) -> Result<(Vec<Option<u64>>, &'a [u8], usize), CertFault>
     requires room { first + length text.now + 1 < 2 ^ 64 }
     requires count { count ≤ place_limit }
-    ensures at { OfPrices count text.entry.now first (λ bytes Ends. MatchResult result (λ f. Ends f.0.items f.1.now f.2) (StopsBuilding bytes)) }
+    ensures at { WhenAtPrice count text.entry.now first (λ bytes Ends. MatchResult result (λ f. Ends f.0.items f.1.now f.2) (StopsBuilding bytes)) }
     ensures shorter { IfOk result (λ f. f.2 + length f.1.now ≤ first + length text.entry.now) }
     ensures form { IfOk result (λ f. (length f.0.items ≡ count) × All IsPriceInRange f.0.items) }
 {
     let mut prices = Vec::new(alloc);
     let mut rest = text;
-    let mut passed = first;
+    let mut lines_read = first;
     loop {
         let Some((line, after)) = take_line(rest) else {
-            return Err(CertFault::Form { line: passed + 1 });
+            return Err(CertFault::Form {
+                line: lines_read + 1,
+            });
         };
         if is_word(line, b"end") {
             prices.resize(count, None)?;
-            return Ok((prices, after, passed + 1));
+            return Ok((prices, after, lines_read + 1));
         }
-        let Some((place, price)) = price_in(line, prices.len(), count) else {
-            return Err(CertFault::Form { line: passed + 1 });
+        let Some((place, price)) = parse_price(line, prices.len(), count) else {
+            return Err(CertFault::Form {
+                line: lines_read + 1,
+            });
         };
         prices.resize(place, None)?;
         prices.push(Some(price))?;
         rest = after;
-        passed += 1;
+        lines_read += 1;
     }
 }
 
@@ -80,45 +84,49 @@ fn read_closed<'a>(
 ) -> Result<(Vec<bool>, &'a [u8], usize), CertFault>
     requires room { first + length text.now + 1 < 2 ^ 64 }
     requires count { count ≤ place_limit }
-    ensures at { OfClosed count text.entry.now first (λ bytes Ends. MatchResult result (λ f. Ends f.0.items f.1.now f.2) (StopsBuilding bytes)) }
+    ensures at { WhenAtClosed count text.entry.now first (λ bytes Ends. MatchResult result (λ f. Ends f.0.items f.1.now f.2) (StopsBuilding bytes)) }
     ensures shorter { IfOk result (λ f. f.2 + length f.1.now ≤ first + length text.entry.now) }
     ensures form { IfOk result (λ f. length f.0.items ≡ count) }
 {
     let mut closed = Vec::new(alloc);
     let mut rest = text;
-    let mut passed = first;
+    let mut lines_read = first;
     loop {
         let Some((line, after)) = take_line(rest) else {
-            return Err(CertFault::Form { line: passed + 1 });
+            return Err(CertFault::Form {
+                line: lines_read + 1,
+            });
         };
         if is_word(line, b"end") {
             closed.resize(count, false)?;
-            return Ok((closed, after, passed + 1));
+            return Ok((closed, after, lines_read + 1));
         }
-        let Some(place) = closed_in(line, closed.len(), count) else {
-            return Err(CertFault::Form { line: passed + 1 });
+        let Some(place) = parse_closed(line, closed.len(), count) else {
+            return Err(CertFault::Form {
+                line: lines_read + 1,
+            });
         };
         closed.resize(place, false)?;
         closed.push(true)?;
         rest = after;
-        passed += 1;
+        lines_read += 1;
     }
 }
 
 // A cut's plan and prices, and nothing behind them.
 fn read_cut(
     alloc: Global,
-    table: PrintedTable,
+    table: CertificateTable,
     cost: u64,
     text: &[u8],
-    passed: usize,
+    lines_read: usize,
 ) -> Result<Certificate, CertFault>
     requires cost { cost < 2 ^ 53 }
-    requires room { passed + length text.now + 1 < 2 ^ 64 }
-    ensures { (bytes : List ℕ) → IsAt (AtPlan table cost) bytes text.now passed → Builds bytes result }
+    requires room { lines_read + length text.now + 1 < 2 ^ 64 }
+    ensures { (bytes : List ℕ) → IsReadUpTo (AtPlan table cost) bytes text.now lines_read → Builds bytes result }
 {
-    let (plan, after_plan) = next_plan(alloc, text, passed, table.len())?;
-    let (prices, rest, read) = read_prices(alloc, table.len(), after_plan, passed + 1)?;
+    let (plan, after_plan) = next_plan(alloc, text, lines_read, table.len())?;
+    let (prices, rest, read) = read_prices(alloc, table.len(), after_plan, lines_read + 1)?;
     if !rest.is_empty() {
         return Err(CertFault::Form { line: read + 1 });
     }
@@ -128,14 +136,14 @@ fn read_cut(
 // A closed set, and nothing behind it.
 fn read_none(
     alloc: Global,
-    table: PrintedTable,
+    table: CertificateTable,
     text: &[u8],
-    passed: usize,
+    lines_read: usize,
 ) -> Result<Certificate, CertFault>
-    requires { passed + length text.now + 1 < 2 ^ 64 }
-    ensures { (bytes : List ℕ) → IsAt (AtClosed table []) bytes text.now passed → Builds bytes result }
+    requires { lines_read + length text.now + 1 < 2 ^ 64 }
+    ensures { (bytes : List ℕ) → IsReadUpTo (AtClosed table []) bytes text.now lines_read → Builds bytes result }
 {
-    let (closed, rest, read) = read_closed(alloc, table.len(), text, passed)?;
+    let (closed, rest, read) = read_closed(alloc, table.len(), text, lines_read)?;
     if !rest.is_empty() {
         return Err(CertFault::Form { line: read + 1 });
     }
@@ -145,33 +153,37 @@ fn read_none(
 // The claim of a table that was read, and nothing behind it.
 fn read_claim(
     alloc: Global,
-    table: PrintedTable,
+    table: CertificateTable,
     text: &[u8],
-    passed: usize,
+    lines_read: usize,
 ) -> Result<Certificate, CertFault>
-    requires { passed + length text.now + 1 < 2 ^ 64 }
-    ensures { (bytes : List ℕ) → IsAt (AtClaim table) bytes text.now passed → Builds bytes result }
+    requires { lines_read + length text.now + 1 < 2 ^ 64 }
+    ensures { (bytes : List ℕ) → IsReadUpTo (AtClaim table) bytes text.now lines_read → Builds bytes result }
 {
     let Some((line, after)) = take_line(text) else {
-        return Err(CertFault::Form { line: passed + 1 });
+        return Err(CertFault::Form {
+            line: lines_read + 1,
+        });
     };
     if is_word(line, b"none") {
-        return read_none(alloc, table, after, passed + 1);
+        return read_none(alloc, table, after, lines_read + 1);
     }
-    let Some(cost) = number_in(line, b"cut ") else {
-        return Err(CertFault::Form { line: passed + 1 });
+    let Some(cost) = parse_number_line(line, b"cut ") else {
+        return Err(CertFault::Form {
+            line: lines_read + 1,
+        });
     };
-    read_cut(alloc, table, cost, after, passed + 1)
+    read_cut(alloc, table, cost, after, lines_read + 1)
 }
 
 // The certificate whose text this is.
-fn build(alloc: Global, bytes: &[u8]) -> Result<Certificate, CertFault>
+fn read_certificate(alloc: Global, bytes: &[u8]) -> Result<Certificate, CertFault>
     ensures { Builds bytes.now result }
 {
-    let (head, after_head, passed) = read_head(bytes)?;
-    let (places, rest) = read_places(alloc, head, after_head, passed)?;
-    let table = PrintedTable::new(head.goal, head.renditions, places);
-    read_claim(alloc, table, rest, passed + head.count)
+    let (head, after_head, lines_read) = read_head(bytes)?;
+    let (places, rest) = read_places(alloc, head, after_head, lines_read)?;
+    let table = CertificateTable::new(head.goal, head.renditions, places);
+    read_claim(alloc, table, rest, lines_read + head.count)
 }
 
 /// The certificate whose text this is.
@@ -181,11 +193,11 @@ fn build(alloc: Global, bytes: &[u8]) -> Result<Certificate, CertFault>
 /// line without its line feed as a wrong line. `Memory` where a growth was refused, for a certificate's text alone: no
 /// memory is taken before the whole text was looked at.
 pub fn read(alloc: Global, bytes: &[u8]) -> Result<Certificate, CertFault>
-    ensures answer { IsReading bytes.now result }
-    ensures only { (c : Printed) → IsCertificate c → bytes.now ≡ text c → Gives c result }
+    ensures answer { IsReadResult bytes.now result }
+    ensures only { (c : CertificateData) → IsCertificate c → bytes.now ≡ text c → IsCertificateOrMemory c result }
 {
-    if let Some(line) = first_wrong(bytes) {
+    if let Some(line) = first_wrong_line(bytes) {
         return Err(CertFault::Form { line });
     }
-    build(alloc, bytes)
+    read_certificate(alloc, bytes)
 }

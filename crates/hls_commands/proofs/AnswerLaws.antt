@@ -4,21 +4,21 @@ use Rattle.std.specs.Global.{Global}
 use Rattle.hls_check_laws.specs.declared.cert_fault.CertFault.{CertFault}
 use Rattle.hls_check_laws.specs.declared.cert_fault.CertFault.TheVariants.{Form, Memory}
 use Rattle.hls_check_laws.specs.declared.verdict.Verdict.{Verdict}
-use Rattle.hls_check_laws.specs.Certificates.{Printed, Shown, CutShown, NoneShown, IsCertificate}
+use Rattle.hls_check_laws.specs.Certificates.{CertificateData, ClaimData, CutClaim, NoneClaim, IsCertificate}
 use Rattle.hls_check_laws.specs.Tables.{Table}
-use Rattle.hls_check.specs.Answers.{AnswerOver, IsAnswer}
+use Rattle.hls_check.specs.CheckResults.{CheckResultOver, IsCheckResult}
 use Rattle.hls_check.proofs.OneAnswer as answers
 use Rattle.hls_check_text.specs.Text.{text}
 use Rattle.hls_check_text.proofs.Wrongs.{text_is_told, wrong_is_one}
 use Rattle.hls_io.specs.Writing.{Writes}
-use Rattle.hls_commands.specs.declared.reading.Unread.{Unread}
+use Rattle.hls_commands.specs.declared.read_input.ReadFault.{ReadFault}
 use Rattle.hls_commands.specs.declared.check.run.CheckEnd.{CheckEnd}
 use Rattle.hls_commands.specs.declared.check.run.CheckEnd.TheVariants.{Yes, Refused, ReadFailed, WriteFailed}
-use Rattle.hls_commands.specs.Beginning.{IsBeginning}
-use Rattle.hls_commands.specs.CheckAnswer.{AnswerOf, printed}
-use Rattle.hls_commands.specs.CheckRun.{Answers, AnswersStream, CountsFailures, Runs}
-use Rattle.hls_commands.specs.CheckParts.{AnswersText, CountsPrinting, Prints, PrintsAnswer, TellsAnswer}
-use Rattle.hls_commands.specs.Reads.{Reads}
+use Rattle.hls_commands.specs.Prefix.{IsPrefix}
+use Rattle.hls_commands.specs.CheckAnswer.{AnswerOf, check_line}
+use Rattle.hls_commands.specs.CheckRun.{AnswersCheck, AnswersStream, CountsFailures, RunsCheck}
+use Rattle.hls_commands.specs.CheckParts.{AnswersText, CountsPrinting, Prints, PrintsAnswer, ReportsAnswer}
+use Rattle.hls_commands.specs.ReadInput.{Reads}
 
 -- ---- what is answered
 
@@ -27,36 +27,36 @@ answers_whole stream (Ok verdict) h = (refl, h)
 answers_whole stream (Err Memory) h = tt
 answers_whole stream (Err f) h = (refl, h)
 
-pub tells_answer : (stream bytes : List ℕ) (text : Vec ℕ Global) (left : Option (List ℕ)) (answer : Result Verdict CertFault) → Reads None stream left (Ok text) → bytes ≡ text.items → AnswersText bytes answer → TellsAnswer stream left (Some answer)
+pub tells_answer : (stream bytes : List ℕ) (text : Vec ℕ Global) (left : Option (List ℕ)) (answer : Result Verdict CertFault) → Reads None stream left (Ok text) → bytes ≡ text.items → AnswersText bytes answer → ReportsAnswer stream left (Some answer)
 tells_answer stream bytes text left answer h same answers =
-    let whole : stream ≡ bytes = h.split ∙ ap (λ xs. h.taken ++ xs) h.comes.0 ∙ append-nil h.taken ∙ sym h.comes.1 ∙ sym same in
+    let whole : stream ≡ bytes = h.split ∙ ap (λ xs. h.taken ++ xs) h.yields.0 ∙ append-nil h.taken ∙ sym h.yields.1 ∙ sym same in
     record {
       taken = stream;
       rest = [];
-      left_is = h.left_is ∙ ap Some h.comes.0;
+      left_is = h.left_is ∙ ap Some h.yields.0;
       split = sym (append-nil stream);
-      tells = answers_whole stream answer (subst (λ (xs : List ℕ). AnswersText xs answer) (sym whole) answers);
+      reports = answers_whole stream answer (subst (λ (xs : List ℕ). AnswersText xs answer) (sym whole) answers);
     }
 
-pub tells_failed : (stream : List ℕ) (left : Option (List ℕ)) (f : Unread) → Reads None stream left (Err f) → TellsAnswer stream left None
-tells_failed stream left f h = record { taken = h.taken; rest = h.rest; left_is = h.left_is; split = h.split; tells = tt }
+pub tells_failed : (stream : List ℕ) (left : Option (List ℕ)) (f : ReadFault) → Reads None stream left (Err f) → ReportsAnswer stream left None
+tells_failed stream left f h = record { taken = h.taken; rest = h.rest; left_is = h.left_is; split = h.split; reports = tt }
 
-pub tells_memory : (stream : List ℕ) (left : Option (List ℕ)) (f : Unread) → Reads None stream left (Err f) → TellsAnswer stream left (Some (Err Memory))
-tells_memory stream left f h = record { taken = h.taken; rest = h.rest; left_is = h.left_is; split = h.split; tells = tt }
+pub tells_memory : (stream : List ℕ) (left : Option (List ℕ)) (f : ReadFault) → Reads None stream left (Err f) → ReportsAnswer stream left (Some (Err Memory))
+tells_memory stream left f h = record { taken = h.taken; rest = h.rest; left_is = h.left_is; split = h.split; reports = tt }
 
 -- ---- what is written
 
-pub prints_yes : (answer : Result Verdict CertFault) (verdict : Verdict) (held line : List ℕ) (contents : Option (List ℕ)) → answer ≡ Ok verdict → line ≡ printed answer → Writes held line contents true → PrintsAnswer answer held contents Yes
+pub prints_yes : (answer : Result Verdict CertFault) (verdict : Verdict) (held line : List ℕ) (contents : Option (List ℕ)) → answer ≡ Ok verdict → line ≡ check_line answer → Writes held line contents true → PrintsAnswer answer held contents Yes
 prints_yes (Ok v) verdict held line contents is line_is h =
     record { text = h.written; contents_are = h.contents_are; prints = sym (append-nil h.written) ∙ ap (λ xs. h.written ++ xs) (sym (h.whole refl)) ∙ sym h.split ∙ line_is }
 prints_yes (Err f) verdict held line contents is line_is h = cc
 
-pub prints_refused : (answer : Result Verdict CertFault) (fault : CertFault) (held line : List ℕ) (contents : Option (List ℕ)) → answer ≡ Err fault → line ≡ printed answer → Writes held line contents true → PrintsAnswer answer held contents Refused
+pub prints_refused : (answer : Result Verdict CertFault) (fault : CertFault) (held line : List ℕ) (contents : Option (List ℕ)) → answer ≡ Err fault → line ≡ check_line answer → Writes held line contents true → PrintsAnswer answer held contents Refused
 prints_refused (Ok v) fault held line contents is line_is h = cc
 prints_refused (Err f) fault held line contents is line_is h =
     record { text = h.written; contents_are = h.contents_are; prints = sym (append-nil h.written) ∙ ap (λ xs. h.written ++ xs) (sym (h.whole refl)) ∙ sym h.split ∙ line_is }
 
-pub prints_beginning : (answer : Result Verdict CertFault) (held line : List ℕ) (contents : Option (List ℕ)) → line ≡ printed answer → Writes held line contents false → PrintsAnswer answer held contents (WriteFailed answer)
+pub prints_beginning : (answer : Result Verdict CertFault) (held line : List ℕ) (contents : Option (List ℕ)) → line ≡ check_line answer → Writes held line contents false → PrintsAnswer answer held contents (WriteFailed answer)
 prints_beginning (Ok v) held line contents line_is h =
     record { text = h.written; contents_are = h.contents_are; prints = (refl, record { missing = h.left; is = sym line_is ∙ h.split }) }
 prints_beginning (Err f) held line contents line_is h =
@@ -65,41 +65,41 @@ prints_beginning (Err f) held line contents line_is h =
 -- ---- both together
 
 -- the answer that a failed write tells
-whose : (stream rest text : List ℕ) (answer told : Result Verdict CertFault) → AnswersStream stream rest answer → told ≡ answer →
-    IsBeginning text (printed answer) → Answers stream rest text (WriteFailed told)
-whose stream rest text answer told answers is beginning =
-    subst (λ (a : Result Verdict CertFault). AnswersStream stream rest a × IsBeginning text (printed a)) (sym is) (answers, beginning)
+whose : (stream rest text : List ℕ) (answer reported : Result Verdict CertFault) → AnswersStream stream rest answer → reported ≡ answer →
+    IsPrefix text (check_line answer) → AnswersCheck stream rest text (WriteFailed reported)
+whose stream rest text answer reported answers is beginning =
+    subst (λ (a : Result Verdict CertFault). AnswersStream stream rest a × IsPrefix text (check_line a)) (sym is) (answers, beginning)
 
-answers_printed : (stream rest text : List ℕ) (answer : Result Verdict CertFault) (end : CheckEnd) → AnswersStream stream rest answer → Prints answer text end → Answers stream rest text end
+answers_printed : (stream rest text : List ℕ) (answer : Result Verdict CertFault) (end : CheckEnd) → AnswersStream stream rest answer → Prints answer text end → AnswersCheck stream rest text end
 answers_printed stream rest text (Ok v) Yes answers prints = (v, answers, prints)
 answers_printed stream rest text (Err f) Yes answers prints = absurd prints
 answers_printed stream rest text (Ok v) Refused answers prints = absurd prints
 answers_printed stream rest text (Err f) Refused answers prints = (f, answers, prints)
 answers_printed stream rest text (Ok v) ReadFailed answers prints = absurd prints
 answers_printed stream rest text (Err f) ReadFailed answers prints = absurd prints
-answers_printed stream rest text (Ok v) (WriteFailed told) answers prints = whose stream rest text (Ok v) told answers prints.0 prints.1
-answers_printed stream rest text (Err f) (WriteFailed told) answers prints = whose stream rest text (Err f) told answers prints.0 prints.1
+answers_printed stream rest text (Ok v) (WriteFailed reported) answers prints = whose stream rest text (Ok v) reported answers prints.0 prints.1
+answers_printed stream rest text (Err f) (WriteFailed reported) answers prints = whose stream rest text (Err f) reported answers prints.0 prints.1
 
-pub runs_printed : (stream held : List ℕ) (left contents : Option (List ℕ)) (answer : Result Verdict CertFault) (end : CheckEnd) → TellsAnswer stream left (Some answer) → PrintsAnswer answer held contents end → Runs stream held left contents end
+pub runs_printed : (stream held : List ℕ) (left contents : Option (List ℕ)) (answer : Result Verdict CertFault) (end : CheckEnd) → ReportsAnswer stream left (Some answer) → PrintsAnswer answer held contents end → RunsCheck stream held left contents end
 runs_printed stream held left contents answer end h prints =
-    record { taken = h.taken; rest = h.rest; text = prints.text; left_is = h.left_is; split = h.split; contents_are = prints.contents_are; answers = answers_printed stream h.rest prints.text answer end h.tells prints.prints }
+    record { taken = h.taken; rest = h.rest; text = prints.text; left_is = h.left_is; split = h.split; contents_are = prints.contents_are; answers = answers_printed stream h.rest prints.text answer end h.reports prints.prints }
 
-pub runs_unread : (stream held : List ℕ) (left contents : Option (List ℕ)) → TellsAnswer stream left None → contents ≡ Some held → Runs stream held left contents ReadFailed
+pub runs_unread : (stream held : List ℕ) (left contents : Option (List ℕ)) → ReportsAnswer stream left None → contents ≡ Some held → RunsCheck stream held left contents ReadFailed
 runs_unread stream held left contents h same =
     record { taken = h.taken; rest = h.rest; text = []; left_is = h.left_is; split = h.split; contents_are = same ∙ ap Some (sym (append-nil held)); answers = refl }
 
 pub counts_printed : (end : CheckEnd) (read_old read_new write_old write_new : ℕ) → read_new ≡ read_old → CountsPrinting end write_old write_new → CountsFailures end read_old read_new write_old write_new
 counts_printed Yes read_old read_new write_old write_new quiet counts = (quiet, counts)
 counts_printed Refused read_old read_new write_old write_new quiet counts = (quiet, counts)
-counts_printed (WriteFailed told) read_old read_new write_old write_new quiet counts = (quiet, counts)
+counts_printed (WriteFailed reported) read_old read_new write_old write_new quiet counts = (quiet, counts)
 counts_printed ReadFailed read_old read_new write_old write_new quiet counts = absurd counts
 
 -- ---- a text has one answer, and want of memory is none
 
-same_certificate : (c d : Printed) (bytes : List ℕ) (one other : Result Verdict CertFault) → IsCertificate c → IsCertificate d → bytes ≡ text c → bytes ≡ text d → IsAnswer c one → IsAnswer d other → one ≡ other
+same_certificate : (c d : CertificateData) (bytes : List ℕ) (one other : Result Verdict CertFault) → IsCertificate c → IsCertificate d → bytes ≡ text c → bytes ≡ text d → IsCheckResult c one → IsCheckResult d other → one ≡ other
 same_certificate c d bytes one other of_c of_d is_c is_d answers_c answers_d =
     let same : c ≡ d = text_is_told c d of_c of_d (sym is_c ∙ is_d) in
-    answers.one_answer c one other of_c answers_c (subst (λ (p : Printed). IsAnswer p other) (sym same) answers_d)
+    answers.one_answer c one other of_c answers_c (subst (λ (p : CertificateData). IsCheckResult p other) (sym same) answers_d)
 
 -- a text has at most one answer
 pub one_answer : (bytes : List ℕ) (one other : Result Verdict CertFault) → AnswerOf bytes one → AnswerOf bytes other → one ≡ other
@@ -108,9 +108,9 @@ one_answer bytes one other (inl c) (inr n) = absurd (n.first_wrong.no_text c.cer
 one_answer bytes one other (inr m) (inl d) = absurd (m.first_wrong.no_text d.certificate d.is_certificate d.text_is)
 one_answer bytes one other (inr m) (inr n) = m.answer_is ∙ ap (λ line. Err (Form line)) (wrong_is_one bytes m.line n.line m.first_wrong n.first_wrong) ∙ sym n.answer_is
 
-no_memory_over : (t : Table) (shown : Shown) → AnswerOver t shown (Err Memory) → ⊥
-no_memory_over t (CutShown total plan prices) h = h
-no_memory_over t (NoneShown closed) h = h
+no_memory_over : (t : Table) (shown : ClaimData) → CheckResultOver t shown (Err Memory) → ⊥
+no_memory_over t (CutClaim total plan prices) h = h
+no_memory_over t (NoneClaim closed) h = h
 
 -- want of memory is no text's answer
 pub no_memory : (bytes : List ℕ) → AnswerOf bytes (Err Memory) → ⊥

@@ -1,33 +1,33 @@
 -- A stream that has ended had an init section.
 use Rattle.std.proofs.Common.{◌≡◌, ◌∙◌, ℕ, Option, Some, None, Result, Ok, Bool, IsSome, length, slice_get, refl, ap, subst, rules}
 use Rattle.hls_media_laws.specs.InitData.{InitData}
-use Rattle.hls_record.specs.Recorded.{Recorded}
+use Rattle.hls_record.specs.RecordingData.{RecordingData}
 use Rattle.hls_core_laws.specs.declared.event.Event.TheVariants.{Finish}
-use Rattle.hls_core_laws.specs.declared.event.Logged.TheVariants.{Finished}
+use Rattle.hls_core_laws.specs.declared.event.LoggedEvent.TheVariants.{Finished}
 use Rattle.hls_core_laws.specs.Channel.{Channel, Lane}
-use Rattle.hls_core_laws.specs.State.{Held, State, channel}
-use Rattle.hls_core_laws.specs.Outcome.{Outcome, New, Repeated, Refused, finish, finish_begun, held, outcome_of}
-use Rattle.hls_core_laws.specs.Moves.{advanced}
+use Rattle.hls_core_laws.specs.State.{HeldBytes, State, channel}
+use Rattle.hls_core_laws.specs.Outcome.{Outcome, New, Repeated, Refused, finish, finish_with_init, held_bytes, outcome_of}
+use Rattle.hls_core_laws.specs.Moves.{state_with_entry}
 use Rattle.hls_core_laws.proofs.Callers.{may_add, channel_advanced, Finishes, finishes, lane_after}
-use Rattle.hls_core.specs.Reads.{recorded_at, recorded_from, recording_of}
-use Rattle.hls_origin_listing.specs.declared.fault.ListFault.{ListFault}
-use Rattle.hls_origin_listing.specs.declared.forms.Listed.{Listed}
-use Rattle.hls_origin_listing.specs.Lists.{IsSingle, Lists}
-use Rattle.hls_commands.specs.Channel.{listing_of}
-use Rattle.hls_settings.specs.Options.{Choice}
-use Rattle.hls_commands.specs.Recorded.{ended, moved_to}
-use Rattle.hls_commands.specs.Run.{IsListing}
+use Rattle.hls_core.specs.Getters.{recorded_at, recorded_from, recording_of}
+use Rattle.hls_origin_listing.specs.declared.listing_fault.ListingFault.{ListingFault}
+use Rattle.hls_origin_listing.specs.declared.listing_mode.ListingOutput.{ListingOutput}
+use Rattle.hls_origin_listing.specs.Listings.{IsSingle, Lists}
+use Rattle.hls_commands.specs.Channel.{listing_mode_of}
+use Rattle.hls_settings.specs.Options.{CutOptionsData}
+use Rattle.hls_commands.specs.RecordedState.{state_at_end, state_by_outcome}
+use Rattle.hls_commands.specs.CutRun.{IsListing}
 
 -- the recording of a rendition that has begun
 pub record IsBegun (s : State) : Type 0 where
-  pub recorded : Recorded
+  pub recorded : RecordingData
   pub is : recording_of s 0 ≡ Some recorded
 
-recorded_init : (i : Option InitData) (l : Lane) (h : Held) (init : InitData) → i ≡ Some init → (r : Recorded) × (recorded_from i l h ≡ Some r)
+recorded_init : (i : Option InitData) (l : Lane) (h : HeldBytes) (init : InitData) → i ≡ Some init → (r : RecordingData) × (recorded_from i l h ≡ Some r)
 recorded_init None l h init is = cc
 recorded_init (Some j) l h init is = (record { init = j; head = h.head; facts = l.facts; floor = l.floor; units = h.units }, refl)
 
-begun_lane : (o : Option Lane) (h : Held) (l : Lane) (init : InitData) → o ≡ Some l → l.init ≡ Some init → (r : Recorded) × (recorded_at o h ≡ Some r)
+begun_lane : (o : Option Lane) (h : HeldBytes) (l : Lane) (init : InitData) → o ≡ Some l → l.init ≡ Some init → (r : RecordingData) × (recorded_at o h ≡ Some r)
 begun_lane None h l init is begun = cc
 begun_lane (Some k) h l init is begun =
     let same : k ≡ l = cc in
@@ -35,17 +35,17 @@ begun_lane (Some k) h l init is begun =
 
 begun_at : (s : State) (l : Lane) (init : InitData) → slice_get (channel s).lanes 0 ≡ Some l → l.init ≡ Some init → IsBegun s
 begun_at s l init is begun =
-    let found = begun_lane (slice_get (channel s).lanes 0) (held s 0) l init is begun in
+    let found = begun_lane (slice_get (channel s).lanes 0) (held_bytes s 0) l init is begun in
     record { recorded = found.0; is = found.1 }
 
-begun_new : (s : State) → outcome_of s (Finish 0) ≡ New → IsBegun (advanced s 0 (Finish 0))
+begun_new : (s : State) → outcome_of s (Finish 0) ≡ New → IsBegun (state_with_entry s 0 (Finish 0))
 begun_new s is =
     let cause : Finishes (slice_get (channel s).lanes 0) (length s.log) = finishes (slice_get (channel s).lanes 0) (length s.log) is in
     let grown = lane_after s.config (channel s) (Finished 0) (may_add s (Finish 0) tt is) 0 cause.lane cause.at in
-    begun_at (advanced s 0 (Finish 0)) grown.lane cause.init
+    begun_at (state_with_entry s 0 (Finish 0)) grown.lane cause.init
     (ap (λ (ch : Channel). slice_get ch.lanes 0) (channel_advanced s 0 (Finish 0)) ∙ grown.at) (grown.grows.init cause.init cause.begun).0
 
-again_init : (i : Option InitData) (finished : Bool) (entries : ℕ) → finish_begun i finished entries ≡ Repeated → (init : InitData) × (i ≡ Some init)
+again_init : (i : Option InitData) (finished : Bool) (entries : ℕ) → finish_with_init i finished entries ≡ Repeated → (init : InitData) × (i ≡ Some init)
 again_init None finished entries is = cc
 again_init (Some j) finished entries is = (j, refl)
 
@@ -58,25 +58,25 @@ begun_again s is =
     let found = again_lane (slice_get (channel s).lanes 0) (length s.log) is in
     begun_at s found.0 found.1 found.2 found.3
 
-begun_by : (s new : State) (outcome : Outcome) → outcome_of s (Finish 0) ≡ outcome → moved_to outcome (advanced s 0 (Finish 0)) s ≡ Ok new → IsBegun new
+begun_by : (s new : State) (outcome : Outcome) → outcome_of s (Finish 0) ≡ outcome → state_by_outcome outcome (state_with_entry s 0 (Finish 0)) s ≡ Ok new → IsBegun new
 begun_by s new New is then =
-    let same : advanced s 0 (Finish 0) ≡ new = cc in
+    let same : state_with_entry s 0 (Finish 0) ≡ new = cc in
     subst IsBegun same (begun_new s is)
 begun_by s new Repeated is then =
     let same : s ≡ new = cc in
     subst IsBegun same (begun_again s is)
 begun_by s new (Refused r) is then = cc
 
-pub ended_is_begun : (s new : State) → ended s ≡ Ok new → IsBegun new
-unfolding ended
+pub ended_is_begun : (s new : State) → state_at_end s ≡ Ok new → IsBegun new
+unfolding state_at_end
 ended_is_begun s new is = begun_by s new (outcome_of s (Finish 0)) refl is
 
 some_is : {A : Type 0} (o : Option A) (a : A) → o ≡ Some a → IsSome o
 some_is None a is = cc
 some_is (Some b) a is = search rules
 
-pub ended_is_single : (s new : State) → length new.config.renditions ≡ 1 → ended s ≡ Ok new → IsSingle new
+pub ended_is_single : (s new : State) → length new.config.renditions ≡ 1 → state_at_end s ≡ Ok new → IsSingle new
 ended_is_single s new one is = let begun = ended_is_begun s new is in record { one = one; begun = some_is (recording_of new 0) begun.recorded begun.is }
 
-pub ended_is_listed : (choice : Choice) (s new : State) (result : Result Listed ListFault) → ended s ≡ Ok new → Lists new choice.uri (listing_of choice) result → IsListing choice new result
+pub ended_is_listed : (choice : CutOptionsData) (s new : State) (result : Result ListingOutput ListingFault) → state_at_end s ≡ Ok new → Lists new choice.uri (listing_mode_of choice) result → IsListing choice new result
 ended_is_listed choice s new result is lists = let begun = ended_is_begun s new is in record { recording = begun.recorded; begun = begun.is; lists = lists begun.recorded begun.is }

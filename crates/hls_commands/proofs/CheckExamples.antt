@@ -3,49 +3,49 @@ use Rattle.std.proofs.Common.{◌≡◌, Ok, Err, codes, refl}
 use Rattle.std.specs.Fmt.{digits}
 use Rattle.hls_check_laws.specs.declared.cert_fault.CertFault.TheVariants.{Form, TableNotSorted, PlanEnds, PlanStep, PlanCost, PriceStart, PriceStep, EndReached, Memory}
 use Rattle.hls_check_laws.specs.declared.verdict.Verdict.TheVariants.{Cut, NoCut}
-use Rattle.hls_text.specs.Numbers.{spaced}
-use Rattle.hls_commands.specs.CheckAnswer.{printed}
+use Rattle.hls_text.specs.Numbers.{spaced_numbers}
+use Rattle.hls_commands.specs.CheckAnswer.{check_line}
 
-cut : printed (Ok (Cut 1000000)) ≡ codes "cut 1000000\n"
-unfolding spaced digits
+cut : check_line (Ok (Cut 1000000)) ≡ codes "cut 1000000\n"
+unfolding spaced_numbers digits
 cut = refl
 
-no_cut : printed (Ok NoCut) ≡ codes "none\n"
-unfolding spaced digits
+no_cut : check_line (Ok NoCut) ≡ codes "none\n"
+unfolding spaced_numbers digits
 no_cut = refl
 
-form : printed (Err (Form 18)) ≡ codes "refused Form 18\n"
-unfolding spaced digits
+form : check_line (Err (Form 18)) ≡ codes "refused Form 18\n"
+unfolding spaced_numbers digits
 form = refl
 
-not_sorted : printed (Err (TableNotSorted 1)) ≡ codes "refused TableNotSorted 1\n"
-unfolding spaced digits
+not_sorted : check_line (Err (TableNotSorted 1)) ≡ codes "refused TableNotSorted 1\n"
+unfolding spaced_numbers digits
 not_sorted = refl
 
-plan_ends : printed (Err PlanEnds) ≡ codes "refused PlanEnds\n"
-unfolding spaced digits
+plan_ends : check_line (Err PlanEnds) ≡ codes "refused PlanEnds\n"
+unfolding spaced_numbers digits
 plan_ends = refl
 
-plan_step : printed (Err (PlanStep 1 0)) ≡ codes "refused PlanStep 1 0\n"
-unfolding spaced digits
+plan_step : check_line (Err (PlanStep 1 0)) ≡ codes "refused PlanStep 1 0\n"
+unfolding spaced_numbers digits
 plan_step = refl
 
-plan_cost : printed (Err PlanCost) ≡ codes "refused PlanCost\n"
-unfolding spaced digits
+plan_cost : check_line (Err PlanCost) ≡ codes "refused PlanCost\n"
+unfolding spaced_numbers digits
 plan_cost = refl
 
-price_start : printed (Err PriceStart) ≡ codes "refused PriceStart\n"
-unfolding spaced digits
+price_start : check_line (Err PriceStart) ≡ codes "refused PriceStart\n"
+unfolding spaced_numbers digits
 price_start = refl
 
-price_step : printed (Err (PriceStep 1 3)) ≡ codes "refused PriceStep 1 3\n"
-unfolding spaced digits
+price_step : check_line (Err (PriceStep 1 3)) ≡ codes "refused PriceStep 1 3\n"
+unfolding spaced_numbers digits
 price_step = refl
 
-end_reached : printed (Err EndReached) ≡ codes "refused EndReached\n"
-unfolding spaced digits
+end_reached : check_line (Err EndReached) ≡ codes "refused EndReached\n"
+unfolding spaced_numbers digits
 end_reached = refl
 
-memory : printed (Err Memory) ≡ codes "refused Memory\n"
-unfolding spaced digits
+memory : check_line (Err Memory) ≡ codes "refused Memory\n"
+unfolding spaced_numbers digits
 memory = refl

@@ -3,28 +3,28 @@ use Rattle.std.proofs.Common.{◌≡◌, ◌∙◌, ℕ, List, [], ◌∷◌, �
 use Rattle.std.proofs.lemmas.List.{take-append-drop}
 use Rattle.std.specs.Io.KnownBytes.{Consumes, IsAtEnd, Keeps}
 use Rattle.hls_boxes_laws.specs.declared.part.Part.{Part}
-use Rattle.hls_boxes_laws.specs.Parts.{Cut, Left, Refused as Broken, cut_of, fault_at_end}
+use Rattle.hls_boxes_laws.specs.Parts.{StreamCut, Remainder, Refused as Broken, stream_cut, fault_at_end}
 use Rattle.hls_boxes_laws.proofs.Callers.{stay}
 use Rattle.hls_core_laws.specs.State.{State}
-use Rattle.hls_feed.specs.declared.fault.StreamFault.{StreamFault}
-use Rattle.hls_feed.specs.declared.fault.Untaken.{Untaken}
-use Rattle.hls_feed.specs.declared.fault.Untaken.TheVariants.{Refused, Memory}
-use Rattle.hls_feed.specs.Streams.{EndsSo, FeedsBehind, IsTaken, Reached, Refuses, RefusesBox, RefusesPart, TakesAll}
+use Rattle.hls_feed.specs.declared.feed_fault.StreamFault.{StreamFault}
+use Rattle.hls_feed.specs.declared.feed_fault.FeedFault.{FeedFault}
+use Rattle.hls_feed.specs.declared.feed_fault.FeedFault.TheVariants.{Refused, Memory}
+use Rattle.hls_feed.specs.Streams.{EndsStream, FeedsBehind, IsTaken, Reached, Refuses, RefusesBox, RefusesPart, TakesAll}
 use Rattle.hls_feed.proofs.Callers.{left_refused, reached_none, grows}
 use Rattle.hls_commands.specs.declared.cut.fault.CutFault.TheVariants as fault
-use Rattle.hls_commands.specs.FaultName.{fault_of}
-use Rattle.hls_commands.specs.Gather.{CountsReads, Gathers, IsRefused}
-use Rattle.hls_commands.specs.Recorded.{PartComes, recorded, state_of, unless_left, with_part, with_parts}
-use Rattle.hls_commands.specs.Then.{◌>>=◌}
+use Rattle.hls_commands.specs.CutFaultName.{fault_of}
+use Rattle.hls_commands.specs.RecordStream.{CountsReads, RecordsStream, IsRefused}
+use Rattle.hls_commands.specs.RecordedState.{PartYields, state_of_stream, state_of, state_unless_left, with_part, with_parts}
+use Rattle.hls_commands.specs.OrRefused.{◌>>=◌}
 
 -- ---- parts, one after the other
 
-recorded_all : (x y : State) (ps : List Part) → TakesAll PartComes x ps y → with_parts x ps ≡ Ok y
+recorded_all : (x y : State) (ps : List Part) → TakesAll PartYields x ps y → with_parts x ps ≡ Ok y
 unfolding with_parts
 recorded_all x y [] is = ap Ok (sym is)
 recorded_all x y (p ∷ ps) takes = ap (λ (r : Result State StreamFault). r >>= (λ n. with_parts n ps)) takes.1 ∙ recorded_all takes.0 y ps takes.2
 
-recorded_next : (x last : State) (ps others : List Part) (p : Part) (f : StreamFault) → TakesAll PartComes x ps last → with_part last p ≡ Err f → with_parts x (ps ++ p ∷ others) ≡ Err f
+recorded_next : (x last : State) (ps others : List Part) (p : Part) (f : StreamFault) → TakesAll PartYields x ps last → with_part last p ≡ Err f → with_parts x (ps ++ p ∷ others) ≡ Err f
 unfolding with_parts
 recorded_next x last [] others p f is refused =
     ap (λ (r : Result State StreamFault). r >>= (λ n. with_parts n others)) (subst (λ (s : State). with_part s p ≡ Err f) is refused)
@@ -33,30 +33,30 @@ recorded_next x last (q ∷ ps) others p f takes refused =
 
 -- ---- a refusal, whatever follows
 
-state_refused : (o : State) (c : Cut) (f : StreamFault) → with_parts o c.parts ≡ Err f → state_of o c ≡ Err f
+state_refused : (o : State) (c : StreamCut) (f : StreamFault) → with_parts o c.parts ≡ Err f → state_of o c ≡ Err f
 unfolding state_of
-state_refused o c f is = ap (λ (r : Result State StreamFault). r >>= (λ n. unless_left n (fault_at_end c.left))) is
+state_refused o c f is = ap (λ (r : Result State StreamFault). r >>= (λ n. state_unless_left n (fault_at_end c.left))) is
 
-state_left : (o s : State) (c : Cut) → with_parts o c.parts ≡ Ok s → state_of o c ≡ unless_left s (fault_at_end c.left)
+state_left : (o s : State) (c : StreamCut) → with_parts o c.parts ≡ Ok s → state_of o c ≡ state_unless_left s (fault_at_end c.left)
 unfolding state_of
-state_left o s c is = ap (λ (r : Result State StreamFault). r >>= (λ n. unless_left n (fault_at_end c.left))) is
+state_left o s c is = ap (λ (r : Result State StreamFault). r >>= (λ n. state_unless_left n (fault_at_end c.left))) is
 
-refused_part : (o s : State) (taken : List ℕ) (size : ℕ) (f : StreamFault) → RefusesPart PartComes o taken size f s → IsRefused o taken f
+refused_part : (o s : State) (taken : List ℕ) (size : ℕ) (f : StreamFault) → RefusesPart PartYields o taken size f s → IsRefused o taken f
 refused_part o s taken size f h more =
     let whole : taken ++ more ≡ take size taken ++ (drop size taken ++ more) =
     ap (λ xs. xs ++ more) (sym (take-append-drop size taken)) ∙ append_assoc (take size taken) (drop size taken) more in
     let later = grows (take size taken) (drop size taken ++ more) in
-    let parts : (cut_of (taken ++ more)).parts ≡ h.taken ++ h.part ∷ (h.shows.others ++ later.0) =
-    ap (λ xs. (cut_of xs).parts) whole ∙ later.1 ∙ ap (λ (ps : List Part). ps ++ later.0) h.shows.shows ∙ append_assoc h.taken (h.part ∷ h.shows.others) later.0 in
-    state_refused o (cut_of (taken ++ more)) f (ap (with_parts o) parts ∙ recorded_next o h.last h.taken (h.shows.others ++ later.0) h.part f h.takes h.refuses)
+    let parts : (stream_cut (taken ++ more)).parts ≡ h.taken ++ h.part ∷ (h.shows.others ++ later.0) =
+    ap (λ xs. (stream_cut xs).parts) whole ∙ later.1 ∙ ap (λ (ps : List Part). ps ++ later.0) h.shows.shows ∙ append_assoc h.taken (h.part ∷ h.shows.others) later.0 in
+    state_refused o (stream_cut (taken ++ more)) f (ap (with_parts o) parts ∙ recorded_next o h.last h.taken (h.shows.others ++ later.0) h.part f h.takes h.refuses)
 
-refused_box : (o s : State) (taken : List ℕ) (size : ℕ) (f : StreamFault) → RefusesBox PartComes o taken size f s → IsRefused o taken f
+refused_box : (o s : State) (taken : List ℕ) (size : ℕ) (f : StreamFault) → RefusesBox PartYields o taken size f s → IsRefused o taken f
 refused_box o s taken size f h more =
-    let left : (cut_of taken).left ≡ Broken h.box = left_refused (cut_of taken).left h.box h.found in
-    ap (state_of o) (stay taken more h.box left) ∙ state_left o s (cut_of taken) (recorded_all o s (cut_of taken).parts h.takes)
-    ∙ ap (λ (l : Left). unless_left s (fault_at_end l)) left ∙ ap Err (sym h.fault_is)
+    let left : (stream_cut taken).left ≡ Broken h.box = left_refused (stream_cut taken).left h.box h.found in
+    ap (state_of o) (stay taken more h.box left) ∙ state_left o s (stream_cut taken) (recorded_all o s (stream_cut taken).parts h.takes)
+    ∙ ap (λ (l : Remainder). state_unless_left s (fault_at_end l)) left ∙ ap Err (sym h.fault_is)
 
-refused_here : (o s : State) (taken : List ℕ) (size : ℕ) (f : StreamFault) → Refuses PartComes o taken size f s → IsRefused o taken f
+refused_here : (o s : State) (taken : List ℕ) (size : ℕ) (f : StreamFault) → Refuses PartYields o taken size f s → IsRefused o taken f
 refused_here o s taken size f (inl h) = refused_part o s taken size f h
 refused_here o s taken size f (inr h) = refused_box o s taken size f h
 
@@ -68,11 +68,11 @@ pub record Reading (opening : State) (stream : List ℕ) (left : Option (List �
   pub rest : List ℕ
   pub left_is : left ≡ Some rest
   pub split : stream ≡ taken ++ rest
-  pub reached : Reached PartComes opening taken held s
+  pub reached : Reached PartYields opening taken held s
 
 pub reading_none : (o : State) (stream : List ℕ) (left : Option (List ℕ)) (held : List ℕ) → left ≡ Some stream → held ≡ [] → Reading o stream left held o
 reading_none o stream left held is held_is =
-    record { taken = []; rest = stream; left_is = is; split = refl; reached = subst (λ (xs : List ℕ). Reached PartComes o [] xs o) (sym held_is) (reached_none PartComes o) }
+    record { taken = []; rest = stream; left_is = is; split = refl; reached = subst (λ (xs : List ℕ). Reached PartYields o [] xs o) (sym held_is) (reached_none PartYields o) }
 
 -- a read that gave a piece
 pub record Took (opening : State) (stream : List ℕ) (left : Option (List ℕ)) (held piece : List ℕ) (s : State) : Type 0 where
@@ -80,9 +80,9 @@ pub record Took (opening : State) (stream : List ℕ) (left : Option (List ℕ))
   pub rest : List ℕ
   pub left_is : left ≡ Some rest
   pub split : stream ≡ taken ++ piece ++ rest
-  pub reached : Reached PartComes opening taken held s
+  pub reached : Reached PartYields opening taken held s
 
-took_known : (o : State) (stream taken rest held piece : List ℕ) (old new : Option (List ℕ)) (s : State) → old ≡ Some rest → Consumes old new piece → stream ≡ taken ++ rest → Reached PartComes o taken held s → Took o stream new held piece s
+took_known : (o : State) (stream taken rest held piece : List ℕ) (old new : Option (List ℕ)) (s : State) → old ≡ Some rest → Consumes old new piece → stream ≡ taken ++ rest → Reached PartYields o taken held s → Took o stream new held piece s
 took_known o stream taken rest held piece None new s is gave split h = cc
 took_known o stream taken rest held piece (Some xs) None s is gave split h = absurd gave
 took_known o stream taken rest held piece (Some xs) (Some ys) s is gave split h =
@@ -94,7 +94,7 @@ took o stream held piece old new s h gave = took_known o stream h.taken h.rest h
 
 -- .. which was taken in
 pub reading_more : (o : State) (stream old piece held : List ℕ) (left : Option (List ℕ)) (s next : State) → Took o stream left old piece s
-    → ((t : List ℕ) → Reached PartComes o t old s → Reached PartComes o (t ++ piece) held next) → Reading o stream left held next
+    → ((t : List ℕ) → Reached PartYields o t old s → Reached PartYields o (t ++ piece) held next) → Reading o stream left held next
 reading_more o stream old piece held left s next h taken_in = record {
   taken = h.taken ++ piece;
   rest = h.rest;
@@ -114,42 +114,42 @@ at_end xs (Some ys) None is gave end = absurd gave
 at_end xs (Some ys) (Some zs) is gave end = let same : xs ≡ ys = cc in (ap Some end, same ∙ gave ∙ end)
 
 -- the exits
-pub gather_failed : (o : State) (stream held : List ℕ) (old new : Option (List ℕ)) (s : State) → Reading o stream old held s → Keeps old new → Gathers o stream new s (Err fault.ReadFailed)
+pub gather_failed : (o : State) (stream held : List ℕ) (old new : Option (List ℕ)) (s : State) → Reading o stream old held s → Keeps old new → RecordsStream o stream new s (Err fault.ReadFailed)
 gather_failed o stream held old new s h keeps =
-    record { taken = h.taken; rest = h.rest; left_is = kept_known h.rest old new h.left_is keeps; split = h.split; comes = (s, h.reached.taken) }
+    record { taken = h.taken; rest = h.rest; left_is = kept_known h.rest old new h.left_is keeps; split = h.split; yields = (s, h.reached.taken) }
 
-pub gather_refused : (o : State) (stream old piece held : List ℕ) (left : Option (List ℕ)) (s next : State) (untaken : Untaken) → Took o stream left old piece s
-    → ((t : List ℕ) → Reached PartComes o t old s → FeedsBehind PartComes o t piece held next (Err untaken)) → Gathers o stream left next (Err (fault_of untaken))
-gather_refused o stream old piece held left s next Memory h fed = record { taken = h.taken ++ piece; rest = h.rest; left_is = h.left_is; split = h.split; comes = tt }
+pub gather_refused : (o : State) (stream old piece held : List ℕ) (left : Option (List ℕ)) (s next : State) (feed_fault : FeedFault) → Took o stream left old piece s
+    → ((t : List ℕ) → Reached PartYields o t old s → FeedsBehind PartYields o t piece held next (Err feed_fault)) → RecordsStream o stream left next (Err (fault_of feed_fault))
+gather_refused o stream old piece held left s next Memory h fed = record { taken = h.taken ++ piece; rest = h.rest; left_is = h.left_is; split = h.split; yields = tt }
 gather_refused o stream old piece held left s next (Refused f) h fed =
     let refused = fed h.taken h.reached in
-    record { taken = h.taken ++ piece; rest = h.rest; left_is = h.left_is; split = h.split; comes = inr (refused_here o next (h.taken ++ piece) refused.size f refused.refuses) }
+    record { taken = h.taken ++ piece; rest = h.rest; left_is = h.left_is; split = h.split; yields = inr (refused_here o next (h.taken ++ piece) refused.size f refused.refuses) }
 
-recorded_now : (o : State) (taken : List ℕ) (s : State) → IsTaken PartComes o taken s → recorded o taken ≡ unless_left s (fault_at_end (cut_of taken).left)
-recorded_now o taken s h = state_left o s (cut_of taken) (recorded_all o s (cut_of taken).parts h.takes)
+recorded_now : (o : State) (taken : List ℕ) (s : State) → IsTaken PartYields o taken s → state_of_stream o taken ≡ state_unless_left s (fault_at_end (stream_cut taken).left)
+recorded_now o taken s h = state_left o s (stream_cut taken) (recorded_all o s (stream_cut taken).parts h.takes)
 
-pub gather_done : (o : State) (stream held : List ℕ) (old new : Option (List ℕ)) (s : State) (h : Reading o stream old held s) → Consumes old new [] → IsAtEnd new → EndsSo h.taken (Ok tt)
-    → Gathers o stream new s (Ok tt)
+pub gather_done : (o : State) (stream held : List ℕ) (old new : Option (List ℕ)) (s : State) (h : Reading o stream old held s) → Consumes old new [] → IsAtEnd new → EndsStream h.taken (Ok tt)
+    → RecordsStream o stream new s (Ok tt)
 gather_done o stream held old new s h gave end whole =
     let left = at_end h.rest old new h.left_is gave end in record {
       taken = h.taken;
       rest = [];
       left_is = left.0;
       split = h.split ∙ ap (λ xs. h.taken ++ xs) left.1;
-      comes = (refl, recorded_now o h.taken s h.reached.taken ∙ ap (unless_left s) whole);
+      yields = (refl, recorded_now o h.taken s h.reached.taken ∙ ap (state_unless_left s) whole);
     }
 
-pub gather_left : (o : State) (stream held : List ℕ) (old new : Option (List ℕ)) (s : State) (f : StreamFault) (h : Reading o stream old held s) → Consumes old new [] → IsAtEnd new → EndsSo h.taken (Err f)
-    → Gathers o stream new s (Err (fault.Stream f))
+pub gather_left : (o : State) (stream held : List ℕ) (old new : Option (List ℕ)) (s : State) (f : StreamFault) (h : Reading o stream old held s) → Consumes old new [] → IsAtEnd new → EndsStream h.taken (Err f)
+    → RecordsStream o stream new s (Err (fault.Stream f))
 gather_left o stream held old new s f h gave end inside =
     let left = at_end h.rest old new h.left_is gave end in record {
       taken = h.taken;
       rest = [];
       left_is = left.0;
       split = h.split ∙ ap (λ xs. h.taken ++ xs) left.1;
-      comes = inl (refl, recorded_now o h.taken s h.reached.taken ∙ ap (unless_left s) inside.1 ∙ ap Err (sym inside.0));
+      yields = inl (refl, recorded_now o h.taken s h.reached.taken ∙ ap (state_unless_left s) inside.1 ∙ ap Err (sym inside.0));
     }
 
-pub counts_untaken : (untaken : Untaken) (old new : ℕ) → new ≡ old → CountsReads {A = Unit {0}} (Err (fault_of untaken)) old new
+pub counts_untaken : (feed_fault : FeedFault) (old new : ℕ) → new ≡ old → CountsReads {A = Unit {0}} (Err (fault_of feed_fault)) old new
 counts_untaken Memory old new quiet = quiet
 counts_untaken (Refused f) old new quiet = quiet

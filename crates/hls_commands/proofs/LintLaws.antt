@@ -6,16 +6,16 @@ use Rattle.std.proofs.lemmas.List.{take_all, length-take-le}
 use Rattle.hls_io.specs.Writing.{Writes}
 use Rattle.hls_m3u8.specs.declared.fault.ListFault.{ListFault}
 use Rattle.hls_m3u8.specs.declared.fault.ListFault.TheVariants.{NotM3u, Utf8, BadTag, MissingTag, TooLong, Memory}
-use Rattle.hls_m3u8.specs.Reading.{reading_of}
-use Rattle.hls_m3u8.specs.Readable.{IsAnswer}
-use Rattle.hls_commands.specs.declared.reading.Unread.{Unread}
+use Rattle.hls_m3u8.specs.ReadLines.{reading_of}
+use Rattle.hls_m3u8.specs.Readable.{IsReadAnswer}
+use Rattle.hls_commands.specs.declared.read_input.ReadFault.{ReadFault}
 use Rattle.hls_commands.specs.declared.lint.run.LintEnd.{LintEnd}
 use Rattle.hls_commands.specs.declared.lint.run.LintEnd.TheVariants.{Readable, Refused, ReadFailed, WriteFailed}
-use Rattle.hls_commands.specs.Beginning.{IsBeginning}
-use Rattle.hls_commands.specs.LintAnswer.{printed}
-use Rattle.hls_commands.specs.LintRun.{Answers, AnswersStream, CountsFailures, Runs}
-use Rattle.hls_commands.specs.LintParts.{CountsText, IsLine, PrintsText, Tells, TellsLine, WritesText, done_of, held_bytes, line_bytes}
-use Rattle.hls_commands.specs.Reads.{Reads}
+use Rattle.hls_commands.specs.Prefix.{IsPrefix}
+use Rattle.hls_commands.specs.LintAnswer.{lint_line}
+use Rattle.hls_commands.specs.LintRun.{AnswersLint, AnswersStream, CountsFailures, RunsLint}
+use Rattle.hls_commands.specs.LintParts.{CountsText, IsLine, PrintsText, IsStreamLine, ReportsLine, WritesText, lint_end_of, held_bytes, line_bytes}
+use Rattle.hls_commands.specs.ReadInput.{Reads}
 
 -- ---- what is held of a text is enough
 
@@ -36,7 +36,7 @@ held_is_read text = held_enough text (short_or_long (length text))
 
 -- ---- the line of a text
 
-pub refused_line : (text : List ℕ) (f : ListFault) → IsAnswer text (Err f) → IsLine text (Err f)
+pub refused_line : (text : List ℕ) (f : ListFault) → IsReadAnswer text (Err f) → IsLine text (Err f)
 refused_line text NotM3u h = h
 refused_line text Utf8 h = h
 refused_line text (BadTag line) h = h
@@ -53,7 +53,7 @@ line_as text other (Err MissingTag) same h = sym same ∙ h
 line_as text other (Err TooLong) same h = sym same ∙ h
 line_as text other (Err Memory) same h = tt
 
-tells_some : (stream rest : List ℕ) (line : Result (Vec ℕ Global) ListFault) → rest ≡ [] → IsLine stream line → Tells stream rest (Some line)
+tells_some : (stream rest : List ℕ) (line : Result (Vec ℕ Global) ListFault) → rest ≡ [] → IsLine stream line → IsStreamLine stream rest (Some line)
 tells_some stream rest (Ok line) none h = (none, h)
 tells_some stream rest (Err NotM3u) none h = (none, h)
 tells_some stream rest (Err Utf8) none h = (none, h)
@@ -63,18 +63,18 @@ tells_some stream rest (Err TooLong) none h = (none, h)
 tells_some stream rest (Err Memory) none h = tt
 
 pub tells_line : (stream bytes : List ℕ) (text : Vec ℕ Global) (left : Option (List ℕ)) (line : Result (Vec ℕ Global) ListFault) →
-    Reads (Some held_bytes) stream left (Ok text) → bytes ≡ text.items → IsLine bytes line → TellsLine stream left (Some line)
+    Reads (Some held_bytes) stream left (Ok text) → bytes ≡ text.items → IsLine bytes line → ReportsLine stream left (Some line)
 tells_line stream bytes text left line h same is =
-    let whole : stream ≡ h.taken = h.split ∙ ap (λ xs. h.taken ++ xs) h.comes.0 ∙ append-nil h.taken in
+    let whole : stream ≡ h.taken = h.split ∙ ap (λ xs. h.taken ++ xs) h.yields.0 ∙ append-nil h.taken in
     let read : reading_of bytes ≡ reading_of stream =
-    ap reading_of (same ∙ h.comes.1) ∙ held_is_read h.taken ∙ ap reading_of (sym whole) in
-    record { taken = h.taken; rest = h.rest; left_is = h.left_is; split = h.split; tells = tells_some stream h.rest line h.comes.0 (line_as bytes stream line read is) }
+    ap reading_of (same ∙ h.yields.1) ∙ held_is_read h.taken ∙ ap reading_of (sym whole) in
+    record { taken = h.taken; rest = h.rest; left_is = h.left_is; split = h.split; reports = tells_some stream h.rest line h.yields.0 (line_as bytes stream line read is) }
 
-pub tells_failed : (stream : List ℕ) (left : Option (List ℕ)) (f : Unread) → Reads (Some held_bytes) stream left (Err f) → TellsLine stream left None
-tells_failed stream left f h = record { taken = h.taken; rest = h.rest; left_is = h.left_is; split = h.split; tells = tt }
+pub tells_failed : (stream : List ℕ) (left : Option (List ℕ)) (f : ReadFault) → Reads (Some held_bytes) stream left (Err f) → ReportsLine stream left None
+tells_failed stream left f h = record { taken = h.taken; rest = h.rest; left_is = h.left_is; split = h.split; reports = tt }
 
-pub tells_memory : (stream : List ℕ) (left : Option (List ℕ)) (f : Unread) → Reads (Some held_bytes) stream left (Err f) → TellsLine stream left (Some (Err Memory))
-tells_memory stream left f h = record { taken = h.taken; rest = h.rest; left_is = h.left_is; split = h.split; tells = tt }
+pub tells_memory : (stream : List ℕ) (left : Option (List ℕ)) (f : ReadFault) → Reads (Some held_bytes) stream left (Err f) → ReportsLine stream left (Some (Err Memory))
+tells_memory stream left f h = record { taken = h.taken; rest = h.rest; left_is = h.left_is; split = h.split; reports = tt }
 
 -- ---- what is written
 
@@ -89,32 +89,32 @@ prints_beginning text done held contents h =
 
 -- ---- both together
 
-answers_as : (stream rest text : List ℕ) (done end : LintEnd) → end ≡ done → Answers stream rest text done → Answers stream rest text end
-answers_as stream rest text done end is h = subst (λ (e : LintEnd). Answers stream rest text e) (sym is) h
+answers_as : (stream rest text : List ℕ) (done end : LintEnd) → end ≡ done → AnswersLint stream rest text done → AnswersLint stream rest text end
+answers_as stream rest text done end is h = subst (λ (e : LintEnd). AnswersLint stream rest text e) (sym is) h
 
-answers_list : (stream rest text : List ℕ) (line : Vec ℕ Global) (end : LintEnd) → Tells stream rest (Some (Ok line)) → WritesText line.items Readable text end → Answers stream rest text end
-answers_list stream rest text line end tells (inl w) =
-    answers_as stream rest text Readable end w.0 (tells.1.0, (tells.0, tells.1.1), w.1 ∙ tells.1.2)
-answers_list stream rest text line end tells (inr w) =
+answers_list : (stream rest text : List ℕ) (line : Vec ℕ Global) (end : LintEnd) → IsStreamLine stream rest (Some (Ok line)) → WritesText line.items Readable text end → AnswersLint stream rest text end
+answers_list stream rest text line end reports (inl w) =
+    answers_as stream rest text Readable end w.0 (reports.1.0, (reports.0, reports.1.1), w.1 ∙ reports.1.2)
+answers_list stream rest text line end reports (inr w) =
     answers_as stream rest text WriteFailed end w.0
-    (Ok tells.1.0, (tells.0, tells.1.1), subst (λ (whole : List ℕ). IsBeginning text whole) tells.1.2 w.1)
+    (Ok reports.1.0, (reports.0, reports.1.1), subst (λ (whole : List ℕ). IsPrefix text whole) reports.1.2 w.1)
 
-answers_fault : (stream rest text : List ℕ) (f : ListFault) (end : LintEnd) → AnswersStream stream rest (Err f) → WritesText (printed (Err f)) Refused text end → Answers stream rest text end
+answers_fault : (stream rest text : List ℕ) (f : ListFault) (end : LintEnd) → AnswersStream stream rest (Err f) → WritesText (lint_line (Err f)) Refused text end → AnswersLint stream rest text end
 answers_fault stream rest text f end answers (inl w) = answers_as stream rest text Refused end w.0 (f, answers, w.1)
 answers_fault stream rest text f end answers (inr w) = answers_as stream rest text WriteFailed end w.0 (Err f, answers, w.1)
 
-answers_line : (stream rest text : List ℕ) (line : Result (Vec ℕ Global) ListFault) (end : LintEnd) → Tells stream rest (Some line) → WritesText (line_bytes line) (done_of line) text end →
-    Answers stream rest text end
-answers_line stream rest text (Ok line) end tells w = answers_list stream rest text line end tells w
-answers_line stream rest text (Err NotM3u) end tells w = answers_fault stream rest text NotM3u end tells w
-answers_line stream rest text (Err Utf8) end tells w = answers_fault stream rest text Utf8 end tells w
-answers_line stream rest text (Err (BadTag n)) end tells w = answers_fault stream rest text (BadTag n) end tells w
-answers_line stream rest text (Err MissingTag) end tells w = answers_fault stream rest text MissingTag end tells w
-answers_line stream rest text (Err TooLong) end tells w = answers_fault stream rest text TooLong end tells w
-answers_line stream rest text (Err Memory) end tells w = answers_fault stream rest text Memory end tells w
+answers_line : (stream rest text : List ℕ) (line : Result (Vec ℕ Global) ListFault) (end : LintEnd) → IsStreamLine stream rest (Some line) → WritesText (line_bytes line) (lint_end_of line) text end →
+    AnswersLint stream rest text end
+answers_line stream rest text (Ok line) end reports w = answers_list stream rest text line end reports w
+answers_line stream rest text (Err NotM3u) end reports w = answers_fault stream rest text NotM3u end reports w
+answers_line stream rest text (Err Utf8) end reports w = answers_fault stream rest text Utf8 end reports w
+answers_line stream rest text (Err (BadTag n)) end reports w = answers_fault stream rest text (BadTag n) end reports w
+answers_line stream rest text (Err MissingTag) end reports w = answers_fault stream rest text MissingTag end reports w
+answers_line stream rest text (Err TooLong) end reports w = answers_fault stream rest text TooLong end reports w
+answers_line stream rest text (Err Memory) end reports w = answers_fault stream rest text Memory end reports w
 
-pub runs_printed : (stream held : List ℕ) (left contents : Option (List ℕ)) (line : Result (Vec ℕ Global) ListFault) (end : LintEnd) → TellsLine stream left (Some line) →
-    PrintsText (line_bytes line) (done_of line) held contents end → Runs stream held left contents end
+pub runs_printed : (stream held : List ℕ) (left contents : Option (List ℕ)) (line : Result (Vec ℕ Global) ListFault) (end : LintEnd) → ReportsLine stream left (Some line) →
+    PrintsText (line_bytes line) (lint_end_of line) held contents end → RunsLint stream held left contents end
 runs_printed stream held left contents line end h prints =
     record {
       taken = h.taken;
@@ -123,22 +123,22 @@ runs_printed stream held left contents line end h prints =
       left_is = h.left_is;
       split = h.split;
       contents_are = prints.contents_are;
-      answers = answers_line stream h.rest prints.text line end h.tells prints.writes;
+      answers = answers_line stream h.rest prints.text line end h.reports prints.writes;
     }
 
-pub runs_unread : (stream held : List ℕ) (left contents : Option (List ℕ)) → TellsLine stream left None → contents ≡ Some held → Runs stream held left contents ReadFailed
+pub runs_unread : (stream held : List ℕ) (left contents : Option (List ℕ)) → ReportsLine stream left None → contents ≡ Some held → RunsLint stream held left contents ReadFailed
 runs_unread stream held left contents h same =
     record { taken = h.taken; rest = h.rest; text = []; left_is = h.left_is; split = h.split; contents_are = same ∙ ap Some (sym (append-nil held)); answers = refl }
 
 counts_as : (done end : LintEnd) (read_old read_new write_old write_new : ℕ) → end ≡ done → CountsFailures done read_old read_new write_old write_new → CountsFailures end read_old read_new write_old write_new
 counts_as done end read_old read_new write_old write_new is h = subst (λ (e : LintEnd). CountsFailures e read_old read_new write_old write_new) (sym is) h
 
-counts_done : (line : Result (Vec ℕ Global) ListFault) (read_old read_new write_old write_new : ℕ) → read_new ≡ read_old → write_new ≡ write_old → CountsFailures (done_of line) read_old read_new write_old write_new
+counts_done : (line : Result (Vec ℕ Global) ListFault) (read_old read_new write_old write_new : ℕ) → read_new ≡ read_old → write_new ≡ write_old → CountsFailures (lint_end_of line) read_old read_new write_old write_new
 counts_done (Ok line) read_old read_new write_old write_new quiet same = (quiet, same)
 counts_done (Err f) read_old read_new write_old write_new quiet same = (quiet, same)
 
 pub counts_printed : (line : Result (Vec ℕ Global) ListFault) (end : LintEnd) (read_old read_new write_old write_new : ℕ) → read_new ≡ read_old →
-    CountsText (done_of line) end write_old write_new → CountsFailures end read_old read_new write_old write_new
+    CountsText (lint_end_of line) end write_old write_new → CountsFailures end read_old read_new write_old write_new
 counts_printed line end read_old read_new write_old write_new quiet (inl w) =
-    counts_as (done_of line) end read_old read_new write_old write_new w.0 (counts_done line read_old read_new write_old write_new quiet w.1)
+    counts_as (lint_end_of line) end read_old read_new write_old write_new w.0 (counts_done line read_old read_new write_old write_new quiet w.1)
 counts_printed line end read_old read_new write_old write_new quiet (inr w) = counts_as WriteFailed end read_old read_new write_old write_new w.0 (quiet, w.1)

@@ -3,23 +3,23 @@ use Rattle.std.proofs.Common.{◌≡◌, ◌∙◌, ℕ, ◌+◌, ◌-◌, ◌^�
 use Rattle.std.specs.Prelude.{min}
 use Rattle.hls_m3u8.specs.declared.fault.ListFault.{ListFault}
 use Rattle.hls_m3u8.specs.declared.fault.ListFault.TheVariants.{NotM3u, Utf8, MissingTag, TooLong, Memory}
-use Rattle.hls_text.specs.Numbers.{spaced}
-use Rattle.hls_commands.specs.LintAnswer.{fault_lines, longest}
+use Rattle.hls_text.specs.Numbers.{spaced_numbers}
+use Rattle.hls_commands.specs.LintAnswer.{fault_line_numbers, longest_us}
 
 -- one segment more
-pub next_total : (total us rest whole new : ℕ) → new ≡ min (min (total + us) (2 ^ 64 - 1)) longest → min (total + (us + rest)) longest ≡ whole → min (new + rest) longest ≡ whole
+pub next_total : (total us rest whole new : ℕ) → new ≡ min (min (total + us) (2 ^ 64 - 1)) longest_us → min (total + (us + rest)) longest_us ≡ whole → min (new + rest) longest_us ≡ whole
 next_total total us rest whole new is before = omega (arith, is, before)
 
-no_line : (f : ListFault) → (f ≡ NotM3u) ⊎ ((f ≡ Utf8) ⊎ ((f ≡ MissingTag) ⊎ ((f ≡ TooLong) ⊎ (f ≡ Memory)))) → fault_lines f ≡ []
-no_line f (inl e) = ap fault_lines e
-no_line f (inr (inl e)) = ap fault_lines e
-no_line f (inr (inr (inl e))) = ap fault_lines e
-no_line f (inr (inr (inr (inl e)))) = ap fault_lines e
-no_line f (inr (inr (inr (inr e)))) = ap fault_lines e
+no_line : (f : ListFault) → (f ≡ NotM3u) ⊎ ((f ≡ Utf8) ⊎ ((f ≡ MissingTag) ⊎ ((f ≡ TooLong) ⊎ (f ≡ Memory)))) → fault_line_numbers f ≡ []
+no_line f (inl e) = ap fault_line_numbers e
+no_line f (inr (inl e)) = ap fault_line_numbers e
+no_line f (inr (inr (inl e))) = ap fault_line_numbers e
+no_line f (inr (inr (inr (inl e)))) = ap fault_line_numbers e
+no_line f (inr (inr (inr (inr e)))) = ap fault_line_numbers e
 
-pub no_lines : (line : List ℕ) (f : ListFault) → (f ≡ NotM3u) ⊎ ((f ≡ Utf8) ⊎ ((f ≡ MissingTag) ⊎ ((f ≡ TooLong) ⊎ (f ≡ Memory)))) → line ≡ line ++ spaced (fault_lines f)
-unfolding spaced
-no_lines line f is = sym (ap (λ ns. line ++ spaced ns) (no_line f is) ∙ append-nil line)
+pub no_lines : (line : List ℕ) (f : ListFault) → (f ≡ NotM3u) ⊎ ((f ≡ Utf8) ⊎ ((f ≡ MissingTag) ⊎ ((f ≡ TooLong) ⊎ (f ≡ Memory)))) → line ≡ line ++ spaced_numbers (fault_line_numbers f)
+unfolding spaced_numbers
+no_lines line f is = sym (ap (λ ns. line ++ spaced_numbers ns) (no_line f is) ∙ append-nil line)
 
 two_written : (o p q xs ys : List ℕ) → p ≡ o ++ xs → q ≡ p ++ ys → q ≡ o ++ (xs ++ ys)
 two_written o p q xs ys first second = second ∙ ap (λ t. t ++ ys) first ∙ append_assoc o xs ys

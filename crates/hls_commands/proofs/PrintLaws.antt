@@ -3,18 +3,18 @@ use Rattle.std.proofs.Common.{◌≡◌, ◌∙◌, ℕ, List, [], ◌∷◌, �
 use Rattle.std.specs.Fmt.{decimal}
 use Rattle.hls_check_laws.specs.declared.cert_fault.CertFault.{CertFault}
 use Rattle.hls_check_laws.specs.declared.cert_fault.CertFault.TheVariants.{PlanEnds, PlanCost, PriceStart, EndReached, Memory}
-use Rattle.hls_text.specs.Numbers.{spaced}
+use Rattle.hls_text.specs.Numbers.{spaced_numbers}
 use Rattle.hls_commands.specs.CheckAnswer.{fault_numbers}
 
-pub one_number : (old mid new digits : List ℕ) (n : ℕ) → mid ≡ old ++ (32 ∷ []) → new ≡ mid ++ digits → digits ≡ decimal n → new ≡ old ++ spaced (n ∷ [])
-unfolding spaced
+pub one_number : (old mid new digits : List ℕ) (n : ℕ) → mid ≡ old ++ (32 ∷ []) → new ≡ mid ++ digits → digits ≡ decimal n → new ≡ old ++ spaced_numbers (n ∷ [])
+unfolding spaced_numbers
 one_number old mid new digits n first second is =
     second ∙ ap (λ xs. xs ++ digits) first ∙ append_assoc old (32 ∷ []) digits ∙ ap (λ xs. old ++ (32 ∷ xs)) (is ∙ sym (append-nil (decimal n)))
 
-pub two_numbers : (old mid new : List ℕ) (m n : ℕ) → mid ≡ old ++ spaced (m ∷ []) → new ≡ mid ++ spaced (n ∷ []) → new ≡ old ++ spaced (m ∷ n ∷ [])
-unfolding spaced
+pub two_numbers : (old mid new : List ℕ) (m n : ℕ) → mid ≡ old ++ spaced_numbers (m ∷ []) → new ≡ mid ++ spaced_numbers (n ∷ []) → new ≡ old ++ spaced_numbers (m ∷ n ∷ [])
+unfolding spaced_numbers
 two_numbers old mid new m n first second =
-    second ∙ ap (λ xs. xs ++ spaced (n ∷ [])) first ∙ append_assoc old (spaced (m ∷ [])) (spaced (n ∷ [])) ∙ ap (λ xs. old ++ (32 ∷ xs)) (append_assoc (decimal m) [] (spaced (n ∷ [])))
+    second ∙ ap (λ xs. xs ++ spaced_numbers (n ∷ [])) first ∙ append_assoc old (spaced_numbers (m ∷ [])) (spaced_numbers (n ∷ [])) ∙ ap (λ xs. old ++ (32 ∷ xs)) (append_assoc (decimal m) [] (spaced_numbers (n ∷ [])))
 
 no_number : (f : CertFault) → (f ≡ PlanEnds) ⊎ ((f ≡ PlanCost) ⊎ ((f ≡ PriceStart) ⊎ ((f ≡ EndReached) ⊎ (f ≡ Memory)))) → fault_numbers f ≡ []
 no_number f (inl e) = ap fault_numbers e
@@ -23,6 +23,6 @@ no_number f (inr (inr (inl e))) = ap fault_numbers e
 no_number f (inr (inr (inr (inl e)))) = ap fault_numbers e
 no_number f (inr (inr (inr (inr e)))) = ap fault_numbers e
 
-pub no_numbers : (line : List ℕ) (f : CertFault) → (f ≡ PlanEnds) ⊎ ((f ≡ PlanCost) ⊎ ((f ≡ PriceStart) ⊎ ((f ≡ EndReached) ⊎ (f ≡ Memory)))) → line ≡ line ++ spaced (fault_numbers f)
-unfolding spaced
-no_numbers line f is = sym (ap (λ ns. line ++ spaced ns) (no_number f is) ∙ append-nil line)
+pub no_numbers : (line : List ℕ) (f : CertFault) → (f ≡ PlanEnds) ⊎ ((f ≡ PlanCost) ⊎ ((f ≡ PriceStart) ⊎ ((f ≡ EndReached) ⊎ (f ≡ Memory)))) → line ≡ line ++ spaced_numbers (fault_numbers f)
+unfolding spaced_numbers
+no_numbers line f is = sym (ap (λ ns. line ++ spaced_numbers ns) (no_number f is) ∙ append-nil line)

@@ -5,8 +5,8 @@ use Rattle.std.specs.Global.{Global}
 use Rattle.std.specs.Io.KnownBytes.{Consumes, IsAtEnd, Keeps}
 use Rattle.std.proofs.Math.Seq.{take-append-add, take-length}
 use Rattle.std.proofs.lemmas.List.{take_all, take_min, take-append-le, length-take-le}
-use Rattle.hls_commands.specs.declared.reading.Unread.TheVariants as unread
-use Rattle.hls_commands.specs.Reads.{Reads, held_of, held_len}
+use Rattle.hls_commands.specs.declared.read_input.ReadFault.TheVariants as unread
+use Rattle.hls_commands.specs.ReadInput.{Reads, kept_bytes, held_len}
 
 -- ---- what is held
 
@@ -38,7 +38,7 @@ within_or_past m n = grind arith
 
 -- what is held of more bytes: of those that come as many as there is room for
 held_more : (most : Option ℕ) (taken piece : List ℕ) →
-    held_of most (taken ++ piece) ≡ held_of most taken ++ take (held_len most (length (held_of most taken)) (length piece)) piece
+    kept_bytes most (taken ++ piece) ≡ kept_bytes most taken ++ take (held_len most (length (kept_bytes most taken)) (length piece)) piece
 held_more None taken piece = ap (λ xs. taken ++ xs) (sym (take-length piece))
 held_more (Some most) taken piece = held_most most taken piece (within_or_past (length taken) most)
 
@@ -50,9 +50,9 @@ pub record Reading (most : Option ℕ) (stream : List ℕ) (left : Option (List 
   pub rest : List ℕ
   pub left_is : left ≡ Some rest
   pub split : stream ≡ taken ++ rest
-  pub held : bytes ≡ held_of most taken
+  pub held : bytes ≡ kept_bytes most taken
 
-held_of_none : (most : Option ℕ) → [] ≡ held_of most []
+held_of_none : (most : Option ℕ) → [] ≡ kept_bytes most []
 held_of_none None = refl
 held_of_none (Some most) = sym (take_all most [] (omega arith))
 
@@ -60,7 +60,7 @@ pub reading_none : (most : Option ℕ) (stream bytes : List ℕ) (left : Option 
 reading_none most stream bytes left is none = record { taken = []; rest = stream; left_is = is; split = refl; held = none ∙ held_of_none most }
 
 more_known : (most : Option ℕ) (stream rest taken bytes piece : List ℕ) (old new : Option (List ℕ)) → old ≡ Some rest → Consumes old new piece → stream ≡ taken ++ rest →
-    bytes ≡ held_of most (taken ++ piece) → Reading most stream new bytes
+    bytes ≡ kept_bytes most (taken ++ piece) → Reading most stream new bytes
 more_known most stream rest taken bytes piece None new is gave split held = cc
 more_known most stream rest taken bytes piece (Some xs) None is gave split held = absurd gave
 more_known most stream rest taken bytes piece (Some xs) (Some ys) is gave split held =
@@ -76,7 +76,7 @@ more_known most stream rest taken bytes piece (Some xs) (Some ys) is gave split 
 pub reading_more : (most : Option ℕ) (stream bytes piece : List ℕ) (n : ℕ) (old new : Option (List ℕ)) → Reading most stream old bytes → Consumes old new piece →
     n ≡ held_len most (length bytes) (length piece) → Reading most stream new (bytes ++ take n piece)
 reading_more most stream bytes piece n old new h gave is =
-    let here : bytes ++ take n piece ≡ held_of most (h.taken ++ piece) =
+    let here : bytes ++ take n piece ≡ kept_bytes most (h.taken ++ piece) =
     ap (λ k. bytes ++ take k piece) is ∙ ap (λ xs. xs ++ take (held_len most (length xs) (length piece)) piece) h.held ∙ sym (held_more most h.taken piece) in
     more_known most stream h.rest h.taken (bytes ++ take n piece) piece old new h.left_is gave h.split here
 
@@ -91,23 +91,23 @@ at_end xs (Some ys) None is gave end = absurd gave
 at_end xs (Some ys) (Some zs) is gave end = let same : xs ≡ ys = cc in (ap Some end, same ∙ gave ∙ end)
 
 pub reads_failed : (most : Option ℕ) (stream bytes : List ℕ) (old new : Option (List ℕ)) → Reading most stream old bytes → Keeps old new → Reads most stream new (Err unread.ReadFailed)
-reads_failed most stream bytes old new h keeps = record { taken = h.taken; rest = h.rest; left_is = kept_known h.rest old new h.left_is keeps; split = h.split; comes = tt }
+reads_failed most stream bytes old new h keeps = record { taken = h.taken; rest = h.rest; left_is = kept_known h.rest old new h.left_is keeps; split = h.split; yields = tt }
 
 unkept_known : (most : Option ℕ) (stream rest taken piece : List ℕ) (old new : Option (List ℕ)) → old ≡ Some rest → Consumes old new piece → stream ≡ taken ++ rest →
     Reads most stream new (Err unread.Memory)
 unkept_known most stream rest taken piece old new is gave split =
-    let more = more_known most stream rest taken (held_of most (taken ++ piece)) piece old new is gave split refl in
-    record { taken = more.taken; rest = more.rest; left_is = more.left_is; split = more.split; comes = tt }
+    let more = more_known most stream rest taken (kept_bytes most (taken ++ piece)) piece old new is gave split refl in
+    record { taken = more.taken; rest = more.rest; left_is = more.left_is; split = more.split; yields = tt }
 
 pub reads_unkept : (most : Option ℕ) (stream bytes piece : List ℕ) (old new : Option (List ℕ)) → Reading most stream old bytes → Consumes old new piece →
     Reads most stream new (Err unread.Memory)
 reads_unkept most stream bytes piece old new h gave = unkept_known most stream h.rest h.taken piece old new h.left_is gave h.split
 
 pub reads_none : (most : Option ℕ) (stream : List ℕ) (left : Option (List ℕ)) → left ≡ Some stream → Reads most stream left (Err unread.Memory)
-reads_none most stream left is = record { taken = []; rest = stream; left_is = is; split = refl; comes = tt }
+reads_none most stream left is = record { taken = []; rest = stream; left_is = is; split = refl; yields = tt }
 
 pub reads_whole : (most : Option ℕ) (stream : List ℕ) (bytes : Vec ℕ Global) (old new : Option (List ℕ)) → Reading most stream old bytes.items → Consumes old new [] →
     IsAtEnd new → Reads most stream new (Ok bytes)
 reads_whole most stream bytes old new h gave end =
     let left = at_end h.rest old new h.left_is gave end in
-    record { taken = h.taken; rest = []; left_is = left.0; split = h.split ∙ ap (λ xs. h.taken ++ xs) left.1; comes = (refl, h.held) }
+    record { taken = h.taken; rest = []; left_is = left.0; split = h.split ∙ ap (λ xs. h.taken ++ xs) left.1; yields = (refl, h.held) }

@@ -6,31 +6,31 @@ use Rattle.hls_core_laws.specs.declared.rendition.Rendition.{Rendition}
 use Rattle.hls_core_laws.specs.Config.{ConfigData}
 use Rattle.hls_core_laws.specs.Runs.{first_state}
 use Rattle.hls_core_laws.specs.State.{State}
-use Rattle.hls_origin_listing.specs.declared.forms.Listing.{Listing}
-use Rattle.hls_origin_listing.specs.declared.forms.Listing.TheVariants.{Each, Planned}
-use Rattle.hls_settings.specs.Options.{Choice}
+use Rattle.hls_origin_listing.specs.declared.listing_mode.ListingMode.{ListingMode}
+use Rattle.hls_origin_listing.specs.declared.listing_mode.ListingMode.TheVariants.{Each, Planned}
+use Rattle.hls_settings.specs.Options.{CutOptionsData}
 
 -- the one rendition; what no playlist of a stream shows of it is as good as anything in range
-abbrev pub the_rendition : Rendition
-the_rendition = record { name = codes "stream"; video = true; bandwidth = 1; tolerance = 0 }
+abbrev pub stream_rendition : Rendition
+stream_rendition = record { name = codes "stream"; video = true; bandwidth = 1; tolerance = 0 }
 
 -- the preferred length; where none is given it is the target, and nothing depends on it
 abbrev pub preferred_or : ℕ → Option ℕ → ℕ
 preferred_or target None = target * 1000000
 preferred_or target (Some length) = length
 
-abbrev pub config_of : Choice → ConfigData
+abbrev pub config_of : CutOptionsData → ConfigData
 config_of choice =
-    record { target = choice.target; preferred = preferred_or choice.target choice.preferred; renditions = the_rendition ∷ []; epoch = choice.epoch }
+    record { target = choice.target; preferred = preferred_or choice.target choice.preferred; renditions = stream_rendition ∷ []; epoch = choice.epoch }
 
 -- the channel with nothing recorded
-abbrev pub opening_of : Choice → State
+abbrev pub opening_of : CutOptionsData → State
 opening_of choice = first_state (config_of choice)
 
 -- each place begins a segment, or a least plan is made where a preferred length is given
-abbrev pub listing_by : Option ℕ → CostRule → Bool → Listing
-listing_by None rule certificate = Each
-listing_by (Some length) rule certificate = Planned rule certificate
+abbrev pub listing_mode_by : Option ℕ → CostRule → Bool → ListingMode
+listing_mode_by None rule certificate = Each
+listing_mode_by (Some length) rule certificate = Planned rule certificate
 
-abbrev pub listing_of : Choice → Listing
-listing_of choice = listing_by choice.preferred (rule_of choice.charge) choice.certificate
+abbrev pub listing_mode_of : CutOptionsData → ListingMode
+listing_mode_of choice = listing_mode_by choice.preferred (rule_of choice.charge) choice.certificate

@@ -1,28 +1,28 @@
 -- What the text of a certificate is answered, and how the answer is printed.
 use Rattle.std.specs.Prelude.{◌≡◌, ℕ, List, [], ◌∷◌, ◌++◌, codes, Result, Ok, Err, ◌⊎◌}
-use Rattle.hls_text.specs.Numbers.{spaced}
+use Rattle.hls_text.specs.Numbers.{spaced_numbers}
 use Rattle.hls_check_laws.specs.declared.cert_fault.CertFault.{CertFault}
 use Rattle.hls_check_laws.specs.declared.cert_fault.CertFault.TheVariants.{Form, TableNotSorted, PlanEnds, PlanStep, PlanCost}
 use Rattle.hls_check_laws.specs.declared.cert_fault.CertFault.TheVariants.{PriceStart, PriceStep, EndReached, Memory}
 use Rattle.hls_check_laws.specs.declared.verdict.Verdict.{Verdict}
 use Rattle.hls_check_laws.specs.declared.verdict.Verdict.TheVariants.{Cut, NoCut}
-use Rattle.hls_check_laws.specs.Certificates.{Printed, IsCertificate}
+use Rattle.hls_check_laws.specs.Certificates.{CertificateData, IsCertificate}
 use Rattle.hls_check_laws.specs.Faults.{fault_name}
-use Rattle.hls_check.specs.Answers.{IsAnswer}
+use Rattle.hls_check.specs.CheckResults.{IsCheckResult}
 use Rattle.hls_check_text.specs.Text.{text}
-use Rattle.hls_check_text.specs.Wrong.{IsFirstWrong}
+use Rattle.hls_check_text.specs.WrongLines.{IsFirstWrongLine}
 
 -- the bytes are a certificate's text, and this is the answer to the certificate
 pub record AnswersCertificate (bytes : List ℕ) (answer : Result Verdict CertFault) : Type 0 where
-  pub certificate : Printed
+  pub certificate : CertificateData
   pub is_certificate : IsCertificate certificate
   pub text_is : bytes ≡ text certificate
-  pub answer_is : IsAnswer certificate answer
+  pub answer_is : IsCheckResult certificate answer
 
 -- the bytes are no certificate's text, and the answer names their first wrong line
 pub record NamesWrongLine (bytes : List ℕ) (answer : Result Verdict CertFault) : Type 0 where
   pub line : ℕ
-  pub first_wrong : IsFirstWrong bytes line
+  pub first_wrong : IsFirstWrongLine bytes line
   pub answer_is : answer ≡ Err (Form line)
 
 -- the one answer to a text
@@ -42,10 +42,10 @@ fault_numbers Memory = []
 
 -- an answer without its line feed
 abbrev pub answer_words : Result Verdict CertFault → List ℕ
-answer_words (Ok (Cut cost)) = codes "cut" ++ spaced (cost ∷ [])
+answer_words (Ok (Cut cost)) = codes "cut" ++ spaced_numbers (cost ∷ [])
 answer_words (Ok NoCut) = codes "none"
-answer_words (Err f) = codes "refused " ++ (fault_name f ++ spaced (fault_numbers f))
+answer_words (Err f) = codes "refused " ++ (fault_name f ++ spaced_numbers (fault_numbers f))
 
 -- the line of an answer
-abbrev pub printed : Result Verdict CertFault → List ℕ
-printed answer = answer_words answer ++ (10 ∷ [])
+abbrev pub check_line : Result Verdict CertFault → List ℕ
+check_line answer = answer_words answer ++ (10 ∷ [])

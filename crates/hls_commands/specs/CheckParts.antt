@@ -4,41 +4,41 @@ use Rattle.std.specs.Prelude.{◌≡◌, ℕ, List, ◌++◌, Option, Some, None
 use Rattle.hls_check_laws.specs.declared.cert_fault.CertFault.{CertFault}
 use Rattle.hls_check_laws.specs.declared.cert_fault.CertFault.TheVariants.{Memory}
 use Rattle.hls_check_laws.specs.declared.verdict.Verdict.{Verdict}
-use Rattle.hls_check_text.specs.Wrong.{IsGoodText}
-use Rattle.hls_io.specs.Rose.{Rose}
+use Rattle.hls_check_text.specs.WrongLines.{IsCertificateText}
+use Rattle.hls_io.specs.Failures.{FailuresRose}
 use Rattle.hls_commands.specs.declared.check.run.CheckEnd.{CheckEnd}
 use Rattle.hls_commands.specs.declared.check.run.CheckEnd.TheVariants.{Yes, Refused, ReadFailed, WriteFailed}
-use Rattle.hls_commands.specs.Beginning.{IsBeginning}
-use Rattle.hls_commands.specs.CheckAnswer.{AnswerOf, printed}
+use Rattle.hls_commands.specs.Prefix.{IsPrefix}
+use Rattle.hls_commands.specs.CheckAnswer.{AnswerOf, check_line}
 use Rattle.hls_commands.specs.CheckRun.{AnswersStream}
 
 -- the answer to a text; want of memory only of a certificate's
 abbrev pub AnswersText : List ℕ → Result Verdict CertFault → Type 0
-AnswersText bytes (Err Memory) = IsGoodText bytes
+AnswersText bytes (Err Memory) = IsCertificateText bytes
 AnswersText bytes answer = AnswerOf bytes answer
 
 -- a stream's answer, or none where a read failed
-abbrev pub Tells : List ℕ → List ℕ → Option (Result Verdict CertFault) → Type 0
-Tells stream rest None = Unit {0}
-Tells stream rest (Some answer) = AnswersStream stream rest answer
+abbrev pub IsStreamVerdict : List ℕ → List ℕ → Option (Result Verdict CertFault) → Type 0
+IsStreamVerdict stream rest None = Unit {0}
+IsStreamVerdict stream rest (Some answer) = AnswersStream stream rest answer
 
-pub record TellsAnswer (stream : List ℕ) (left : Option (List ℕ)) (told : Option (Result Verdict CertFault)) : Type 0 where
+pub record ReportsAnswer (stream : List ℕ) (left : Option (List ℕ)) (reported : Option (Result Verdict CertFault)) : Type 0 where
   pub taken : List ℕ
   pub rest : List ℕ
   pub left_is : left ≡ Some rest
   pub split : stream ≡ taken ++ rest
-  pub tells : Tells stream rest told
+  pub reports : IsStreamVerdict stream rest reported
 
-abbrev pub CountsTelling : Option (Result Verdict CertFault) → ℕ → ℕ → Type 0
-CountsTelling None old new = Rose old new
-CountsTelling (Some answer) old new = new ≡ old
+abbrev pub CountsReadFailures : Option (Result Verdict CertFault) → ℕ → ℕ → Type 0
+CountsReadFailures None old new = FailuresRose old new
+CountsReadFailures (Some answer) old new = new ≡ old
 
 -- An answer's line is written, whole or up to a failed write; it is a yes exactly where it is a cut
 -- or that there is none.
 abbrev pub Prints : Result Verdict CertFault → List ℕ → CheckEnd → Type 0
-Prints (Ok verdict) text Yes = text ≡ printed (Ok verdict)
-Prints (Err f) text Refused = text ≡ printed (Err f)
-Prints answer text (WriteFailed told) = (told ≡ answer) × IsBeginning text (printed answer)
+Prints (Ok verdict) text Yes = text ≡ check_line (Ok verdict)
+Prints (Err f) text Refused = text ≡ check_line (Err f)
+Prints answer text (WriteFailed reported) = (reported ≡ answer) × IsPrefix text (check_line answer)
 Prints answer text end = ⊥
 
 pub record PrintsAnswer (answer : Result Verdict CertFault) (held : List ℕ) (contents : Option (List ℕ)) (end : CheckEnd) : Type 0 where
@@ -47,6 +47,6 @@ pub record PrintsAnswer (answer : Result Verdict CertFault) (held : List ℕ) (c
   pub prints : Prints answer text end
 
 abbrev pub CountsPrinting : CheckEnd → ℕ → ℕ → Type 0
-CountsPrinting (WriteFailed answer) old new = Rose old new
+CountsPrinting (WriteFailed answer) old new = FailuresRose old new
 CountsPrinting ReadFailed old new = ⊥
 CountsPrinting end old new = new ≡ old

@@ -3,39 +3,39 @@ use Rattle.std.specs.Prelude.{ℕ, ◌-◌, ◌^◌, Bool, true, false, List, []
 use Rattle.std.specs.Fmt.{decimal}
 use Rattle.std.specs.List.{sum_by}
 use Rattle.hls_time.specs.Seconds.{seconds_text}
-use Rattle.hls_text.specs.Numbers.{spaced}
+use Rattle.hls_text.specs.Numbers.{spaced_numbers}
 use Rattle.hls_m3u8.specs.declared.fault.ListFault.{ListFault}
 use Rattle.hls_m3u8.specs.declared.fault.ListFault.TheVariants.{NotM3u, Utf8, BadTag, MissingTag, TooLong, Memory}
-use Rattle.hls_m3u8.specs.declared.playlist.Kind.{Kind}
-use Rattle.hls_m3u8.specs.declared.playlist.Kind.TheVariants.{Vod, Event}
-use Rattle.hls_m3u8.specs.declared.playlist.Segment.{Segment}
-use Rattle.hls_m3u8.specs.Faults.{fault_name}
+use Rattle.hls_m3u8.specs.declared.playlist.PlaylistKind.{PlaylistKind}
+use Rattle.hls_m3u8.specs.declared.playlist.PlaylistKind.TheVariants.{Vod, Event}
+use Rattle.hls_m3u8.specs.declared.playlist.MediaSegment.{MediaSegment}
+use Rattle.hls_m3u8.specs.FaultName.{list_fault_name}
 use Rattle.hls_m3u8.specs.Playlist.{Playlist}
 
 -- a label and a number
 abbrev pub field : List ℕ → ℕ → List ℕ
 field label n = label ++ decimal n
 
-abbrev pub us_of : Segment → ℕ
+abbrev pub us_of : MediaSegment → ℕ
 us_of segment = segment.us
 
 -- the longest time that is told, in microseconds
-abbrev pub longest : ℕ
-longest = 2 ^ 53 - 1
+abbrev pub longest_us : ℕ
+longest_us = 2 ^ 53 - 1
 
 -- the segments' lengths together, or the longest time that is told
-abbrev pub total_us : List Segment → ℕ
-total_us segments = min (sum_by us_of segments) longest
+abbrev pub total_us : List MediaSegment → ℕ
+total_us segments = min (sum_by us_of segments) longest_us
 
 -- how many segments there are
-abbrev pub count_words : List Segment → List ℕ
+abbrev pub count_words : List MediaSegment → List ℕ
 count_words segments = field (codes "media playlist: ") (length segments)
 
 -- how long they are
 abbrev pub length_words : ℕ → List ℕ
 length_words us = codes " segments, " ++ seconds_text us
 
-abbrev pub extent : List Segment → List ℕ
+abbrev pub extent : List MediaSegment → List ℕ
 extent segments = (count_words segments ++ length_words (total_us segments)) ++ codes " seconds"
 
 -- target duration and version
@@ -46,7 +46,7 @@ header list = field (codes ", target ") list.target ++ field (codes ", version "
 abbrev pub sequences : Playlist → List ℕ
 sequences list = field (codes ", media sequence ") list.media_sequence ++ field (codes ", discontinuity sequence ") list.discontinuity_sequence
 
-abbrev pub kind_words : Option Kind → List ℕ
+abbrev pub kind_words : Option PlaylistKind → List ℕ
 kind_words None = codes ", live"
 kind_words (Some Vod) = codes ", VOD"
 kind_words (Some Event) = codes ", EVENT"
@@ -60,19 +60,19 @@ abbrev pub summary : Playlist → List ℕ
 summary list = (extent list.segments ++ (header list ++ sequences list)) ++ (kind_words list.kind ++ end_words list.ended)
 
 -- the line of a tag that is refused
-abbrev pub fault_lines : ListFault → List ℕ
-fault_lines NotM3u = []
-fault_lines Utf8 = []
-fault_lines (BadTag line) = line ∷ []
-fault_lines MissingTag = []
-fault_lines TooLong = []
-fault_lines Memory = []
+abbrev pub fault_line_numbers : ListFault → List ℕ
+fault_line_numbers NotM3u = []
+fault_line_numbers Utf8 = []
+fault_line_numbers (BadTag line) = line ∷ []
+fault_line_numbers MissingTag = []
+fault_line_numbers TooLong = []
+fault_line_numbers Memory = []
 
 -- an answer without its line feed
 abbrev pub lint_words : Result Playlist ListFault → List ℕ
 lint_words (Ok list) = summary list
-lint_words (Err f) = codes "refused " ++ (fault_name f ++ spaced (fault_lines f))
+lint_words (Err f) = codes "refused " ++ (list_fault_name f ++ spaced_numbers (fault_line_numbers f))
 
 -- the line of an answer
-abbrev pub printed : Result Playlist ListFault → List ℕ
-printed answer = lint_words answer ++ (10 ∷ [])
+abbrev pub lint_line : Result Playlist ListFault → List ℕ
+lint_line answer = lint_words answer ++ (10 ∷ [])

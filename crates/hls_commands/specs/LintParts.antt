@@ -2,16 +2,16 @@
 -- What the parts of a run of `lint` pass on to each other.
 use Rattle.std.specs.Prelude.{◌≡◌, ℕ, ◌+◌, List, [], ◌++◌, Option, Some, None, Result, Ok, Err, Vec, ◌⊎◌}
 use Rattle.std.specs.Global.{Global}
-use Rattle.hls_io.specs.Rose.{Rose}
+use Rattle.hls_io.specs.Failures.{FailuresRose}
 use Rattle.hls_m3u8.specs.declared.fault.ListFault.{ListFault}
 use Rattle.hls_m3u8.specs.declared.fault.ListFault.TheVariants.{Memory}
 use Rattle.hls_m3u8.specs.Limits.{text_limit}
 use Rattle.hls_m3u8.specs.Playlist.{Playlist}
-use Rattle.hls_m3u8.specs.Reading.{reading_of}
+use Rattle.hls_m3u8.specs.ReadLines.{reading_of}
 use Rattle.hls_commands.specs.declared.lint.run.LintEnd.{LintEnd}
 use Rattle.hls_commands.specs.declared.lint.run.LintEnd.TheVariants.{Readable, Refused, WriteFailed}
-use Rattle.hls_commands.specs.Beginning.{IsBeginning}
-use Rattle.hls_commands.specs.LintAnswer.{printed}
+use Rattle.hls_commands.specs.Prefix.{IsPrefix}
+use Rattle.hls_commands.specs.LintAnswer.{lint_line}
 
 -- how many bytes of a text are held: one past the most that a reader of playlists takes
 abbrev pub held_bytes : ℕ
@@ -19,40 +19,40 @@ held_bytes = text_limit + 1
 
 -- the line of a text that is a list, or why it is none
 abbrev pub IsLine : List ℕ → Result (Vec ℕ Global) ListFault → Type 0
-IsLine text (Ok line) = (list : Playlist) × (reading_of text ≡ Ok list) × (line.items ≡ printed (Ok list))
+IsLine text (Ok line) = (list : Playlist) × (reading_of text ≡ Ok list) × (line.items ≡ lint_line (Ok list))
 IsLine text (Err Memory) = Unit {0}
 IsLine text (Err f) = reading_of text ≡ Err f
 
 -- the line of a stream of which nothing is left; none where a read failed
-abbrev pub Tells : List ℕ → List ℕ → Option (Result (Vec ℕ Global) ListFault) → Type 0
-Tells stream rest None = Unit {0}
-Tells stream rest (Some (Err Memory)) = Unit {0}
-Tells stream rest (Some line) = (rest ≡ []) × IsLine stream line
+abbrev pub IsStreamLine : List ℕ → List ℕ → Option (Result (Vec ℕ Global) ListFault) → Type 0
+IsStreamLine stream rest None = Unit {0}
+IsStreamLine stream rest (Some (Err Memory)) = Unit {0}
+IsStreamLine stream rest (Some line) = (rest ≡ []) × IsLine stream line
 
-pub record TellsLine (stream : List ℕ) (left : Option (List ℕ)) (told : Option (Result (Vec ℕ Global) ListFault)) : Type 0 where
+pub record ReportsLine (stream : List ℕ) (left : Option (List ℕ)) (reported : Option (Result (Vec ℕ Global) ListFault)) : Type 0 where
   pub taken : List ℕ
   pub rest : List ℕ
   pub left_is : left ≡ Some rest
   pub split : stream ≡ taken ++ rest
-  pub tells : Tells stream rest told
+  pub reports : IsStreamLine stream rest reported
 
-abbrev pub CountsTelling : Option (Result (Vec ℕ Global) ListFault) → ℕ → ℕ → Type 0
-CountsTelling None old new = Rose old new
-CountsTelling (Some line) old new = new ≡ old
+abbrev pub CountsReadFailures : Option (Result (Vec ℕ Global) ListFault) → ℕ → ℕ → Type 0
+CountsReadFailures None old new = FailuresRose old new
+CountsReadFailures (Some line) old new = new ≡ old
 
 -- the bytes of a line
 abbrev pub line_bytes : Result (Vec ℕ Global) ListFault → List ℕ
 line_bytes (Ok line) = line.items
-line_bytes (Err f) = printed (Err f)
+line_bytes (Err f) = lint_line (Err f)
 
 -- how it ends once they are written
-abbrev pub done_of : Result (Vec ℕ Global) ListFault → LintEnd
-done_of (Ok line) = Readable
-done_of (Err f) = Refused
+abbrev pub lint_end_of : Result (Vec ℕ Global) ListFault → LintEnd
+lint_end_of (Ok line) = Readable
+lint_end_of (Err f) = Refused
 
 -- all of a text is written, or a beginning of it up to a failed write
 abbrev pub WritesText : List ℕ → LintEnd → List ℕ → LintEnd → Type 0
-WritesText whole done text end = ((end ≡ done) × (text ≡ whole)) ⊎ ((end ≡ WriteFailed) × IsBeginning text whole)
+WritesText whole done text end = ((end ≡ done) × (text ≡ whole)) ⊎ ((end ≡ WriteFailed) × IsPrefix text whole)
 
 pub record PrintsText (whole : List ℕ) (done : LintEnd) (held : List ℕ) (contents : Option (List ℕ)) (end : LintEnd) : Type 0 where
   pub text : List ℕ
@@ -60,4 +60,4 @@ pub record PrintsText (whole : List ℕ) (done : LintEnd) (held : List ℕ) (con
   pub writes : WritesText whole done text end
 
 abbrev pub CountsText : LintEnd → LintEnd → ℕ → ℕ → Type 0
-CountsText done end old new = ((end ≡ done) × (new ≡ old)) ⊎ ((end ≡ WriteFailed) × Rose old new)
+CountsText done end old new = ((end ≡ done) × (new ≡ old)) ⊎ ((end ≡ WriteFailed) × FailuresRose old new)

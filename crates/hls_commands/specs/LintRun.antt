@@ -1,15 +1,15 @@
 -- What a run of `lint` reads, writes and answers: its promise. (What its parts pass on to each other
 -- stands in LintParts.)
 use Rattle.std.specs.Prelude.{◌≡◌, ℕ, List, [], ◌++◌, Option, Some, Result, Ok, Err}
-use Rattle.hls_io.specs.Rose.{Rose}
+use Rattle.hls_io.specs.Failures.{FailuresRose}
 use Rattle.hls_m3u8.specs.declared.fault.ListFault.{ListFault}
 use Rattle.hls_m3u8.specs.declared.fault.ListFault.TheVariants.{Memory}
 use Rattle.hls_m3u8.specs.Playlist.{Playlist}
-use Rattle.hls_m3u8.specs.Reading.{reading_of}
+use Rattle.hls_m3u8.specs.ReadLines.{reading_of}
 use Rattle.hls_commands.specs.declared.lint.run.LintEnd.{LintEnd}
 use Rattle.hls_commands.specs.declared.lint.run.LintEnd.TheVariants.{Readable, Refused, ReadFailed, WriteFailed}
-use Rattle.hls_commands.specs.Beginning.{IsBeginning}
-use Rattle.hls_commands.specs.LintAnswer.{printed}
+use Rattle.hls_commands.specs.Prefix.{IsPrefix}
+use Rattle.hls_commands.specs.LintAnswer.{lint_line}
 
 -- what the whole of a stream is read as, of which nothing is left; or want of memory
 abbrev pub AnswersStream : List ℕ → List ℕ → Result Playlist ListFault → Type 0
@@ -17,24 +17,24 @@ AnswersStream stream rest (Err Memory) = Unit {0}
 AnswersStream stream rest answer = (rest ≡ []) × (reading_of stream ≡ answer)
 
 -- of the stream `rest` is left unread, and `text` is written
-abbrev pub Answers : List ℕ → List ℕ → List ℕ → LintEnd → Type 0
-Answers stream rest text Readable = (list : Playlist) × AnswersStream stream rest (Ok list) × (text ≡ printed (Ok list))
-Answers stream rest text Refused = (f : ListFault) × AnswersStream stream rest (Err f) × (text ≡ printed (Err f))
-Answers stream rest text ReadFailed = text ≡ []
-Answers stream rest text WriteFailed = (answer : Result Playlist ListFault) × AnswersStream stream rest answer × IsBeginning text (printed answer)
+abbrev pub AnswersLint : List ℕ → List ℕ → List ℕ → LintEnd → Type 0
+AnswersLint stream rest text Readable = (list : Playlist) × AnswersStream stream rest (Ok list) × (text ≡ lint_line (Ok list))
+AnswersLint stream rest text Refused = (f : ListFault) × AnswersStream stream rest (Err f) × (text ≡ lint_line (Err f))
+AnswersLint stream rest text ReadFailed = text ≡ []
+AnswersLint stream rest text WriteFailed = (answer : Result Playlist ListFault) × AnswersStream stream rest answer × IsPrefix text (lint_line answer)
 
 -- what was taken of the stream and what is left of it, and what was written behind what was held
-pub record Runs (stream held : List ℕ) (left contents : Option (List ℕ)) (end : LintEnd) : Type 0 where
+pub record RunsLint (stream held : List ℕ) (left contents : Option (List ℕ)) (end : LintEnd) : Type 0 where
   pub taken : List ℕ
   pub rest : List ℕ
   pub text : List ℕ
   pub left_is : left ≡ Some rest
   pub split : stream ≡ taken ++ rest
   pub contents_are : contents ≡ Some (held ++ text)
-  pub answers : Answers stream rest text end
+  pub answers : AnswersLint stream rest text end
 
 -- a failed read or write is told, and only where one was counted; no other is passed over
 abbrev pub CountsFailures : LintEnd → ℕ → ℕ → ℕ → ℕ → Type 0
-CountsFailures ReadFailed read_old read_new write_old write_new = Rose read_old read_new × (write_new ≡ write_old)
-CountsFailures WriteFailed read_old read_new write_old write_new = (read_new ≡ read_old) × Rose write_old write_new
+CountsFailures ReadFailed read_old read_new write_old write_new = FailuresRose read_old read_new × (write_new ≡ write_old)
+CountsFailures WriteFailed read_old read_new write_old write_new = (read_new ≡ read_old) × FailuresRose write_old write_new
 CountsFailures end read_old read_new write_old write_new = (read_new ≡ read_old) × (write_new ≡ write_old)

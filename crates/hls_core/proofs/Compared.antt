@@ -6,12 +6,12 @@ use Rattle.std.proofs.lemmas.List.{take-append-drop}
 use Rattle.hls_blocks.specs.Numbered.{Numbered, item_at}
 use Rattle.hls_core_laws.specs.declared.event.Entry.{Entry}
 use Rattle.hls_core_laws.specs.Channel.{Lane, no_lane, lane}
-use Rattle.hls_core_laws.specs.State.{State, Held, channel}
-use Rattle.hls_core_laws.specs.Follows.{Continues, AreSame, SameHeld}
+use Rattle.hls_core_laws.specs.State.{State, HeldBytes, channel}
+use Rattle.hls_core_laws.specs.Follows.{Extends, AllHaveSameBytes, HaveSameBytes}
 use Rattle.hls_core_laws.specs.Workers.{events_by}
 use Rattle.hls_core.proofs.Cited.{at_or, events_by-append, take_at}
-use Rattle.hls_core.specs.declared.side.Side.{Side}
-use Rattle.hls_core.specs.Sides.{lane_of, held_of, IsAt}
+use Rattle.hls_core.specs.declared.rendition_state.RenditionState.{RenditionState}
+use Rattle.hls_core.specs.RenditionStates.{lane_of, held_of, HasRenditionState}
 
 module _ {T : Type 0} where
   -- an item of a list that counts from 0
@@ -49,40 +49,40 @@ pub counted_other : (by : ℕ) (xs : List Entry) (n : ℕ) (e : Entry) → slice
 counted_other by xs n e at isnt = let none = none_by by e isnt in omega (arith, counted by xs n e at, none)
 
 -- what two sides say of the bytes that two states keep
-pub sides_same : (a b : State) (r : ℕ) (x y : Side) → IsAt a r x → IsAt b r y → SameHeld (lane_of x) (lane_of y) (held_of x) (held_of y) → (ha hb : Held) → slice_get a.bytes r ≡ Some ha → slice_get b.bytes r ≡ Some hb → SameHeld (lane (channel a) r) (lane (channel b) r) ha hb
+pub sides_same : (a b : State) (r : ℕ) (x y : RenditionState) → HasRenditionState a r x → HasRenditionState b r y → HaveSameBytes (lane_of x) (lane_of y) (held_of x) (held_of y) → (ha hb : HeldBytes) → slice_get a.bytes r ≡ Some ha → slice_get b.bytes r ≡ Some hb → HaveSameBytes (lane (channel a) r) (lane (channel b) r) ha hb
 sides_same a b r x y at_a at_b same ha hb held_a held_b =
     let a_is : held_of x ≡ ha = let was = at_a.held in cc in
     let b_is : held_of y ≡ hb = let was = at_b.held in cc in
     let lane_a : lane (channel a) r ≡ lane_of x = at_or (channel a).lanes r no_lane (lane_of x) at_a.lane in
     let lane_b : lane (channel b) r ≡ lane_of y = at_or (channel b).lanes r no_lane (lane_of y) at_b.lane in
-    subst (λ (l : Lane). SameHeld l (lane (channel b) r) ha hb) (sym lane_a)
-    (subst (λ (l : Lane). SameHeld (lane_of x) l ha hb) (sym lane_b)
-    (subst (λ (h : Held). SameHeld (lane_of x) (lane_of y) h hb) a_is
-    (subst (λ (h : Held). SameHeld (lane_of x) (lane_of y) (held_of x) h) b_is same)))
+    subst (λ (l : Lane). HaveSameBytes l (lane (channel b) r) ha hb) (sym lane_a)
+    (subst (λ (l : Lane). HaveSameBytes (lane_of x) l ha hb) (sym lane_b)
+    (subst (λ (h : HeldBytes). HaveSameBytes (lane_of x) (lane_of y) h hb) a_is
+    (subst (λ (h : HeldBytes). HaveSameBytes (lane_of x) (lane_of y) (held_of x) h) b_is same)))
 
-pub same_at : (a b : State) (r : ℕ) (x y : Side) → IsAt a r x → IsAt b r y → AreSame a b → SameHeld (lane_of x) (lane_of y) (held_of x) (held_of y)
+pub same_at : (a b : State) (r : ℕ) (x y : RenditionState) → HasRenditionState a r x → HasRenditionState b r y → AllHaveSameBytes a b → HaveSameBytes (lane_of x) (lane_of y) (held_of x) (held_of y)
 same_at a b r x y at_a at_b same =
     let lane_a : lane (channel a) r ≡ lane_of x = at_or (channel a).lanes r no_lane (lane_of x) at_a.lane in
     let lane_b : lane (channel b) r ≡ lane_of y = at_or (channel b).lanes r no_lane (lane_of y) at_b.lane in
-    subst (λ (l : Lane). SameHeld l (lane_of y) (held_of x) (held_of y)) lane_a
-    (subst (λ (l : Lane). SameHeld (lane (channel a) r) l (held_of x) (held_of y)) lane_b
+    subst (λ (l : Lane). HaveSameBytes l (lane_of y) (held_of x) (held_of y)) lane_a
+    (subst (λ (l : Lane). HaveSameBytes (lane (channel a) r) l (held_of x) (held_of y)) lane_b
     (same r (held_of x) (held_of y) at_a.held at_b.held))
 
 -- one more rendition in which all that both keep is the same
-pub same_more : (a b : State) (n : ℕ) (x y : Side) → IsAt a n x → IsAt b n y → SameHeld (lane_of x) (lane_of y) (held_of x) (held_of y)
-    → ((r : ℕ) (ha hb : Held) → r < n → slice_get a.bytes r ≡ Some ha → slice_get b.bytes r ≡ Some hb → SameHeld (lane (channel a) r) (lane (channel b) r) ha hb)
-    → (r : ℕ) (ha hb : Held) → r < n + 1 → slice_get a.bytes r ≡ Some ha → slice_get b.bytes r ≡ Some hb → SameHeld (lane (channel a) r) (lane (channel b) r) ha hb
+pub same_more : (a b : State) (n : ℕ) (x y : RenditionState) → HasRenditionState a n x → HasRenditionState b n y → HaveSameBytes (lane_of x) (lane_of y) (held_of x) (held_of y)
+    → ((r : ℕ) (ha hb : HeldBytes) → r < n → slice_get a.bytes r ≡ Some ha → slice_get b.bytes r ≡ Some hb → HaveSameBytes (lane (channel a) r) (lane (channel b) r) ha hb)
+    → (r : ℕ) (ha hb : HeldBytes) → r < n + 1 → slice_get a.bytes r ≡ Some ha → slice_get b.bytes r ≡ Some hb → HaveSameBytes (lane (channel a) r) (lane (channel b) r) ha hb
 same_more a b n x y at_a at_b same before r ha hb below held_a held_b = elim (cases_eq r n) [
   | inl here ↦
       let held_an : slice_get a.bytes n ≡ Some ha = subst (λ (k : ℕ). slice_get a.bytes k ≡ Some ha) here held_a in
       let held_bn : slice_get b.bytes n ≡ Some hb = subst (λ (k : ℕ). slice_get b.bytes k ≡ Some hb) here held_b in
-      subst (λ (k : ℕ). SameHeld (lane (channel a) k) (lane (channel b) k) ha hb) (sym here)
+      subst (λ (k : ℕ). HaveSameBytes (lane (channel a) k) (lane (channel b) k) ha hb) (sym here)
       (sides_same a b n x y at_a at_b same ha hb held_an held_bn)
   | inr other ↦ before r ha hb (omega arith) held_a held_b
 ]
 
 -- these three tests decide what it is to continue
-pub continues_when : (a b : State) → a.config ≡ b.config → take (length a.log) b.log ≡ a.log → AreSame a b → Continues a b
+pub continues_when : (a b : State) → a.config ≡ b.config → take (length a.log) b.log ≡ a.log → AllHaveSameBytes a b → Extends a b
 continues_when a b config front same =
     let whole : b.log ≡ a.log ++ drop (length a.log) b.log =
     sym (take-append-drop (length a.log) b.log) ∙ ap (λ (xs : List Entry). xs ++ drop (length a.log) b.log) front in

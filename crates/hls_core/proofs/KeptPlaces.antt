@@ -5,18 +5,18 @@ use Rattle.std.proofs.lemmas.Bool.{cases_lt, cond-true, cond-false, leb-true, le
 use Rattle.hls_check_laws.specs.Tables.{spot_in}
 use Rattle.hls_places_laws.specs.declared.place.Place.{Place}
 use Rattle.hls_places_laws.specs.Order.{time_of}
-use Rattle.hls_places_laws.specs.Programmes.{is_kept, kept}
+use Rattle.hls_places_laws.specs.Programmes.{is_kept, filter_kept}
 use Rattle.hls_core_laws.specs.Channel.{Lane}
 use Rattle.hls_core_laws.specs.State.{State, channel}
 use Rattle.hls_core_laws.specs.IsState.{IsState}
 use Rattle.hls_core_laws.specs.Places.{places, floors, floor_of, kept_places}
 use Rattle.std.proofs.lemmas.Option.{slice_get_within}
 use Rattle.hls_core.proofs.Cited.{kept-parts, kept-of, kept-goes-on, times-rise}
-use Rattle.hls_core.specs.declared.kept.Asked.{Asked}
-use Rattle.hls_core.specs.declared.kept.Asked.TheVariants.{By, Trimmed}
-use Rattle.hls_core.specs.Cuts.{KeptBefore}
+use Rattle.hls_core.specs.declared.place_search.PlacePredicate.{PlacePredicate}
+use Rattle.hls_core.specs.declared.place_search.PlacePredicate.TheVariants.{AtOrBefore, Trimmed}
+use Rattle.hls_core.specs.TrimPlaces.{KeptBefore}
 use Rattle.hls_core.specs.KeptPlaces.{IsLastKeptBy, NoKeptBy}
-use Rattle.hls_core.specs.Fronts.{meets, MeetBelow, NoneFrom, IsFront}
+use Rattle.hls_core.specs.Predicates.{satisfies, SatisfyBelow, NoneSatisfiesFrom, IsFront}
 
 some-is : {A : Type 0} (x y : A) → Some x ≡ Some y → x ≡ y
 some-is x y is = cc
@@ -73,9 +73,9 @@ times-keep s state i j p q before at also =
           omega (arith, ap time_of same)
     ]
 
-met-before : (s : State) → IsState s → (asked : Asked) (i j : ℕ) (p q : Place) → i ≤ j → slice_get (places s) i ≡ Some p → slice_get (places s) j ≡ Some q →
-    meets s asked q ≡ true → meets s asked p ≡ true
-met-before s state (By time) i j p q before at also is =
+met-before : (s : State) → IsState s → (predicate : PlacePredicate) (i j : ℕ) (p q : Place) → i ≤ j → slice_get (places s) i ≡ Some p → slice_get (places s) j ≡ Some q →
+    satisfies s predicate q ≡ true → satisfies s predicate p ≡ true
+met-before s state (AtOrBefore time) i j p q before at also is =
     le-leb (time_of p) time (omega (arith, times-keep s state i j p q before at also, leb-true (time_of q) time is))
 met-before s state Trimmed i j p q before at also is = elim (is_kept (floors s) p) as (λ b. is_kept (floors s) p ≡ b → not b ≡ true) [
   | true ↦ λ kept.
@@ -84,34 +84,34 @@ met-before s state Trimmed i j p q before at also is = elim (is_kept (floors s) 
   | false ↦ λ kept. refl
 ] refl
 
-pub met-more : (s : State) → IsState s → (asked : Asked) (middle : ℕ) (here : Place) → slice_get (places s) middle ≡ Some here → meets s asked here ≡ true →
-    MeetBelow s asked (middle + 1)
-met-more s state asked middle here there is k p less at = met-before s state asked k middle p here (omega (arith, less)) at there is
+pub met-more : (s : State) → IsState s → (predicate : PlacePredicate) (middle : ℕ) (here : Place) → slice_get (places s) middle ≡ Some here → satisfies s predicate here ≡ true →
+    SatisfyBelow s predicate (middle + 1)
+met-more s state predicate middle here there is k p less at = met-before s state predicate k middle p here (omega (arith, less)) at there is
 
-pub unmet-more : (s : State) → IsState s → (asked : Asked) (middle : ℕ) (here : Place) → slice_get (places s) middle ≡ Some here → meets s asked here ≡ false →
-    NoneFrom s asked middle
-unmet-more s state asked middle here there isnt k p more at = elim (meets s asked p) as (λ b. meets s asked p ≡ b → b ≡ false) [
+pub unmet-more : (s : State) → IsState s → (predicate : PlacePredicate) (middle : ℕ) (here : Place) → slice_get (places s) middle ≡ Some here → satisfies s predicate here ≡ false →
+    NoneSatisfiesFrom s predicate middle
+unmet-more s state predicate middle here there isnt k p more at = elim (satisfies s predicate p) as (λ b. satisfies s predicate p ≡ b → b ≡ false) [
   | true ↦ λ is.
-      let never : true ≡ false = sym (met-before s state asked middle k here p more there at is) ∙ isnt in
+      let never : true ≡ false = sym (met-before s state predicate middle k here p more there at is) ∙ isnt in
       absurd (cc)
   | false ↦ λ is. refl
 ] refl
 
-pub none-past : (s : State) (asked : Asked) (n : ℕ) → length (places s) ≤ n → NoneFrom s asked n
-none-past s asked n past k p more at = absurd (omega (arith, slice_get_within (places s) k p at))
+pub none-past : (s : State) (predicate : PlacePredicate) (n : ℕ) → length (places s) ≤ n → NoneSatisfiesFrom s predicate n
+none-past s predicate n past k p more at = absurd (omega (arith, slice_get_within (places s) k p at))
 
 -- the places behind the trimmed ones are the kept ones
 behind : (above : List ℕ) (ps : List Place) (n : ℕ) → ((k : ℕ) (p : Place) → k < n → slice_get ps k ≡ Some p → not (is_kept above p) ≡ true) →
-    ((k : ℕ) (p : Place) → n ≤ k → slice_get ps k ≡ Some p → not (is_kept above p) ≡ false) → length (kept above ps) ≡ length ps - n
+    ((k : ℕ) (p : Place) → n ≤ k → slice_get ps k ≡ Some p → not (is_kept above p) ≡ false) → length (filter_kept above ps) ≡ length ps - n
 behind above [] n trimmed rest = omega arith
 behind above (p ∷ ps) zero trimmed rest =
     let is : is_kept above p ≡ true = is-so (is_kept above p) (rest 0 p (omega arith) refl) in
-    let more : kept above (p ∷ ps) ≡ p ∷ kept above ps = cond-true (is_kept above p) (p ∷ kept above ps) (kept above ps) is in
+    let more : filter_kept above (p ∷ ps) ≡ p ∷ filter_kept above ps = cond-true (is_kept above p) (p ∷ filter_kept above ps) (filter_kept above ps) is in
     let others = behind above ps 0 (λ k q less at. absurd (omega (arith, less))) (λ k q past at. rest (suc k) q (omega arith) at) in
     omega (arith, ap length more, others)
 behind above (p ∷ ps) (suc n) trimmed rest =
     let isnt : is_kept above p ≡ false = is-not (is_kept above p) (trimmed 0 p (omega arith) refl) in
-    let same : kept above (p ∷ ps) ≡ kept above ps = cond-false (is_kept above p) (p ∷ kept above ps) (kept above ps) isnt in
+    let same : filter_kept above (p ∷ ps) ≡ filter_kept above ps = cond-false (is_kept above p) (p ∷ filter_kept above ps) (filter_kept above ps) isnt in
     let others = behind above ps n (λ k q less at. trimmed (suc k) q (omega (arith, less)) at) (λ k q past at. rest (suc k) q (omega (arith, past)) at) in
     omega (arith, ap length same, others)
 
@@ -122,10 +122,10 @@ kept-counted s count front = behind (floors s) (places s) count front.met front.
 late : (time : ℕ) (p : Place) → nat_le (time_of p) time ≡ false → time < time_of p
 late time p isnt = leb-false (time_of p) time isnt
 
-pub none-by : (s : State) (time : ℕ) → IsFront s (By time) 0 → NoKeptBy s time
+pub none-by : (s : State) (time : ℕ) → IsFront s (AtOrBefore time) 0 → NoKeptBy s time
 none-by s time front k p at is = late time p (front.unmet k p (omega arith) at)
 
-pub none-kept-by : (s : State) → IsState s → (time count : ℕ) (p : Place) → IsFront s (By time) count → slice_get (places s) (count - 1) ≡ Some p →
+pub none-kept-by : (s : State) → IsState s → (time count : ℕ) (p : Place) → IsFront s (AtOrBefore time) count → slice_get (places s) (count - 1) ≡ Some p →
     is_kept (floors s) p ≡ false → NoKeptBy s time
 none-kept-by s state time count p front there isnt k q at is =
     elim (cases_lt k count) [
@@ -135,7 +135,7 @@ none-kept-by s state time count p front there isnt k q at is =
       | inr more ↦ late time q (front.unmet k q more at)
     ]
 
-pub last-by : (s : State) (time count : ℕ) (p : Place) → IsFront s (By time) count → 0 < count → slice_get (places s) (count - 1) ≡ Some p →
+pub last-by : (s : State) (time count : ℕ) (p : Place) → IsFront s (AtOrBefore time) count → 0 < count → slice_get (places s) (count - 1) ≡ Some p →
     is_kept (floors s) p ≡ true → IsLastKeptBy s time (count - 1)
 last-by s time count p front some there is =
     let number : count - 1 + 1 ≡ count = omega arith in

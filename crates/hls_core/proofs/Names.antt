@@ -6,7 +6,7 @@ use Rattle.std.proofs.lemmas.Slice.Eq.{bytes_eq-Decides}
 use Rattle.std.proofs.lemmas.Bool.{or_cases, both_ways, not-true, cases_eq}
 use Rattle.hls_core_laws.specs.declared.rendition.Rendition.{Rendition}
 use Rattle.hls_core_laws.specs.Config.{IsRendition, IsRenditionAt}
-use Rattle.hls_core.specs.FirstBad.{bears_name}
+use Rattle.hls_core.specs.FirstBad.{has_name}
 
 at_take : (xs : List Rendition) (n k : ℕ) (x : Rendition) → k < n → slice_get xs k ≡ Some x → slice_get (take n xs) k ≡ Some x
 at_take xs zero k x below at = absurd (omega arith)
@@ -27,9 +27,9 @@ record Bears (rs : List Rendition) (name : List ℕ) : Type 0 where
   at : slice_get rs number ≡ Some rendition
   same : rendition.name ≡ name
 
-found : (rs : List Rendition) (name : List ℕ) → bears_name rs name ≡ true → Bears rs name
+found : (rs : List Rendition) (name : List ℕ) → has_name rs name ≡ true → Bears rs name
 found [] name h = cc
-found (r ∷ rs) name h = elim (or_cases (bytes_eq r.name name) (bears_name rs name) h) [
+found (r ∷ rs) name h = elim (or_cases (bytes_eq r.name name) (has_name rs name) h) [
   | inl here ↦ record { number = 0; rendition = r; at = refl; same = (bytes_eq-Decides r.name name).0 here }
   | inr there ↦ let f = found rs name there in record { number = suc f.number; rendition = f.rendition; at = f.at; same = f.same }
 ]
@@ -38,22 +38,22 @@ or_right : (a b : Bool) → b ≡ true → (a || b) ≡ true
 or_right true b h = refl
 or_right false b h = h
 
-listed : (rs : List Rendition) (name : List ℕ) (k : ℕ) (r : Rendition) → slice_get rs k ≡ Some r → r.name ≡ name → bears_name rs name ≡ true
+listed : (rs : List Rendition) (name : List ℕ) (k : ℕ) (r : Rendition) → slice_get rs k ≡ Some r → r.name ≡ name → has_name rs name ≡ true
 listed [] name k r at same = cc
 listed (z ∷ rs) name zero r at same =
     let z_is : z ≡ r = cc in
     let test : bytes_eq z.name name ≡ true = (bytes_eq-Decides z.name name).1 (ap (λ (x : Rendition). x.name) z_is ∙ same) in
     rw test refl
-listed (z ∷ rs) name (suc k) r at same = or_right (bytes_eq z.name name) (bears_name rs name) (listed rs name k r at same)
+listed (z ∷ rs) name (suc k) r at same = or_right (bytes_eq z.name name) (has_name rs name) (listed rs name k r at same)
 
 -- none of the renditions has that name
-pub unlisted : (rs : List Rendition) (name : List ℕ) → ((k : ℕ) (r : Rendition) → slice_get rs k ≡ Some r → bytes_eq r.name name ≡ false) → false ≡ bears_name rs name
+pub unlisted : (rs : List Rendition) (name : List ℕ) → ((k : ℕ) (r : Rendition) → slice_get rs k ≡ Some r → bytes_eq r.name name ≡ false) → false ≡ has_name rs name
 unlisted [] name none = refl
 unlisted (z ∷ rs) name none =
     let here : bytes_eq z.name name ≡ false = none 0 z refl in
     rw here (unlisted rs name (λ k r at. none (suc k) r at))
 
-not_found : (rs : List Rendition) (n : ℕ) (r : Rendition) → IsRenditionAt rs n r → (b : Bool) → bears_name (take n rs) r.name ≡ b → not b ≡ true
+not_found : (rs : List Rendition) (n : ℕ) (r : Rendition) → IsRenditionAt rs n r → (b : Bool) → has_name (take n rs) r.name ≡ b → not b ≡ true
 not_found rs n r there false is = refl
 not_found rs n r there true is =
     let f = found (take n rs) r.name is in
@@ -61,14 +61,14 @@ not_found rs n r there true is =
     absurd (there.name f.number f.rendition h.0 h.1 f.same)
 
 -- a rendition may stand at n exactly where the tests say so
-pub named_apart : (rs : List Rendition) (n : ℕ) (r : Rendition) → IsRendition r → (n ≡ 0 → r.tolerance ≡ 0) → IsTrue (not (bears_name (take n rs) r.name)) ↔ IsRenditionAt rs n r
+pub named_apart : (rs : List Rendition) (n : ℕ) (r : Rendition) → IsRendition r → (n ≡ 0 → r.tolerance ≡ 0) → IsTrue (not (has_name (take n rs) r.name)) ↔ IsRenditionAt rs n r
 named_apart rs n r own first = (
   λ apart. record {
     own = own;
     first = first;
-    name = λ k other below at same. both_ways (bears_name (take n rs) r.name) (not-true (bears_name (take n rs) r.name) apart) (listed (take n rs) r.name k other (at_take rs n k other below at) same);
+    name = λ k other below at same. both_ways (has_name (take n rs) r.name) (not-true (has_name (take n rs) r.name) apart) (listed (take n rs) r.name k other (at_take rs n k other below at) same);
   },
-  λ there. not_found rs n r there (bears_name (take n rs) r.name) refl,
+  λ there. not_found rs n r there (has_name (take n rs) r.name) refl,
 )
 
 -- one more rendition that may stand where it stands

@@ -4,7 +4,7 @@ use Rattle.std.proofs.lemmas.List.{drop_all, drop_more}
 use Rattle.hls_core_laws.specs.declared.event.Event.{Event}
 use Rattle.hls_core_laws.specs.State.{State}
 use Rattle.hls_core_laws.specs.Moves.{IsFitting}
-use Rattle.hls_core_laws.specs.Runs.{next_state, replayed, AreFitting}
+use Rattle.hls_core_laws.specs.Runs.{next_state, replayed_state, AreFitting}
 
 module _ (s : State) (events : List (ℕ × Event)) (i : ℕ) (e : ℕ × Event) (within : i < length events) (is : e ≡ get_or events i e) where
   rest-is : drop i events ≡ e ∷ drop (i + 1) events
@@ -16,8 +16,8 @@ module _ (s : State) (events : List (ℕ × Event)) (i : ℕ) (e : ℕ × Event)
   pub rest_fits : (next : State) → next ≡ next_state s e.0 e.1 → AreFitting s (drop i events) → AreFitting next (drop (i + 1) events)
   rest_fits next stepped fitting = subst (λ (t : State). AreFitting t (drop (i + 1) events)) (sym stepped) (subst (AreFitting s) rest-is fitting).1
 
-  pub rest_told : (next last : State) → next ≡ next_state s e.0 e.1 → replayed s (drop i events) ≡ last → replayed next (drop (i + 1) events) ≡ last
-  rest_told next last stepped told = ap (λ (t : State). replayed t (drop (i + 1) events)) stepped ∙ sym (ap (replayed s) rest-is) ∙ told
+  pub rest_told : (next last : State) → next ≡ next_state s e.0 e.1 → replayed_state s (drop i events) ≡ last → replayed_state next (drop (i + 1) events) ≡ last
+  rest_told next last stepped progress = ap (λ (t : State). replayed_state t (drop (i + 1) events)) stepped ∙ sym (ap (replayed_state s) rest-is) ∙ progress
 
-pub all_told : (s last : State) (events : List (ℕ × Event)) (i : ℕ) → length events ≤ i → replayed s (drop i events) ≡ last → s ≡ last
-all_told s last events i all told = sym (ap (replayed s) (drop_all i events all)) ∙ told
+pub all_told : (s last : State) (events : List (ℕ × Event)) (i : ℕ) → length events ≤ i → replayed_state s (drop i events) ≡ last → s ≡ last
+all_told s last events i all progress = sym (ap (replayed_state s) (drop_all i events all)) ∙ progress

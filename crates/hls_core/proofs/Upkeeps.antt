@@ -8,7 +8,7 @@ use Rattle.hls_places_laws.specs.declared.place.Place.{Place}
 use Rattle.hls_places_laws.specs.Order.{time_of}
 use Rattle.hls_places_laws.specs.Programmes.{is_kept}
 use Rattle.hls_places_laws.specs.Line.Live.{front_of, has_ended}
-use Rattle.hls_places_laws.specs.Line.Upkeep.{IsMostSlide, is_old, IsCut, IsSlide, IsTrim, Upkeep, Idle, Slides, Trims, IsUpkeep}
+use Rattle.hls_places_laws.specs.Line.Upkeep.{IsMostSlide, is_old, IsTrimPlaceOf, IsSlide, IsTrim, Upkeep, Idle, Slides, Trims, IsUpkeep}
 use Rattle.hls_core.proofs.Cited.{cut-once, front-stands, upkeep-slides, upkeep-trims, some_at, at_map, at_or, sources_count, ordered, floors-count}
 use Rattle.hls_core_laws.specs.declared.event.Event.{Event}
 use Rattle.hls_core_laws.specs.declared.event.Event.TheVariants.{Slide, Trim}
@@ -16,10 +16,10 @@ use Rattle.hls_core_laws.specs.Channel.{Lane}
 use Rattle.hls_core_laws.specs.State.{State, channel}
 use Rattle.hls_core_laws.specs.IsState.{IsState}
 use Rattle.hls_core_laws.specs.Places.{sources, places, floors, floor_of}
-use Rattle.hls_core_laws.specs.Line.{aim_of, line}
-use Rattle.hls_core_laws.specs.Outcome.{logged_by, slide, trim, trim_limit, outcome_of}
-use Rattle.hls_core.specs.Upkeeps.{watched, event_of, IsUpkeepOf}
-use Rattle.hls_core.specs.Cuts.{IsOldUntil, NoneOld, IsCutOf, NoCut, ReachedBefore, IsFirstBelow}
+use Rattle.hls_core_laws.specs.Line.{line_goal_of, line}
+use Rattle.hls_core_laws.specs.Outcome.{new_or_full, slide, trim, trim_limit, outcome_of}
+use Rattle.hls_core.specs.Upkeeps.{upkeep_view, event_of, IsUpkeepOf}
+use Rattle.hls_core.specs.TrimPlaces.{IsOldUntil, NoneOld, IsTrimPlaceAt, HasNoTrimPlace, ReachedBefore, IsFirstBelow}
 use Rattle.hls_core.specs.KeptPlaces.{IsLastKeptBy, NoKeptBy}
 use Rattle.hls_core.proofs.KeptPlaces.{one-more}
 
@@ -62,21 +62,21 @@ none-long s keep end there short front last p is last_is old =
     absurd (omega (arith, short, ap time_of same, (old-parts keep front last p old).1))
 
 -- the cut
-old-in : (s : State) (keep time window : ℕ) (cut : Place) (until : IsOldUntil s keep time) (is : IsCut (watched s window keep) cut) → is_old keep until.front until.last cut ≡ true
+old-in : (s : State) (keep time window : ℕ) (cut : Place) (until : IsOldUntil s keep time) (is : IsTrimPlaceOf (upkeep_view s window keep) cut) → is_old keep until.front until.last cut ≡ true
 old-in s keep time window cut until is =
     let front : is.front ≡ until.front = same_Some is.front until.front (sym is.front_is ∙ until.front_is) in
     let last : is.last ≡ until.last = same_Some is.last until.last (sym is.last_is ∙ until.last_is) in
     subst (λ (l : Place). is_old keep until.front l cut ≡ true) last
     (subst (λ (f : Place). is_old keep f is.last cut ≡ true) front is.old)
 
-pub no-cut-old : (s : State) (keep : ℕ) → NoneOld s keep → NoCut s keep
+pub no-cut-old : (s : State) (keep : ℕ) → NoneOld s keep → HasNoTrimPlace s keep
 no-cut-old s keep none window cut is = none is.front is.last cut is.front_is is.last_is is.old
 
-pub no-cut : (s : State) (keep time : ℕ) → IsOldUntil s keep time → NoKeptBy s time → NoCut s keep
+pub no-cut : (s : State) (keep time : ℕ) → IsOldUntil s keep time → NoKeptBy s time → HasNoTrimPlace s keep
 no-cut s keep time until none window cut is =
     absurd (omega (arith, until.most cut (old-in s keep time window cut until is), none is.number cut is.there is.kept))
 
-pub cut-is : (s : State) (keep time n : ℕ) (p : Place) → IsOldUntil s keep time → IsLastKeptBy s time n → slice_get (places s) n ≡ Some p → IsCutOf s keep p
+pub cut-is : (s : State) (keep time n : ℕ) (p : Place) → IsOldUntil s keep time → IsLastKeptBy s time n → slice_get (places s) n ≡ Some p → IsTrimPlaceAt s keep p
 cut-is s keep time n p until last at window =
     let early : time_of p ≤ time = last.by.early n p (omega arith) at in
     let same : last.place ≡ p = same_Some last.place p (sym last.there ∙ at) in
@@ -101,36 +101,36 @@ pub ended-idle : (s : State) (window keep : ℕ) → has_ended (line s) ≡ true
 ended-idle s window keep over = record {
   upkeep = Idle;
   is = (
-    λ n slide. let never : true ≡ false = sym over ∙ slide.goes_on in absurd (cc),
-    λ r floor trim. let never : true ≡ false = sym over ∙ trim.goes_on in absurd (cc),
+    λ n slide. let never : true ≡ false = sym over ∙ slide.not_ended in absurd (cc),
+    λ r floor trim. let never : true ≡ false = sym over ∙ trim.not_ended in absurd (cc),
   );
   event_is = refl;
 }
 
 pub slides-on : (s : State) (window keep count : ℕ) → has_ended (line s) ≡ false → IsMostSlide (line s) window count → 0 < count →
-    IsSlide (watched s window keep) count
-slides-on s window keep count on most some = record { goes_on = on; some = some; most = most }
+    IsSlide (upkeep_view s window keep) count
+slides-on s window keep count on most some = record { not_ended = on; some = some; most = most }
 
-no-slide : (s : State) (window keep n : ℕ) → IsMostSlide (line s) window 0 → IsSlide (watched s window keep) n → ⊥
+no-slide : (s : State) (window keep n : ℕ) → IsMostSlide (line s) window 0 → IsSlide (upkeep_view s window keep) n → ⊥
 no-slide s window keep n most slide =
     let few = most.most n (slide.most.leaves slide.some) in
     absurd (omega (arith, few, slide.some))
 
-pub uncut-idle : (s : State) (window keep : ℕ) → IsMostSlide (line s) window 0 → NoCut s keep → IsUpkeepOf s window keep None
+pub uncut-idle : (s : State) (window keep : ℕ) → IsMostSlide (line s) window 0 → HasNoTrimPlace s keep → IsUpkeepOf s window keep None
 uncut-idle s window keep most none = record {
   upkeep = Idle;
   is = (λ n slide. no-slide s window keep n most slide, λ r floor trim. none window trim.cut trim.cut_is);
   event_is = refl;
 }
 
-pub trimmed-idle : (s : State) (window keep : ℕ) (cut : Place) → IsMostSlide (line s) window 0 → IsCutOf s keep cut →
+pub trimmed-idle : (s : State) (window keep : ℕ) (cut : Place) → IsMostSlide (line s) window 0 → IsTrimPlaceAt s keep cut →
     ReachedBefore s cut (length (floors s)) → IsUpkeepOf s window keep None
 trimmed-idle s window keep cut most is reached = record {
   upkeep = Idle;
   is = (
     λ n slide. no-slide s window keep n most slide,
     λ r floor trim.
-        let same : trim.cut ≡ cut = cut-once (watched s window keep) trim.cut cut trim.cut_is (is window) in
+        let same : trim.cut ≡ cut = cut-once (upkeep_view s window keep) trim.cut cut trim.cut_is (is window) in
         absurd (omega (
           arith,
           trim.floor_is,
@@ -143,9 +143,9 @@ trimmed-idle s window keep cut most is reached = record {
 }
 
 pub trims-to : (s : State) (window keep : ℕ) (cut : Place) (event : Event) → has_ended (line s) ≡ false → IsMostSlide (line s) window 0 →
-    IsCutOf s keep cut → (below : IsFirstBelow s cut event) → IsTrim (watched s window keep) below.rendition below.floor
+    IsTrimPlaceAt s keep cut → (below : IsFirstBelow s cut event) → IsTrim (upkeep_view s window keep) below.rendition below.floor
 trims-to s window keep cut event on most is below = record {
-  goes_on = on;
+  not_ended = on;
   stays = most;
   cut = cut;
   cut_is = is window;
@@ -156,22 +156,22 @@ trims-to s window keep cut event on most is below = record {
 }
 
 -- nothing but a full log or want of memory refuses it
-pub slide-taken : (s : State) (window keep count : ℕ) → IsSlide (watched s window keep) count → outcome_of s (Slide count) ≡ logged_by (length s.log)
-slide-taken s window keep count is = ap (λ may. slide may (length s.log)) (upkeep-slides (watched s window keep) count is)
+pub slide-accepted : (s : State) (window keep count : ℕ) → IsSlide (upkeep_view s window keep) count → outcome_of s (Slide count) ≡ new_or_full (length s.log)
+slide-accepted s window keep count is = ap (λ may. slide may (length s.log)) (upkeep-slides (upkeep_view s window keep) count is)
 
 trim-passed : (s : State) (r floor : ℕ) (l : Lane) (o : Option Place) (front : Place) → slice_get (channel s).lanes r ≡ Some l → o ≡ Some front → l.floor < floor →
-    floor ≤ (spot_in front.spots r).fragment → trim (slice_get (channel s).lanes r) (trim_limit o r) floor (length s.log) ≡ logged_by (length s.log)
+    floor ≤ (spot_in front.spots r).fragment → trim (slice_get (channel s).lanes r) (trim_limit o r) floor (length s.log) ≡ new_or_full (length s.log)
 trim-passed s r floor l o front at is rises within =
     ap (λ (x : Option Lane). trim x (trim_limit o r) floor (length s.log)) at
     ∙ (ap (λ (x : Option Place). trim (Some l) (trim_limit x r) floor (length s.log)) is
     ∙ (cond-false (leb floor l.floor) _ _ (lt-leb floor l.floor rises)
     ∙ cond-false (ltb (spot_in front.spots r).fragment floor) _ _ (le-ltb (spot_in front.spots r).fragment floor within)))
 
-pub trim-taken : (s : State) → IsState s → (window keep r floor : ℕ) → IsTrim (watched s window keep) r floor →
-    outcome_of s (Trim r floor) ≡ logged_by (length s.log)
-trim-taken s state window keep r floor is =
-    let raises = upkeep-trims (watched s window keep) (length (sources s)) r floor (ordered s state) (floors-count s)
-    (λ p front_is. front-stands (aim_of s.config) (places s) (channel s).removed p front_is) is in
+pub trim-accepted : (s : State) → IsState s → (window keep r floor : ℕ) → IsTrim (upkeep_view s window keep) r floor →
+    outcome_of s (Trim r floor) ≡ new_or_full (length s.log)
+trim-accepted s state window keep r floor is =
+    let raises = upkeep-trims (upkeep_view s window keep) (length (sources s)) r floor (ordered s state) (floors-count s)
+    (λ p front_is. front-stands (line_goal_of s.config) (places s) (channel s).removed p front_is) is in
     let l = some_at (channel s).lanes r (omega (arith, is.within, floors-count s, sources_count s)) in
     let old : get_or (floors s) r 0 ≡ l.0.floor = at_or (floors s) r 0 l.0.floor (at_map floor_of (channel s).lanes r l.0 l.1) in
     trim-passed s r floor l.0 (front_of (line s)) raises.front l.1 raises.front_is (omega (arith, raises.rises, old)) raises.stays
@@ -181,7 +181,7 @@ reached-more s p r before here =
     one-more (λ k. (spot_in p.spots k).fragment ≤ slice_index (floors s) k) r before here
 
 -- what a search for a rendition to be trimmed comes to
-pub trimmed-by : (s : State) (window keep : ℕ) (cut : Place) (found : Option Event) → has_ended (line s) ≡ false → IsMostSlide (line s) window 0 → IsCutOf s keep cut →
+pub trimmed-by : (s : State) (window keep : ℕ) (cut : Place) (found : Option Event) → has_ended (line s) ≡ false → IsMostSlide (line s) window 0 → IsTrimPlaceAt s keep cut →
     IfSome found (IsFirstBelow s cut) → IfNone found (ReachedBefore s cut (length (floors s))) → IsUpkeepOf s window keep found
 trimmed-by s window keep cut None on most is some none = trimmed-idle s window keep cut most is none
 trimmed-by s window keep cut (Some event) on most is below none = record {
@@ -191,13 +191,13 @@ trimmed-by s window keep cut (Some event) on most is below none = record {
 }
 
 -- what an upkeep says to do is refused by nothing but a full log or want of memory
-taken-as : (s : State) → IsState s → (window keep : ℕ) (upkeep : Upkeep) → IsUpkeep (watched s window keep) upkeep →
-    IfSome (event_of upkeep) (λ event. outcome_of s event ≡ logged_by (length s.log))
-taken-as s state window keep Idle is = tt
-taken-as s state window keep (Slides count) is = slide-taken s window keep count is
-taken-as s state window keep (Trims r floor) is = trim-taken s state window keep r floor is
+accepted-as : (s : State) → IsState s → (window keep : ℕ) (upkeep : Upkeep) → IsUpkeep (upkeep_view s window keep) upkeep →
+    IfSome (event_of upkeep) (λ event. outcome_of s event ≡ new_or_full (length s.log))
+accepted-as s state window keep Idle is = tt
+accepted-as s state window keep (Slides count) is = slide-accepted s window keep count is
+accepted-as s state window keep (Trims r floor) is = trim-accepted s state window keep r floor is
 
-pub upkeep-taken : (s : State) → IsState s → (window keep : ℕ) (found : Option Event) → IsUpkeepOf s window keep found →
-    IfSome found (λ event. outcome_of s event ≡ logged_by (length s.log))
-upkeep-taken s state window keep found is =
-    subst (λ (o : Option Event). IfSome o (λ event. outcome_of s event ≡ logged_by (length s.log))) (sym is.event_is) (taken-as s state window keep is.upkeep is.is)
+pub upkeep-accepted : (s : State) → IsState s → (window keep : ℕ) (found : Option Event) → IsUpkeepOf s window keep found →
+    IfSome found (λ event. outcome_of s event ≡ new_or_full (length s.log))
+upkeep-accepted s state window keep found is =
+    subst (λ (o : Option Event). IfSome o (λ event. outcome_of s event ≡ new_or_full (length s.log))) (sym is.event_is) (accepted-as s state window keep is.upkeep is.is)

@@ -5,7 +5,7 @@ use Rattle.hls_core_laws.specs.Config.{ConfigData, IsTarget, IsPreferred, AreRen
 use Rattle.hls_core.specs.declared.config.Config.{Config}
 use Rattle.hls_core.specs.declared.config.ConfigFault.{ConfigFault}
 use Rattle.hls_core.specs.declared.config.ConfigFault.TheVariants.{BadTarget, BadPreferred, BadRendition, BadEpoch, Memory}
-use Rattle.hls_core.specs.FirstBad.{IsFirstBad}
+use Rattle.hls_core.specs.FirstBad.{IsFirstBadRendition}
 use Rattle.hls_check_laws.specs.Tables.{target_limit}
 
 abbrev pub configured_from : ℕ → ℕ → List Rendition → Option ℤ → ConfigData
@@ -20,7 +20,7 @@ abbrev pub Configures : ℕ → ℕ → List Rendition → Option ℤ → Result
 Configures target preferred rs epoch (Ok c) = (c ≡ configured_from target preferred rs epoch) × IsConfig (configured_from target preferred rs epoch)
 Configures target preferred rs epoch (Err BadTarget) = (target ≡ 0) ⊎ (target_limit < target)
 Configures target preferred rs epoch (Err BadPreferred) = IsTarget target × ((preferred ≡ 0) ⊎ (target * 1000000 < preferred))
-Configures target preferred rs epoch (Err (BadRendition n)) = IsTarget target × IsPreferred target preferred × IsFirstBad rs n
+Configures target preferred rs epoch (Err (BadRendition n)) = IsTarget target × IsPreferred target preferred × IsFirstBadRendition rs n
 Configures target preferred rs epoch (Err BadEpoch) =
     IsTarget target × IsPreferred target preferred × AreRenditions rs × (IsEpoch epoch → ⊥)
 Configures target preferred rs epoch (Err Memory) = IsConfig (configured_from target preferred rs epoch)

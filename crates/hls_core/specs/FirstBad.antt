@@ -7,8 +7,8 @@ use Rattle.hls_core_laws.specs.Config.{IsRenditionAt}
 use Rattle.hls_check_laws.specs.Tables.{rendition_limit}
 
 -- whether one of the renditions has this name
-abbrev pub bears_name : List Rendition → List ℕ → Bool
-bears_name rs name = list_any (λ r. bytes_eq r.name name) rs
+abbrev pub has_name : List Rendition → List ℕ → Bool
+has_name rs name = list_any (λ r. bytes_eq r.name name) rs
 
 -- each rendition before number n may stand where it stands
 abbrev pub AreGoodBefore : List Rendition → ℕ → Type 0
@@ -29,5 +29,5 @@ pub record IsSeventeenth (rs : List Rendition) (n : ℕ) : Type 0 where
   pub there : rendition_limit < length rs
 
 -- there is none at all, and n is 0; or rendition n is bad; or n is the number of a seventeenth
-abbrev pub IsFirstBad : List Rendition → ℕ → Type 0
-IsFirstBad rs n = ((rs ≡ []) × (n ≡ 0)) ⊎ IsBadAt rs n ⊎ IsSeventeenth rs n
+abbrev pub IsFirstBadRendition : List Rendition → ℕ → Type 0
+IsFirstBadRendition rs n = ((rs ≡ []) × (n ≡ 0)) ⊎ IsBadAt rs n ⊎ IsSeventeenth rs n

@@ -4,12 +4,12 @@ ghost use Rattle.std.specs.Prelude.{◌≡◌, ℕ, ◌*◌, ◌<◌, ◌≤◌,
 ghost use Rattle.std.specs.Str.{bytes_eq};
 ghost use Rattle.hls_core_laws.specs.Config.{is_name_byte, IsName, IsRendition, IsRenditionAt, AreRenditions, IsEpoch, IsConfig};
 ghost use Rattle.hls_core.specs.Configures.{configured_from, Configures};
-ghost use Rattle.hls_core.specs.FirstBad.{IsFirstBad, bears_name};
+ghost use Rattle.hls_core.specs.FirstBad.{IsFirstBadRendition, has_name};
 
 use bytes::Bytes;
 use hls_check_laws::{RENDITION_LIMIT, TARGET_LIMIT};
 use hls_core_laws::rendition::Rendition;
-use hls_faults::name_among;
+use hls_faults::variant_name;
 use std::alloc::{AllocError, Global};
 use std::fmt::{self, Display, Formatter, Write};
 use std::marker::Model;
@@ -63,7 +63,7 @@ impl ConfigFault {
     pub fn name(&self) -> &'static str
         ensures { result.now ≡ name_of self.now }
     {
-        name_among!(self; ConfigFault: BadTarget, BadPreferred, BadRendition, BadEpoch, Memory)
+        variant_name!(self; ConfigFault: BadTarget, BadPreferred, BadRendition, BadEpoch, Memory)
     }
 }
 
@@ -97,7 +97,7 @@ impl Config {
     ) -> Result<Config, ConfigFault>
         ensures { Configures target preferred renditions.items epoch result }
     {
-        if let Some(fault) = fault_of(target, preferred, &renditions, epoch) {
+        if let Some(fault) = find_config_fault(target, preferred, &renditions, epoch) {
             return Err(fault);
         }
         match Arc::new(alloc, renditions) {
@@ -158,7 +158,7 @@ impl Config {
 }
 
 /// What is wrong first with such a configuration, if anything.
-fn fault_of(
+fn find_config_fault(
     target: u64,
     preferred: u64,
     renditions: &[Rendition],
@@ -172,7 +172,7 @@ fn fault_of(
     if preferred == 0 || preferred > target * 1000000 {
         return Some(ConfigFault::BadPreferred);
     }
-    if let Some(n) = first_bad(renditions) {
+    if let Some(n) = first_bad_rendition(renditions) {
         return Some(ConfigFault::BadRendition(n));
     }
     if !is_epoch(epoch) {
@@ -192,8 +192,8 @@ fn is_epoch(epoch: Option<i64>) -> bool
 }
 
 /// The number of the first rendition that may not stand where it stands, if any.
-fn first_bad(renditions: &[Rendition]) -> Option<usize>
-    ensures { MatchOption result (AreRenditions renditions.now) (λ n. IsFirstBad renditions.now n) }
+fn first_bad_rendition(renditions: &[Rendition]) -> Option<usize>
+    ensures { MatchOption result (AreRenditions renditions.now) (λ n. IsFirstBadRendition renditions.now n) }
 {
     if renditions.is_empty() {
         return Some(0);
@@ -219,7 +219,7 @@ fn is_rendition_at(renditions: &[Rendition], n: usize, rendition: &Rendition) ->
     if !may_tolerate(n, rendition.tolerance) {
         return false;
     }
-    !bears_name(&renditions[..n], &rendition.name)
+    !has_name(&renditions[..n], &rendition.name)
 }
 
 /// Only the first rendition has no tolerance of its own.
@@ -256,8 +256,8 @@ fn is_name_byte(byte: u8) -> bool
 }
 
 /// Whether one of the renditions has this name.
-fn bears_name(renditions: &[Rendition], name: &[u8]) -> bool
-    ensures { result ≡ bears_name renditions.now name.now }
+fn has_name(renditions: &[Rendition], name: &[u8]) -> bool
+    ensures { result ≡ has_name renditions.now name.now }
 {
     for rendition in renditions {
         if &rendition.name[..] == name {

@@ -1,54 +1,54 @@
 //! Whether one snapshot follows another.
 
 ghost use Rattle.std.specs.Prelude.{◌≡◌, ◌↔◌, ℕ, ◌-◌, ◌≤◌, IsTrue, List, Some, slice_get};
-ghost use Rattle.hls_core_laws.specs.Follows.{Follows, Continues, AreSame, SameHeld, SameUnits};
-ghost use Rattle.hls_core.specs.Sides.{lane_of, held_of};
+ghost use Rattle.hls_core_laws.specs.Follows.{Follows, Extends, AllHaveSameBytes, HaveSameBytes, SameUnits};
+ghost use Rattle.hls_core.specs.RenditionStates.{lane_of, held_of};
 
-use crate::same::{begins, same_config};
-use crate::side::Side;
+use crate::equality::{is_prefix, same_config};
+use crate::rendition_state::RenditionState;
 use crate::snapshot::Snapshot;
 use hls_record::Recording;
 
 /// Whether `b` follows `a`: both have one configuration, the log of `a` begins that of `b`, and every init section and unit
 /// that both keep has the same bytes in both. It takes no memory.
 pub fn follows(a: &Snapshot, b: &Snapshot) -> bool
-    ensures continues { IsTrue result ↔ Continues a.now b.now }
+    ensures continues { IsTrue result ↔ Extends a.now b.now }
     ensures follows { IsTrue result ↔ Follows a.now b.now }
 {
     if !same_config(a.config(), b.config()) {
         return false;
     }
-    if !begins(a.log(), b.log()) {
+    if !is_prefix(a.log(), b.log()) {
         return false;
     }
-    same_sides(a, b)
+    all_have_same_bytes(a, b)
 }
 
 /// Whether all that both keep has the same bytes in both.
-fn same_sides(a: &Snapshot, b: &Snapshot) -> bool
-    ensures { IsTrue result ↔ AreSame a.now b.now }
+fn all_have_same_bytes(a: &Snapshot, b: &Snapshot) -> bool
+    ensures { IsTrue result ↔ AllHaveSameBytes a.now b.now }
 {
-    for rendition in 0..a.renditions().min(b.renditions()) {
-        let Some(x) = a.side(rendition) else {
+    for rendition in 0..a.rendition_count().min(b.rendition_count()) {
+        let Some(x) = a.rendition(rendition) else {
             unreachable!()
         };
-        let Some(y) = b.side(rendition) else {
+        let Some(y) = b.rendition(rendition) else {
             unreachable!()
         };
-        if !same_side(x, y) {
+        if !have_same_bytes(x, y) {
             return false;
         }
     }
     true
 }
 
-fn same_side(a: &Side, b: &Side) -> bool
-    ensures { IsTrue result ↔ SameHeld (lane_of a.now) (lane_of b.now) (held_of a.now) (held_of b.now) }
+fn have_same_bytes(a: &RenditionState, b: &RenditionState) -> bool
+    ensures { IsTrue result ↔ HaveSameBytes (lane_of a.now) (lane_of b.now) (held_of a.now) (held_of b.now) }
 {
     match &a.recording {
         Some(x) => match &b.recording {
-            Some(y) => *y.head() == *x.head() && same_units(x, y),
-            None => x.head().is_empty(),
+            Some(y) => *y.init_section_bytes() == *x.init_section_bytes() && same_units(x, y),
+            None => x.init_section_bytes().is_empty(),
         },
         None => true,
     }

@@ -3,12 +3,12 @@
 #![tactic(auto)]
 
 pub mod config;
+mod equality;
 pub mod follows;
-pub mod kept;
-mod placed;
+mod line_state;
+pub mod place_search;
+mod rendition_state;
 pub mod replay;
-mod same;
-mod side;
 pub mod snapshot;
 pub mod step;
 pub mod stepped;

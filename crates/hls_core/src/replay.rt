@@ -1,7 +1,7 @@
 //! A run of events, stepped one after the other.
 
 ghost use Rattle.std.specs.Prelude.{◌≡◌, IfOk};
-ghost use Rattle.hls_core_laws.specs.Runs.{first_state, next_state, replayed, AreFitting};
+ghost use Rattle.hls_core_laws.specs.Runs.{first_state, next_state, replayed_state, AreFitting};
 ghost use Rattle.hls_core_laws.specs.Moves.{IsFitting};
 
 use crate::config::Config;
@@ -22,17 +22,17 @@ pub fn replay(
     events: &[(u16, Event)],
 ) -> Result<Arc<Snapshot>, AllocError>
     requires { AreFitting (first_state config) events.now }
-    ensures { IfOk result (λ s. s.value ≡ replayed (first_state config) events.now) }
+    ensures { IfOk result (λ s. s.value ≡ replayed_state (first_state config) events.now) }
 {
     let mut state = Arc::new(alloc, Snapshot::first(alloc, config)?)?;
     for pair in events {
-        state = next(alloc, state, pair.0, &pair.1)?;
+        state = apply_event(alloc, state, pair.0, &pair.1)?;
     }
     Ok(state)
 }
 
 /// The state after an event; the same one after a repeat or a refusal. Want of memory ends the call.
-pub fn next(
+pub fn apply_event(
     alloc: Global,
     state: Arc<Snapshot>,
     by: u16,

@@ -8,21 +8,21 @@ ghost use Rattle.hls_core_laws.specs.IsState.{IsState};
 ghost use Rattle.hls_places_laws.specs.Sources.{AreSources};
 ghost use Rattle.hls_core_laws.specs.Places.{sources, places};
 ghost use Rattle.hls_check_laws.specs.Tables.{spot_in};
-ghost use Rattle.hls_places_laws.specs.Line.Live.{front_of, slid};
+ghost use Rattle.hls_places_laws.specs.Line.Live.{front_of, without_front};
 ghost use Rattle.hls_core_laws.specs.declared.event.Event.TheVariants.{Slide};
 ghost use Rattle.hls_core_laws.specs.Line.{line};
 ghost use Rattle.hls_core_laws.specs.Outcome.{New, outcome_of, trim_limit};
-ghost use Rattle.hls_core_laws.specs.Moves.{advanced};
+ghost use Rattle.hls_core_laws.specs.Moves.{state_with_entry};
 ghost use Rattle.hls_core_laws.specs.Workers.{events_by};
 ghost use Rattle.hls_core_laws.specs.Runs.{first_state};
-ghost use Rattle.hls_core.specs.Sides.{fresh_side};
+ghost use Rattle.hls_core.specs.RenditionStates.{fresh_rendition_state};
 ghost use Rattle.hls_blocks.specs.Numbered.{next_of, item_at};
 
 use crate::config::Config;
-use crate::placed::{Placed, moved_on};
-use crate::side::Side;
+use crate::line_state::{LineState, advance_line_state};
+use crate::rendition_state::RenditionState;
 use hls_blocks::Shared;
-use hls_core_laws::event::{Entry, Logged};
+use hls_core_laws::event::{Entry, LoggedEvent};
 use hls_core_laws::rendition::Rendition;
 use hls_live::LiveLine;
 use hls_places::Place;
@@ -32,7 +32,7 @@ use std::marker::Model;
 use std::sync::Arc;
 
 /// The most entries of a log.
-pub const MOST_ENTRIES: u64 = 4194304;
+pub const LOG_LIMIT: u64 = 4194304;
 
 /// A channel at one moment: its configuration, its whole log, and the bytes that it keeps.
 ///
@@ -41,8 +41,8 @@ pub const MOST_ENTRIES: u64 = 4194304;
 pub struct Snapshot {
     config: Config,
     log: Shared<Entry>,
-    sides: Vec<Arc<Side>>,
-    placed: Arc<Placed>,
+    rendition_states: Vec<Arc<RenditionState>>,
+    line_state: Arc<LineState>,
 }
 
 impl Model for Snapshot {
@@ -50,29 +50,29 @@ impl Model for Snapshot {
 
     ghost Value = { State };
 
-    ghost use Rattle.hls_core.specs.Kept.{seen, IsKept};
+    ghost use Rattle.hls_core.specs.Model.{model_of, IsSoundSnapshot};
 
-    ghost view = { seen };
+    ghost view = { model_of };
 
-    ghost invariant = { IsKept };
+    ghost invariant = { IsSoundSnapshot };
 }
 
 impl Snapshot {
-    ghost use Rattle.hls_core.specs.Sides.{IsAt, MayTake, MayTrim, with_side};
-    ghost use Rattle.hls_core.specs.Kept.{seen, IsKept, inside_after};
-    ghost use Rattle.hls_core.specs.Reads.{recording_of, finished_at};
+    ghost use Rattle.hls_core.specs.RenditionStates.{HasRenditionState, MayReplaceRendition, MayTrim, with_rendition};
+    ghost use Rattle.hls_core.specs.Model.{model_of, IsSoundSnapshot, inside_after};
+    ghost use Rattle.hls_core.specs.Getters.{recording_of, finished_at};
 
     /// The opening state of a channel: an empty log, and no rendition begun.
     pub fn first(alloc: Global, config: Config) -> Result<Snapshot, AllocError>
         ensures { IfOk result (λ s. s ≡ first_state config) }
     {
-        let placed = Placed::first(alloc, &config)?;
-        let sides = fresh_sides(alloc, config.renditions())?;
+        let line_state = LineState::first(alloc, &config)?;
+        let rendition_states = make_renditions(alloc, config.renditions())?;
         Ok(Snapshot {
             config,
             log: Shared::empty(alloc),
-            sides,
-            placed,
+            rendition_states,
+            line_state,
         })
     }
 
@@ -105,19 +105,19 @@ impl Snapshot {
         ensures value { option_copied result ≡ recording_of self.now rendition }
         ensures valid { IsState self.now }
     {
-        match self.side(rendition) {
-            Some(side) => side.recording.as_ref(),
+        match self.rendition(rendition) {
+            Some(rendition_state) => rendition_state.recording.as_ref(),
             None => None,
         }
     }
 
     /// Whether a rendition is finished; none where the channel has no such rendition.
-    pub fn finished(&self, rendition: usize) -> Option<bool>
+    pub fn is_finished(&self, rendition: usize) -> Option<bool>
         ensures value { result ≡ finished_at self.now rendition }
         ensures valid { IsState self.now }
     {
-        match self.side(rendition) {
-            Some(side) => Some(side.finished),
+        match self.rendition(rendition) {
+            Some(rendition_state) => Some(rendition_state.finished),
             None => None,
         }
     }
@@ -128,7 +128,7 @@ impl Snapshot {
         ensures valid { IsState self.now }
         ensures sources { AreSources (sources self.now) }
     {
-        &self.placed.places
+        &self.line_state.places
     }
 
     /// The live line: the segments that are kept, and where it goes on.
@@ -136,11 +136,11 @@ impl Snapshot {
         ensures value { result.now ≡ line self.now }
         ensures valid { IsState self.now }
     {
-        &self.placed.line
+        &self.line_state.line
     }
 
     /// The number of log entries that the worker `by` brought.
-    pub fn count_by(&self, by: u16) -> u64
+    pub fn count_entries_by(&self, by: u16) -> u64
         ensures { result ≡ length (events_by by self.now.log) }
     {
         let mut count = 0;
@@ -156,71 +156,86 @@ impl Snapshot {
     }
 
     /// The number of renditions.
-    pub(crate) fn renditions(&self) -> usize
+    pub(crate) fn rendition_count(&self) -> usize
         ensures { result ≡ length self.now.bytes }
     {
-        self.sides.len()
+        self.rendition_states.len()
     }
 
     /// Whether the log takes no more entries.
     pub(crate) fn is_full(&self) -> bool
         ensures { result ≡ nat_le log_limit (length self.now.log) }
     {
-        self.version() >= MOST_ENTRIES
+        self.version() >= LOG_LIMIT
     }
 
-    /// A rendition's side.
-    pub(crate) fn side(&self, rendition: usize) -> Option<&Side>
-        ensures some { IfSome result (λ side. IsAt self.now rendition side.now) }
+    /// A rendition's state.
+    pub(crate) fn rendition(&self, rendition: usize) -> Option<&RenditionState>
+        ensures some { IfSome result (λ rendition_state. HasRenditionState self.now rendition rendition_state.now) }
         ensures none { IfNone result (slice_get (channel self.now).lanes rendition ≡ None) }
         ensures valid { IsState self.now }
     {
-        if rendition >= self.sides.len() {
+        if rendition >= self.rendition_states.len() {
             return None;
         }
-        let side: &Side = &self.sides[rendition];
-        Some(side)
+        let rendition_state: &RenditionState = &self.rendition_states[rendition];
+        Some(rendition_state)
     }
 
-    /// The snapshot with one more entry, and this side of a rendition in place of the one that it had.
-    pub(crate) fn with_side(
+    /// The snapshot with one more entry, and this state of a rendition in place of the one that it had.
+    pub(crate) fn with_rendition(
         &self,
         alloc: Global,
         entry: Entry,
         rendition: usize,
-        side: Arc<Side>,
+        rendition_state: Arc<RenditionState>,
     ) -> Result<Arc<Snapshot>, AllocError>
         requires room { length self.now.log < log_limit }
         requires there { rendition < length self.now.bytes }
-        requires take { MayTake self.now entry rendition side.value }
-        ensures { IfOk result (λ s. s.value ≡ with_side self.now entry rendition side.value) }
+        requires take { MayReplaceRendition self.now entry rendition rendition_state.value }
+        ensures { IfOk result (λ s. s.value ≡ with_rendition self.now entry rendition rendition_state.value) }
     {
-        let sides = replaced_side(alloc, &self.sides, rendition, side)?;
-        let placed = moved_on(alloc, &self.placed, &self.config, &sides)?;
-        self.next(alloc, entry, sides, placed)
+        let rendition_states = replace_rendition(
+            alloc,
+            &self.rendition_states,
+            rendition,
+            rendition_state,
+        )?;
+        let line_state = advance_line_state(
+            alloc,
+            &self.line_state,
+            &self.config,
+            &rendition_states,
+        )?;
+        self.with_entry(alloc, entry, rendition_states, line_state)
     }
 
-    /// The snapshot with one more entry, and this side of a rendition in place of one of which only units were kept that
+    /// The snapshot with one more entry, and this state of a rendition in place of one of which only units were kept that
     /// it gives up: places and line stay.
-    pub(crate) fn with_trimmed(
+    pub(crate) fn with_trim(
         &self,
         alloc: Global,
         entry: Entry,
         rendition: usize,
-        side: Arc<Side>,
+        rendition_state: Arc<RenditionState>,
     ) -> Result<Arc<Snapshot>, AllocError>
         requires room { length self.now.log < log_limit }
         requires there { rendition < length self.now.bytes }
-        requires trim { MayTrim self.now entry rendition side.value }
-        ensures { IfOk result (λ s. s.value ≡ with_side self.now entry rendition side.value) }
+        requires trim { MayTrim self.now entry rendition rendition_state.value }
+        ensures { IfOk result (λ s. s.value ≡ with_rendition self.now entry rendition rendition_state.value) }
     {
-        let placed = Arc::try_clone(&self.placed)?;
-        let sides = replaced_side(alloc, &self.sides, rendition, side)?;
-        self.next(alloc, entry, sides, placed)
+        let line_state = Arc::try_clone(&self.line_state)?;
+        let rendition_states = replace_rendition(
+            alloc,
+            &self.rendition_states,
+            rendition,
+            rendition_state,
+        )?;
+        self.with_entry(alloc, entry, rendition_states, line_state)
     }
 
     /// The snapshot after a slide of the line, whose line this is.
-    pub(crate) fn with_slid(
+    pub(crate) fn with_slide(
         &self,
         alloc: Global,
         by: u16,
@@ -229,34 +244,34 @@ impl Snapshot {
     ) -> Result<Arc<Snapshot>, AllocError>
         requires room { length self.now.log < log_limit }
         requires new { outcome_of self.now (Slide count) ≡ New }
-        requires slid { now ≡ slid count (line self.now) }
-        ensures { IfOk result (λ s. s.value ≡ advanced self.now by (Slide count)) }
+        requires slid { now ≡ without_front count (line self.now) }
+        ensures { IfOk result (λ s. s.value ≡ state_with_entry self.now by (Slide count)) }
     {
-        let placed = self.placed.with_line(alloc, now)?;
-        let sides = shared_sides(alloc, &self.sides)?;
-        let event = Logged::Slid { count };
-        self.next(alloc, Entry { by, event }, sides, placed)
+        let line_state = self.line_state.with_line(alloc, now)?;
+        let rendition_states = share_renditions(alloc, &self.rendition_states)?;
+        let event = LoggedEvent::Slid { count };
+        self.with_entry(alloc, Entry { by, event }, rendition_states, line_state)
     }
 
-    /// The snapshot with one more entry, of these sides and places.
-    fn next(
+    /// The snapshot with one more entry, of these rendition states and places.
+    fn with_entry(
         &self,
         alloc: Global,
         entry: Entry,
-        sides: Vec<Arc<Side>>,
-        placed: Arc<Placed>,
+        rendition_states: Vec<Arc<RenditionState>>,
+        line_state: Arc<LineState>,
     ) -> Result<Arc<Snapshot>, AllocError>
         requires room { length self.now.log < log_limit }
-        requires kept { IsKept (inside_after self.now entry sides placed) }
-        ensures { IfOk result (λ s. s.value ≡ seen (inside_after self.now entry sides placed)) }
+        requires kept { IsSoundSnapshot (inside_after self.now entry rendition_states line_state) }
+        ensures { IfOk result (λ s. s.value ≡ model_of (inside_after self.now entry rendition_states line_state)) }
     {
         let config = self.config.share()?;
         let log = self.log.pushed(alloc, entry)?;
         let next = Snapshot {
             config,
             log,
-            sides,
-            placed,
+            rendition_states,
+            line_state,
         };
         Ok(Arc::new(alloc, next)?)
     }
@@ -265,18 +280,18 @@ impl Snapshot {
     pub(crate) fn trim_limit(&self, rendition: usize) -> u64
         ensures { result ≡ trim_limit (front_of (line self.now)) rendition }
     {
-        match self.placed.line.front() {
-            Some(place) => fragment_in(place, rendition),
+        match self.line_state.line.front() {
+            Some(place) => get_fragment(place, rendition),
             None => 0,
         }
     }
 }
 
 /// The number of the unit at which a place stands in a rendition; 0 where it stands in none.
-pub(crate) fn fragment_in(place: &Place, rendition: usize) -> u64
+pub(crate) fn get_fragment(place: &Place, rendition: usize) -> u64
     ensures { result ≡ (spot_in place.now.spots rendition).fragment }
 {
-    place.spots.spot(rendition).fragment
+    place.spots.get_or_zero(rendition).fragment
 }
 
 /// The number of a log's entries.
@@ -293,39 +308,45 @@ pub(crate) fn entry_at(log: &Shared<Entry>, n: u64) -> Option<&Entry>
     log.get(n)
 }
 
-/// A side for each rendition, none of which has begun.
-fn fresh_sides(alloc: Global, renditions: &[Rendition]) -> Result<Vec<Arc<Side>>, AllocError>
-    ensures { IfOk result (λ v. map (λ a. a.value) v.items ≡ map fresh_side renditions.now) }
+/// A state for each rendition, none of which has begun.
+fn make_renditions(
+    alloc: Global,
+    renditions: &[Rendition],
+) -> Result<Vec<Arc<RenditionState>>, AllocError>
+    ensures { IfOk result (λ v. map (λ a. a.value) v.items ≡ map fresh_rendition_state renditions.now) }
 {
-    let mut sides = Vec::with_capacity(alloc, renditions.len())?;
+    let mut rendition_states = Vec::with_capacity(alloc, renditions.len())?;
     for _rendition in renditions {
-        let side = Side {
+        let rendition_state = RenditionState {
             recording: None,
             finished: false,
         };
-        sides.push(Arc::new(alloc, side)?)?;
+        rendition_states.push(Arc::new(alloc, rendition_state)?)?;
     }
-    Ok(sides)
+    Ok(rendition_states)
 }
 
-/// The same sides once more, over the same memory.
-fn shared_sides(alloc: Global, sides: &[Arc<Side>]) -> Result<Vec<Arc<Side>>, AllocError>
-    ensures { IfOk result (λ v. map (λ a. a.value) v.items ≡ map (λ a. a.value) sides.now) }
-{
-    sides.to_vec(alloc)
-}
-
-/// The sides with another one at the number r.
-fn replaced_side(
+/// The same rendition states once more, over the same memory.
+fn share_renditions(
     alloc: Global,
-    sides: &[Arc<Side>],
-    r: usize,
-    side: Arc<Side>,
-) -> Result<Vec<Arc<Side>>, AllocError>
-    requires { r < length sides.now }
-    ensures { IfOk result (λ v. map (λ a. a.value) v.items ≡ slice_set (map (λ a. a.value) sides.now) r side.value) }
+    rendition_states: &[Arc<RenditionState>],
+) -> Result<Vec<Arc<RenditionState>>, AllocError>
+    ensures { IfOk result (λ v. map (λ a. a.value) v.items ≡ map (λ a. a.value) rendition_states.now) }
 {
-    let mut copies = shared_sides(alloc, sides)?;
-    copies[r] = side;
+    rendition_states.to_vec(alloc)
+}
+
+/// The rendition states with another one at the number r.
+fn replace_rendition(
+    alloc: Global,
+    rendition_states: &[Arc<RenditionState>],
+    r: usize,
+    rendition_state: Arc<RenditionState>,
+) -> Result<Vec<Arc<RenditionState>>, AllocError>
+    requires { r < length rendition_states.now }
+    ensures { IfOk result (λ v. map (λ a. a.value) v.items ≡ slice_set (map (λ a. a.value) rendition_states.now) r rendition_state.value) }
+{
+    let mut copies = share_renditions(alloc, rendition_states)?;
+    copies[r] = rendition_state;
     Ok(copies)
 }

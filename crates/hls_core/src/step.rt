@@ -1,21 +1,21 @@
 //! The one step by which a channel changes.
 
 ghost use Rattle.std.specs.Prelude.{◌≡◌, Ok, Err, None, IfOk, IfErr, IfSome};
-ghost use Rattle.hls_media_laws.specs.Meaning.{IsInit};
+ghost use Rattle.hls_media_laws.specs.IsInitOrUnit.{IsInit};
 ghost use Rattle.hls_core_laws.specs.IsState.{IsState};
 ghost use Rattle.hls_core_laws.specs.declared.event.Event.TheVariants.{Begin, Accept, Finish, Slide, Trim};
 ghost use Rattle.hls_core_laws.specs.declared.refusal.Refusal.TheVariants.{Memory};
 ghost use Rattle.hls_core_laws.specs.Moves.{IsFitting, IsRefused};
 ghost use Rattle.hls_core_laws.specs.Outcome.{Repeated, outcome_of};
-ghost use Rattle.hls_core.specs.Admits.{BeginMeets, MayAccept};
-ghost use Rattle.hls_core.specs.Steps.{Steps};
+ghost use Rattle.hls_core.specs.MayBegin.{BeginMeets, MayAccept};
+ghost use Rattle.hls_core.specs.StepResult.{Steps};
 ghost use Rattle.hls_core.specs.declared.stepped.Stepped.TheVariants.{New};
 
-use crate::side::Side;
+use crate::rendition_state::RenditionState;
 use crate::snapshot::Snapshot;
 use crate::stepped::Stepped;
 use bytes::Bytes;
-use hls_core_laws::event::{Entry, Event, Logged};
+use hls_core_laws::event::{Entry, Event, LoggedEvent};
 use hls_core_laws::refusal::Refusal;
 use hls_live::LineFault;
 use hls_media_laws::facts::Facts;
@@ -69,30 +69,30 @@ fn begin(
     requires { IsInit bytes init }
     ensures { Steps snapshot.now by (Begin rendition init bytes) result }
 {
-    let is_new = begins(snapshot, rendition, &bytes)?;
+    let is_new = check_begin(snapshot, rendition, &bytes)?;
     if !is_new {
         return Ok(Stepped::Repeat);
     }
-    let event = Logged::Begun {
+    let event = LoggedEvent::Begun {
         rendition,
         init: init.share()?,
         len: bytes.len() as u64,
     };
     let recording = Recording::begin(alloc, init, bytes);
-    let side = Side::begun(alloc, recording, false)?;
-    answer_of(snapshot.with_side(alloc, Entry { by, event }, rendition, side))
+    let rendition_state = RenditionState::with_recording(alloc, recording, false)?;
+    into_stepped(snapshot.with_rendition(alloc, Entry { by, event }, rendition, rendition_state))
 }
 
 /// Whether a rendition's init section is new; false where it is there already. The tests of `Begin`, which want no memory.
-fn begins(snapshot: &Snapshot, rendition: usize, bytes: &Bytes) -> Result<bool, Refusal>
+fn check_begin(snapshot: &Snapshot, rendition: usize, bytes: &Bytes) -> Result<bool, Refusal>
     ensures meets { BeginMeets snapshot.now rendition bytes.now result }
     ensures valid { IsState snapshot.now }
 {
-    let Some(old) = snapshot.side(rendition) else {
+    let Some(old) = snapshot.rendition(rendition) else {
         return Err(Refusal::UnknownRendition);
     };
     match &old.recording {
-        Some(recording) if *recording.head() == *bytes => return Ok(false),
+        Some(recording) if *recording.init_section_bytes() == *bytes => return Ok(false),
         Some(_) => return Err(Refusal::InitChanged),
         None => {}
     }
@@ -113,7 +113,7 @@ fn accept(
     requires { IsFitting snapshot.now (Accept rendition facts bytes) }
     ensures { Steps snapshot.now by (Accept rendition facts bytes) result }
 {
-    let met = accepts(snapshot, rendition, facts, &bytes)?;
+    let met = check_accept(snapshot, rendition, facts, &bytes)?;
     let Some(recording) = met else {
         return Ok(Stepped::Repeat);
     };
@@ -123,32 +123,32 @@ fn accept(
         Err(RecordFault::Full) => return Err(Refusal::RecordingFull),
         Err(RecordFault::Memory) => return Err(Refusal::Memory),
     };
-    let side = Side::begun(alloc, recording, false)?;
-    let event = Logged::Accepted { rendition, facts };
-    answer_of(snapshot.with_side(alloc, Entry { by, event }, rendition, side))
+    let rendition_state = RenditionState::with_recording(alloc, recording, false)?;
+    let event = LoggedEvent::Accepted { rendition, facts };
+    into_stepped(snapshot.with_rendition(alloc, Entry { by, event }, rendition, rendition_state))
 }
 
 /// The recording that a new unit is to be appended to; none where the unit is there already. The tests of `Accept` but those
 /// of the recording's length and of memory.
-fn accepts<'a>(
+fn check_accept<'a>(
     snapshot: &'a Snapshot,
     rendition: usize,
     facts: Facts,
     bytes: &Bytes,
 ) -> Result<Option<&'a Recording>, Refusal>
     ensures new { IfOk result (λ met. IfSome met (λ recording. MayAccept snapshot.entry.now rendition facts recording.now)) }
-    ensures again { IfOk result (λ met. met ≡ None → outcome_of snapshot.entry.now (Accept rendition facts bytes.now) ≡ Repeated) }
+    ensures repeated { IfOk result (λ met. met ≡ None → outcome_of snapshot.entry.now (Accept rendition facts bytes.now) ≡ Repeated) }
     ensures refused { IfErr result (IsRefused snapshot.entry.now (Accept rendition facts bytes.now)) }
     ensures valid { IsState snapshot.entry.now }
 {
-    let Some(old) = snapshot.side(rendition) else {
+    let Some(old) = snapshot.rendition(rendition) else {
         return Err(Refusal::UnknownRendition);
     };
     let Some(recording) = &old.recording else {
         return Err(Refusal::NoInit);
     };
-    match recording.twin(facts.start) {
-        Some(twin) if *twin == *bytes => return Ok(None),
+    match recording.find_duplicate(facts.start) {
+        Some(duplicate) if *duplicate == *bytes => return Ok(None),
         Some(_) => return Err(Refusal::Overlap),
         None => {}
     }
@@ -167,7 +167,7 @@ fn accepts<'a>(
 fn finish(snapshot: &Snapshot, alloc: Global, by: u16, rendition: usize) -> Result<Stepped, Refusal>
     ensures { Steps snapshot.now by (Finish rendition) result }
 {
-    let Some(old) = snapshot.side(rendition) else {
+    let Some(old) = snapshot.rendition(rendition) else {
         return Err(Refusal::UnknownRendition);
     };
     let Some(recording) = &old.recording else {
@@ -179,16 +179,16 @@ fn finish(snapshot: &Snapshot, alloc: Global, by: u16, rendition: usize) -> Resu
     if snapshot.is_full() {
         return Err(Refusal::LedgerFull);
     }
-    let side = Side::begun(alloc, recording.share(alloc)?, true)?;
-    let event = Logged::Finished { rendition };
-    answer_of(snapshot.with_side(alloc, Entry { by, event }, rendition, side))
+    let rendition_state = RenditionState::with_recording(alloc, recording.share(alloc)?, true)?;
+    let event = LoggedEvent::Finished { rendition };
+    into_stepped(snapshot.with_rendition(alloc, Entry { by, event }, rendition, rendition_state))
 }
 
 fn slide(snapshot: &Snapshot, alloc: Global, by: u16, count: u64) -> Result<Stepped, Refusal>
     ensures { Steps snapshot.now by (Slide count) result }
 {
     let line = snapshot.line();
-    match line.slides(count) {
+    match line.check_slide(count) {
         Ok(()) => {}
         Err(LineFault::TooMany) => return Err(Refusal::SlideTooMany),
         Err(LineFault::TooShort) => return Err(Refusal::SlideTooShort),
@@ -201,7 +201,7 @@ fn slide(snapshot: &Snapshot, alloc: Global, by: u16, count: u64) -> Result<Step
     let Ok(now) = line.slide(alloc, count) else {
         return Err(Refusal::Memory);
     };
-    answer_of(snapshot.with_slid(alloc, by, count, now))
+    into_stepped(snapshot.with_slide(alloc, by, count, now))
 }
 
 fn trim(
@@ -213,7 +213,7 @@ fn trim(
 ) -> Result<Stepped, Refusal>
     ensures { Steps snapshot.now by (Trim rendition floor) result }
 {
-    let Some(old) = snapshot.side(rendition) else {
+    let Some(old) = snapshot.rendition(rendition) else {
         return Err(Refusal::UnknownRendition);
     };
     if floor <= old.floor() {
@@ -228,13 +228,17 @@ fn trim(
     let Some(recording) = &old.recording else {
         unreachable!()
     };
-    let side = Side::begun(alloc, recording.trimmed(alloc, floor)?, old.finished)?;
-    let event = Logged::Trimmed { rendition, floor };
-    answer_of(snapshot.with_trimmed(alloc, Entry { by, event }, rendition, side))
+    let rendition_state = RenditionState::with_recording(
+        alloc,
+        recording.trimmed(alloc, floor)?,
+        old.finished,
+    )?;
+    let event = LoggedEvent::Trimmed { rendition, floor };
+    into_stepped(snapshot.with_trim(alloc, Entry { by, event }, rendition, rendition_state))
 }
 
 /// The answer of a step that nothing but want of memory could still refuse.
-fn answer_of(next: Result<Arc<Snapshot>, AllocError>) -> Result<Stepped, Refusal>
+fn into_stepped(next: Result<Arc<Snapshot>, AllocError>) -> Result<Stepped, Refusal>
     ensures new { IfOk next (λ next. result ≡ Ok (New next)) }
     ensures refused { IfErr next (λ _. result ≡ Err Memory) }
 {

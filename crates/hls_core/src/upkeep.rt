@@ -3,12 +3,12 @@
 ghost use Rattle.std.specs.Prelude.{◌≡◌, ◌-◌, ◌<◌, ◌≤◌, length, Some, IfSome, IfNone, slice_get};
 ghost use Rattle.std.specs.Option.{option_copied};
 ghost use Rattle.hls_core_laws.specs.Places.{places, floors};
-ghost use Rattle.hls_core_laws.specs.Outcome.{outcome_of, logged_by};
+ghost use Rattle.hls_core_laws.specs.Outcome.{outcome_of, new_or_full};
 ghost use Rattle.hls_core.specs.Upkeeps.{IsUpkeepOf};
-ghost use Rattle.hls_core.specs.Cuts.{IsOldUntil, NoneOld, IsCutOf, NoCut, IsFirstBelow, ReachedBefore};
+ghost use Rattle.hls_core.specs.TrimPlaces.{IsOldUntil, NoneOld, IsTrimPlaceAt, HasNoTrimPlace, IsFirstBelow, ReachedBefore};
 
-use crate::kept::{floor_of, last_kept_by, place_at, place_count, place_there};
-use crate::snapshot::{Snapshot, fragment_in};
+use crate::place_search::{floor_of, get_place, last_kept_place_by, place_at, place_count};
+use crate::snapshot::{Snapshot, get_fragment};
 use hls_core_laws::event::Event;
 use hls_places::{Place, time_of};
 
@@ -20,38 +20,38 @@ use hls_places::{Place, time_of};
 /// for `LedgerFull` and `Memory` alone. Takes no memory, and looks at few segments and places.
 pub fn upkeep(snapshot: &Snapshot, window: u64, keep: u64) -> Option<Event>
     ensures is { IsUpkeepOf snapshot.now window keep result }
-    ensures taken { IfSome result (λ event. outcome_of snapshot.now event ≡ logged_by (length snapshot.now.log)) }
+    ensures accepted { IfSome result (λ event. outcome_of snapshot.now event ≡ new_or_full (length snapshot.now.log)) }
 {
     if snapshot.line().ended() {
         return None;
     }
-    let count = snapshot.line().slidable(window);
+    let count = snapshot.line().max_slide(window);
     if count > 0 {
         return Some(Event::Slide { count });
     }
-    match cut_of(snapshot, keep) {
-        Some(cut) => trim_to(snapshot, cut),
+    match find_trim_place(snapshot, keep) {
+        Some(cut) => find_trim(snapshot, cut),
         None => None,
     }
 }
 
 /// The last kept place that isn't after the line's front, and is at least `keep` microseconds before the last place.
-fn cut_of(snapshot: &Snapshot, keep: u64) -> Option<&Place>
-    ensures some { IfSome result (λ cut. IsCutOf snapshot.now keep cut.now) }
+fn find_trim_place(snapshot: &Snapshot, keep: u64) -> Option<&Place>
+    ensures some { IfSome result (λ cut. IsTrimPlaceAt snapshot.now keep cut.now) }
     ensures spots { IfSome result (λ cut. length cut.now.spots ≡ length (floors snapshot.now)) }
-    ensures none { IfNone result (NoCut snapshot.now keep) }
+    ensures none { IfNone result (HasNoTrimPlace snapshot.now keep) }
 {
-    let Some(until) = old_until(snapshot, keep) else {
+    let Some(until) = find_trim_time(snapshot, keep) else {
         return None;
     };
-    let Some(number) = last_kept_by(snapshot, until) else {
+    let Some(number) = last_kept_place_by(snapshot, until) else {
         return None;
     };
-    Some(place_there(snapshot, number))
+    Some(get_place(snapshot, number))
 }
 
 /// The time up to which places are old, in microseconds.
-fn old_until(snapshot: &Snapshot, keep: u64) -> Option<u64>
+fn find_trim_time(snapshot: &Snapshot, keep: u64) -> Option<u64>
     ensures some { IfSome result (IsOldUntil snapshot.now keep) }
     ensures none { IfNone result (NoneOld snapshot.now keep) }
 {
@@ -80,13 +80,13 @@ fn last_place(snapshot: &Snapshot) -> Option<&Place>
 }
 
 /// The trim of the first rendition that has units before a place.
-fn trim_to(snapshot: &Snapshot, cut: &Place) -> Option<Event>
+fn find_trim(snapshot: &Snapshot, cut: &Place) -> Option<Event>
     requires { length cut.now.spots ≡ length (floors snapshot.now) }
     ensures some { IfSome result (IsFirstBelow snapshot.now cut.now) }
     ensures none { IfNone result (ReachedBefore snapshot.now cut.now (length (floors snapshot.now))) }
 {
     for rendition in 0..cut.spots.len() {
-        let floor = fragment_in(cut, rendition);
+        let floor = get_fragment(cut, rendition);
         if floor_of(snapshot, rendition) < floor {
             return Some(Event::Trim { rendition, floor });
         }

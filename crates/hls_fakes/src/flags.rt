@@ -4,11 +4,11 @@ use std::sync::atomic::{AtomicBool, Ordering};
 use std::thread;
 
 /// How often is looked before a test fails.
-pub const LOOKS: u64 = 100_000_000;
+pub const MAX_POLLS: u64 = 100_000_000;
 
 /// Whether the flag is set, once it is or after so many looks.
-pub fn is_set_at_last(flag: &AtomicBool) -> bool {
-    for _ in 0..LOOKS {
+pub fn wait_until_set(flag: &AtomicBool) -> bool {
+    for _ in 0..MAX_POLLS {
         if flag.load(Ordering::SeqCst) {
             return true;
         }

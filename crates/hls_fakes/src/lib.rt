@@ -2,20 +2,20 @@
 //! taken to their end; flags of other threads that are looked at until they are set; and what calls tell that may be refused memory.
 #![tactic(auto)]
 
-mod calls;
-mod drips;
+mod call_counter;
+mod call_outcome;
+mod chunked_reader;
+mod chunked_writer;
 mod flags;
 mod outputs;
-mod page;
-mod sink;
-mod told;
+mod page_writer;
 
-pub use drips::Drips;
-pub use flags::{LOOKS, is_set_at_last};
-pub use outputs::{goes_out, sent_of};
-pub use page::Page;
-pub use sink::Sink;
-pub use told::Told;
+pub use call_outcome::CallOutcome;
+pub use chunked_reader::ChunkedReader;
+pub use chunked_writer::ChunkedWriter;
+pub use flags::{MAX_POLLS, wait_until_set};
+pub use outputs::{collect_sent, sends_exactly};
+pub use page_writer::PageWriter;
 
 /// The call that never comes.
 pub const NEVER: usize = 0;

@@ -2,27 +2,30 @@
 
 ghost use Rattle.std.specs.Prelude.{◌<◌, ◌^◌, length, IfOk};
 
-use hls_output::{Output, Resource};
+use hls_output::{Resource, SendBuffer};
 use std::alloc::{AllocError, Global};
 
 /// Whether just these bytes go out.
-pub fn goes_out<R: Resource + Drop>(output: Output<R>, text: &[u8]) -> bool {
+pub fn sends_exactly<R: Resource + Drop>(output: SendBuffer<R>, text: &[u8]) -> bool {
     let mut output = output;
     let mut rest = text;
     while !output.is_empty() {
         let chunk = output.chunk();
         let count = chunk.len();
-        let Some(behind) = rest.strip_prefix(chunk) else {
+        let Some(tail) = rest.strip_prefix(chunk) else {
             return false;
         };
-        rest = behind;
+        rest = tail;
         output.advance(count);
     }
     rest.is_empty()
 }
 
 /// All that goes out.
-pub fn sent_of<R: Resource + Drop>(alloc: Global, output: Output<R>) -> Result<Vec<u8>, AllocError>
+pub fn collect_sent<R: Resource + Drop>(
+    alloc: Global,
+    output: SendBuffer<R>,
+) -> Result<Vec<u8>, AllocError>
     ensures { IfOk result (λ bytes. length bytes.items < 2 ^ 64) }
 {
     let mut sent = Vec::with_capacity(alloc, 8192)?;

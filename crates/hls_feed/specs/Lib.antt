@@ -1,4 +1,4 @@
-pub mod Names
+pub mod FaultName
 pub mod Shortest
 pub mod Streams
-pub mod Steps
+pub mod DrainSteps

@@ -4,24 +4,24 @@ use Rattle.std.specs.Prelude.{◌≡◌, ◌⊎◌, ℕ, ◌<◌, List, [], ◌�
 use Rattle.hls_boxes_laws.specs.declared.part.Part.{Part}
 use Rattle.hls_boxes_laws.specs.declared.fault.BoxFault.{BoxFault}
 use Rattle.hls_boxes_laws.specs.declared.fault.BoxFault.TheVariants.{Truncated}
-use Rattle.hls_boxes_laws.specs.Parts.{after_parts, cut_of, fault_at_end, text_fault}
-use Rattle.hls_feed.specs.declared.fault.StreamFault.{StreamFault}
-use Rattle.hls_feed.specs.declared.fault.StreamFault.TheVariants.{Boxes}
-use Rattle.hls_feed.specs.declared.fault.Untaken.{Untaken}
-use Rattle.hls_feed.specs.declared.fault.Untaken.TheVariants.{Refused, Memory}
+use Rattle.hls_boxes_laws.specs.Parts.{after_parts, stream_cut, fault_at_end, text_fault}
+use Rattle.hls_feed.specs.declared.feed_fault.StreamFault.{StreamFault}
+use Rattle.hls_feed.specs.declared.feed_fault.StreamFault.TheVariants.{Boxes}
+use Rattle.hls_feed.specs.declared.feed_fault.FeedFault.{FeedFault}
+use Rattle.hls_feed.specs.declared.feed_fault.FeedFault.TheVariants.{Refused, Memory}
 use Rattle.hls_feed.specs.Shortest.{IsShortestPart, IsShortestFault}
 
--- ---- for any taker: from how far a stream has come, what a part comes to, and how far it has come then
+-- ---- for any sink: from how far a stream has come, what a part comes to, and how far it has come then
 
-module _ {S : Type 0} (Comes : S → Part → S → Result (Unit {0}) Untaken → Type 0) where
+module _ {S : Type 0} (Yields : S → Part → S → Result (Unit {0}) FeedFault → Type 0) where
   -- parts taken one after the other
   abbrev pub TakesAll : S → List Part → S → Type 0
   TakesAll x [] y = y ≡ x
-  TakesAll x (part ∷ others) y = (z : S) × Comes x part z (Ok tt) × TakesAll z others y
+  TakesAll x (part ∷ others) y = (z : S) × Yields x part z (Ok tt) × TakesAll z others y
 
   -- the content's parts are taken, and it shows no fault
   pub record IsTaken (start : S) (content : List ℕ) (y : S) : Type 0 where
-    pub takes : TakesAll start (cut_of content).parts y
+    pub takes : TakesAll start (stream_cut content).parts y
     pub no_fault : text_fault content ≡ None
 
   -- so many bytes of the content, and no fewer, show the part that is refused; those before it are taken
@@ -31,11 +31,11 @@ module _ {S : Type 0} (Comes : S → Part → S → Result (Unit {0}) Untaken �
     pub takes : TakesAll start taken last
     pub part : Part
     pub shows : IsShortestPart content taken part size
-    pub refuses : Comes last part y (Err (Refused fault))
+    pub refuses : Yields last part y (Err (Refused fault))
 
   -- so many bytes of the content, and no fewer, show the fault of a box; the parts before it are taken
   pub record RefusesBox (start : S) (content : List ℕ) (size : ℕ) (fault : StreamFault) (y : S) : Type 0 where
-    pub takes : TakesAll start (cut_of content).parts y
+    pub takes : TakesAll start (stream_cut content).parts y
     pub box : BoxFault
     pub fault_is : fault ≡ Boxes box
     pub found : text_fault content ≡ Some box
@@ -47,47 +47,47 @@ module _ {S : Type 0} (Comes : S → Part → S → Result (Unit {0}) Untaken �
   -- memory was wanted for the next part, or before one was whole
   abbrev pub WantsFor : S → List Part → S → Type 0
   WantsFor x [] y = y ≡ x
-  WantsFor x (part ∷ others) y = (y ≡ x) ⊎ Comes x part y (Err Memory)
+  WantsFor x (part ∷ others) y = (y ≡ x) ⊎ Yields x part y (Err Memory)
 
   -- .. behind some parts of the content, which are taken
   pub record Wants (start : S) (content : List ℕ) (y : S) : Type 0 where
     pub taken : List Part
     pub others : List Part
-    pub front : (cut_of content).parts ≡ taken ++ others
+    pub front : (stream_cut content).parts ≡ taken ++ others
     pub last : S
     pub takes : TakesAll start taken last
-    pub wants : WantsFor last others y
+    pub runs_out : WantsFor last others y
 
 -- ---- the end
 
 -- a content that ends here is whole, or ends inside a part
-abbrev pub EndsSo : List ℕ → Result (Unit {0}) StreamFault → Type 0
-EndsSo content (Ok done) = fault_at_end (cut_of content).left ≡ None
-EndsSo content (Err fault) = (fault ≡ Boxes Truncated) × (fault_at_end (cut_of content).left ≡ Some Truncated)
+abbrev pub EndsStream : List ℕ → Result (Unit {0}) StreamFault → Type 0
+EndsStream content (Ok done) = fault_at_end (stream_cut content).left ≡ None
+EndsStream content (Err fault) = (fault ≡ Boxes Truncated) × (fault_at_end (stream_cut content).left ≡ Some Truncated)
 
 -- ---- piece by piece
 
 -- `held` is what is left of the content behind its parts, whatever follows
 abbrev pub IsLeft : List ℕ → List ℕ → Type 0
-IsLeft content held = (more : List ℕ) → cut_of (content ++ more) ≡ after_parts (cut_of content).parts (cut_of (held ++ more))
+IsLeft content held = (more : List ℕ) → stream_cut (content ++ more) ≡ after_parts (stream_cut content).parts (stream_cut (held ++ more))
 
-module _ {S : Type 0} (Comes : S → Part → S → Result (Unit {0}) Untaken → Type 0) where
+module _ {S : Type 0} (Yields : S → Part → S → Result (Unit {0}) FeedFault → Type 0) where
   pub record Reached (start : S) (content held : List ℕ) (y : S) : Type 0 where
-    pub taken : IsTaken Comes start content y
+    pub taken : IsTaken Yields start content y
     pub left : IsLeft content held
 
   -- a refusal that a piece behind the content shows
   pub record RefusesBehind (start : S) (content piece : List ℕ) (fault : StreamFault) (y : S) : Type 0 where
     pub size : ℕ
-    pub behind : length content < size
-    pub refuses : Refuses Comes start (content ++ piece) size fault y
+    pub after_content : length content < size
+    pub refuses : Refuses Yields start (content ++ piece) size fault y
 
-  abbrev pub FeedsBehind : S → List ℕ → List ℕ → List ℕ → S → Result (Unit {0}) Untaken → Type 0
+  abbrev pub FeedsBehind : S → List ℕ → List ℕ → List ℕ → S → Result (Unit {0}) FeedFault → Type 0
   FeedsBehind start content piece held y (Ok done) = Reached start (content ++ piece) held y
   FeedsBehind start content piece held y (Err (Refused fault)) = RefusesBehind start content piece fault y
-  FeedsBehind start content piece held y (Err Memory) = Wants Comes start (content ++ piece) y
+  FeedsBehind start content piece held y (Err Memory) = Wants Yields start (content ++ piece) y
 
   -- one more piece, whatever content led here
-  abbrev pub Feeds : List ℕ → List ℕ → List ℕ → S → S → Result (Unit {0}) Untaken → Type 0
+  abbrev pub Feeds : List ℕ → List ℕ → List ℕ → S → S → Result (Unit {0}) FeedFault → Type 0
   Feeds old piece held x y result =
       (start : S) (content : List ℕ) → Reached start content old x → FeedsBehind start content piece held y result

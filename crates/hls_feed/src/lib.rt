@@ -1,15 +1,15 @@
-//! One stream into a channel: it comes in pieces of any length, and each whole part is given to a taker before anything behind it
+//! One stream into a channel: it comes in pieces of any length, and each whole part is given to a sink before anything behind it
 //! is looked at, up to the first refusal.
 //!
-//! What that comes to stands in [`Streams`](../specs/Streams.antt), over the whole content and for any taker: its parts in order,
+//! What that comes to stands in [`Streams`](../specs/Streams.antt), over the whole content and for any sink: its parts in order,
 //! each taken; or the shortest beginning of the content that shows a refusal.
 #![tactic(auto)]
 
-pub mod fault;
-pub mod laws;
-pub mod stream;
-pub mod taker;
+pub mod feed_fault;
+pub mod feed_laws;
+pub mod ingest;
+pub mod part_sink;
 
-pub use fault::{StreamFault, Untaken};
-pub use stream::{end, feed};
-pub use taker::Taker;
+pub use feed_fault::{FeedFault, StreamFault};
+pub use ingest::{finish_stream, ingest_piece};
+pub use part_sink::PartSink;

@@ -1,26 +1,26 @@
 -- How near something is to its limit, and when it will be there. Times are milliseconds of one clock.
 use Rattle.std.specs.Prelude.{ℕ, ◌-◌, ◌*◌, ◌/◌, ◌^◌, Bool, cond, nat_eq, nat_lt, nat_le, min, max, Option, Some, None}
 use Rattle.hls_house.specs.declared.gauge.Gauge.{Gauge}
-use Rattle.hls_house.specs.declared.gauge.Nearing.{Nearing}
+use Rattle.hls_house.specs.declared.gauge.LimitWarning.{LimitWarning}
 
-abbrev pub is_at : ℕ → ℕ → ℕ → Bool
-is_at percent used limit = nat_le (limit * percent) (used * 100)
+abbrev pub has_reached : ℕ → ℕ → ℕ → Bool
+has_reached percent used limit = nat_le (limit * percent) (used * 100)
 
-abbrev pub level_of : ℕ → ℕ → ℕ
-level_of used limit = cond (is_at 99 used limit) 99 (cond (is_at 95 used limit) 95 (cond (is_at 90 used limit) 90 (cond (is_at 80 used limit) 80 0)))
+abbrev pub usage_level : ℕ → ℕ → ℕ
+usage_level used limit = cond (has_reached 99 used limit) 99 (cond (has_reached 95 used limit) 95 (cond (has_reached 90 used limit) 90 (cond (has_reached 80 used limit) 80 0)))
 
 -- the time that the rest takes at the rate of `gained` in `passed`
-abbrev pub left_at : ℕ → ℕ → ℕ → Option ℕ
-left_at rest gained passed = cond (nat_eq gained 0) None (Some (min (rest * passed / gained) (2 ^ 64 - 1)))
+abbrev pub time_left_ms : ℕ → ℕ → ℕ → Option ℕ
+time_left_ms remaining gained passed = cond (nat_eq gained 0) None (Some (min (remaining * passed / gained) (2 ^ 64 - 1)))
 
 -- once the later mark is half an hour old, the rate counts from it
-abbrev pub marked : ℕ → ℕ → Gauge → Gauge
-marked now used g = cond (nat_lt (now - g.next.at) 1800000) g (record { told = g.told; since = g.next; next = record { at = now; used = used } })
+abbrev pub gauge_with_usage : ℕ → ℕ → Gauge → Gauge
+gauge_with_usage now used g = cond (nat_lt (now - g.next.at) 1800000) g (record { reported_level = g.reported_level; since = g.next; next = record { at = now; used = used } })
 
-abbrev pub raised : ℕ → Gauge → Gauge
-raised level g = record { told = max level g.told; since = g.since; next = g.next }
+abbrev pub gauge_with_level : ℕ → Gauge → Gauge
+gauge_with_level level g = record { reported_level = max level g.reported_level; since = g.since; next = g.next }
 
 -- a level that is above the one that was told
-abbrev pub told_of : ℕ → ℕ → ℕ → Gauge → Option Nearing
-told_of used limit now g = cond (nat_le (level_of used limit) g.told) None
-    (Some (record { level = level_of used limit; left = left_at (limit - used) (used - g.since.used) (now - g.since.at) }))
+abbrev pub limit_warning : ℕ → ℕ → ℕ → Gauge → Option LimitWarning
+limit_warning used limit now g = cond (nat_le (usage_level used limit) g.reported_level) None
+    (Some (record { level = usage_level used limit; left = time_left_ms (limit - used) (used - g.since.used) (now - g.since.at) }))

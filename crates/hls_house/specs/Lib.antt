@@ -1,7 +1,7 @@
-pub mod Bells
+pub mod Alerts
 pub mod Gauges
-pub mod Keeping
+pub mod Housekeeping
 pub mod Lags
-pub mod Rests
+pub mod Backoff
 pub mod Memory
-pub mod Uneven
+pub mod Coverage

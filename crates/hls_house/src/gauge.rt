@@ -1,14 +1,14 @@
 //! How near something is to its limit, and when it will be there.
 
 ghost use Rattle.std.specs.Prelude.{◌≡◌, ◌≤◌, ◌^◌};
-ghost use Rattle.hls_house.specs.Gauges.{left_at, level_of, marked, raised, told_of};
+ghost use Rattle.hls_house.specs.Gauges.{time_left_ms, usage_level, gauge_with_usage, gauge_with_level, limit_warning};
 
-/// For how long a mark stands at least, in milliseconds: the rate is that of the last half hour to an hour.
-const HALF_HOUR: u64 = 1_800_000;
+/// For how long a usage point stands at least, in milliseconds: the rate is that of the last half hour to an hour.
+const HALF_HOUR_MS: u64 = 1_800_000;
 
 /// How much was used at a moment of the clock, in milliseconds.
 #[derive(Clone, Copy)]
-pub struct Mark {
+pub struct UsagePoint {
     pub at: u64,
     pub used: u64,
 }
@@ -17,16 +17,16 @@ pub struct Mark {
 #[derive(Clone, Copy)]
 pub struct Gauge {
     /// The level that was told, in percent; 0 before the first one.
-    pub told: u64,
+    pub reported_level: u64,
     /// The rate counts from here.
-    pub since: Mark,
+    pub since: UsagePoint,
     /// From here it counts once that is half an hour old.
-    pub next: Mark,
+    pub next: UsagePoint,
 }
 
 /// What is told of a gauge.
 #[derive(Clone, Copy)]
-pub struct Nearing {
+pub struct LimitWarning {
     /// In percent.
     pub level: u64,
     /// How long it lasts, in milliseconds, where anything has come since the rate counts.
@@ -34,10 +34,10 @@ pub struct Nearing {
 }
 
 /// The greatest of 80, 90, 95 and 99 percent of a limit that is used; 0 below the first.
-fn level(used: u64, limit: u64) -> u64
+fn usage_level(used: u64, limit: u64) -> u64
     requires used { used ≤ 2 ^ 56 }
     requires limit { limit ≤ 2 ^ 56 }
-    ensures { result ≡ level_of used limit }
+    ensures { result ≡ usage_level used limit }
 {
     if used * 100 >= limit * 99 {
         return 99;
@@ -55,58 +55,58 @@ fn level(used: u64, limit: u64) -> u64
 }
 
 /// In how long as much as is left will be used, where so much was in so long.
-fn left(rest: u64, gained: u64, passed: u64) -> Option<u64>
-    ensures { result ≡ left_at rest gained passed }
+fn time_left_ms(remaining: u64, gained: u64, passed: u64) -> Option<u64>
+    ensures { result ≡ time_left_ms remaining gained passed }
 {
     if gained == 0 {
         return None;
     }
-    let time = u128::from(rest) * u128::from(passed) / u128::from(gained);
+    let time = u128::from(remaining) * u128::from(passed) / u128::from(gained);
     Some(u64::try_from(time).unwrap_or(u64::MAX))
 }
 
 impl Gauge {
     /// At a moment, nothing told.
     pub fn new(now: u64, used: u64) -> Gauge
-        ensures { result ≡ record { told = 0; since = record { at = now; used = used }; next = record { at = now; used = used } } }
+        ensures { result ≡ record { reported_level = 0; since = record { at = now; used = used }; next = record { at = now; used = used } } }
     {
-        let mark = Mark { at: now, used };
+        let mark = UsagePoint { at: now, used };
         Gauge {
-            told: 0,
+            reported_level: 0,
             since: mark,
             next: mark,
         }
     }
 
-    /// Marks a moment, where the later mark is half an hour old.
-    fn mark(&mut self, now: u64, used: u64)
-        ensures { self.new ≡ marked now used self.old }
+    /// Notes the usage, where the later usage point is half an hour old.
+    fn record_usage(&mut self, now: u64, used: u64)
+        ensures { self.new ≡ gauge_with_usage now used self.old }
     {
-        if now.saturating_sub(self.next.at) >= HALF_HOUR {
+        if now.saturating_sub(self.next.at) >= HALF_HOUR_MS {
             self.since = self.next;
-            self.next = Mark { at: now, used };
+            self.next = UsagePoint { at: now, used };
         }
     }
 
     /// What is told where so much is used of a limit at a moment: each level once.
-    pub fn looked(&mut self, used: u64, limit: u64, now: u64) -> Option<Nearing>
+    pub fn update(&mut self, used: u64, limit: u64, now: u64) -> Option<LimitWarning>
         requires used { used ≤ 2 ^ 56 }
         requires limit { limit ≤ 2 ^ 56 }
-        ensures gauge { self.new ≡ raised (level_of used limit) (marked now used self.old) }
-        ensures told { result ≡ told_of used limit now self.old }
+        ensures gauge { self.new ≡ gauge_with_level (usage_level used limit) (gauge_with_usage now used self.old) }
+        ensures reported_level { result ≡ limit_warning used limit now self.old }
     {
-        let level = level(used, limit);
+        let level = usage_level(used, limit);
         let since = self.since;
-        self.mark(now, used);
-        if level <= self.told {
+        self.record_usage(now, used);
+        if level <= self.reported_level {
             return None;
         }
-        self.told = level;
+        self.reported_level = level;
         let gained = used.saturating_sub(since.used);
         let passed = now.saturating_sub(since.at);
-        Some(Nearing {
+        Some(LimitWarning {
             level,
-            left: left(limit.saturating_sub(used), gained, passed),
+            left: time_left_ms(limit.saturating_sub(used), gained, passed),
         })
     }
 }

@@ -4,27 +4,27 @@
 //! That it does to the channel nothing but what upkeep gives is proved. Of threads and time nothing is claimed.
 #![tactic(auto)]
 
-mod crew;
-mod cuts;
-mod due;
+mod alert;
+mod coverage;
+mod display;
 mod gauge;
-mod house;
-mod household;
+mod housekeeper;
 mod lag;
-mod lines;
-mod log;
+mod log_throttle;
 mod memory;
-mod near;
-mod recent;
-mod rest;
-mod told;
+mod monitor;
+mod nearest_sync;
+mod operator_log;
+mod progress;
+mod server_status;
+mod thread_counts;
+mod trim_backoff;
 mod warnings;
-mod watch;
 
-pub use crew::{Crew, tell_fewer_threads};
-pub use house::keep_house;
-pub use household::Household;
-pub use lines::{Limits, Name, Names};
-pub use log::{Log, tell, tell_ended_worker, tell_failed_accept, tell_listening};
-pub use memory::tell_memory;
-pub use told::{Told, is_told};
+pub use display::{DisplayName, DisplayNames, DisplaySettings};
+pub use housekeeper::run_housekeeper;
+pub use log_throttle::{LogThrottle, may_log};
+pub use memory::log_memory;
+pub use operator_log::{OperatorLog, log_ended_worker, log_failed_accept, log_line, log_listening};
+pub use server_status::ServerStatus;
+pub use thread_counts::{ThreadCounts, log_fewer_threads};

@@ -1,13 +1,13 @@
 //! What the operator is told before the first connection is taken: that more media would be kept than there is memory for.
 
 ghost use Rattle.std.specs.Prelude.{◌≡◌, ◌≤◌, ◌^◌};
-ghost use Rattle.hls_house.specs.Memory.{memory_wanted};
+ghost use Rattle.hls_house.specs.Memory.{media_bytes_needed};
 
-use crate::log::Log;
-use crate::rest::rest_length;
+use crate::operator_log::OperatorLog;
+use crate::trim_backoff::backoff_ms;
 use hls_core_laws::rendition::Rendition;
-use hls_settings::{Settings, Timing};
-use hls_text::{MOST_DIGITS, read_number};
+use hls_settings::{Settings, WindowSettings};
+use hls_text::{MAX_DIGITS, parse_digits};
 use std::alloc::Global;
 use std::io::{Eprint, Read};
 use std::rt::Files;
@@ -20,14 +20,14 @@ const MEGABYTE: u64 = 1_000_000;
 const ROOM: usize = 4096;
 
 /// The bytes of media that so many bits a second come to over what is kept, the window, two targets, and a rest from trims.
-fn memory_wanted(bits: u64, timing: Timing) -> u64
+fn media_bytes_needed(bits: u64, timing: WindowSettings) -> u64
     requires bits { bits ≤ 2 ^ 48 }
     requires target { timing.target ≤ 3600 }
-    ensures { result ≡ memory_wanted bits timing }
+    ensures { result ≡ media_bytes_needed bits timing }
 {
-    let behind = u128::from(timing.keep) + u128::from(timing.window);
-    let ahead = timing.target * 2_000_000 + rest_length(timing.keep) * 1000;
-    let bytes = u128::from(bits) * (behind + u128::from(ahead)) / 8_000_000;
+    let retained_us = u128::from(timing.keep) + u128::from(timing.window);
+    let ahead = timing.target * 2_000_000 + backoff_ms(timing.keep) * 1000;
+    let bytes = u128::from(bits) * (retained_us + u128::from(ahead)) / 8_000_000;
     u64::try_from(bytes).unwrap_or(u64::MAX)
 }
 
@@ -43,14 +43,14 @@ fn bits_of(renditions: &[Rendition]) -> u64
 }
 
 /// The text of a file, as far as there is room.
-fn text_of<'b, R: Files>(rt: &R, path: &str, room: &'b mut [u8]) -> Option<&'b str> {
+fn read_text<'b, R: Files>(rt: &R, path: &str, room: &'b mut [u8]) -> Option<&'b str> {
     let mut file = fs::open(rt, path).ok()?;
     let len = file.read(room).ok()?;
     str::from_utf8(room.get(..len)?).ok()
 }
 
 /// What stands behind a label at a line's begin, up to the next blank.
-fn word_behind<'t>(text: &'t str, label: &str) -> Option<&'t str> {
+fn find_word_after<'t>(text: &'t str, label: &str) -> Option<&'t str> {
     for line in text.lines() {
         if let Some(rest) = line.strip_prefix(label) {
             return rest.split_whitespace().next();
@@ -60,63 +60,68 @@ fn word_behind<'t>(text: &'t str, label: &str) -> Option<&'t str> {
 }
 
 /// The number behind a label in a file; none where there is no number.
-fn number_in<R: Files>(rt: &R, path: &str, label: &str) -> Option<u64> {
+fn read_number_at<R: Files>(rt: &R, path: &str, label: &str) -> Option<u64> {
     let mut room = [0; ROOM];
-    let word = word_behind(text_of(rt, path, &mut room)?, label)?;
-    read_number(word.as_bytes(), MOST_DIGITS)
+    let word = find_word_after(read_text(rt, path, &mut room)?, label)?;
+    parse_digits(word.as_bytes(), MAX_DIGITS)
 }
 
 /// What the machine has, in bytes.
 fn machine_memory<R: Files>(rt: &R) -> Option<u64> {
-    Some(number_in(rt, "/proc/meminfo", "MemTotal:")?.saturating_mul(1024))
+    Some(read_number_at(rt, "/proc/meminfo", "MemTotal:")?.saturating_mul(1024))
 }
 
 /// What the process's address space may come to, in bytes; none where it has no limit.
 fn address_space<R: Files>(rt: &R) -> Option<u64> {
-    number_in(rt, "/proc/self/limits", "Max address space")
+    read_number_at(rt, "/proc/self/limits", "Max address space")
 }
 
 /// What the process's control group may take, in bytes; none where it has no limit of its own (cgroups(7), version 2).
 fn group_memory<R: Files>(rt: &R, alloc: Global) -> Option<u64> {
     let mut room = [0; ROOM];
-    let group = word_behind(text_of(rt, "/proc/self/cgroup", &mut room)?, "0::")?;
+    let group = find_word_after(read_text(rt, "/proc/self/cgroup", &mut room)?, "0::")?;
     let path = format!(in alloc; "/sys/fs/cgroup{group}/memory.max").ok()?;
-    number_in(rt, path.as_str(), "")
+    read_number_at(rt, path.as_str(), "")
 }
 
 /// Tells that more memory is wanted than there is.
-fn tell_wanted<E: Eprint>(log: &Log<'_, E>, wanted: u64, what: &str, given: Option<u64>) {
+fn log_memory_needed<E: Eprint>(
+    log: &OperatorLog<'_, E>,
+    needed: u64,
+    what: &str,
+    given: Option<u64>,
+) {
     let Some(given) = given else {
         return;
     };
-    if wanted <= given {
+    if needed <= given {
         return;
     }
-    let (level, wanted, given) = (log.warning(), wanted / MEGABYTE, given / MEGABYTE);
+    let (level, needed, given) = (log.warning_prefix(), needed / MEGABYTE, given / MEGABYTE);
     let _ = eprintln!(log.rt;
-        "{level}serve: these renditions want {wanted} MB for what --keep and --window say, and {what} {given} MB"
+        "{level}serve: these renditions want {needed} MB for what --keep and --window say, and {what} {given} MB"
     );
 }
 
 /// Tells of settings that keep more media than there is memory for, as far as the system says how much that is.
-pub fn tell_memory<R: Eprint + Files>(log: &Log<'_, R>, alloc: Global, settings: &Settings) {
+pub fn log_memory<R: Eprint + Files>(log: &OperatorLog<'_, R>, alloc: Global, settings: &Settings) {
     let rt = log.rt;
     let renditions = settings.config.renditions();
-    let timing = settings.plain.timing;
+    let timing = settings.server.timing;
     if timing.target > 3600 {
         return;
     }
-    let wanted = memory_wanted(bits_of(renditions), timing);
-    tell_wanted(log, wanted, "this machine has", machine_memory(rt));
-    tell_wanted(
+    let needed = media_bytes_needed(bits_of(renditions), timing);
+    log_memory_needed(log, needed, "this machine has", machine_memory(rt));
+    log_memory_needed(
         log,
-        wanted,
+        needed,
         "this process's address space is limited to",
         address_space(rt),
     );
-    tell_wanted(
+    log_memory_needed(
         log,
-        wanted,
+        needed,
         "its control group has",
         group_memory(rt, alloc),
     );

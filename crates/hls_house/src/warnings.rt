@@ -1,9 +1,9 @@
 //! The operator's lines of what is about to go wrong, while the server runs.
 
-use crate::gauge::Nearing;
-use crate::lag::Late;
-use crate::lines::Name;
-use crate::log::Log;
+use crate::display::DisplayName;
+use crate::gauge::LimitWarning;
+use crate::lag::LateRendition;
+use crate::operator_log::OperatorLog;
 use std::fmt::{self, Display, Formatter, Write};
 use std::io::Eprint;
 
@@ -17,81 +17,85 @@ const SECOND: u64 = 1_000_000;
 const MINUTE: u64 = 60_000;
 
 /// The live lists wait for a rendition.
-pub fn tell_late<E: Eprint>(log: &Log<'_, E>, name: Name<'_>, late: Late) {
-    let (rt, level) = (log.rt, log.warning());
+pub fn log_late<E: Eprint>(log: &OperatorLog<'_, E>, name: DisplayName<'_>, late: LateRendition) {
+    let (rt, level) = (log.rt, log.warning_prefix());
     if !late.begun {
         let _ = eprintln!(rt; "{level}serve: live lists wait for {name}, which has not begun");
         return;
     }
-    let behind = late.behind / SECOND;
-    let _ = eprintln!(rt; "{level}serve: live lists wait for {name}, {behind} s behind");
+    let lag = late.lag / SECOND;
+    let _ = eprintln!(rt; "{level}serve: live lists wait for {name}, {lag} s behind");
 }
 
 /// They don't any more.
-pub fn tell_in_time<E: Eprint>(log: &Log<'_, E>) {
+pub fn log_recovered<E: Eprint>(log: &OperatorLog<'_, E>) {
     let _ = eprintln!(log.rt; "serve: live lists go on");
 }
 
 /// What fills up towards its limit.
 #[derive(Clone, Copy)]
-pub enum Filled<'a> {
+pub enum LimitedResource<'a> {
     /// The log, which takes so many entries.
     Log(u64),
     /// The recording of a rendition, which takes so many bytes.
-    Recording(Name<'a>, u64),
+    Recording(DisplayName<'a>, u64),
 }
 
-impl<'a> Display for Filled<'a> {
+impl<'a> Display for LimitedResource<'a> {
     fn fmt<W: Write>(&self, f: &mut Formatter<W>) -> fmt::Result {
         match self {
-            Filled::Log(limit) => write!(f, "the log's {limit} entries"),
-            Filled::Recording(name, limit) => write!(f, "{name}'s {limit} bytes"),
+            LimitedResource::Log(limit) => write!(f, "the log's {limit} entries"),
+            LimitedResource::Recording(name, limit) => write!(f, "{name}'s {limit} bytes"),
         }
     }
 }
 
 /// So much of something that can't grow is used.
-pub fn tell_nearing<E: Eprint>(log: &Log<'_, E>, filled: Filled<'_>, nearing: Nearing) {
-    let (rt, percent) = (log.rt, nearing.level);
+pub fn log_limit<E: Eprint>(
+    log: &OperatorLog<'_, E>,
+    resource: LimitedResource<'_>,
+    warning: LimitWarning,
+) {
+    let (rt, percent) = (log.rt, warning.level);
     let level = if percent < 95 {
-        log.warning()
+        log.warning_prefix()
     } else {
-        log.error()
+        log.error_prefix()
     };
-    let Some(left) = nearing.left else {
-        let _ = eprintln!(rt; "{level}serve: {percent} % of {filled} are used");
+    let Some(left) = warning.left else {
+        let _ = eprintln!(rt; "{level}serve: {percent} % of {resource} are used");
         return;
     };
     let (hours, minutes) = (left / MINUTE / 60, left / MINUTE % 60);
     let _ = eprintln!(rt;
-        "{level}serve: {percent} % of {filled} are used: at this rate the rest lasts {hours} h {minutes} min"
+        "{level}serve: {percent} % of {resource} are used: at this rate the rest lasts {hours} h {minutes} min"
     );
 }
 
 /// Jobs hold so many of their places, which is more than half of them.
-pub fn tell_many_jobs<E: Eprint>(log: &Log<'_, E>, jobs: usize) {
-    let level = log.warning();
+pub fn log_many_jobs<E: Eprint>(log: &OperatorLog<'_, E>, jobs: usize) {
+    let level = log.warning_prefix();
     let _ = eprintln!(log.rt;
         "{level}serve: catch-up jobs hold {jobs} of 64 places: each stays until it is deleted"
     );
 }
 
 /// Jobs hold no more than half of their places any more.
-pub fn tell_fewer_jobs<E: Eprint>(log: &Log<'_, E>, jobs: usize) {
+pub fn log_fewer_jobs<E: Eprint>(log: &OperatorLog<'_, E>, jobs: usize) {
     let _ = eprintln!(log.rt; "serve: catch-up jobs hold {jobs} of 64 places again");
 }
 
 /// The rendition without which most of the sync samples were places, as far as it is known.
 #[derive(Clone, Copy)]
-pub struct Cause<'a> {
-    pub name: Name<'a>,
+pub struct BlockingRendition<'a> {
+    pub name: DisplayName<'a>,
     /// How far its nearest sync samples begin from rendition 0's, at most, in microseconds.
     pub away: u64,
     pub tolerance: u64,
     pub finished: bool,
 }
 
-impl<'a> Display for Cause<'a> {
+impl<'a> Display for BlockingRendition<'a> {
     fn fmt<W: Write>(&self, f: &mut Formatter<W>) -> fmt::Result {
         let name = self.name;
         if self.finished {
@@ -107,34 +111,34 @@ impl<'a> Display for Cause<'a> {
 }
 
 /// So many of the last sync samples of the first rendition are no places.
-pub fn tell_missing<E: Eprint>(
-    log: &Log<'_, E>,
-    first: Name<'_>,
+pub fn log_missing<E: Eprint>(
+    log: &OperatorLog<'_, E>,
+    first: DisplayName<'_>,
     missing: usize,
     all: usize,
-    cause: Option<Cause<'_>>,
+    blocking: Option<BlockingRendition<'_>>,
 ) {
-    let (rt, level) = (log.rt, log.warning());
-    let _ = match cause {
+    let (rt, level) = (log.rt, log.warning_prefix());
+    let _ = match blocking {
         None => eprintln!(rt;
             "{level}serve: {missing} of the last {all} sync samples of {first} are no places"
         ),
-        Some(cause) => eprintln!(rt;
-            "{level}serve: {missing} of the last {all} sync samples of {first} are no places: {cause}"
+        Some(blocking) => eprintln!(rt;
+            "{level}serve: {missing} of the last {all} sync samples of {first} are no places: {blocking}"
         ),
     };
 }
 
 /// So many of the last sync samples of the first rendition are in no live segment.
-pub fn tell_left_out<E: Eprint>(
-    log: &Log<'_, E>,
-    first: Name<'_>,
-    left_out: usize,
+pub fn log_uncovered<E: Eprint>(
+    log: &OperatorLog<'_, E>,
+    first: DisplayName<'_>,
+    uncovered: usize,
     all: usize,
     target: u64,
 ) {
-    let level = log.warning();
+    let level = log.warning_prefix();
     let _ = eprintln!(log.rt;
-        "{level}serve: {left_out} of the last {all} sync samples of {first} are in no live segment: no place follows within the target of {target} s"
+        "{level}serve: {uncovered} of the last {all} sync samples of {first} are in no live segment: no place follows within the target of {target} s"
     );
 }

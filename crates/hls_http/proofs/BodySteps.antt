@@ -7,11 +7,11 @@ use Rattle.httparse.specs.Grammar.{ChunkLine, Field, LineEnd, HasNoChunkLine, Ha
 use Rattle.httparse.specs.Spans.{IsChunkLineAt, IsSectionAt, header_bytes, name_and_value}
 use Rattle.httparse.proofs.GrammarLemmas.{ReadsSection-append, section_unique}
 use Rattle.httparse.proofs.ChunkLemmas.{ReadsChunkLine-append, chunk_line_unique}
-use Rattle.hls_http_laws.specs.declared.body.Body.{Body}
-use Rattle.hls_http_laws.specs.declared.body.Body.TheVariants.{Length, Size, Data, Trailers}
-use Rattle.hls_http_laws.specs.Bodies.{after_line, Steps, Runs, NoStep, HasNoStep, Goes}
+use Rattle.hls_http_laws.specs.declared.framing.BodyFraming.{BodyFraming}
+use Rattle.hls_http_laws.specs.declared.framing.BodyFraming.TheVariants.{Length, Size, Data, Trailers}
+use Rattle.hls_http_laws.specs.Bodies.{framing_after_size, Steps, StepsThrough, NoStep, HasNoStep, RunsOnReader}
 use Rattle.hls_http_laws.proofs.Callers.{Leaves, cut, run_one, runs_join, runs_leave, runs_stay, some_line, some_section}
-use Rattle.hls_http.specs.{declared.input.Filled.Filled, Bodies.IsLastAlone, Input.Reads}
+use Rattle.hls_http.specs.{declared.input_buffer.ReadOutcome.ReadOutcome, ReadBodies.IsLastAlone, Input.ReadsMore}
 use Rattle.hls_http.proofs.HeadLaws.{reads_known}
 
 pub long_line : (held : List ℕ) (len size : ℕ) (l : ChunkLine) → IsChunkLineAt held len size l → 16384 < len → HasNoStep Size held
@@ -19,7 +19,7 @@ long_line held len size l at past = λ more piece next rest s.
     let same = chunk_line_unique (held ++ more) l s.1.line (drop len held ++ more) rest (ReadsChunkLine-append held l (drop len held) more at.reads) s.1.reads in
     absurd (omega (arith, at.len_is, ap (λ x. length (print_chunk_line x)) same.0, s.1.small))
 
-pub line_frame : (held : List ℕ) (len size : ℕ) (l : ChunkLine) (next : Body) → IsChunkLineAt held len size l → len ≤ 16384 → next ≡ after_line size
+pub line_frame : (held : List ℕ) (len size : ℕ) (l : ChunkLine) (next : BodyFraming) → IsChunkLineAt held len size l → len ≤ 16384 → next ≡ framing_after_size size
     → (0 < len) × (len ≤ length held) × Steps Size held [] next (drop len held)
 line_frame held len size l next at small is = (
   omega (arith, at.len_is, some_line l),
@@ -64,31 +64,31 @@ no_trailers held never past = λ more piece next rest s.
 
 -- ---- steps of what is held, in the input
 
-pub goes_none : (b : Body) (held rest : List ℕ) (left : Option (List ℕ)) → left ≡ Some rest → Goes b (held ++ rest) [] b held left
+pub goes_none : (b : BodyFraming) (held rest : List ℕ) (left : Option (List ℕ)) → left ≡ Some rest → RunsOnReader b (held ++ rest) [] b held left
 goes_none b held rest left is = record { later = held ++ rest; runs = NoStep; known = ap (λ o. prepend_known held o) is }
 
-pub goes_then : (b middle last : Body) (input got held now piece rest : List ℕ) (old left : Option (List ℕ)) → Goes b input got middle held old → Steps middle held piece last rest
-    → now ≡ rest → left ≡ old → Goes b input (got ++ piece) last now left
+pub goes_then : (b middle last : BodyFraming) (input got held now piece rest : List ℕ) (old left : Option (List ℕ)) → RunsOnReader b input got middle held old → Steps middle held piece last rest
+    → now ≡ rest → left ≡ old → RunsOnReader b input (got ++ piece) last now left
 goes_then b middle last input got held now piece rest None left g s now_is left_is = absurd (cc (g.known))
 goes_then b middle last input got held now piece rest (Some more) left g s now_is left_is =
     let whole : held ++ more ≡ g.later = cc (g.known) in
     let step = runs_stay middle held piece last rest more (run_one middle last held piece rest s) in
     record {
       later = rest ++ more;
-      runs = runs_join b middle last input got g.later piece (rest ++ more) g.runs (subst (λ (xs : List ℕ). Runs middle xs piece last (rest ++ more)) whole step);
+      runs = runs_join b middle last input got g.later piece (rest ++ more) g.runs (subst (λ (xs : List ℕ). StepsThrough middle xs piece last (rest ++ more)) whole step);
       known = ap (λ o. prepend_known now o) left_is ∙ ap (λ xs. Some (xs ++ more)) now_is;
     }
 
 -- what was read behind what was held changes nothing of what is to come
-pub goes_filled : (b middle : Body) (input got held now : List ℕ) (old left : Option (List ℕ)) (filled : Filled) → Goes b input got middle held old
-    → Reads held now old left filled → Goes b input got middle now left
+pub goes_filled : (b middle : BodyFraming) (input got held now : List ℕ) (old left : Option (List ℕ)) (filled : ReadOutcome) → RunsOnReader b input got middle held old
+    → ReadsMore held now old left filled → RunsOnReader b input got middle now left
 goes_filled b middle input got held now old left filled g r = record { later = g.later; runs = g.runs; known = reads_known g.later held now old left filled g.known r }
 
 -- where nothing was taken yet and the last byte is next, it is all of the body
-pub last_alone : (b middle next : Body) (input rest : List ℕ) → Runs b input [] middle rest → IsLastAlone middle next → IsLastAlone b next
+pub last_alone : (b middle next : BodyFraming) (input rest : List ℕ) → StepsThrough b input [] middle rest → IsLastAlone middle next → IsLastAlone b next
 last_alone b middle next input rest r alone = λ over. all b (runs_leave b middle input [] rest r) (alone over)
   where
-    all : (b : Body) → Leaves b 0 middle → middle ≡ Length 1 → b ≡ Length 1
+    all : (b : BodyFraming) → Leaves b 0 middle → middle ≡ Length 1 → b ≡ Length 1
     all (Length n) l is = let left : l.0 ≡ 1 = cc (l.1, is) in ap Length (omega (arith, left, l.2))
     all Size l is = absurd (l 0 is)
     all (Data n) l is = absurd (l 0 is)

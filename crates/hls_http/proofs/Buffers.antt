@@ -1,7 +1,7 @@
 -- What stands in a buffer, when some of it is taken and when more comes.
 use Rattle.std.proofs.Common.{◌≡◌, ◌∙◌, ℕ, ◌+◌, ◌-◌, ◌≤◌, List, ◌++◌, length, take, drop, slice_range, take-add, length-take, sym, ap, subst, arith}
 use Rattle.std.proofs.lemmas.List.{drop-append-le, drop-drop, drop-take, take-take}
-use Rattle.hls_http.specs.Texts.{Texts, after_take}
+use Rattle.hls_http.specs.Buffers.{BufferTexts, texts_after_consume}
 
 as_drop : (buffer : List ℕ) (start end : ℕ) → start ≤ end → slice_range buffer start end ≡ drop start (take end buffer)
 as_drop buffer start end h =
@@ -27,10 +27,10 @@ held_more old new start end read h within front =
 fits : (buffer : List ℕ) (start end len : ℕ) → start ≤ end → len ≤ length (slice_range buffer start end) → start + len ≤ end
 fits buffer start end len h few = omega (arith, length-take (end - start) (drop start buffer), few)
 
-pub takes : (buffer : List ℕ) (from start end len room : ℕ) (texts : Texts) → start ≤ end
+pub takes : (buffer : List ℕ) (from start end len room : ℕ) (texts : BufferTexts) → start ≤ end
     → record { taken = slice_range buffer from start; unread = slice_range buffer start end; room = room } ≡ texts → len ≤ length texts.unread
-    → record { taken = slice_range buffer start (start + len); unread = slice_range buffer (start + len) end; room = room } ≡ after_take texts len
+    → record { taken = slice_range buffer start (start + len); unread = slice_range buffer (start + len) end; room = room } ≡ texts_after_consume texts len
 takes buffer from start end len room texts ordered are few =
-    let within = fits buffer start end len ordered (subst (λ (t : Texts). len ≤ length t.unread) (sym are) few) in
+    let within = fits buffer start end len ordered (subst (λ (t : BufferTexts). len ≤ length t.unread) (sym are) few) in
     (λ i. record { taken = held_take buffer start end len within i; unread = held_drop buffer start end len within i; room = room })
-    ∙ ap (λ t. after_take t len) are
+    ∙ ap (λ t. texts_after_consume t len) are

@@ -3,12 +3,12 @@ use Rattle.std.proofs.Common.{◌≡◌, ℕ, ◌+◌, ◌-◌, ◌*◌, ◌^◌
 use Rattle.std.specs.{Int.IsInRange, Str.all_ascii_digits}
 use Rattle.std.proofs.lemmas.{Str.digit_value_digit, Int.Digits.digits_value_more}
 use Rattle.std.proofs.lemmas.Str.Parse.{digit_at, numerals_by_value, tells_all_ascii_digits}
-use Rattle.hls_http_laws.specs.Range.{number_in}
+use Rattle.hls_http_laws.specs.Range.{capped_number}
 
 pub digit_here : (ds : List ℕ) (i : ℕ) → all_ascii_digits ds ≡ true → i < length ds → IsInRange 48 57 (get_or ds i 0)
 digit_here ds i good below = digit_at ds i ((numerals_by_value (λ (xs : List ℕ). all_ascii_digits xs ≡ true) tells_all_ascii_digits).to ds good) below
 
-pub capped_more : (ds : List ℕ) (i n d : ℕ) → all_ascii_digits ds ≡ true → i < length ds → n ≡ number_in (take i ds) → d ≡ get_or ds i 0 - 48
-    → min (n * 10 + d) (2 ^ 53) ≡ number_in (take (i + 1) ds)
+pub capped_more : (ds : List ℕ) (i n d : ℕ) → all_ascii_digits ds ≡ true → i < length ds → n ≡ capped_number (take i ds) → d ≡ get_or ds i 0 - 48
+    → min (n * 10 + d) (2 ^ 53) ≡ capped_number (take (i + 1) ds)
 capped_more ds i n d good below n_is d_is =
     omega (arith, digits_value_more 10 ds i below, digit_value_digit (get_or ds i 0) (digit_here ds i good below))

@@ -8,8 +8,8 @@ use Rattle.httparse.specs.Spans.{IsRequestAt, IsRequestWithin, header_bytes, nam
 use Rattle.httparse.proofs.GrammarLemmas.{ReadsRequest-append, request_prefix_free}
 use Rattle.hls_http_laws.specs.Heads.{IsTooLarge}
 use Rattle.hls_http_laws.proofs.Callers.{cut}
-use Rattle.hls_http.specs.{declared.head.Head.Head, declared.input.Filled.Filled, declared.input.Filled.TheVariants.AtEnd, Input.Reads}
-use Rattle.hls_http.specs.Heads.{IsHead, FoundHead, Heard}
+use Rattle.hls_http.specs.{declared.head.ParsedHead.ParsedHead, declared.input_buffer.ReadOutcome.ReadOutcome, declared.input_buffer.ReadOutcome.TheVariants.Eof, Input.ReadsMore}
+use Rattle.hls_http.specs.ReadHeads.{IsHead, FoundHead, HasReadHead}
 
 pub head_past : (text : List ℕ) (headers : List HeaderSpan) (spans : RequestSpans) (h : RequestHead) → IsRequestWithin text headers spans → IsRequestAt text headers spans h → 16384 < spans.len → IsTooLarge text
 head_past text headers spans h within at past = record {
@@ -19,7 +19,7 @@ head_past text headers spans h within at past = record {
   past = inl (omega (arith, within.section.len_fits));
 }
 
-pub found_head : (text : List ℕ) (headers : List HeaderSpan) (spans : RequestSpans) (h : RequestHead) (head : Head) → IsRequestAt text headers spans h → IsHead h head (take spans.len text)
+pub found_head : (text : List ℕ) (headers : List HeaderSpan) (spans : RequestSpans) (h : RequestHead) (head : ParsedHead) → IsRequestAt text headers spans h → IsHead h head (take spans.len text)
     → length headers ≤ 64 → spans.len ≤ 16384 → FoundHead text head (take spans.len text) (drop spans.len text)
 found_head text headers spans h head at is few small =
     let kept = length-map (take spans.headers headers) (header_bytes text) in
@@ -35,8 +35,8 @@ partial_past text never past = record {
 
 -- ---- what is to come
 
-pub heard_ok : (input held now taken : List ℕ) (old left : Option (List ℕ)) (head : Head) (len : ℕ) → prepend_known held old ≡ Some input
-    → FoundHead held head (take len held) (drop len held) → now ≡ drop len held → taken ≡ take len held → left ≡ old → Heard input head taken now left
+pub heard_ok : (input held now taken : List ℕ) (old left : Option (List ℕ)) (head : ParsedHead) (len : ℕ) → prepend_known held old ≡ Some input
+    → FoundHead held head (take len held) (drop len held) → now ≡ drop len held → taken ≡ take len held → left ≡ old → HasReadHead input head taken now left
 heard_ok input held now taken None left head len known found now_is taken_is left_is = absurd (cc known)
 heard_ok input held now taken (Some rest) left head len known found now_is taken_is left_is =
     let whole : held ++ rest ≡ input = cc in
@@ -52,18 +52,18 @@ heard_ok input held now taken (Some rest) left head len known found now_is taken
     }
 
 -- .. behind a read, which brought some of it
-pub reads_known : (input held now : List ℕ) (old left : Option (List ℕ)) (brought : Filled) → prepend_known held old ≡ Some input → Reads held now old left brought → prepend_known now left ≡ Some input
+pub reads_known : (input held now : List ℕ) (old left : Option (List ℕ)) (brought : ReadOutcome) → prepend_known held old ≡ Some input → ReadsMore held now old left brought → prepend_known now left ≡ Some input
 reads_known input held now None left brought known r = absurd (cc known)
 reads_known input held now (Some xs) None brought known r = absurd r.consumes
 reads_known input held now (Some xs) (Some ys) brought known r =
-    ap (λ zs. Some (zs ++ ys)) r.behind ∙ ap Some (append_assoc held r.bytes ys ∙ ap (λ zs. held ++ zs) (sym r.consumes)) ∙ known
+    ap (λ zs. Some (zs ++ ys)) r.following ∙ ap Some (append_assoc held r.bytes ys ∙ ap (λ zs. held ++ zs) (sym r.consumes)) ∙ known
 
 -- .. at the input's end
-pub at_end : (input held now : List ℕ) (old left : Option (List ℕ)) → prepend_known held old ≡ Some input → Reads held now old left AtEnd
+pub at_end : (input held now : List ℕ) (old left : Option (List ℕ)) → prepend_known held old ≡ Some input → ReadsMore held now old left Eof
     → (held ≡ input) × (now ≡ input) × (prepend_known now left ≡ Some input) × (left ≡ Some [])
-at_end input held now old None known r = absurd (cc (reads_known input held now old None AtEnd known r))
+at_end input held now old None known r = absurd (cc (reads_known input held now old None Eof known r))
 at_end input held now old (Some rest) known r =
-    let there = reads_known input held now old (Some rest) AtEnd known r in
-    let same : now ≡ held = r.behind ∙ ap (λ xs. held ++ xs) r.brings.0 ∙ append-nil held in
-    let all : now ≡ input = sym (ap (λ xs. now ++ xs) r.brings.1 ∙ append-nil now) ∙ cc there in
-    (sym same ∙ all, all, there, ap Some r.brings.1)
+    let there = reads_known input held now old (Some rest) Eof known r in
+    let same : now ≡ held = r.following ∙ ap (λ xs. held ++ xs) r.outcome_is.0 ∙ append-nil held in
+    let all : now ≡ input = sym (ap (λ xs. now ++ xs) r.outcome_is.1 ∙ append-nil now) ∙ cc there in
+    (sym same ∙ all, all, there, ap Some r.outcome_is.1)

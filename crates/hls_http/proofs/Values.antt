@@ -2,7 +2,7 @@
 use Rattle.std.proofs.Common.{◌≡◌, ◌∙◌, ℕ, ◌+◌, ◌≤◌, ◌<◌, List, [], ◌∷◌, Bool, true, false, cond, Some, None, length, get_or, refl, ap, drop_of_length-le}
 use Rattle.std.proofs.lemmas.List.{at_drop_more}
 use Rattle.httparse.specs.{declared.spans.HeaderSpan.HeaderSpan, Spans.header_bytes}
-use Rattle.hls_http_laws.specs.Fields.{named, values}
+use Rattle.hls_http_laws.specs.Fields.{has_name, values}
 use Rattle.hls_http.specs.Values.{values_from, fields_at}
 
 found : (b : Bool) (x v : List ℕ) (vs : List (List ℕ)) → Some v ≡ cond b (Some x) None → cond b (x ∷ vs) vs ≡ v ∷ vs
@@ -15,17 +15,17 @@ passed false x vs e = refl
 
 one_more : (text : List ℕ) (headers : List HeaderSpan) (name : List ℕ) (i : ℕ) (d : HeaderSpan) → i < length headers
     → values_from text headers name i
-    ≡ cond (named name (header_bytes text (get_or headers i d))) ((header_bytes text (get_or headers i d)).1 ∷ values_from text headers name (i + 1)) (values_from text headers name (i + 1))
+    ≡ cond (has_name name (header_bytes text (get_or headers i d))) ((header_bytes text (get_or headers i d)).1 ∷ values_from text headers name (i + 1)) (values_from text headers name (i + 1))
 unfolding values
 one_more text headers name i d h = at_drop_more (λ (xs : List HeaderSpan). values name (fields_at text xs)) headers i d h
 
 pub value_comes : (text : List ℕ) (headers : List HeaderSpan) (name : List ℕ) (i : ℕ) (d : HeaderSpan) (v : List ℕ) → i < length headers
-    → Some v ≡ cond (named name (header_bytes text (get_or headers i d))) (Some (header_bytes text (get_or headers i d)).1) None
+    → Some v ≡ cond (has_name name (header_bytes text (get_or headers i d))) (Some (header_bytes text (get_or headers i d)).1) None
     → values_from text headers name i ≡ v ∷ values_from text headers name (i + 1)
 value_comes text headers name i d v h is = one_more text headers name i d h ∙ found _ _ v (values_from text headers name (i + 1)) is
 
 pub none_comes : (text : List ℕ) (headers : List HeaderSpan) (name : List ℕ) (i : ℕ) (d : HeaderSpan) → i < length headers
-    → None ≡ cond (named name (header_bytes text (get_or headers i d))) (Some (header_bytes text (get_or headers i d)).1) None
+    → None ≡ cond (has_name name (header_bytes text (get_or headers i d))) (Some (header_bytes text (get_or headers i d)).1) None
     → values_from text headers name i ≡ values_from text headers name (i + 1)
 none_comes text headers name i d h is = one_more text headers name i d h ∙ passed _ _ (values_from text headers name (i + 1)) is
 

@@ -1,7 +1,7 @@
-pub mod Bodies
-pub mod Heads
+pub mod ReadBodies
+pub mod ReadHeads
 pub mod Input
-pub mod Replies
-pub mod Source
-pub mod Texts
+pub mod Responses
+pub mod BufferedReader
+pub mod Buffers
 pub mod Values

@@ -2,16 +2,16 @@
 -- The values of a head's fields, as its spans show them.
 use Rattle.std.specs.Prelude.{◌≡◌, ℕ, ◌<◌, ◌≤◌, cond, List, [], ◌∷◌, length, drop, map, Option, Some, None}
 use Rattle.httparse.specs.{declared.spans.HeaderSpan.HeaderSpan, Spans.header_bytes}
-use Rattle.hls_http.specs.declared.fields.Only.{Only}
-use Rattle.hls_http.specs.declared.fields.Only.TheVariants.{Missing, One, Several}
-use Rattle.hls_http_laws.specs.Fields.{Fields, named, values}
+use Rattle.hls_http.specs.declared.fields.SingleField.{SingleField}
+use Rattle.hls_http.specs.declared.fields.SingleField.TheVariants.{Missing, One, Several}
+use Rattle.hls_http_laws.specs.Fields.{Fields, has_name, values}
 
 abbrev pub fields_at : List ℕ → List HeaderSpan → Fields
 fields_at text headers = map (header_bytes text) headers
 
 -- the value of a field, where it has this name
 abbrev pub named_value : List ℕ → List ℕ × List ℕ → Option (List ℕ)
-named_value name field = cond (named name field) (Some field.1) None
+named_value name field = cond (has_name name field) (Some field.1) None
 
 -- the values of this name among the fields from one on
 abbrev pub values_from : List ℕ → List HeaderSpan → List ℕ → ℕ → List (List ℕ)
@@ -23,7 +23,7 @@ NextValue text headers name at (Some (next, value)) =
     (at < next) × (next ≤ length headers) × (values_from text headers name at ≡ value ∷ values_from text headers name next)
 
 -- of values that should be one
-abbrev pub IsOnly : List (List ℕ) → Only → Type 0
-IsOnly vs Missing = vs ≡ []
-IsOnly vs (One value) = vs ≡ value.now ∷ []
-IsOnly vs Several = (x : List ℕ) × (y : List ℕ) × (more : List (List ℕ)) × (vs ≡ x ∷ y ∷ more)
+abbrev pub IsSingleField : List (List ℕ) → SingleField → Type 0
+IsSingleField vs Missing = vs ≡ []
+IsSingleField vs (One value) = vs ≡ value.now ∷ []
+IsSingleField vs Several = (x : List ℕ) × (y : List ℕ) × (more : List (List ℕ)) × (vs ≡ x ∷ y ∷ more)

@@ -2,17 +2,17 @@
 
 ghost use Rattle.std.specs.Prelude.{◌≡◌, length, All, option_map, codes};
 ghost use Rattle.httparse.specs.Spans.{IsHeaderWithin, header_bytes};
-ghost use Rattle.hls_http_laws.specs.Fields.{closes, expects, has_word, is_word, length_of, values};
-ghost use Rattle.hls_http_laws.specs.Framing.{body_of, is_chunked, is_hosted, same_length};
-ghost use Rattle.hls_http_laws.specs.Range.{asked_of};
-ghost use Rattle.hls_http.specs.Values.{IsOnly, NextValue, fields_at, named_value, values_from};
+ghost use Rattle.hls_http_laws.specs.Fields.{closes_connection, expects, has_word, is_word, length_of, values};
+ghost use Rattle.hls_http_laws.specs.Framing.{checked_framing, is_chunked, has_host, framing_of_lengths};
+ghost use Rattle.hls_http_laws.specs.Range.{range_of_values};
+ghost use Rattle.hls_http.specs.Values.{IsSingleField, NextValue, fields_at, named_value, values_from};
 
-use crate::range::read_range;
-use hls_http_laws::body::Body;
+use crate::range_field::parse_range;
 use hls_http_laws::fault::HttpFault;
+use hls_http_laws::framing::BodyFraming;
 use hls_http_laws::limits::MOST_LENGTH_DIGITS;
-use hls_http_laws::range::Asked;
-use hls_text::read_number;
+use hls_http_laws::range_spec::RangeSpec;
+use hls_text::parse_digits;
 use httparse::spans::HeaderSpan;
 
 /// The value of a field, where it has this name.
@@ -48,53 +48,57 @@ fn find_value<'a>(
 
 /// The value of a field that should stand once.
 #[derive(Clone, Copy)]
-enum Only<'a> {
+enum SingleField<'a> {
     Missing,
     One(&'a [u8]),
     Several,
 }
 
-fn find_only<'a>(text: &'a [u8], headers: &[HeaderSpan], name: &[u8]) -> Only<'a>
+fn find_single_field<'a>(text: &'a [u8], headers: &[HeaderSpan], name: &[u8]) -> SingleField<'a>
     requires { All (IsHeaderWithin (length text.now)) headers.now }
-    ensures { IsOnly (values name.now (fields_at text.entry.now headers.now)) result }
+    ensures { IsSingleField (values name.now (fields_at text.entry.now headers.now)) result }
 {
     let Some((next, value)) = find_value(text, headers, name, 0) else {
-        return Only::Missing;
+        return SingleField::Missing;
     };
     match find_value(text, headers, name, next) {
-        None => Only::One(value),
-        Some(_) => Only::Several,
+        None => SingleField::One(value),
+        Some(_) => SingleField::Several,
     }
 }
 
 /// By the first value of Content-Length, and those among the fields from one on: several equal lengths count as one.
-fn same_length(
+fn parse_equal_lengths(
     text: &[u8],
     headers: &[HeaderSpan],
     first: &[u8],
     second: usize,
-) -> Result<Body, HttpFault>
+) -> Result<BodyFraming, HttpFault>
     requires { All (IsHeaderWithin (length text.now)) headers.now }
-    ensures { result ≡ same_length (length_of first.now) (values_from text.now headers.now (codes "content-length") second) }
+    ensures { result ≡ framing_of_lengths (length_of first.now) (values_from text.now headers.now (codes "content-length") second) }
 {
-    let Some(len) = read_number(first, MOST_LENGTH_DIGITS) else {
+    let Some(len) = parse_digits(first, MOST_LENGTH_DIGITS) else {
         return Err(HttpFault::BadFraming);
     };
     let mut at = second;
     while let Some((next, value)) = find_value(text, headers, b"content-length", at) {
-        if read_number(value, MOST_LENGTH_DIGITS) != Some(len) {
+        if parse_digits(value, MOST_LENGTH_DIGITS) != Some(len) {
             return Err(HttpFault::BadFraming);
         }
         at = next;
     }
-    Ok(Body::Length(len))
+    Ok(BodyFraming::Length(len))
 }
 
-fn is_hosted_by(text: &[u8], headers: &[HeaderSpan], minor: u8) -> bool
+fn has_host(text: &[u8], headers: &[HeaderSpan], minor: u8) -> bool
     requires { All (IsHeaderWithin (length text.now)) headers.now }
-    ensures { result ≡ is_hosted minor (fields_at text.now headers.now) }
+    ensures { result ≡ has_host minor (fields_at text.now headers.now) }
 {
-    minor == 0 || matches!(find_only(text, headers, b"host"), Only::One(_))
+    minor == 0
+        || matches!(
+            find_single_field(text, headers, b"host"),
+            SingleField::One(_)
+        )
 }
 
 /// Whether this is the one coding that is known, which HTTP/1.1 has.
@@ -105,26 +109,34 @@ fn is_chunked_coding(coding: &[u8], minor: u8) -> bool
 }
 
 /// Where the body begins, or the first fault of the fields: the Host, and then the framing.
-pub fn body(text: &[u8], headers: &[HeaderSpan], minor: u8) -> Result<Body, HttpFault>
+pub fn parse_framing(
+    text: &[u8],
+    headers: &[HeaderSpan],
+    minor: u8,
+) -> Result<BodyFraming, HttpFault>
     requires { All (IsHeaderWithin (length text.now)) headers.now }
-    ensures { result ≡ body_of minor (fields_at text.now headers.now) }
+    ensures { result ≡ checked_framing minor (fields_at text.now headers.now) }
 {
-    if !is_hosted_by(text, headers, minor) {
+    if !has_host(text, headers, minor) {
         return Err(HttpFault::BadHead);
     }
     match (
         find_value(text, headers, b"content-length", 0),
-        find_only(text, headers, b"transfer-encoding"),
+        find_single_field(text, headers, b"transfer-encoding"),
     ) {
-        (None, Only::Missing) => Ok(Body::Length(0)),
-        (Some((second, first)), Only::Missing) => same_length(text, headers, first, second),
-        (None, Only::One(coding)) if is_chunked_coding(coding, minor) => Ok(Body::Size),
+        (None, SingleField::Missing) => Ok(BodyFraming::Length(0)),
+        (Some((second, first)), SingleField::Missing) => parse_equal_lengths(
+            text, headers, first, second,
+        ),
+        (None, SingleField::One(coding)) if is_chunked_coding(coding, minor) => Ok(
+            BodyFraming::Size,
+        ),
         _ => Err(HttpFault::BadFraming),
     }
 }
 
 /// Whether some Expect waits for 100 Continue.
-pub fn waits_for_continue(text: &[u8], headers: &[HeaderSpan], minor: u8) -> bool
+pub fn expects_continue(text: &[u8], headers: &[HeaderSpan], minor: u8) -> bool
     requires { All (IsHeaderWithin (length text.now)) headers.now }
     ensures { result ≡ expects minor (fields_at text.now headers.now) }
 {
@@ -142,32 +154,32 @@ pub fn waits_for_continue(text: &[u8], headers: &[HeaderSpan], minor: u8) -> boo
 }
 
 /// Whether this is the word, in any case, with blanks around it or without.
-fn is_word_in(piece: &[u8], word: &[u8]) -> bool
+fn is_token_in(piece: &[u8], word: &[u8]) -> bool
     ensures { result ≡ is_word word.now piece.now }
 {
     piece.trim_ascii().eq_ignore_ascii_case(word)
 }
 
 /// Whether a list of words between commas has this one, in any case.
-fn lists_word(value: &[u8], word: &[u8]) -> bool
+fn has_token(value: &[u8], word: &[u8]) -> bool
     ensures { result ≡ has_word word.now value.now }
 {
     value
         .split(|byte| *byte == b',')
-        .any(|piece| is_word_in(piece, word))
+        .any(|piece| is_token_in(piece, word))
 }
 
 /// Whether the connection ends with this request.
 pub fn closes_connection(text: &[u8], headers: &[HeaderSpan], minor: u8) -> bool
     requires { All (IsHeaderWithin (length text.now)) headers.now }
-    ensures { result ≡ closes minor (fields_at text.now headers.now) }
+    ensures { result ≡ closes_connection minor (fields_at text.now headers.now) }
 {
     if minor == 0 {
         return true;
     }
     let mut at = 0;
     while let Some((next, value)) = find_value(text, headers, b"connection", at) {
-        if lists_word(value, b"close") {
+        if has_token(value, b"close") {
             return true;
         }
         at = next;
@@ -176,12 +188,12 @@ pub fn closes_connection(text: &[u8], headers: &[HeaderSpan], minor: u8) -> bool
 }
 
 /// What the Range asks for.
-pub fn asked_range(text: &[u8], headers: &[HeaderSpan]) -> Asked
+pub fn parse_range_field(text: &[u8], headers: &[HeaderSpan]) -> RangeSpec
     requires { All (IsHeaderWithin (length text.now)) headers.now }
-    ensures { result ≡ asked_of (values (codes "range") (fields_at text.now headers.now)) }
+    ensures { result ≡ range_of_values (values (codes "range") (fields_at text.now headers.now)) }
 {
-    match find_only(text, headers, b"range") {
-        Only::One(value) => read_range(value),
-        _ => Asked::All,
+    match find_single_field(text, headers, b"range") {
+        SingleField::One(value) => parse_range(value),
+        _ => RangeSpec::All,
     }
 }

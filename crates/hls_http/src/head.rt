@@ -3,41 +3,41 @@
 ghost use Rattle.std.specs.Prelude.{take};
 ghost use Rattle.httparse.specs.Grammar.{RequestHead};
 ghost use Rattle.httparse.specs.Spans.{IsRequestAt, IsRequestWithin};
-ghost use Rattle.hls_http.specs.Heads.{Finds, IsHead};
+ghost use Rattle.hls_http.specs.ReadHeads.{FindsHead, IsHead};
 
-use crate::fields::{asked_range, body, closes_connection, waits_for_continue};
-use hls_http_laws::body::Body;
+use crate::fields::{closes_connection, expects_continue, parse_framing, parse_range_field};
 use hls_http_laws::fault::HttpFault;
+use hls_http_laws::framing::BodyFraming;
 use hls_http_laws::limits::{MOST_FIELDS, MOST_HEAD};
 use hls_http_laws::method::Method;
-use hls_http_laws::range::Asked;
+use hls_http_laws::range_spec::RangeSpec;
 use httparse::spans::{EMPTY_HEADER_SPAN, HeaderSpan, RequestSpans, Span, parse_request};
 use httparse::{Error, Status};
 
 /// What a head says, as far as it matters here. Its text is what the source has taken last.
 #[derive(Clone, Copy)]
-pub struct Head {
+pub struct ParsedHead {
     /// The method.
     pub method: Method,
     /// Where the target stands in the head's text.
     pub target: Span,
     /// Where the body begins; BadHead where the Host is wrong, else BadFraming where its length can't be told.
-    pub body: Result<Body, HttpFault>,
+    pub body: Result<BodyFraming, HttpFault>,
     /// Whether 100 Continue is waited for.
     pub expects: bool,
     /// Whether the connection ends with this request.
     pub closes: bool,
     /// What its Range asks for.
-    pub range: Asked,
+    pub range: RangeSpec,
 }
 
 /// Why a text shows no head.
 #[derive(Clone, Copy, Drop)]
-pub enum Look {
+pub enum HeadFault {
     /// More bytes are needed.
     Partial,
     /// No bytes can follow that make it a head.
-    Hopeless,
+    Invalid,
     /// It is past the limits.
     TooLarge,
 }
@@ -58,34 +58,34 @@ pub enum HeadEnd {
 }
 
 /// What is kept of a head whose parts were found.
-fn kept(text: &[u8], headers: &[HeaderSpan], spans: &RequestSpans) -> Head
+fn summarize_head(text: &[u8], headers: &[HeaderSpan], spans: &RequestSpans) -> ParsedHead
     requires within { IsRequestWithin text.now headers.now spans.now }
     ensures { (h : RequestHead) → IsRequestAt text.now headers.now spans.now h → IsHead h result (take spans.now.len text.now) }
 {
     let found = &headers[..spans.headers];
     let minor = spans.version;
-    Head {
-        method: Method::of(spans.method.of(text)),
+    ParsedHead {
+        method: Method::from_name(spans.method.of(text)),
         target: spans.path,
-        body: body(text, found, minor),
-        expects: waits_for_continue(text, found, minor),
+        body: parse_framing(text, found, minor),
+        expects: expects_continue(text, found, minor),
         closes: closes_connection(text, found, minor),
-        range: asked_range(text, found),
+        range: parse_range_field(text, found),
     }
 }
 
 /// The head at the front of a text, and its length with that of the empty lines before it. No memory is taken.
 #[tactic(auto, using(crate::proofs::HeadLaws::head_past, crate::proofs::HeadLaws::partial_past))]
-pub fn find_head(text: &[u8]) -> Result<(Head, usize), Look>
-    ensures { Finds text.now result }
+pub fn find_head(text: &[u8]) -> Result<(ParsedHead, usize), HeadFault>
+    ensures { FindsHead text.now result }
 {
     let mut headers = [EMPTY_HEADER_SPAN; MOST_FIELDS];
     match parse_request(text, &mut headers) {
-        Ok(Status::Complete(spans)) if spans.len > MOST_HEAD => Err(Look::TooLarge),
-        Ok(Status::Complete(spans)) => Ok((kept(text, &headers, &spans), spans.len)),
-        Ok(Status::Partial) if text.len() < MOST_HEAD => Err(Look::Partial),
-        Ok(Status::Partial) => Err(Look::TooLarge),
-        Err(Error::TooManyHeaders) => Err(Look::TooLarge),
-        Err(_) => Err(Look::Hopeless),
+        Ok(Status::Complete(spans)) if spans.len > MOST_HEAD => Err(HeadFault::TooLarge),
+        Ok(Status::Complete(spans)) => Ok((summarize_head(text, &headers, &spans), spans.len)),
+        Ok(Status::Partial) if text.len() < MOST_HEAD => Err(HeadFault::Partial),
+        Ok(Status::Partial) => Err(HeadFault::TooLarge),
+        Err(Error::TooManyHeaders) => Err(HeadFault::TooLarge),
+        Err(_) => Err(HeadFault::Invalid),
     }
 }

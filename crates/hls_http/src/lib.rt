@@ -4,32 +4,32 @@
 //! What a stream of requests is stands in `hls_http_laws`; here each call says how far it takes the reader along it.
 #![tactic(auto)]
 
-mod body;
-mod drain;
+mod body_tokens;
+mod bounded_digits;
+mod buffered_reader;
+mod decisions;
 mod fields;
 mod head;
-mod input;
-mod number;
-mod order;
+mod input_buffer;
 mod query;
-mod range;
-mod reply;
+mod range_field;
+mod remaining;
+mod response;
 mod session;
-mod source;
 
-pub use body::{Given, Lack, Move, find_move};
-pub use drain::announced;
-pub use head::{Head, HeadEnd, Look, find_head};
-pub use hls_http_laws::body::Body;
-pub use hls_http_laws::end::{BodyEnd, DropEnd, SessionEnd};
+pub use body_tokens::{BodyRead, BodyToken, TokenFault, find_token};
+pub use buffered_reader::BufferedReader;
+pub use decisions::{decide_action, is_over, sends_close, sends_continue};
+pub use head::{HeadEnd, HeadFault, ParsedHead, find_head};
+pub use hls_http_laws::end::{BodyEnd, DiscardEnd, SessionEnd};
 pub use hls_http_laws::fault::HttpFault;
+pub use hls_http_laws::framing::BodyFraming;
 pub use hls_http_laws::method::Method;
-pub use hls_http_laws::plan::Plan;
+pub use hls_http_laws::request_action::RequestAction;
 pub use hls_io::{Counted, write_whole};
-pub use input::{Filled, Input};
-pub use order::{continues, is_over, plan, says_close};
-pub use query::{split_target, value_of};
-pub use range::part;
-pub use reply::{head_bytes, refusal_body, reply_output};
+pub use input_buffer::{InputBuffer, ReadOutcome};
+pub use query::{find_query_value, split_target};
+pub use range_field::select_range;
+pub use remaining::announced_len;
+pub use response::{make_response, refusal_body, write_head};
 pub use session::Session;
-pub use source::Source;

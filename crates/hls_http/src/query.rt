@@ -5,7 +5,7 @@ ghost use Rattle.std.specs.{List.position_or_len, Prelude.map};
 ghost use Rattle.form_urlencoded.specs.Form.{decode, plus_to_space};
 ghost use Rattle.hls_http_laws.specs.Query.{value_in};
 
-use crate::number::find_byte;
+use crate::bounded_digits::find_byte;
 use form_urlencoded::raw_pairs;
 use percent_encoding::percent_decode;
 use std::alloc::{AllocError, Global};
@@ -22,7 +22,7 @@ pub fn split_target(target: &[u8]) -> (&[u8], &[u8])
 }
 
 /// The bytes with a blank for each `+`.
-fn spaced(alloc: Global, bytes: &[u8]) -> Result<Vec<u8>, AllocError>
+fn replace_plus(alloc: Global, bytes: &[u8]) -> Result<Vec<u8>, AllocError>
     ensures { IfOk result (λ v. v.items ≡ map plus_to_space bytes.now) }
 {
     bytes
@@ -32,23 +32,27 @@ fn spaced(alloc: Global, bytes: &[u8]) -> Result<Vec<u8>, AllocError>
 }
 
 /// The bytes that a key or a value of a query stands for.
-fn decoded(alloc: Global, bytes: &[u8]) -> Result<Vec<u8>, AllocError>
+fn decode_component(alloc: Global, bytes: &[u8]) -> Result<Vec<u8>, AllocError>
     ensures { IfOk result (λ v. v.items ≡ decode bytes.now) }
 {
-    let plain = spaced(alloc, bytes)?;
+    let plain = replace_plus(alloc, bytes)?;
     let mut out = Vec::new(alloc);
     percent_decode(&plain).append_to(&mut out)?;
     Ok(out)
 }
 
 /// The value of the first pair of a query with this key. Keys and values are percent-decoded, and `+` is a blank.
-pub fn value_of(alloc: Global, query: &[u8], key: &[u8]) -> Result<Option<Vec<u8>>, AllocError>
+pub fn find_query_value(
+    alloc: Global,
+    query: &[u8],
+    key: &[u8],
+) -> Result<Option<Vec<u8>>, AllocError>
     ensures { IfOk result (λ found. option_map (λ v. v.items) found ≡ value_in key.now query.now) }
 {
     for (name, value) in raw_pairs(query) {
-        let decoded_name = decoded(alloc, name)?;
+        let decoded_name = decode_component(alloc, name)?;
         if decoded_name.as_slice() == key {
-            let found = decoded(alloc, value)?;
+            let found = decode_component(alloc, value)?;
             return Ok(Some(found));
         }
     }

@@ -1,23 +1,23 @@
 //! A session: the requests that come of a reader, and the replies that go to a writer.
 
 ghost use Rattle.std.specs.Prelude.{◌≡◌};
-ghost use Rattle.hls_io.specs.{Counted.failures_of, Streams.ToOutput};
+ghost use Rattle.hls_io.specs.{Counted.failures_of, Streams.RelatesOutput};
 ghost use Rattle.hls_io.specs.Writing.{CountsWrite, Writes};
-ghost use Rattle.hls_http.specs.Bodies.{CountsBody, Passes};
-ghost use Rattle.hls_http.specs.Heads.{CountsHead, Hears};
-ghost use Rattle.hls_http.specs.Replies.{Answers, CountsAnswer};
-ghost use Rattle.hls_http.specs.Source.{FromSource, read_failures, taken_of};
+ghost use Rattle.hls_http.specs.ReadBodies.{CountsBody, ReadsPiece};
+ghost use Rattle.hls_http.specs.ReadHeads.{CountsHead, ReadsHead};
+ghost use Rattle.hls_http.specs.Responses.{WritesResponse, CountsResponse};
+ghost use Rattle.hls_http.specs.BufferedReader.{FromSource, read_failures, taken_of};
 
-use crate::body::{Given, Lack, Move, find_move};
-use crate::head::{Head, HeadEnd, Look, find_head};
-use crate::input::Filled;
-use crate::reply::reply_output;
-use crate::source::Source;
-use hls_http_laws::body::Body;
+use crate::body_tokens::{BodyRead, BodyToken, TokenFault, find_token};
+use crate::buffered_reader::BufferedReader;
+use crate::head::{HeadEnd, HeadFault, ParsedHead, find_head};
+use crate::input_buffer::ReadOutcome;
+use crate::response::make_response;
 use hls_http_laws::end::{BodyEnd, SessionEnd};
-use hls_http_laws::reply::{ReplyHead, no_memory_reply};
+use hls_http_laws::framing::BodyFraming;
+use hls_http_laws::response_parts::{ResponseParts, out_of_memory_response};
 use hls_io::{Counted, write_whole};
-use hls_output::{Output, Resource, Text};
+use hls_output::{Resource, SendBuffer, TextResource};
 use std::alloc::{AllocError, Global};
 use std::io::{Read, Write};
 
@@ -25,21 +25,21 @@ use std::io::{Read, Write};
 #[derive(Drop)]
 pub struct Session<R, W> {
     /// The reader, with the bytes that were read and not yet taken.
-    pub source: Source<R>,
+    pub source: BufferedReader<R>,
     /// The writer.
     pub writer: Counted<W>,
 }
 
 impl<R: Drop, W: Drop> Session<R, W> {
     ghost use Rattle.std.specs.Prelude.{IfOk};
-    ghost use Rattle.hls_http.specs.Source.{IsNew};
+    ghost use Rattle.hls_http.specs.BufferedReader.{IsNew};
 
     /// A session of which nothing was read or written. Memory is taken for the buffer of 65536 bytes, and never again
     /// but for the heads of replies.
     pub fn new(alloc: Global, reader: R, writer: W) -> Result<Session<R, W>, AllocError>
         ensures { IfOk result (IsNew reader writer) }
     {
-        let source = Source::new(alloc, reader)?;
+        let source = BufferedReader::new(alloc, reader)?;
         Ok(Session {
             source,
             writer: Counted::new(writer),
@@ -51,26 +51,26 @@ impl<R: Read, W> Session<R, W> {
     /// Takes the next head, reading as much as it needs. The head's text is then what the source has taken last, with
     /// empty lines that stood before it. Nothing is taken on any error. No memory is taken.
     #[tactic(auto, using(crate::proofs::HeadLaws::heard_ok))]
-    pub fn next_head(&mut self) -> Result<Head, HeadEnd>
-        ensures hears { FromSource R.remaining self.old.source self.new.source (λ input. Hears input (taken_of self.new.source)) result }
+    pub fn next_head(&mut self) -> Result<ParsedHead, HeadEnd>
+        ensures reads_head { FromSource R.remaining self.old.source self.new.source (λ input. ReadsHead input (taken_of self.new.source)) result }
         ensures counts { CountsHead result (read_failures self.old.source) (read_failures self.new.source) }
         ensures writer { self.new.writer ≡ self.old.writer }
     {
         loop {
-            match find_head(self.source.held()) {
+            match find_head(self.source.unread()) {
                 Ok((head, len)) => {
-                    self.source.take(len);
+                    self.source.consume(len);
                     return Ok(head);
                 }
-                Err(Look::Hopeless) => return Err(HeadEnd::BadHead),
-                Err(Look::TooLarge) => return Err(HeadEnd::HeadTooLarge),
-                Err(Look::Partial) => {}
+                Err(HeadFault::Invalid) => return Err(HeadEnd::BadHead),
+                Err(HeadFault::TooLarge) => return Err(HeadEnd::HeadTooLarge),
+                Err(HeadFault::Partial) => {}
             }
-            match self.source.fill() {
-                Filled::More => {}
-                Filled::AtEnd if self.source.held().is_empty() => return Err(HeadEnd::Closed),
-                Filled::AtEnd => return Err(HeadEnd::CutShort),
-                Filled::Failed => return Err(HeadEnd::ReadFailed),
+            match self.source.read_more() {
+                ReadOutcome::Data => {}
+                ReadOutcome::Eof if self.source.unread().is_empty() => return Err(HeadEnd::Closed),
+                ReadOutcome::Eof => return Err(HeadEnd::CutShort),
+                ReadOutcome::Failed => return Err(HeadEnd::ReadFailed),
             }
         }
     }
@@ -78,40 +78,43 @@ impl<R: Read, W> Session<R, W> {
     /// Takes the next piece of a body, reading as much as it needs; the body says where it goes on. Where it is over,
     /// what follows it is held. The last byte of a body by length is a piece of its own, so what an earlier piece shows
     /// stands before the body's end. No memory is taken.
-    pub fn body(&mut self, body: &mut Body) -> Result<Given, BodyEnd>
-        ensures passes { FromSource R.remaining self.old.source self.new.source
-            (λ input. Passes body.old input body.new (taken_of self.new.source)) result }
+    pub fn body(&mut self, body: &mut BodyFraming) -> Result<BodyRead, BodyEnd>
+        ensures reads_piece { FromSource R.remaining self.old.source self.new.source
+            (λ input. ReadsPiece body.old input body.new (taken_of self.new.source)) result }
         ensures counts { CountsBody result (read_failures self.old.source) (read_failures self.new.source) }
         ensures writer { self.new.writer ≡ self.old.writer }
     {
         loop {
-            if *body == Body::Length(0) {
-                return Ok(Given::Over);
+            if *body == BodyFraming::Length(0) {
+                return Ok(BodyRead::End);
             }
-            match find_move(self.source.held(), *body) {
-                Ok(Move::Piece(len, next)) => {
-                    self.source.take(len);
+            match find_token(self.source.unread(), *body) {
+                Ok(BodyToken::Piece(len, next)) => {
+                    self.source.consume(len);
                     *body = next;
-                    return Ok(Given::Piece);
+                    return Ok(BodyRead::Piece);
                 }
-                Ok(Move::Frame(len, next)) => {
-                    self.source.take(len);
+                Ok(BodyToken::Frame(len, next)) => {
+                    self.source.consume(len);
                     *body = next;
                 }
-                Err(Lack::Wait) => match self.source.fill() {
-                    Filled::More => {}
-                    Filled::AtEnd => return Err(BodyEnd::CutShort),
-                    Filled::Failed => return Err(BodyEnd::ReadFailed),
+                Err(TokenFault::Incomplete) => match self.source.read_more() {
+                    ReadOutcome::Data => {}
+                    ReadOutcome::Eof => return Err(BodyEnd::CutShort),
+                    ReadOutcome::Failed => return Err(BodyEnd::ReadFailed),
                 },
-                Err(Lack::Bad) => return Err(BodyEnd::BadFraming),
+                Err(TokenFault::Invalid) => return Err(BodyEnd::BadFraming),
             }
         }
     }
 }
 
 /// Writes all that waits. After a failed call, which is counted, a beginning of it is written.
-fn write_output<W: Write, M: Resource + Drop>(writer: &mut Counted<W>, output: Output<M>) -> bool
-    ensures writes { ToOutput W.contents writer.old writer.new (λ held. Writes held output) result }
+fn write_output<W: Write, M: Resource + Drop>(
+    writer: &mut Counted<W>,
+    output: SendBuffer<M>,
+) -> bool
+    ensures writes { RelatesOutput W.contents writer.old writer.new (λ held. Writes held output) result }
     ensures counts { CountsWrite result (failures_of writer.old) (failures_of writer.new) }
 {
     let mut output = output;
@@ -132,16 +135,16 @@ impl<R, W: Write> Session<R, W> {
     pub fn reply(
         &mut self,
         alloc: Global,
-        head: &ReplyHead<'_>,
+        head: &ResponseParts<'_>,
         body: &[u8],
         to_head: bool,
     ) -> Result<(), SessionEnd>
-        ensures answers { ToOutput W.contents self.old.writer self.new.writer (Answers head.now body.now to_head) result }
-        ensures counts { CountsAnswer result (failures_of self.old.writer) (failures_of self.new.writer) }
+        ensures answers { RelatesOutput W.contents self.old.writer self.new.writer (WritesResponse head.now body.now to_head) result }
+        ensures counts { CountsResponse result (failures_of self.old.writer) (failures_of self.new.writer) }
         ensures reader { self.new.source ≡ self.old.source }
     {
-        let Ok(output) = reply_output(alloc, head, Text::media(body), to_head) else {
-            return Err(if write_whole(&mut self.writer, no_memory_reply(to_head)) {
+        let Ok(output) = make_response(alloc, head, TextResource::as_range(body), to_head) else {
+            return Err(if write_whole(&mut self.writer, out_of_memory_response(to_head)) {
                 SessionEnd::Refused
             } else {
                 SessionEnd::WriteFailed

@@ -4,10 +4,10 @@ use Rattle.std.proofs.lemmas.Bool.{cases_lt}
 use Rattle.httparse.specs.Grammar.{ReadsRequest}
 use Rattle.httparse.proofs.ChunkLemmas.{ReadsChunkLine-append}
 use Rattle.httparse.proofs.GrammarLemmas.{ReadsSection-append, ReadsRequest-append, request_unique}
-use Rattle.hls_http_laws.specs.{declared.body.Body.Body, Grammar.IsBody, Heads.ReadsSmall, Requests.Cuts}
-use Rattle.hls_http_laws.specs.declared.body.Body.TheVariants.{Length, Size, Data, Trailers}
-use Rattle.hls_http_laws.specs.Bodies.{IsPiece, ReadsLine, Steps, Runs, NoStep, StepThen, after_line}
-use Rattle.hls_http_laws.specs.Laws.{HeadsStay, RunsStay, BodiesStay, RequestsStay, StreamsStay, BadHeadsStay, LargeHeadsStay, BadFieldsStay, BrokenBodiesStay, RunsJoin, SplitsAt, RunsSplit, StreamsJoin, HeadsAreOne, RequestsAreOne, BrokenBodies, OpenBodies, SizesCount}
+use Rattle.hls_http_laws.specs.{declared.framing.BodyFraming.BodyFraming, Grammar.IsBody, Heads.ReadsLimitedHead, Requests.AreRequestsThenRest}
+use Rattle.hls_http_laws.specs.declared.framing.BodyFraming.TheVariants.{Length, Size, Data, Trailers}
+use Rattle.hls_http_laws.specs.Bodies.{IsPiece, ReadsLine, Steps, StepsThrough, NoStep, StepThen, framing_after_size}
+use Rattle.hls_http_laws.specs.Laws.{HeadsStay, RunsStay, BodiesStay, RequestsStay, StreamsStay, BadHeadsStay, LargeHeadsStay, BadFieldsStay, BrokenBodiesStay, RunsJoin, SplitsAt, RunsSplit, StreamsJoin, HeadsAreUnique, RequestsAreUnique, BrokenBodiesNeverEnd, OpenBodiesNeverEnd, ContentCoversSize}
 use Rattle.hls_http_laws.proofs.BodyLaws.{body_taken, broken_body, cut, open_body, run_left, run_one, step_left, taken_body}
 use Rattle.hls_http_laws.proofs.RequestLaws.{one_left}
 
@@ -22,7 +22,7 @@ piece_stays n input piece left rest more x = record { whole = front input piece 
 pub line_stays : (input : List ℕ) (size : ℕ) (rest more : List ℕ) → ReadsLine input size rest → ReadsLine (input ++ more) size (rest ++ more)
 line_stays input size rest more x = record { line = x.line; reads = ReadsChunkLine-append input x.line rest more x.reads; small = x.small; size_is = x.size_is }
 
-pub step_stays : (b next : Body) (input piece rest more : List ℕ) → Steps b input piece next rest → Steps b (input ++ more) piece next (rest ++ more)
+pub step_stays : (b next : BodyFraming) (input piece rest more : List ℕ) → Steps b input piece next rest → Steps b (input ++ more) piece next (rest ++ more)
 step_stays (Length n) next input piece rest more s = (s.0, piece_stays n input piece s.0 rest more s.1, s.2)
 step_stays Size next input piece rest more s = (s.0, line_stays input s.0 rest more s.1, s.2, s.3)
 step_stays (Data n) next input piece rest more (inl s) = inl (s.0, piece_stays n input piece s.0 rest more s.1, s.2)
@@ -50,7 +50,7 @@ requests_stay text r rest more x = record {
   body = x.body;
   middle = x.middle ++ more;
   head = heads_stay text r.head x.middle more x.head;
-  begins_is = x.begins_is;
+  framing_is = x.framing_is;
   content = bodies_stay x.body x.middle r.content rest more x.content;
 }
 
@@ -67,7 +67,7 @@ bad_heads_stay text more never = λ later h rest r. never (more ++ later) h rest
 
 pub large_heads_stay : LargeHeadsStay
 large_heads_stay text more x = record {
-  none = λ later h rest r. x.none (more ++ later) h rest (subst (λ (t : List ℕ). ReadsSmall t h rest) (append_assoc text more later) r);
+  none = λ later h rest r. x.none (more ++ later) h rest (subst (λ (t : List ℕ). ReadsLimitedHead t h rest) (append_assoc text more later) r);
   past = elim x.past [
     | inl many ↦ inl (omega (arith, many, length-append text more))
     | inr fields ↦ inr (fields.0, fields.1 ++ more, front text fields.0 fields.1 more fields.2, fields.3, fields.4, fields.5)
@@ -75,7 +75,7 @@ large_heads_stay text more x = record {
 }
 
 pub bad_fields_stay : BadFieldsStay
-bad_fields_stay text more x = record { head = x.head; fault = x.fault; rest = x.rest ++ more; reads = heads_stay text x.head x.rest more x.reads; begins_is = x.begins_is }
+bad_fields_stay text more x = record { head = x.head; fault = x.fault; rest = x.rest ++ more; reads = heads_stay text x.head x.rest more x.reads; framing_is = x.framing_is }
 
 pub broken_bodies_stay : BrokenBodiesStay
 broken_bodies_stay (Length n) held more broken = broken
@@ -86,15 +86,15 @@ broken_bodies_stay b held more broken = λ later piece next rest s.
 
 pub runs_join : RunsJoin
 runs_join a b c input first middle second rest NoStep y = y
-runs_join a b c input first middle second rest (StepThen {next = next} {middle = behind} {more = more} piece s r) y =
-    subst (λ (t : List ℕ). Runs a input t c rest) (sym (append_assoc piece more second))
-    (StepThen piece s (runs_join next b c behind more middle second rest r y))
+runs_join a b c input first middle second rest (StepThen {next = next} {middle = following} {more = more} piece s r) y =
+    subst (λ (t : List ℕ). StepsThrough a input t c rest) (sym (append_assoc piece more second))
+    (StepThen piece s (runs_join next b c following more middle second rest r y))
 
 -- a step whose piece is cut in two is two steps
-pub record StepsTwice (b next : Body) (input first m rest : List ℕ) : Type 0 where
-  pub middle : Body
+pub record StepsTwice (b next : BodyFraming) (input first m rest : List ℕ) : Type 0 where
+  pub middle : BodyFraming
   pub front : Steps b input first middle (m ++ rest)
-  pub behind : Steps middle (m ++ rest) m next rest
+  pub following : Steps middle (m ++ rest) m next rest
 
 no_piece : (first m : List ℕ) → first ++ m ≡ [] → 0 < length first → ⊥
 no_piece first m none some = absurd (omega (arith, ap length none, some, length-append first m))
@@ -103,73 +103,73 @@ piece_front : (n : ℕ) (input first m : List ℕ) (left : ℕ) (rest : List ℕ
 piece_front n input first m left rest some x =
     record { whole = x.whole ∙ append_assoc first m rest; some = some; count = omega (arith, x.count, length-append first m) }
 
-step_twice : (b next : Body) (input first m rest : List ℕ) → 0 < length first → 0 < length m → Steps b input (first ++ m) next rest → StepsTwice b next input first m rest
+step_twice : (b next : BodyFraming) (input first m rest : List ℕ) → 0 < length first → 0 < length m → Steps b input (first ++ m) next rest → StepsTwice b next input first m rest
 step_twice (Length n) next input first m rest some more s = record {
   middle = Length (length m + s.0);
   front = (length m + s.0, piece_front n input first m s.0 rest some s.1, refl);
-  behind = (s.0, record { whole = refl; some = more; count = refl }, s.2);
+  following = (s.0, record { whole = refl; some = more; count = refl }, s.2);
 }
 step_twice Size next input first m rest some more s = absurd (no_piece first m s.2 some)
 step_twice (Data n) next input first m rest some more (inl s) = record {
   middle = Data (length m + s.0);
   front = inl (length m + s.0, piece_front n input first m s.0 rest some s.1, refl);
-  behind = inl (s.0, record { whole = refl; some = more; count = refl }, s.2);
+  following = inl (s.0, record { whole = refl; some = more; count = refl }, s.2);
 }
 step_twice (Data n) next input first m rest some more (inr s) = absurd (no_piece first m s.2 some)
 step_twice Trailers next input first m rest some more s = absurd (no_piece first m s.1 some)
 
-split_at : (b last : Body) (input content first second rest : List ℕ) → content ≡ first ++ second → Runs b input content last rest → SplitsAt b last input first second rest
-split_at b last input content [] second rest is r = record { middle = b; later = input; front = NoStep; behind = subst (λ (t : List ℕ). Runs b input t last rest) is r }
+split_at : (b last : BodyFraming) (input content first second rest : List ℕ) → content ≡ first ++ second → StepsThrough b input content last rest → SplitsAt b last input first second rest
+split_at b last input content [] second rest is r = record { middle = b; later = input; front = NoStep; following = subst (λ (t : List ℕ). StepsThrough b input t last rest) is r }
 split_at b last input content (x ∷ first) second rest is NoStep = absurd (cc is)
-split_at b last input content (x ∷ first) second rest is (StepThen {next = next} {middle = behind} {more = more} piece s r) =
+split_at b last input content (x ∷ first) second rest is (StepThen {next = next} {middle = following} {more = more} piece s r) =
     elim (cases_lt (length (x ∷ first)) (length piece)) [
       | inl short ↦
           let w = cut (x ∷ first) second piece more (sym is) (omega (arith, short)) in
           let some : 0 < length w.0 = omega (arith, short, ap length w.1, length-append (x ∷ first) w.0) in
-          let twice = step_twice b next input (x ∷ first) w.0 behind (omega arith) some (subst (λ (t : List ℕ). Steps b input t next behind) w.1 s) in
-          let others = subst (λ (t : List ℕ). Runs twice.middle (w.0 ++ behind) t last rest) (sym w.2) (StepThen w.0 twice.behind r) in
-          record { middle = twice.middle; later = w.0 ++ behind; front = run_one b twice.middle input (x ∷ first) (w.0 ++ behind) twice.front; behind = others }
+          let twice = step_twice b next input (x ∷ first) w.0 following (omega arith) some (subst (λ (t : List ℕ). Steps b input t next following) w.1 s) in
+          let others = subst (λ (t : List ℕ). StepsThrough twice.middle (w.0 ++ following) t last rest) (sym w.2) (StepThen w.0 twice.following r) in
+          record { middle = twice.middle; later = w.0 ++ following; front = run_one b twice.middle input (x ∷ first) (w.0 ++ following) twice.front; following = others }
       | inr long ↦
           let w = cut piece more (x ∷ first) second is long in
-          let v = split_at next last behind more w.0 second rest w.2 r in
-          let front = subst (λ (t : List ℕ). Runs b input t v.middle v.later) (sym w.1) (StepThen piece s v.front) in
-          record { middle = v.middle; later = v.later; front = front; behind = v.behind }
+          let v = split_at next last following more w.0 second rest w.2 r in
+          let front = subst (λ (t : List ℕ). StepsThrough b input t v.middle v.later) (sym w.1) (StepThen piece s v.front) in
+          record { middle = v.middle; later = v.later; front = front; following = v.following }
     ]
 
 pub runs_split : RunsSplit
 runs_split b last input first second rest r = split_at b last input (first ++ second) first second rest refl r
 
 pub streams_join : StreamsJoin
-streams_join text middle rest [] qs x y = subst (λ (t : List ℕ). Cuts t qs rest) x y
+streams_join text middle rest [] qs x y = subst (λ (t : List ℕ). AreRequestsThenRest t qs rest) x y
 streams_join text middle rest (r ∷ rs) qs x y = (x.0, x.1, streams_join x.0 middle rest rs qs x.2 y)
 
 pub ruleset fronts_join = (runs_join, runs_split, streams_join)
 
 -- ---- what can't stand there
 
-pub heads_one : HeadsAreOne
+pub heads_one : HeadsAreUnique
 heads_one text h k rest after x y = request_unique text h k rest after x.reads y.reads
 
-pub requests_one : RequestsAreOne
+pub requests_one : RequestsAreUnique
 requests_one text r q rest after x y = one_left text rest after r q x y
 
-pub broken_bodies : BrokenBodies
+pub broken_bodies : BrokenBodiesNeverEnd
 broken_bodies b last input got held more content rest r broken x =
     let w = run_left b last (input ++ more) got (held ++ more) content rest (runs_stay b input got last held more r) x in
     broken_body last held more w.more rest broken w.body
 
-pub open_bodies : OpenBodies
+pub open_bodies : OpenBodiesNeverEnd
 open_bodies b last input got held content rest r ended x =
     let w = run_left b last input got held content rest r x in open_body last held w.more rest ended w.body
 
-behind_size : (size : ℕ) (input content rest : List ℕ) → IsBody (after_line size) input content rest → size ≤ length content
+behind_size : (size : ℕ) (input content rest : List ℕ) → IsBody (framing_after_size size) input content rest → size ≤ length content
 behind_size zero input content rest x = omega arith
 behind_size (suc n) input content rest x = omega (arith, x.count, ap length x.content_is, length-append x.bytes x.more)
 
-pub sizes_count : SizesCount
-sizes_count b input got held behind more content rest size r line x =
+pub sizes_count : ContentCoversSize
+sizes_count b input got held following more content rest size r line x =
     let w = run_left b Size (input ++ more) got (held ++ more) content rest (runs_stay b input got Size held more r) x in
-    let step : Steps Size (held ++ more) [] (after_line size) (behind ++ more) = (size, line_stays held size behind more line, refl, refl) in
-    let v = step_left Size (after_line size) (held ++ more) [] (behind ++ more) w.more rest step w.body in
-    let few = behind_size size (behind ++ more) v.more rest v.body in
+    let step : Steps Size (held ++ more) [] (framing_after_size size) (following ++ more) = (size, line_stays held size following more line, refl, refl) in
+    let v = step_left Size (framing_after_size size) (held ++ more) [] (following ++ more) w.more rest step w.body in
+    let few = behind_size size (following ++ more) v.more rest v.body in
     omega (arith, few, ap length w.split, ap length v.split, length-append got w.more)

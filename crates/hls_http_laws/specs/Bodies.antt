@@ -2,8 +2,8 @@
 use Rattle.std.specs.Prelude.{◌≡◌, ℕ, zero, suc, ◌+◌, ◌<◌, ◌≤◌, ◌⊎◌, List, [], ◌∷◌, ◌++◌, length, Option, Some}
 use Rattle.std.specs.Io.KnownBytes.{prepend_known}
 use Rattle.httparse.specs.Grammar.{ChunkLine, Field, LineEnd, ReadsChunkLine, HasNoChunkLine, MayBecomeChunkLine, ReadsSection, HasNoSection, MayBecomeSection, print_chunk_line, print_section, chunk_size}
-use Rattle.hls_http_laws.specs.declared.body.Body.{Body}
-use Rattle.hls_http_laws.specs.declared.body.Body.TheVariants.{Length, Size, Data, Trailers}
+use Rattle.hls_http_laws.specs.declared.framing.BodyFraming.{BodyFraming}
+use Rattle.hls_http_laws.specs.declared.framing.BodyFraming.TheVariants.{Length, Size, Data, Trailers}
 use Rattle.hls_http_laws.specs.Limits.{head_limit, field_limit}
 
 -- some of n bytes, and how many are left of them
@@ -28,41 +28,41 @@ pub record ReadsTrailers (input rest : List ℕ) : Type 0 where
   pub few : length fields ≤ field_limit
 
 -- a size of 0 announces the trailers
-abbrev pub after_line : ℕ → Body
-after_line zero = Trailers
-after_line (suc n) = Data (suc n)
+abbrev pub framing_after_size : ℕ → BodyFraming
+framing_after_size zero = Trailers
+framing_after_size (suc n) = Data (suc n)
 
 -- some of n bytes of a chunk
-abbrev pub TakesData : ℕ → List ℕ → List ℕ → Body → List ℕ → Type 0
+abbrev pub TakesData : ℕ → List ℕ → List ℕ → BodyFraming → List ℕ → Type 0
 TakesData n input piece next rest = (left : ℕ) × IsPiece n input piece left rest × (next ≡ Data left)
 
 -- the CR LF behind a chunk's bytes
-abbrev pub EndsData : ℕ → List ℕ → List ℕ → Body → List ℕ → Type 0
+abbrev pub EndsData : ℕ → List ℕ → List ℕ → BodyFraming → List ℕ → Type 0
 EndsData n input piece next rest = (n ≡ 0) × (input ≡ 13 ∷ 10 ∷ rest) × (piece ≡ []) × (next ≡ Size)
 
 -- one step: a piece comes out of the input, and the body goes on
-abbrev pub Steps : Body → List ℕ → List ℕ → Body → List ℕ → Type 0
+abbrev pub Steps : BodyFraming → List ℕ → List ℕ → BodyFraming → List ℕ → Type 0
 Steps (Length n) input piece next rest = (left : ℕ) × IsPiece n input piece left rest × (next ≡ Length left)
-Steps Size input piece next rest = (size : ℕ) × ReadsLine input size rest × (piece ≡ []) × (next ≡ after_line size)
+Steps Size input piece next rest = (size : ℕ) × ReadsLine input size rest × (piece ≡ []) × (next ≡ framing_after_size size)
 Steps (Data n) input piece next rest = TakesData n input piece next rest ⊎ EndsData n input piece next rest
 Steps Trailers input piece next rest = ReadsTrailers input rest × (piece ≡ []) × (next ≡ Length 0)
 
 -- steps one after the other, and all that came out
-pub data Runs : Body → List ℕ → List ℕ → Body → List ℕ → Type 0 where
-  NoStep : {b : Body} {input : List ℕ} → Runs b input [] b input
-  StepThen : {b next last : Body} {input middle more rest : List ℕ} (piece : List ℕ) → Steps b input piece next middle → Runs next middle more last rest
-      → Runs b input (piece ++ more) last rest
+pub data StepsThrough : BodyFraming → List ℕ → List ℕ → BodyFraming → List ℕ → Type 0 where
+  NoStep : {b : BodyFraming} {input : List ℕ} → StepsThrough b input [] b input
+  StepThen : {b next last : BodyFraming} {input middle more rest : List ℕ} (piece : List ℕ) → Steps b input piece next middle → StepsThrough next middle more last rest
+      → StepsThrough b input (piece ++ more) last rest
 
 -- whatever follows, no step can be made; bytes by length are never broken
-abbrev pub HasNoStep : Body → List ℕ → Type 0
-HasNoStep b held = (more : List ℕ) (piece : List ℕ) (next : Body) (rest : List ℕ) → Steps b (held ++ more) piece next rest → ⊥
+abbrev pub HasNoStep : BodyFraming → List ℕ → Type 0
+HasNoStep b held = (more : List ℕ) (piece : List ℕ) (next : BodyFraming) (rest : List ℕ) → Steps b (held ++ more) piece next rest → ⊥
 
-abbrev pub IsBroken : Body → List ℕ → Type 0
+abbrev pub IsBroken : BodyFraming → List ℕ → Type 0
 IsBroken (Length n) held = ⊥
 IsBroken b held = HasNoStep b held
 
 -- the text ends before a step
-abbrev pub IsOpen : Body → List ℕ → Type 0
+abbrev pub IsOpen : BodyFraming → List ℕ → Type 0
 IsOpen (Length n) held = (0 < n) × (held ≡ [])
 IsOpen Size held = (length held < head_limit) × HasNoChunkLine held × MayBecomeChunkLine held
 IsOpen (Data zero) held = (held ≡ []) ⊎ (held ≡ 13 ∷ [])
@@ -70,7 +70,7 @@ IsOpen (Data (suc n)) held = held ≡ []
 IsOpen Trailers held = (length held < head_limit) × HasNoSection held × MayBecomeSection held
 
 -- steps of a reader: what it holds and what is left to be read is the rest of its input
-pub record Goes (b : Body) (input content : List ℕ) (last : Body) (held : List ℕ) (left : Option (List ℕ)) : Type 0 where
+pub record RunsOnReader (b : BodyFraming) (input content : List ℕ) (last : BodyFraming) (held : List ℕ) (left : Option (List ℕ)) : Type 0 where
   pub later : List ℕ
-  pub runs : Runs b input content last later
+  pub runs : StepsThrough b input content last later
   pub known : prepend_known held left ≡ Some later

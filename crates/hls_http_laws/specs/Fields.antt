@@ -2,7 +2,7 @@
 use Rattle.std.specs.Prelude.{ℕ, Bool, ◌&&◌, ◌||◌, cond, ◌==◌, nat_eq, ◌-◌, List, [], ◌∷◌, length, take, drop, Option, codes}
 use Rattle.std.specs.List.{list_any, prefix_len, slice_split, suffix_len}
 use Rattle.std.specs.{Char.is_ascii_whitespace, Str.str_eq_ignore_ascii_case}
-use Rattle.hls_text.specs.Digits.{number_of}
+use Rattle.hls_text.specs.Digits.{number_of_digits}
 use Rattle.hls_http_laws.specs.Limits.{length_digits}
 
 -- the names and the values of a head
@@ -10,17 +10,17 @@ abbrev pub Fields : Type 0
 Fields = List (List ℕ × List ℕ)
 
 -- a field of this name, in any case (RFC 9110, section 5.1)
-abbrev pub named : List ℕ → List ℕ × List ℕ → Bool
-named name field = str_eq_ignore_ascii_case field.0 name
+abbrev pub has_name : List ℕ → List ℕ × List ℕ → Bool
+has_name name field = str_eq_ignore_ascii_case field.0 name
 
 -- the values of the fields of this name, in order
 unfoldable pub values : List ℕ → Fields → List (List ℕ)
 values name [] = []
-values name (field ∷ fields) = cond (named name field) (field.1 ∷ values name fields) (values name fields)
+values name (field ∷ fields) = cond (has_name name field) (field.1 ∷ values name fields) (values name fields)
 
 -- the number of a Content-Length
 abbrev pub length_of : List ℕ → Option ℕ
-length_of value = number_of length_digits value
+length_of value = number_of_digits length_digits value
 
 -- the pieces between commas
 abbrev pub between_commas : List ℕ → List (List ℕ)
@@ -42,12 +42,12 @@ unfoldable pub has_word : List ℕ → List ℕ → Bool
 has_word word value = list_any (is_word word) (between_commas value)
 
 -- the connection ends after this request: HTTP/1.0, or `Connection` has the word `close` (RFC 9112, section 9.6)
-abbrev pub closes : ℕ → Fields → Bool
-closes minor fields = nat_eq minor 0 || list_any (has_word (codes "close")) (values (codes "connection") fields)
+abbrev pub closes_connection : ℕ → Fields → Bool
+closes_connection minor fields = nat_eq minor 0 || list_any (has_word (codes "close")) (values (codes "connection") fields)
 
 -- a 100 Continue is waited for (RFC 9110, section 10.1.1); in HTTP/1.0 the field is ignored
-abbrev pub waits : List ℕ → Bool
-waits value = str_eq_ignore_ascii_case value (codes "100-continue")
+abbrev pub expects_continue : List ℕ → Bool
+expects_continue value = str_eq_ignore_ascii_case value (codes "100-continue")
 
 abbrev pub expects : ℕ → Fields → Bool
-expects minor fields = nat_eq minor 1 && list_any waits (values (codes "expect") fields)
+expects minor fields = nat_eq minor 1 && list_any expects_continue (values (codes "expect") fields)

@@ -2,8 +2,8 @@
 use Rattle.std.specs.Prelude.{◌≡◌, ℕ, List, [], ◌∷◌, ◌++◌, length, ◌<◌, ◌≤◌}
 use Rattle.std.specs.List.{flat_map}
 use Rattle.httparse.specs.Grammar.{ChunkLine, IsChunkLine, print_chunk_line, chunk_size}
-use Rattle.hls_http_laws.specs.{declared.body.Body.Body, Limits.head_limit, Bodies.ReadsTrailers}
-use Rattle.hls_http_laws.specs.declared.body.Body.TheVariants.{Length, Size, Data, Trailers}
+use Rattle.hls_http_laws.specs.{declared.framing.BodyFraming.BodyFraming, Limits.head_limit, Bodies.ReadsTrailers}
+use Rattle.hls_http_laws.specs.declared.framing.BodyFraming.TheVariants.{Length, Size, Data, Trailers}
 
 -- a chunk: its size line, and so many bytes
 pub record Chunk : Type 0 where
@@ -55,7 +55,7 @@ pub record ReadsRestOfChunk (n : ℕ) (input content rest : List ℕ) : Type 0 w
   pub content_is : content ≡ bytes ++ more
 
 -- the text begins with a body of which so much is to come, and this is its content
-abbrev pub IsBody : Body → List ℕ → List ℕ → List ℕ → Type 0
+abbrev pub IsBody : BodyFraming → List ℕ → List ℕ → List ℕ → Type 0
 IsBody (Length n) input content rest = (input ≡ content ++ rest) × (length content ≡ n)
 IsBody Size input content rest = ReadsChunked input content rest
 IsBody (Data n) input content rest = ReadsRestOfChunk n input content rest

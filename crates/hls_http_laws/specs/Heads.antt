@@ -10,7 +10,7 @@ pub record IsSmall (h : RequestHead) : Type 0 where
   pub fields : length h.fields ≤ field_limit
 
 -- the text is a head within the limits, and then the rest
-pub record ReadsSmall (text : List ℕ) (h : RequestHead) (rest : List ℕ) : Type 0 where
+pub record ReadsLimitedHead (text : List ℕ) (h : RequestHead) (rest : List ℕ) : Type 0 where
   pub reads : ReadsRequest text h rest
   pub small : IsSmall h
 
@@ -18,9 +18,9 @@ pub record ReadsSmall (text : List ℕ) (h : RequestHead) (rest : List ℕ) : Ty
 pub record IsUnfinished (text : List ℕ) : Type 0 where
   pub short : length text < head_limit
   pub none : HasNoRequest text
-  pub goes_on : MayBecomeRequest text
+  pub may_continue : MayBecomeRequest text
 
 -- whatever follows, no head within the limits stands here: so many bytes without a head, or so many fields
 pub record IsTooLarge (text : List ℕ) : Type 0 where
-  pub none : (more : List ℕ) (h : RequestHead) (rest : List ℕ) → ReadsSmall (text ++ more) h rest → ⊥
+  pub none : (more : List ℕ) (h : RequestHead) (rest : List ℕ) → ReadsLimitedHead (text ++ more) h rest → ⊥
   pub past : (head_limit ≤ length text) ⊎ RequestExceeds field_limit text

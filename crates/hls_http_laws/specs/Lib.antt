@@ -6,8 +6,8 @@ pub mod Heads
 pub mod Laws
 pub mod Limits
 pub mod Methods
-pub mod Order
+pub mod Actions
 pub mod Query
 pub mod Range
-pub mod Reply
+pub mod ResponseText
 pub mod Requests

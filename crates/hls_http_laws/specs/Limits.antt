@@ -11,8 +11,8 @@ abbrev pub field_limit : ℕ
 field_limit = 64
 
 -- the most bytes of a body that is dropped
-abbrev pub dropped_limit : ℕ
-dropped_limit = 65536
+abbrev pub discard_limit : ℕ
+discard_limit = 65536
 
 -- the most digits of a Content-Length
 abbrev pub length_digits : ℕ

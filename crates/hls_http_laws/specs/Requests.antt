@@ -2,14 +2,14 @@
 use Rattle.std.specs.Prelude.{◌≡◌, ℕ, ◌<◌, ◌⊎◌, List, [], ◌∷◌, length, map, Result, Ok, Err}
 use Rattle.httparse.specs.Grammar.{RequestHead, NeverHasRequest}
 use Rattle.httparse.specs.Spans.{name_and_value}
-use Rattle.hls_http_laws.specs.{declared.body.Body.Body, declared.fault.HttpFault.HttpFault, declared.end.InputEnd.InputEnd, Fields.Fields}
+use Rattle.hls_http_laws.specs.{declared.framing.BodyFraming.BodyFraming, declared.fault.HttpFault.HttpFault, declared.end.InputEnd.InputEnd, Fields.Fields}
 use Rattle.hls_http_laws.specs.declared.end.InputEnd.TheVariants.{Closed, CutShort, BadHead, HeadTooLarge, BadRequest}
-use Rattle.hls_http_laws.specs.Heads.{ReadsSmall, IsUnfinished, IsTooLarge}
-use Rattle.hls_http_laws.specs.{Framing.body_of, Grammar.IsBody}
-use Rattle.hls_http_laws.specs.Bodies.{Runs, IsBroken, IsOpen}
+use Rattle.hls_http_laws.specs.Heads.{ReadsLimitedHead, IsUnfinished, IsTooLarge}
+use Rattle.hls_http_laws.specs.{Framing.checked_framing, Grammar.IsBody}
+use Rattle.hls_http_laws.specs.Bodies.{StepsThrough, IsBroken, IsOpen}
 
 -- a request: its head, and the content of its body
-pub record Request : Type 0 where
+pub record HttpRequest : Type 0 where
   pub head : RequestHead
   pub content : List ℕ
 
@@ -18,33 +18,33 @@ abbrev pub fields_of : RequestHead → Fields
 fields_of h = map name_and_value h.fields
 
 -- where a head's body begins, or why its fields are refused
-abbrev pub begins : RequestHead → Result Body HttpFault
-begins h = body_of h.minor (fields_of h)
+abbrev pub framing_of_head : RequestHead → Result BodyFraming HttpFault
+framing_of_head h = checked_framing h.minor (fields_of h)
 
 -- the text is this request, and then the rest
-pub record ReadsOne (text : List ℕ) (r : Request) (rest : List ℕ) : Type 0 where
-  pub body : Body
+pub record ReadsWholeRequest (text : List ℕ) (r : HttpRequest) (rest : List ℕ) : Type 0 where
+  pub body : BodyFraming
   pub middle : List ℕ
-  pub head : ReadsSmall text r.head middle
-  pub begins_is : begins r.head ≡ Ok body
+  pub head : ReadsLimitedHead text r.head middle
+  pub framing_is : framing_of_head r.head ≡ Ok body
   pub content : IsBody body middle r.content rest
 
 -- the text is these requests, and then the rest
-abbrev pub Cuts : List ℕ → List Request → List ℕ → Type 0
-Cuts text [] rest = rest ≡ text
-Cuts text (r ∷ rs) rest = (middle : List ℕ) × ReadsOne text r middle × Cuts middle rs rest
+abbrev pub AreRequestsThenRest : List ℕ → List HttpRequest → List ℕ → Type 0
+AreRequestsThenRest text [] rest = rest ≡ text
+AreRequestsThenRest text (r ∷ rs) rest = (middle : List ℕ) × ReadsWholeRequest text r middle × AreRequestsThenRest middle rs rest
 
 -- a head and some of its body, with what stands behind that
-pub record StopsInBody (text : List ℕ) (Stops : Body → List ℕ → Type 0) : Type 0 where
+pub record StopsInBody (text : List ℕ) (Stops : BodyFraming → List ℕ → Type 0) : Type 0 where
   pub head : RequestHead
-  pub body : Body
+  pub body : BodyFraming
   pub middle : List ℕ
-  pub reads : ReadsSmall text head middle
-  pub begins_is : begins head ≡ Ok body
+  pub reads : ReadsLimitedHead text head middle
+  pub framing_is : framing_of_head head ≡ Ok body
   pub content : List ℕ
-  pub last : Body
+  pub last : BodyFraming
   pub later : List ℕ
-  pub runs : Runs body middle content last later
+  pub runs : StepsThrough body middle content last later
   pub stops : Stops last later
 
 -- a head whose Host or framing is bad
@@ -52,19 +52,19 @@ pub record HasBadFields (text : List ℕ) : Type 0 where
   pub head : RequestHead
   pub fault : HttpFault
   pub rest : List ℕ
-  pub reads : ReadsSmall text head rest
-  pub begins_is : begins head ≡ Err fault
+  pub reads : ReadsLimitedHead text head rest
+  pub framing_is : framing_of_head head ≡ Err fault
 
 -- how a stream ends where no request stands
-abbrev pub Ends : List ℕ → InputEnd → Type 0
-Ends text Closed = text ≡ []
-Ends text CutShort = (IsUnfinished text × (0 < length text)) ⊎ StopsInBody text IsOpen
-Ends text BadHead = NeverHasRequest text
-Ends text HeadTooLarge = IsTooLarge text
-Ends text BadRequest = HasBadFields text ⊎ StopsInBody text IsBroken
+abbrev pub IsInputEnd : List ℕ → InputEnd → Type 0
+IsInputEnd text Closed = text ≡ []
+IsInputEnd text CutShort = (IsUnfinished text × (0 < length text)) ⊎ StopsInBody text IsOpen
+IsInputEnd text BadHead = NeverHasRequest text
+IsInputEnd text HeadTooLarge = IsTooLarge text
+IsInputEnd text BadRequest = HasBadFields text ⊎ StopsInBody text IsBroken
 
 -- the stream is these requests, and then ends so
-pub record AreRequests (text : List ℕ) (rs : List Request) (end : InputEnd) : Type 0 where
+pub record AreRequests (text : List ℕ) (rs : List HttpRequest) (end : InputEnd) : Type 0 where
   pub rest : List ℕ
-  pub cuts : Cuts text rs rest
-  pub ends : Ends rest end
+  pub cuts : AreRequestsThenRest text rs rest
+  pub ends : IsInputEnd rest end

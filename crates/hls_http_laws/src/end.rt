@@ -28,7 +28,7 @@ pub enum BodyEnd {
 
 /// Why a body wasn't dropped to its end.
 #[derive(Clone, Copy, Drop)]
-pub enum DropEnd {
+pub enum DiscardEnd {
     /// The size line of a chunk that would pass 65536 bytes is next.
     TooLarge,
     /// The body stopped.

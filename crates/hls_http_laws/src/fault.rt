@@ -1,10 +1,10 @@
 //! Why a request is refused by HTTP alone.
 
 ghost use Rattle.std.specs.Prelude.{◌≡◌};
-ghost use Rattle.hls_http_laws.specs.Reply.{fault_name, fault_status};
+ghost use Rattle.hls_http_laws.specs.ResponseText.{fault_name, fault_status};
 
-use crate::reply::Status;
-use hls_faults::name_among;
+use crate::response_parts::Status;
+use hls_faults::variant_name;
 use std::fmt::{self, Display, Formatter, Write};
 use thiserror::Error;
 
@@ -40,7 +40,7 @@ impl HttpFault {
     pub fn name(&self) -> &'static str
         ensures { result.now ≡ fault_name self.now }
     {
-        name_among!(self; HttpFault: BadHead, HeadTooLarge, BadFraming, TooLarge, RangeOutside, BadMethod, NotFound, Gone, Conflict, Memory, Full)
+        variant_name!(self; HttpFault: BadHead, HeadTooLarge, BadFraming, TooLarge, RangeOutside, BadMethod, NotFound, Gone, Conflict, Memory, Full)
     }
 
     /// The status of its reply.

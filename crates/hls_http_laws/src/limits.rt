@@ -8,7 +8,7 @@ pub const MOST_HEAD: usize = 16384;
 pub const MOST_FIELDS: usize = 64;
 
 /// The most bytes of a body that is dropped.
-pub const MOST_DROPPED: u64 = 65536;
+pub const MOST_DISCARDED: u64 = 65536;
 
 /// The most digits of a Content-Length.
 pub const MOST_LENGTH_DIGITS: usize = 15;

@@ -17,7 +17,7 @@ pub enum Method {
 
 impl Method {
     /// The method of this name.
-    pub fn of(name: &[u8]) -> Method
+    pub fn from_name(name: &[u8]) -> Method
         ensures { result ≡ method_of name.now }
     {
         if name == b"GET".as_slice() {

@@ -1,25 +1,27 @@
 //! A small server over a session: PUT gives back its body, and every other request ten digits. It refuses nothing: where no
 //! request comes it ends the session without a reply.
 
-use hls_fakes::Page;
-use hls_http::{Body, BodyEnd, Given, Head, HeadEnd, Method, Session, SessionEnd};
-use hls_http_laws::reply::{Extra, Kind, ReplyHead, Status, no_memory_text};
+use hls_fakes::PageWriter;
+use hls_http::{BodyEnd, BodyFraming, BodyRead, HeadEnd, Method, ParsedHead, Session, SessionEnd};
+use hls_http_laws::response_parts::{
+    ContentType, ExtraField, ResponseParts, Status, out_of_memory_text,
+};
 use hls_io::write_whole;
 use std::alloc::{AllocError, Global};
 use std::io::Read;
 
 /// The content of a body, and why it stopped, if it did.
-pub fn content<R: Read>(
+pub fn read_content<R: Read>(
     alloc: Global,
-    session: &mut Session<R, Page>,
-    body: Body,
+    session: &mut Session<R, PageWriter>,
+    body: BodyFraming,
 ) -> Result<(Vec<u8>, Option<BodyEnd>), AllocError> {
     let mut body = body;
     let mut all = Vec::new(alloc);
     for _ in 0..100u8 {
         match session.body(&mut body) {
-            Ok(Given::Piece) => all.extend_from_slice(session.source.taken())?,
-            Ok(Given::Over) => return Ok((all, None)),
+            Ok(BodyRead::Piece) => all.extend_from_slice(session.source.last_taken())?,
+            Ok(BodyRead::End) => return Ok((all, None)),
             Err(end) => return Ok((all, Some(end))),
         }
     }
@@ -27,16 +29,16 @@ pub fn content<R: Read>(
 }
 
 /// Replies to a request whose body was read.
-fn reply<R: Read>(
+fn write_reply<R: Read>(
     alloc: Global,
-    session: &mut Session<R, Page>,
-    head: &Head,
+    session: &mut Session<R, PageWriter>,
+    head: &ParsedHead,
     body: &[u8],
 ) -> Result<(), SessionEnd> {
-    let reply = ReplyHead {
+    let reply = ResponseParts {
         status: Status::Done,
-        kind: Kind::Text,
-        extra: Extra::Nothing,
+        kind: ContentType::Text,
+        extra: ExtraField::Nothing,
         closing: head.closes,
     };
     if head.method == Method::Put {
@@ -48,26 +50,26 @@ fn reply<R: Read>(
 
 fn serve_one<R: Read>(
     alloc: Global,
-    session: &mut Session<R, Page>,
-    head: &Head,
+    session: &mut Session<R, PageWriter>,
+    head: &ParsedHead,
 ) -> Result<(), SessionEnd> {
     let Ok(body) = head.body else {
         return Err(SessionEnd::Refused);
     };
-    match content(alloc, session, body) {
-        Ok((all, None)) => reply(alloc, session, head, &all),
+    match read_content(alloc, session, body) {
+        Ok((all, None)) => write_reply(alloc, session, head, &all),
         Ok((_, Some(BodyEnd::BadFraming))) => Err(SessionEnd::Refused),
         Ok((_, Some(BodyEnd::CutShort))) => Err(SessionEnd::CutShort),
         Ok((_, Some(BodyEnd::ReadFailed))) => Err(SessionEnd::ReadFailed),
         Err(_) => {
-            let _ = write_whole(&mut session.writer, no_memory_text());
+            let _ = write_whole(&mut session.writer, out_of_memory_text());
             Err(SessionEnd::Refused)
         }
     }
 }
 
 /// Serves at most ten requests.
-pub fn serve<R: Read>(alloc: Global, session: &mut Session<R, Page>) -> SessionEnd {
+pub fn serve<R: Read>(alloc: Global, session: &mut Session<R, PageWriter>) -> SessionEnd {
     for _ in 0..10u8 {
         match session.next_head() {
             Ok(head) => {

@@ -1,41 +1,42 @@
 //! Sessions with any one request for memory refused: each ends with the fixed 503, or as with ample memory.
 
 use crate::echo::serve;
-use hls_fakes::{Drips, Page};
-use hls_http::{Session, SessionEnd, value_of};
-use hls_http_laws::reply::{no_memory_head_text, no_memory_text};
+use hls_fakes::{ChunkedReader, PageWriter};
+use hls_http::{Session, SessionEnd, find_query_value};
+use hls_http_laws::response_parts::{out_of_memory_head_text, out_of_memory_text};
 use std::alloc::Global;
 
 /// How a session answered.
 #[derive(Clone, Copy, PartialEq, Eq)]
-enum Answer {
-    Ample,
+enum ReplyOutcome {
+    Served,
     Memory,
     Other,
 }
 
-fn serve_once(alloc: Global, request: &[u8], reply: &[u8], no_memory: &[u8]) -> Answer {
-    let Ok(mut session) = Session::new(alloc, Drips::new(request, 70, 0), Page::new()) else {
-        return Answer::Memory;
+fn serve_once(alloc: Global, request: &[u8], reply: &[u8], no_memory: &[u8]) -> ReplyOutcome {
+    let Ok(mut session) = Session::new(alloc, ChunkedReader::new(request, 70, 0), PageWriter::new())
+    else {
+        return ReplyOutcome::Memory;
     };
     let end = serve(alloc, &mut session);
     let page = session.writer.into_inner();
-    if end == SessionEnd::Closed && page.says(reply) {
-        return Answer::Ample;
+    if end == SessionEnd::Closed && page.holds_text(reply) {
+        return ReplyOutcome::Served;
     }
-    if end == SessionEnd::Refused && page.says(no_memory) {
-        Answer::Memory
+    if end == SessionEnd::Refused && page.holds_text(no_memory) {
+        ReplyOutcome::Memory
     } else {
-        Answer::Other
+        ReplyOutcome::Other
     }
 }
 
 /// Of two answers one is ample, and the other is so too or is want of memory.
-fn is_right(first: Answer, second: Answer) -> bool {
+fn is_right(first: ReplyOutcome, second: ReplyOutcome) -> bool {
     match first {
-        Answer::Ample => second != Answer::Other,
-        Answer::Memory => second == Answer::Ample,
-        Answer::Other => false,
+        ReplyOutcome::Served => second != ReplyOutcome::Other,
+        ReplyOutcome::Memory => second == ReplyOutcome::Served,
+        ReplyOutcome::Other => false,
     }
 }
 
@@ -47,30 +48,30 @@ fn is_served(alloc: Global, request: &[u8], reply: &[u8], no_memory: &[u8]) -> b
 }
 
 #[test]
-fn refused_memory_is_the_fixed_reply(rt: HostRuntime) {
+fn out_of_memory_is_the_fixed_reply(rt: HostRuntime) {
     let request = b"PUT / HTTP/1.1\r\nHost: a\r\nContent-Length: 3\r\n\r\nabc";
     let reply = b"HTTP/1.1 200 OK\r\nContent-Type: text/plain\r\nContent-Length: 3\r\n\r\nabc";
-    assert!(rt; is_served(rt.alloc(), request, reply, no_memory_text()));
+    assert!(rt; is_served(rt.alloc(), request, reply, out_of_memory_text()));
 }
 
 #[test]
-fn refused_memory_to_head_has_no_body(rt: HostRuntime) {
+fn out_of_memory_to_head_has_no_body(rt: HostRuntime) {
     let request = b"HEAD / HTTP/1.1\r\nHost: a\r\n\r\n";
     let reply = b"HTTP/1.1 200 OK\r\nContent-Type: text/plain\r\nContent-Length: 10\r\n\r\n";
-    assert!(rt; is_served(rt.alloc(), request, reply, no_memory_head_text()));
+    assert!(rt; is_served(rt.alloc(), request, reply, out_of_memory_head_text()));
 }
 
 /// The value of a query's key.
-fn finds(alloc: Global) -> Answer {
-    match value_of(alloc, b"from=1&t%6f=2+3", b"to") {
-        Ok(Some(value)) if value.as_slice() == b"2 3".as_slice() => Answer::Ample,
-        Ok(_) => Answer::Other,
-        Err(_) => Answer::Memory,
+fn finds(alloc: Global) -> ReplyOutcome {
+    match find_query_value(alloc, b"from=1&t%6f=2+3", b"to") {
+        Ok(Some(value)) if value.as_slice() == b"2 3".as_slice() => ReplyOutcome::Served,
+        Ok(_) => ReplyOutcome::Other,
+        Err(_) => ReplyOutcome::Memory,
     }
 }
 
 #[test]
-fn refused_memory_finds_no_value(rt: HostRuntime) {
+fn out_of_memory_finds_no_value(rt: HostRuntime) {
     let first = finds(rt.alloc());
     let second = finds(rt.alloc());
     assert!(rt; is_right(first, second));

@@ -3,8 +3,8 @@ use Rattle.std.specs.Prelude.{ℕ, ◌-◌, ◌^◌}
 use Rattle.hls_io.specs.declared.counted.Counted.{Counted}
 
 -- the reader or writer inside
-abbrev pub inside_of : {T : Type 0} → Counted T → T
-inside_of counted = counted.inner
+abbrev pub inner_of : {T : Type 0} → Counted T → T
+inner_of counted = counted.inner
 
 -- the number of failed calls
 abbrev pub failures_of : {T : Type 0} → Counted T → ℕ

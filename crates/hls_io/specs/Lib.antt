@@ -1,4 +1,4 @@
 pub mod Counted
-pub mod Rose
+pub mod Failures
 pub mod Streams
 pub mod Writing

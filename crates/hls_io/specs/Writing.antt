@@ -1,6 +1,6 @@
 -- What writing a whole text comes to.
 use Rattle.std.specs.Prelude.{◌≡◌, ℕ, List, ◌++◌, Option, Some, [], Bool, true, false}
-use Rattle.hls_io.specs.Rose.{Rose}
+use Rattle.hls_io.specs.Failures.{FailuresRose}
 
 -- of the text this much was written behind what was held
 pub record Writes (held text : List ℕ) (contents : Option (List ℕ)) (done : Bool) : Type 0 where
@@ -12,4 +12,4 @@ pub record Writes (held text : List ℕ) (contents : Option (List ℕ)) (done : 
 
 abbrev pub CountsWrite : Bool → ℕ → ℕ → Type 0
 CountsWrite true old new = new ≡ old
-CountsWrite false old new = Rose old new
+CountsWrite false old new = FailuresRose old new

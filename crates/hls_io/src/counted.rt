@@ -1,21 +1,21 @@
 //! Readers and writers whose failed calls are counted.
 ghost use Rattle.std.specs.Prelude.{◌≡◌, ◌+◌, ◌^◌, ◌<◌, ◌≤◌, length, take, IsSome, IfSome, IfNone, true, false};
 ghost use Rattle.std.specs.Io.KnownBytes.{Appends, Consumes, IsAtEnd, Keeps};
-ghost use Rattle.hls_io.specs.Rose.{Rose};
+ghost use Rattle.hls_io.specs.Failures.{FailuresRose};
 
 use std::io::{Read, Write};
 
 /// How many calls a counted reader or writer passes on; each later one fails.
-const MOST_CALLS: u64 = 1 << 62;
+const MAX_CALLS: u64 = 1 << 62;
 
 /// Where the count of failures stops.
-const MOST_FAILURES: u64 = 1 << 63;
+const MAX_FAILURES: u64 = 1 << 63;
 
 /// A reader or writer that counts its failed calls: those that fail, those that are interrupted,
 /// writes that take no byte, and every call after the 2^62nd.
 #[derive(Drop)]
 pub struct Counted<T> {
-    /// The reader or writer itself. Who calls it [starts a call](Counted::starts_call) before, and counts one that failed.
+    /// The reader or writer itself. Who calls it [begins a call](Counted::begin_call) before, and counts one that failed.
     pub inner: T,
     calls: u64,
     failures: u64,
@@ -24,11 +24,11 @@ pub struct Counted<T> {
 }
 
 impl<T> Counted<T> {
-    ghost use Rattle.hls_io.specs.Counted.{calls_left, failures_of, inside_of};
+    ghost use Rattle.hls_io.specs.Counted.{calls_left, failures_of, inner_of};
 
     /// The reader or writer with no call counted yet.
     pub fn new(inner: T) -> Counted<T>
-        ensures inside { inside_of result ≡ inner }
+        ensures inside { inner_of result ≡ inner }
         ensures none { failures_of result ≡ 0 }
         ensures all_left { calls_left result ≡ 2 ^ 62 }
     {
@@ -41,7 +41,7 @@ impl<T> Counted<T> {
 
     /// The reader or writer itself.
     pub fn into_inner(self) -> T
-        ensures { result ≡ inside_of self }
+        ensures { result ≡ inner_of self }
     {
         let Counted {
             inner,
@@ -52,13 +52,13 @@ impl<T> Counted<T> {
     }
 
     /// Whether another call may be passed on, which is then counted; else a failure is.
-    pub fn starts_call(&mut self) -> bool
-        ensures inside { inside_of self.new ≡ inside_of self.old }
+    pub fn begin_call(&mut self) -> bool
+        ensures inside { inner_of self.new ≡ inner_of self.old }
         ensures quiet { result ≡ true → failures_of self.new ≡ failures_of self.old }
         ensures progress { result ≡ true → calls_left self.new < calls_left self.old }
-        ensures rose { result ≡ false → Rose (failures_of self.old) (failures_of self.new) }
+        ensures rose { result ≡ false → FailuresRose (failures_of self.old) (failures_of self.new) }
     {
-        if self.calls >= MOST_CALLS {
+        if self.calls >= MAX_CALLS {
             self.count_failure();
             return false;
         }
@@ -68,18 +68,18 @@ impl<T> Counted<T> {
 
     /// Counts a failed call.
     pub fn count_failure(&mut self)
-        ensures inside { inside_of self.new ≡ inside_of self.old }
+        ensures inside { inner_of self.new ≡ inner_of self.old }
         ensures calls { calls_left self.new ≡ calls_left self.old }
-        ensures rose { Rose (failures_of self.old) (failures_of self.new) }
+        ensures rose { FailuresRose (failures_of self.old) (failures_of self.new) }
     {
-        if self.failures < MOST_FAILURES {
+        if self.failures < MAX_FAILURES {
             self.failures += 1;
         }
     }
 }
 
 impl<R: Read> Counted<R> {
-    ghost use Rattle.hls_io.specs.Counted.{calls_left, failures_of, inside_of};
+    ghost use Rattle.hls_io.specs.Counted.{calls_left, failures_of, inner_of};
 
     /// Reads into `buf`, which has room, by one call, and gives the number of bytes; none is the
     /// end. A failed call is `None` and counted.
@@ -88,12 +88,12 @@ impl<R: Read> Counted<R> {
         ensures quiet { IsSome result → failures_of self.new ≡ failures_of self.old }
         ensures progress { IsSome result → calls_left self.new < calls_left self.old }
         ensures bound { IfSome result (λ n. n ≤ length buf.new) }
-        ensures bytes { IfSome result (λ n. Consumes (R.remaining (inside_of self.old)) (R.remaining (inside_of self.new)) (take n buf.new)) }
-        ensures end { IfSome result (λ n. n ≡ 0 → IsAtEnd (R.remaining (inside_of self.new))) }
-        ensures rose { IfNone result (Rose (failures_of self.old) (failures_of self.new)) }
-        ensures kept { IfNone result (Keeps (R.remaining (inside_of self.old)) (R.remaining (inside_of self.new))) }
+        ensures bytes { IfSome result (λ n. Consumes (R.remaining (inner_of self.old)) (R.remaining (inner_of self.new)) (take n buf.new)) }
+        ensures end { IfSome result (λ n. n ≡ 0 → IsAtEnd (R.remaining (inner_of self.new))) }
+        ensures rose { IfNone result (FailuresRose (failures_of self.old) (failures_of self.new)) }
+        ensures kept { IfNone result (Keeps (R.remaining (inner_of self.old)) (R.remaining (inner_of self.new))) }
     {
-        if !self.starts_call() {
+        if !self.begin_call() {
             return None;
         }
         match self.inner.read(buf) {
@@ -107,7 +107,7 @@ impl<R: Read> Counted<R> {
 }
 
 impl<W: Write> Counted<W> {
-    ghost use Rattle.hls_io.specs.Counted.{calls_left, failures_of, inside_of};
+    ghost use Rattle.hls_io.specs.Counted.{calls_left, failures_of, inner_of};
 
     /// Writes the front of `buf`, which isn't empty, by one call, and gives the number of bytes
     /// taken, which is never 0. A failed call is `None` and counted; so is one that took no byte.
@@ -116,11 +116,11 @@ impl<W: Write> Counted<W> {
         ensures quiet { IsSome result → failures_of self.new ≡ failures_of self.old }
         ensures progress { IsSome result → calls_left self.new < calls_left self.old }
         ensures some { IfSome result (λ n. (0 < n) × (n ≤ length buf.now)) }
-        ensures bytes { IfSome result (λ n. Appends (W.contents (inside_of self.old)) (W.contents (inside_of self.new)) (take n buf.now)) }
-        ensures rose { IfNone result (Rose (failures_of self.old) (failures_of self.new)) }
-        ensures kept { IfNone result (Keeps (W.contents (inside_of self.old)) (W.contents (inside_of self.new))) }
+        ensures bytes { IfSome result (λ n. Appends (W.contents (inner_of self.old)) (W.contents (inner_of self.new)) (take n buf.now)) }
+        ensures rose { IfNone result (FailuresRose (failures_of self.old) (failures_of self.new)) }
+        ensures kept { IfNone result (Keeps (W.contents (inner_of self.old)) (W.contents (inner_of self.new))) }
     {
-        if !self.starts_call() {
+        if !self.begin_call() {
             return None;
         }
         match self.inner.write(buf) {

@@ -2,6 +2,7 @@
 #![tactic(auto)]
 
 pub use hls_catchup::{
-    Answered, Ending, Finished, Gate, Job, JobFault, JobTable, Jobs, Withheld, Work, answered,
-    certificate_text, job_line, master_text, playlist_text, reply_in, run_job, work_loop,
+    FilesUnavailable, Finished, Gate, Job, JobAnswer, JobFault, JobOutcome, JobTable, Jobs, Work,
+    answer_request, certificate_text, find_reply, master_text, playlist_text, run_job, work_loop,
+    write_job_line,
 };

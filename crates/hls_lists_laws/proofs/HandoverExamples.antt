@@ -7,23 +7,23 @@ use Rattle.hls_media_laws.specs.declared.facts.Facts.{Facts}
 use Rattle.hls_places_laws.specs.declared.place.Place.{Place}
 use Rattle.hls_places_laws.specs.Growth.{SourceGrows}
 use Rattle.hls_places_laws.specs.Sources.{source_at}
-use Rattle.hls_places_laws.specs.Since.{sources_since}
-use Rattle.hls_places_laws.specs.Line.Steps.{is_past, is_allowed, is_enough, is_at_gap}
+use Rattle.hls_places_laws.specs.FromPlace.{sources_since}
+use Rattle.hls_places_laws.specs.Line.Steps.{is_later_place, is_allowed, is_long_enough, is_at_gap}
 use Rattle.hls_places_laws.specs.Line.Cuts.{line_within}
-use Rattle.hls_places_laws.specs.Line.Since.{IsCutOf, IsBegunAt}
+use Rattle.hls_places_laws.specs.Line.FromCut.{IsCutOf, IsBegunAt}
 use Rattle.hls_core_laws.specs.declared.event.Entry.{Entry}
-use Rattle.hls_core_laws.specs.declared.event.Logged.TheVariants.{Begun, Accepted}
+use Rattle.hls_core_laws.specs.declared.event.LoggedEvent.TheVariants.{Begun, Accepted}
 use Rattle.hls_core_laws.specs.Config.{ConfigData}
 use Rattle.hls_core_laws.specs.Channel.{Lane, channel_from}
 use Rattle.hls_core_laws.specs.State.{State, channel}
 use Rattle.hls_core_laws.specs.Places.{sources}
-use Rattle.hls_core_laws.specs.Line.{aim_of}
-use Rattle.hls_m3u8.specs.declared.playlist.Segment.{Segment}
-use Rattle.hls_m3u8.specs.Forms.{live_list}
+use Rattle.hls_core_laws.specs.Line.{line_goal_of}
+use Rattle.hls_m3u8.specs.declared.playlist.MediaSegment.{MediaSegment}
+use Rattle.hls_m3u8.specs.PlaylistForms.{live_list}
 use Rattle.hls_m3u8.specs.Playlist.{Playlist}
 use Rattle.hls_lists_laws.specs.Origins.{LaneBegins}
 use Rattle.hls_lists_laws.specs.Handovers.{IsHandedOver, lane_from, unit_at}
-use Rattle.hls_lists_laws.specs.JoinedLists.{MayTakeOver, joined, offsets_of}
+use Rattle.hls_lists_laws.specs.JoinedLists.{MayTakeOver, joined_list, offsets_of}
 use Rattle.hls_lists_laws.specs.Live.{live_list_of}
 
 -- a channel of one rendition, whose segments are 4 seconds long
@@ -78,9 +78,9 @@ second = record {
 abbrev cut : Place
 cut = record { spots = record { fragment = 2; prev_end = 8000000; start = 9000000; run_in = 0; run_out = 1 } ∷ []; closing = false }
 
-is_cut : IsCutOf (aim_of config) (sources first) 2 cut
-unfolding channel_from line_within is_past is_allowed is_enough is_at_gap
-is_cut = record { within = omega arith; front = refl; goes_on = refl }
+is_cut : IsCutOf (line_goal_of config) (sources first) 2 cut
+unfolding channel_from line_within is_later_place is_allowed is_long_enough is_at_gap
+is_cut = record { within = omega arith; front = refl; not_ended = refl }
 
 -- a rendition's units from the cut on begin the second's
 abbrev lane_with : List Facts → Lane
@@ -113,7 +113,7 @@ is_begun_at = record { same = refl; each = each }
     each (suc r) below = absurd (omega arith)
 
 -- a segment of 4 seconds
-abbrev segment : Bool → ℕ → ℕ → Segment
+abbrev segment : Bool → ℕ → ℕ → MediaSegment
 segment mark offset len =
     record { mark = mark; date = None; us = 4000000; range = Some (record { length = len; offset = offset }); uri = codes "/media/0.mp4" }
 
@@ -126,11 +126,11 @@ second_list = live_list 6 0 0 (codes "/media/0.mp4") 700 (segment false 700 300 
     ∷ segment false 2500 700 ∷ []) false
 
 is_first_list : live_list_of first 0 ≡ Some first_list
-unfolding channel_from line_within is_past is_allowed is_enough is_at_gap digits
+unfolding channel_from line_within is_later_place is_allowed is_long_enough is_at_gap digits
 is_first_list = refl
 
 is_second_list : live_list_of second 0 ≡ Some second_list
-unfolding channel_from line_within is_past is_allowed is_enough is_at_gap digits
+unfolding channel_from line_within is_later_place is_allowed is_long_enough is_at_gap digits
 is_second_list = refl
 
 -- the second's list is three target durations long, and further than the first's
@@ -138,7 +138,7 @@ may_take_over : MayTakeOver 2 first_list second_list
 may_take_over = record { begins = omega arith; meets = omega arith; is_as_far = omega arith; long = λ further live. omega arith; ended = λ ended. cc }
 
 -- with the constants added it goes on where the first's does
-joins : joined (offsets_of first 2 cut 0 of_first) second_list ≡ live_list 6 2 0 (codes "/media/0.mp4") 700
+joins : joined_list (offsets_of first 2 cut 0 of_first) second_list ≡ live_list 6 2 0 (codes "/media/0.mp4") 700
     (segment true 1000 300 ∷ segment false 1300 400 ∷ segment false 1700 500 ∷ segment false 2200 600 ∷ segment false 2800 700 ∷ []) false
-unfolding channel_from line_within is_past is_allowed is_enough is_at_gap
+unfolding channel_from line_within is_later_place is_allowed is_long_enough is_at_gap
 joins = refl

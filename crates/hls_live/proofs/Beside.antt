@@ -7,10 +7,10 @@ use Rattle.std.proofs.lemmas.List.{length-append, length-drop, drop-append-le, d
 use Rattle.std.proofs.lemmas.List.Sums.{sum_by-append}
 use Rattle.std.proofs.Math.Seq.{take-length, drop-length}
 use Rattle.hls_live.proofs.Cited.{at_snoc, at_drop, marks-append, marks-add}
-use Rattle.hls_places_laws.specs.declared.line.segment.Segment.{Segment}
-use Rattle.hls_places_laws.specs.Line.Lengths.{length_in, left_in, is_marked, marks_in}
-use Rattle.hls_live.specs.declared.sums.Sums.{Sums}
-use Rattle.hls_live.specs.Sums.{IsLonger, IsSumsTo, AreSums, last_of, lengths_of, marks_of, IsNext}
+use Rattle.hls_places_laws.specs.declared.line.live_segment.LiveSegment.{LiveSegment}
+use Rattle.hls_places_laws.specs.Line.Lengths.{length_in, remaining_length, is_marked, marks_in}
+use Rattle.hls_live.specs.declared.prefix_sums.PrefixSums.{PrefixSums}
+use Rattle.hls_live.specs.PrefixSums.{AreExtendedLengths, IsSumsTo, AreSums, last_of, lengths_of, marks_of, IsSumsAfter}
 use Rattle.hls_check_laws.specs.Steps.{cost_limit}
 
 pub at-there : {A : Type 0} (xs : List A) (m : ℕ) → m < length xs → (x : A) × (slice_get xs m ≡ Some x)
@@ -26,7 +26,7 @@ no-items [] count = refl
 no-items (x ∷ xs) count = absurd (omega (arith, count))
 
 -- the last one's number
-last-at : (sums : List Sums) (m : ℕ) (t : Sums) → length sums ≡ suc m → slice_get sums m ≡ Some t → last_of sums ≡ Some t
+last-at : (sums : List PrefixSums) (m : ℕ) (t : PrefixSums) → length sums ≡ suc m → slice_get sums m ≡ Some t → last_of sums ≡ Some t
 last-at sums m t count at =
     let number : length sums - 1 ≡ m = omega (arith, count) in
     ap (slice_get sums) number ∙ at
@@ -34,12 +34,12 @@ last-at sums m t count at =
 pub sums-none : (first breaks renditions : ℕ) → AreSums first breaks renditions [] []
 sums-none first breaks renditions = record {
   count = refl;
-  each = λ k s at. absurd (omega (arith, slice_get_within {A = Sums} [] k s at));
+  each = λ k s at. absurd (omega (arith, slice_get_within {A = PrefixSums} [] k s at));
   rest = λ k last r s t at also count within. absurd (omega (arith, count));
 }
 
 -- one more segment
-longer-small : (before : List ℕ) (segment : Segment) (lengths : List ℕ) (n : ℕ) → IsLonger before segment lengths →
+longer-small : (before : List ℕ) (segment : LiveSegment) (lengths : List ℕ) (n : ℕ) → AreExtendedLengths before segment lengths →
     ((r : ℕ) → get_or before r 0 ≤ n * cost_limit) → ((r : ℕ) → length_in r segment ≤ cost_limit) → (r : ℕ) →
     get_or lengths r 0 ≤ suc n * cost_limit
 longer-small before segment lengths n longer past short r =
@@ -53,18 +53,18 @@ no-lengths : (r n : ℕ) → get_or {A = ℕ} [] r 0 ≤ n * cost_limit
 no-lengths r n = omega arith
 
 -- what is known of the last sums: all is 0 before the first segment
-pub record IsLast (first breaks renditions : ℕ) (segments : List Segment) (sums : List Sums) : Type 0 where
+pub record IsLast (first breaks renditions : ℕ) (segments : List LiveSegment) (sums : List PrefixSums) : Type 0 where
   pub marks : marks_of breaks (last_of sums) ≡ breaks + marks_in (length segments) segments
   pub small : (r : ℕ) → get_or (lengths_of (last_of sums)) r 0 ≤ (first + length segments) * cost_limit
 
-no-segments : (first breaks renditions : ℕ) (segments : List Segment) (sums : List Sums) → segments ≡ [] → sums ≡ [] →
+no-segments : (first breaks renditions : ℕ) (segments : List LiveSegment) (sums : List PrefixSums) → segments ≡ [] → sums ≡ [] →
     IsLast first breaks renditions segments sums
 no-segments first breaks renditions segments sums no_segment no_sums = rw (no_segment, no_sums) (record {
   marks = omega arith;
   small = λ r. omega arith;
 })
 
-is-last : (first breaks renditions : ℕ) (segments : List Segment) (sums : List Sums) (n : ℕ) → n ≡ length segments →
+is-last : (first breaks renditions : ℕ) (segments : List LiveSegment) (sums : List PrefixSums) (n : ℕ) → n ≡ length segments →
     AreSums first breaks renditions segments sums → IsLast first breaks renditions segments sums
 is-last first breaks renditions segments sums zero n_is are =
     no-segments first breaks renditions segments sums (no-items segments (sym n_is)) (no-items sums (are.count ∙ sym n_is))
@@ -74,42 +74,42 @@ is-last first breaks renditions segments sums (suc m) n_is are =
     let is = last-at sums m last.0 (are.count ∙ sym n_is) last.1 in
     record {
       marks = ap (marks_of breaks) is ∙ (to.marks ∙ ap (λ (n : ℕ). breaks + marks_in n segments) n_is);
-      small = λ r. omega (arith, ap (λ (o : Option Sums). get_or (lengths_of o) r 0) is, to.small r, n_is);
+      small = λ r. omega (arith, ap (λ (o : Option PrefixSums). get_or (lengths_of o) r 0) is, to.small r, n_is);
     }
 
-pub last-known : (first breaks renditions : ℕ) (segments : List Segment) (sums : List Sums) →
+pub last-known : (first breaks renditions : ℕ) (segments : List LiveSegment) (sums : List PrefixSums) →
     AreSums first breaks renditions segments sums → IsLast first breaks renditions segments sums
 last-known first breaks renditions segments sums are = is-last first breaks renditions segments sums (length segments) refl are
 
-left-append : (r n : ℕ) (segments : List Segment) (segment : Segment) → n ≤ length segments →
-    left_in r (segments ++ segment ∷ []) n ≡ left_in r segments n + length_in r segment
+left-append : (r n : ℕ) (segments : List LiveSegment) (segment : LiveSegment) → n ≤ length segments →
+    remaining_length r (segments ++ segment ∷ []) n ≡ remaining_length r segments n + length_in r segment
 left-append r n segments segment few =
-    let parts : left_in r (segments ++ segment ∷ []) n ≡ sum_by (length_in r) (drop n segments ++ segment ∷ []) =
+    let parts : remaining_length r (segments ++ segment ∷ []) n ≡ sum_by (length_in r) (drop n segments ++ segment ∷ []) =
     ap (sum_by (length_in r)) (drop-append-le n segments (segment ∷ []) few) in
     let both = sum_by-append (length_in r) (drop n segments) (segment ∷ []) in
     let one : sum_by (length_in r) (segment ∷ []) ≡ length_in r segment = zero-add _ in
     parts ∙ (both ∙ ap (λ (x : ℕ). sum_by (length_in r) (drop n segments) + x) one)
 
-marks-all : (segments : List Segment) (segment : Segment) →
+marks-all : (segments : List LiveSegment) (segment : LiveSegment) →
     marks_in (suc (length segments)) (segments ++ segment ∷ []) ≡ marks_in (length segments) segments + cond segment.mark 1 0
 marks-all segments segment =
     let longer : suc (length segments) ≡ length (segments ++ segment ∷ []) = omega (arith, length-append segments (segment ∷ [])) in
     let all : marks_in (suc (length segments)) (segments ++ segment ∷ []) ≡ count_by is_marked (segments ++ segment ∷ []) =
     ap (λ (n : ℕ). marks_in n (segments ++ segment ∷ [])) longer
     ∙ ap (count_by is_marked) (take-length (segments ++ segment ∷ [])) in
-    let both = sum_by-append (λ (x : Segment). cond (is_marked x) 1 0) segments (segment ∷ []) in
-    let one : sum_by (λ (x : Segment). cond (is_marked x) 1 0) (segment ∷ []) ≡ cond segment.mark 1 0 = zero-add _ in
-    let before : marks_in (length segments) segments ≡ sum_by (λ (x : Segment). cond (is_marked x) 1 0) segments =
+    let both = sum_by-append (λ (x : LiveSegment). cond (is_marked x) 1 0) segments (segment ∷ []) in
+    let one : sum_by (λ (x : LiveSegment). cond (is_marked x) 1 0) (segment ∷ []) ≡ cond segment.mark 1 0 = zero-add _ in
+    let before : marks_in (length segments) segments ≡ sum_by (λ (x : LiveSegment). cond (is_marked x) 1 0) segments =
     ap (count_by is_marked) (take-length segments) in
-    all ∙ (both ∙ (ap (λ (x : ℕ). sum_by (λ (y : Segment). cond (is_marked y) 1 0) segments + x) one
+    all ∙ (both ∙ (ap (λ (x : ℕ). sum_by (λ (y : LiveSegment). cond (is_marked y) 1 0) segments + x) one
     ∙ ap (λ (x : ℕ). x + cond segment.mark 1 0) (sym before)))
 
-left-none : (r : ℕ) (segments : List Segment) (n : ℕ) → n ≡ length segments → left_in r segments n ≡ 0
-left-none r segments n n_is = ap (λ (m : ℕ). left_in r segments m) n_is ∙ ap (sum_by (length_in r)) (drop-length segments)
+left-none : (r : ℕ) (segments : List LiveSegment) (n : ℕ) → n ≡ length segments → remaining_length r segments n ≡ 0
+left-none r segments n n_is = ap (λ (m : ℕ). remaining_length r segments m) n_is ∙ ap (sum_by (length_in r)) (drop-length segments)
 
-pushed-each : (first breaks renditions : ℕ) (segments : List Segment) (sums : List Sums) (segment : Segment) (next : Sums) →
-    AreSums first breaks renditions segments sums → IsNext breaks sums segment next → length segment.from.spots ≡ renditions →
-    ((r : ℕ) → length_in r segment ≤ cost_limit) → (k : ℕ) (s : Sums) → slice_get (sums ++ next ∷ []) k ≡ Some s →
+pushed-each : (first breaks renditions : ℕ) (segments : List LiveSegment) (sums : List PrefixSums) (segment : LiveSegment) (next : PrefixSums) →
+    AreSums first breaks renditions segments sums → IsSumsAfter breaks sums segment next → length segment.from.spots ≡ renditions →
+    ((r : ℕ) → length_in r segment ≤ cost_limit) → (k : ℕ) (s : PrefixSums) → slice_get (sums ++ next ∷ []) k ≡ Some s →
     IsSumsTo first breaks renditions (segments ++ segment ∷ []) k s
 pushed-each first breaks renditions segments sums segment next are is same short k s at =
     elim (at_snoc sums next k s at) [
@@ -129,23 +129,23 @@ pushed-each first breaks renditions segments sums segment next are is same short
           })
     ]
 
-rest-known : (first breaks renditions : ℕ) (segments : List Segment) (sums : List Sums) (segment : Segment) (next : Sums) →
-    AreSums first breaks renditions segments sums → IsNext breaks sums segment next → length segment.from.spots ≡ renditions →
-    (k m r : ℕ) (s : Sums) → slice_get sums k ≡ Some s → length segments ≡ suc m → r < renditions →
-    get_or s.lengths.items r 0 + left_in r (segments ++ segment ∷ []) (suc k) ≡ get_or next.lengths.items r 0
+rest-known : (first breaks renditions : ℕ) (segments : List LiveSegment) (sums : List PrefixSums) (segment : LiveSegment) (next : PrefixSums) →
+    AreSums first breaks renditions segments sums → IsSumsAfter breaks sums segment next → length segment.from.spots ≡ renditions →
+    (k m r : ℕ) (s : PrefixSums) → slice_get sums k ≡ Some s → length segments ≡ suc m → r < renditions →
+    get_or s.lengths.items r 0 + remaining_length r (segments ++ segment ∷ []) (suc k) ≡ get_or next.lengths.items r 0
 rest-known first breaks renditions segments sums segment next are is same k m r s at count within =
     let last = at-last sums m (are.count ∙ count) in
     let known = are.rest k m r s last.0 at last.1 (sym count) within in
     let few : suc k ≤ length segments = omega (arith, slice_get_within sums k s at, are.count) in
     let past : get_or (lengths_of (last_of sums)) r 0 ≡ get_or last.0.lengths.items r 0 =
-    ap (λ (o : Option Sums). get_or (lengths_of o) r 0) (last-at sums m last.0 (are.count ∙ count) last.1) in
+    ap (λ (o : Option PrefixSums). get_or (lengths_of o) r 0) (last-at sums m last.0 (are.count ∙ count) last.1) in
     omega (arith, known, left-append r (suc k) segments segment few, is.lengths.each r (omega (arith, same, within)), past)
 
-pushed-rest : (first breaks renditions : ℕ) (segments : List Segment) (sums : List Sums) (segment : Segment) (next : Sums) →
-    AreSums first breaks renditions segments sums → IsNext breaks sums segment next → length segment.from.spots ≡ renditions →
-    (k last r : ℕ) (s t : Sums) → slice_get (sums ++ next ∷ []) k ≡ Some s → slice_get (sums ++ next ∷ []) last ≡ Some t →
+pushed-rest : (first breaks renditions : ℕ) (segments : List LiveSegment) (sums : List PrefixSums) (segment : LiveSegment) (next : PrefixSums) →
+    AreSums first breaks renditions segments sums → IsSumsAfter breaks sums segment next → length segment.from.spots ≡ renditions →
+    (k last r : ℕ) (s t : PrefixSums) → slice_get (sums ++ next ∷ []) k ≡ Some s → slice_get (sums ++ next ∷ []) last ≡ Some t →
     suc last ≡ length (segments ++ segment ∷ []) → r < renditions →
-    get_or s.lengths.items r 0 + left_in r (segments ++ segment ∷ []) (suc k) ≡ get_or t.lengths.items r 0
+    get_or s.lengths.items r 0 + remaining_length r (segments ++ segment ∷ []) (suc k) ≡ get_or t.lengths.items r 0
 pushed-rest first breaks renditions segments sums segment next are is same k last r s t at also count within =
     let longer = length-append segments (segment ∷ []) in
     elim (at_snoc sums next last t also) [
@@ -161,8 +161,8 @@ pushed-rest first breaks renditions segments sums segment next are is same k las
       ]
     ]
 
-pub sums-pushed : (first breaks renditions : ℕ) (segments : List Segment) (sums : List Sums) (segment : Segment) (next : Sums) →
-    AreSums first breaks renditions segments sums → IsNext breaks sums segment next → length segment.from.spots ≡ renditions →
+pub sums-pushed : (first breaks renditions : ℕ) (segments : List LiveSegment) (sums : List PrefixSums) (segment : LiveSegment) (next : PrefixSums) →
+    AreSums first breaks renditions segments sums → IsSumsAfter breaks sums segment next → length segment.from.spots ≡ renditions →
     ((r : ℕ) → length_in r segment ≤ cost_limit) → AreSums first breaks renditions (segments ++ segment ∷ []) (sums ++ next ∷ [])
 sums-pushed first breaks renditions segments sums segment next are is same short = record {
   count = omega (arith, length-append sums (next ∷ []), length-append segments (segment ∷ []), are.count);
@@ -171,7 +171,7 @@ sums-pushed first breaks renditions segments sums segment next are is same short
 }
 
 -- without the front
-pub sums-dropped : (first breaks renditions n : ℕ) (segments : List Segment) (sums : List Sums) → n ≤ length segments →
+pub sums-dropped : (first breaks renditions n : ℕ) (segments : List LiveSegment) (sums : List PrefixSums) → n ≤ length segments →
     AreSums first breaks renditions segments sums →
     AreSums (first + n) (breaks + marks_in n segments) renditions (drop n segments) (drop n sums)
 sums-dropped first breaks renditions n segments sums few are =
@@ -192,7 +192,7 @@ sums-dropped first breaks renditions n segments sums few are =
           let known = are.rest (n + k) (n + last) r s t (sym (at_drop sums n k) ∙ at) (sym (at_drop sums n last) ∙ also)
           (omega (arith, all, count, few)) within in
           let number : n + suc k ≡ suc (n + k) = omega arith in
-          let left : left_in r (drop n segments) (suc k) ≡ left_in r segments (suc (n + k)) =
-          ap (sum_by (length_in r)) (drop-drop (suc k) n segments) ∙ ap (λ (m : ℕ). left_in r segments m) number in
+          let left : remaining_length r (drop n segments) (suc k) ≡ remaining_length r segments (suc (n + k)) =
+          ap (sum_by (length_in r)) (drop-drop (suc k) n segments) ∙ ap (λ (m : ℕ). remaining_length r segments m) number in
           omega (arith, known, left);
     }

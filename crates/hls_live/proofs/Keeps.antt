@@ -9,29 +9,29 @@ use Rattle.hls_blocks.specs.Numbered.{list_limit}
 use Rattle.hls_check_laws.specs.Tables.{spot_in, no_spot, target_limit}
 use Rattle.hls_check_laws.specs.declared.spot.Spot.{Spot}
 use Rattle.hls_places_laws.specs.declared.place.Place.{Place}
-use Rattle.hls_places_laws.specs.declared.line.aim.Aim.{Aim}
-use Rattle.hls_places_laws.specs.declared.line.segment.Segment.{Segment}
-use Rattle.hls_places_laws.specs.declared.line.opening.Opening.{Opening}
+use Rattle.hls_places_laws.specs.declared.line.goal.LineGoal.{LineGoal}
+use Rattle.hls_places_laws.specs.declared.line.live_segment.LiveSegment.{LiveSegment}
+use Rattle.hls_places_laws.specs.declared.line.segment_start.SegmentStart.{SegmentStart}
 use Rattle.hls_places_laws.specs.Line.Steps.{is_allowed}
-use Rattle.hls_places_laws.specs.Line.Cuts.{resumed}
-use Rattle.hls_places_laws.specs.Line.Live.{slid}
-use Rattle.hls_places_laws.specs.Line.Lengths.{length_in, left_in, marks_in, renditions_of, each_below}
+use Rattle.hls_places_laws.specs.Line.Cuts.{start_at}
+use Rattle.hls_places_laws.specs.Line.Live.{without_front}
+use Rattle.hls_places_laws.specs.Line.Lengths.{length_in, remaining_length, marks_in, renditions_of, each_below}
 use Rattle.hls_live.proofs.Cited.{step-from_allowed}
-use Rattle.hls_live.specs.declared.sums.Sums.{Sums}
-use Rattle.hls_live.specs.declared.line.LiveLine.TheInside.{Inside}
-use Rattle.hls_live.specs.declared.kept.Kept.{Kept}
-use Rattle.hls_live.specs.Sums.{AreSums, last_of, lengths_of, marks_of}
-use Rattle.hls_live.specs.Keeps.{AreBeside, IsWithout, IsWith}
-use Rattle.hls_live.specs.Sound.{seen, AreKept, IsSound}
-use Rattle.hls_live.specs.Tries.{with_kept}
+use Rattle.hls_live.specs.declared.prefix_sums.PrefixSums.{PrefixSums}
+use Rattle.hls_live.specs.declared.live_line.LiveLine.TheInside.{Inside}
+use Rattle.hls_live.specs.declared.kept_segments.KeptSegments.{KeptSegments}
+use Rattle.hls_live.specs.PrefixSums.{AreSums, last_of, lengths_of, marks_of}
+use Rattle.hls_live.specs.KeptSegments.{AreAligned, HasDroppedSegments, HasPushedSegment}
+use Rattle.hls_live.specs.Model.{model_of, AreKept, IsSoundLine}
+use Rattle.hls_live.specs.Advances.{with_kept}
 use Rattle.hls_live.proofs.Beside.{at-there, sums-none, last-known, sums-pushed, sums-dropped}
 use Rattle.hls_check_laws.specs.Steps.{cost_limit}
 
 -- a segment that is allowed is short, in every rendition
-pub allowed-short : (aim : Aim) (o q : Place) → aim.target ≤ target_limit → is_allowed aim o q ≡ true → (r : ℕ) →
+pub allowed-short : (line_goal : LineGoal) (o q : Place) → line_goal.target ≤ target_limit → is_allowed line_goal o q ≡ true → (r : ℕ) →
     (spot_in q.spots r).prev_end - (spot_in o.spots r).start ≤ cost_limit
-allowed-short aim o q target allowed r =
-    let step = step-from_allowed aim o q allowed in
+allowed-short line_goal o q target allowed r =
+    let step = step-from_allowed line_goal o q allowed in
     let either : (r < length o.spots) ⊎ (length o.spots ≤ r) = grind arith in
     elim either [
       | inl within ↦ omega (arith, (step.step r within).fits, target)
@@ -42,7 +42,7 @@ allowed-short aim o q target allowed r =
     ]
 
 -- an open place beside segments
-sums-renamed : (first breaks before after : ℕ) (segments : List Segment) (sums : List Sums) →
+sums-renamed : (first breaks before after : ℕ) (segments : List LiveSegment) (sums : List PrefixSums) →
     (0 < length segments → after ≡ before) → AreSums first breaks before segments sums → AreSums first breaks after segments sums
 sums-renamed first breaks before after [] [] same are = sums-none first breaks after
 sums-renamed first breaks before after [] (s ∷ sums) same are = absurd (omega (arith, are.count))
@@ -50,34 +50,34 @@ sums-renamed first breaks before after (x ∷ segments) sums same are =
     let is : after ≡ before = same (omega arith) in
     subst (λ (n : ℕ). AreSums first breaks n (x ∷ segments) sums) (sym is) are
 
-pub opened-sound : (i : Inside) (kept : Kept) (opening : Opening) (best : Option Place) →
-    IsSound i → kept ≡ i.kept → 0 < length opening.place.spots →
-    (0 < length i.kept.segments.items → length opening.place.spots ≡ renditions_of i.open_at) →
-    ((b : Place) → best ≡ Some b → is_allowed i.aim opening.place b ≡ true) →
-    IsSound (record { aim = i.aim; kept = kept; open_at = Some opening; best = best })
-opened-sound i kept opening best sound kept_is some same reached = rw (kept_is) (record {
+pub opened-sound : (i : Inside) (kept : KeptSegments) (start : SegmentStart) (best : Option Place) →
+    IsSoundLine i → kept ≡ i.kept → 0 < length start.place.spots →
+    (0 < length i.kept.segments.items → length start.place.spots ≡ renditions_of i.segment_start) →
+    ((b : Place) → best ≡ Some b → is_allowed i.line_goal start.place b ≡ true) →
+    IsSoundLine (record { line_goal = i.line_goal; kept = kept; segment_start = Some start; best = best })
+opened-sound i kept start best sound kept_is some same reached = rw (kept_is) (record {
   target = sound.target;
   kept = record {
     first = sound.kept.first;
-    sums = sums-renamed i.kept.segments.first i.kept.breaks (renditions_of i.open_at) (length opening.place.spots) i.kept.segments.items i.kept.sums.items
+    sums = sums-renamed i.kept.segments.first i.kept.breaks (renditions_of i.segment_start) (length start.place.spots) i.kept.segments.items i.kept.sums.items
         same sound.kept.sums;
     breaks = sound.kept.breaks;
   };
   no_segment = λ e. absurd (cc);
   some = λ o e.
-      let is : opening ≡ o = same_Some opening o e in
-      subst (λ (x : Opening). 0 < length x.place.spots) is some;
+      let is : start ≡ o = same_Some start o e in
+      subst (λ (x : SegmentStart). 0 < length x.place.spots) is some;
   no_best = λ e. absurd (cc);
   best = λ o b e best_is.
-      let is : opening ≡ o = same_Some opening o e in
-      subst (λ (x : Opening). is_allowed i.aim x.place b ≡ true) is (reached b best_is);
+      let is : start ≡ o = same_Some start o e in
+      subst (λ (x : SegmentStart). is_allowed i.line_goal x.place b ≡ true) is (reached b best_is);
 })
 
 -- other segments
-pub held-sound : (i : Inside) (kept : Kept) (open_at : Option Opening) (best : Option Place) → IsSound i →
-    AreKept (renditions_of i.open_at) kept → (i.open_at ≡ None → kept.segments.items ≡ []) → open_at ≡ i.open_at → best ≡ i.best →
-    IsSound (record { aim = i.aim; kept = kept; open_at = open_at; best = best })
-held-sound i kept open_at best sound are none open_is best_is = rw (open_is, best_is) (record {
+pub held-sound : (i : Inside) (kept : KeptSegments) (segment_start : Option SegmentStart) (best : Option Place) → IsSoundLine i →
+    AreKept (renditions_of i.segment_start) kept → (i.segment_start ≡ None → kept.segments.items ≡ []) → segment_start ≡ i.segment_start → best ≡ i.best →
+    IsSoundLine (record { line_goal = i.line_goal; kept = kept; segment_start = segment_start; best = best })
+held-sound i kept segment_start best sound are none open_is best_is = rw (open_is, best_is) (record {
   target = sound.target;
   kept = are;
   no_segment = none;
@@ -87,11 +87,11 @@ held-sound i kept open_at best sound are none open_is best_is = rw (open_is, bes
 })
 
 -- sums stand beside segments
-pub are-beside : (renditions : ℕ) (k : Kept) → AreKept renditions k → AreBeside k
-are-beside renditions k are = record { first = are.first; count = are.sums.count }
+pub are-aligned : (renditions : ℕ) (k : KeptSegments) → AreKept renditions k → AreAligned k
+are-aligned renditions k are = record { first = are.first; count = are.sums.count }
 
 -- a segment more
-pub with-kept : (renditions : ℕ) (k after : Kept) (segment : Segment) → AreKept renditions k → IsWith segment k after →
+pub with-kept : (renditions : ℕ) (k after : KeptSegments) (segment : LiveSegment) → AreKept renditions k → HasPushedSegment segment k after →
     length segment.from.spots ≡ renditions → ((r : ℕ) → length_in r segment ≤ cost_limit) → AreKept renditions after
 with-kept renditions k after segment are is same short =
     rw (is.segments, is.sums, is.breaks) (record {
@@ -100,50 +100,50 @@ with-kept renditions k after segment are is same short =
       breaks = are.breaks;
     })
 
-pub closed-sound : (i : Inside) (o : Opening) (to : Place) (segment : Segment) (kept : Kept) (opening : Opening) →
-    IsSound i → i.open_at ≡ Some o → is_allowed i.aim o.place to ≡ true → segment.from ≡ o.place → segment.to ≡ to →
-    IsWith segment i.kept kept → opening ≡ resumed to → IsSound (record { aim = i.aim; kept = kept; open_at = Some opening; best = None })
-closed-sound i o to segment kept opening sound at allowed from_is to_is is opening_is =
-    let step = step-from_allowed i.aim o.place to allowed in
-    let before : length segment.from.spots ≡ renditions_of i.open_at =
+pub closed-sound : (i : Inside) (o : SegmentStart) (to : Place) (segment : LiveSegment) (kept : KeptSegments) (start : SegmentStart) →
+    IsSoundLine i → i.segment_start ≡ Some o → is_allowed i.line_goal o.place to ≡ true → segment.from ≡ o.place → segment.to ≡ to →
+    HasPushedSegment segment i.kept kept → start ≡ start_at to → IsSoundLine (record { line_goal = i.line_goal; kept = kept; segment_start = Some start; best = None })
+closed-sound i o to segment kept start sound at allowed from_is to_is is opening_is =
+    let step = step-from_allowed i.line_goal o.place to allowed in
+    let before : length segment.from.spots ≡ renditions_of i.segment_start =
     ap (λ (p : Place). length p.spots) from_is ∙ sym (ap renditions_of at) in
-    let after : renditions_of i.open_at ≡ length to.spots = ap renditions_of at ∙ sym step.same in
+    let after : renditions_of i.segment_start ≡ length to.spots = ap renditions_of at ∙ sym step.same in
     let short : (r : ℕ) → length_in r segment ≤ cost_limit =
-    λ r. rw (from_is, to_is) (allowed-short i.aim o.place to sound.target allowed r) in
-    let pushed = with-kept (renditions_of i.open_at) i.kept kept segment sound.kept is before short in
+    λ r. rw (from_is, to_is) (allowed-short i.line_goal o.place to sound.target allowed r) in
+    let pushed = with-kept (renditions_of i.segment_start) i.kept kept segment sound.kept is before short in
     let some : 0 < length to.spots = omega (arith, sound.some o at, step.same) in
     rw (opening_is) (record {
       target = sound.target;
       kept = subst (λ (n : ℕ). AreKept n kept) after pushed;
       no_segment = λ e. absurd (cc);
       some = λ x e.
-          let same : resumed to ≡ x = same_Some (resumed to) x e in
-          subst (λ (y : Opening). 0 < length y.place.spots) same some;
+          let same : start_at to ≡ x = same_Some (start_at to) x e in
+          subst (λ (y : SegmentStart). 0 < length y.place.spots) same some;
       no_best = λ e. absurd (cc);
       best = λ x b e best_is. absurd (cc);
     })
 
 -- no more marks than segments
-marks-few : (n : ℕ) (segments : List Segment) → n ≤ length segments → marks_in n segments ≤ n
+marks-few : (n : ℕ) (segments : List LiveSegment) → n ≤ length segments → marks_in n segments ≤ n
 marks-few n segments few =
-    let counted : marks_in n segments ≤ length (take n segments) = count_by-le-length (λ (x : Segment). x.mark) (take n segments) in
+    let counted : marks_in n segments ≤ length (take n segments) = count_by-le-length (λ (x : LiveSegment). x.mark) (take n segments) in
     omega (arith, counted, length-take-le n segments few)
 
 -- the sums before it
-pub last-few : (renditions : ℕ) (k : Kept) → AreKept renditions k → k.segments.first + length k.segments.items < list_limit →
+pub last-few : (renditions : ℕ) (k : KeptSegments) → AreKept renditions k → k.segments.first + length k.segments.items < list_limit →
     marks_of k.breaks (last_of k.sums.items) ≤ list_limit
 last-few renditions k are room =
     let known = last-known k.segments.first k.breaks renditions k.segments.items k.sums.items are.sums in
     omega (arith, known.marks, marks-few (length k.segments.items) k.segments.items (omega arith), are.breaks, room)
 
-pub last-small : (renditions : ℕ) (k : Kept) → AreKept renditions k → k.segments.first + length k.segments.items < list_limit → (r : ℕ) →
+pub last-small : (renditions : ℕ) (k : KeptSegments) → AreKept renditions k → k.segments.first + length k.segments.items < list_limit → (r : ℕ) →
     get_or (lengths_of (last_of k.sums.items)) r 0 ≤ 1152921504606846976
 last-small renditions k are room r =
     let known = last-known k.segments.first k.breaks renditions k.segments.items k.sums.items are.sums in
     omega (arith, known.small r, room)
 
 -- what stands beside the last of the segments that go
-last-gone : (renditions n : ℕ) (k after : Kept) → AreKept renditions k → 0 < n → n ≤ length k.segments.items → IsWithout n k after →
+last-gone : (renditions n : ℕ) (k after : KeptSegments) → AreKept renditions k → 0 < n → n ≤ length k.segments.items → HasDroppedSegments n k after →
     after.breaks ≡ k.breaks + marks_in n k.segments.items
 last-gone renditions n k after are some few is =
     let m : ℕ = n - 1 in
@@ -153,8 +153,8 @@ last-gone renditions n k after are some few is =
     is.breaks ∙ (ap (marks_of 0) last.1 ∙ (to.marks ∙ ap (λ (j : ℕ). k.breaks + marks_in j k.segments.items) n_is))
 
 -- some segments less
-pub without-kept : (renditions n : ℕ) (k after : Kept) → AreKept renditions k → 0 < n → n ≤ length k.segments.items →
-    IsWithout n k after → AreKept renditions after
+pub without-kept : (renditions n : ℕ) (k after : KeptSegments) → AreKept renditions k → 0 < n → n ≤ length k.segments.items →
+    HasDroppedSegments n k after → AreKept renditions after
 without-kept renditions n k after are some few is =
     let at : ℕ = k.segments.first + n in
     let marks = last-gone renditions n k after are some few is in
@@ -171,29 +171,29 @@ without-kept renditions n k after are some few is =
     })
 
 -- the line without some of its segments
-pub slid-is : (i : Inside) (n : ℕ) (after : Kept) → IsSound i → 0 < n → n ≤ length i.kept.segments.items → IsWithout n i.kept after →
-    with_kept (seen i) after ≡ slid n (seen i)
+pub slid-is : (i : Inside) (n : ℕ) (after : KeptSegments) → IsSoundLine i → 0 < n → n ≤ length i.kept.segments.items → HasDroppedSegments n i.kept after →
+    with_kept (model_of i) after ≡ without_front n (model_of i)
 slid-is i n after sound some few is =
     let from : i.kept.segments.first + n - i.kept.segments.first ≡ n = omega arith in
     let segments_from : after.segments ≡ record { first = i.kept.segments.first + n; items = drop n i.kept.segments.items } =
     is.segments ∙ ap (λ (j : ℕ). record { first = i.kept.segments.first + n; items = drop j i.kept.segments.items }) from in
-    let marks = last-gone (renditions_of i.open_at) n i.kept after sound.kept some few is in
+    let marks = last-gone (renditions_of i.segment_start) n i.kept after sound.kept some few is in
     rw (segments_from, marks) refl
 
 -- while segments are kept, the line is of some renditions
-pub renditions-some : (o : Option Opening) (segments : List Segment) → (o ≡ None → segments ≡ []) →
-    ((x : Opening) → o ≡ Some x → 0 < length x.place.spots) → 0 < length segments → 0 < renditions_of o
+pub renditions-some : (o : Option SegmentStart) (segments : List LiveSegment) → (o ≡ None → segments ≡ []) →
+    ((x : SegmentStart) → o ≡ Some x → 0 < length x.place.spots) → 0 < length segments → 0 < renditions_of o
 renditions-some None segments none some kept = absurd (omega (arith, ap length (none refl), kept))
 renditions-some (Some x) segments none some kept = some x refl
 
 -- what is left is told by two of the sums
-pub left-told : (renditions : ℕ) (k : Kept) (r n at last : ℕ) (s t : Sums) → AreKept renditions k → 0 < n → n ≤ length k.segments.items →
+pub left-progress : (renditions : ℕ) (k : KeptSegments) (r n at last : ℕ) (s t : PrefixSums) → AreKept renditions k → 0 < n → n ≤ length k.segments.items →
     r < renditions → at ≡ n - 1 → slice_get k.sums.items at ≡ Some s →
     last ≡ length k.segments.items - 1 → slice_get k.sums.items last ≡ Some t →
-    get_or s.lengths.items r 0 + left_in r k.segments.items n ≡ get_or t.lengths.items r 0
-left-told renditions k r n at last s t are some few within at_is s_at last_is t_at =
+    get_or s.lengths.items r 0 + remaining_length r k.segments.items n ≡ get_or t.lengths.items r 0
+left-progress renditions k r n at last s t are some few within at_is s_at last_is t_at =
     let n_is : suc at ≡ n = omega (arith, at_is, some) in
-    subst (λ (j : ℕ). get_or s.lengths.items r 0 + left_in r k.segments.items j ≡ get_or t.lengths.items r 0) n_is
+    subst (λ (j : ℕ). get_or s.lengths.items r 0 + remaining_length r k.segments.items j ≡ get_or t.lengths.items r 0) n_is
     (are.sums.rest at last r s t s_at t_at (omega (arith, last_is, some, few)) within)
 
 -- a test of each number below a bound, one more, and one that fails

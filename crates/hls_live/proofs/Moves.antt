@@ -3,32 +3,32 @@ use Rattle.std.proofs.Common.{◌≡◌, ℕ, Bool, true, false, not, List, Opti
 use Rattle.std.specs.Prelude.{◌&&◌}
 use Rattle.std.proofs.lemmas.Bool.{cases_Bool, cond-true, cond-false}
 use Rattle.hls_places_laws.specs.declared.place.Place.{Place}
-use Rattle.hls_places_laws.specs.declared.line.aim.Aim.{Aim}
-use Rattle.hls_places_laws.specs.declared.line.segment.Segment.{Segment}
-use Rattle.hls_places_laws.specs.declared.line.opening.Opening.{Opening}
-use Rattle.hls_places_laws.specs.Line.Steps.{is_past, is_allowed, is_enough}
-use Rattle.hls_places_laws.specs.Line.Cuts.{resumed, begun_anew}
-use Rattle.hls_places_laws.specs.Line.Told.{Told, told_with, closed_with, tried, stopped_by, advanced_from}
-use Rattle.hls_places_laws.specs.Line.Live.{Live, moved}
-use Rattle.hls_live.proofs.Cited.{tried-skipped, tried-far, tried-enough, tried-further, stopped-anew, advanced-first}
-use Rattle.hls_live.specs.declared.reach.Reach.{Reach}
-use Rattle.hls_live.specs.declared.reach.Reach.TheVariants.{Skipped, TooFar, Further, Enough}
-use Rattle.hls_live.specs.Reaches.{reach_of}
-use Rattle.hls_live.specs.Tries.{told_by, told_once, with_told}
+use Rattle.hls_places_laws.specs.declared.line.goal.LineGoal.{LineGoal}
+use Rattle.hls_places_laws.specs.declared.line.live_segment.LiveSegment.{LiveSegment}
+use Rattle.hls_places_laws.specs.declared.line.segment_start.SegmentStart.{SegmentStart}
+use Rattle.hls_places_laws.specs.Line.Steps.{is_later_place, is_allowed, is_long_enough}
+use Rattle.hls_places_laws.specs.Line.Cuts.{start_at, restart_at}
+use Rattle.hls_places_laws.specs.Line.Progress.{LineProgress, progress_with, closed_with, progress_to, progress_restarted_at, progress_from}
+use Rattle.hls_places_laws.specs.Line.Live.{Live, live_after}
+use Rattle.hls_live.proofs.Cited.{tried-skipped, tried-far, tried-enough, tried-further, stopped-restarted, advanced-first}
+use Rattle.hls_live.specs.declared.place_fit.PlaceFit.{PlaceFit}
+use Rattle.hls_live.specs.declared.place_fit.PlaceFit.TheVariants.{Skipped, TooFar, Reachable, LongEnough}
+use Rattle.hls_live.specs.PlaceFit.{fit_of}
+use Rattle.hls_live.specs.Advances.{advance_from, advance_once, with_progress}
 
 -- what each answer of the test says
-pub record IsReach (aim : Aim) (o q : Place) (reach : Reach) : Type 0 where
-  pub skipped : reach ≡ Skipped → is_past o q ≡ false
-  pub past : (reach ≡ Skipped → ⊥) → is_past o q ≡ true
-  pub far : reach ≡ TooFar → is_allowed aim o q ≡ false
-  pub further : reach ≡ Further → (is_allowed aim o q ≡ true) × (is_enough aim o q ≡ false)
-  pub enough : reach ≡ Enough → (is_allowed aim o q ≡ true) × (is_enough aim o q ≡ true)
+pub record IsReach (line_goal : LineGoal) (o q : Place) (reach : PlaceFit) : Type 0 where
+  pub skipped : reach ≡ Skipped → is_later_place o q ≡ false
+  pub past : (reach ≡ Skipped → ⊥) → is_later_place o q ≡ true
+  pub far : reach ≡ TooFar → is_allowed line_goal o q ≡ false
+  pub further : reach ≡ Reachable → (is_allowed line_goal o q ≡ true) × (is_long_enough line_goal o q ≡ false)
+  pub enough : reach ≡ LongEnough → (is_allowed line_goal o q ≡ true) × (is_long_enough line_goal o q ≡ true)
 
-pub reach-is : (aim : Aim) (o q : Place) → IsReach aim o q (reach_of aim o q)
-reach-is aim o q =
-    elim (cases_Bool (is_past o q)) [
+pub reach-is : (line_goal : LineGoal) (o q : Place) → IsReach line_goal o q (fit_of line_goal o q)
+reach-is line_goal o q =
+    elim (cases_Bool (is_later_place o q)) [
       | inr skipped ↦
-          let is : reach_of aim o q ≡ Skipped = cond-false (is_past o q) _ _ skipped in
+          let is : fit_of line_goal o q ≡ Skipped = cond-false (is_later_place o q) _ _ skipped in
           rw is (record {
             skipped = λ e. skipped;
             past = λ e. absurd (e refl);
@@ -36,9 +36,9 @@ reach-is aim o q =
             further = λ e. absurd (cc);
             enough = λ e. absurd (cc);
           })
-      | inl past ↦ elim (cases_Bool (is_allowed aim o q)) [
+      | inl past ↦ elim (cases_Bool (is_allowed line_goal o q)) [
         | inr far ↦
-            let is : reach_of aim o q ≡ TooFar = cond-true (is_past o q) _ _ past ∙ cond-false (is_allowed aim o q) _ _ far in
+            let is : fit_of line_goal o q ≡ TooFar = cond-true (is_later_place o q) _ _ past ∙ cond-false (is_allowed line_goal o q) _ _ far in
             rw is (record {
               skipped = λ e. absurd (cc);
               past = λ e. past;
@@ -46,10 +46,10 @@ reach-is aim o q =
               further = λ e. absurd (cc);
               enough = λ e. absurd (cc);
             })
-        | inl allowed ↦ elim (cases_Bool (is_enough aim o q)) [
+        | inl allowed ↦ elim (cases_Bool (is_long_enough line_goal o q)) [
           | inl enough ↦
-              let is : reach_of aim o q ≡ Enough =
-              cond-true (is_past o q) _ _ past ∙ (cond-true (is_allowed aim o q) _ _ allowed ∙ cond-true (is_enough aim o q) _ _ enough) in
+              let is : fit_of line_goal o q ≡ LongEnough =
+              cond-true (is_later_place o q) _ _ past ∙ (cond-true (is_allowed line_goal o q) _ _ allowed ∙ cond-true (is_long_enough line_goal o q) _ _ enough) in
               rw is (record {
                 skipped = λ e. absurd (cc);
                 past = λ e. past;
@@ -58,8 +58,8 @@ reach-is aim o q =
                 enough = λ e. (allowed, enough);
               })
           | inr further ↦
-              let is : reach_of aim o q ≡ Further =
-              cond-true (is_past o q) _ _ past ∙ (cond-true (is_allowed aim o q) _ _ allowed ∙ cond-false (is_enough aim o q) _ _ further) in
+              let is : fit_of line_goal o q ≡ Reachable =
+              cond-true (is_later_place o q) _ _ past ∙ (cond-true (is_allowed line_goal o q) _ _ allowed ∙ cond-false (is_long_enough line_goal o q) _ _ further) in
               rw is (record {
                 skipped = λ e. absurd (cc);
                 past = λ e. past;
@@ -72,117 +72,117 @@ reach-is aim o q =
     ]
 
 -- a place told to a line whose best place isn't looked back to
-open-told : (live : Live) (o : Opening) (q : Place) → live.told.line.open_at ≡ Some o →
-    told_once live q ≡ tried live.aim live.removed live.told.line.segments o live.told.best q
-    (told_with live.told.line.segments (begun_anew q) None)
-open-told live o q at =
-    ap (λ (x : Option Opening). told_by live.aim live.removed live.told.line.segments x live.told.best q) at
+open-progress : (live : Live) (o : SegmentStart) (q : Place) → live.progress.line.segment_start ≡ Some o →
+    advance_once live q ≡ progress_to live.line_goal live.removed live.progress.line.segments o live.progress.best q
+    (progress_with live.progress.line.segments (restart_at q) None)
+open-progress live o q at =
+    ap (λ (x : Option SegmentStart). advance_from live.line_goal live.removed live.progress.line.segments x live.progress.best q) at
 
-pub told-first : (live : Live) (q : Place) → live.told.line.open_at ≡ None →
-    with_told live (told_once live q) ≡ with_told live (told_with live.told.line.segments (resumed q) None)
-told-first live q at =
-    ap (λ (x : Option Opening). with_told live (told_by live.aim live.removed live.told.line.segments x live.told.best q)) at
+pub progress-first : (live : Live) (q : Place) → live.progress.line.segment_start ≡ None →
+    with_progress live (advance_once live q) ≡ with_progress live (progress_with live.progress.line.segments (start_at q) None)
+progress-first live q at =
+    ap (λ (x : Option SegmentStart). with_progress live (advance_from live.line_goal live.removed live.progress.line.segments x live.progress.best q)) at
 
-pub told-skipped : (live : Live) (o : Opening) (q : Place) → live.told.line.open_at ≡ Some o → is_past o.place q ≡ false →
-    with_told live (told_once live q) ≡ live
-told-skipped live o q at past =
-    ap (with_told live) (open-told live o q at
-    ∙ (tried-skipped live.aim live.removed live.told.line.segments o live.told.best q _ past
-    ∙ ap (λ (x : Option Opening). record { line = record { segments = live.told.line.segments; open_at = x }; best = live.told.best }) (sym at)))
+pub progress-skipped : (live : Live) (o : SegmentStart) (q : Place) → live.progress.line.segment_start ≡ Some o → is_later_place o.place q ≡ false →
+    with_progress live (advance_once live q) ≡ live
+progress-skipped live o q at past =
+    ap (with_progress live) (open-progress live o q at
+    ∙ (tried-skipped live.line_goal live.removed live.progress.line.segments o live.progress.best q _ past
+    ∙ ap (λ (x : Option SegmentStart). record { line = record { segments = live.progress.line.segments; segment_start = x }; best = live.progress.best }) (sym at)))
 
-pub told-far : (live : Live) (o : Opening) (q : Place) → live.told.line.open_at ≡ Some o → is_past o.place q ≡ true →
-    is_allowed live.aim o.place q ≡ false →
-    with_told live (told_once live q) ≡ with_told live (told_with live.told.line.segments (begun_anew q) None)
-told-far live o q at past far =
-    ap (with_told live) (open-told live o q at
-    ∙ tried-far live.aim live.removed live.told.line.segments o live.told.best q _ past far)
+pub progress-far : (live : Live) (o : SegmentStart) (q : Place) → live.progress.line.segment_start ≡ Some o → is_later_place o.place q ≡ true →
+    is_allowed live.line_goal o.place q ≡ false →
+    with_progress live (advance_once live q) ≡ with_progress live (progress_with live.progress.line.segments (restart_at q) None)
+progress-far live o q at past far =
+    ap (with_progress live) (open-progress live o q at
+    ∙ tried-far live.line_goal live.removed live.progress.line.segments o live.progress.best q _ past far)
 
-pub told-further : (live : Live) (o : Opening) (q : Place) → live.told.line.open_at ≡ Some o → is_past o.place q ≡ true →
-    is_allowed live.aim o.place q ≡ true → is_enough live.aim o.place q ≡ false →
-    with_told live (told_once live q) ≡ with_told live (told_with live.told.line.segments o (Some q))
-told-further live o q at past allowed further =
-    ap (with_told live) (open-told live o q at
-    ∙ tried-further live.aim live.removed live.told.line.segments o live.told.best q _ past allowed further)
+pub progress-further : (live : Live) (o : SegmentStart) (q : Place) → live.progress.line.segment_start ≡ Some o → is_later_place o.place q ≡ true →
+    is_allowed live.line_goal o.place q ≡ true → is_long_enough live.line_goal o.place q ≡ false →
+    with_progress live (advance_once live q) ≡ with_progress live (progress_with live.progress.line.segments o (Some q))
+progress-further live o q at past allowed further =
+    ap (with_progress live) (open-progress live o q at
+    ∙ tried-further live.line_goal live.removed live.progress.line.segments o live.progress.best q _ past allowed further)
 
-pub told-enough : (live : Live) (o : Opening) (q : Place) → live.told.line.open_at ≡ Some o → is_past o.place q ≡ true →
-    is_allowed live.aim o.place q ≡ true → is_enough live.aim o.place q ≡ true →
-    with_told live (told_once live q)
-    ≡ with_told live (told_with (closed_with live.removed live.told.line.segments o q) (resumed q) None)
-told-enough live o q at past allowed enough =
-    ap (with_told live) (open-told live o q at
-    ∙ tried-enough live.aim live.removed live.told.line.segments o live.told.best q _ past allowed enough)
+pub progress-enough : (live : Live) (o : SegmentStart) (q : Place) → live.progress.line.segment_start ≡ Some o → is_later_place o.place q ≡ true →
+    is_allowed live.line_goal o.place q ≡ true → is_long_enough live.line_goal o.place q ≡ true →
+    with_progress live (advance_once live q)
+    ≡ with_progress live (progress_with (closed_with live.removed live.progress.line.segments o q) (start_at q) None)
+progress-enough live o q at past allowed enough =
+    ap (with_progress live) (open-progress live o q at
+    ∙ tried-enough live.line_goal live.removed live.progress.line.segments o live.progress.best q _ past allowed enough)
 
 -- the whole move
-moves-as : (live : Live) (open_at : Option Opening) (best : Option Place) (q : Place) → live.told.line.open_at ≡ open_at →
-    live.told.best ≡ best →
-    moved live q ≡ with_told live (advanced_from live.aim live.removed live.told.line.segments open_at best q)
-moves-as live open_at best q at best_is =
-    ap (λ (x : Option Opening). with_told live (advanced_from live.aim live.removed live.told.line.segments x live.told.best q)) at
-    ∙ ap (λ (x : Option Place). with_told live (advanced_from live.aim live.removed live.told.line.segments open_at x q)) best_is
+moves-as : (live : Live) (segment_start : Option SegmentStart) (best : Option Place) (q : Place) → live.progress.line.segment_start ≡ segment_start →
+    live.progress.best ≡ best →
+    live_after live q ≡ with_progress live (progress_from live.line_goal live.removed live.progress.line.segments segment_start best q)
+moves-as live segment_start best q at best_is =
+    ap (λ (x : Option SegmentStart). with_progress live (progress_from live.line_goal live.removed live.progress.line.segments x live.progress.best q)) at
+    ∙ ap (λ (x : Option Place). with_progress live (progress_from live.line_goal live.removed live.progress.line.segments segment_start x q)) best_is
 
-pub moved-first : (live : Live) (q : Place) → live.told.line.open_at ≡ None → live.told.best ≡ None →
-    with_told live (told_once live q) ≡ moved live q
+pub moved-first : (live : Live) (q : Place) → live.progress.line.segment_start ≡ None → live.progress.best ≡ None →
+    with_progress live (advance_once live q) ≡ live_after live q
 moved-first live q at none =
-    told-first live q at
+    progress-first live q at
     ∙ sym (moves-as live None None q at none
-    ∙ ap (with_told live) (advanced-first live.aim live.removed live.told.line.segments None q))
+    ∙ ap (with_progress live) (advanced-first live.line_goal live.removed live.progress.line.segments None q))
 
-moved-open : (live : Live) (o : Opening) (best : Option Place) (q : Place) → live.told.line.open_at ≡ Some o → live.told.best ≡ best →
-    moved live q ≡ with_told live (tried live.aim live.removed live.told.line.segments o best q
-    (stopped_by live.aim live.removed live.told.line.segments o best q))
-unfolding advanced_from
+moved-open : (live : Live) (o : SegmentStart) (best : Option Place) (q : Place) → live.progress.line.segment_start ≡ Some o → live.progress.best ≡ best →
+    live_after live q ≡ with_progress live (progress_to live.line_goal live.removed live.progress.line.segments o best q
+    (progress_restarted_at live.line_goal live.removed live.progress.line.segments o best q))
+unfolding progress_from
 moved-open live o best q at best_is = moves-as live (Some o) best q at best_is
 
-pub moved-unbested : (live : Live) (o : Opening) (q : Place) → live.told.line.open_at ≡ Some o → live.told.best ≡ None →
-    with_told live (told_once live q) ≡ moved live q
+pub moved-unbested : (live : Live) (o : SegmentStart) (q : Place) → live.progress.line.segment_start ≡ Some o → live.progress.best ≡ None →
+    with_progress live (advance_once live q) ≡ live_after live q
 moved-unbested live o q at none =
-    ap (with_told live) (open-told live o q at
-    ∙ (ap (λ (x : Option Place). tried live.aim live.removed live.told.line.segments o x q (told_with live.told.line.segments (begun_anew q) None)) none
-    ∙ ap (tried live.aim live.removed live.told.line.segments o None q) (sym (stopped-anew live.aim live.removed live.told.line.segments o q))))
+    ap (with_progress live) (open-progress live o q at
+    ∙ (ap (λ (x : Option Place). progress_to live.line_goal live.removed live.progress.line.segments o x q (progress_with live.progress.line.segments (restart_at q) None)) none
+    ∙ ap (progress_to live.line_goal live.removed live.progress.line.segments o None q) (sym (stopped-restarted live.line_goal live.removed live.progress.line.segments o q))))
     ∙ sym (moved-open live o None q at none)
 
 -- what a place out of reach would give counts there alone
-same-stopped : (aim : Aim) (removed : ℕ) (segments : List Segment) (o : Opening) (best : Option Place) (q : Place) (s t : Told) →
-    (is_past o.place q && not (is_allowed aim o.place q)) ≡ false →
-    tried aim removed segments o best q s ≡ tried aim removed segments o best q t
-same-stopped aim removed segments o best q s t near =
-    elim (cases_Bool (is_past o.place q)) [
+same-stopped : (line_goal : LineGoal) (removed : ℕ) (segments : List LiveSegment) (o : SegmentStart) (best : Option Place) (q : Place) (s t : LineProgress) →
+    (is_later_place o.place q && not (is_allowed line_goal o.place q)) ≡ false →
+    progress_to line_goal removed segments o best q s ≡ progress_to line_goal removed segments o best q t
+same-stopped line_goal removed segments o best q s t near =
+    elim (cases_Bool (is_later_place o.place q)) [
       | inr skipped ↦
-          tried-skipped aim removed segments o best q s skipped ∙ sym (tried-skipped aim removed segments o best q t skipped)
-      | inl past ↦ elim (cases_Bool (is_allowed aim o.place q)) [
+          tried-skipped line_goal removed segments o best q s skipped ∙ sym (tried-skipped line_goal removed segments o best q t skipped)
+      | inl past ↦ elim (cases_Bool (is_allowed line_goal o.place q)) [
         | inr far ↦
-            let never : true ≡ false = sym (ap (λ (b : Bool). b && not (is_allowed aim o.place q)) past ∙ ap (λ (b : Bool). true && not b) far) ∙ near in
+            let never : true ≡ false = sym (ap (λ (b : Bool). b && not (is_allowed line_goal o.place q)) past ∙ ap (λ (b : Bool). true && not b) far) ∙ near in
             absurd (cc)
-        | inl allowed ↦ elim (cases_Bool (is_enough aim o.place q)) [
+        | inl allowed ↦ elim (cases_Bool (is_long_enough line_goal o.place q)) [
           | inl enough ↦
-              tried-enough aim removed segments o best q s past allowed enough ∙ sym (tried-enough aim removed segments o best q t past allowed enough)
+              tried-enough line_goal removed segments o best q s past allowed enough ∙ sym (tried-enough line_goal removed segments o best q t past allowed enough)
           | inr further ↦
-              tried-further aim removed segments o best q s past allowed further ∙ sym (tried-further aim removed segments o best q t past allowed further)
+              tried-further line_goal removed segments o best q s past allowed further ∙ sym (tried-further line_goal removed segments o best q t past allowed further)
         ]
       ]
     ]
 
-pub moved-near : (live : Live) (o : Opening) (q : Place) → live.told.line.open_at ≡ Some o →
-    (is_past o.place q && not (is_allowed live.aim o.place q)) ≡ false → with_told live (told_once live q) ≡ moved live q
+pub moved-near : (live : Live) (o : SegmentStart) (q : Place) → live.progress.line.segment_start ≡ Some o →
+    (is_later_place o.place q && not (is_allowed live.line_goal o.place q)) ≡ false → with_progress live (advance_once live q) ≡ live_after live q
 moved-near live o q at near =
-    ap (with_told live) (open-told live o q at
-    ∙ same-stopped live.aim live.removed live.told.line.segments o live.told.best q _ _ near)
-    ∙ sym (moved-open live o live.told.best q at refl)
+    ap (with_progress live) (open-progress live o q at
+    ∙ same-stopped live.line_goal live.removed live.progress.line.segments o live.progress.best q _ _ near)
+    ∙ sym (moved-open live o live.progress.best q at refl)
 
 -- after a segment was closed to the best place, the place is told once more
-abbrev pub closed_to : Live → Opening → Place → Live
-closed_to live o b = with_told live (told_with (closed_with live.removed live.told.line.segments o b) (resumed b) None)
+abbrev pub closed_to : Live → SegmentStart → Place → Live
+closed_to live o b = with_progress live (progress_with (closed_with live.removed live.progress.line.segments o b) (start_at b) None)
 
 far-parts : (a b : Bool) → (a && not b) ≡ true → (a ≡ true) × (b ≡ false)
 far-parts true false is = (refl, refl)
 far-parts true true is = absurd (cc)
 far-parts false b is = absurd (cc)
 
-pub moved-twice : (live : Live) (o : Opening) (b q : Place) → live.told.line.open_at ≡ Some o → live.told.best ≡ Some b →
-    (is_past o.place q && not (is_allowed live.aim o.place q)) ≡ true →
-    with_told (closed_to live o b) (told_once (closed_to live o b) q) ≡ moved live q
-unfolding stopped_by
+pub moved-twice : (live : Live) (o : SegmentStart) (b q : Place) → live.progress.line.segment_start ≡ Some o → live.progress.best ≡ Some b →
+    (is_later_place o.place q && not (is_allowed live.line_goal o.place q)) ≡ true →
+    with_progress (closed_to live o b) (advance_once (closed_to live o b) q) ≡ live_after live q
+unfolding progress_restarted_at
 moved-twice live o b q at best_is far =
-    let parts = far-parts (is_past o.place q) (is_allowed live.aim o.place q) far in
+    let parts = far-parts (is_later_place o.place q) (is_allowed live.line_goal o.place q) far in
     sym (moved-open live o (Some b) q at best_is
-    ∙ ap (with_told live) (tried-far live.aim live.removed live.told.line.segments o (Some b) q _ parts.0 parts.1))
+    ∙ ap (with_progress live) (tried-far live.line_goal live.removed live.progress.line.segments o (Some b) q _ parts.0 parts.1))

@@ -1,5 +1,5 @@
-pub mod Keeps
-pub mod Reaches
-pub mod Sums
-pub mod Sound
-pub mod Tries
+pub mod KeptSegments
+pub mod PlaceFit
+pub mod PrefixSums
+pub mod Model
+pub mod Advances

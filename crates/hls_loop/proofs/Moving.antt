@@ -4,7 +4,7 @@ use Rattle.std.proofs.lemmas.Bool.{eqb-true}
 use Rattle.std.proofs.lemmas.List.{append_cancel_left}
 use Rattle.std.proofs.KnownBytes.{Appends-nil, Appends-trans, Consumes-nil, Consumes-trans, Keeps-refl}
 use Rattle.std.specs.Io.KnownBytes.{Appends, Consumes, IsAtEnd, Keeps}
-use Rattle.hls_loop.specs.Traffic.{Moves, Passes, Traffic, followed_by, quiet, reading, sending}
+use Rattle.hls_loop.specs.Traffic.{ServesExactly, MatchesStreams, Traffic, followed_by, no_traffic, received_bytes, sent_bytes}
 
 -- ---- what passes
 
@@ -23,35 +23,35 @@ never ended = absurd (cc)
 
 -- a reader that is at its end gave all that it had
 gave_all : (a b : Option (List ℕ)) (bytes : List ℕ) → Consumes a b bytes → IsAtEnd b → IfSome a (λ text. text ≡ bytes)
-gave_all None b bytes came end = tt
-gave_all (Some xs) None bytes came end = absurd came
-gave_all (Some xs) (Some ys) bytes came end = came ∙ ap (λ (l : List ℕ). bytes ++ l) end ∙ append-nil bytes
+gave_all None b bytes joined end = tt
+gave_all (Some xs) None bytes joined end = absurd joined
+gave_all (Some xs) (Some ys) bytes joined end = joined ∙ ap (λ (l : List ℕ). bytes ++ l) end ∙ append-nil bytes
 
 no_more : (more left : List ℕ) → [] ≡ more ++ left → more ≡ []
 no_more [] left is = refl
 no_more (m ∷ ms) left is = absurd (cc)
 
 -- where all was received nothing more comes
-whole_first : (a b c : Option (List ℕ)) (came more : List ℕ) → Consumes a b came → Consumes b c more
-    → IfSome a (λ text. text ≡ came) → IfSome a (λ text. text ≡ came ++ more)
-whole_first None b c came more first second all = tt
-whole_first (Some xs) None c came more first second all = absurd first
-whole_first (Some xs) (Some ys) None came more first second all = absurd second
-whole_first (Some xs) (Some ys) (Some zs) came more first second all =
-    let none : [] ≡ ys = append_cancel_left came [] ys (append-nil came ∙ sym all ∙ first) in
-    all ∙ sym (append-nil came) ∙ ap (λ (l : List ℕ). came ++ l) (sym (no_more more zs (none ∙ second)))
+whole_first : (a b c : Option (List ℕ)) (joined more : List ℕ) → Consumes a b joined → Consumes b c more
+    → IfSome a (λ text. text ≡ joined) → IfSome a (λ text. text ≡ joined ++ more)
+whole_first None b c joined more first second all = tt
+whole_first (Some xs) None c joined more first second all = absurd first
+whole_first (Some xs) (Some ys) None joined more first second all = absurd second
+whole_first (Some xs) (Some ys) (Some zs) joined more first second all =
+    let none : [] ≡ ys = append_cancel_left joined [] ys (append-nil joined ∙ sym all ∙ first) in
+    all ∙ sym (append-nil joined) ∙ ap (λ (l : List ℕ). joined ++ l) (sym (no_more more zs (none ∙ second)))
 
-whole_then : (a b : Option (List ℕ)) (came more : List ℕ) → Consumes a b came → IfSome b (λ text. text ≡ more)
-    → IfSome a (λ text. text ≡ came ++ more)
-whole_then None b came more first all = tt
-whole_then (Some xs) None came more first all = absurd first
-whole_then (Some xs) (Some ys) came more first all = first ∙ ap (λ (l : List ℕ). came ++ l) all
+whole_then : (a b : Option (List ℕ)) (joined more : List ℕ) → Consumes a b joined → IfSome b (λ text. text ≡ more)
+    → IfSome a (λ text. text ≡ joined ++ more)
+whole_then None b joined more first all = tt
+whole_then (Some xs) None joined more first all = absurd first
+whole_then (Some xs) (Some ys) joined more first all = first ∙ ap (λ (l : List ℕ). joined ++ l) all
 
 either : (a b : Bool) {P : Type 0} → (IsTrue a → P) → (IsTrue b → P) → IsTrue (a || b) → P
 either true b left right h = left refl
 either false b left right h = right h
 
-passes_on : (s t : Traffic) (i j k o p q : Option (List ℕ)) → Passes s i j o p → Passes t j k p q → Passes (followed_by s t) i k o q
+passes_on : (s t : Traffic) (i j k o p q : Option (List ℕ)) → MatchesStreams s i j o p → MatchesStreams t j k p q → MatchesStreams (followed_by s t) i k o q
 passes_on s t i j k o p q first second = record {
   read = Consumes-trans i j k s.received t.received first.read second.read;
   whole = either s.ended t.ended (λ ended. whole_first i j k s.received t.received first.read second.read (first.whole ended))
@@ -61,39 +61,39 @@ passes_on s t i j k o p q first second = record {
 
 -- ---- moves
 
-module _ {H V : Type 0} {goes : H → V → Traffic → H → V → Type 0} where
+module _ {H V : Type 0} {becomes : H → V → Traffic → H → V → Type 0} where
   -- where nothing is received or handed out
-  pub moves_quiet : {a b : H} {u v : V} {i j o p : Option (List ℕ)} → goes a u quiet b v → Keeps i j → Keeps o p → Moves goes a u b v i j o p
-  moves_quiet {i = i} {j = j} {o = o} {p = p} went kept held = record {
-    traffic = quiet;
-    went = went;
-    passes = record { read = kept_consumes i j kept; whole = λ ended. never ended; written = kept_appends o p held };
+  pub moves_quiet : {a b : H} {u v : V} {i j o p : Option (List ℕ)} → becomes a u no_traffic b v → Keeps i j → Keeps o p → ServesExactly becomes a u b v i j o p
+  moves_quiet {i = i} {j = j} {o = o} {p = p} becomes_is kept kept_output = record {
+    traffic = no_traffic;
+    becomes_is = becomes_is;
+    matches = record { read = kept_consumes i j kept; whole = λ ended. never ended; written = kept_appends o p kept_output };
   }
 
-  pub moves_sent : {a b : H} {u v : V} (i : Option (List ℕ)) {o p : Option (List ℕ)} (bytes : List ℕ) → goes a u (sending bytes) b v → Appends o p bytes
-      → Moves goes a u b v i i o p
-  moves_sent i bytes went taken = record {
-    traffic = sending bytes;
-    went = went;
-    passes = record { read = Consumes-nil i; whole = λ ended. never ended; written = taken };
+  pub moves_sent : {a b : H} {u v : V} (i : Option (List ℕ)) {o p : Option (List ℕ)} (bytes : List ℕ) → becomes a u (sent_bytes bytes) b v → Appends o p bytes
+      → ServesExactly becomes a u b v i i o p
+  moves_sent i bytes becomes_is taken = record {
+    traffic = sent_bytes bytes;
+    becomes_is = becomes_is;
+    matches = record { read = Consumes-nil i; whole = λ ended. never ended; written = taken };
   }
 
-  pub moves_read : {a b : H} {u v : V} {i j : Option (List ℕ)} (o : Option (List ℕ)) (bytes : List ℕ) → goes a u (reading bytes) b v → Consumes i j bytes
-      → (length bytes ≡ 0 → IsAtEnd j) → Moves goes a u b v i j o o
-  moves_read {i = i} {j = j} o bytes went came end = record {
-    traffic = reading bytes;
-    went = went;
-    passes = record {
-      read = came;
-      whole = λ ended. gave_all i j bytes came (end (eqb-true (length bytes) 0 ended));
+  pub moves_read : {a b : H} {u v : V} {i j : Option (List ℕ)} (o : Option (List ℕ)) (bytes : List ℕ) → becomes a u (received_bytes bytes) b v → Consumes i j bytes
+      → (length bytes ≡ 0 → IsAtEnd j) → ServesExactly becomes a u b v i j o o
+  moves_read {i = i} {j = j} o bytes becomes_is joined end = record {
+    traffic = received_bytes bytes;
+    becomes_is = becomes_is;
+    matches = record {
+      read = joined;
+      whole = λ ended. gave_all i j bytes joined (end (eqb-true (length bytes) 0 ended));
       written = Appends-nil o;
     };
   }
 
-  pub moves_on : ((a b c : H) (u v w : V) (s t : Traffic) → goes a u s b v → goes b v t c w → goes a u (followed_by s t) c w)
-      → {a b c : H} {u v w : V} {i j k o p q : Option (List ℕ)} → Moves goes a u b v i j o p → Moves goes b v c w j k p q → Moves goes a u c w i k o q
-  moves_on follows {a = a} {b = b} {c = c} {u = u} {v = v} {w = w} {i = i} {j = j} {k = k} {o = o} {p = p} {q = q} first second = record {
+  pub moves_on : ((a b c : H) (u v w : V) (s t : Traffic) → becomes a u s b v → becomes b v t c w → becomes a u (followed_by s t) c w)
+      → {a b c : H} {u v w : V} {i j k o p q : Option (List ℕ)} → ServesExactly becomes a u b v i j o p → ServesExactly becomes b v c w j k p q → ServesExactly becomes a u c w i k o q
+  moves_on composed {a = a} {b = b} {c = c} {u = u} {v = v} {w = w} {i = i} {j = j} {k = k} {o = o} {p = p} {q = q} first second = record {
     traffic = followed_by first.traffic second.traffic;
-    went = follows a b c u v w first.traffic second.traffic first.went second.went;
-    passes = passes_on first.traffic second.traffic i j k o p q first.passes second.passes;
+    becomes_is = composed a b c u v w first.traffic second.traffic first.becomes_is second.becomes_is;
+    matches = passes_on first.traffic second.traffic i j k o p q first.matches second.matches;
   }

@@ -1,4 +1,4 @@
-pub mod Suited
-pub mod Files
+pub mod Validity
+pub mod FileLimits
 pub mod Steps
 pub mod Traffic

@@ -9,16 +9,16 @@ pub record Traffic : Type 0 where
   pub sent : List ℕ
 
 -- nothing was received or sent
-abbrev pub quiet : Traffic
-quiet = record { received = []; ended = false; sent = [] }
+abbrev pub no_traffic : Traffic
+no_traffic = record { received = []; ended = false; sent = [] }
 
 -- one read of these bytes; no byte means the input's end
-abbrev pub reading : List ℕ → Traffic
-reading bytes = record { received = bytes; ended = length bytes == 0; sent = [] }
+abbrev pub received_bytes : List ℕ → Traffic
+received_bytes bytes = record { received = bytes; ended = length bytes == 0; sent = [] }
 
 -- these bytes were sent
-abbrev pub sending : List ℕ → Traffic
-sending bytes = record { received = []; ended = false; sent = bytes }
+abbrev pub sent_bytes : List ℕ → Traffic
+sent_bytes bytes = record { received = []; ended = false; sent = bytes }
 
 -- one and then the other
 abbrev pub followed_by : Traffic → Traffic → Traffic
@@ -26,14 +26,14 @@ followed_by s t = record { received = s.received ++ t.received; ended = s.ended 
 
 -- The reader gave the bytes received, and had no others if its end was read; the writer took the bytes sent. This restricts readers and
 -- writers whose bytes are known, such as those over memory.
-pub record Passes (t : Traffic) (remaining left held holds : Option (List ℕ)) : Type 0 where
+pub record MatchesStreams (t : Traffic) (remaining left contents_before contents_after : Option (List ℕ)) : Type 0 where
   pub read : Consumes remaining left t.received
   pub whole : IsTrue t.ended → IfSome remaining (λ text. text ≡ t.received)
-  pub written : Appends held holds t.sent
+  pub written : Appends contents_before contents_after t.sent
 
--- the host served the connection, and the reader and the writer gave and took just its traffic
-pub record Moves {H V : Type 0} (goes : H → V → Traffic → H → V → Type 0) (a : H) (u : V) (b : H) (v : V)
-    (remaining left held holds : Option (List ℕ)) : Type 0 where
+-- the handler served the connection, and the reader and the writer gave and took just its traffic
+pub record ServesExactly {H V : Type 0} (becomes : H → V → Traffic → H → V → Type 0) (a : H) (u : V) (b : H) (v : V)
+    (remaining left contents_before contents_after : Option (List ℕ)) : Type 0 where
   pub traffic : Traffic
-  pub went : goes a u traffic b v
-  pub passes : Passes traffic remaining left held holds
+  pub becomes_is : becomes a u traffic b v
+  pub matches : MatchesStreams traffic remaining left contents_before contents_after

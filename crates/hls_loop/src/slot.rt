@@ -1,13 +1,13 @@
 //! A connection that a worker holds, from its accept to its end.
 
 ghost use Rattle.std.specs.Prelude.{◌≡◌, ◌≤◌, List, ℕ};
-ghost use Rattle.hls_loop.specs.Suited.{SuitsOn};
+ghost use Rattle.hls_loop.specs.Validity.{StaysValid};
 ghost use Rattle.hls_loop.specs.Traffic.{Traffic};
 
-use crate::host::{End, Host};
-use crate::step::{MOST_STEPS, Step, Watch, go_on};
-use crate::wire::{Inlet, Known, Outlet, Stop, Wire};
-use hls_pace::{Pace, Stage};
+use crate::handler::{ConnectionEnd, Handler};
+use crate::socket::{Readiness, Socket, SocketReader, SocketStop, SocketWriter};
+use crate::step::{ActivityWatch, MOST_STEPS, StepOutcome, run_until_blocked};
+use hls_pace::{Activity, ConnectionStage};
 use mio::event::Event;
 use mio::net::TcpStream;
 use mio::{Interest, Poll, Token};
@@ -16,11 +16,11 @@ use std::net::{Shutdown, SocketAddr};
 
 /// How a connection stands behind its turn.
 #[derive(Clone, Copy, PartialEq, Eq, Drop)]
-pub(crate) enum Turn {
+pub(crate) enum RunOutcome {
     /// It goes on once the system tells of its socket.
-    Parked,
+    Blocked,
     /// It has more to do, once the others had their turn.
-    Again,
+    Ready,
     /// It is over.
     Closed,
 }
@@ -29,10 +29,10 @@ pub(crate) enum Turn {
 #[derive(Drop)]
 pub(crate) struct Slot<V> {
     stream: TcpStream,
-    pub known: Known,
+    pub readiness: Readiness,
     pub peer: SocketAddr,
-    pub pace: Pace,
-    pub visit: V,
+    pub activity: Activity,
+    pub connection: V,
     /// Whether its last reply was sent, so that further input is dropped.
     pub lingers: bool,
     /// Whether it stands in the row of those that go on at the next round.
@@ -41,15 +41,15 @@ pub(crate) struct Slot<V> {
 
 impl<V> Slot<V> {
     /// A connection that was just accepted.
-    pub fn new(visit: V, stream: TcpStream, peer: SocketAddr, now: u64) -> Slot<V>
-        ensures { result.visit ≡ visit }
+    pub fn new(connection: V, stream: TcpStream, peer: SocketAddr, now: u64) -> Slot<V>
+        ensures { result.connection ≡ connection }
     {
         Slot {
             stream,
-            known: Known::nothing(),
+            readiness: Readiness::unknown(),
             peer,
-            pace: Pace::begun(Stage::Idle, now),
-            visit,
+            activity: Activity::start(ConnectionStage::Idle, now),
+            connection,
             lingers: false,
             queued: false,
         }
@@ -57,7 +57,7 @@ impl<V> Slot<V> {
 
     /// Has the system tell of the socket; false where it refuses.
     pub fn join(&mut self, poll: &Poll, token: Token) -> bool
-        ensures { self.new.visit ≡ self.old.visit }
+        ensures { self.new.connection ≡ self.old.connection }
     {
         let both = Interest::READABLE | Interest::WRITABLE;
         poll.registry()
@@ -66,148 +66,160 @@ impl<V> Slot<V> {
     }
 
     /// Notes what the system tells of the socket.
-    pub fn hear(&mut self, event: &Event)
-        ensures { self.new.visit ≡ self.old.visit }
+    pub fn update(&mut self, event: &Event)
+        ensures { self.new.connection ≡ self.old.connection }
     {
-        self.known.hear(event);
+        self.readiness.update(event);
     }
 
     /// Whether it takes too long, by what is known of it: then its socket is tried once more. Of one that doesn't the bytes are counted
     /// anew in time; where the process stood still its time begins anew.
-    pub fn is_late(&mut self, patience: u64, now: u64, stood_still: bool) -> bool
-        requires { patience ≤ 3600 }
-        ensures { self.new.visit ≡ self.old.visit }
+    pub fn is_late(&mut self, idle_timeout_s: u64, now: u64, was_suspended: bool) -> bool
+        requires { idle_timeout_s ≤ 3600 }
+        ensures { self.new.connection ≡ self.old.connection }
     {
-        if stood_still {
-            self.pace = Pace::begun(self.pace.stage, now);
+        if was_suspended {
+            self.activity = Activity::start(self.activity.stage, now);
             return false;
         }
-        if self.pace.is_over(patience, now) {
-            self.known.try_again();
+        if self.activity.is_timed_out(idle_timeout_s, now) {
+            self.readiness.try_again();
             return true;
         }
-        self.pace = self.pace.renewed(patience, now);
+        self.activity = self.activity.restart_count(idle_timeout_s, now);
         false
     }
 
     /// Behind a turn that ends so: it stands in the row of those that go on at the next round no more than once.
-    fn stand(&mut self, turn: Turn) -> Turn
-        ensures { self.new.visit ≡ self.old.visit }
+    fn schedule(&mut self, outcome: RunOutcome) -> RunOutcome
+        ensures { self.new.connection ≡ self.old.connection }
     {
-        if turn != Turn::Again {
-            return turn;
+        if outcome != RunOutcome::Ready {
+            return outcome;
         }
         if self.queued {
-            return Turn::Parked;
+            return RunOutcome::Blocked;
         }
         self.queued = true;
-        Turn::Again
+        RunOutcome::Ready
     }
 
     /// Behind the connection's own end.
-    fn end(&mut self, end: End, now: u64) -> Turn
-        ensures visit { self.new.visit ≡ self.old.visit }
-        ensures closed { end ≡ End.Closed → result ≡ Turn.Closed }
+    fn finish(&mut self, end: ConnectionEnd, now: u64) -> RunOutcome
+        ensures connection { self.new.connection ≡ self.old.connection }
+        ensures closed { end ≡ ConnectionEnd.Closed → result ≡ RunOutcome.Closed }
     {
-        if end == End::Closed
-            || self.known.is_at_end
+        if end == ConnectionEnd::Closed
+            || self.readiness.is_at_end
             || self.stream.shutdown(Shutdown::Write).is_err()
         {
-            return Turn::Closed;
+            return RunOutcome::Closed;
         }
         self.lingers = true;
-        self.pace = Pace::begun(Stage::Lingering, now);
+        self.activity = Activity::start(ConnectionStage::Lingering, now);
         self.linger(now)
     }
 
     /// Drops what has come behind the last reply.
-    fn linger(&mut self, now: u64) -> Turn
-        ensures { self.new.visit ≡ self.old.visit }
+    fn linger(&mut self, now: u64) -> RunOutcome
+        ensures { self.new.connection ≡ self.old.connection }
     {
-        let mut wire = Wire::new(&self.stream, &self.stream, self.known);
-        let turn = drop_rest(&mut wire.input, &mut self.pace, now);
-        self.known = wire.known();
-        turn
+        let mut socket = Socket::new(&self.stream, &self.stream, self.readiness);
+        let outcome = discard_rest(&mut socket.input, &mut self.activity, now);
+        self.readiness = socket.readiness();
+        outcome
     }
 }
 
 /// Drops the input of a reader.
-fn drop_rest<R: Read>(input: &mut Inlet<R>, pace: &mut Pace, now: u64) -> Turn {
+fn discard_rest<R: Read>(
+    input: &mut SocketReader<R>,
+    activity: &mut Activity,
+    now: u64,
+) -> RunOutcome {
     for _ in 0..MOST_STEPS {
         if !input.readable {
-            return Turn::Parked;
+            return RunOutcome::Blocked;
         }
-        match input.drop_some() {
-            Ok(0) => return Turn::Closed,
-            Ok(count) => *pace = pace.after_bytes(count as u64, now),
-            Err(Stop::Lost) => return Turn::Closed,
+        match input.discard_some() {
+            Ok(0) => return RunOutcome::Closed,
+            Ok(count) => *activity = activity.with_bytes(count as u64, now),
+            Err(SocketStop::Lost) => return RunOutcome::Closed,
             Err(_) => {}
         }
     }
-    Turn::Again
+    RunOutcome::Ready
 }
 
 /// Gives a connection up for which memory is wanted, and says so.
-fn starve<H: Host>(slot: &mut Slot<H::Visit>, host: &H, now: u64) -> Turn
-    ensures { slot.new.visit ≡ slot.old.visit }
+fn end_out_of_memory<H: Handler>(
+    slot: &mut Slot<H::Connection>,
+    handler: &H,
+    now: u64,
+) -> RunOutcome
+    ensures { slot.new.connection ≡ slot.old.connection }
 {
-    let mut output = Outlet {
+    let mut output = SocketWriter {
         writer: &slot.stream,
         writable: true,
     };
-    let _ = output.send(host.no_memory());
-    host.give_up(&slot.visit, slot.peer);
-    slot.end(End::Said, now)
+    let _ = output.send(handler.out_of_memory_text());
+    handler.abandon(&slot.connection, slot.peer);
+    slot.finish(ConnectionEnd::Responded, now)
 }
 
 /// Takes a turn over the socket. Returns the outcome of the last step.
-fn run<H: Host>(slot: &mut Slot<H::Visit>, host: &mut H, now: u64) -> Step
-    requires suits { H.suits host.old slot.old.visit }
-    ensures goes { (traffic : Traffic) × H.goes host.old slot.old.visit traffic host.new slot.new.visit }
-    ensures suits { H.suits host.new slot.new.visit }
-    ensures others { SuitsOn H.suits host.old host.new }
+fn run<H: Handler>(slot: &mut Slot<H::Connection>, handler: &mut H, now: u64) -> StepOutcome
+    requires valid { H.valid handler.old slot.old.connection }
+    ensures becomes { (traffic : Traffic) × H.becomes handler.old slot.old.connection traffic handler.new slot.new.connection }
+    ensures valid { H.valid handler.new slot.new.connection }
+    ensures others { StaysValid H.valid handler.old handler.new }
 {
-    let mut wire = Wire::new(&slot.stream, &slot.stream, slot.known);
-    let mut watch = Watch {
+    let mut socket = Socket::new(&slot.stream, &slot.stream, slot.readiness);
+    let mut watch = ActivityWatch {
         peer: slot.peer,
-        pace: slot.pace,
+        activity: slot.activity,
         now,
     };
-    let step = go_on(&mut slot.visit, host, &mut wire, &mut watch);
-    slot.known = wire.known();
-    slot.pace = watch.pace;
+    let step = run_until_blocked(&mut slot.connection, handler, &mut socket, &mut watch);
+    slot.readiness = socket.readiness();
+    slot.activity = watch.activity;
     step
 }
 
 /// Takes a turn over the socket, or drops input once the last reply was sent.
-fn serve<H: Host>(slot: &mut Slot<H::Visit>, host: &mut H, now: u64) -> Turn
-    requires suits { H.suits host.old slot.old.visit }
-    ensures goes { (traffic : Traffic) × H.goes host.old slot.old.visit traffic host.new slot.new.visit }
-    ensures suits { H.suits host.new slot.new.visit }
-    ensures others { SuitsOn H.suits host.old host.new }
+fn serve<H: Handler>(slot: &mut Slot<H::Connection>, handler: &mut H, now: u64) -> RunOutcome
+    requires valid { H.valid handler.old slot.old.connection }
+    ensures becomes { (traffic : Traffic) × H.becomes handler.old slot.old.connection traffic handler.new slot.new.connection }
+    ensures valid { H.valid handler.new slot.new.connection }
+    ensures others { StaysValid H.valid handler.old handler.new }
 {
     if slot.lingers {
         return slot.linger(now);
     }
-    match run(slot, host, now) {
-        Step::On(_) | Step::Pause => Turn::Again,
-        Step::Wait => Turn::Parked,
-        Step::End(end) => slot.end(end, now),
-        Step::Starved => starve(slot, host, now),
-        Step::Lost => {
-            host.give_up(&slot.visit, slot.peer);
-            Turn::Closed
+    match run(slot, handler, now) {
+        StepOutcome::Progress(_) | StepOutcome::Yield => RunOutcome::Ready,
+        StepOutcome::Blocked => RunOutcome::Blocked,
+        StepOutcome::End(end) => slot.finish(end, now),
+        StepOutcome::OutOfMemory => end_out_of_memory(slot, handler, now),
+        StepOutcome::Lost => {
+            handler.abandon(&slot.connection, slot.peer);
+            RunOutcome::Closed
         }
     }
 }
 
 /// Lets a connection have its turn; how it stands then, and whether it waits for its next one already.
-pub(crate) fn take_turn<H: Host>(slot: &mut Slot<H::Visit>, host: &mut H, now: u64) -> Turn
-    requires suits { H.suits host.old slot.old.visit }
-    ensures goes { (traffic : Traffic) × H.goes host.old slot.old.visit traffic host.new slot.new.visit }
-    ensures suits { H.suits host.new slot.new.visit }
-    ensures others { SuitsOn H.suits host.old host.new }
+pub(crate) fn run_connection<H: Handler>(
+    slot: &mut Slot<H::Connection>,
+    handler: &mut H,
+    now: u64,
+) -> RunOutcome
+    requires valid { H.valid handler.old slot.old.connection }
+    ensures becomes { (traffic : Traffic) × H.becomes handler.old slot.old.connection traffic handler.new slot.new.connection }
+    ensures valid { H.valid handler.new slot.new.connection }
+    ensures others { StaysValid H.valid handler.old handler.new }
 {
-    let turn = serve(slot, host, now);
-    slot.stand(turn)
+    let outcome = serve(slot, handler, now);
+    slot.schedule(outcome)
 }

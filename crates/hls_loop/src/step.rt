@@ -2,12 +2,12 @@
 
 ghost use Rattle.std.specs.Prelude.{◌≡◌, ℕ, List, Option, length, IfSome};
 ghost use Rattle.hls_loop.specs.Steps.{IsOwnEnd};
-ghost use Rattle.hls_loop.specs.Suited.{SuitsOn};
-ghost use Rattle.hls_loop.specs.Traffic.{Moves};
+ghost use Rattle.hls_loop.specs.Validity.{StaysValid};
+ghost use Rattle.hls_loop.specs.Traffic.{ServesExactly};
 
-use crate::host::{End, Host};
-use crate::wire::{Stop, Wire, stop_of};
-use hls_pace::Pace;
+use crate::handler::{ConnectionEnd, Handler};
+use crate::socket::{Socket, SocketStop, stop_of};
+use hls_pace::Activity;
 use std::io::{Read, Write};
 use std::net::SocketAddr;
 
@@ -19,164 +19,172 @@ const MOST_MOVED: usize = 1_048_576;
 
 /// What comes of one step of a turn.
 #[derive(Clone, Copy, Drop)]
-pub(crate) enum Step {
+pub(crate) enum StepOutcome {
     /// So many bytes moved, and there may be more to do.
-    On(usize),
+    Progress(usize),
     /// It paused, so that the others of its worker have their turn.
-    Pause,
+    Yield,
     /// Nothing goes on before the system tells.
-    Wait,
+    Blocked,
     /// The connection came to its end by itself.
-    End(End),
+    End(ConnectionEnd),
     /// Memory is wanted for what there is to read.
-    Starved,
+    OutOfMemory,
     /// A call failed for good.
     Lost,
 }
 
-impl Step {
+impl StepOutcome {
     /// What comes of a call that moved nothing.
-    fn stopped(stop: Stop) -> Step
-        ensures { (closes : Option End) (pending : List ℕ) → IsOwnEnd result closes pending }
+    fn from_stop(stop: SocketStop) -> StepOutcome
+        ensures { (own_end : Option ConnectionEnd) (pending : List ℕ) → IsOwnEnd result own_end pending }
     {
         match stop {
-            Stop::Lost => Step::Lost,
-            Stop::Memory => Step::Starved,
-            _ => Step::On(0),
+            SocketStop::Lost => StepOutcome::Lost,
+            SocketStop::Memory => StepOutcome::OutOfMemory,
+            _ => StepOutcome::Progress(0),
         }
     }
 }
 
-/// The peer, and the connection's pace at this time, in milliseconds of the clock.
+/// The peer, and the connection's activity at this time, in milliseconds of the clock.
 #[derive(Clone, Copy, Drop)]
-pub(crate) struct Watch {
+pub(crate) struct ActivityWatch {
     pub peer: SocketAddr,
-    pub pace: Pace,
+    pub activity: Activity,
     pub now: u64,
 }
 
-impl Watch {
+impl ActivityWatch {
     /// Counts bytes that moved.
     fn count(&mut self, bytes: usize) {
         if bytes > 0 {
-            self.pace = self.pace.after_bytes(bytes as u64, self.now);
+            self.activity = self.activity.with_bytes(bytes as u64, self.now);
         }
     }
 }
 
 /// Writes the next bytes that wait.
-fn write<H: Host, R: Read, W: Write>(visit: &mut H::Visit, host: &H, wire: &mut Wire<R, W>) -> Step
-    ensures moves { (h : H) → Moves H.goes h visit.old h visit.new (R.remaining wire.old.input.reader) (R.remaining wire.new.input.reader)
-        (W.contents wire.old.output.writer) (W.contents wire.new.output.writer) }
-    ensures suits { (h : H) → H.suits h visit.old → H.suits h visit.new }
-    ensures ends { (closes : Option End) (pending : List ℕ) → IsOwnEnd result closes pending }
+fn write<H: Handler, R: Read, W: Write>(
+    connection: &mut H::Connection,
+    handler: &H,
+    socket: &mut Socket<R, W>,
+) -> StepOutcome
+    ensures moves { (h : H) → ServesExactly H.becomes h connection.old h connection.new (R.remaining socket.old.input.reader) (R.remaining socket.new.input.reader)
+        (W.contents socket.old.output.writer) (W.contents socket.new.output.writer) }
+    ensures valid { (h : H) → H.valid h connection.old → H.valid h connection.new }
+    ensures ends { (own_end : Option ConnectionEnd) (pending : List ℕ) → IsOwnEnd result own_end pending }
 {
-    if !wire.output.writable {
-        return Step::Wait;
+    if !socket.output.writable {
+        return StepOutcome::Blocked;
     }
-    match wire.output.send(host.output(visit)) {
+    match socket.output.send(handler.output(connection)) {
         Ok(count) => {
-            host.sent(visit, count);
-            Step::On(count)
+            handler.mark_sent(connection, count);
+            StepOutcome::Progress(count)
         }
-        Err(stop) => Step::stopped(stop),
+        Err(stop) => StepOutcome::from_stop(stop),
     }
 }
 
 /// Reads once.
-fn read<H: Host, R: Read, W: Write>(visit: &mut H::Visit, host: &H, wire: &mut Wire<R, W>) -> Step
-    requires { H.reads visit.old }
-    ensures moves { (h : H) → Moves H.goes h visit.old h visit.new (R.remaining wire.old.input.reader) (R.remaining wire.new.input.reader)
-        (W.contents wire.old.output.writer) (W.contents wire.new.output.writer) }
-    ensures suits { (h : H) → H.suits h visit.old → H.suits h visit.new }
-    ensures ends { (closes : Option End) (pending : List ℕ) → IsOwnEnd result closes pending }
+fn read<H: Handler, R: Read, W: Write>(
+    connection: &mut H::Connection,
+    handler: &H,
+    socket: &mut Socket<R, W>,
+) -> StepOutcome
+    requires { H.may_read connection.old }
+    ensures moves { (h : H) → ServesExactly H.becomes h connection.old h connection.new (R.remaining socket.old.input.reader) (R.remaining socket.new.input.reader)
+        (W.contents socket.old.output.writer) (W.contents socket.new.output.writer) }
+    ensures valid { (h : H) → H.valid h connection.old → H.valid h connection.new }
+    ensures ends { (own_end : Option ConnectionEnd) (pending : List ℕ) → IsOwnEnd result own_end pending }
 {
-    if !wire.input.readable {
-        return Step::Wait;
+    if !socket.input.readable {
+        return StepOutcome::Blocked;
     }
-    match host.read(visit, &mut wire.input) {
-        Ok(count) => Step::On(count),
-        Err(error) => Step::stopped(stop_of(&error)),
+    match handler.read(connection, &mut socket.input) {
+        Ok(count) => StepOutcome::Progress(count),
+        Err(error) => StepOutcome::from_stop(stop_of(&error)),
     }
 }
 
 /// One step: of writing what waits, of the connection, or of reading.
-fn step_on<H: Host, R: Read, W: Write>(
-    visit: &mut H::Visit,
-    host: &mut H,
-    wire: &mut Wire<R, W>,
+fn choose_step<H: Handler, R: Read, W: Write>(
+    connection: &mut H::Connection,
+    handler: &mut H,
+    socket: &mut Socket<R, W>,
     peer: SocketAddr,
-) -> Step
-    requires suits { H.suits host.old visit.old }
-    ensures moves { Moves H.goes host.old visit.old host.new visit.new (R.remaining wire.old.input.reader) (R.remaining wire.new.input.reader)
-        (W.contents wire.old.output.writer) (W.contents wire.new.output.writer) }
-    ensures suits { H.suits host.new visit.new }
-    ensures others { SuitsOn H.suits host.old host.new }
-    ensures ends { IsOwnEnd result (H.closes visit.new) (H.pending visit.new) }
-    ensures over { IfSome (H.closes visit.old) (λ end. length (H.pending visit.old) ≡ 0 → result ≡ Step.End end) }
+) -> StepOutcome
+    requires valid { H.valid handler.old connection.old }
+    ensures moves { ServesExactly H.becomes handler.old connection.old handler.new connection.new (R.remaining socket.old.input.reader) (R.remaining socket.new.input.reader)
+        (W.contents socket.old.output.writer) (W.contents socket.new.output.writer) }
+    ensures valid { H.valid handler.new connection.new }
+    ensures others { StaysValid H.valid handler.old handler.new }
+    ensures ends { IsOwnEnd result (H.own_end connection.new) (H.pending connection.new) }
+    ensures over { IfSome (H.own_end connection.old) (λ end. length (H.pending connection.old) ≡ 0 → result ≡ StepOutcome.End end) }
 {
-    if host.wants_write(visit) {
-        return write(visit, host, wire);
+    if handler.wants_write(connection) {
+        return write(connection, handler, socket);
     }
-    if let Some(end) = host.end(visit) {
-        return Step::End(end);
+    if let Some(end) = handler.end(connection) {
+        return StepOutcome::End(end);
     }
-    if host.advance(visit, peer) {
-        return Step::Pause;
+    if handler.advance(connection, peer) {
+        return StepOutcome::Yield;
     }
-    if !host.wants_read(visit) {
-        return Step::On(0);
+    if !handler.wants_read(connection) {
+        return StepOutcome::Progress(0);
     }
-    read(visit, host, wire)
+    read(connection, handler, socket)
 }
 
-/// One step; then the pace enters the connection's stage.
-fn take_step<H: Host, R: Read, W: Write>(
-    visit: &mut H::Visit,
-    host: &mut H,
-    wire: &mut Wire<R, W>,
-    watch: &mut Watch,
-) -> Step
-    requires suits { H.suits host.old visit.old }
-    ensures moves { Moves H.goes host.old visit.old host.new visit.new (R.remaining wire.old.input.reader) (R.remaining wire.new.input.reader)
-        (W.contents wire.old.output.writer) (W.contents wire.new.output.writer) }
-    ensures suits { H.suits host.new visit.new }
-    ensures others { SuitsOn H.suits host.old host.new }
-    ensures ends { IsOwnEnd result (H.closes visit.new) (H.pending visit.new) }
-    ensures stands { H.stands visit.new watch.new.pace.stage }
+/// One step; then the activity enters the connection's stage.
+fn take_step<H: Handler, R: Read, W: Write>(
+    connection: &mut H::Connection,
+    handler: &mut H,
+    socket: &mut Socket<R, W>,
+    watch: &mut ActivityWatch,
+) -> StepOutcome
+    requires valid { H.valid handler.old connection.old }
+    ensures moves { ServesExactly H.becomes handler.old connection.old handler.new connection.new (R.remaining socket.old.input.reader) (R.remaining socket.new.input.reader)
+        (W.contents socket.old.output.writer) (W.contents socket.new.output.writer) }
+    ensures valid { H.valid handler.new connection.new }
+    ensures others { StaysValid H.valid handler.old handler.new }
+    ensures ends { IsOwnEnd result (H.own_end connection.new) (H.pending connection.new) }
+    ensures has_stage { H.has_stage connection.new watch.new.activity.stage }
 {
-    let step = step_on(visit, host, wire, watch.peer);
-    if let Step::On(bytes) = step {
+    let step = choose_step(connection, handler, socket, watch.peer);
+    if let StepOutcome::Progress(bytes) = step {
         watch.count(bytes);
     }
-    watch.pace = watch.pace.entered(host.stage(visit), watch.now);
+    watch.activity = watch.activity.enter(handler.stage(connection), watch.now);
     step
 }
 
 /// Takes steps until one blocks, pauses or ends, or the turn's share is used up. Returns the outcome of the last step.
-pub(crate) fn go_on<H: Host, R: Read, W: Write>(
-    visit: &mut H::Visit,
-    host: &mut H,
-    wire: &mut Wire<R, W>,
-    watch: &mut Watch,
-) -> Step
-    requires suits { H.suits host.old visit.old }
-    ensures moves { Moves H.goes host.old visit.old host.new visit.new (R.remaining wire.old.input.reader) (R.remaining wire.new.input.reader)
-        (W.contents wire.old.output.writer) (W.contents wire.new.output.writer) }
-    ensures suits { H.suits host.new visit.new }
-    ensures others { SuitsOn H.suits host.old host.new }
-    ensures ends { IsOwnEnd result (H.closes visit.new) (H.pending visit.new) }
+pub(crate) fn run_until_blocked<H: Handler, R: Read, W: Write>(
+    connection: &mut H::Connection,
+    handler: &mut H,
+    socket: &mut Socket<R, W>,
+    watch: &mut ActivityWatch,
+) -> StepOutcome
+    requires valid { H.valid handler.old connection.old }
+    ensures moves { ServesExactly H.becomes handler.old connection.old handler.new connection.new (R.remaining socket.old.input.reader) (R.remaining socket.new.input.reader)
+        (W.contents socket.old.output.writer) (W.contents socket.new.output.writer) }
+    ensures valid { H.valid handler.new connection.new }
+    ensures others { StaysValid H.valid handler.old handler.new }
+    ensures ends { IsOwnEnd result (H.own_end connection.new) (H.pending connection.new) }
 {
     let mut moved: usize = 0;
     for _ in 0..MOST_STEPS {
-        let step = take_step(visit, host, wire, watch);
-        let Step::On(bytes) = step else {
+        let step = take_step(connection, handler, socket, watch);
+        let StepOutcome::Progress(bytes) = step else {
             return step;
         };
         moved = moved.saturating_add(bytes);
         if moved >= MOST_MOVED {
-            return Step::Pause;
+            return StepOutcome::Yield;
         }
     }
-    Step::Pause
+    StepOutcome::Yield
 }

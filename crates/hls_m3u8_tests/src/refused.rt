@@ -6,7 +6,7 @@ use std::alloc::Global;
 use std::test::Fail;
 
 // Reads again where memory was refused.
-fn read_again(alloc: Global, text: &[u8]) -> Result<MediaPlaylist, ListFault> {
+fn read_with_retry(alloc: Global, text: &[u8]) -> Result<MediaPlaylist, ListFault> {
     match read_media(alloc, text) {
         Err(ListFault::Memory) => read_media(alloc, text),
         answer => answer,
@@ -15,8 +15,8 @@ fn read_again(alloc: Global, text: &[u8]) -> Result<MediaPlaylist, ListFault> {
 
 // With any one request for memory refused the second try gives the list; what is no list is refused without memory.
 #[test]
-fn refused_memory_is_told_last(rt: HostRuntime) -> Result<(), Fail> {
-    let list = read_again(rt.alloc(), ONE_UNIT.as_bytes())?;
+fn out_of_memory_is_told_last(rt: HostRuntime) -> Result<(), Fail> {
+    let list = read_with_retry(rt.alloc(), ONE_UNIT.as_bytes())?;
     assert_eq!(rt; list.segments.len(), 1);
     assert_eq!(rt; list.segments[0].uri.as_str(), "media.mp4");
     assert_eq!(rt; list.target, 6);

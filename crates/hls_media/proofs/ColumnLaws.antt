@@ -5,7 +5,7 @@ use Rattle.std.proofs.lemmas.Bool.{lt-ltb}
 use Rattle.std.proofs.lemmas.List.Sums.{sum_by-cons}
 use Rattle.std.proofs.lemmas.List.Folds.{sum_by-replicate}
 use Rattle.hls_boxes_laws.specs.Boxes.{number_at}
-use Rattle.hls_media_laws.specs.Fields.{column, total, lacks}
+use Rattle.hls_media_laws.specs.Fields.{column, total, some_missing}
 
 -- a row less
 pub rows_less : (n row len : ℕ) → 0 < n → n * row ≤ len → (n - 1) * row ≤ len - row
@@ -30,17 +30,17 @@ pub total-fields : (xs : List ℕ) → total (map Some xs) ≡ sum xs
 total-fields [] = refl
 total-fields (x ∷ xs) = sum_by-cons (λ (v : Option ℕ). unwrap_or v 0) (Some x) (map Some xs) ∙ ap (λ (n : ℕ). x + n) (total-fields xs) ∙ sym (sum_by-cons (λ (v : ℕ). v) x xs)
 
-pub lacks-fields : (xs : List ℕ) → lacks (map Some xs) ≡ false
+pub lacks-fields : (xs : List ℕ) → some_missing (map Some xs) ≡ false
 lacks-fields [] = refl
 lacks-fields (x ∷ xs) = lacks-fields xs
 
 pub total-defaults : (n : ℕ) (o : Option ℕ) → total (replicate n o) ≡ n * unwrap_or o 0
 total-defaults n o = sum_by-replicate (λ (v : Option ℕ). unwrap_or v 0) n o
 
-pub lacks-defaults : (n : ℕ) (v : ℕ) → lacks (replicate n (Some v)) ≡ false
+pub lacks-defaults : (n : ℕ) (v : ℕ) → some_missing (replicate n (Some v)) ≡ false
 lacks-defaults zero v = refl
 lacks-defaults (suc n) v = lacks-defaults n v
 
-pub lacks-none : (n : ℕ) → lacks (replicate n None) ≡ nat_lt 0 n
+pub lacks-none : (n : ℕ) → some_missing (replicate n None) ≡ nat_lt 0 n
 lacks-none zero = refl
 lacks-none (suc n) = sym (lt-ltb 0 (suc n) (omega arith))

@@ -1,25 +1,25 @@
 -- How far a count of fields rises over one more box, and that there is room for it.
 use Rattle.std.proofs.Common.{◌≡◌, ℕ, zero, suc, ◌+◌, ◌-◌, ◌*◌, ◌≤◌, List, length, drop, slice_range, subst, sym, arith}
 use Rattle.std.proofs.lemmas.List.{length-drop}
-use Rattle.hls_boxes_laws.specs.declared.header.Header.{Header}
+use Rattle.hls_boxes_laws.specs.declared.box_header.BoxHeader.{BoxHeader}
 use Rattle.hls_boxes_laws.specs.Boxes.{IsWithin}
-use Rattle.hls_media.specs.Counted.{RisesBy}
+use Rattle.hls_media.specs.RisesBy.{RisesBy}
 use Rattle.hls_media.proofs.Slices.{slice-length}
 
 -- so many for each byte walked so far and of the content, and three for the header, which is longer
 more : (e walked head content : ℕ) → 3 ≤ head → walked * suc e + 3 + content * suc e ≤ (walked + head + content) * suc e
 more e walked head content long = omega (arith, long)
 
-pub counted-more : (f : ℕ) (all rest : List ℕ) (h : Header) (before now headed after : ℕ) → 1 ≤ f → IsWithin (length rest) h → length rest ≤ length all
+pub counted-more : (f : ℕ) (all rest : List ℕ) (h : BoxHeader) (before now headed after : ℕ) → 1 ≤ f → IsWithin (length rest) h → length rest ≤ length all
     → RisesBy ((length all - length rest) * f) before now → now ≤ headed → headed ≤ now + 3 → RisesBy (length (slice_range rest h.head h.size) * f) headed after
     → RisesBy ((length all - length (drop h.size rest)) * f) before after
-counted-more zero all rest h before now headed after some within walked so_far rises few step = absurd (omega (arith, some))
-counted-more (suc e) all rest h before now headed after some within walked so_far rises few step =
+counted-more zero all rest h before now headed after some within walked state rises few step = absurd (omega (arith, some))
+counted-more (suc e) all rest h before now headed after some within walked state rises few step =
     let content : length (slice_range rest h.head h.size) ≡ h.size - h.head = slice-length rest h.head h.size within.0 within.1 in
     let on : length all - length (drop h.size rest) ≡ (length all - length rest) + h.head + (h.size - h.head) = omega (arith, length-drop h.size rest, walked, within.0, within.1) in
     let top = rw content at step.1 in
     let most = more e (length all - length rest) h.head (h.size - h.head) (omega (arith, within.2)) in
-    rw on (omega (arith, so_far.0, rises, step.0), omega (arith, so_far.1, few, top, most))
+    rw on (omega (arith, state.0, rises, step.0), omega (arith, state.1, few, top, most))
 
 more_bytes : (f part others before now : ℕ) → now ≤ before + part * f → now ≤ before + (part + others) * f
 more_bytes f part others before now most = omega (arith, most)
@@ -32,22 +32,22 @@ counted-all f part all before now le counted =
 
 -- what was counted is below what all bytes have room for
 below : (f walked left before now top : ℕ) → before + (walked + left) * f ≤ top → now ≤ before + walked * f → now ≤ top
-below f walked left before now top room so_far = omega (arith, room, so_far)
+below f walked left before now top room state = omega (arith, room, state)
 
 pub counted-below : (f : ℕ) (all rest : List ℕ) (before now top : ℕ) → length rest ≤ length all → before + length all * f ≤ top → RisesBy ((length all - length rest) * f) before now → now ≤ top
-counted-below f all rest before now top walked room so_far =
+counted-below f all rest before now top walked room state =
     let parts : length all ≡ (length all - length rest) + length rest = omega (arith, walked) in
-    below f (length all - length rest) (length rest) before now top (subst (λ n. before + n * f ≤ top) parts room) so_far.1
+    below f (length all - length rest) (length rest) before now top (subst (λ n. before + n * f ≤ top) parts room) state.1
 
 left_for : (e walked head content behind before now headed top : ℕ) → 3 ≤ head → before + (walked + head + content + behind) * suc e ≤ top → now ≤ before + walked * suc e → headed ≤ now + 3
     → headed + content * suc e ≤ top
-left_for e walked head content behind before now headed top long room so_far few = omega (arith, long, room, so_far, few)
+left_for e walked head content behind before now headed top long room state few = omega (arith, long, room, state, few)
 
-pub room-for-content : (f : ℕ) (all rest : List ℕ) (h : Header) (before now headed top : ℕ) → 1 ≤ f → IsWithin (length rest) h → length rest ≤ length all → before + length all * f ≤ top
+pub room-for-content : (f : ℕ) (all rest : List ℕ) (h : BoxHeader) (before now headed top : ℕ) → 1 ≤ f → IsWithin (length rest) h → length rest ≤ length all → before + length all * f ≤ top
     → RisesBy ((length all - length rest) * f) before now → headed ≤ now + 3 → headed + length (slice_range rest h.head h.size) * f ≤ top
-room-for-content zero all rest h before now headed top some within walked room so_far few = absurd (omega (arith, some))
-room-for-content (suc e) all rest h before now headed top some within walked room so_far few =
+room-for-content zero all rest h before now headed top some within walked room state few = absurd (omega (arith, some))
+room-for-content (suc e) all rest h before now headed top some within walked room state few =
     let content : length (slice_range rest h.head h.size) ≡ h.size - h.head = slice-length rest h.head h.size within.0 within.1 in
     let parts : length all ≡ (length all - length rest) + h.head + (h.size - h.head) + (length rest - h.size) = omega (arith, walked, within.0, within.1) in
     rw content
-    (left_for e (length all - length rest) h.head (h.size - h.head) (length rest - h.size) before now headed top (omega (arith, within.2)) (subst (λ n. before + n * suc e ≤ top) parts room) so_far.1 few)
+    (left_for e (length all - length rest) h.head (h.size - h.head) (length rest - h.size) before now headed top (omega (arith, within.2)) (subst (λ n. before + n * suc e ≤ top) parts room) state.1 few)

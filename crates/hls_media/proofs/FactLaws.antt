@@ -4,26 +4,26 @@ use Rattle.std.specs.List.{list_any}
 use Rattle.std.proofs.lemmas.Bool.{cases_Bool}
 use Rattle.std.proofs.Math.Bool.{or_assoc, or-false}
 use Rattle.std.proofs.lemmas.List.Sums.{sum_by-cons}
-use Rattle.hls_boxes_laws.specs.Boxes.{Child, children, named}
+use Rattle.hls_boxes_laws.specs.Boxes.{Child, children, contents_of_type}
 use Rattle.hls_media_laws.specs.Kinds.{traf_type}
 use Rattle.hls_media_laws.specs.declared.facts.Facts.{Facts}
 use Rattle.hls_media_laws.specs.declared.fault.MediaFault.{MediaFault}
 use Rattle.hls_media_laws.specs.declared.fault.MediaFault.TheVariants as faults
 use Rattle.hls_media_laws.specs.Lists.{all_of}
-use Rattle.hls_media_laws.specs.Fields.{count_of, durations, sizes, total, lacks, decode_time}
+use Rattle.hls_media_laws.specs.Fields.{sample_count, durations, sizes, total, some_missing, decode_time}
 use Rattle.hls_media_laws.specs.Runs.{duration_in, lacks_duration, lacks_size, has_samples, flags_in, run_begin, is_outside}
 use Rattle.hls_media_laws.specs.Trafs.{Traf, traf_at, trafs_of}
-use Rattle.hls_media_laws.specs.TrafFacts.{Given, is_unknown, has_base_offset, is_timing, size_for, duration_for, flags_for, lacks_sizes, base_of}
-use Rattle.hls_media_laws.specs.FactCases.{runs_end, run_end, some_run_outside, traf_end, some_outside, started, timed, facts_from, facts_by, facts_of_moof}
-use Rattle.hls_media.specs.declared.places.Frame.{Frame}
-use Rattle.hls_media.specs.declared.places.Placed.{Placed}
-use Rattle.hls_media.specs.declared.times.Timed.{Timed}
-use Rattle.hls_media.specs.declared.tallies.Tally.{Tally}
-use Rattle.hls_media.specs.declared.timing.Timing.TheVariants as timings
-use Rattle.hls_media.specs.Folds.{along, over}
-use Rattle.hls_media.specs.Placed.{placed_more}
-use Rattle.hls_media.specs.Timed.{timed_more, no_samples}
-use Rattle.hls_media.specs.Tallies.{nowhere, empty, frame_of, placed_from, traf_placed, traf_timed, timing_more, tally_more, tally_step, verdict_of, verdict, judged}
+use Rattle.hls_media_laws.specs.TrafFacts.{UnitContext, is_unknown, has_base_offset, is_timing, size_for, duration_for, flags_for, lacks_sizes, base_of}
+use Rattle.hls_media_laws.specs.FactCases.{runs_end, run_end, some_run_outside, traf_end, some_outside, facts_at_start, facts_of_timing_trafs, facts_from, facts_of_read_trafs, facts_of_moof}
+use Rattle.hls_media.specs.declared.run_placement.DataWindow.{DataWindow}
+use Rattle.hls_media.specs.declared.run_placement.RunPlacement.{RunPlacement}
+use Rattle.hls_media.specs.declared.samples.SampleSummary.{SampleSummary}
+use Rattle.hls_media.specs.declared.moof.MoofSummary.{MoofSummary}
+use Rattle.hls_media.specs.declared.timing_traf.TimingTraf.TheVariants as timings
+use Rattle.hls_media.specs.Folds.{fold_boxes, fold_content}
+use Rattle.hls_media.specs.RunPlacement.{placement_after_run}
+use Rattle.hls_media.specs.SampleSummary.{samples_after_run, no_samples}
+use Rattle.hls_media.specs.MoofSummary.{no_placement, empty_summary, window_of, placement_start, traf_placement, traf_samples, timing_after_traf, summary_after_traf, moof_step, facts_of_timing, facts_of_summary, facts_of_read_summary}
 
 -- a flag that each step may raise
 raised : {S T : Type 0} (more : S → T → S) (flag : S → Bool) (test : T → Bool) → ((s : S) (t : T) → flag (more s t) ≡ (flag s || test t)) → (ts : List T) (s : S) → flag (fold more s ts) ≡ (flag s || list_any test ts)
@@ -32,153 +32,153 @@ raised more flag test each (t ∷ ts) s =
     raised more flag test each ts (more s t) ∙ ap (λ (b : Bool). b || list_any test ts) (each s t) ∙ or_assoc (flag s) (test t) (list_any test ts)
 
 -- the runs of one `traf`
-placed-lacking : (d : Option ℕ) (f : Frame) (rs : List (List ℕ)) (p : Placed) → (fold (placed_more d f) p rs).lacking ≡ (p.lacking || lacks_size d rs)
-unfolding placed_more
-placed-lacking d f rs p = raised (placed_more d f) (λ (p : Placed). p.lacking) (λ (r : List ℕ). lacks (sizes d r)) (λ p r. refl) rs p
+placement-lacking : (d : Option ℕ) (f : DataWindow) (rs : List (List ℕ)) (p : RunPlacement) → (fold (placement_after_run d f) p rs).lacking ≡ (p.lacking || lacks_size d rs)
+unfolding placement_after_run
+placement-lacking d f rs p = raised (placement_after_run d f) (λ (p : RunPlacement). p.lacking) (λ (r : List ℕ). some_missing (sizes d r)) (λ p r. refl) rs p
 
-placed-end : (d : Option ℕ) (f : Frame) (rs : List (List ℕ)) (p : Placed) → (fold (placed_more d f) p rs).end ≡ runs_end d f.base p.end rs
-unfolding placed_more
-placed-end d f [] p = refl
-placed-end d f (r ∷ rs) p = placed-end d f rs (placed_more d f p r)
+placement-end : (d : Option ℕ) (f : DataWindow) (rs : List (List ℕ)) (p : RunPlacement) → (fold (placement_after_run d f) p rs).end ≡ runs_end d f.base p.end rs
+unfolding placement_after_run
+placement-end d f [] p = refl
+placement-end d f (r ∷ rs) p = placement-end d f rs (placement_after_run d f p r)
 
-placed-outside : (d : Option ℕ) (f : Frame) (rs : List (List ℕ)) (p : Placed) → (fold (placed_more d f) p rs).outside ≡ (p.outside || some_run_outside f.low f.high d f.base p.end rs)
-unfolding placed_more
-placed-outside d f [] p = sym (or-false p.outside)
-placed-outside d f (r ∷ rs) p =
-    placed-outside d f rs (placed_more d f p r)
+placement-outside : (d : Option ℕ) (f : DataWindow) (rs : List (List ℕ)) (p : RunPlacement) → (fold (placement_after_run d f) p rs).outside ≡ (p.outside || some_run_outside f.low f.high d f.base p.end rs)
+unfolding placement_after_run
+placement-outside d f [] p = sym (or-false p.outside)
+placement-outside d f (r ∷ rs) p =
+    placement-outside d f rs (placement_after_run d f p r)
     ∙ or_assoc p.outside (is_outside f.low f.high (run_begin f.base p.end r) (total (sizes d r))) (some_run_outside f.low f.high d f.base (run_end d f.base p.end r) rs)
 
-timed-duration : (d e : Option ℕ) (rs : List (List ℕ)) (t : Timed) → (fold (timed_more d e) t rs).duration ≡ t.duration + duration_in d rs
-unfolding timed_more
-timed-duration d e [] t = omega arith
-timed-duration d e (r ∷ rs) t =
-    timed-duration d e rs (timed_more d e t r)
+sample_summary-duration : (d e : Option ℕ) (rs : List (List ℕ)) (t : SampleSummary) → (fold (samples_after_run d e) t rs).duration ≡ t.duration + duration_in d rs
+unfolding samples_after_run
+sample_summary-duration d e [] t = omega arith
+sample_summary-duration d e (r ∷ rs) t =
+    sample_summary-duration d e rs (samples_after_run d e t r)
     ∙ add_assoc t.duration (total (durations d r)) (duration_in d rs)
     ∙ ap (λ (n : ℕ). t.duration + n) (sym (sum_by-cons (λ (r : List ℕ). total (durations d r)) r rs))
 
-timed-lacking : (d e : Option ℕ) (rs : List (List ℕ)) (t : Timed) → (fold (timed_more d e) t rs).lacking ≡ (t.lacking || lacks_duration d rs)
-unfolding timed_more
-timed-lacking d e rs t = raised (timed_more d e) (λ (t : Timed). t.lacking) (λ (r : List ℕ). lacks (durations d r)) (λ t r. refl) rs t
+sample_summary-lacking : (d e : Option ℕ) (rs : List (List ℕ)) (t : SampleSummary) → (fold (samples_after_run d e) t rs).lacking ≡ (t.lacking || lacks_duration d rs)
+unfolding samples_after_run
+sample_summary-lacking d e rs t = raised (samples_after_run d e) (λ (t : SampleSummary). t.lacking) (λ (r : List ℕ). some_missing (durations d r)) (λ t r. refl) rs t
 
-timed-samples : (d e : Option ℕ) (rs : List (List ℕ)) (t : Timed) → (fold (timed_more d e) t rs).samples ≡ (t.samples || has_samples rs)
-unfolding timed_more
-timed-samples d e rs t = raised (timed_more d e) (λ (t : Timed). t.samples) (λ (r : List ℕ). nat_lt 0 (count_of r)) (λ t r. refl) rs t
+sample_summary-samples : (d e : Option ℕ) (rs : List (List ℕ)) (t : SampleSummary) → (fold (samples_after_run d e) t rs).samples ≡ (t.samples || has_samples rs)
+unfolding samples_after_run
+sample_summary-samples d e rs t = raised (samples_after_run d e) (λ (t : SampleSummary). t.samples) (λ (r : List ℕ). nat_lt 0 (sample_count r)) (λ t r. refl) rs t
 
 -- once there was a sample, its flags stay
-flags-stay : (d e : Option ℕ) (rs : List (List ℕ)) (t : Timed) → t.samples ≡ true → (fold (timed_more d e) t rs).flags ≡ t.flags
-unfolding timed_more
+flags-stay : (d e : Option ℕ) (rs : List (List ℕ)) (t : SampleSummary) → t.samples ≡ true → (fold (samples_after_run d e) t rs).flags ≡ t.flags
+unfolding samples_after_run
 flags-stay d e [] t some = refl
-flags-stay d e (r ∷ rs) t some = flags-stay d e rs (timed_more d e t r) (rw some refl) ∙ rw some refl
+flags-stay d e (r ∷ rs) t some = flags-stay d e rs (samples_after_run d e t r) (rw some refl) ∙ rw some refl
 
-timed-flags : (d e : Option ℕ) (rs : List (List ℕ)) (t : Timed) → t.samples ≡ false → t.flags ≡ None → (fold (timed_more d e) t rs).flags ≡ flags_in e rs
-unfolding timed_more
-timed-flags d e [] t none flags = flags
-timed-flags d e (r ∷ rs) t none flags =
-    elim (cases_Bool (nat_lt 0 (count_of r))) [
-      | inl some ↦ flags-stay d e rs (timed_more d e t r) (rw (none, some) refl) ∙ rw (none, some) refl
-      | inr empty ↦ timed-flags d e rs (timed_more d e t r) (rw (none, empty) refl) (rw (none, empty) flags) ∙ rw empty refl
+sample_summary-flags : (d e : Option ℕ) (rs : List (List ℕ)) (t : SampleSummary) → t.samples ≡ false → t.flags ≡ None → (fold (samples_after_run d e) t rs).flags ≡ flags_in e rs
+unfolding samples_after_run
+sample_summary-flags d e [] t none flags = flags
+sample_summary-flags d e (r ∷ rs) t none flags =
+    elim (cases_Bool (nat_lt 0 (sample_count r))) [
+      | inl some ↦ flags-stay d e rs (samples_after_run d e t r) (rw (none, some) refl) ∙ rw (none, some) refl
+      | inr empty_summary ↦ sample_summary-flags d e rs (samples_after_run d e t r) (rw (none, empty_summary) refl) (rw (none, empty_summary) flags) ∙ rw empty_summary refl
     ]
 
 -- one `traf`
-module _ (g : Given) where
-  traf-lacking : (p : Placed) (t : Traf) → (traf_placed g p t).lacking ≡ (p.lacking || lacks_sizes g t)
-  unfolding traf_placed
-  traf-lacking p t = placed-lacking (size_for g t) (frame_of g p.end t) t.runs (placed_from p t)
+module _ (g : UnitContext) where
+  traf-lacking : (p : RunPlacement) (t : Traf) → (traf_placement g p t).lacking ≡ (p.lacking || lacks_sizes g t)
+  unfolding traf_placement
+  traf-lacking p t = placement-lacking (size_for g t) (window_of g p.end t) t.runs (placement_start p t)
 
-  traf-end : (p : Placed) (t : Traf) → (traf_placed g p t).end ≡ traf_end g p.end t
-  unfolding traf_placed
-  traf-end p t = placed-end (size_for g t) (frame_of g p.end t) t.runs (placed_from p t)
+  traf-end : (p : RunPlacement) (t : Traf) → (traf_placement g p t).end ≡ traf_end g p.end t
+  unfolding traf_placement
+  traf-end p t = placement-end (size_for g t) (window_of g p.end t) t.runs (placement_start p t)
 
-  traf-outside : (p : Placed) (t : Traf) → (traf_placed g p t).outside ≡ (p.outside || some_run_outside g.low g.high (size_for g t) (base_of p.end t) (base_of p.end t) t.runs)
-  unfolding traf_placed
-  traf-outside p t = placed-outside (size_for g t) (frame_of g p.end t) t.runs (placed_from p t)
+  traf-outside : (p : RunPlacement) (t : Traf) → (traf_placement g p t).outside ≡ (p.outside || some_run_outside g.low g.high (size_for g t) (base_of p.end t) (base_of p.end t) t.runs)
+  unfolding traf_placement
+  traf-outside p t = placement-outside (size_for g t) (window_of g p.end t) t.runs (placement_start p t)
 
   -- all of them
-  all-outside : (ts : List Traf) (p : Placed) → (fold (traf_placed g) p ts).outside ≡ (p.outside || some_outside g p.end ts)
+  all-outside : (ts : List Traf) (p : RunPlacement) → (fold (traf_placement g) p ts).outside ≡ (p.outside || some_outside g p.end ts)
   all-outside [] p = sym (or-false p.outside)
   all-outside (t ∷ ts) p =
       let here : Bool = some_run_outside g.low g.high (size_for g t) (base_of p.end t) (base_of p.end t) t.runs in
-      all-outside ts (traf_placed g p t)
-      ∙ ap (λ (b : Bool). b || some_outside g (traf_placed g p t).end ts) (traf-outside p t)
+      all-outside ts (traf_placement g p t)
+      ∙ ap (λ (b : Bool). b || some_outside g (traf_placement g p t).end ts) (traf-outside p t)
       ∙ ap (λ (z : ℤ). (p.outside || here) || some_outside g z ts) (traf-end p t)
       ∙ or_assoc p.outside here (some_outside g (traf_end g p.end t) ts)
 
-  all-lacking : (ts : List Traf) (p : Placed) → (fold (traf_placed g) p ts).lacking ≡ (p.lacking || list_any (lacks_sizes g) ts)
-  all-lacking ts p = raised (traf_placed g) (λ (p : Placed). p.lacking) (lacks_sizes g) traf-lacking ts p
+  all-lacking : (ts : List Traf) (p : RunPlacement) → (fold (traf_placement g) p ts).lacking ≡ (p.lacking || list_any (lacks_sizes g) ts)
+  all-lacking ts p = raised (traf_placement g) (λ (p : RunPlacement). p.lacking) (lacks_sizes g) traf-lacking ts p
 
   -- the parts of a tally
-  tally-unknown : (ts : List Traf) (s : Tally) → (fold (tally_more g) s ts).unknown ≡ (s.unknown || list_any (is_unknown g) ts)
-  unfolding tally_more
-  tally-unknown ts s = raised (tally_more g) (λ (s : Tally). s.unknown) (is_unknown g) (λ s t. refl) ts s
+  summary-unknown : (ts : List Traf) (s : MoofSummary) → (fold (summary_after_traf g) s ts).unknown ≡ (s.unknown || list_any (is_unknown g) ts)
+  unfolding summary_after_traf
+  summary-unknown ts s = raised (summary_after_traf g) (λ (s : MoofSummary). s.unknown) (is_unknown g) (λ s t. refl) ts s
 
-  tally-base : (ts : List Traf) (s : Tally) → (fold (tally_more g) s ts).base_offset ≡ (s.base_offset || list_any has_base_offset ts)
-  unfolding tally_more
-  tally-base ts s = raised (tally_more g) (λ (s : Tally). s.base_offset) has_base_offset (λ s t. refl) ts s
+  summary-base : (ts : List Traf) (s : MoofSummary) → (fold (summary_after_traf g) s ts).base_offset ≡ (s.base_offset || list_any has_base_offset ts)
+  unfolding summary_after_traf
+  summary-base ts s = raised (summary_after_traf g) (λ (s : MoofSummary). s.base_offset) has_base_offset (λ s t. refl) ts s
 
-  tally-placed : (ts : List Traf) (s : Tally) → (fold (tally_more g) s ts).placed ≡ fold (traf_placed g) s.placed ts
-  unfolding tally_more
-  tally-placed [] s = refl
-  tally-placed (t ∷ ts) s = tally-placed ts (tally_more g s t)
+  summary-placement : (ts : List Traf) (s : MoofSummary) → (fold (summary_after_traf g) s ts).placement ≡ fold (traf_placement g) s.placement ts
+  unfolding summary_after_traf
+  summary-placement [] s = refl
+  summary-placement (t ∷ ts) s = summary-placement ts (summary_after_traf g s t)
 
-  tally-timing : (ts : List Traf) (s : Tally) → (fold (tally_more g) s ts).timing ≡ fold (timing_more g) s.timing (filter (is_timing g) ts)
-  unfolding tally_more
-  tally-timing [] s = refl
-  tally-timing (t ∷ ts) s =
+  summary-timing : (ts : List Traf) (s : MoofSummary) → (fold (summary_after_traf g) s ts).timing ≡ fold (timing_after_traf g) s.timing (filter (is_timing g) ts)
+  unfolding summary_after_traf
+  summary-timing [] s = refl
+  summary-timing (t ∷ ts) s =
       elim (cases_Bool (is_timing g t)) [
-        | inl own ↦ tally-timing ts (tally_more g s t) ∙ rw own refl
-        | inr other ↦ tally-timing ts (tally_more g s t) ∙ rw other refl
+        | inl own ↦ summary-timing ts (summary_after_traf g s t) ∙ rw own refl
+        | inr other ↦ summary-timing ts (summary_after_traf g s t) ∙ rw other refl
       ]
 
-  several-stays : (ts : List Traf) → fold (timing_more g) timings.Several ts ≡ timings.Several
+  several-stays : (ts : List Traf) → fold (timing_after_traf g) timings.Several ts ≡ timings.Several
   several-stays [] = refl
   several-stays (t ∷ ts) = several-stays ts
 
-  one-timing : (len : ℕ) (ts : List Traf) (t : Traf) (start : Option ℕ) → verdict_of g.timing len (fold (traf_placed g) nowhere ts) (timings.One start (traf_timed g t)) ≡ started g len ts t start
-  unfolding traf_timed
+  one-timing : (len : ℕ) (ts : List Traf) (t : Traf) (start : Option ℕ) → facts_of_timing g.timing len (fold (traf_placement g) no_placement ts) (timings.One start (traf_samples g t)) ≡ facts_at_start g len ts t start
+  unfolding traf_samples
   one-timing len ts t None = refl
   one-timing len ts t (Some start) =
-      rw (all-lacking ts nowhere, all-outside ts nowhere, timed-lacking (duration_for g t) (flags_for g t) t.runs no_samples, timed-samples (duration_for g t) (flags_for g t) t.runs no_samples, timed-flags (duration_for g t) (flags_for g t) t.runs no_samples refl refl, timed-duration (duration_for g t) (flags_for g t) t.runs no_samples, zero-add (duration_in (duration_for g t) t.runs)) refl
+      rw (all-lacking ts no_placement, all-outside ts no_placement, sample_summary-lacking (duration_for g t) (flags_for g t) t.runs no_samples, sample_summary-samples (duration_for g t) (flags_for g t) t.runs no_samples, sample_summary-flags (duration_for g t) (flags_for g t) t.runs no_samples refl refl, sample_summary-duration (duration_for g t) (flags_for g t) t.runs no_samples, zero-add (duration_in (duration_for g t) t.runs)) refl
 
-  by_timing : (len : ℕ) (ts chosen : List Traf) → verdict_of g.timing len (fold (traf_placed g) nowhere ts) (fold (timing_more g) timings.Missing chosen) ≡ timed g len ts chosen
+  by_timing : (len : ℕ) (ts chosen : List Traf) → facts_of_timing g.timing len (fold (traf_placement g) no_placement ts) (fold (timing_after_traf g) timings.Missing chosen) ≡ facts_of_timing_trafs g len ts chosen
   by_timing len ts [] = refl
   by_timing len ts (t ∷ []) = one-timing len ts t (option_map decode_time t.time)
-  by_timing len ts (t ∷ u ∷ more) = ap (verdict_of g.timing len (fold (traf_placed g) nowhere ts)) (several-stays more)
+  by_timing len ts (t ∷ u ∷ more) = ap (facts_of_timing g.timing len (fold (traf_placement g) no_placement ts)) (several-stays more)
 
-  verdict-facts : (len : ℕ) (ts : List Traf) → verdict g.timing len (fold (tally_more g) empty ts) ≡ facts_from g len ts
+  verdict-facts : (len : ℕ) (ts : List Traf) → facts_of_summary g.timing len (fold (summary_after_traf g) empty_summary ts) ≡ facts_from g len ts
   unfolding facts_from
   verdict-facts len ts =
-      rw (tally-unknown ts empty, tally-base ts empty, tally-placed ts empty, tally-timing ts empty)
+      rw (summary-unknown ts empty_summary, summary-base ts empty_summary, summary-placement ts empty_summary, summary-timing ts empty_summary)
       (ap (λ (r : Result Facts MediaFault). cond (list_any (is_unknown g) ts) (Err faults.UnknownTrack) (cond (list_any has_base_offset ts) (Err faults.BaseOffset) r)) (by_timing len ts (filter (is_timing g) ts)))
 
   -- the boxes of a `moof`
-  mapped : (s : Tally) (t : Traf) (others : Option (List Traf)) → option_map (fold (tally_more g) (tally_more g s t)) others ≡ option_map (fold (tally_more g) s) (option_map (λ (ys : List Traf). t ∷ ys) others)
+  mapped : (s : MoofSummary) (t : Traf) (others : Option (List Traf)) → option_map (fold (summary_after_traf g) (summary_after_traf g s t)) others ≡ option_map (fold (summary_after_traf g) s) (option_map (λ (ys : List Traf). t ∷ ys) others)
   mapped s t None = refl
   mapped s t (Some ts) = refl
 
-  one_traf : (s : Tally) (cs : List Child) (t : Option Traf)
-      → ((s : Tally) → along (tally_step g) Some s cs ≡ option_map (fold (tally_more g) s) (all_of traf_at (named traf_type cs)))
-      → option_and_then (λ (s : Tally). along (tally_step g) Some s cs) (option_map (tally_more g s) t)
-      ≡ option_map (fold (tally_more g) s) (option_and_then (λ (y : Traf). option_map (λ (ys : List Traf). y ∷ ys) (all_of traf_at (named traf_type cs))) t)
+  one_traf : (s : MoofSummary) (cs : List Child) (t : Option Traf)
+      → ((s : MoofSummary) → fold_boxes (moof_step g) Some s cs ≡ option_map (fold (summary_after_traf g) s) (all_of traf_at (contents_of_type traf_type cs)))
+      → option_and_then (λ (s : MoofSummary). fold_boxes (moof_step g) Some s cs) (option_map (summary_after_traf g s) t)
+      ≡ option_map (fold (summary_after_traf g) s) (option_and_then (λ (y : Traf). option_map (λ (ys : List Traf). y ∷ ys) (all_of traf_at (contents_of_type traf_type cs))) t)
   one_traf s cs None ih = refl
-  one_traf s cs (Some t) ih = ih (tally_more g s t) ∙ mapped s t (all_of traf_at (named traf_type cs))
+  one_traf s cs (Some t) ih = ih (summary_after_traf g s t) ∙ mapped s t (all_of traf_at (contents_of_type traf_type cs))
 
-  along-tally : (cs : List Child) (s : Tally) → along (tally_step g) Some s cs ≡ option_map (fold (tally_more g) s) (all_of traf_at (named traf_type cs))
-  unfolding along
-  along-tally [] s = refl
-  along-tally (c ∷ cs) s =
+  along-summary : (cs : List Child) (s : MoofSummary) → fold_boxes (moof_step g) Some s cs ≡ option_map (fold (summary_after_traf g) s) (all_of traf_at (contents_of_type traf_type cs))
+  unfolding fold_boxes
+  along-summary [] s = refl
+  along-summary (c ∷ cs) s =
       elim (cases_Bool (c.kind == traf_type)) [
-        | inl e ↦ rw e (one_traf s cs (traf_at c.content) (along-tally cs))
-        | inr e ↦ rw e (along-tally cs s)
+        | inl e ↦ rw e (one_traf s cs (traf_at c.content) (along-summary cs))
+        | inr e ↦ rw e (along-summary cs s)
       ]
 
-  by_trafs : (len : ℕ) (trafs : Option (List Traf)) → judged g.timing len (option_map (fold (tally_more g) empty) trafs) ≡ facts_by g len trafs
+  by_trafs : (len : ℕ) (trafs : Option (List Traf)) → facts_of_read_summary g.timing len (option_map (fold (summary_after_traf g) empty_summary) trafs) ≡ facts_of_read_trafs g len trafs
   by_trafs len None = refl
   by_trafs len (Some ts) = verdict-facts len ts
 
-  by_boxes : (len : ℕ) (boxes : Option (List Child)) → judged g.timing len (option_and_then (along (tally_step g) Some empty) boxes) ≡ facts_by g len (option_and_then (λ (cs : List Child). all_of traf_at (named traf_type cs)) boxes)
+  by_boxes : (len : ℕ) (boxes : Option (List Child)) → facts_of_read_summary g.timing len (option_and_then (fold_boxes (moof_step g) Some empty_summary) boxes) ≡ facts_of_read_trafs g len (option_and_then (λ (cs : List Child). all_of traf_at (contents_of_type traf_type cs)) boxes)
   by_boxes len None = refl
-  by_boxes len (Some cs) = ap (judged g.timing len) (along-tally cs empty) ∙ by_trafs len (all_of traf_at (named traf_type cs))
+  by_boxes len (Some cs) = ap (facts_of_read_summary g.timing len) (along-summary cs empty_summary) ∙ by_trafs len (all_of traf_at (contents_of_type traf_type cs))
 
-  pub judged-facts : (len : ℕ) (moof : List ℕ) → judged g.timing len (over (tally_step g) Some empty moof) ≡ facts_of_moof g len moof
-  unfolding over facts_of_moof trafs_of
+  pub judged-facts : (len : ℕ) (moof : List ℕ) → facts_of_read_summary g.timing len (fold_content (moof_step g) Some empty_summary moof) ≡ facts_of_moof g len moof
+  unfolding fold_content facts_of_moof trafs_of
   judged-facts len moof = by_boxes len (children moof)

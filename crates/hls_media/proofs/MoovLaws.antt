@@ -4,68 +4,68 @@ use Rattle.std.specs.List.{list_any}
 use Rattle.std.specs.Option.{option_or}
 use Rattle.std.proofs.lemmas.Bool.{cases_Bool, eqb-true}
 use Rattle.std.proofs.lemmas.List.{append-nil}
-use Rattle.hls_boxes_laws.specs.Boxes.{Child, children, named}
+use Rattle.hls_boxes_laws.specs.Boxes.{Child, children, contents_of_type}
 use Rattle.hls_media_laws.specs.Kinds.{trak_type, mvex_type}
 use Rattle.hls_media_laws.specs.declared.track.Track.{Track}
 use Rattle.hls_media_laws.specs.Lists.{all_of, differ_from}
 use Rattle.hls_media_laws.specs.Inits.{track_at}
-use Rattle.hls_media.specs.Folds.{along, over}
-use Rattle.hls_media.specs.Given.{kept}
-use Rattle.hls_media.specs.Gathered.{Gathered, nothing_yet, with_track, gather_step}
+use Rattle.hls_media.specs.Folds.{fold_boxes, fold_content}
+use Rattle.hls_media.specs.TrexSteps.{first_eight}
+use Rattle.hls_media.specs.MoovSteps.{MoovContents, no_contents, with_track, moov_step}
 
 -- what is gathered where these tracks follow, and this is the first `mvex`
-unfoldable pub after : Gathered → Option (List ℕ) → List Track → Gathered
-after s mvex ts = record { ids = s.ids ++ map (λ (t : Track). t.id) ts; tracks = fold kept s.tracks ts; mvex = option_or s.mvex mvex }
+unfoldable pub after : MoovContents → Option (List ℕ) → List Track → MoovContents
+after s mvex ts = record { ids = s.ids ++ map (λ (t : Track). t.id) ts; tracks = fold first_eight s.tracks ts; mvex = option_or s.mvex mvex }
 
-unfoldable pub gathered : Gathered → Option (List ℕ) → List Track → Option Gathered
+unfoldable pub gathered : MoovContents → Option (List ℕ) → List Track → Option MoovContents
 gathered s mvex ts = cond (differ_from s.ids (map (λ (t : Track). t.id) ts)) (Some (after s mvex ts)) None
 
-abbrev Gathers : Gathered → List Child → Type 0
-Gathers s cs = along gather_step Some s cs ≡ option_and_then (gathered s (slice_get (named mvex_type cs) 0)) (all_of track_at (named trak_type cs))
+abbrev Gathers : MoovContents → List Child → Type 0
+Gathers s cs = fold_boxes moov_step Some s cs ≡ option_and_then (gathered s (slice_get (contents_of_type mvex_type cs) 0)) (all_of track_at (contents_of_type trak_type cs))
 
 or-none : {A : Type 0} (o : Option A) → o ≡ option_or o None
 or-none None = refl
 or-none (Some x) = refl
 
-none-yet : (s : Gathered) → Some s ≡ gathered s None []
+none-yet : (s : MoovContents) → Some s ≡ gathered s None []
 unfolding gathered after
 none-yet s = rw (append-nil, ← or-none s.mvex) refl
 
 -- one track more
-one-more : (s : Gathered) (mvex : Option (List ℕ)) (t : Track) (ts : List Track) → list_any (λ (m : ℕ). m == t.id) s.ids ≡ false
-    → gathered (record { ids = s.ids ++ t.id ∷ []; tracks = kept s.tracks t; mvex = s.mvex }) mvex ts ≡ gathered s mvex (t ∷ ts)
+one-more : (s : MoovContents) (mvex : Option (List ℕ)) (t : Track) (ts : List Track) → list_any (λ (m : ℕ). m == t.id) s.ids ≡ false
+    → gathered (record { ids = s.ids ++ t.id ∷ []; tracks = first_eight s.tracks t; mvex = s.mvex }) mvex ts ≡ gathered s mvex (t ∷ ts)
 unfolding gathered after
 one-more s mvex t ts new = rw (new, append_assoc s.ids (t.id ∷ []) (map (λ (t : Track). t.id) ts)) refl
 
-again : (s : Gathered) (mvex : Option (List ℕ)) (t : Track) (others : Option (List Track)) → list_any (λ (m : ℕ). m == t.id) s.ids ≡ true → None ≡ option_and_then (gathered s mvex) (option_map (λ ts. t ∷ ts) others)
+again : (s : MoovContents) (mvex : Option (List ℕ)) (t : Track) (others : Option (List Track)) → list_any (λ (m : ℕ). m == t.id) s.ids ≡ true → None ≡ option_and_then (gathered s mvex) (option_map (λ ts. t ∷ ts) others)
 unfolding gathered
 again s mvex t None old = refl
 again s mvex t (Some ts) old = rw old refl
 
-others_more : (s : Gathered) (mvex : Option (List ℕ)) (t : Track) (others : Option (List Track)) → list_any (λ (m : ℕ). m == t.id) s.ids ≡ false
-    → option_and_then (gathered (record { ids = s.ids ++ t.id ∷ []; tracks = kept s.tracks t; mvex = s.mvex }) mvex) others ≡ option_and_then (gathered s mvex) (option_map (λ ts. t ∷ ts) others)
+others_more : (s : MoovContents) (mvex : Option (List ℕ)) (t : Track) (others : Option (List Track)) → list_any (λ (m : ℕ). m == t.id) s.ids ≡ false
+    → option_and_then (gathered (record { ids = s.ids ++ t.id ∷ []; tracks = first_eight s.tracks t; mvex = s.mvex }) mvex) others ≡ option_and_then (gathered s mvex) (option_map (λ ts. t ∷ ts) others)
 others_more s mvex t None new = refl
 others_more s mvex t (Some ts) new = one-more s mvex t ts new
 
-abbrev goes : List Child → Option Gathered → Option Gathered
-goes cs next = option_and_then (λ (s : Gathered). along gather_step Some s cs) next
+abbrev goes : List Child → Option MoovContents → Option MoovContents
+goes cs next = option_and_then (λ (s : MoovContents). fold_boxes moov_step Some s cs) next
 
-found : (s : Gathered) (t : Track) → list_any (λ (m : ℕ). m == t.id) s.ids ≡ true → with_track s t ≡ None
+found : (s : MoovContents) (t : Track) → list_any (λ (m : ℕ). m == t.id) s.ids ≡ true → with_track s t ≡ None
 found s t old = rw old refl
 
-not_found : (s : Gathered) (t : Track) → list_any (λ (m : ℕ). m == t.id) s.ids ≡ false → with_track s t ≡ Some (record { ids = s.ids ++ t.id ∷ []; tracks = kept s.tracks t; mvex = s.mvex })
+not_found : (s : MoovContents) (t : Track) → list_any (λ (m : ℕ). m == t.id) s.ids ≡ false → with_track s t ≡ Some (record { ids = s.ids ++ t.id ∷ []; tracks = first_eight s.tracks t; mvex = s.mvex })
 not_found s t new = rw new refl
 
-a_track : (s : Gathered) (o : Option Track) (cs : List Child) → ((s : Gathered) → Gathers s cs)
-    → goes cs (option_and_then (with_track s) o) ≡ option_and_then (gathered s (slice_get (named mvex_type cs) 0)) (option_and_then (λ (t : Track). option_map (λ (ts : List Track). t ∷ ts) (all_of track_at (named trak_type cs))) o)
+a_track : (s : MoovContents) (o : Option Track) (cs : List Child) → ((s : MoovContents) → Gathers s cs)
+    → goes cs (option_and_then (with_track s) o) ≡ option_and_then (gathered s (slice_get (contents_of_type mvex_type cs) 0)) (option_and_then (λ (t : Track). option_map (λ (ts : List Track). t ∷ ts) (all_of track_at (contents_of_type trak_type cs))) o)
 a_track s None cs ih = refl
 a_track s (Some t) cs ih =
     elim (cases_Bool (list_any (λ (m : ℕ). m == t.id) s.ids)) [
-      | inl old ↦ ap (goes cs) (found s t old) ∙ again s (slice_get (named mvex_type cs) 0) t (all_of track_at (named trak_type cs)) old
-      | inr new ↦ ap (goes cs) (not_found s t new) ∙ ih (record { ids = s.ids ++ t.id ∷ []; tracks = kept s.tracks t; mvex = s.mvex }) ∙ others_more s (slice_get (named mvex_type cs) 0) t (all_of track_at (named trak_type cs)) new
+      | inl old ↦ ap (goes cs) (found s t old) ∙ again s (slice_get (contents_of_type mvex_type cs) 0) t (all_of track_at (contents_of_type trak_type cs)) old
+      | inr new ↦ ap (goes cs) (not_found s t new) ∙ ih (record { ids = s.ids ++ t.id ∷ []; tracks = first_eight s.tracks t; mvex = s.mvex }) ∙ others_more s (slice_get (contents_of_type mvex_type cs) 0) t (all_of track_at (contents_of_type trak_type cs)) new
     ]
 
-same_mvex : (s : Gathered) (x : List ℕ) (first others : Option (List ℕ)) (tracks : Option (List Track)) → s.mvex ≡ Some x → option_and_then (gathered s first) tracks ≡ option_and_then (gathered s others) tracks
+same_mvex : (s : MoovContents) (x : List ℕ) (first others : Option (List ℕ)) (tracks : Option (List Track)) → s.mvex ≡ Some x → option_and_then (gathered s first) tracks ≡ option_and_then (gathered s others) tracks
 unfolding gathered after
 same_mvex s x first others None is = refl
 same_mvex s x first others (Some ts) is = rw is refl
@@ -76,18 +76,18 @@ unfolding gathered after
 new_mvex ids tracks content others None = refl
 new_mvex ids tracks content others (Some ts) = refl
 
-an_mvex : (ids : List ℕ) (tracks : List Track) (mvex : Option (List ℕ)) (content : List ℕ) (cs : List Child) → ((s : Gathered) → Gathers s cs)
+an_mvex : (ids : List ℕ) (tracks : List Track) (mvex : Option (List ℕ)) (content : List ℕ) (cs : List Child) → ((s : MoovContents) → Gathers s cs)
     → goes cs (cond (is_some mvex) (Some (record { ids = ids; tracks = tracks; mvex = mvex })) (Some (record { ids = ids; tracks = tracks; mvex = Some content })))
-    ≡ option_and_then (gathered (record { ids = ids; tracks = tracks; mvex = mvex }) (Some content)) (all_of track_at (named trak_type cs))
+    ≡ option_and_then (gathered (record { ids = ids; tracks = tracks; mvex = mvex }) (Some content)) (all_of track_at (contents_of_type trak_type cs))
 an_mvex ids tracks (Some x) content cs ih =
     ih (record { ids = ids; tracks = tracks; mvex = Some x })
-    ∙ same_mvex (record { ids = ids; tracks = tracks; mvex = Some x }) x (slice_get (named mvex_type cs) 0) (Some content) (all_of track_at (named trak_type cs)) refl
+    ∙ same_mvex (record { ids = ids; tracks = tracks; mvex = Some x }) x (slice_get (contents_of_type mvex_type cs) 0) (Some content) (all_of track_at (contents_of_type trak_type cs)) refl
 an_mvex ids tracks None content cs ih =
     ih (record { ids = ids; tracks = tracks; mvex = Some content })
-    ∙ new_mvex ids tracks content (slice_get (named mvex_type cs) 0) (all_of track_at (named trak_type cs))
+    ∙ new_mvex ids tracks content (slice_get (contents_of_type mvex_type cs) 0) (all_of track_at (contents_of_type trak_type cs))
 
-gathers : (s : Gathered) (cs : List Child) → Gathers s cs
-unfolding along
+gathers : (s : MoovContents) (cs : List Child) → Gathers s cs
+unfolding fold_boxes
 gathers s [] = none-yet s
 gathers s (c ∷ cs) =
     elim (cases_Bool (c.kind == trak_type)) [
@@ -100,10 +100,10 @@ gathers s (c ∷ cs) =
       ]
     ]
 
-by_boxes : (boxes : Option (List Child)) → option_and_then (along gather_step Some nothing_yet) boxes ≡ option_and_then (λ (cs : List Child). option_and_then (gathered nothing_yet (slice_get (named mvex_type cs) 0)) (all_of track_at (named trak_type cs))) boxes
+by_boxes : (boxes : Option (List Child)) → option_and_then (fold_boxes moov_step Some no_contents) boxes ≡ option_and_then (λ (cs : List Child). option_and_then (gathered no_contents (slice_get (contents_of_type mvex_type cs) 0)) (all_of track_at (contents_of_type trak_type cs))) boxes
 by_boxes None = refl
-by_boxes (Some cs) = gathers nothing_yet cs
+by_boxes (Some cs) = gathers no_contents cs
 
-pub over-gather : (moov : List ℕ) → over gather_step Some nothing_yet moov ≡ option_and_then (λ (cs : List Child). option_and_then (gathered nothing_yet (slice_get (named mvex_type cs) 0)) (all_of track_at (named trak_type cs))) (children moov)
-unfolding over
-over-gather moov = by_boxes (children moov)
+pub over-visitor : (moov : List ℕ) → fold_content moov_step Some no_contents moov ≡ option_and_then (λ (cs : List Child). option_and_then (gathered no_contents (slice_get (contents_of_type mvex_type cs) 0)) (all_of track_at (contents_of_type trak_type cs))) (children moov)
+unfolding fold_content
+over-visitor moov = by_boxes (children moov)

@@ -1,19 +1,19 @@
 -- A walk over boxes, one box at a time.
 use Rattle.std.proofs.Common.{◌≡◌, ℕ, ◌<◌, List, [], ◌∷◌, length, drop, slice_range, Option, Some, None, option_and_then, option_map, refl, ◌∙◌, ap, arith}
-use Rattle.hls_boxes_laws.specs.declared.header.Header.{Header}
-use Rattle.hls_boxes_laws.specs.Boxes.{Child, child_of, children, children_by, box_at}
+use Rattle.hls_boxes_laws.specs.declared.box_header.BoxHeader.{BoxHeader}
+use Rattle.hls_boxes_laws.specs.Boxes.{Child, child_of, children, children_after_header, box_at}
 use Rattle.hls_boxes_laws.proofs.Callers.{children-empty, children-step}
-use Rattle.hls_media.specs.Folds.{along, over}
+use Rattle.hls_media.specs.Folds.{fold_boxes, fold_content}
 
-pub over-end : {S R : Type 0} (step : S → ℕ → List ℕ → Option S) (finish : S → Option R) (s : S) (bytes : List ℕ) → length bytes ≡ 0 → over step finish s bytes ≡ finish s
-unfolding over along
-over-end step finish s [] e = ap (option_and_then (along step finish s)) children-empty
+pub over-end : {S R : Type 0} (step : S → ℕ → List ℕ → Option S) (finish : S → Option R) (s : S) (bytes : List ℕ) → length bytes ≡ 0 → fold_content step finish s bytes ≡ finish s
+unfolding fold_content fold_boxes
+over-end step finish s [] e = ap (option_and_then (fold_boxes step finish s)) children-empty
 over-end step finish s (b ∷ bytes) e = absurd (omega (arith, e))
 
-pub over-bad : {S R : Type 0} (step : S → ℕ → List ℕ → Option S) (finish : S → Option R) (s : S) (bytes : List ℕ) → 0 < length bytes → box_at bytes ≡ None → over step finish s bytes ≡ None
-unfolding over
+pub over-bad : {S R : Type 0} (step : S → ℕ → List ℕ → Option S) (finish : S → Option R) (s : S) (bytes : List ℕ) → 0 < length bytes → box_at bytes ≡ None → fold_content step finish s bytes ≡ None
+unfolding fold_content
 over-bad step finish s bytes some none =
-    ap (option_and_then (along step finish s)) (children-step bytes some ∙ ap (children_by children bytes) none)
+    ap (option_and_then (fold_boxes step finish s)) (children-step bytes some ∙ ap (children_after_header children bytes) none)
 
 nothing : {A B : Type 0} (o : Option A) → None ≡ option_and_then {U = B} (λ (a : A). None) o
 nothing None = refl
@@ -21,34 +21,34 @@ nothing (Some a) = refl
 
 -- what stands behind the first box
 front : {S R : Type 0} (step : S → ℕ → List ℕ → Option S) (finish : S → Option R) (s : S) (c : Child) (others : Option (List Child))
-    → option_and_then (along step finish s) (option_map (λ more. c ∷ more) others) ≡ option_and_then (λ s'. option_and_then (along step finish s') others) (step s c.kind c.content)
-unfolding along
+    → option_and_then (fold_boxes step finish s) (option_map (λ more. c ∷ more) others) ≡ option_and_then (λ s'. option_and_then (fold_boxes step finish s') others) (step s c.kind c.content)
+unfolding fold_boxes
 front step finish s c None = nothing (step s c.kind c.content)
 front step finish s c (Some cs) = refl
 
-pub over-next : {S R : Type 0} (step : S → ℕ → List ℕ → Option S) (finish : S → Option R) (s : S) (bytes : List ℕ) (h : Header) (next : Option S) → 0 < length bytes → box_at bytes ≡ Some h → step s h.kind (slice_range bytes h.head h.size) ≡ next
-    → over step finish s bytes ≡ option_and_then (λ s'. over step finish s' (drop h.size bytes)) next
-unfolding over
+pub over-next : {S R : Type 0} (step : S → ℕ → List ℕ → Option S) (finish : S → Option R) (s : S) (bytes : List ℕ) (h : BoxHeader) (next : Option S) → 0 < length bytes → box_at bytes ≡ Some h → step s h.kind (slice_range bytes h.head h.size) ≡ next
+    → fold_content step finish s bytes ≡ option_and_then (λ s'. fold_content step finish s' (drop h.size bytes)) next
+unfolding fold_content
 over-next step finish s bytes h next some is_box stepped =
-    ap (option_and_then (along step finish s)) (children-step bytes some ∙ ap (children_by children bytes) is_box)
+    ap (option_and_then (fold_boxes step finish s)) (children-step bytes some ∙ ap (children_after_header children bytes) is_box)
     ∙ front step finish s (child_of h bytes) (children (drop h.size bytes))
-    ∙ ap (option_and_then (λ s'. option_and_then (along step finish s') (children (drop h.size bytes)))) stepped
+    ∙ ap (option_and_then (λ s'. option_and_then (fold_boxes step finish s') (children (drop h.size bytes)))) stepped
 
 -- what is made of the last state
-finish_next : {S R : Type 0} (step : S → ℕ → List ℕ → Option S) (finish : S → Option R) (cs : List Child) → ((s : S) → option_and_then finish (along step Some s cs) ≡ along step finish s cs) → (next : Option S)
-    → option_and_then finish (option_and_then (λ s. along step Some s cs) next) ≡ option_and_then (λ s. along step finish s cs) next
+finish_next : {S R : Type 0} (step : S → ℕ → List ℕ → Option S) (finish : S → Option R) (cs : List Child) → ((s : S) → option_and_then finish (fold_boxes step Some s cs) ≡ fold_boxes step finish s cs) → (next : Option S)
+    → option_and_then finish (option_and_then (λ s. fold_boxes step Some s cs) next) ≡ option_and_then (λ s. fold_boxes step finish s cs) next
 finish_next step finish cs ih None = refl
 finish_next step finish cs ih (Some s) = ih s
 
-along-finish : {S R : Type 0} (step : S → ℕ → List ℕ → Option S) (finish : S → Option R) (cs : List Child) (s : S) → option_and_then finish (along step Some s cs) ≡ along step finish s cs
-unfolding along
+along-finish : {S R : Type 0} (step : S → ℕ → List ℕ → Option S) (finish : S → Option R) (cs : List Child) (s : S) → option_and_then finish (fold_boxes step Some s cs) ≡ fold_boxes step finish s cs
+unfolding fold_boxes
 along-finish step finish [] s = refl
 along-finish step finish (c ∷ cs) s = finish_next step finish cs (along-finish step finish cs) (step s c.kind c.content)
 
-finish_boxes : {S R : Type 0} (step : S → ℕ → List ℕ → Option S) (finish : S → Option R) (s : S) (boxes : Option (List Child)) → option_and_then finish (option_and_then (along step Some s) boxes) ≡ option_and_then (along step finish s) boxes
+finish_boxes : {S R : Type 0} (step : S → ℕ → List ℕ → Option S) (finish : S → Option R) (s : S) (boxes : Option (List Child)) → option_and_then finish (option_and_then (fold_boxes step Some s) boxes) ≡ option_and_then (fold_boxes step finish s) boxes
 finish_boxes step finish s None = refl
 finish_boxes step finish s (Some cs) = along-finish step finish cs s
 
-pub over-finish : {S R : Type 0} (step : S → ℕ → List ℕ → Option S) (finish : S → Option R) (s : S) (bytes : List ℕ) → option_and_then finish (over step Some s bytes) ≡ over step finish s bytes
-unfolding over
+pub over-finish : {S R : Type 0} (step : S → ℕ → List ℕ → Option S) (finish : S → Option R) (s : S) (bytes : List ℕ) → option_and_then finish (fold_content step Some s bytes) ≡ fold_content step finish s bytes
+unfolding fold_content
 over-finish step finish s bytes = finish_boxes step finish s (children bytes)

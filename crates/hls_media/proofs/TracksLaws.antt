@@ -2,35 +2,35 @@
 use Rattle.std.proofs.Common.{◌≡◌, ℕ, ◌+◌, ◌≤◌, ◌==◌, nat_lt, Bool, true, false, cond, List, [], ◌∷◌, ◌++◌, length, map, fold, slice_get, Option, Some, None, is_none, option_map, option_and_then, refl, sym, ◌∙◌, ap, subst, inl, inr, append_assoc, arith}
 use Rattle.std.proofs.lemmas.Bool.{cases_Bool, lt-ltb}
 use Rattle.std.proofs.lemmas.List.{append-nil, length-append, length-map}
-use Rattle.hls_boxes_laws.specs.Boxes.{Child, children, named}
+use Rattle.hls_boxes_laws.specs.Boxes.{Child, children, contents_of_type}
 use Rattle.hls_media_laws.specs.Kinds.{trak_type, mvex_type, trex_type, tkhd_type, mdia_type}
 use Rattle.hls_media_laws.specs.declared.track.Track.{Track}
 use Rattle.hls_media_laws.specs.declared.track.Trex.{Trex}
-use Rattle.hls_media_laws.specs.declared.track.Media.{Media}
+use Rattle.hls_media_laws.specs.declared.track.Mdia.{Mdia}
 use Rattle.hls_media_laws.specs.Lists.{all_of, all_differ}
-use Rattle.hls_media_laws.specs.Inits.{track_at, track_by, track_from, first_with, versioned_field, media_of, trex_at, trexes_of, trexes_by, with_defaults, tracks_with, tracks_by, tracks_of}
-use Rattle.hls_media.specs.Folds.{along, over}
-use Rattle.hls_media.specs.Given.{given, given_step, kept}
-use Rattle.hls_media.specs.Gathered.{Gathered, nothing_yet, gather_step, AreTracks}
-use Rattle.hls_media.proofs.MoovLaws.{gathered, after, over-gather}
+use Rattle.hls_media_laws.specs.Inits.{track_at, track_of_boxes, track_from, first_with, versioned_field, media_of, trex_at, trexes_of, trexes_of_first, with_defaults, tracks_with, tracks_of_boxes, tracks_of}
+use Rattle.hls_media.specs.Folds.{fold_boxes, fold_content}
+use Rattle.hls_media.specs.TrexSteps.{track_with_defaults, trex_step, first_eight}
+use Rattle.hls_media.specs.MoovSteps.{MoovContents, no_contents, moov_step, AreTracks}
+use Rattle.hls_media.proofs.MoovLaws.{gathered, after, over-visitor}
 
 -- the defaults of a track, one `trex` after the other
 gave : List Trex → Track → Track
-gave xs t = fold (λ (t : Track) (x : Trex). given x t) t xs
+gave xs t = fold (λ (t : Track) (x : Trex). track_with_defaults x t) t xs
 
 -- tracks as yet without defaults
 abbrev Fresh : List Track → Type 0
 Fresh [] = Unit {0}
 Fresh (t ∷ ts) = (t.defaults ≡ None) × Fresh ts
 
-fresh_from : (id : Option ℕ) (media : Option Media) (t : Track) → track_from id media ≡ Some t → t.defaults ≡ None
+fresh_from : (id : Option ℕ) (media : Option Mdia) (t : Track) → track_from id media ≡ Some t → t.defaults ≡ None
 fresh_from None media t is = absurd (cc)
 fresh_from (Some i) None t is = absurd (cc)
 fresh_from (Some i) (Some m) t is =
     let same : (record { id = i; scale = m.scale; handler = m.handler; defaults = None }) ≡ t = cc in
     sym (ap (λ (t : Track). t.defaults) same)
 
-fresh_by : (boxes : Option (List Child)) (t : Track) → option_and_then track_by boxes ≡ Some t → t.defaults ≡ None
+fresh_by : (boxes : Option (List Child)) (t : Track) → option_and_then track_of_boxes boxes ≡ Some t → t.defaults ≡ None
 fresh_by None t is = absurd (cc)
 fresh_by (Some cs) t is = fresh_from (first_with versioned_field tkhd_type cs) (first_with media_of mdia_type cs) t is
 
@@ -51,7 +51,7 @@ fresh [] ts is = let same : [] ≡ ts = cc in subst Fresh same tt
 fresh (x ∷ xs) ts is = fresh_more (track_at x) (all_of track_at xs) ts (λ t e. fresh_at x t e) (λ us e. fresh xs us e) is
 
 -- the first `trex` of a track counts
-no_gift : (x : Trex) (t : Track) → is_none t.defaults ≡ false → given x t ≡ t
+no_gift : (x : Trex) (t : Track) → is_none t.defaults ≡ false → track_with_defaults x t ≡ t
 no_gift x t some = elim (cases_Bool (x.id == t.id)) [ inl e ↦ rw (e, some) refl | inr e ↦ rw e refl ]
 
 gave-stays : (xs : List Trex) (t : Track) → is_none t.defaults ≡ false → gave xs t ≡ t
@@ -66,10 +66,10 @@ gave-with [] t none = ap (λ d. record t { defaults = d }) none
 gave-with (x ∷ xs) t none =
     elim (cases_Bool (x.id == t.id)) [
       | inl e ↦
-          let gift : given x t ≡ record t { defaults = Some x.defaults } = rw (e, none) refl in
+          let gift : track_with_defaults x t ≡ record t { defaults = Some x.defaults } = rw (e, none) refl in
           ap (λ (t : Track). gave xs t) gift ∙ gave-stays xs (record t { defaults = Some x.defaults }) refl ∙ rw e refl
       | inr e ↦
-          let same : given x t ≡ t = rw e refl in
+          let same : track_with_defaults x t ≡ t = rw e refl in
           ap (λ (t : Track). gave xs t) same ∙ gave-with xs t none ∙ rw e refl
     ]
 
@@ -82,24 +82,24 @@ unfolding gave
 no-gifts [] = refl
 no-gifts (t ∷ ts) = ap (λ (ts : List Track). t ∷ ts) (no-gifts ts)
 
-one-gift : (x : Trex) (xs : List Trex) (ts : List Track) → map (gave xs) (map (given x) ts) ≡ map (gave (x ∷ xs)) ts
+one-gift : (x : Trex) (xs : List Trex) (ts : List Track) → map (gave xs) (map (track_with_defaults x) ts) ≡ map (gave (x ∷ xs)) ts
 unfolding gave
 one-gift x xs [] = refl
-one-gift x xs (t ∷ ts) = ap (λ (ts : List Track). gave xs (given x t) ∷ ts) (one-gift x xs ts)
+one-gift x xs (t ∷ ts) = ap (λ (ts : List Track). gave xs (track_with_defaults x t) ∷ ts) (one-gift x xs ts)
 
 -- a walk over an `mvex`
-one_trex : (ts : List Track) (x : Trex) (others : Option (List Trex)) → option_map (λ (xs : List Trex). map (gave xs) (map (given x) ts)) others ≡ option_map (λ (xs : List Trex). map (gave xs) ts) (option_map (λ (xs : List Trex). x ∷ xs) others)
+one_trex : (ts : List Track) (x : Trex) (others : Option (List Trex)) → option_map (λ (xs : List Trex). map (gave xs) (map (track_with_defaults x) ts)) others ≡ option_map (λ (xs : List Trex). map (gave xs) ts) (option_map (λ (xs : List Trex). x ∷ xs) others)
 one_trex ts x None = refl
 one_trex ts x (Some xs) = ap Some (one-gift x xs ts)
 
-a_trex : (ts : List Track) (o : Option Trex) (cs : List Child) → ((ts : List Track) → along given_step Some ts cs ≡ option_map (λ (xs : List Trex). map (gave xs) ts) (all_of trex_at (named trex_type cs)))
-    → option_and_then (λ (ts : List Track). along given_step Some ts cs) (option_map (λ (x : Trex). map (given x) ts) o)
-    ≡ option_map (λ (xs : List Trex). map (gave xs) ts) (option_and_then (λ (x : Trex). option_map (λ (xs : List Trex). x ∷ xs) (all_of trex_at (named trex_type cs))) o)
+a_trex : (ts : List Track) (o : Option Trex) (cs : List Child) → ((ts : List Track) → fold_boxes trex_step Some ts cs ≡ option_map (λ (xs : List Trex). map (gave xs) ts) (all_of trex_at (contents_of_type trex_type cs)))
+    → option_and_then (λ (ts : List Track). fold_boxes trex_step Some ts cs) (option_map (λ (x : Trex). map (track_with_defaults x) ts) o)
+    ≡ option_map (λ (xs : List Trex). map (gave xs) ts) (option_and_then (λ (x : Trex). option_map (λ (xs : List Trex). x ∷ xs) (all_of trex_at (contents_of_type trex_type cs))) o)
 a_trex ts None cs ih = refl
-a_trex ts (Some x) cs ih = ih (map (given x) ts) ∙ one_trex ts x (all_of trex_at (named trex_type cs))
+a_trex ts (Some x) cs ih = ih (map (track_with_defaults x) ts) ∙ one_trex ts x (all_of trex_at (contents_of_type trex_type cs))
 
-along-given : (cs : List Child) (ts : List Track) → along given_step Some ts cs ≡ option_map (λ (xs : List Trex). map (gave xs) ts) (all_of trex_at (named trex_type cs))
-unfolding along
+along-given : (cs : List Child) (ts : List Track) → fold_boxes trex_step Some ts cs ≡ option_map (λ (xs : List Trex). map (gave xs) ts) (all_of trex_at (contents_of_type trex_type cs))
+unfolding fold_boxes
 along-given [] ts = ap Some (no-gifts ts)
 along-given (c ∷ cs) ts =
     elim (cases_Bool (c.kind == trex_type)) [
@@ -107,36 +107,36 @@ along-given (c ∷ cs) ts =
       | inr e ↦ rw e (along-given cs ts)
     ]
 
-given_boxes : (boxes : Option (List Child)) (ts : List Track) → option_and_then (along given_step Some ts) boxes ≡ option_map (λ (xs : List Trex). map (gave xs) ts) (option_and_then (λ (cs : List Child). all_of trex_at (named trex_type cs)) boxes)
+given_boxes : (boxes : Option (List Child)) (ts : List Track) → option_and_then (fold_boxes trex_step Some ts) boxes ≡ option_map (λ (xs : List Trex). map (gave xs) ts) (option_and_then (λ (cs : List Child). all_of trex_at (contents_of_type trex_type cs)) boxes)
 given_boxes None ts = refl
 given_boxes (Some cs) ts = along-given cs ts
 
-over-given : (mvex : List ℕ) (ts : List Track) → over given_step Some ts mvex ≡ option_map (λ (xs : List Trex). map (gave xs) ts) (trexes_of mvex)
-unfolding over trexes_of
+over-given : (mvex : List ℕ) (ts : List Track) → fold_content trex_step Some ts mvex ≡ option_map (λ (xs : List Trex). map (gave xs) ts) (trexes_of mvex)
+unfolding fold_content trexes_of
 over-given mvex ts = given_boxes (children mvex) ts
 
 -- eight tracks at most are kept whole
-kept-fold : (ts acc : List Track) → length acc + length ts ≤ 8 → fold kept acc ts ≡ acc ++ ts
+kept-fold : (ts acc : List Track) → length acc + length ts ≤ 8 → fold first_eight acc ts ≡ acc ++ ts
 kept-fold [] acc few = sym (append-nil acc)
 kept-fold (t ∷ ts) acc few =
     let room : nat_lt (length acc) 8 ≡ true = lt-ltb (length acc) 8 (omega arith) in
-    let step : kept acc t ≡ acc ++ t ∷ [] = rw room refl in
-    ap (λ (ts' : List Track). fold kept ts' ts) step
+    let step : first_eight acc t ≡ acc ++ t ∷ [] = rw room refl in
+    ap (λ (ts' : List Track). fold first_eight ts' ts) step
     ∙ kept-fold ts (acc ++ t ∷ []) (omega (arith, length-append acc (t ∷ [])))
     ∙ append_assoc acc (t ∷ []) ts
 
 -- what was gathered of a `moov`
-pub record Gathering (moov : List ℕ) (s : Gathered) : Type 0 where
+pub record Gathering (moov : List ℕ) (s : MoovContents) : Type 0 where
   pub boxes : List Child
   pub tracks : List Track
   pub filled : children moov ≡ Some boxes
-  pub read : all_of track_at (named trak_type boxes) ≡ Some tracks
+  pub read : all_of track_at (contents_of_type trak_type boxes) ≡ Some tracks
   pub differ : all_differ (map (λ (t : Track). t.id) tracks) ≡ true
   pub ids_are : s.ids ≡ map (λ (t : Track). t.id) tracks
-  pub tracks_are : s.tracks ≡ fold kept [] tracks
-  pub mvex_is : s.mvex ≡ slice_get (named mvex_type boxes) 0
+  pub tracks_are : s.tracks ≡ fold first_eight [] tracks
+  pub mvex_is : s.mvex ≡ slice_get (contents_of_type mvex_type boxes) 0
 
-gathering_so : (moov : List ℕ) (cs : List Child) (ts : List Track) → children moov ≡ Some cs → all_of track_at (named trak_type cs) ≡ Some ts → all_differ (map (λ (t : Track). t.id) ts) ≡ true → Gathering moov (after nothing_yet (slice_get (named mvex_type cs) 0) ts)
+gathering_so : (moov : List ℕ) (cs : List Child) (ts : List Track) → children moov ≡ Some cs → all_of track_at (contents_of_type trak_type cs) ≡ Some ts → all_differ (map (λ (t : Track). t.id) ts) ≡ true → Gathering moov (after no_contents (slice_get (contents_of_type mvex_type cs) 0) ts)
 unfolding after
 gathering_so moov cs ts filled read differ = record {
   boxes = cs;
@@ -149,45 +149,45 @@ gathering_so moov cs ts filled read differ = record {
   mvex_is = refl;
 }
 
-gathering_from : (moov : List ℕ) (cs : List Child) (ts : List Track) (s : Gathered) (differs : Bool) → children moov ≡ Some cs → all_of track_at (named trak_type cs) ≡ Some ts → all_differ (map (λ (t : Track). t.id) ts) ≡ differs
-    → cond differs (Some (after nothing_yet (slice_get (named mvex_type cs) 0) ts)) None ≡ Some s → Gathering moov s
+gathering_from : (moov : List ℕ) (cs : List Child) (ts : List Track) (s : MoovContents) (differs : Bool) → children moov ≡ Some cs → all_of track_at (contents_of_type trak_type cs) ≡ Some ts → all_differ (map (λ (t : Track). t.id) ts) ≡ differs
+    → cond differs (Some (after no_contents (slice_get (contents_of_type mvex_type cs) 0) ts)) None ≡ Some s → Gathering moov s
 gathering_from moov cs ts s false filled read differ is = absurd (cc)
 gathering_from moov cs ts s true filled read differ is =
-    let same : after nothing_yet (slice_get (named mvex_type cs) 0) ts ≡ s = cc in
+    let same : after no_contents (slice_get (contents_of_type mvex_type cs) 0) ts ≡ s = cc in
     subst (Gathering moov) same (gathering_so moov cs ts filled read differ)
 
-gathering_tracks : (moov : List ℕ) (cs : List Child) (ts : Option (List Track)) (s : Gathered) → children moov ≡ Some cs → all_of track_at (named trak_type cs) ≡ ts → option_and_then (gathered nothing_yet (slice_get (named mvex_type cs) 0)) ts ≡ Some s → Gathering moov s
+gathering_tracks : (moov : List ℕ) (cs : List Child) (ts : Option (List Track)) (s : MoovContents) → children moov ≡ Some cs → all_of track_at (contents_of_type trak_type cs) ≡ ts → option_and_then (gathered no_contents (slice_get (contents_of_type mvex_type cs) 0)) ts ≡ Some s → Gathering moov s
 unfolding gathered
 gathering_tracks moov cs None s filled read is = absurd (cc)
 gathering_tracks moov cs (Some ts) s filled read is = gathering_from moov cs ts s (all_differ (map (λ (t : Track). t.id) ts)) filled read refl is
 
-gathering_boxes : (moov : List ℕ) (boxes : Option (List Child)) (s : Gathered) → children moov ≡ boxes → option_and_then (λ (cs : List Child). option_and_then (gathered nothing_yet (slice_get (named mvex_type cs) 0)) (all_of track_at (named trak_type cs))) boxes ≡ Some s → Gathering moov s
+gathering_boxes : (moov : List ℕ) (boxes : Option (List Child)) (s : MoovContents) → children moov ≡ boxes → option_and_then (λ (cs : List Child). option_and_then (gathered no_contents (slice_get (contents_of_type mvex_type cs) 0)) (all_of track_at (contents_of_type trak_type cs))) boxes ≡ Some s → Gathering moov s
 gathering_boxes moov None s filled is = absurd (cc)
-gathering_boxes moov (Some cs) s filled is = gathering_tracks moov cs (all_of track_at (named trak_type cs)) s filled refl is
+gathering_boxes moov (Some cs) s filled is = gathering_tracks moov cs (all_of track_at (contents_of_type trak_type cs)) s filled refl is
 
-pub gathering : (moov : List ℕ) (s : Gathered) → over gather_step Some nothing_yet moov ≡ Some s → Gathering moov s
-gathering moov s is = gathering_boxes moov (children moov) s refl (sym (over-gather moov) ∙ is)
+pub gathering : (moov : List ℕ) (s : MoovContents) → fold_content moov_step Some no_contents moov ≡ Some s → Gathering moov s
+gathering moov s is = gathering_boxes moov (children moov) s refl (sym (over-visitor moov) ∙ is)
 
 -- nothing was gathered where a box is no good or two tracks have one number
-no_differ : (ts : List Track) (s : Gathered) (differs : Bool) → all_differ (map (λ (t : Track). t.id) ts) ≡ differs → cond differs (Some s) None ≡ None → (trexes : Option (List Trex)) → option_and_then (tracks_with ts) trexes ≡ None
+no_differ : (ts : List Track) (s : MoovContents) (differs : Bool) → all_differ (map (λ (t : Track). t.id) ts) ≡ differs → cond differs (Some s) None ≡ None → (trexes : Option (List Trex)) → option_and_then (tracks_with ts) trexes ≡ None
 no_differ ts s true e is trexes = absurd (cc)
 no_differ ts s false e is None = refl
 no_differ ts s false e is (Some xs) = rw e refl
 
-no_tracks : (cs : List Child) (ts : Option (List Track)) → option_and_then (gathered nothing_yet (slice_get (named mvex_type cs) 0)) ts ≡ None → option_and_then (λ (tracks : List Track). option_and_then (tracks_with tracks) (trexes_by (named mvex_type cs))) ts ≡ None
+no_tracks : (cs : List Child) (ts : Option (List Track)) → option_and_then (gathered no_contents (slice_get (contents_of_type mvex_type cs) 0)) ts ≡ None → option_and_then (λ (tracks : List Track). option_and_then (tracks_with tracks) (trexes_of_first (contents_of_type mvex_type cs))) ts ≡ None
 unfolding gathered
 no_tracks cs None is = refl
-no_tracks cs (Some ts) is = no_differ ts (after nothing_yet (slice_get (named mvex_type cs) 0) ts) (all_differ (map (λ (t : Track). t.id) ts)) refl is (trexes_by (named mvex_type cs))
+no_tracks cs (Some ts) is = no_differ ts (after no_contents (slice_get (contents_of_type mvex_type cs) 0) ts) (all_differ (map (λ (t : Track). t.id) ts)) refl is (trexes_of_first (contents_of_type mvex_type cs))
 
-no_boxes : (boxes : Option (List Child)) → option_and_then (λ (cs : List Child). option_and_then (gathered nothing_yet (slice_get (named mvex_type cs) 0)) (all_of track_at (named trak_type cs))) boxes ≡ None → option_and_then tracks_by boxes ≡ None
+no_boxes : (boxes : Option (List Child)) → option_and_then (λ (cs : List Child). option_and_then (gathered no_contents (slice_get (contents_of_type mvex_type cs) 0)) (all_of track_at (contents_of_type trak_type cs))) boxes ≡ None → option_and_then tracks_of_boxes boxes ≡ None
 no_boxes None is = refl
-no_boxes (Some cs) is = no_tracks cs (all_of track_at (named trak_type cs)) is
+no_boxes (Some cs) is = no_tracks cs (all_of track_at (contents_of_type trak_type cs)) is
 
-nothing-gathered : (moov : List ℕ) → over gather_step Some nothing_yet moov ≡ None → tracks_of moov ≡ None
+nothing-gathered : (moov : List ℕ) → fold_content moov_step Some no_contents moov ≡ None → tracks_of moov ≡ None
 unfolding tracks_of
-nothing-gathered moov is = no_boxes (children moov) (sym (over-gather moov) ∙ is)
+nothing-gathered moov is = no_boxes (children moov) (sym (over-visitor moov) ∙ is)
 
-pub read-nothing : (moov ids : List ℕ) → over gather_step Some nothing_yet moov ≡ None → AreTracks None (tracks_of moov) ids
+pub read-nothing : (moov ids : List ℕ) → fold_content moov_step Some no_contents moov ≡ None → AreTracks None (tracks_of moov) ids
 read-nothing moov ids is = subst (λ (o : Option (List Track)). AreTracks None o ids) (sym (nothing-gathered moov is)) tt
 
 -- the tracks of the `moov`, by the `trex` boxes of its first `mvex`
@@ -195,7 +195,7 @@ trexes_in : Option (List ℕ) → Option (List Trex)
 trexes_in None = Some []
 trexes_in (Some mvex) = trexes_of mvex
 
-trexes-first : (mvexes : List (List ℕ)) → trexes_by mvexes ≡ trexes_in (slice_get mvexes 0)
+trexes-first : (mvexes : List (List ℕ)) → trexes_of_first mvexes ≡ trexes_in (slice_get mvexes 0)
 unfolding trexes_in
 trexes-first [] = refl
 trexes-first (x ∷ xs) = refl
@@ -204,37 +204,37 @@ with_trexes : (ts : List Track) (trexes : Option (List Trex)) → all_differ (ma
 with_trexes ts None differ = refl
 with_trexes ts (Some xs) differ = rw differ refl
 
-tracks-gathered : (moov : List ℕ) (s : Gathered) (g : Gathering moov s) → tracks_of moov ≡ option_map (λ (xs : List Trex). map (with_defaults xs) g.tracks) (trexes_in s.mvex)
+tracks-gathered : (moov : List ℕ) (s : MoovContents) (g : Gathering moov s) → tracks_of moov ≡ option_map (λ (xs : List Trex). map (with_defaults xs) g.tracks) (trexes_in s.mvex)
 unfolding tracks_of
 tracks-gathered moov s g =
-    ap (option_and_then tracks_by) g.filled
-    ∙ ap (option_and_then (λ (tracks : List Track). option_and_then (tracks_with tracks) (trexes_by (named mvex_type g.boxes)))) g.read
-    ∙ ap (option_and_then (tracks_with g.tracks)) (trexes-first (named mvex_type g.boxes) ∙ ap trexes_in (sym g.mvex_is))
+    ap (option_and_then tracks_of_boxes) g.filled
+    ∙ ap (option_and_then (λ (tracks : List Track). option_and_then (tracks_with tracks) (trexes_of_first (contents_of_type mvex_type g.boxes)))) g.read
+    ∙ ap (option_and_then (tracks_with g.tracks)) (trexes-first (contents_of_type mvex_type g.boxes) ∙ ap trexes_in (sym g.mvex_is))
     ∙ with_trexes g.tracks (trexes_in s.mvex) g.differ
 
 -- what was gathered, given these defaults
-are-tracks : (moov : List ℕ) (s : Gathered) (g : Gathering moov s) (xs : List Trex) (tracks : List Track) → tracks ≡ map (gave xs) s.tracks → AreTracks (Some tracks) (Some (map (with_defaults xs) g.tracks)) s.ids
+are-tracks : (moov : List ℕ) (s : MoovContents) (g : Gathering moov s) (xs : List Trex) (tracks : List Track) → tracks ≡ map (gave xs) s.tracks → AreTracks (Some tracks) (Some (map (with_defaults xs) g.tracks)) s.ids
 are-tracks moov s g xs tracks is = (
   ap length g.ids_are ∙ length-map g.tracks (λ (t : Track). t.id) ∙ sym (length-map g.tracks (with_defaults xs)),
   λ few.
       let count : length (map (with_defaults xs) g.tracks) ≡ length g.tracks = length-map g.tracks (with_defaults xs) in
       is ∙ ap (map (gave xs)) (g.tracks_are ∙ kept-fold g.tracks [] (omega (arith, few, count)))
-      ∙ all-gave xs g.tracks (fresh (named trak_type g.boxes) g.tracks g.read),
+      ∙ all-gave xs g.tracks (fresh (contents_of_type trak_type g.boxes) g.tracks g.read),
 )
 
-pub read-alone : (moov : List ℕ) (s : Gathered) → over gather_step Some nothing_yet moov ≡ Some s → s.mvex ≡ None → AreTracks (Some s.tracks) (tracks_of moov) s.ids
+pub read-alone : (moov : List ℕ) (s : MoovContents) → fold_content moov_step Some no_contents moov ≡ Some s → s.mvex ≡ None → AreTracks (Some s.tracks) (tracks_of moov) s.ids
 unfolding trexes_in
 read-alone moov s is none =
     let g : Gathering moov s = gathering moov s is in
     let e : tracks_of moov ≡ Some (map (with_defaults []) g.tracks) = tracks-gathered moov s g ∙ ap (λ (m : Option (List ℕ)). option_map (λ (xs : List Trex). map (with_defaults xs) g.tracks) (trexes_in m)) none in
     subst (λ (o : Option (List Track)). AreTracks (Some s.tracks) o s.ids) (sym e) (are-tracks moov s g [] s.tracks (no-gifts s.tracks))
 
-by_trexes : (moov : List ℕ) (s : Gathered) (g : Gathering moov s) (trexes : Option (List Trex))
+by_trexes : (moov : List ℕ) (s : MoovContents) (g : Gathering moov s) (trexes : Option (List Trex))
     → AreTracks (option_map (λ (xs : List Trex). map (gave xs) s.tracks) trexes) (option_map (λ (xs : List Trex). map (with_defaults xs) g.tracks) trexes) s.ids
 by_trexes moov s g None = tt
 by_trexes moov s g (Some xs) = are-tracks moov s g xs (map (gave xs) s.tracks) refl
 
-pub read-given : (moov : List ℕ) (s : Gathered) (content : List ℕ) → over gather_step Some nothing_yet moov ≡ Some s → s.mvex ≡ Some content → AreTracks (over given_step Some s.tracks content) (tracks_of moov) s.ids
+pub read-given : (moov : List ℕ) (s : MoovContents) (content : List ℕ) → fold_content moov_step Some no_contents moov ≡ Some s → s.mvex ≡ Some content → AreTracks (fold_content trex_step Some s.tracks content) (tracks_of moov) s.ids
 unfolding trexes_in
 read-given moov s content is some =
     let g : Gathering moov s = gathering moov s is in

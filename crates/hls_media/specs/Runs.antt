@@ -2,29 +2,29 @@
 -- For the proofs of this crate; no public clause cites it.
 use Rattle.std.specs.Prelude.{ℕ, ◌+◌, ◌*◌, ◌^◌, ◌≤◌, ◌==◌, if◌then◌else◌, Option, Some, None, IfSome, option_map, List}
 use Rattle.hls_media_laws.specs.Kinds.{trun_type}
-use Rattle.hls_media_laws.specs.Fields.{run_fits}
-use Rattle.hls_media.specs.declared.runs.Rules.{Rules}
-use Rattle.hls_media.specs.declared.runs.Runs.{Runs}
-use Rattle.hls_media.specs.declared.times.Timed.{Timed}
-use Rattle.hls_media.specs.Placed.{placed_more, IsNear}
-use Rattle.hls_media.specs.Timed.{timed_more}
+use Rattle.hls_media_laws.specs.Fields.{trun_fits}
+use Rattle.hls_media.specs.declared.traf_runs.TrunVisitor.{TrunVisitor}
+use Rattle.hls_media.specs.declared.traf_runs.RunSummary.{RunSummary}
+use Rattle.hls_media.specs.declared.samples.SampleSummary.{SampleSummary}
+use Rattle.hls_media.specs.RunPlacement.{placement_after_run, IsNear}
+use Rattle.hls_media.specs.SampleSummary.{samples_after_run}
 
 -- one more run
-unfoldable pub runs_more : Rules → Runs → List ℕ → Runs
-runs_more k s r = record { placed = placed_more k.size k.frame s.placed r; timed = option_map (λ (t : Timed). timed_more k.duration k.flags t r) s.timed }
+unfoldable pub summary_after_run : TrunVisitor → RunSummary → List ℕ → RunSummary
+summary_after_run k s r = record { placement = placement_after_run k.size k.window s.placement r; sample_summary = option_map (λ (t : SampleSummary). samples_after_run k.duration k.flags t r) s.sample_summary }
 
-unfoldable pub runs_by : Rules → Runs → List ℕ → Option Runs
-runs_by k s r = if run_fits r then Some (runs_more k s r) else None
+unfoldable pub summary_after_trun : TrunVisitor → RunSummary → List ℕ → Option RunSummary
+summary_after_trun k s r = if trun_fits r then Some (summary_after_run k s r) else None
 
-abbrev pub runs_step : Rules → Runs → ℕ → List ℕ → Option Runs
-runs_step k s kind content = if kind == trun_type then runs_by k s content else Some s
+abbrev pub runs_step : TrunVisitor → RunSummary → ℕ → List ℕ → Option RunSummary
+runs_step k s kind content = if kind == trun_type then summary_after_trun k s content else Some s
 
 -- a time of at most so many bytes' samples
-abbrev pub IsBrief : ℕ → Option Timed → Type 0
-IsBrief n timed = IfSome timed (λ t. t.duration ≤ n * 2 ^ 61)
+abbrev pub IsBrief : ℕ → Option SampleSummary → Type 0
+IsBrief n sample_summary = IfSome sample_summary (λ t. t.duration ≤ n * 2 ^ 61)
 
 -- what is known after boxes of so many bytes
-pub record RunsKnown (k : Rules) (n : ℕ) (s : Runs) : Type 0 where
-  pub base : IsNear (2 ^ 26) k.frame.base
-  pub near : (m : ℕ) → IsNear m k.frame.base → IsNear (m + n) s.placed.end
-  pub brief : IsBrief n s.timed
+pub record IsBoundedRuns (k : TrunVisitor) (n : ℕ) (s : RunSummary) : Type 0 where
+  pub base : IsNear (2 ^ 26) k.window.base
+  pub near : (m : ℕ) → IsNear m k.window.base → IsNear (m + n) s.placement.end
+  pub brief : IsBrief n s.sample_summary

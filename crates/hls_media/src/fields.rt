@@ -9,7 +9,7 @@ use hls_time::Ticks;
 
 /// The number of the four bytes from `at` on.
 #[inline]
-pub fn short_field(bytes: &[u8], at: usize, ticks: &mut Ticks) -> u32
+pub fn read_u32_field(bytes: &[u8], at: usize, ticks: &mut Ticks) -> u32
     requires within { at + 4 ≤ length bytes.now }
     requires room { ticks.old < 2 ^ 63 }
     ensures value { result ≡ number_at w32 at bytes.now }
@@ -21,7 +21,7 @@ pub fn short_field(bytes: &[u8], at: usize, ticks: &mut Ticks) -> u32
 
 /// The number of the eight bytes from `at` on.
 #[inline]
-pub fn long_field(bytes: &[u8], at: usize, ticks: &mut Ticks) -> u64
+pub fn read_u64_field(bytes: &[u8], at: usize, ticks: &mut Ticks) -> u64
     requires within { at + 8 ≤ length bytes.now }
     requires room { ticks.old < 2 ^ 63 }
     ensures value { result ≡ number_at w64 at bytes.now }

@@ -1,28 +1,28 @@
 //! Reads init sections and the facts of units (ISO/IEC 14496-12), exactly by the definitions of `hls_media_laws`.
 #![tactic(auto)]
 
-mod columns;
+mod box_fields;
+mod box_headers;
+mod box_visitor;
+mod facts;
 mod fields;
 mod flags;
-mod gather;
-mod headers;
-mod headings;
-mod ids;
-mod inits;
-mod medias;
-mod moovs;
-mod places;
-mod runs;
-mod tallies;
+mod init;
+mod moof;
+mod moov;
+mod run_placement;
+mod samples;
 mod tfdt;
 mod tfhd;
-mod times;
-mod timing;
+mod timing_traf;
+mod track_ids;
 mod tracks;
-mod trafs;
+mod traf_header;
+mod traf_runs;
+mod trak;
 mod trun;
-mod units;
-mod verdict;
+mod trun_columns;
+mod unit;
 
-pub use inits::read_init;
-pub use units::{read_facts, read_facts_counted};
+pub use init::read_init;
+pub use unit::{read_facts, read_facts_counted};

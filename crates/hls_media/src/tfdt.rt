@@ -1,17 +1,17 @@
 //! Track fragment decode times (ISO/IEC 14496-12 8.8.12).
 
 ghost use Rattle.std.specs.Prelude.{◌≡◌, ◌+◌, ◌^◌, ◌<◌, length};
-ghost use Rattle.hls_media.specs.Kept.{time_kept};
-ghost use Rattle.hls_media.specs.Counted.{RisesBy};
+ghost use Rattle.hls_media.specs.Boxes.{tfdt_of};
+ghost use Rattle.hls_media.specs.RisesBy.{RisesBy};
 
-use crate::fields::{long_field, short_field};
+use crate::fields::{read_u32_field, read_u64_field};
 use hls_time::Ticks;
 
 /// The decode time in a `tfdt` with this content, if its version is known and its field lies in it.
-#[tactic(auto, unfolding(hls_media_laws::specs::Fields::time_fits, hls_media_laws::specs::Fields::decode_time, crate::specs::Kept::time_kept))]
-pub fn time_of(content: &[u8], ticks: &mut Ticks) -> Option<u64>
+#[tactic(auto, unfolding(hls_media_laws::specs::Fields::tfdt_fits, hls_media_laws::specs::Fields::decode_time, crate::specs::Boxes::tfdt_of))]
+pub fn parse_tfdt(content: &[u8], ticks: &mut Ticks) -> Option<u64>
     requires { ticks.old < 2 ^ 62 + 2 ^ 61 }
-    ensures value { result ≡ time_kept content.now }
+    ensures value { result ≡ tfdt_of content.now }
     ensures counted { RisesBy (length content.now) ticks.old ticks.new }
 {
     if content.len() < 8 {
@@ -19,10 +19,10 @@ pub fn time_of(content: &[u8], ticks: &mut Ticks) -> Option<u64>
     }
     ticks.tick();
     if content[0] == 0 {
-        return Some(u64::from(short_field(content, 4, ticks)));
+        return Some(u64::from(read_u32_field(content, 4, ticks)));
     }
     if content[0] != 1 || content.len() < 12 {
         return None;
     }
-    Some(long_field(content, 4, ticks))
+    Some(read_u64_field(content, 4, ticks))
 }

@@ -2,7 +2,7 @@
 
 ghost use Rattle.std.specs.Prelude.{◌≡◌, ◌≤◌, List, [], length, map, take};
 ghost use Rattle.hls_media_laws.specs.declared.track.Track.{Track};
-ghost use Rattle.hls_media.specs.Given.{given as given_by, kept};
+ghost use Rattle.hls_media.specs.TrexSteps.{track_with_defaults as with_trex_defaults, first_eight};
 
 use hls_media_laws::track::{Track, Trex};
 use std::marker::Model;
@@ -10,19 +10,19 @@ use std::marker::Model;
 /// The first eight tracks at most. A contract sees their list.
 #[derive(Drop)]
 pub struct Tracks {
-    places: [Track; 8],
+    slots: [Track; 8],
     count: usize,
 }
 
 impl Model for Tracks {
     ghost Value = { List Track };
 
-    ghost view = { λ s. take s.count s.places };
+    ghost view = { λ s. take s.count s.slots };
 
     ghost invariant = { λ s. s.count ≤ 8 };
 }
 
-const NOBODY: Track = Track {
+const NO_TRACK: Track = Track {
     id: 0,
     scale: 0,
     handler: 0,
@@ -34,7 +34,7 @@ impl Tracks {
         ensures { result ≡ [] }
     {
         Tracks {
-            places: [NOBODY; 8],
+            slots: [NO_TRACK; 8],
             count: 0,
         }
     }
@@ -43,30 +43,30 @@ impl Tracks {
         ensures items { result.now ≡ self.now }
         ensures most { length self.now ≤ 8 }
     {
-        &self.places[..self.count]
+        &self.slots[..self.count]
     }
 
     /// Keeps a track, if it is among the first eight.
     pub fn keep(&mut self, track: Track)
-        ensures { self.new ≡ kept self.old track }
+        ensures { self.new ≡ first_eight self.old track }
     {
         if self.count < 8 {
-            self.places[self.count] = track;
+            self.slots[self.count] = track;
             self.count += 1;
         }
     }
 
     /// Gives a track its defaults, unless it has some.
-    pub fn give(&mut self, trex: Trex)
-        ensures { self.new ≡ map (given_by trex) self.old }
+    pub fn set_defaults(&mut self, trex: Trex)
+        ensures { self.new ≡ map (with_trex_defaults trex) self.old }
     {
-        give_all(&mut self.places, trex);
+        set_all_defaults(&mut self.slots, trex);
     }
 }
 
 /// A track with its defaults.
-fn given(track: Track, trex: Trex) -> Track
-    ensures { result ≡ given_by trex track }
+fn track_with_defaults(track: Track, trex: Trex) -> Track
+    ensures { result ≡ with_trex_defaults trex track }
 {
     if trex.id != track.id || track.defaults.is_some() {
         return track;
@@ -79,10 +79,10 @@ fn given(track: Track, trex: Trex) -> Track
     }
 }
 
-fn give_all(tracks: &mut [Track], trex: Trex)
-    ensures { tracks.new ≡ map (given_by trex) tracks.old }
+fn set_all_defaults(tracks: &mut [Track], trex: Trex)
+    ensures { tracks.new ≡ map (with_trex_defaults trex) tracks.old }
 {
     for track in tracks.iter_mut() {
-        *track = given(*track, trex);
+        *track = track_with_defaults(*track, trex);
     }
 }

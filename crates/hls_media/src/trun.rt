@@ -2,11 +2,11 @@
 
 ghost use Rattle.std.specs.Prelude.{◌≡◌, ◌+◌, ◌^◌, ◌<◌, ◌≤◌, length, option_map, IfSome};
 ghost use Rattle.std.specs.Int.{w32, cast_signed};
-ghost use Rattle.hls_media.specs.Kept.{run_kept, IsRun};
-ghost use Rattle.hls_media.specs.Counted.{RisesBy};
+ghost use Rattle.hls_media.specs.Boxes.{trun_of, IsRun};
+ghost use Rattle.hls_media.specs.RisesBy.{RisesBy};
 
-use crate::fields::short_field;
-use crate::flags::{field_if, field_len};
+use crate::fields::read_u32_field;
+use crate::flags::{field_len, read_optional_field};
 use hls_media_laws::flags::{
     DATA_OFFSET_PRESENT, FIRST_SAMPLE_FLAGS_PRESENT, SAMPLE_COMPOSITION_TIME_OFFSETS_PRESENT,
     SAMPLE_DURATION_PRESENT, SAMPLE_FLAGS_PRESENT, SAMPLE_SIZE_PRESENT,
@@ -15,7 +15,7 @@ use hls_time::Ticks;
 
 /// What is used of a `trun`, and where its rows of fields stand.
 #[derive(Clone, Copy)]
-pub struct Run {
+pub struct Trun {
     pub flags: u32,
     pub count: u32,
     pub offset: Option<i32>,
@@ -27,10 +27,10 @@ pub struct Run {
 }
 
 /// The run with this content, if its fields lie in it.
-#[tactic(auto, unfolding(hls_media_laws::specs::Fields::count_of, hls_media_laws::specs::Fields::first_flags_place, hls_media_laws::specs::Fields::rows_place, hls_media_laws::specs::Fields::row_len, hls_media_laws::specs::Fields::run_fits, hls_media_laws::specs::Fields::data_offset, hls_media_laws::specs::Fields::first_flags_of, crate::specs::Kept::run_kept))]
-pub fn run_of(content: &[u8], ticks: &mut Ticks) -> Option<Run>
+#[tactic(auto, unfolding(hls_media_laws::specs::Fields::sample_count, hls_media_laws::specs::Fields::first_flags_offset, hls_media_laws::specs::Fields::rows_offset, hls_media_laws::specs::Fields::row_len, hls_media_laws::specs::Fields::trun_fits, hls_media_laws::specs::Fields::data_offset, hls_media_laws::specs::Fields::first_flags_of, crate::specs::Boxes::trun_of))]
+pub fn parse_trun(content: &[u8], ticks: &mut Ticks) -> Option<Trun>
     requires { ticks.old < 2 ^ 62 + 2 ^ 61 }
-    ensures value { result ≡ run_kept content.now }
+    ensures value { result ≡ trun_of content.now }
     ensures is_run { IfSome result (λ run. IsRun run content.now) }
     ensures counted { RisesBy (length content.now) ticks.old ticks.new }
     ensures few { ticks.new ≤ ticks.old + 4 }
@@ -38,8 +38,8 @@ pub fn run_of(content: &[u8], ticks: &mut Ticks) -> Option<Run>
     if content.len() < 8 {
         return None;
     }
-    let flags = short_field(content, 0, ticks);
-    let count = short_field(content, 4, ticks);
+    let flags = read_u32_field(content, 0, ticks);
+    let count = read_u32_field(content, 4, ticks);
     let first_flags_at = 8 + field_len(flags, DATA_OFFSET_PRESENT);
     let rows = first_flags_at + field_len(flags, FIRST_SAMPLE_FLAGS_PRESENT);
     let row = field_len(flags, SAMPLE_DURATION_PRESENT)
@@ -49,11 +49,11 @@ pub fn run_of(content: &[u8], ticks: &mut Ticks) -> Option<Run>
     if content.len() < rows + count as usize * row {
         return None;
     }
-    Some(Run {
+    Some(Trun {
         flags,
         count,
-        offset: signed(field_if(content, flags, DATA_OFFSET_PRESENT, 8, ticks)),
-        first_flags: field_if(
+        offset: to_signed(read_optional_field(content, flags, DATA_OFFSET_PRESENT, 8, ticks)),
+        first_flags: read_optional_field(
             content,
             flags,
             FIRST_SAMPLE_FLAGS_PRESENT,
@@ -66,7 +66,7 @@ pub fn run_of(content: &[u8], ticks: &mut Ticks) -> Option<Run>
 }
 
 /// The same 32 bits as a signed number.
-fn signed(number: Option<u32>) -> Option<i32>
+fn to_signed(number: Option<u32>) -> Option<i32>
     ensures { result ≡ option_map (cast_signed w32) number }
 {
     number.map(|n| n.cast_signed())

@@ -3,10 +3,10 @@
 
 use hls_check::{check, check_rows};
 use hls_check_laws::{
-    CertFault, Certificate, CostRule, Goal, PlaceTable, PrintedTable, Spot, Spots, Verdict,
+    CertFault, Certificate, CertificateTable, CostRule, Goal, PlaceTable, Spot, Spots, Verdict,
 };
 use hls_check_text::{read, write};
-use hls_fakes::Told;
+use hls_fakes::CallOutcome;
 use hls_plan::{Planned, plan, plan_counted};
 use hls_time::Ticks;
 use std::alloc::Global;
@@ -57,10 +57,10 @@ pub fn table(alloc: Global, times: &[u64]) -> Option<PlaceTable> {
         let spots = vec![in alloc; spot(number, *seconds)].ok()?;
         places.push(Spots::new(alloc, spots).ok()?).ok()?;
     }
-    PlaceTable::try_new(PrintedTable::try_new(GOAL, 1, places)?)
+    PlaceTable::try_new(CertificateTable::try_new(GOAL, 1, places)?)
 }
 
-fn table_at_last(alloc: Global, times: &[u64]) -> Option<PlaceTable> {
+fn table_with_retry(alloc: Global, times: &[u64]) -> Option<PlaceTable> {
     match table(alloc, times) {
         Some(table) => Some(table),
         None => table(alloc, times),
@@ -87,11 +87,11 @@ fn are_places(places: &[Spots], times: &[u64]) -> bool {
 }
 
 /// Whether it's the table of these times.
-fn is_table(table: &PrintedTable, times: &[u64]) -> bool {
-    table.goal() == GOAL && table.renditions() == 1 && are_places(table.places(), times)
+fn is_table(table: &CertificateTable, times: &[u64]) -> bool {
+    table.goal() == GOAL && table.rendition_count() == 1 && are_places(table.places(), times)
 }
 
-fn is_five(table: &PrintedTable) -> bool {
+fn is_five(table: &CertificateTable) -> bool {
     is_table(table, &TIMES)
 }
 
@@ -120,78 +120,88 @@ fn is_read(certificate: &Certificate) -> bool {
     is_five(certificate.table()) && is_cut(check(certificate))
 }
 
-pub fn told_copied(alloc: Global, table: &PlaceTable) -> Told {
-    let told = match table.table().copied(alloc) {
-        Ok(copy) => Told::answer(is_five(&copy)),
-        Err(_) => Told::Wanted,
+pub fn outcome_of_copied(alloc: Global, table: &PlaceTable) -> CallOutcome {
+    let outcome = match table.table().copy_table(alloc) {
+        Ok(copy) => CallOutcome::from_answer(is_five(&copy)),
+        Err(_) => CallOutcome::OutOfMemory,
     };
-    told.kept(is_five(table.table()))
+    outcome.require_unchanged(is_five(table.table()))
 }
 
-pub fn told_printed(alloc: Global, table: &PlaceTable) -> Told {
-    let told = match table.printed(alloc) {
-        Ok(copy) => Told::answer(is_five(&copy)),
-        Err(_) => Told::Wanted,
+pub fn outcome_of_printed(alloc: Global, table: &PlaceTable) -> CallOutcome {
+    let outcome = match table.copy_for_certificate(alloc) {
+        Ok(copy) => CallOutcome::from_answer(is_five(&copy)),
+        Err(_) => CallOutcome::OutOfMemory,
     };
-    told.kept(is_five(table.table()))
+    outcome.require_unchanged(is_five(table.table()))
 }
 
-pub fn told_planned(alloc: Global, table: &PlaceTable) -> Told {
-    let told = match plan(alloc, table) {
-        Ok(planned) => Told::answer(is_least(&planned)),
-        Err(_) => Told::Wanted,
+pub fn outcome_of_planned(alloc: Global, table: &PlaceTable) -> CallOutcome {
+    let outcome = match plan(alloc, table) {
+        Ok(planned) => CallOutcome::from_answer(is_least(&planned)),
+        Err(_) => CallOutcome::OutOfMemory,
     };
-    told.kept(is_five(table.table()))
+    outcome.require_unchanged(is_five(table.table()))
 }
 
-pub fn told_counted(alloc: Global, table: &PlaceTable) -> Told {
+pub fn outcome_of_counted(alloc: Global, table: &PlaceTable) -> CallOutcome {
     let mut ticks = Ticks::new();
-    let told = match plan_counted(alloc, table, &mut ticks) {
-        Ok(planned) => Told::answer(is_least(&planned)),
-        Err(_) => Told::Wanted,
+    let outcome = match plan_counted(alloc, table, &mut ticks) {
+        Ok(planned) => CallOutcome::from_answer(is_least(&planned)),
+        Err(_) => CallOutcome::OutOfMemory,
     };
-    told.kept(ticks.count() <= 10).kept(is_five(table.table()))
+    outcome
+        .require_unchanged(ticks.count() <= 10)
+        .require_unchanged(is_five(table.table()))
 }
 
 #[test]
-fn refused_memory_copies_tables_once_more(rt: HostRuntime) {
+fn out_of_memory_then_copies_tables_again(rt: HostRuntime) {
     let alloc = rt.alloc();
-    let table = table_at_last(alloc, &TIMES).expect(&rt, "a table");
-    assert!(rt; told_copied(alloc, &table).is_held(told_copied(alloc, &table)));
-    assert!(rt; told_printed(alloc, &table).is_held(told_printed(alloc, &table)));
+    let table = table_with_retry(alloc, &TIMES).expect(&rt, "a table");
+    assert!(rt;
+        outcome_of_copied(alloc, &table).is_consistent_with(outcome_of_copied(alloc, &table))
+    );
+    assert!(rt;
+        outcome_of_printed(alloc, &table).is_consistent_with(outcome_of_printed(alloc, &table))
+    );
 }
 
 #[test]
-fn refused_memory_plans_once_more(rt: HostRuntime) {
+fn out_of_memory_then_plans_again(rt: HostRuntime) {
     let alloc = rt.alloc();
-    let table = table_at_last(alloc, &TIMES).expect(&rt, "a table");
-    assert!(rt; told_planned(alloc, &table).is_held(told_planned(alloc, &table)));
-    assert!(rt; told_counted(alloc, &table).is_held(told_counted(alloc, &table)));
+    let table = table_with_retry(alloc, &TIMES).expect(&rt, "a table");
+    assert!(rt;
+        outcome_of_planned(alloc, &table).is_consistent_with(outcome_of_planned(alloc, &table))
+    );
+    assert!(rt;
+        outcome_of_counted(alloc, &table).is_consistent_with(outcome_of_counted(alloc, &table))
+    );
 }
 
 /// What is told of the two places, between which there is no plan.
-pub fn told_of_far(alloc: Global, table: &PlaceTable) -> Told {
-    let told = match plan(alloc, table) {
-        Ok(planned) => Told::answer(is_none(&planned)),
-        Err(_) => Told::Wanted,
+pub fn outcome_of_far_plan(alloc: Global, table: &PlaceTable) -> CallOutcome {
+    let outcome = match plan(alloc, table) {
+        Ok(planned) => CallOutcome::from_answer(is_none(&planned)),
+        Err(_) => CallOutcome::OutOfMemory,
     };
-    told.kept(is_table(table.table(), &FAR))
+    outcome.require_unchanged(is_table(table.table(), &FAR))
 }
 
 #[test]
-fn refused_memory_is_no_closed_set(rt: HostRuntime) {
+fn out_of_memory_is_no_closed_set(rt: HostRuntime) {
     let alloc = rt.alloc();
-    let table = table_at_last(alloc, &FAR).expect(&rt, "a table");
-    let first = told_of_far(alloc, &table);
-    assert!(rt; first.is_held(told_of_far(alloc, &table)));
+    let table = table_with_retry(alloc, &FAR).expect(&rt, "a table");
+    let first = outcome_of_far_plan(alloc, &table);
+    assert!(rt; first.is_consistent_with(outcome_of_far_plan(alloc, &table)));
 }
 
 /// What is told of the text: that it is the certificate.
-pub fn told_of_text(alloc: Global) -> Told {
+pub fn outcome_of_text(alloc: Global) -> CallOutcome {
     match read(alloc, text()) {
-        Ok(certificate) => Told::answer(is_read(&certificate)),
-        Err(CertFault::Memory) => Told::Wanted,
-        Err(_) => Told::Astray,
+        Ok(certificate) => CallOutcome::from_answer(is_read(&certificate)),
+        Err(CertFault::Memory) => CallOutcome::OutOfMemory,
+        Err(_) => CallOutcome::Wrong,
     }
 }
 
@@ -201,27 +211,27 @@ fn wrong_text() -> &'static [u8] {
 }
 
 /// What is told of the text with a wrong last line, for which no memory is taken.
-pub fn told_of_wrong_text(alloc: Global) -> Told {
+pub fn outcome_of_wrong_text(alloc: Global) -> CallOutcome {
     match read(alloc, wrong_text()) {
-        Err(CertFault::Form { line }) => Told::answer(line == 18),
-        _ => Told::Astray,
+        Err(CertFault::Form { line }) => CallOutcome::from_answer(line == 18),
+        _ => CallOutcome::Wrong,
     }
 }
 
 /// What the certificate is written as, and that it stays.
-pub fn told_written(alloc: Global, certificate: &Certificate) -> Told {
-    let told = match write(alloc, certificate) {
-        Ok(written) => Told::answer(written.as_slice() == text()),
-        Err(_) => Told::Wanted,
+pub fn outcome_of_written(alloc: Global, certificate: &Certificate) -> CallOutcome {
+    let outcome = match write(alloc, certificate) {
+        Ok(written) => CallOutcome::from_answer(written.as_slice() == text()),
+        Err(_) => CallOutcome::OutOfMemory,
     };
-    told.kept(is_read(certificate))
+    outcome.require_unchanged(is_read(certificate))
 }
 
 pub fn certificate(alloc: Global) -> Option<Certificate> {
     read(alloc, text()).ok()
 }
 
-fn certificate_at_last(alloc: Global) -> Option<Certificate> {
+fn certificate_with_retry(alloc: Global) -> Option<Certificate> {
     match certificate(alloc) {
         Some(certificate) => Some(certificate),
         None => certificate(alloc),
@@ -229,24 +239,24 @@ fn certificate_at_last(alloc: Global) -> Option<Certificate> {
 }
 
 #[test]
-fn refused_memory_reads_certificates_once_more(rt: HostRuntime) {
+fn out_of_memory_then_reads_certificates_again(rt: HostRuntime) {
     let alloc = rt.alloc();
-    assert!(rt; told_of_text(alloc).is_held(told_of_text(alloc)));
-    assert!(rt; told_of_wrong_text(alloc).is_ample());
+    assert!(rt; outcome_of_text(alloc).is_consistent_with(outcome_of_text(alloc)));
+    assert!(rt; outcome_of_wrong_text(alloc).is_right());
 }
 
 #[test]
-fn refused_memory_writes_certificates_once_more(rt: HostRuntime) {
+fn out_of_memory_then_writes_certificates_again(rt: HostRuntime) {
     let alloc = rt.alloc();
-    let certificate = certificate_at_last(alloc).expect(&rt, "a certificate");
-    let first = told_written(alloc, &certificate);
-    assert!(rt; first.is_held(told_written(alloc, &certificate)));
+    let certificate = certificate_with_retry(alloc).expect(&rt, "a certificate");
+    let first = outcome_of_written(alloc, &certificate);
+    assert!(rt; first.is_consistent_with(outcome_of_written(alloc, &certificate)));
 }
 
 // It takes no memory but for the threads, without which it goes on in this one.
 #[test]
-fn refused_memory_checks_all_the_same(rt: HostRuntime) {
+fn out_of_memory_checks_all_the_same(rt: HostRuntime) {
     let alloc = rt.alloc();
-    let certificate = certificate_at_last(alloc).expect(&rt, "a certificate");
+    let certificate = certificate_with_retry(alloc).expect(&rt, "a certificate");
     assert!(rt; is_cut(check_rows(&rt, alloc, &certificate)));
 }

@@ -1,9 +1,13 @@
 //! Heads of replies and small replies: of one that wanted memory there is none, or the fixed reply where a session says it.
 
-use hls_fakes::{Page, Told};
-use hls_http::{Input, Session, SessionEnd, Source, head_bytes, refusal_body, reply_output};
-use hls_http_laws::reply::{Extra, Kind, ReplyHead, Status, no_memory_head_text};
-use hls_output::Text;
+use hls_fakes::{CallOutcome, PageWriter};
+use hls_http::{
+    BufferedReader, InputBuffer, Session, SessionEnd, make_response, refusal_body, write_head,
+};
+use hls_http_laws::response_parts::{
+    ContentType, ExtraField, ResponseParts, Status, out_of_memory_head_text,
+};
+use hls_output::TextResource;
 use std::alloc::Global;
 
 fn head_text() -> &'static [u8] {
@@ -15,71 +19,73 @@ fn reply_text() -> &'static [u8] {
     b"HTTP/1.1 202 Accepted\r\nContent-Type: text/plain\r\nContent-Length: 3\r\nLocation: /job/7\r\n\r\nabc"
 }
 
-fn head<'a>() -> ReplyHead<'a> {
-    ReplyHead {
+fn head<'a>() -> ResponseParts<'a> {
+    ResponseParts {
         status: Status::Accepted,
-        kind: Kind::Text,
-        extra: Extra::Job(7),
+        kind: ContentType::Text,
+        extra: ExtraField::Job(7),
         closing: false,
     }
 }
 
 /// How a session replies to HEAD.
-pub fn told_session(alloc: Global) -> Told {
-    let Ok(mut session) = Session::new(alloc, b"".as_slice(), Page::new()) else {
-        return Told::Wanted;
+pub fn outcome_of_session(alloc: Global) -> CallOutcome {
+    let Ok(mut session) = Session::new(alloc, b"".as_slice(), PageWriter::new()) else {
+        return CallOutcome::OutOfMemory;
     };
     let end = session.reply(alloc, &head(), b"abc", true);
     let page = session.writer.into_inner();
     match end {
-        Ok(()) => Told::answer(page.says(head_text())),
-        Err(SessionEnd::Refused) => Told::wanted(page.says(no_memory_head_text())),
-        Err(_) => Told::Astray,
+        Ok(()) => CallOutcome::from_answer(page.holds_text(head_text())),
+        Err(SessionEnd::Refused) => CallOutcome::from_refusal(page.holds_text(
+            out_of_memory_head_text(),
+        )),
+        Err(_) => CallOutcome::Wrong,
     }
 }
 
-pub fn told_bytes(alloc: Global) -> Told {
-    match head_bytes(alloc, &head(), 3) {
-        Ok(bytes) => Told::answer(bytes.as_slice() == head_text()),
-        Err(_) => Told::Wanted,
+pub fn outcome_of_bytes(alloc: Global) -> CallOutcome {
+    match write_head(alloc, &head(), 3) {
+        Ok(bytes) => CallOutcome::from_answer(bytes.as_slice() == head_text()),
+        Err(_) => CallOutcome::OutOfMemory,
     }
 }
 
-pub fn told_refusal(alloc: Global) -> Told {
+pub fn outcome_of_refusal(alloc: Global) -> CallOutcome {
     match refusal_body(alloc, "NotYet") {
-        Ok(bytes) => Told::answer(bytes.as_slice() == b"refused NotYet\n".as_slice()),
-        Err(_) => Told::Wanted,
+        Ok(bytes) => CallOutcome::from_answer(bytes.as_slice() == b"refused NotYet\n".as_slice()),
+        Err(_) => CallOutcome::OutOfMemory,
     }
 }
 
-pub fn told_source(alloc: Global) -> Told {
-    match Source::new(alloc, b"abc".as_slice()) {
-        Ok(source) => Told::answer(source.held().is_empty()),
-        Err(_) => Told::Wanted,
+pub fn outcome_of_source(alloc: Global) -> CallOutcome {
+    match BufferedReader::new(alloc, b"abc".as_slice()) {
+        Ok(source) => CallOutcome::from_answer(source.unread().is_empty()),
+        Err(_) => CallOutcome::OutOfMemory,
     }
 }
 
-pub fn told_input(alloc: Global) -> Told {
-    match Input::new(alloc) {
-        Ok(input) => Told::answer(input.unread().is_empty()),
-        Err(_) => Told::Wanted,
+pub fn outcome_of_input(alloc: Global) -> CallOutcome {
+    match InputBuffer::new(alloc) {
+        Ok(input) => CallOutcome::from_answer(input.unread().is_empty()),
+        Err(_) => CallOutcome::OutOfMemory,
     }
 }
 
-pub fn told_output(alloc: Global) -> Told {
-    match reply_output(alloc, &head(), Text::media(b"abc"), false) {
-        Ok(output) => Told::answer(output.chunk() == reply_text()),
-        Err(_) => Told::Wanted,
+pub fn outcome_of_output(alloc: Global) -> CallOutcome {
+    match make_response(alloc, &head(), TextResource::as_range(b"abc"), false) {
+        Ok(output) => CallOutcome::from_answer(output.chunk() == reply_text()),
+        Err(_) => CallOutcome::OutOfMemory,
     }
 }
 
 #[test]
-fn refused_memory_writes_heads_once_more(rt: HostRuntime) {
+fn out_of_memory_then_writes_heads_again(rt: HostRuntime) {
     let alloc = rt.alloc();
-    assert!(rt; told_bytes(alloc).is_held(told_bytes(alloc)));
-    assert!(rt; told_refusal(alloc).is_held(told_refusal(alloc)));
-    assert!(rt; told_source(alloc).is_held(told_source(alloc)));
-    assert!(rt; told_input(alloc).is_held(told_input(alloc)));
-    assert!(rt; told_output(alloc).is_held(told_output(alloc)));
-    assert!(rt; told_session(alloc).is_held(told_session(alloc)));
+    assert!(rt; outcome_of_bytes(alloc).is_consistent_with(outcome_of_bytes(alloc)));
+    assert!(rt; outcome_of_refusal(alloc).is_consistent_with(outcome_of_refusal(alloc)));
+    assert!(rt; outcome_of_source(alloc).is_consistent_with(outcome_of_source(alloc)));
+    assert!(rt; outcome_of_input(alloc).is_consistent_with(outcome_of_input(alloc)));
+    assert!(rt; outcome_of_output(alloc).is_consistent_with(outcome_of_output(alloc)));
+    assert!(rt; outcome_of_session(alloc).is_consistent_with(outcome_of_session(alloc)));
 }

@@ -5,10 +5,10 @@
 #![tactic(auto)]
 
 #[cfg(test)]
+mod arguments;
+#[cfg(test)]
 mod certificates;
 #[cfg(test)]
 mod heads;
 #[cfg(test)]
 mod lines;
-#[cfg(test)]
-mod words;

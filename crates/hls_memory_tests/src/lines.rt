@@ -3,7 +3,7 @@
 ghost use Rattle.std.specs.Prelude.{◌≡◌};
 
 use hls_check_laws::{Spot, Spots};
-use hls_fakes::Told;
+use hls_fakes::CallOutcome;
 use hls_live::{LineFault, LiveLine};
 use hls_places_laws::Place;
 use std::alloc::Global;
@@ -25,7 +25,7 @@ pub fn place(alloc: Global, number: u64) -> Option<Place> {
 }
 
 /// The line after one more place; `TooMany` where it isn't for this test.
-fn advanced(alloc: Global, line: &LiveLine, place: &Place) -> Result<LiveLine, LineFault> {
+fn advance_line(alloc: Global, line: &LiveLine, place: &Place) -> Result<LiveLine, LineFault> {
     if place.spots.len() == 0 || line.segments().next() > 7 {
         return Err(LineFault::TooMany);
     }
@@ -33,17 +33,17 @@ fn advanced(alloc: Global, line: &LiveLine, place: &Place) -> Result<LiveLine, L
 }
 
 /// The same by the call that goes on at the end too.
-pub fn told_once(alloc: Global, line: &LiveLine, place: &Place) -> Result<LiveLine, LineFault> {
+pub fn place_at_once(alloc: Global, line: &LiveLine, place: &Place) -> Result<LiveLine, LineFault> {
     if place.spots.len() == 0 || line.segments().next() > 7 {
         return Err(LineFault::TooMany);
     }
-    Ok(line.told(alloc, place)?)
+    Ok(line.with_place(alloc, place)?)
 }
 
 /// The line after the place of a number.
 fn with_place(alloc: Global, line: &LiveLine, number: u64) -> Option<LiveLine> {
     let place = place(alloc, number)?;
-    advanced(alloc, line, &place).ok()
+    advance_line(alloc, line, &place).ok()
 }
 
 /// The line of the first places.
@@ -55,14 +55,14 @@ pub fn line(alloc: Global, places: u64) -> Option<LiveLine> {
     Some(line)
 }
 
-fn line_at_last(alloc: Global, places: u64) -> Option<LiveLine> {
+fn line_with_retry(alloc: Global, places: u64) -> Option<LiveLine> {
     match line(alloc, places) {
         Some(line) => Some(line),
         None => line(alloc, places),
     }
 }
 
-fn place_at_last(alloc: Global, number: u64) -> Option<Place> {
+fn place_with_retry(alloc: Global, number: u64) -> Option<Place> {
     match place(alloc, number) {
         Some(place) => Some(place),
         None => place(alloc, number),
@@ -94,11 +94,11 @@ fn is_line(line: &LiveLine, from: u64, to: u64, ended: bool) -> bool {
 }
 
 /// What is told by a line that is to keep the segments from a number, up to its end.
-pub fn told(line: Result<LiveLine, LineFault>, from: u64) -> Told {
+pub fn outcome_of(line: Result<LiveLine, LineFault>, from: u64) -> CallOutcome {
     match line {
-        Ok(line) => Told::answer(is_line(&line, from, 3, true)),
-        Err(LineFault::Memory) => Told::Wanted,
-        Err(_) => Told::Astray,
+        Ok(line) => CallOutcome::from_answer(is_line(&line, from, 3, true)),
+        Err(LineFault::Memory) => CallOutcome::OutOfMemory,
+        Err(_) => CallOutcome::Wrong,
     }
 }
 
@@ -107,49 +107,51 @@ fn are_two_and_last(two: &LiveLine, last: &Place) -> bool {
     is_line(two, 0, 2, false) && begins_at(last, 3)
 }
 
-pub fn told_advanced(alloc: Global, two: &LiveLine, last: &Place) -> Told {
-    told(advanced(alloc, two, last), 0).kept(are_two_and_last(two, last))
+pub fn outcome_of_advanced(alloc: Global, two: &LiveLine, last: &Place) -> CallOutcome {
+    outcome_of(advance_line(alloc, two, last), 0).require_unchanged(are_two_and_last(two, last))
 }
 
-pub fn told_at_once(alloc: Global, two: &LiveLine, last: &Place) -> Told {
-    told(told_once(alloc, two, last), 0).kept(are_two_and_last(two, last))
+pub fn outcome_of_at_once(alloc: Global, two: &LiveLine, last: &Place) -> CallOutcome {
+    outcome_of(place_at_once(alloc, two, last), 0).require_unchanged(are_two_and_last(two, last))
 }
 
 /// What is told of the line of three segments at its end, shared.
-pub fn told_shared(alloc: Global, ended: &LiveLine) -> Told {
-    let told = match ended.share(alloc) {
-        Ok(line) => Told::answer(is_line(&line, 0, 3, true)),
-        Err(_) => Told::Wanted,
+pub fn outcome_of_shared(alloc: Global, ended: &LiveLine) -> CallOutcome {
+    let outcome = match ended.share(alloc) {
+        Ok(line) => CallOutcome::from_answer(is_line(&line, 0, 3, true)),
+        Err(_) => CallOutcome::OutOfMemory,
     };
-    told.kept(is_line(ended, 0, 3, true))
+    outcome.require_unchanged(is_line(ended, 0, 3, true))
 }
 
-pub fn told_slid(alloc: Global, ended: &LiveLine) -> Told {
-    told(ended.slide(alloc, 1), 1).kept(is_line(ended, 0, 3, true))
+pub fn outcome_of_slid(alloc: Global, ended: &LiveLine) -> CallOutcome {
+    outcome_of(ended.slide(alloc, 1), 1).require_unchanged(is_line(ended, 0, 3, true))
 }
 
 /// Whether both calls take the line of two segments to its end.
 fn is_advanced(alloc: Global, two: &LiveLine, last: &Place) -> bool
     ensures { result ≡ result }
 {
-    told_advanced(alloc, two, last).is_held(told_advanced(alloc, two, last))
-        && told_at_once(alloc, two, last).is_held(told_at_once(alloc, two, last))
+    outcome_of_advanced(alloc, two, last).is_consistent_with(outcome_of_advanced(alloc, two, last))
+        && outcome_of_at_once(alloc, two, last).is_consistent_with(outcome_of_at_once(
+            alloc, two, last,
+        ))
 }
 
 /// Whether the ended line is shared, and slid.
 fn is_slid(alloc: Global, ended: &LiveLine) -> bool
     ensures { result ≡ result }
 {
-    told_shared(alloc, ended).is_held(told_shared(alloc, ended))
-        && told_slid(alloc, ended).is_held(told_slid(alloc, ended))
+    outcome_of_shared(alloc, ended).is_consistent_with(outcome_of_shared(alloc, ended))
+        && outcome_of_slid(alloc, ended).is_consistent_with(outcome_of_slid(alloc, ended))
 }
 
 #[test]
-fn refused_memory_moves_the_line_once_more(rt: HostRuntime) {
+fn out_of_memory_then_moves_the_line_again(rt: HostRuntime) {
     let alloc = rt.alloc();
-    let two = line_at_last(alloc, 3).expect(&rt, "a line");
-    let ended = line_at_last(alloc, 4).expect(&rt, "an ended line");
-    let last = place_at_last(alloc, 3).expect(&rt, "a place");
+    let two = line_with_retry(alloc, 3).expect(&rt, "a line");
+    let ended = line_with_retry(alloc, 4).expect(&rt, "an ended line");
+    let last = place_with_retry(alloc, 3).expect(&rt, "a place");
     assert!(rt; is_advanced(alloc, &two, &last));
     assert!(rt; is_slid(alloc, &ended));
 }

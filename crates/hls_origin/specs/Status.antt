@@ -4,8 +4,8 @@ use Rattle.hls_commands.specs.declared.check.run.CheckEnd.{CheckEnd}
 use Rattle.hls_commands.specs.declared.check.run.CheckEnd.TheVariants as check
 use Rattle.hls_commands.specs.declared.cut.run.CutEnd.{CutEnd}
 use Rattle.hls_commands.specs.declared.cut.run.CutEnd.TheVariants as cut
-use Rattle.hls_refusals.specs.declared.run.ExplainEnd.{ExplainEnd}
-use Rattle.hls_refusals.specs.declared.run.ExplainEnd.TheVariants as explain
+use Rattle.hls_refusals.specs.declared.explain.ExplainEnd.{ExplainEnd}
+use Rattle.hls_refusals.specs.declared.explain.ExplainEnd.TheVariants as explain
 use Rattle.hls_commands.specs.declared.lint.run.LintEnd.{LintEnd}
 use Rattle.hls_commands.specs.declared.lint.run.LintEnd.TheVariants as lint
 use Rattle.hls_origin.specs.declared.serve.run.ServeEnd.{ServeEnd}

@@ -33,9 +33,9 @@ use crate::serve::run::{ServeEnd, run_serve};
 use crate::version::{TOOLCHAIN, VERSION};
 use hls_commands::{CheckEnd, CutEnd, CutFault, LintEnd, run_check, run_cut, run_lint};
 use hls_io::Counted;
-use hls_origin_listing::ListFault;
+use hls_origin_listing::ListingFault;
 use hls_refusals::{ExplainEnd, MEANINGS, run_explain};
-use hls_settings::{Shown, Wrong};
+use hls_settings::{PrintableArgument, SettingsMessage};
 use std::io::{Eprint, ErrorKind};
 use std::net::{Net, TcpListener, TcpStream};
 use std::process::ExitCode;
@@ -101,19 +101,19 @@ An example: a channel of one rendition, one encoder, one player.
 ";
 
 /// The arguments, without the program's own name.
-fn words_of(rt: &HostRuntime) -> io::Result<Vec<String>> {
-    let mut words = Vec::new(rt.alloc());
-    for word in env::args(rt)?.skip(1) {
-        words.push(word)?;
+fn read_arguments(rt: &HostRuntime) -> io::Result<Vec<String>> {
+    let mut arguments = Vec::new(rt.alloc());
+    for argument in env::args(rt)?.skip(1) {
+        arguments.push(argument)?;
     }
-    Ok(words)
+    Ok(arguments)
 }
 
 /// Prints that the first of the arguments is unexpected, and how the program is used.
-fn usage_fault(rt: &HostRuntime, unexpected: &[String]) -> ExitCode
+fn print_usage_fault(rt: &HostRuntime, unexpected: &[String]) -> ExitCode
     ensures { exit_status result ≡ usage_status }
 {
-    let argument = Shown(match unexpected {
+    let argument = PrintableArgument(match unexpected {
         [first, ..] => first.as_str(),
         [] => "",
     });
@@ -124,7 +124,7 @@ fn usage_fault(rt: &HostRuntime, unexpected: &[String]) -> ExitCode
 }
 
 /// Prints that an argument isn't text, and how the program is used.
-fn no_text(rt: &HostRuntime) -> ExitCode
+fn print_not_utf8(rt: &HostRuntime) -> ExitCode
     ensures { exit_status result ≡ usage_status }
 {
     let _ = eprint!(rt;
@@ -148,7 +148,7 @@ fn print_version(rt: &HostRuntime) -> ExitCode {
 /// Prints why a stream was refused.
 fn print_refusal(rt: &HostRuntime, fault: CutFault) -> io::Result<()> {
     match fault {
-        CutFault::Listing(ListFault::NotAllowed { place }) => {
+        CutFault::Listing(ListingFault::NotAllowed { place }) => {
             eprintln!(rt; "cut: NotAllowed {place}")
         }
         _ => {
@@ -159,7 +159,7 @@ fn print_refusal(rt: &HostRuntime, fault: CutFault) -> io::Result<()> {
 }
 
 /// Ends the program as `cut` ended.
-fn end_cut(rt: &HostRuntime, words: &[String], end: CutEnd) -> ExitCode
+fn end_cut(rt: &HostRuntime, arguments: &[String], end: CutEnd) -> ExitCode
     ensures { exit_status result ≡ cut_status end }
 {
     match end {
@@ -173,7 +173,7 @@ fn end_cut(rt: &HostRuntime, words: &[String], end: CutEnd) -> ExitCode
             ExitCode::from(1)
         }
         CutEnd::Usage(fault) => {
-            let wrong = Wrong { fault, words };
+            let wrong = SettingsMessage { fault, arguments };
             let _ = eprint!(rt; "cut: {wrong}; hls_origin --help says more\n{USAGE}");
             ExitCode::from(2)
         }
@@ -181,11 +181,11 @@ fn end_cut(rt: &HostRuntime, words: &[String], end: CutEnd) -> ExitCode
 }
 
 /// Does `cut` with the words after it.
-fn run_cut_words(rt: &HostRuntime, words: &[String]) -> ExitCode {
+fn run_cut_command(rt: &HostRuntime, arguments: &[String]) -> ExitCode {
     let mut input = Counted::new(rt.stdin());
     let mut output = Counted::new(io::writer(rt));
-    let end = run_cut(rt.alloc(), words, &mut input, &mut output);
-    end_cut(rt, words, end)
+    let end = run_cut(rt.alloc(), arguments, &mut input, &mut output);
+    end_cut(rt, arguments, end)
 }
 
 /// Ends the program as `check` ended.
@@ -207,13 +207,13 @@ fn end_check(rt: &HostRuntime, end: CheckEnd) -> ExitCode
 }
 
 /// Does `check`, after which no word may stand.
-fn run_check_words(
+fn run_check_command(
     rt: &HostRuntime,
     threads: &(impl Threads + Sync),
-    words: &[String],
+    arguments: &[String],
 ) -> ExitCode {
-    if !words.is_empty() {
-        return usage_fault(rt, words);
+    if !arguments.is_empty() {
+        return print_usage_fault(rt, arguments);
     }
     let mut input = Counted::new(rt.stdin());
     let mut output = Counted::new(io::writer(rt));
@@ -239,9 +239,9 @@ fn end_lint(rt: &HostRuntime, end: LintEnd) -> ExitCode
 }
 
 /// Does `lint`, after which no word may stand.
-fn run_lint_words(rt: &HostRuntime, words: &[String]) -> ExitCode {
-    if !words.is_empty() {
-        return usage_fault(rt, words);
+fn run_lint_command(rt: &HostRuntime, arguments: &[String]) -> ExitCode {
+    if !arguments.is_empty() {
+        return print_usage_fault(rt, arguments);
     }
     let mut input = Counted::new(rt.stdin());
     let mut output = Counted::new(io::writer(rt));
@@ -249,13 +249,13 @@ fn run_lint_words(rt: &HostRuntime, words: &[String]) -> ExitCode {
 }
 
 /// Ends the program as `explain` of this word ended.
-fn end_explain(rt: &HostRuntime, word: &str, end: ExplainEnd) -> ExitCode
+fn end_explain(rt: &HostRuntime, argument: &str, end: ExplainEnd) -> ExitCode
     ensures { exit_status result ≡ explain_status end }
 {
     match end {
         ExplainEnd::Explained => ExitCode::SUCCESS,
         ExplainEnd::Unknown => {
-            let name = Shown(word);
+            let name = PrintableArgument(argument);
             let _ = eprintln!(rt;
                 "explain: no refusal is named {name}; hls_origin explain has the names"
             );
@@ -273,26 +273,26 @@ fn end_explain(rt: &HostRuntime, word: &str, end: ExplainEnd) -> ExitCode
 }
 
 /// Does `explain`, after which one word may stand.
-fn run_explain_words(rt: &HostRuntime, words: &[String]) -> ExitCode {
-    let word = match words {
+fn run_explain_command(rt: &HostRuntime, arguments: &[String]) -> ExitCode {
+    let argument = match arguments {
         [] => None,
-        [word] => Some(word.as_str()),
-        [_, rest @ ..] => return usage_fault(rt, rest),
+        [argument] => Some(argument.as_str()),
+        [_, rest @ ..] => return print_usage_fault(rt, rest),
     };
-    let name = word.map(|word| word.as_bytes());
+    let name = argument.map(|argument| argument.as_bytes());
     let mut output = Counted::new(io::writer(rt));
     let end = run_explain(rt.alloc(), MEANINGS.as_bytes(), name, &mut output);
-    end_explain(rt, word.unwrap_or(""), end)
+    end_explain(rt, argument.unwrap_or(""), end)
 }
 
 /// Ends the program as `serve` ended.
-fn end_serve(rt: &HostRuntime, words: &[String], end: ServeEnd) -> ExitCode
+fn end_serve(rt: &HostRuntime, arguments: &[String], end: ServeEnd) -> ExitCode
     ensures { exit_status result ≡ serve_status end }
 {
     match end {
         ServeEnd::Done => ExitCode::SUCCESS,
         ServeEnd::Usage(fault) => {
-            let wrong = Wrong { fault, words };
+            let wrong = SettingsMessage { fault, arguments };
             let _ = eprint!(rt; "serve: {wrong}; hls_origin --help says more\n{SERVE_USAGE}");
             ExitCode::from(2)
         }
@@ -308,16 +308,16 @@ fn end_serve(rt: &HostRuntime, words: &[String], end: ServeEnd) -> ExitCode
 }
 
 /// Whether the words ask how the program is used: `help`, or an option for it alone or after a command.
-fn asks_for_help(words: &[String]) -> bool {
-    match words {
-        [word] => matches!(word.as_str(), "help" | "--help" | "-h"),
-        [_, word] => matches!(word.as_str(), "--help" | "-h"),
+fn asks_for_help(arguments: &[String]) -> bool {
+    match arguments {
+        [argument] => matches!(argument.as_str(), "help" | "--help" | "-h"),
+        [_, argument] => matches!(argument.as_str(), "--help" | "-h"),
         _ => false,
     }
 }
 
 /// Does what the first word names; without a word `cut`.
-fn run_words<R>(rt: &HostRuntime, threads: &R, words: &[String]) -> ExitCode
+fn run_command<R>(rt: &HostRuntime, threads: &R, arguments: &[String]) -> ExitCode
 where
     R: Net<Listener = TcpListener, Stream = TcpStream>
         + Threads
@@ -328,28 +328,28 @@ where
         + Files
         + Sync,
 {
-    if asks_for_help(words) {
+    if asks_for_help(arguments) {
         return print_help(rt);
     }
-    let Some((first, rest)) = words.split_first() else {
-        return run_cut_words(rt, words);
+    let Some((first, rest)) = arguments.split_first() else {
+        return run_cut_command(rt, arguments);
     };
     match first.as_str() {
-        "cut" => run_cut_words(rt, rest),
-        "check" => run_check_words(rt, threads, rest),
-        "lint" => run_lint_words(rt, rest),
-        "explain" => run_explain_words(rt, rest),
+        "cut" => run_cut_command(rt, rest),
+        "check" => run_check_command(rt, threads, rest),
+        "lint" => run_lint_command(rt, rest),
+        "explain" => run_explain_command(rt, rest),
         "serve" => end_serve(rt, rest, run_serve(threads, rt.alloc(), rest)),
         "--version" if rest.is_empty() => print_version(rt),
-        "help" | "--help" | "-h" | "--version" => usage_fault(rt, rest),
-        _ => usage_fault(rt, words),
+        "help" | "--help" | "-h" | "--version" => print_usage_fault(rt, rest),
+        _ => print_usage_fault(rt, arguments),
     }
 }
 
 fn main(rt: HostRuntime) -> ExitCode {
-    match words_of(&rt) {
-        Ok(words) => run_words(&rt, &rt, words.as_slice()),
-        Err(fault) if fault.kind() == ErrorKind::InvalidData => no_text(&rt),
+    match read_arguments(&rt) {
+        Ok(arguments) => run_command(&rt, &rt, arguments.as_slice()),
+        Err(fault) if fault.kind() == ErrorKind::InvalidData => print_not_utf8(&rt),
         Err(_) => end_cut(&rt, &[], CutEnd::Refused(CutFault::Memory)),
     }
 }

@@ -4,31 +4,31 @@ use Rattle.std.specs.Prelude.{All, slice_get, Some}
 use Rattle.std.specs.List.{range_with_len}
 use Rattle.std.proofs.lemmas.List.Elements.{All-nil, All-cons, All-get_or}
 use Rattle.hls_media_laws.proofs.Callers.{units_are_bounded, inits_are_bounded}
-use Rattle.hls_record.specs.Recorded.{Recorded}
-use Rattle.hls_record.specs.Valid.{IsRecorded}
+use Rattle.hls_record.specs.RecordingData.{RecordingData}
+use Rattle.hls_record.specs.IsRecorded.{IsRecorded}
 use Rattle.hls_check_laws.specs.declared.spot.Spot.{Spot}
 use Rattle.hls_check_laws.specs.Tables.{Table, IsTable, IsPlaceOf, spot_in, place_at}
-use Rattle.hls_check_laws.specs.Plans.{IsPlan, Leads}
+use Rattle.hls_check_laws.specs.Plans.{IsPlan, StepsAreAllowed}
 use Rattle.hls_core_laws.specs.Config.{IsEpoch}
-use Rattle.hls_m3u8.specs.declared.playlist.Segment.{Segment}
+use Rattle.hls_m3u8.specs.declared.playlist.MediaSegment.{MediaSegment}
 use Rattle.hls_m3u8.specs.Uri.{IsUri}
 use Rattle.hls_m3u8.specs.HasText.{IsSegment, HasText}
-use Rattle.hls_m3u8.specs.Forms.{vod_list}
+use Rattle.hls_m3u8.specs.PlaylistForms.{vod_list}
 use Rattle.hls_m3u8.proofs.Building.{vod_has_text}
 use Rattle.hls_media_laws.specs.FactLists.{len_of}
-use Rattle.hls_lists_laws.specs.Jobs.{bytes_between}
-use Rattle.hls_lists_laws.specs.Segments.{Cutting, is_break, date_at, segment_between, segments_from, segments_of}
+use Rattle.hls_lists_laws.specs.JobResource.{bytes_between}
+use Rattle.hls_lists_laws.specs.Segments.{ResourceLayout, is_break, date_at, segment_between, plan_segments_from, plan_segments}
 use Rattle.hls_lists_laws.specs.SegmentLaws.{AreUnits, end_fragment}
 use Rattle.hls_lists_laws.proofs.Callers.{places_small, date_good, some_bytes, few_bytes, segments_are_good}
-use Rattle.hls_catchup_laws.specs.Lists.{cutting}
-use Rattle.hls_origin_listing.specs.Each.{each_place, AllReach}
+use Rattle.hls_catchup_laws.specs.JobPlaylists.{job_layout}
+use Rattle.hls_origin_listing.specs.Each.{full_plan, AllReachNext}
 
 -- what holds of the element at each place holds of all
 all_from_each : {A : Type 0} (P : A → Type 0) (xs : List A) → ((k : ℕ) (x : A) → slice_get xs k ≡ Some x → P x) → All P xs
 all_from_each P [] each = All-nil P
 all_from_each P (x ∷ xs) each = All-cons P x xs (each 0 x refl) (all_from_each P xs (λ k y at. each (suc k) y at))
 
-units_good : (epoch : Option ℤ) (r : Recorded) (uri : List ℕ) → IsRecorded r → AreUnits (cutting epoch r 0 uri 0)
+units_good : (epoch : Option ℤ) (r : RecordingData) (uri : List ℕ) → IsRecorded r → AreUnits (job_layout epoch r 0 uri 0)
 units_good epoch r uri valid = record {
   some = all_from_each (λ f. 0 < f.len) r.facts
       (λ k f at. let was = valid.ever k f at in (units_are_bounded r.init was.bytes f was.is).some_bytes);
@@ -36,7 +36,7 @@ units_good epoch r uri valid = record {
 }
 
 -- a list over the recording's resource
-pub has_text : (r : Recorded) (target : ℕ) (uri : List ℕ) (segments : List Segment) → IsRecorded r → target ≤ 3600 → IsUri uri →
+pub has_text : (r : RecordingData) (target : ℕ) (uri : List ℕ) (segments : List MediaSegment) → IsRecorded r → target ≤ 3600 → IsUri uri →
     All (IsSegment uri) segments → HasText (vod_list target uri (length r.head) segments)
 has_text r target uri segments valid few good are =
     let head = inits_are_bounded r.head r.init valid.head in
@@ -45,15 +45,15 @@ has_text r target uri segments valid few good are =
     vod_has_text target uri (length r.head) segments (omega arith) good some (omega arith) are
 
 -- by a plan
-pub plan_has_text : (epoch : Option ℤ) (r : Recorded) (uri : List ℕ) (t : Table) (plan : List ℕ) → IsEpoch epoch → IsRecorded r → IsUri uri → IsTable t → IsPlan t plan →
-    end_fragment t 0 ≤ length r.facts → HasText (vod_list t.goal.target uri (length r.head) (segments_of (cutting epoch r 0 uri 0) t.places plan))
+pub plan_has_text : (epoch : Option ℤ) (r : RecordingData) (uri : List ℕ) (t : Table) (plan : List ℕ) → IsEpoch epoch → IsRecorded r → IsUri uri → IsTable t → IsPlan t plan →
+    end_fragment t 0 ≤ length r.facts → HasText (vod_list t.goal.target uri (length r.head) (plan_segments (job_layout epoch r 0 uri 0) t.places plan))
 plan_has_text epoch r uri t plan known valid good table is_plan ever =
     let renditions : 1 ≤ t.renditions = table.renditions.0 in
-    has_text r t.goal.target uri (segments_of (cutting epoch r 0 uri 0) t.places plan) valid table.goal.target.1 good
-    (segments_are_good t plan (cutting epoch r 0 uri 0) table is_plan (omega arith) (units_good epoch r uri valid) known ever).1
+    has_text r t.goal.target uri (plan_segments (job_layout epoch r 0 uri 0) t.places plan) valid table.goal.target.1 good
+    (segments_are_good t plan (job_layout epoch r 0 uri 0) table is_plan (omega arith) (units_good epoch r uri valid) known ever).1
 
 -- a plan's places are those of its table
-leads_within : (t : Table) (p : ℕ) (rest : List ℕ) → p < length t.places → Leads t p rest → All (λ q. q < length t.places) (p ∷ rest)
+leads_within : (t : Table) (p : ℕ) (rest : List ℕ) → p < length t.places → StepsAreAllowed t p rest → All (λ q. q < length t.places) (p ∷ rest)
 leads_within t p [] here leads = All-cons (λ q. q < length t.places) p [] here (All-nil (λ q. q < length t.places))
 leads_within t p (q ∷ rest) here leads =
     All-cons (λ q. q < length t.places) p (q ∷ rest) here (leads_within t q rest leads.0.to leads.1)
@@ -68,9 +68,9 @@ plan_within t (p ∷ rest) table is_plan =
 abbrev pub NonePast : ℕ → List (List Spot) → Type 0
 NonePast count places = (i : ℕ) → i < length places → (spot_in (place_at places i) 0).fragment ≤ count
 
-each_good : (target : ℕ) (cut : Cutting) (places : List (List Spot)) (i n : ℕ) (mark : Bool) → target ≤ 3600 → cut.rendition ≡ 0 → AreUnits cut → IsEpoch cut.epoch →
-    All (IsPlaceOf 1) places → NonePast (length cut.facts) places → AllReach target places → i + n + 1 ≡ length places →
-    All (IsSegment cut.uri) (segments_from cut places i mark (range_with_len (i + 1) n))
+each_good : (target : ℕ) (cut : ResourceLayout) (places : List (List Spot)) (i n : ℕ) (mark : Bool) → target ≤ 3600 → cut.rendition ≡ 0 → AreUnits cut → IsEpoch cut.epoch →
+    All (IsPlaceOf 1) places → NonePast (length cut.facts) places → AllReachNext target places → i + n + 1 ≡ length places →
+    All (IsSegment cut.uri) (plan_segments_from cut places i mark (range_with_len (i + 1) n))
 each_good target cut places i zero mark few single units known ones ever reach count = All-nil (IsSegment cut.uri)
 each_good target cut places i (suc n) mark few single units known ones ever reach count =
     let p : List Spot = place_at places i in
@@ -86,7 +86,7 @@ each_good target cut places i (suc n) mark few single units known ones ever reac
     let most : bytes_between cut.facts a b ≤ sum_by len_of cut.facts = few_bytes cut.facts a b in
     let before : bytes_between cut.facts cut.first a ≤ sum_by len_of cut.facts = few_bytes cut.facts cut.first a in
     let total : cut.init_length + sum_by len_of cut.facts ≤ 2 ^ 40 = units.total in
-    let rest : All (IsSegment cut.uri) (segments_from cut places (i + 1) (is_break q) (range_with_len (i + 1 + 1) n)) =
+    let rest : All (IsSegment cut.uri) (plan_segments_from cut places (i + 1) (is_break q) (range_with_len (i + 1 + 1) n)) =
     each_good target cut places (i + 1) n (is_break q) few single units known ones ever reach (omega arith) in
     let here : IsSegment cut.uri (segment_between cut mark p q) = subst
     (λ (r : ℕ). IsSegment cut.uri (record {
@@ -104,13 +104,13 @@ each_good target cut places i (suc n) mark few single units known ones ever reac
       range = (some, omega arith, omega arith);
       uri_is = refl;
     }) in
-    All-cons (IsSegment cut.uri) (segment_between cut mark p q) (segments_from cut places (i + 1) (is_break q) (range_with_len (i + 1 + 1) n)) here rest
+    All-cons (IsSegment cut.uri) (segment_between cut mark p q) (plan_segments_from cut places (i + 1) (is_break q) (range_with_len (i + 1 + 1) n)) here rest
 
 -- by the plan that leaves no place out
-pub each_has_text : (epoch : Option ℤ) (r : Recorded) (target : ℕ) (uri : List ℕ) (places : List (List Spot)) → IsEpoch epoch → IsRecorded r → target ≤ 3600 → IsUri uri →
-    All (IsPlaceOf 1) places → NonePast (length r.facts) places → AllReach target places →
-    HasText (vod_list target uri (length r.head) (segments_of (cutting epoch r 0 uri 0) places (each_place places)))
+pub each_has_text : (epoch : Option ℤ) (r : RecordingData) (target : ℕ) (uri : List ℕ) (places : List (List Spot)) → IsEpoch epoch → IsRecorded r → target ≤ 3600 → IsUri uri →
+    All (IsPlaceOf 1) places → NonePast (length r.facts) places → AllReachNext target places →
+    HasText (vod_list target uri (length r.head) (plan_segments (job_layout epoch r 0 uri 0) places (full_plan places)))
 each_has_text epoch r target uri [] known valid few good ones ever reach = has_text r target uri [] valid few good (All-nil (IsSegment uri))
 each_has_text epoch r target uri (p ∷ places) known valid few good ones ever reach =
-    has_text r target uri (segments_of (cutting epoch r 0 uri 0) (p ∷ places) (each_place (p ∷ places))) valid few good
-    (each_good target (cutting epoch r 0 uri 0) (p ∷ places) 0 (length places) false few refl (units_good epoch r uri valid) known ones ever reach (omega arith))
+    has_text r target uri (plan_segments (job_layout epoch r 0 uri 0) (p ∷ places) (full_plan (p ∷ places))) valid few good
+    (each_good target (job_layout epoch r 0 uri 0) (p ∷ places) 0 (length places) false few refl (units_good epoch r uri valid) known ones ever reach (omega arith))

@@ -3,8 +3,8 @@ use Rattle.std.proofs.Common.{◌≡◌, ℕ, ◌+◌, ◌≤◌, List, [], ◌�
 use Rattle.hls_blocks.specs.Numbered.{Numbered, next_of}
 use Rattle.hls_media_laws.specs.InitData.{InitData}
 use Rattle.hls_media_laws.specs.declared.facts.Facts.{Facts}
-use Rattle.hls_record.specs.Recorded.{Recorded}
-use Rattle.hls_record.specs.Valid.{IsRecorded}
+use Rattle.hls_record.specs.RecordingData.{RecordingData}
+use Rattle.hls_record.specs.IsRecorded.{IsRecorded}
 use Rattle.hls_check_laws.specs.declared.spot.Spot.{Spot}
 use Rattle.hls_check_laws.specs.Tables.{spot_in}
 use Rattle.hls_places_laws.specs.declared.place.Place.{Place}
@@ -12,29 +12,29 @@ use Rattle.hls_places_laws.specs.Sources.{Source, source_at, AreSources}
 use Rattle.hls_places_laws.specs.Order.{no_place, AreOrdered}
 use Rattle.hls_places_laws.proofs.Callers.{places-ordered, ordered-places, table-place}
 use Rattle.hls_core_laws.specs.Channel.{Lane}
-use Rattle.hls_core_laws.specs.State.{State, Held, channel}
-use Rattle.hls_core_laws.specs.Outcome.{held}
+use Rattle.hls_core_laws.specs.State.{State, HeldBytes, channel}
+use Rattle.hls_core_laws.specs.Outcome.{held_bytes}
 use Rattle.hls_core_laws.specs.Places.{sources, places}
 use Rattle.hls_core_laws.proofs.Callers.{some_at, lanes_count, sources_count, source_of}
-use Rattle.hls_core.specs.Reads.{recorded_from, recorded_at, recording_of}
+use Rattle.hls_core.specs.Getters.{recorded_from, recorded_at, recording_of}
 use Rattle.hls_catchup.proofs.Callers.{Bounded, places-bounded}
 use Rattle.hls_origin_listing.specs.Places.{ArePlacesOf}
 
 -- a recording has the facts of its lane
-facts_from : (o : Option InitData) (l : Lane) (h : Held) (recorded : Recorded) → recorded_from o l h ≡ Some recorded → recorded.facts ≡ l.facts
+facts_from : (o : Option InitData) (l : Lane) (h : HeldBytes) (recorded : RecordingData) → recorded_from o l h ≡ Some recorded → recorded.facts ≡ l.facts
 facts_from None l h recorded is = absurd (cc)
 facts_from (Some init) l h recorded is =
-    let made : Recorded = record { init = init; head = h.head; facts = l.facts; floor = l.floor; units = h.units } in
+    let made : RecordingData = record { init = init; head = h.head; facts = l.facts; floor = l.floor; units = h.units } in
     let same : made ≡ recorded = cc in
-    sym (ap (λ (x : Recorded). x.facts) same)
+    sym (ap (λ (x : RecordingData). x.facts) same)
 
-source_facts : (s : State) (recorded : Recorded) → 1 ≤ length s.config.renditions → recording_of s 0 ≡ Some recorded →
+source_facts : (s : State) (recorded : RecordingData) → 1 ≤ length s.config.renditions → recording_of s 0 ≡ Some recorded →
     (source_at (sources s) 0).facts ≡ recorded.facts
 source_facts s recorded some is =
     let count : length (channel s).lanes ≡ length s.config.renditions = lanes_count s.config s.log in
     let lane = some_at (channel s).lanes 0 (omega arith) in
-    let there : recorded_at (Some lane.0) (held s 0) ≡ Some recorded = ap (λ (o : Option Lane). recorded_at o (held s 0)) (sym lane.1) ∙ is in
-    (source_of s 0 lane.0 lane.1).facts ∙ sym (facts_from lane.0.init lane.0 (held s 0) recorded there)
+    let there : recorded_at (Some lane.0) (held_bytes s 0) ≡ Some recorded = ap (λ (o : Option Lane). recorded_at o (held_bytes s 0)) (sym lane.1) ∙ is in
+    (source_of s 0 lane.0 lane.1).facts ∙ sym (facts_from lane.0.init lane.0 (held_bytes s 0) recorded there)
 
 first_bounded : (sources : List Source) (spots : List Spot) → 1 ≤ length sources → Bounded sources spots →
     (spot_in spots 0).fragment ≤ length (source_at sources 0).facts
@@ -43,7 +43,7 @@ first_bounded (s ∷ sources) [] some bounded = absurd bounded
 first_bounded (s ∷ sources) (spot ∷ spots) some bounded = bounded.0
 
 -- its places
-pub places_single : (s : State) (recorded : Recorded) → length s.config.renditions ≡ 1 → recording_of s 0 ≡ Some recorded → IsRecorded recorded →
+pub places_single : (s : State) (recorded : RecordingData) → length s.config.renditions ≡ 1 → recording_of s 0 ≡ Some recorded → IsRecorded recorded →
     AreSources (sources s) → 1 ≤ length (places s) → ArePlacesOf recorded (places s)
 places_single s recorded one is valid are some =
     let lanes : length (channel s).lanes ≡ length s.config.renditions = lanes_count s.config s.log in
@@ -63,7 +63,7 @@ places_single s recorded one is valid are some =
     }
 
 -- as a snapshot gives them
-pub places_given : (s : State) (recorded : Recorded) (given : Numbered Place) (next : ℕ) → given ≡ record { first = 0; items = places s } →
+pub places_given : (s : State) (recorded : RecordingData) (given : Numbered Place) (next : ℕ) → given ≡ record { first = 0; items = places s } →
     next ≡ next_of given → 2 ≤ next → length s.config.renditions ≡ 1 → Some recorded ≡ recording_of s 0 → IsRecorded recorded →
     AreSources (sources s) → ArePlacesOf recorded given.items
 places_given s recorded given next is count some one begun valid are =

@@ -6,14 +6,14 @@ use Rattle.std.proofs.lemmas.Bool.{cases_lt}
 use Rattle.std.proofs.lemmas.List.Elements.{All-head, All-tail}
 use Rattle.hls_check_laws.specs.Tables.{IsPlaceOf, place_at}
 use Rattle.hls_check_laws.specs.declared.spot.Spot.{Spot}
-use Rattle.hls_m3u8.specs.declared.playlist.Segment.{Segment}
+use Rattle.hls_m3u8.specs.declared.playlist.MediaSegment.{MediaSegment}
 use Rattle.hls_places_laws.specs.Order.{spots_of}
 use Rattle.hls_places_laws.specs.declared.place.Place.{Place}
-use Rattle.hls_lists_laws.specs.Segments.{Cutting, is_break, segment_between, segments_from, segments_of}
-use Rattle.hls_origin_listing.specs.Each.{each_place, ReachesNext}
+use Rattle.hls_lists_laws.specs.Segments.{ResourceLayout, is_break, segment_between, plan_segments_from, plan_segments}
+use Rattle.hls_origin_listing.specs.Each.{full_plan, ReachesNext}
 
 -- the segments from a place to the first of the rest, and from each of the rest to the next
-abbrev pub along : Cutting → Bool → List Spot → List (List Spot) → List Segment
+abbrev pub along : ResourceLayout → Bool → List Spot → List (List Spot) → List MediaSegment
 along cut mark from [] = []
 along cut mark from (to ∷ rest) = segment_between cut mark from to ∷ along cut (is_break to) to rest
 
@@ -31,19 +31,19 @@ at_next places i to rest is =
     let next = next_from places (i + 1) to rest is in
     (next.0, ap (λ (n : ℕ). drop n places) (add-one (i + 1)) ∙ next.1)
 
-along_from : (cut : Cutting) (places : List (List Spot)) (i : ℕ) (mark : Bool) (rest : List (List Spot)) → drop (i + 1) places ≡ rest →
-    along cut mark (place_at places i) rest ≡ segments_from cut places i mark (range_with_len (i + 1) (length rest))
+along_from : (cut : ResourceLayout) (places : List (List Spot)) (i : ℕ) (mark : Bool) (rest : List (List Spot)) → drop (i + 1) places ≡ rest →
+    along cut mark (place_at places i) rest ≡ plan_segments_from cut places i mark (range_with_len (i + 1) (length rest))
 along_from cut places i mark [] is = refl
 along_from cut places i mark (to ∷ rest) is =
     let next = at_next places i to rest is in
     let p : List Spot = place_at places i in
     ap (λ (x : List Spot). segment_between cut mark p x ∷ along cut (is_break x) x rest) (sym next.0)
-    ∙ ap (λ (ss : List Segment). segment_between cut mark p (place_at places (i + 1)) ∷ ss)
+    ∙ ap (λ (ss : List MediaSegment). segment_between cut mark p (place_at places (i + 1)) ∷ ss)
     (along_from cut places (i + 1) (is_break (place_at places (i + 1))) rest next.1)
 
 -- they are those of the plan that leaves no place out
-pub along_each : (cut : Cutting) (first : List Spot) (rest : List (List Spot)) →
-    along cut false first rest ≡ segments_of cut (first ∷ rest) (each_place (first ∷ rest))
+pub along_each : (cut : ResourceLayout) (first : List Spot) (rest : List (List Spot)) →
+    along cut false first rest ≡ plan_segments cut (first ∷ rest) (full_plan (first ∷ rest))
 along_each cut first rest = along_from cut (first ∷ rest) 0 false rest refl
 
 -- a walk's first place has one spot, and so have the others
@@ -56,30 +56,30 @@ ones_of items first rest is ones =
     )
 
 -- one segment more
-pub one_more : (cut : Cutting) (made more : List Segment) (mark next : Bool) (from : List Spot) (walk : List Place) (to : Place) (rest : List Place)
-    (segment : Segment) (whole : List Segment) → walk ≡ to ∷ rest → more ≡ made ++ segment ∷ [] → segment ≡ segment_between cut mark from to.spots →
+pub one_more : (cut : ResourceLayout) (made more : List MediaSegment) (mark next : Bool) (from : List Spot) (walk : List Place) (to : Place) (rest : List Place)
+    (segment : MediaSegment) (whole : List MediaSegment) → walk ≡ to ∷ rest → more ≡ made ++ segment ∷ [] → segment ≡ segment_between cut mark from to.spots →
     next ≡ is_break to.spots → made ++ along cut mark from (spots_of walk) ≡ whole → more ++ along cut next to.spots (spots_of rest) ≡ whole
 one_more cut made more mark next from walk to rest segment whole is pushed here break before =
-    ap (λ (ss : List Segment). ss ++ along cut next to.spots (spots_of rest)) pushed
+    ap (λ (ss : List MediaSegment). ss ++ along cut next to.spots (spots_of rest)) pushed
     ∙ append_assoc made (segment ∷ []) (along cut next to.spots (spots_of rest))
     ∙ ap (λ (b : Bool). made ++ (segment ∷ along cut b to.spots (spots_of rest))) break
-    ∙ ap (λ (s : Segment). made ++ (s ∷ along cut (is_break to.spots) to.spots (spots_of rest))) here
+    ∙ ap (λ (s : MediaSegment). made ++ (s ∷ along cut (is_break to.spots) to.spots (spots_of rest))) here
     ∙ ap (λ (ps : List Place). made ++ along cut mark from (spots_of ps)) (sym is) ∙ before
 
 -- all segments
-pub all_made : (cut : Cutting) (items : List Place) (first : Place) (rest left : List Place) (made : List Segment) (mark : Bool) (from : List Spot) →
+pub all_made : (cut : ResourceLayout) (items : List Place) (first : Place) (rest left : List Place) (made : List MediaSegment) (mark : Bool) (from : List Spot) →
     items ≡ first ∷ rest → left ≡ [] →
     made ++ along cut mark from (spots_of left) ≡ along cut false first.spots (spots_of rest) →
-    made ≡ segments_of cut (spots_of items) (each_place (spots_of items))
+    made ≡ plan_segments cut (spots_of items) (full_plan (spots_of items))
 all_made cut items first rest left made mark from is over done =
     sym (append-nil made) ∙ ap (λ (ps : List Place). made ++ along cut mark from (spots_of ps)) (sym over) ∙ done
     ∙ along_each cut first.spots (spots_of rest)
-    ∙ ap (λ (ps : List Place). segments_of cut (spots_of ps) (each_place (spots_of ps))) (sym is)
+    ∙ ap (λ (ps : List Place). plan_segments cut (spots_of ps) (full_plan (spots_of ps))) (sym is)
 
 -- without places there is no segment
-pub none_made : (cut : Cutting) (items : List Place) (made : List Segment) → items ≡ [] → made ≡ [] →
-    made ≡ segments_of cut (spots_of items) (each_place (spots_of items))
-none_made cut items made none empty = empty ∙ ap (λ (ps : List Place). segments_of cut (spots_of ps) (each_place (spots_of ps))) (sym none)
+pub none_made : (cut : ResourceLayout) (items : List Place) (made : List MediaSegment) → items ≡ [] → made ≡ [] →
+    made ≡ plan_segments cut (spots_of items) (full_plan (spots_of items))
+none_made cut items made none empty = empty ∙ ap (λ (ps : List Place). plan_segments cut (spots_of ps) (full_plan (spots_of ps))) (sym none)
 
 -- one step more is allowed
 pub step_more : (target : ℕ) (places : List (List Spot)) (place : ℕ) → ((k : ℕ) → k < place → ReachesNext target places k) → ReachesNext target places place →

@@ -2,7 +2,7 @@
 use Rattle.std.proofs.Common.{◌≡◌, ℕ, ◌≤◌, ◌-◌, List, length, sym, subst, arith, All, get_or}
 use Rattle.std.proofs.lemmas.List.{length-map}
 use Rattle.std.proofs.lemmas.List.Elements.{All-get_or}
-use Rattle.hls_record.specs.Recorded.{Recorded}
+use Rattle.hls_record.specs.RecordingData.{RecordingData}
 use Rattle.hls_check_laws.specs.declared.cost_rule.CostRule.TheVariants.{Deviation}
 use Rattle.hls_check_laws.specs.declared.goal.Goal.{Goal}
 use Rattle.hls_check_laws.specs.declared.spot.Spot.{Spot}
@@ -45,14 +45,14 @@ whole_is_orderly goal places are single =
     }
 
 -- no place is past the last unit's end
-pub none_past : (recorded : Recorded) (places : List Place) → ArePlacesOf recorded places → NonePast (length recorded.facts) (spots_of places)
+pub none_past : (recorded : RecordingData) (places : List Place) → ArePlacesOf recorded places → NonePast (length recorded.facts) (spots_of places)
 none_past recorded places are i within =
     let count : length (spots_of places) ≡ length places = length_spots places in
     let there : (spot_in (get_or places i no_place).spots 0).fragment ≤ length recorded.facts =
     All-get_or (λ (p : Place). (spot_in p.spots 0).fragment ≤ length recorded.facts) places i no_place (omega arith) are.ever in
     subst (λ (p : List Spot). (spot_in p 0).fragment ≤ length recorded.facts) (sym (table-place places i)) there
 
-pub end_within : (goal : Goal) (recorded : Recorded) (places : List Place) → ArePlacesOf recorded places → 2 ≤ length places →
+pub end_within : (goal : Goal) (recorded : RecordingData) (places : List Place) → ArePlacesOf recorded places → 2 ≤ length places →
     end_fragment (table_of goal 1 (spots_of places)) 0 ≤ length recorded.facts
 end_within goal recorded places are some =
     let count : length (spots_of places) ≡ length places = length_spots places in

@@ -1,41 +1,41 @@
 -- The playlist with one segment from each place to the next.
 use Rattle.std.specs.Prelude.{ℕ, ◌+◌, ◌<◌, ◌≤◌, ℤ, Option, List, length, Result, Ok, Err}
 use Rattle.std.specs.List.{range_with_len}
-use Rattle.hls_record.specs.Recorded.{Recorded}
+use Rattle.hls_record.specs.RecordingData.{RecordingData}
 use Rattle.hls_check_laws.specs.declared.spot.Spot.{Spot}
 use Rattle.hls_check_laws.specs.Tables.{place_at}
 use Rattle.hls_check_laws.specs.Steps.{IsPlaceStep}
-use Rattle.hls_m3u8.specs.declared.playlist.Segment.{Segment}
-use Rattle.hls_m3u8.specs.Forms.{vod_list}
+use Rattle.hls_m3u8.specs.declared.playlist.MediaSegment.{MediaSegment}
+use Rattle.hls_m3u8.specs.PlaylistForms.{vod_list}
 use Rattle.hls_m3u8.specs.Playlist.{Playlist}
 use Rattle.hls_m3u8.specs.Written.{IsWritten}
-use Rattle.hls_lists_laws.specs.Segments.{segments_of}
-use Rattle.hls_catchup_laws.specs.Lists.{cutting}
-use Rattle.hls_origin_listing.specs.declared.forms.Listed.{Listed}
-use Rattle.hls_origin_listing.specs.declared.forms.Listed.TheVariants.{Text, NoCut}
-use Rattle.hls_origin_listing.specs.declared.fault.ListFault.{ListFault}
-use Rattle.hls_origin_listing.specs.declared.fault.ListFault.TheVariants.{NoPlace, ProgrammeTooLong, NotAllowed, Memory}
+use Rattle.hls_lists_laws.specs.Segments.{plan_segments}
+use Rattle.hls_catchup_laws.specs.JobPlaylists.{job_layout}
+use Rattle.hls_origin_listing.specs.declared.listing_mode.ListingOutput.{ListingOutput}
+use Rattle.hls_origin_listing.specs.declared.listing_mode.ListingOutput.TheVariants.{Text, NoCut}
+use Rattle.hls_origin_listing.specs.declared.listing_fault.ListingFault.{ListingFault}
+use Rattle.hls_origin_listing.specs.declared.listing_fault.ListingFault.TheVariants.{NoPlace, ProgrammeTooLong, NotAllowed, Memory}
 
 -- the list of VOD with a plan's steps as segments, in a resource that is the recording's init section and then all units
-abbrev pub list_by : ℕ → Option ℤ → Recorded → List ℕ → List (List Spot) → List ℕ → Playlist
-list_by target epoch recorded uri places plan =
-    vod_list target uri (length recorded.head) (segments_of (cutting epoch recorded 0 uri 0) places plan)
+abbrev pub plan_list : ℕ → Option ℤ → RecordingData → List ℕ → List (List Spot) → List ℕ → Playlist
+plan_list target epoch recorded uri places plan =
+    vod_list target uri (length recorded.head) (plan_segments (job_layout epoch recorded 0 uri 0) places plan)
 
 -- the plan that leaves no place out
-abbrev pub each_place : List (List Spot) → List ℕ
-each_place places = range_with_len 0 (length places)
+abbrev pub full_plan : List (List Spot) → List ℕ
+full_plan places = range_with_len 0 (length places)
 
 -- the segments of that plan
-abbrev pub each_segment : Option ℤ → Recorded → List ℕ → List (List Spot) → List Segment
-each_segment epoch recorded uri places = segments_of (cutting epoch recorded 0 uri 0) places (each_place places)
+abbrev pub consecutive_segments : Option ℤ → RecordingData → List ℕ → List (List Spot) → List MediaSegment
+consecutive_segments epoch recorded uri places = plan_segments (job_layout epoch recorded 0 uri 0) places (full_plan places)
 
 -- one segment may reach from place i to the next
 abbrev pub ReachesNext : ℕ → List (List Spot) → ℕ → Type 0
 ReachesNext target places i = IsPlaceStep target (place_at places i) (place_at places (i + 1))
 
 -- so from each place but the last
-abbrev pub AllReach : ℕ → List (List Spot) → Type 0
-AllReach target places = (i : ℕ) → i + 1 < length places → ReachesNext target places i
+abbrev pub AllReachNext : ℕ → List (List Spot) → Type 0
+AllReachNext target places = (i : ℕ) → i + 1 < length places → ReachesNext target places i
 
 -- the first place from which none may
 pub record IsFirstRefused (target : ℕ) (places : List (List Spot)) (i : ℕ) : Type 0 where
@@ -44,11 +44,11 @@ pub record IsFirstRefused (target : ℕ) (places : List (List Spot)) (i : ℕ) :
   pub before : (k : ℕ) → k < i → ReachesNext target places k
 
 -- the list's text, where each place reaches the next; want of memory may come in its place alone
-abbrev pub ListsEach : ℕ → Option ℤ → Recorded → List (List Spot) → List ℕ → Result Listed ListFault → Type 0
+abbrev pub ListsEach : ℕ → Option ℤ → RecordingData → List (List Spot) → List ℕ → Result ListingOutput ListingFault → Type 0
 ListsEach target epoch recorded places uri (Ok (Text text)) =
-    (2 ≤ length places) × AllReach target places × IsWritten (list_by target epoch recorded uri places (each_place places)) text.items
+    (2 ≤ length places) × AllReachNext target places × IsWritten (plan_list target epoch recorded uri places (full_plan places)) text.items
 ListsEach target epoch recorded places uri (Ok (NoCut text)) = ⊥
 ListsEach target epoch recorded places uri (Err NoPlace) = length places < 2
 ListsEach target epoch recorded places uri (Err ProgrammeTooLong) = ⊥
 ListsEach target epoch recorded places uri (Err (NotAllowed place)) = IsFirstRefused target places place
-ListsEach target epoch recorded places uri (Err Memory) = (2 ≤ length places) × AllReach target places
+ListsEach target epoch recorded places uri (Err Memory) = (2 ≤ length places) × AllReachNext target places

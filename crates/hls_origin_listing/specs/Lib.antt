@@ -1,5 +1,5 @@
 pub mod Each
 pub mod Plans
-pub mod Lists
+pub mod Listings
 pub mod Places
-pub mod FaultName
+pub mod ListingFaultName

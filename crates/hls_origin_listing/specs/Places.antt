@@ -1,14 +1,14 @@
 -- For the proofs of this crate; no public clause cites it.
 -- What holds of a recording and its common places.
 use Rattle.std.specs.Prelude.{◌≡◌, ◌≤◌, List, length, All}
-use Rattle.hls_record.specs.Recorded.{Recorded}
-use Rattle.hls_record.specs.Valid.{IsRecorded}
+use Rattle.hls_record.specs.RecordingData.{RecordingData}
+use Rattle.hls_record.specs.IsRecorded.{IsRecorded}
 use Rattle.hls_check_laws.specs.Tables.{spot_in}
 use Rattle.hls_places_laws.specs.declared.place.Place.{Place}
 use Rattle.hls_places_laws.specs.Order.{renditions_in, ArePlaces}
 
 -- the places are in order and of one rendition, and none lies past the last unit's end
-pub record ArePlacesOf (recorded : Recorded) (places : List Place) : Type 0 where
+pub record ArePlacesOf (recorded : RecordingData) (places : List Place) : Type 0 where
   pub valid : IsRecorded recorded
   pub ordered : ArePlaces places
   pub single : renditions_in places ≡ 1

@@ -1,28 +1,28 @@
 -- What is listed by a least plan of all places.
 use Rattle.std.specs.Prelude.{◌≡◌, ℕ, ◌<◌, ◌≤◌, ℤ, Bool, true, false, List, [], length, Option, Result, Ok, Err}
-use Rattle.hls_record.specs.Recorded.{Recorded}
+use Rattle.hls_record.specs.RecordingData.{RecordingData}
 use Rattle.hls_check_laws.specs.Tables.{Table, place_limit}
 use Rattle.hls_check_laws.specs.Plans.{IsLeast, HasNoPlan}
-use Rattle.hls_check_laws.specs.Certificates.{Shown, CutShown, NoneShown, IsCertificate, IsGood}
+use Rattle.hls_check_laws.specs.Certificates.{ClaimData, CutClaim, NoneClaim, IsCertificate, IsGood}
 use Rattle.hls_check_text.specs.Text.{text}
-use Rattle.hls_origin_listing.specs.declared.forms.Listed.{Listed}
-use Rattle.hls_origin_listing.specs.declared.forms.Listed.TheVariants.{Text, NoCut}
-use Rattle.hls_origin_listing.specs.declared.fault.ListFault.{ListFault}
-use Rattle.hls_origin_listing.specs.declared.fault.ListFault.TheVariants.{NoPlace, ProgrammeTooLong, NotAllowed, Memory}
+use Rattle.hls_origin_listing.specs.declared.listing_mode.ListingOutput.{ListingOutput}
+use Rattle.hls_origin_listing.specs.declared.listing_mode.ListingOutput.TheVariants.{Text, NoCut}
+use Rattle.hls_origin_listing.specs.declared.listing_fault.ListingFault.{ListingFault}
+use Rattle.hls_origin_listing.specs.declared.listing_fault.ListingFault.TheVariants.{NoPlace, ProgrammeTooLong, NotAllowed, Memory}
 use Rattle.hls_m3u8.specs.Written.{IsWritten}
-use Rattle.hls_origin_listing.specs.Each.{list_by}
+use Rattle.hls_origin_listing.specs.Each.{plan_list}
 
 -- the text of a good certificate over this very table that shows this
-pub record IsGoodText (t : Table) (shown : Shown) (bytes : List ℕ) : Type 0 where
+pub record IsGoodText (t : Table) (shown : ClaimData) (bytes : List ℕ) : Type 0 where
   pub form : IsCertificate (record { table = t; shown = shown })
   pub good : IsGood (record { table = t; shown = shown })
   pub is : bytes ≡ text (record { table = t; shown = shown })
 
 -- the playlist by a least plan
-pub record IsLeastPlaylist (t : Table) (epoch : Option ℤ) (recorded : Recorded) (uri : List ℕ) (bytes : List ℕ) : Type 0 where
+pub record IsLeastPlaylist (t : Table) (epoch : Option ℤ) (recorded : RecordingData) (uri : List ℕ) (bytes : List ℕ) : Type 0 where
   pub plan : List ℕ
   pub least : IsLeast t plan
-  pub written : IsWritten (list_by t.goal.target epoch recorded uri t.places plan) bytes
+  pub written : IsWritten (plan_list t.goal.target epoch recorded uri t.places plan) bytes
 
 -- the certificate of a least plan, with its cost and prices
 pub record IsLeastCertificate (t : Table) (bytes : List ℕ) : Type 0 where
@@ -30,42 +30,42 @@ pub record IsLeastCertificate (t : Table) (bytes : List ℕ) : Type 0 where
   pub cost : ℕ
   pub prices : List (Option ℕ)
   pub least : IsLeast t plan
-  pub text : IsGoodText t (CutShown cost plan prices) bytes
+  pub text : IsGoodText t (CutClaim cost plan prices) bytes
 
 -- the certificate that there is no plan
-pub record IsNoCertificate (t : Table) (bytes : List ℕ) : Type 0 where
+pub record IsNoPlanCertificate (t : Table) (bytes : List ℕ) : Type 0 where
   pub closed : List Bool
-  pub text : IsGoodText t (NoneShown closed) bytes
+  pub text : IsGoodText t (NoneClaim closed) bytes
 
 -- what is listed by a least plan: its certificate where that was asked for, else its playlist
-abbrev pub IsLeastText : Bool → Table → Option ℤ → Recorded → List ℕ → List ℕ → Type 0
+abbrev pub IsLeastText : Bool → Table → Option ℤ → RecordingData → List ℕ → List ℕ → Type 0
 IsLeastText true t epoch recorded uri bytes = IsLeastCertificate t bytes
 IsLeastText false t epoch recorded uri bytes = IsLeastPlaylist t epoch recorded uri bytes
 
 -- what is listed where there is no plan: the certificate of that, else no byte
-abbrev pub IsNoneText : Bool → Table → List ℕ → Type 0
-IsNoneText true t bytes = IsNoCertificate t bytes
-IsNoneText false t bytes = bytes ≡ []
+abbrev pub IsNoPlanText : Bool → Table → List ℕ → Type 0
+IsNoPlanText true t bytes = IsNoPlanCertificate t bytes
+IsNoPlanText false t bytes = bytes ≡ []
 
 -- a least plan's playlist, or no byte
-abbrev pub IsPlayed : Table → Option ℤ → Recorded → List ℕ → Listed → Type 0
-IsPlayed t epoch recorded uri (Text bytes) = IsLeastPlaylist t epoch recorded uri bytes.items
-IsPlayed t epoch recorded uri (NoCut bytes) = HasNoPlan t × (bytes.items ≡ [])
+abbrev pub IsPlanPlaylist : Table → Option ℤ → RecordingData → List ℕ → ListingOutput → Type 0
+IsPlanPlaylist t epoch recorded uri (Text bytes) = IsLeastPlaylist t epoch recorded uri bytes.items
+IsPlanPlaylist t epoch recorded uri (NoCut bytes) = HasNoPlan t × (bytes.items ≡ [])
 
 -- a certificate
-abbrev pub IsCertified : Table → Listed → Type 0
-IsCertified t (Text bytes) = IsLeastCertificate t bytes.items
-IsCertified t (NoCut bytes) = HasNoPlan t × IsNoCertificate t bytes.items
+abbrev pub IsPlanCertificate : Table → ListingOutput → Type 0
+IsPlanCertificate t (Text bytes) = IsLeastCertificate t bytes.items
+IsPlanCertificate t (NoCut bytes) = HasNoPlan t × IsNoPlanCertificate t bytes.items
 
 -- so many places that they make up a table
 abbrev pub HasTable : Table → Type 0
 HasTable t = (2 ≤ length t.places) × (length t.places ≤ place_limit)
 
 -- what is listed of a table of all places; want of memory may come in place of a text alone
-abbrev pub ListsPlanned : Bool → Table → Option ℤ → Recorded → List ℕ → Result Listed ListFault → Type 0
-ListsPlanned certificate t epoch recorded uri (Ok (Text bytes)) = HasTable t × IsLeastText certificate t epoch recorded uri bytes.items
-ListsPlanned certificate t epoch recorded uri (Ok (NoCut bytes)) = HasTable t × HasNoPlan t × IsNoneText certificate t bytes.items
-ListsPlanned certificate t epoch recorded uri (Err NoPlace) = length t.places < 2
-ListsPlanned certificate t epoch recorded uri (Err ProgrammeTooLong) = place_limit < length t.places
-ListsPlanned certificate t epoch recorded uri (Err (NotAllowed place)) = ⊥
-ListsPlanned certificate t epoch recorded uri (Err Memory) = HasTable t
+abbrev pub ListsLeastPlan : Bool → Table → Option ℤ → RecordingData → List ℕ → Result ListingOutput ListingFault → Type 0
+ListsLeastPlan certificate t epoch recorded uri (Ok (Text bytes)) = HasTable t × IsLeastText certificate t epoch recorded uri bytes.items
+ListsLeastPlan certificate t epoch recorded uri (Ok (NoCut bytes)) = HasTable t × HasNoPlan t × IsNoPlanText certificate t bytes.items
+ListsLeastPlan certificate t epoch recorded uri (Err NoPlace) = length t.places < 2
+ListsLeastPlan certificate t epoch recorded uri (Err ProgrammeTooLong) = place_limit < length t.places
+ListsLeastPlan certificate t epoch recorded uri (Err (NotAllowed place)) = ⊥
+ListsLeastPlan certificate t epoch recorded uri (Err Memory) = HasTable t

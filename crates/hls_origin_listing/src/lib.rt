@@ -2,17 +2,17 @@
 //! next, or one by a least plan, or the plan's certificate.
 #![tactic(auto)]
 
-pub use fault::ListFault;
-pub use forms::{Listed, Listing};
-pub use lists::list;
+pub use channel_listing::list_channel;
+pub use listing_fault::ListingFault;
+pub use listing_mode::{ListingMode, ListingOutput};
 
-mod each;
-mod fault;
-mod forms;
-mod lists;
-mod plans;
+mod channel_listing;
+mod find_first_refused;
+mod iterators;
+mod list_each;
+mod list_least_plan;
+mod listing_fault;
+mod listing_mode;
 mod segments;
-mod steps;
 mod table;
-mod text;
-mod walk;
+mod vod_playlist;

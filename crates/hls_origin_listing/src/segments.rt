@@ -4,33 +4,33 @@ ghost use Rattle.std.specs.Prelude.{◌≡◌, All, IfOk};
 ghost use Rattle.hls_check_laws.specs.Tables.{IsPlaceOf};
 ghost use Rattle.hls_places_laws.specs.Order.{spots_of};
 ghost use Rattle.hls_core_laws.specs.Config.{IsEpoch};
-ghost use Rattle.hls_origin_listing.specs.Each.{each_segment};
+ghost use Rattle.hls_origin_listing.specs.Each.{consecutive_segments};
 
-use crate::walk::{next_place, walk_of};
+use crate::iterators::{iter_places, next_place};
 use bytes::ByteStr;
 use hls_blocks::Shared;
 use hls_catchup::{is_break, segment_between};
-use hls_m3u8::Segment;
+use hls_m3u8::MediaSegment;
 use hls_places::Place;
 use hls_record::Recording;
 use std::alloc::{AllocError, Global};
 
 /// The segments from each place to the next. All but the first are marked where a gap lies just before their start
 /// (RFC 8216 section 4.3.2.3).
-pub fn each_segment(
+pub fn make_consecutive_segments(
     alloc: Global,
     recording: &Recording,
     epoch: Option<i64>,
     uri: &ByteStr,
     places: &Shared<Place>,
-) -> Result<Vec<Segment>, AllocError>
+) -> Result<Vec<MediaSegment>, AllocError>
     requires epoch { IsEpoch epoch }
     requires first { places.now.first ≡ 0 }
     requires single { All (IsPlaceOf 1) (spots_of places.now.items) }
-    ensures { IfOk result (λ v. v.items ≡ each_segment epoch recording.now uri.now (spots_of places.now.items)) }
+    ensures { IfOk result (λ v. v.items ≡ consecutive_segments epoch recording.now uri.now (spots_of places.now.items)) }
 {
     let mut segments = Vec::new(alloc);
-    let mut walk = walk_of(places);
+    let mut walk = iter_places(places);
     let Some(first) = next_place(&mut walk) else {
         return Ok(segments);
     };

@@ -4,14 +4,14 @@ ghost use Rattle.std.specs.Prelude.{◌≡◌, ◌≤◌, length, IfOk};
 ghost use Rattle.hls_check_laws.specs.Tables.{IsGoal, IsTable, table_of, place_limit};
 ghost use Rattle.hls_places_laws.specs.Order.{spots_of, renditions_in, ArePlaces};
 
-use crate::walk::{next_place, walk_of};
+use crate::iterators::{iter_places, next_place};
 use hls_blocks::Shared;
-use hls_check_laws::{Goal, PlaceTable, PrintedTable};
+use hls_check_laws::{CertificateTable, Goal, PlaceTable};
 use hls_places::Place;
 use std::alloc::{AllocError, Global};
 
 /// The table of all places of one rendition, of which there are 2 to 16384.
-pub fn whole_table(
+pub fn build_table(
     alloc: Global,
     goal: Goal,
     places: &Shared<Place>,
@@ -25,9 +25,9 @@ pub fn whole_table(
     ensures valid { IfOk result IsTable }
 {
     let mut spots = Vec::new(alloc);
-    let mut walk = walk_of(places);
+    let mut walk = iter_places(places);
     while let Some(place) = next_place(&mut walk) {
         spots.push(place.spots.share()?)?;
     }
-    Ok(PlaceTable::new(PrintedTable::new(goal, 1, spots)))
+    Ok(PlaceTable::new(CertificateTable::new(goal, 1, spots)))
 }

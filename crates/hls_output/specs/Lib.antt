@@ -1,3 +1,3 @@
-pub mod Handed
+pub mod SentBytes
 pub mod Slices
-pub mod Texts
+pub mod HeadTexts

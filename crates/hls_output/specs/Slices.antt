@@ -12,9 +12,9 @@ part_at slices number within len = take len (rest_at slices number within)
 
 -- For the proofs of this crate; no public clause cites it: so many bytes are there, and where that is any, the place is in its
 -- slice, which is so long
-pub record IsPlace (slices : List (List ℕ)) (number within len left : ℕ) : Type 0 where
-  pub there : left ≤ length (rest_at slices number within)
+pub record IsPosition (slices : List (List ℕ)) (number within len left : ℕ) : Type 0 where
+  pub enough : left ≤ length (rest_at slices number within)
   pub inside : 0 < left → within < len
-  pub here : 0 < left → len ≡ length (get_or slices number [])
+  pub slice_len : 0 < left → len ≡ length (get_or slices number [])
   pub few : 0 < left → length slices < 2 ^ 64
   pub room : within + left < 2 ^ 64

@@ -2,15 +2,15 @@
 //! part by part, as a socket takes it; nobody waits here, and no memory is taken.
 #![tactic(auto)]
 
-mod gather;
-pub mod laws;
-mod media;
-mod output;
 mod resource;
-mod text;
+mod resource_range;
+mod send_buffer;
+pub mod send_laws;
+mod small_slices;
+mod text_resource;
 
-pub use gather::MOST_GATHERED;
-pub use media::Media;
-pub use output::Output;
 pub use resource::Resource;
-pub use text::Text;
+pub use resource_range::ResourceRange;
+pub use send_buffer::SendBuffer;
+pub use small_slices::MAX_GATHERED_BYTES;
+pub use text_resource::TextResource;

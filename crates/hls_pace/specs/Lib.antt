@@ -1,2 +1,2 @@
-pub mod Paces
-pub mod Places
+pub mod Activity
+pub mod Yielding

@@ -2,10 +2,10 @@
 //! way where all places are taken.
 #![tactic(auto)]
 
+mod activity;
 mod clock;
-mod pace;
-mod places;
+mod yielding;
 
-pub use clock::milliseconds;
-pub use pace::{Pace, Stage};
-pub use places::yields;
+pub use activity::{Activity, ConnectionStage};
+pub use clock::monotonic_ms;
+pub use yielding::choose_yielding;

@@ -7,7 +7,7 @@ use Rattle.hls_check_laws.specs.declared.spot.Spot.{Spot}
 use Rattle.hls_check_laws.specs.Tables.{table_of}
 use Rattle.hls_places_laws.specs.declared.place.Place.{Place}
 use Rattle.hls_places_laws.specs.Order.{spots_of, renditions_in}
-use Rattle.hls_places_laws.specs.Programmes.{cut_out}
+use Rattle.hls_places_laws.specs.Programmes.{table_between}
 
 first-count : {X : Type 0} (f : X → Place) (xs : List X) (d : X) → 0 < length xs →
     length (f (get_or xs 0 d)).spots ≡ renditions_in (map f xs)
@@ -17,7 +17,7 @@ first-count f (y ∷ ys) d some = refl
 pub cut_out-is : {X : Type 0} (f : X → Place) (xs : List X) (d : X) (goal : Goal) (from to renditions : ℕ)
     (spots : List (List Spot)) → 0 < length xs → renditions ≡ length (f (get_or xs 0 d)).spots →
     spots ≡ spots_of (map f (take (to + 1 - from) (drop from xs))) →
-    table_of goal renditions spots ≡ cut_out goal (map f xs) from to
+    table_of goal renditions spots ≡ table_between goal (map f xs) from to
 cut_out-is f xs d goal from to renditions spots some count spots_are =
     let first = first-count f xs d some in
     let range : map f (take (to + 1 - from) (drop from xs)) ≡ slice_range (map f xs) from (to + 1) =

@@ -1,8 +1,8 @@
 -- A recording's units are in order.
 use Rattle.std.proofs.Common.{◌≡◌, ℕ, ◌≤◌, List, length, map, get_or, Bool, arith, refl, ◌∙◌}
 use Rattle.hls_media_laws.specs.declared.facts.Facts.{Facts}
-use Rattle.hls_record.specs.Recorded.{Recorded}
-use Rattle.hls_record.specs.Valid.{IsRecorded}
+use Rattle.hls_record.specs.RecordingData.{RecordingData}
+use Rattle.hls_record.specs.IsRecorded.{IsRecorded}
 use Rattle.hls_places.proofs.Cited.{units_are_in_time, length-sides, side-of, places-ordered, ordered-places}
 use Rattle.hls_places_laws.specs.Sources.{Source, IsTimeline, sources_of}
 use Rattle.hls_places_laws.specs.Places.{places_of}
@@ -10,7 +10,7 @@ use Rattle.hls_places_laws.specs.Order.{ArePlaces}
 use Rattle.hls_places.specs.Searches.{AreInOrder}
 use Rattle.hls_check_laws.specs.Tables.{rendition_limit}
 
-pub timeline-of : (r : Recorded) → IsRecorded r → IsTimeline r.facts
+pub timeline-of : (r : RecordingData) → IsRecorded r → IsTimeline r.facts
 timeline-of = units_are_in_time
 
 -- so the common places of renditions side by side are in order

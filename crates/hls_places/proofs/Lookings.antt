@@ -5,42 +5,42 @@ use Rattle.std.specs.Prelude.{option_map}
 use Rattle.std.proofs.lemmas.Bool.{cases_lt, cond-true}
 use Rattle.hls_media_laws.specs.declared.facts.Facts.{Facts}
 use Rattle.hls_check_laws.specs.declared.spot.Spot.{Spot}
-use Rattle.hls_places_laws.specs.declared.mark.Mark.{Mark}
+use Rattle.hls_places_laws.specs.declared.search_position.SearchPosition.{SearchPosition}
 use Rattle.hls_places_laws.specs.declared.place.Place.{Place}
 use Rattle.hls_places_laws.specs.Sources.{Source, fact_at, source_at, first_facts, IsTimeline}
 use Rattle.hls_places_laws.specs.Spots.{first_entry}
 use Rattle.hls_places_laws.specs.Places.{spots, place_of, common_at}
-use Rattle.hls_places_laws.specs.Positions.{IsAsked, IsDecided, IsCursor}
+use Rattle.hls_places_laws.specs.SearchPositions.{IsAsked, IsDecided, IsCursor}
 use Rattle.hls_places.proofs.Cited.{starts-never_fall, before_entry, entry-later, none-left}
 use Rattle.hls_places.specs.Searches.{AreEarly, AreAtEntries, AllSettled, IsUnsettled}
-use Rattle.hls_places.specs.Decisions.{IsToldOf, IsLeftAt}
+use Rattle.hls_places.specs.Decisions.{AddsPlaceOf, StopsAt}
 
 -- what is known when fragment `done`, with the facts f, is looked at
-pub record IsLooking (sources : List Source) (done : ℕ) (marks : List Mark) (f : Facts) : Type 0 where
+pub record IsLooking (sources : List Source) (done : ℕ) (search_positions : List SearchPosition) (f : Facts) : Type 0 where
   pub order : IsTimeline (first_facts sources)
   pub more : done < length (first_facts sources)
-  pub cursor : IsCursor (record { done = done; marks = marks }) sources
+  pub cursor : IsCursor (record { done = done; search_positions = search_positions }) sources
   pub facts_are : f ≡ fact_at (first_facts sources) done
 
 -- every fragment up to this one was asked for by its time
 asked-here : (fs : List Facts) (done : ℕ) → IsTimeline fs → done < length fs → IsAsked fs done (fact_at fs done).start_us
 asked-here fs done order more i below within = starts-never_fall fs order i done below more
 
-pub marks-early : (sources : List Source) (done : ℕ) (marks : List Mark) (f : Facts) → IsLooking sources done marks f →
-    AreEarly f.start_us sources marks
-marks-early sources done marks f looking r within j before =
-    rw looking.facts_are ((looking.cursor.marks r within).passed (fact_at (first_facts sources) done).start_us j
+pub search_positions-early : (sources : List Source) (done : ℕ) (search_positions : List SearchPosition) (f : Facts) → IsLooking sources done search_positions f →
+    AreEarly f.start_us sources search_positions
+search_positions-early sources done search_positions f looking r within j before =
+    rw looking.facts_are ((looking.cursor.search_positions r within).passed (fact_at (first_facts sources) done).start_us j
     (asked-here (first_facts sources) done looking.order looking.more) before)
 
 -- marks that were moved to the first entries are marks
-pub cursor-sought : (sources : List Source) (done : ℕ) (marks moved : List Mark) (f : Facts) →
-    IsLooking sources done marks f → length moved ≡ length sources → AreAtEntries f.start_us sources moved →
-    IsCursor (record { done = done; marks = moved }) sources
-cursor-sought sources done marks moved f looking count found = record {
+pub cursor-sought : (sources : List Source) (done : ℕ) (search_positions moved : List SearchPosition) (f : Facts) →
+    IsLooking sources done search_positions f → length moved ≡ length sources → AreAtEntries f.start_us sources moved →
+    IsCursor (record { done = done; search_positions = moved }) sources
+cursor-sought sources done search_positions moved f looking count found = record {
   count = count;
   within = looking.cursor.within;
   decided = looking.cursor.decided;
-  marks = λ r within.
+  search_positions = λ r within.
       let at = found r within in
       let low : ℕ = f.start_us - (source_at sources r).tolerance in
       record {
@@ -57,9 +57,9 @@ cursor-sought sources done marks moved f looking count found = record {
 }
 
 -- a decided fragment is passed
-pub cursor-next : (sources : List Source) (done : ℕ) (marks : List Mark) → IsCursor (record { done = done; marks = marks }) sources →
-    done < length (first_facts sources) → IsDecided sources done → IsCursor (record { done = done + 1; marks = marks }) sources
-cursor-next sources done marks cursor more decided = record {
+pub cursor-next : (sources : List Source) (done : ℕ) (search_positions : List SearchPosition) → IsCursor (record { done = done; search_positions = search_positions }) sources →
+    done < length (first_facts sources) → IsDecided sources done → IsCursor (record { done = done + 1; search_positions = search_positions }) sources
+cursor-next sources done search_positions cursor more decided = record {
   count = cursor.count;
   within = omega arith;
   decided = λ i before. elim (cases_lt i done) [
@@ -69,19 +69,19 @@ cursor-next sources done marks cursor more decided = record {
         let P : ℕ → Type 0 = λ x. IsDecided sources x in
         subst P same decided
   ];
-  marks = λ r within.
-      let mark = cursor.marks r within in
+  search_positions = λ r within.
+      let search_position = cursor.search_positions r within in
       record {
-        within = mark.within;
-        runs = mark.runs;
-        passed = λ t j asked before. mark.passed t j (λ i below inside. asked i (omega arith) inside) before;
+        within = search_position.within;
+        runs = search_position.runs;
+        passed = λ t j asked before. search_position.passed t j (λ i below inside. asked i (omega arith) inside) before;
       };
 }
 
 -- where each rendition is settled, the fragment is decided
-pub decided-settled : (sources : List Source) (done : ℕ) (marks moved : List Mark) (f : Facts) →
-    IsLooking sources done marks f → AreAtEntries f.start_us sources moved → AllSettled sources moved → IsDecided sources done
-decided-settled sources done marks moved f looking found settled sync r within =
+pub decided-settled : (sources : List Source) (done : ℕ) (search_positions moved : List SearchPosition) (f : Facts) →
+    IsLooking sources done search_positions f → AreAtEntries f.start_us sources moved → AllSettled sources moved → IsDecided sources done
+decided-settled sources done search_positions moved f looking found settled sync r within =
     let at = found r within in
     let start : f.start_us ≡ (fact_at (first_facts sources) done).start_us =
     ap (λ (x : Facts). x.start_us) looking.facts_are in
@@ -90,10 +90,10 @@ decided-settled sources done marks moved f looking found settled sync r within =
       | inr here ↦ inr (rw (← start) (omega (arith, at.found, here)))
     ]
 
-pub left-at : (sources : List Source) (done r : ℕ) (marks moved : List Mark) (f : Facts) (places : List Place) →
-    IsLooking sources done marks f → length moved ≡ length sources → AreAtEntries f.start_us sources moved →
-    IsUnsettled sources moved r → IsLeftAt sources done moved places places
-left-at sources done r marks moved f places looking count found unsettled =
+pub left-at : (sources : List Source) (done r : ℕ) (search_positions moved : List SearchPosition) (f : Facts) (places : List Place) →
+    IsLooking sources done search_positions f → length moved ≡ length sources → AreAtEntries f.start_us sources moved →
+    IsUnsettled sources moved r → StopsAt sources done moved places places
+left-at sources done r search_positions moved f places looking count found unsettled =
     let at = found r unsettled.within in
     let start : f.start_us ≡ (fact_at (first_facts sources) done).start_us =
     ap (λ (x : Facts). x.start_us) looking.facts_are in
@@ -101,30 +101,30 @@ left-at sources done r marks moved f places looking count found unsettled =
     ≡ length (source_at sources r).facts = omega (arith, at.found, unsettled.over) in
     record {
       places = refl;
-      cursor = cursor-sought sources done marks moved f looking count found;
-      through = none-left sources done r looking.order unsettled.within (rw start at none);
+      cursor = cursor-sought sources done search_positions moved f looking count found;
+      exhausted = none-left sources done r looking.order unsettled.within (rw start at none);
     }
 
-pub told-some : (sources : List Source) (done : ℕ) (marks moved : List Mark) (f : Facts) (found : List Spot) (before after : List Place) →
-    IsLooking sources done marks f → length moved ≡ length sources → AreAtEntries f.start_us sources moved →
+pub told-some : (sources : List Source) (done : ℕ) (search_positions moved : List SearchPosition) (f : Facts) (found : List Spot) (before after : List Place) →
+    IsLooking sources done search_positions f → length moved ≡ length sources → AreAtEntries f.start_us sources moved →
     AllSettled sources moved → f.sync ≡ true → spots sources f.start_us ≡ Some found → after ≡ before ++ place_of found ∷ [] →
-    IsToldOf sources done moved before after
-told-some sources done marks moved f found before after looking count entries settled sync is after_is = record {
+    AddsPlaceOf sources done moved before after
+told-some sources done search_positions moved f found before after looking count entries settled sync is after_is = record {
   places =
       let place : common_at sources f ≡ Some (place_of found) =
       cond-true f.sync _ _ sync ∙ ap (option_map place_of) is in
       rw (← looking.facts_are, place) after_is;
-  cursor = cursor-next sources done moved (cursor-sought sources done marks moved f looking count entries) looking.more
-      (decided-settled sources done marks moved f looking entries settled);
+  cursor = cursor-next sources done moved (cursor-sought sources done search_positions moved f looking count entries) looking.more
+      (decided-settled sources done search_positions moved f looking entries settled);
 }
 
-pub told-none : (sources : List Source) (done : ℕ) (marks moved : List Mark) (f : Facts) (places : List Place) →
-    IsLooking sources done marks f → length moved ≡ length sources → AreAtEntries f.start_us sources moved →
-    AllSettled sources moved → f.sync ≡ true → spots sources f.start_us ≡ None → IsToldOf sources done moved places places
-told-none sources done marks moved f places looking count entries settled sync is = record {
+pub told-none : (sources : List Source) (done : ℕ) (search_positions moved : List SearchPosition) (f : Facts) (places : List Place) →
+    IsLooking sources done search_positions f → length moved ≡ length sources → AreAtEntries f.start_us sources moved →
+    AllSettled sources moved → f.sync ≡ true → spots sources f.start_us ≡ None → AddsPlaceOf sources done moved places places
+told-none sources done search_positions moved f places looking count entries settled sync is = record {
   places =
       let place : common_at sources f ≡ None = cond-true f.sync _ _ sync ∙ ap (option_map place_of) is in
       rw (← looking.facts_are, place) (sym (append-nil places));
-  cursor = cursor-next sources done moved (cursor-sought sources done marks moved f looking count entries) looking.more
-      (decided-settled sources done marks moved f looking entries settled);
+  cursor = cursor-next sources done moved (cursor-sought sources done search_positions moved f looking count entries) looking.more
+      (decided-settled sources done search_positions moved f looking entries settled);
 }

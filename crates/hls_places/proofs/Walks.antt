@@ -5,22 +5,22 @@ use Rattle.std.specs.Option.{option_to_list}
 use Rattle.std.proofs.Math.Seq.{drop-cons}
 use Rattle.std.proofs.lemmas.List.{append-nil, append_assoc, take_all, drop_all, length-replicate, get_or-replicate}
 use Rattle.hls_media_laws.specs.declared.facts.Facts.{Facts}
-use Rattle.hls_places_laws.specs.declared.mark.Mark.{Mark}
+use Rattle.hls_places_laws.specs.declared.search_position.SearchPosition.{SearchPosition}
 use Rattle.hls_places_laws.specs.declared.place.Place.{Place}
 use Rattle.hls_places_laws.specs.Sources.{Source, fact_at, no_facts, first_facts}
 use Rattle.hls_places_laws.specs.Places.{common_at}
-use Rattle.hls_places_laws.specs.Positions.{no_mark, mark_at, first_position, IsCursor}
-use Rattle.hls_places.specs.Decisions.{HasDecided, IsToldOf, IsLeftAt}
+use Rattle.hls_places_laws.specs.SearchPositions.{no_position, position_at, first_cursor, IsCursor}
+use Rattle.hls_places.specs.Decisions.{HasDecided, AddsPlaceOf, StopsAt}
 
-pub was-told : (sources : List Source) (done : ℕ) (marks : List Mark) (before after : List Place) (told : Bool) →
-    HasDecided sources done marks before after told → told ≡ true → IsToldOf sources done marks before after
-was-told sources done marks before after true has is = has
-was-told sources done marks before after false has is = absurd (cc)
+pub was-told : (sources : List Source) (done : ℕ) (search_positions : List SearchPosition) (before after : List Place) (told : Bool) →
+    HasDecided sources done search_positions before after told → told ≡ true → AddsPlaceOf sources done search_positions before after
+was-told sources done search_positions before after true has is = has
+was-told sources done search_positions before after false has is = absurd (cc)
 
-pub was-left : (sources : List Source) (done : ℕ) (marks : List Mark) (before after : List Place) (told : Bool) →
-    HasDecided sources done marks before after told → told ≡ false → IsLeftAt sources done marks before after
-was-left sources done marks before after true has is = absurd (cc)
-was-left sources done marks before after false has is = has
+pub was-left : (sources : List Source) (done : ℕ) (search_positions : List SearchPosition) (before after : List Place) (told : Bool) →
+    HasDecided sources done search_positions before after told → told ≡ false → StopsAt sources done search_positions before after
+was-left sources done search_positions before after true has is = absurd (cc)
+was-left sources done search_positions before after false has is = has
 
 option-append : {Y : Type 0} (o : Option Y) (ys : List Y) → cons_option o ys ≡ option_to_list o ++ ys
 option-append None ys = refl
@@ -33,11 +33,11 @@ filter_map-step f fs k h =
     rw (next, drop-cons fs k no_facts h) (option-append (f (fact_at fs k)) (filter_map f (drop (suc k) fs)))
 
 -- one more fragment told
-pub walk-on : (sources : List Source) (done : ℕ) (marks : List Mark) (before after whole : List Place) →
-    done < length (first_facts sources) → IsToldOf sources done marks before after →
+pub walk-on : (sources : List Source) (done : ℕ) (search_positions : List SearchPosition) (before after whole : List Place) →
+    done < length (first_facts sources) → AddsPlaceOf sources done search_positions before after →
     before ++ filter_map (common_at sources) (drop done (first_facts sources)) ≡ whole →
     after ++ filter_map (common_at sources) (drop (done + 1) (first_facts sources)) ≡ whole
-walk-on sources done marks before after whole more told so_far =
+walk-on sources done search_positions before after whole more told so_far =
     let step = filter_map-step (common_at sources) (first_facts sources) done more in
     rw told.places
     (append_assoc before (option_to_list (common_at sources (fact_at (first_facts sources) done)))
@@ -45,18 +45,18 @@ walk-on sources done marks before after whole more told so_far =
     ∙ (rw (← step) so_far))
 
 -- what a slice of a vector wrote back
-pub written-back : (len : ℕ) (items new : List Mark) → length items ≡ len → length new ≡ len →
+pub written-back : (len : ℕ) (items new : List SearchPosition) → length items ≡ len → length new ≡ len →
     take len (new ++ drop (length new) items) ≡ new
 written-back len items new same also =
     let rest : drop (length new) items ≡ [] = drop_all (length new) items (omega arith) in
     rw (rest, append-nil new) (take_all len new (omega arith))
 
-pub first-cursor : (n : ℕ) (sources : List Source) → n ≡ length sources → IsCursor (first_position n) sources
+pub first-cursor : (n : ℕ) (sources : List Source) → n ≡ length sources → IsCursor (first_cursor n) sources
 first-cursor n sources count = record {
-  count = length-replicate n no_mark ∙ count;
+  count = length-replicate n no_position ∙ count;
   within = omega arith;
   decided = λ i before. absurd (omega arith);
-  marks = λ r within.
-      let fresh : mark_at (replicate n no_mark) r ≡ no_mark = get_or-replicate n r no_mark no_mark (omega (arith, count)) in
+  search_positions = λ r within.
+      let fresh : position_at (replicate n no_position) r ≡ no_position = get_or-replicate n r no_position no_position (omega (arith, count)) in
       rw fresh (record { within = omega arith; runs = refl; passed = λ t j asked before. absurd (omega arith) });
 }

@@ -1,23 +1,23 @@
 //! Common places: where one may cut in every rendition at once, and the tables of them that a programme is cut from.
 #![tactic(auto)]
 
-pub use cursor::{Advance, Cursor};
+pub use common_places::common;
+pub use cursor::{PlaceAdvance, PlaceCursor};
 pub use hls_check_laws::{PlaceTable, Spot, Spots};
-pub use hls_places_laws::{Mark, Place, ProgrammeFault};
+pub use hls_places_laws::{Place, ProgrammeFault, SearchPosition};
 pub use kept::is_kept;
-pub use places::common;
 pub use programmes::{programme, time_of};
-pub use source::Source;
+pub use rendition_source::RenditionSource;
 pub use steps::{allowed, cost, pair_allowed};
 
-mod closing;
+mod closing_place;
+mod common_places;
 mod cursor;
-mod decide;
+mod decision;
 mod kept;
-mod marks;
-mod places;
+mod positions;
 mod programmes;
-mod renditions;
+mod rendition_source;
+mod rendition_sources;
 mod search;
-mod source;
 mod steps;

@@ -4,9 +4,9 @@ ghost use Rattle.std.specs.Prelude.{◌≡◌, ◌+◌, ◌-◌, ◌<◌, ◌≤
 ghost use Rattle.hls_check_laws.specs.Tables.{IsGoal, place_limit};
 ghost use Rattle.hls_places_laws.specs.Order.{time_of, spots_of, ArePlaces};
 ghost use Rattle.hls_places_laws.specs.Firsts.{first_after, first_from};
-ghost use Rattle.hls_places_laws.specs.Programmes.{cut_out, IsProgramme};
+ghost use Rattle.hls_places_laws.specs.Programmes.{table_between, IsProgramme};
 
-use hls_check_laws::{Goal, PLACE_LIMIT, PlaceTable, PrintedTable, Spots};
+use hls_check_laws::{CertificateTable, Goal, PLACE_LIMIT, PlaceTable, Spots};
 use hls_places_laws::{Place, ProgrammeFault};
 use std::alloc::{AllocError, Global};
 
@@ -44,11 +44,11 @@ pub fn programme(
     if PLACE_LIMIT < to + 1 - from {
         return Err(ProgrammeFault::ProgrammeTooLong);
     }
-    Ok(table(alloc, places, goal, from, to)?)
+    Ok(build_table(alloc, places, goal, from, to)?)
 }
 
 /// The table of the places from number `from` to number `to`, that one included.
-fn table(
+fn build_table(
     alloc: Global,
     places: &[&Place],
     goal: Goal,
@@ -60,11 +60,11 @@ fn table(
     requires order { from < to }
     requires within { to < length places.now }
     requires few { to + 1 - from ≤ place_limit }
-    ensures { IfOk result (λ table. table ≡ cut_out goal (map (λ p. p.now) places.now) from to) }
+    ensures { IfOk result (λ table. table ≡ table_between goal (map (λ p. p.now) places.now) from to) }
 {
     let renditions = places[0].spots.len();
     let spots = spots_of(alloc, &places[from..to + 1])?;
-    Ok(PlaceTable::new(PrintedTable::new(goal, renditions, spots)))
+    Ok(PlaceTable::new(CertificateTable::new(goal, renditions, spots)))
 }
 
 /// When a place starts in rendition 0, in microseconds; 0 for a place without spots.

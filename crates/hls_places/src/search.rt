@@ -4,15 +4,15 @@ ghost use Rattle.std.specs.Prelude.{◌≡◌, ◌+◌, ◌<◌, ◌≤◌, not,
 ghost use Rattle.hls_places_laws.specs.Sources.{fact_at};
 ghost use Rattle.hls_places_laws.specs.Gaps.{gap_before, gaps};
 ghost use Rattle.hls_places_laws.specs.Spots.{is_entry, prev_end, spot_at, spot_by, end_spot};
-ghost use Rattle.hls_places.specs.Searches.{IsRunAt, IsEarly, IsAtEntry};
+ghost use Rattle.hls_places.specs.Searches.{IsRunAt, NoEntryBefore, IsAtEntry};
 
 use hls_check_laws::Spot;
 use hls_media_laws::facts::Facts;
-use hls_places_laws::Mark;
+use hls_places_laws::SearchPosition;
 use hls_record::Recording;
 
 /// Fragment k.
-pub(crate) fn fact(recording: &Recording, k: u64) -> Facts
+pub(crate) fn get_facts(recording: &Recording, k: u64) -> Facts
     requires { k < length recording.now.facts }
     ensures { result ≡ fact_at recording.now.facts k }
 {
@@ -23,7 +23,7 @@ pub(crate) fn fact(recording: &Recording, k: u64) -> Facts
 }
 
 /// Whether the second doesn't start where the first ends.
-fn is_apart(before: Facts, here: Facts) -> bool
+fn has_gap_between(before: Facts, here: Facts) -> bool
     ensures { result ≡ not (here.start == before.start + before.duration) }
 {
     match before.start.checked_add(before.duration) {
@@ -39,7 +39,7 @@ fn gap_before(recording: &Recording, k: u64) -> u64
     if k == 0 {
         return 0;
     }
-    if is_apart(fact(recording, k - 1), fact(recording, k)) {
+    if has_gap_between(get_facts(recording, k - 1), get_facts(recording, k)) {
         1
     } else {
         0
@@ -51,9 +51,9 @@ fn prev_end(recording: &Recording, k: u64) -> u64
     ensures { result ≡ prev_end recording.now.facts k }
 {
     if k == 0 {
-        fact(recording, 0).start_us
+        get_facts(recording, 0).start_us
     } else {
-        fact(recording, k - 1).end_us
+        get_facts(recording, k - 1).end_us
     }
 }
 
@@ -64,88 +64,97 @@ fn is_entry(low: u64, facts: Facts) -> bool
 }
 
 /// One fragment further.
-fn stepped(recording: &Recording, mark: Mark) -> Mark
-    requires run { IsRunAt recording.now.facts mark }
-    requires more { mark.at < length recording.now.facts }
+fn next_position(recording: &Recording, search_position: SearchPosition) -> SearchPosition
+    requires run { IsRunAt recording.now.facts search_position }
+    requires more { search_position.at < length recording.now.facts }
     ensures run { IsRunAt recording.now.facts result }
-    ensures next { result.at ≡ mark.at + 1 }
+    ensures next { result.at ≡ search_position.at + 1 }
 {
     let _count = recording.count();
-    Mark {
-        at: mark.at + 1,
-        runs: mark.runs + gap_before(recording, mark.at),
+    SearchPosition {
+        at: search_position.at + 1,
+        runs: search_position.runs + gap_before(recording, search_position.at),
     }
 }
 
-/// The first entry from a mark on.
-pub(crate) fn sought(recording: &Recording, low: u64, mark: Mark) -> Mark
-    requires run { IsRunAt recording.now.facts mark }
-    requires early { IsEarly low recording.now.facts mark }
+/// The first entry from a position on.
+pub(crate) fn seek_entry(
+    recording: &Recording,
+    low: u64,
+    search_position: SearchPosition,
+) -> SearchPosition
+    requires run { IsRunAt recording.now.facts search_position }
+    requires early { NoEntryBefore low recording.now.facts search_position }
     ensures { IsAtEntry low recording.now.facts result }
 {
     let count = recording.count();
-    let mut mark = mark;
-    while mark.at < count {
-        if is_entry(low, fact(recording, mark.at)) {
-            return mark;
+    let mut search_position = search_position;
+    while search_position.at < count {
+        if is_entry(low, get_facts(recording, search_position.at)) {
+            return search_position;
         }
-        mark = stepped(recording, mark);
+        search_position = next_position(recording, search_position);
     }
-    mark
+    search_position
 }
 
-/// The spot at a mark.
-pub(crate) fn spot(recording: &Recording, mark: Mark) -> Spot
-    requires run { IsRunAt recording.now.facts mark }
-    requires more { mark.at < length recording.now.facts }
-    ensures { result ≡ spot_at recording.now.facts mark.at }
+/// The spot at a position.
+pub(crate) fn make_spot(recording: &Recording, search_position: SearchPosition) -> Spot
+    requires run { IsRunAt recording.now.facts search_position }
+    requires more { search_position.at < length recording.now.facts }
+    ensures { result ≡ spot_at recording.now.facts search_position.at }
 {
     let _count = recording.count();
     Spot {
-        fragment: mark.at,
-        prev_end: prev_end(recording, mark.at),
-        start: fact(recording, mark.at).start_us,
-        run_in: mark.runs,
-        run_out: mark.runs + gap_before(recording, mark.at),
+        fragment: search_position.at,
+        prev_end: prev_end(recording, search_position.at),
+        start: get_facts(recording, search_position.at).start_us,
+        run_in: search_position.runs,
+        run_out: search_position.runs + gap_before(recording, search_position.at),
     }
 }
 
-/// The spot at a mark, if a fragment is there that starts at most `tolerance` after `time`.
-pub(crate) fn near(recording: &Recording, tolerance: u64, time: u64, mark: Mark) -> Option<Spot>
-    requires { IsRunAt recording.now.facts mark }
-    ensures { result ≡ spot_by recording.now.facts (time + tolerance) mark.at }
+/// The spot at a position, if a fragment is there that starts at most `tolerance` after `time`.
+pub(crate) fn find_near_spot(
+    recording: &Recording,
+    tolerance: u64,
+    time: u64,
+    search_position: SearchPosition,
+) -> Option<Spot>
+    requires { IsRunAt recording.now.facts search_position }
+    ensures { result ≡ spot_by recording.now.facts (time + tolerance) search_position.at }
 {
-    if mark.at >= recording.count() {
+    if search_position.at >= recording.count() {
         return None;
     }
-    if fact(recording, mark.at).start_us > time.saturating_add(tolerance) {
+    if get_facts(recording, search_position.at).start_us > time.saturating_add(tolerance) {
         return None;
     }
-    Some(spot(recording, mark))
+    Some(make_spot(recording, search_position))
 }
 
-/// The mark after all fragments.
-fn last(recording: &Recording, mark: Mark) -> Mark
-    requires { IsRunAt recording.now.facts mark }
+/// The position after all fragments.
+fn end_position(recording: &Recording, search_position: SearchPosition) -> SearchPosition
+    requires { IsRunAt recording.now.facts search_position }
     ensures run { IsRunAt recording.now.facts result }
     ensures over { result.at ≡ length recording.now.facts }
 {
     let count = recording.count();
-    let mut mark = mark;
-    while mark.at < count {
-        mark = stepped(recording, mark);
+    let mut search_position = search_position;
+    while search_position.at < count {
+        search_position = next_position(recording, search_position);
     }
-    mark
+    search_position
 }
 
 /// The spot after all fragments.
-pub(crate) fn end_spot(recording: &Recording, mark: Mark) -> Spot
-    requires run { IsRunAt recording.now.facts mark }
+pub(crate) fn end_spot(recording: &Recording, search_position: SearchPosition) -> Spot
+    requires run { IsRunAt recording.now.facts search_position }
     requires some { 0 < length recording.now.facts }
     ensures { result ≡ end_spot recording.now.facts }
 {
-    let end = last(recording, mark);
-    let over = fact(recording, end.at - 1).end_us;
+    let end = end_position(recording, search_position);
+    let over = get_facts(recording, end.at - 1).end_us;
     Spot {
         fragment: end.at,
         prev_end: over,

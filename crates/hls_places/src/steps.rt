@@ -10,7 +10,7 @@ use hls_places_laws::Place;
 pub fn allowed(table: &PlaceTable, p: usize, q: usize) -> bool
     ensures { IsTrue result ↔ Allowed table.now p q }
 {
-    table.allowed(p, q)
+    table.is_allowed(p, q)
 }
 
 /// What that segment costs: how far its length in rendition 0 is from the preferred one, and what the table's rule charges

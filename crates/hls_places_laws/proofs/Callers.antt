@@ -14,7 +14,7 @@ pub use Rattle.hls_places_laws.proofs.LineLemmas.Begun.{marks-since, segments-si
 pub use Rattle.hls_places_laws.proofs.LineLemmas.Ends.{advanced-few_more, front-holds, front-stands, segments-few}
 pub use Rattle.hls_places_laws.proofs.LineLemmas.Kept.{segments-stay}
 pub use Rattle.hls_places_laws.proofs.LineLemmas.Leaves.{leaves-more}
-pub use Rattle.hls_places_laws.proofs.LineLemmas.Lines.{advanced-first, stopped-anew, told-more, told-none, tried-enough, tried-far, tried-further, tried-skipped}
+pub use Rattle.hls_places_laws.proofs.LineLemmas.Lines.{advanced-first, stopped-restarted, progress-more, progress-none, tried-enough, tried-far, tried-further, tried-skipped}
 pub use Rattle.hls_places_laws.proofs.LineLemmas.Lives.{live-moves, live-slides, marks-add, marks-append, whole-is_told}
 pub use Rattle.hls_places_laws.proofs.LineLemmas.Origins.{marks-agree, segments-agree}
 pub use Rattle.hls_places_laws.proofs.LineLemmas.Tests.{allowed-from_step, not-past, past-count, past-fragment, past-from_each, step-from_allowed}

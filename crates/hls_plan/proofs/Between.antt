@@ -74,7 +74,7 @@ none_from t orderly p q m here up none j after there =
 -- a first and a last one
 pub span_found : (t : Table) → IsOrderly t → (p first last : ℕ) → IsFirstStep t p first → Allowed t p last →
     first ≤ last → ((j : ℕ) → last < j → Allowed t p j → ⊥) → IsSpan t p first (last + 1)
-span_found t orderly p first last is_first there up behind =
+span_found t orderly p first last is_first there up not_before =
     let to : last < length t.places = there.to in
     record {
       forward = is_first.forward;
@@ -87,7 +87,7 @@ span_found t orderly p first last is_first there up behind =
           | inr from ↦ from
         ],
         elim (cases_lt last j) [
-          | inl above ↦ absurd (behind j above allowed)
+          | inl above ↦ absurd (not_before j above allowed)
           | inr within ↦ omega arith
         ],
       );

@@ -5,31 +5,31 @@ use Rattle.std.proofs.lemmas.Bool.{cases_eq}
 use Rattle.hls_check_laws.specs.Tables.{Table, IsTable}
 use Rattle.hls_check_laws.specs.Steps.{Allowed, cost}
 use Rattle.hls_check_laws.specs.Orders.{IsSorted}
-use Rattle.hls_check_laws.specs.Plans.{Leads, end_of, cost_from}
-use Rattle.hls_check_laws.specs.Certificates.{price_at, is_closed, Keeps}
+use Rattle.hls_check_laws.specs.Plans.{StepsAreAllowed, last_place, cost_from}
+use Rattle.hls_check_laws.specs.Certificates.{price_at, is_closed, KeepsPrice}
 use Rattle.hls_check_laws.proofs.Walks.{price-end}
 use Rattle.hls_plan.specs.Pricing.{IsPricing}
-use Rattle.hls_plan.specs.Ways.{IsWay, IsReachable, IsLeastCost, HasLeastPrices, HasReachable}
+use Rattle.hls_plan.specs.Paths.{IsPathTo, IsReachable, IsLeastCost, HasLeastPrices, HasReachable}
 
 -- a way that goes one step further
-Leads-push : (t : Table) (p : ℕ) (way : List ℕ) (q : ℕ) → Leads t p way → Allowed t (end_of p way) q → Leads t p (way ++ q ∷ [])
-Leads-push t p [] q leads allowed = (allowed, tt)
-Leads-push t p (x ∷ way) q leads allowed = (leads.0, Leads-push t x way q leads.1 allowed)
+Leads-push : (t : Table) (p : ℕ) (path : List ℕ) (q : ℕ) → StepsAreAllowed t p path → Allowed t (last_place p path) q → StepsAreAllowed t p (path ++ q ∷ [])
+Leads-push t p [] q steps_allowed allowed = (allowed, tt)
+Leads-push t p (x ∷ path) q steps_allowed allowed = (steps_allowed.0, Leads-push t x path q steps_allowed.1 allowed)
 
-end_of-push : (p : ℕ) (way : List ℕ) (q : ℕ) → end_of p (way ++ q ∷ []) ≡ q
+end_of-push : (p : ℕ) (path : List ℕ) (q : ℕ) → last_place p (path ++ q ∷ []) ≡ q
 end_of-push p [] q = refl
-end_of-push p (x ∷ way) q = end_of-push x way q
+end_of-push p (x ∷ path) q = end_of-push x path q
 
-cost_from-push : (t : Table) (p : ℕ) (way : List ℕ) (q : ℕ) →
-    cost_from t p (way ++ q ∷ []) ≡ cost_from t p way + cost t (end_of p way) q
+cost_from-push : (t : Table) (p : ℕ) (path : List ℕ) (q : ℕ) →
+    cost_from t p (path ++ q ∷ []) ≡ cost_from t p path + cost t (last_place p path) q
 cost_from-push t p [] q = omega arith
-cost_from-push t p (x ∷ way) q = omega (arith, cost_from-push t x way q)
+cost_from-push t p (x ∷ path) q = omega (arith, cost_from-push t x path q)
 
 -- a way with its cost
 record IsPaidWay (t : Table) (q price : ℕ) : Type 0 where
-  way : List ℕ
-  is_way : IsWay t q way
-  costs : cost_from t 0 way ≡ price
+  path : List ℕ
+  is_path : IsPathTo t q path
+  costs : cost_from t 0 path ≡ price
 
 -- each priced place is reached at its price
 way_to : (t : Table) (p q : ℕ) (prices : List (Option ℕ)) (origins : List ℕ) → IsPricing t p q prices origins →
@@ -38,25 +38,25 @@ way_to t p q prices origins pricing zero k price within priced =
     let same : k ≡ 0 = omega arith in
     let first : price_at prices k ≡ Some 0 = ap (price_at prices) same ∙ pricing.start in
     let free : 0 ≡ price = cc in
-    record { way = []; is_way = record { ends = sym same; leads = tt }; costs = free }
+    record { path = []; is_path = record { ends = sym same; steps_allowed = tt }; costs = free }
 way_to t p q prices origins pricing (suc fuel) k price within priced =
     elim (cases_eq k 0) [
       | inl same ↦
           let first : price_at prices k ≡ Some 0 = ap (price_at prices) same ∙ pricing.start in
           let free : 0 ≡ price = cc in
-          record { way = []; is_way = record { ends = sym same; leads = tt }; costs = free }
+          record { path = []; is_path = record { ends = sym same; steps_allowed = tt }; costs = free }
       | inr ne ↦
           let reached = pricing.reached k price (omega arith) priced in
           let before = way_to t p q prices origins pricing fuel _ reached.before (omega (arith, reached.earlier)) reached.priced in
-          let ends = before.is_way.ends in
+          let ends = before.is_path.ends in
           let P : ℕ → Type 0 = λ x. Allowed t x k in
-          let C : ℕ → Type 0 = λ x. cost_from t 0 (before.way ++ k ∷ []) ≡ cost_from t 0 before.way + cost t x k in
-          let sum = subst C ends (cost_from-push t 0 before.way k) in
+          let C : ℕ → Type 0 = λ x. cost_from t 0 (before.path ++ k ∷ []) ≡ cost_from t 0 before.path + cost t x k in
+          let sum = subst C ends (cost_from-push t 0 before.path k) in
           record {
-            way = before.way ++ k ∷ [];
-            is_way = record {
-              ends = end_of-push 0 before.way k;
-              leads = Leads-push t 0 before.way k before.is_way.leads (subst P (sym ends) reached.allowed);
+            path = before.path ++ k ∷ [];
+            is_path = record {
+              ends = end_of-push 0 before.path k;
+              steps_allowed = Leads-push t 0 before.path k before.is_path.steps_allowed (subst P (sym ends) reached.allowed);
             };
             costs = omega (arith, sum, before.costs, reached.sum);
           }
@@ -64,7 +64,7 @@ way_to t p q prices origins pricing (suc fuel) k price within priced =
 
 -- what prices must keep to
 abbrev KeepsAll : Table → List (Option ℕ) → Type 0
-KeepsAll t prices = (p q : ℕ) → p < q → Allowed t p q → Keeps (cost t p q) (price_at prices p) (price_at prices q)
+KeepsAll t prices = (p q : ℕ) → p < q → Allowed t p q → KeepsPrice (cost t p q) (price_at prices p) (price_at prices q)
 
 pub keeps_all : (t : Table) (prices : List (Option ℕ)) (origins : List ℕ) →
     IsPricing t (length t.places) 0 prices origins → KeepsAll t prices
@@ -72,29 +72,29 @@ keeps_all t prices origins pricing p q rises allowed = pricing.rows p q allowed.
 
 -- no way to a place costs less than its price, and there is none to a place without
 price_under : (t : Table) (prices : List (Option ℕ)) → IsTable t → IsSorted t → KeepsAll t prices →
-    price_at prices 0 ≡ Some 0 → (k : ℕ) (way : List ℕ) → IsWay t k way →
-    (b : ℕ) × (price_at prices k ≡ Some b) × (b ≤ cost_from t 0 way)
-price_under t prices ok sorted keeps start k way is_way =
-    let last = price-end t prices ok sorted keeps 0 way 0 start is_way.leads in
+    price_at prices 0 ≡ Some 0 → (k : ℕ) (path : List ℕ) → IsPathTo t k path →
+    (b : ℕ) × (price_at prices k ≡ Some b) × (b ≤ cost_from t 0 path)
+price_under t prices ok sorted keeps start k path is_path =
+    let last = price-end t prices ok sorted keeps 0 path 0 start is_path.steps_allowed in
     let P : ℕ → Type 0 = λ x. price_at prices x ≡ Some last.0 in
-    (last.0, subst P is_way.ends last.1, omega (arith, last.2))
+    (last.0, subst P is_path.ends last.1, omega (arith, last.2))
 
 least_at : (t : Table) (prices : List (Option ℕ)) (origins : List ℕ) → IsTable t → IsSorted t →
     IsPricing t (length t.places) 0 prices origins → (k : ℕ) (price : Option ℕ) → price_at prices k ≡ price →
     MatchOption price (IsReachable t k → ⊥) (IsLeastCost t k)
 least_at t prices origins ok sorted pricing k None is =
     λ (reachable : IsReachable t k).
-    let under = price_under t prices ok sorted (keeps_all t prices origins pricing) pricing.start k reachable.way reachable.is_way in
+    let under = price_under t prices ok sorted (keeps_all t prices origins pricing) pricing.start k reachable.path reachable.is_path in
     let some : price_at prices k ≡ Some under.0 = under.1 in
     cc
 least_at t prices origins ok sorted pricing k (Some price) is =
-    let way = way_to t (length t.places) 0 prices origins pricing k k price (omega arith) is in
+    let path = way_to t (length t.places) 0 prices origins pricing k k price (omega arith) is in
     record {
-      way = way.way;
-      is_way = way.is_way;
-      costs = way.costs;
-      least = λ other is_way.
-          let under = price_under t prices ok sorted (keeps_all t prices origins pricing) pricing.start k other is_way in
+      path = path.path;
+      is_path = path.is_path;
+      costs = path.costs;
+      least = λ other is_path.
+          let under = price_under t prices ok sorted (keeps_all t prices origins pricing) pricing.start k other is_path in
           let some : price_at prices k ≡ Some under.0 = under.1 in
           let same : under.0 ≡ price = cc in
           omega (arith, same, under.2);
@@ -113,7 +113,7 @@ closed_at prices closed is k = ap (λ (xs : List Bool). is_closed xs k) is ∙ g
 reachable_at : (t : Table) (k : ℕ) (price : Option ℕ) → MatchOption price (IsReachable t k → ⊥) (IsLeastCost t k) →
     MatchBool (is_some price) (IsReachable t k) (IsReachable t k → ⊥)
 reachable_at t k None none = none
-reachable_at t k (Some price) least = record { way = least.way; is_way = least.is_way }
+reachable_at t k (Some price) least = record { path = least.path; is_path = least.is_path }
 
 pub reachable_set : (t : Table) (prices : List (Option ℕ)) (origins : List ℕ) (closed : List Bool) → IsTable t → IsSorted t →
     IsPricing t (length t.places) 0 prices origins → closed ≡ map is_some prices → HasReachable t closed

@@ -3,25 +3,25 @@ use Rattle.std.proofs.lemmas.Bool.{cases_eq, cases_lt, ltb-true, ltb-false}
 use Rattle.std.proofs.lemmas.List.{length-replicate}
 use Rattle.hls_check_laws.specs.Tables.{Table, IsTable}
 use Rattle.hls_check_laws.specs.Steps.{Allowed, cost, cost_limit}
-use Rattle.hls_check_laws.specs.Certificates.{price_at, Keeps, CutKeeps}
-use Rattle.hls_plan.specs.Pricing.{is_lower, IsPricing}
+use Rattle.hls_check_laws.specs.Certificates.{price_at, KeepsPrice, CutKeepsPrices}
+use Rattle.hls_plan.specs.Pricing.{is_lower_price, IsPricing}
 
 -- a lower price keeps to every step that the one before kept to
-Keeps-lower : (step : ℕ) (from : Option ℕ) (price : ℕ) (found : Option ℕ) → is_lower price found ≡ true →
-    Keeps step from found → Keeps step from (Some price)
+Keeps-lower : (step : ℕ) (from : Option ℕ) (price : ℕ) (found : Option ℕ) → is_lower_price price found ≡ true →
+    KeepsPrice step from found → KeepsPrice step from (Some price)
 Keeps-lower step None price found lower keeps = tt
 Keeps-lower step (Some x) price None lower keeps = absurd keeps
 Keeps-lower step (Some x) price (Some y) lower keeps = omega (arith, ltb-true price y lower, keeps)
 
 -- a price that isn't lower changes nothing, since the one found keeps to the step already
-Keeps-found : (step a price : ℕ) (found : Option ℕ) → price ≡ a + step → is_lower price found ≡ false →
-    Keeps step (Some a) found
+Keeps-found : (step a price : ℕ) (found : Option ℕ) → price ≡ a + step → is_lower_price price found ≡ false →
+    KeepsPrice step (Some a) found
 Keeps-found step a price None sum lower = cc
 Keeps-found step a price (Some y) sum lower = omega (arith, ltb-false price y lower, sum)
 
 -- place q is passed where the step to it keeps to the prices
 pub row_passed : (t : Table) (p q : ℕ) (prices : List (Option ℕ)) (origins : List ℕ) →
-    IsPricing t p q prices origins → CutKeeps t prices p q → IsPricing t p (q + 1) prices origins
+    IsPricing t p q prices origins → CutKeepsPrices t prices p q → IsPricing t p (q + 1) prices origins
 row_passed t p q prices origins pricing keeps = record {
   one_each = pricing.one_each;
   origin_each = pricing.origin_each;
@@ -30,7 +30,7 @@ row_passed t p q prices origins pricing keeps = record {
   origin_done = pricing.origin_done;
   bound = pricing.bound;
   rows = pricing.rows;
-  row = below_more (CutKeeps t prices p) q pricing.row keeps;
+  row = below_more (CutKeepsPrices t prices p) q pricing.row keeps;
 }
 
 -- the places before the first that a step leads to are passed
@@ -49,7 +49,7 @@ row_skipped t p first prices origins pricing from = record {
 
 -- a row is whole where the steps from it to the places from q on keep to the prices
 row_over : (t : Table) (p q : ℕ) (prices : List (Option ℕ)) (origins : List ℕ) →
-    IsPricing t p q prices origins → ((j : ℕ) → q ≤ j → CutKeeps t prices p j) → IsPricing t (p + 1) 0 prices origins
+    IsPricing t p q prices origins → ((j : ℕ) → q ≤ j → CutKeepsPrices t prices p j) → IsPricing t (p + 1) 0 prices origins
 row_over t p q prices origins pricing keep = record {
   one_each = pricing.one_each;
   origin_each = pricing.origin_each;
@@ -58,7 +58,7 @@ row_over t p q prices origins pricing keep = record {
   origin_done = λ k price h is. omega (arith, pricing.origin_done k price h is);
   bound = pricing.bound;
   rows = λ i j below.
-      below_more (λ x. CutKeeps t prices x j) p (λ x h. pricing.rows x j h)
+      below_more (λ x. CutKeepsPrices t prices x j) p (λ x h. pricing.rows x j h)
       (elim (cases_lt j q) [
         | inl before ↦ pricing.row j before
         | inr after ↦ keep j after
@@ -82,7 +82,7 @@ row_unpriced t p prices origins pricing unpriced =
 -- place q takes a lower price, that of place p and the step
 row_taken : (t : Table) (p q a : ℕ) (prices : List (Option ℕ)) (origins : List ℕ) →
     IsPricing t p q prices origins → price_at prices p ≡ Some a → p < q → Allowed t p q →
-    cost t p q ≤ cost_limit → is_lower (a + cost t p q) (price_at prices q) ≡ true →
+    cost t p q ≤ cost_limit → is_lower_price (a + cost t p q) (price_at prices q) ≡ true →
     IsPricing t p (q + 1) (set prices q (Some (a + cost t p q))) (set origins q p)
 row_taken t p q a prices origins pricing priced rises allowed small lower =
     let price : ℕ = a + cost t p q in
@@ -97,7 +97,7 @@ row_taken t p q a prices origins pricing priced rises allowed small lower =
     let other_origin : (k : ℕ) → k ≢ q → get_or new_origins k 0 ≡ get_or origins k 0 =
     λ k ne. get_or-set_other origins q k p 0 ne in
     let bounded : a ≤ p * cost_limit = pricing.bound p a priced in
-    let kept : (i j : ℕ) → i < q → CutKeeps t prices i j → CutKeeps t new i j =
+    let kept : (i j : ℕ) → i < q → CutKeepsPrices t prices i j → CutKeepsPrices t new i j =
     λ i j before keeps up step.
     elim (cases_eq j q) [
       | inl same ↦
@@ -149,7 +149,7 @@ row_taken t p q a prices origins pricing priced rises allowed small lower =
             | inr ne ↦ pricing.bound k v (sym (other k ne) ∙ is)
           ];
       rows = λ i j before. kept i j (omega arith) (pricing.rows i j before);
-      row = below_more (CutKeeps t new p) q
+      row = below_more (CutKeepsPrices t new p) q
           (λ j before. kept p j rises (pricing.row j before))
           (λ up step. rw (here, other p (omega arith), priced) (omega arith));
     }
@@ -157,7 +157,7 @@ row_taken t p q a prices origins pricing priced rises allowed small lower =
 -- what an offer leaves, whether it was taken or not
 row_offered_at : (t : Table) (p q a price : ℕ) (prices : List (Option ℕ)) (origins : List ℕ) (b : Bool) →
     IsPricing t p q prices origins → price_at prices p ≡ Some a → p < q → Allowed t p q →
-    price ≡ a + cost t p q → cost t p q ≤ cost_limit → is_lower price (price_at prices q) ≡ b →
+    price ≡ a + cost t p q → cost t p q ≤ cost_limit → is_lower_price price (price_at prices q) ≡ b →
     IsPricing t p (q + 1) (cond b (set prices q (Some price)) prices) (cond b (set origins q p) origins) ×
     (price_at (cond b (set prices q (Some price)) prices) p ≡ Some a)
 row_offered_at t p q a price prices origins true pricing priced rises allowed sum small lower = (
@@ -174,11 +174,11 @@ pub row_offered : (t : Table) (p q a price : ℕ) (prices : List (Option ℕ)) (
     IsPricing t p q prices origins → price_at prices p ≡ Some a → p < q → Allowed t p q →
     price ≡ a + cost t p q → cost t p q ≤ cost_limit →
     IsPricing t p (q + 1)
-    (cond (is_lower price (price_at prices q)) (set prices q (Some price)) prices)
-    (cond (is_lower price (price_at prices q)) (set origins q p) origins) ×
-    (price_at (cond (is_lower price (price_at prices q)) (set prices q (Some price)) prices) p ≡ Some a)
+    (cond (is_lower_price price (price_at prices q)) (set prices q (Some price)) prices)
+    (cond (is_lower_price price (price_at prices q)) (set origins q p) origins) ×
+    (price_at (cond (is_lower_price price (price_at prices q)) (set prices q (Some price)) prices) p ≡ Some a)
 row_offered t p q a price prices origins pricing priced rises allowed sum small =
-    row_offered_at t p q a price prices origins (is_lower price (price_at prices q)) pricing priced rises allowed
+    row_offered_at t p q a price prices origins (is_lower_price price (price_at prices q)) pricing priced rises allowed
     sum small refl
 
 -- before the first row the first place alone has a price

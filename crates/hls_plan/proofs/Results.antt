@@ -6,11 +6,11 @@ use Rattle.hls_plan.specs.declared.planned.Planned.TheVariants.{Cut, NoCut}
 use Rattle.hls_check_laws.specs.Tables.{Table, IsTable}
 use Rattle.hls_check_laws.specs.Steps.{cost}
 use Rattle.hls_check_laws.specs.Orders.{IsSorted}
-use Rattle.hls_check_laws.specs.Plans.{Leads, IsPlan, plan_cost}
-use Rattle.hls_check_laws.specs.Certificates.{price_at, Keeps, IsPriceInRange, IsCutForm, IsGoodCut, IsGoodNone, IsGood}
+use Rattle.hls_check_laws.specs.Plans.{StepsAreAllowed, IsPlan, plan_cost}
+use Rattle.hls_check_laws.specs.Certificates.{price_at, KeepsPrice, IsPriceInRange, IsCutForm, IsGoodCut, IsGoodNone, IsGood}
 use Rattle.hls_check_laws.proofs.Walks.{least_from_good, no_plan_from_good}
-use Rattle.hls_plan.specs.Planned.{certificate_of, CanBeShown, IsBest, IsExact}
-use Rattle.hls_plan.specs.Pricing.{IsPricing, IsCutFound, IsNoneFound, IsFound}
+use Rattle.hls_plan.specs.Planned.{certificate_of, HasClaimForm, IsBest, HasExactPrices}
+use Rattle.hls_plan.specs.Pricing.{IsPricing, IsCutFound, IsNoneFound, IsPlannerResult}
 use Rattle.hls_plan.proofs.LeastCosts.{keeps_all, least_prices, closed_at, reachable_set}
 
 good_cut : (t : Table) (plan : List ℕ) (prices : List (Option ℕ)) → IsSorted t → IsCutFound t plan prices →
@@ -24,7 +24,7 @@ good_cut t plan prices sorted found = record {
 }
 
 -- a step from a priced place leads to one
-Keeps-some : (step : ℕ) (from to : Option ℕ) → Keeps step from to → is_some from ≡ true → is_some to ≡ true
+Keeps-some : (step : ℕ) (from to : Option ℕ) → KeepsPrice step from to → is_some from ≡ true → is_some to ≡ true
 Keeps-some step None to keeps some = cc
 Keeps-some step (Some x) None keeps some = absurd keeps
 Keeps-some step (Some x) (Some y) keeps some = refl
@@ -41,27 +41,27 @@ good_none t closed sorted found =
       without_end = at (length t.places - 1) ∙ ap is_some found.unpriced;
     }
 
-pub good_from_found : (t : Table) → IsSorted t → (planned : Planned) → IsFound t planned → IsGood (certificate_of t planned)
+pub good_from_found : (t : Table) → IsSorted t → (planned : Planned) → IsPlannerResult t planned → IsGood (certificate_of t planned)
 good_from_found t sorted (Cut plan prices) found = good_cut t plan.items prices.items sorted found
 good_from_found t sorted (NoCut closed) found = good_none t closed.items sorted found
 
-pub best_from_found : (t : Table) → IsTable t → IsSorted t → (planned : Planned) → IsFound t planned → IsBest t planned
+pub best_from_found : (t : Table) → IsTable t → IsSorted t → (planned : Planned) → IsPlannerResult t planned → IsBest t planned
 best_from_found t ok sorted (Cut plan prices) found =
     least_from_good t (plan_cost t plan.items) plan.items prices.items ok (good_cut t plan.items prices.items sorted found)
 best_from_found t ok sorted (NoCut closed) found =
     no_plan_from_good t closed.items ok (good_none t closed.items sorted found)
 
-pub exact_from_found : (t : Table) → IsTable t → IsSorted t → (planned : Planned) → IsFound t planned → IsExact t planned
+pub exact_from_found : (t : Table) → IsTable t → IsSorted t → (planned : Planned) → IsPlannerResult t planned → HasExactPrices t planned
 exact_from_found t ok sorted (Cut plan prices) found = least_prices t prices.items found.origins ok sorted found.pricing
 exact_from_found t ok sorted (NoCut closed) found =
     reachable_set t found.prices found.origins closed.items ok sorted found.pricing found.is
 
 -- the places of a walk are places of the table
-walk_in_range : (t : Table) (p : ℕ) (rest : List ℕ) → p < length t.places → Leads t p rest →
+walk_in_range : (t : Table) (p : ℕ) (rest : List ℕ) → p < length t.places → StepsAreAllowed t p rest →
     All (λ x. x < length t.places) (p ∷ rest)
-walk_in_range t p [] in_table leads = All-cons (λ x. x < length t.places) p [] in_table (All-nil (λ x. x < length t.places))
-walk_in_range t p (q ∷ rest) in_table leads =
-    All-cons (λ x. x < length t.places) p (q ∷ rest) in_table (walk_in_range t q rest leads.0.to leads.1)
+walk_in_range t p [] in_table steps_allowed = All-cons (λ x. x < length t.places) p [] in_table (All-nil (λ x. x < length t.places))
+walk_in_range t p (q ∷ rest) in_table steps_allowed =
+    All-cons (λ x. x < length t.places) p (q ∷ rest) in_table (walk_in_range t q rest steps_allowed.0.to steps_allowed.1)
 
 plan_in_range : (t : Table) → IsTable t → (plan : List ℕ) → IsPlan t plan → All (λ x. x < length t.places) plan
 plan_in_range t ok [] is_plan = absurd is_plan
@@ -89,7 +89,7 @@ cut_form t plan prices ok found = record {
       (λ k in_table. price_in_range t prices found.origins ok found.pricing k in_table (price_at prices k) refl);
 }
 
-pub shown_from_found : (t : Table) → IsTable t → (planned : Planned) → IsFound t planned → CanBeShown t planned
+pub shown_from_found : (t : Table) → IsTable t → (planned : Planned) → IsPlannerResult t planned → HasClaimForm t planned
 shown_from_found t ok (Cut plan prices) found = cut_form t plan.items prices.items ok found
 shown_from_found t ok (NoCut closed) found =
     ap length found.is ∙ length-map found.prices is_some ∙ found.pricing.one_each

@@ -4,7 +4,7 @@ use Rattle.hls_check_laws.specs.Tables.{Table, IsTable}
 use Rattle.hls_check_laws.specs.Orders.{IsRowEnd, IsOrderly}
 use Rattle.hls_check_laws.proofs.RowEnds.{none_past_end}
 use Rattle.hls_plan.specs.Spans.{IsSpan}
-use Rattle.hls_plan.specs.Looks.{EndsWithin}
+use Rattle.hls_plan.specs.PairCounts.{EndsWithin}
 
 -- the looks at one more row
 pub one_more_row : (p row before first after : ℕ) → before ≤ first + p * row → after ≤ before + row →

@@ -1,5 +1,5 @@
-pub mod Ways
+pub mod Paths
 pub mod Planned
-pub mod Looks
+pub mod PairCounts
 pub mod Pricing
 pub mod Spans

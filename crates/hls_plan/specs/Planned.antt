@@ -5,21 +5,21 @@ use Rattle.hls_plan.specs.declared.planned.Planned.{Planned}
 use Rattle.hls_plan.specs.declared.planned.Planned.TheVariants.{Cut, NoCut}
 use Rattle.hls_check_laws.specs.Tables.{Table}
 use Rattle.hls_check_laws.specs.Plans.{plan_cost, IsLeast, HasNoPlan}
-use Rattle.hls_check_laws.specs.Certificates.{Shown, CutShown, NoneShown, Printed, IsForm}
-use Rattle.hls_plan.specs.Ways.{HasLeastPrices, HasReachable}
+use Rattle.hls_check_laws.specs.Certificates.{ClaimData, CutClaim, NoneClaim, CertificateData, IsForm}
+use Rattle.hls_plan.specs.Paths.{HasLeastPrices, HasReachable}
 
 -- what a certificate shows of what was planned
-abbrev pub shown_planned : Table → Planned → Shown
-shown_planned t (Cut plan prices) = CutShown (plan_cost t plan.items) plan.items prices.items
-shown_planned t (NoCut closed) = NoneShown closed.items
+abbrev pub planned_claim : Table → Planned → ClaimData
+planned_claim t (Cut plan prices) = CutClaim (plan_cost t plan.items) plan.items prices.items
+planned_claim t (NoCut closed) = NoneClaim closed.items
 
 -- the certificate over the table itself
-abbrev pub certificate_of : Table → Planned → Printed
-certificate_of t planned = record { table = t; shown = shown_planned t planned }
+abbrev pub certificate_of : Table → Planned → CertificateData
+certificate_of t planned = record { table = t; shown = planned_claim t planned }
 
 -- it can be written down
-abbrev pub CanBeShown : Table → Planned → Type 0
-CanBeShown t planned = IsForm (length t.places) (shown_planned t planned)
+abbrev pub HasClaimForm : Table → Planned → Type 0
+HasClaimForm t planned = IsForm (length t.places) (planned_claim t planned)
 
 -- the plan is least, or there is none
 abbrev pub IsBest : Table → Planned → Type 0
@@ -27,6 +27,6 @@ IsBest t (Cut plan prices) = IsLeast t plan.items
 IsBest t (NoCut closed) = HasNoPlan t
 
 -- prices are least costs on just the places that can be reached, and the closed set is all of those
-abbrev pub IsExact : Table → Planned → Type 0
-IsExact t (Cut plan prices) = HasLeastPrices t prices.items
-IsExact t (NoCut closed) = HasReachable t closed.items
+abbrev pub HasExactPrices : Table → Planned → Type 0
+HasExactPrices t (Cut plan prices) = HasLeastPrices t prices.items
+HasExactPrices t (NoCut closed) = HasReachable t closed.items

@@ -5,16 +5,16 @@ use Rattle.hls_plan.specs.declared.planned.Planned.{Planned}
 use Rattle.hls_plan.specs.declared.planned.Planned.TheVariants.{Cut, NoCut}
 use Rattle.hls_check_laws.specs.Tables.{Table}
 use Rattle.hls_check_laws.specs.Steps.{Allowed, cost, cost_limit}
-use Rattle.hls_check_laws.specs.Plans.{Leads, end_of, cost_from, IsPlan, plan_cost}
-use Rattle.hls_check_laws.specs.Certificates.{price_at, CutKeeps}
+use Rattle.hls_check_laws.specs.Plans.{StepsAreAllowed, last_place, cost_from, IsPlan, plan_cost}
+use Rattle.hls_check_laws.specs.Certificates.{price_at, CutKeepsPrices}
 
 -- Prices are found row by row: the steps from place 0, from place 1, and so on. Steps go forward,
 -- so a place's price is its least when its own row begins.
 
 -- a price is below the one found so far, if there is one
-abbrev pub is_lower : ℕ → Option ℕ → Bool
-is_lower price None = true
-is_lower price (Some found) = nat_lt price found
+abbrev pub is_lower_price : ℕ → Option ℕ → Bool
+is_lower_price price None = true
+is_lower_price price (Some found) = nat_lt price found
 
 -- place q was reached at this price by a step from an origin that is priced itself
 pub record IsReached (t : Table) (prices : List (Option ℕ)) (q price origin : ℕ) : Type 0 where
@@ -33,15 +33,15 @@ pub record IsPricing (t : Table) (p q : ℕ) (prices : List (Option ℕ)) (origi
       IsReached t prices k price (slice_index origins k)
   pub origin_done : (k price : ℕ) → 0 < k → price_at prices k ≡ Some price → slice_index origins k ≤ p
   pub bound : (k price : ℕ) → price_at prices k ≡ Some price → price ≤ k * cost_limit
-  pub rows : (i j : ℕ) → i < p → CutKeeps t prices i j
-  pub row : (j : ℕ) → j < q → CutKeeps t prices p j
+  pub rows : (i j : ℕ) → i < p → CutKeepsPrices t prices i j
+  pub row : (j : ℕ) → j < q → CutKeepsPrices t prices p j
 
 -- the way that was walked back from the last place to this one, with what it costs
-pub record IsWayBack (t : Table) (prices : List (Option ℕ)) (at : ℕ) (way : List ℕ) : Type 0 where
+pub record IsPathBack (t : Table) (prices : List (Option ℕ)) (at : ℕ) (path : List ℕ) : Type 0 where
   pub rest : List ℕ
-  pub is : reverse way ≡ at ∷ rest
-  pub leads : Leads t at rest
-  pub ends : end_of at rest ≡ length t.places - 1
+  pub is : reverse path ≡ at ∷ rest
+  pub steps_allowed : StepsAreAllowed t at rest
+  pub ends : last_place at rest ≡ length t.places - 1
   pub price : ℕ
   pub priced : price_at prices at ≡ Some price
   pub paid : price_at prices (length t.places - 1) ≡ Some (price + cost_from t at rest)
@@ -62,6 +62,6 @@ pub record IsNoneFound (t : Table) (closed : List Bool) : Type 0 where
   pub is : closed ≡ map is_some prices
 
 -- what a planner found comes from prices
-abbrev pub IsFound : Table → Planned → Type 0
-IsFound t (Cut plan prices) = IsCutFound t plan.items prices.items
-IsFound t (NoCut closed) = IsNoneFound t closed.items
+abbrev pub IsPlannerResult : Table → Planned → Type 0
+IsPlannerResult t (Cut plan prices) = IsCutFound t plan.items prices.items
+IsPlannerResult t (NoCut closed) = IsNoneFound t closed.items

@@ -7,5 +7,5 @@ pub use planner::{plan, plan_counted};
 
 mod planned;
 mod planner;
-mod pricing;
+mod price_table;
 mod reach;

@@ -2,7 +2,7 @@
 
 ghost use Rattle.std.specs.Prelude.{◌≡◌};
 ghost use Rattle.hls_check_laws.specs.Certificates.{IsGood};
-ghost use Rattle.hls_plan.specs.Planned.{CanBeShown, certificate_of};
+ghost use Rattle.hls_plan.specs.Planned.{HasClaimForm, certificate_of};
 
 use hls_check_laws::{Certificate, Claim, PlaceTable};
 
@@ -24,7 +24,7 @@ pub enum Planned {
 /// The certificate of what was planned over this very table. It takes no memory.
 pub fn certificate(table: PlaceTable, planned: Planned) -> Certificate
     requires good { IsGood (certificate_of table planned) }
-    requires shown { CanBeShown table planned }
+    requires shown { HasClaimForm table planned }
     ensures { result ≡ certificate_of table planned }
 {
     match planned {

@@ -5,18 +5,18 @@ ghost use Rattle.hls_check_laws.specs.Tables.{IsTable};
 ghost use Rattle.hls_check_laws.specs.Orders.{IsOrderly};
 ghost use Rattle.hls_check_laws.specs.Plans.{IsPlan, plan_cost};
 ghost use Rattle.hls_check_laws.specs.Certificates.{price_at, IsGood};
-ghost use Rattle.hls_plan.specs.Planned.{IsBest, IsExact, CanBeShown, certificate_of};
-ghost use Rattle.hls_plan.specs.Looks.{pairs_of, EndsWithin};
-ghost use Rattle.hls_plan.specs.Pricing.{IsPricing, IsFound};
+ghost use Rattle.hls_plan.specs.Planned.{IsBest, HasExactPrices, HasClaimForm, certificate_of};
+ghost use Rattle.hls_plan.specs.PairCounts.{pair_count, EndsWithin};
+ghost use Rattle.hls_plan.specs.Pricing.{IsPricing, IsPlannerResult};
 
 use crate::planned::Planned;
-use crate::pricing::{Pricing, price_of, price_places};
+use crate::price_table::{PriceTable, price_of, price_places};
 use hls_check_laws::PlaceTable;
 use hls_time::Ticks;
 use std::alloc::{AllocError, Global};
 
 /// The plan to the last place, walked back by the origins.
-fn plan_back(
+fn trace_plan(
     alloc: Global,
     table: &PlaceTable,
     prices: &[Option<u64>],
@@ -27,39 +27,39 @@ fn plan_back(
     ensures { IfOk result (λ plan. IsPlan table.now plan.items × (price_at prices.now (length table.now.places - 1) ≡ Some (plan_cost table.now plan.items))) }
 {
     let mut at = table.len() - 1;
-    let mut way = Vec::new(alloc);
-    way.push(at)?;
+    let mut path = Vec::new(alloc);
+    path.push(at)?;
     while at != 0 {
         at = origins[at];
-        way.push(at)?;
+        path.push(at)?;
     }
-    way.as_mut_slice().reverse();
-    Ok(way)
+    path.as_mut_slice().reverse();
+    Ok(path)
 }
 
 /// Which places have a price.
-fn priced_places(alloc: Global, prices: &[Option<u64>]) -> Result<Vec<bool>, AllocError>
+fn closed_set(alloc: Global, prices: &[Option<u64>]) -> Result<Vec<bool>, AllocError>
     ensures { IfOk result (λ closed. closed.items ≡ map is_some prices.now) }
 {
     prices.iter().map(|price| price.is_some()).collect(alloc)
 }
 
-fn find(alloc: Global, table: &PlaceTable, ticks: &mut Ticks) -> Result<Planned, AllocError>
+fn find_plan(alloc: Global, table: &PlaceTable, ticks: &mut Ticks) -> Result<Planned, AllocError>
     requires { ticks.old < 2 ^ 62 }
     ensures valid { IsTable table.now }
     ensures orderly { IsOrderly table.now }
-    ensures found { IfOk result (IsFound table.now) }
+    ensures found { IfOk result (IsPlannerResult table.now) }
     ensures rises { ticks.old ≤ ticks.new }
-    ensures pairs { ticks.new ≤ ticks.old + pairs_of (length table.now.places) }
+    ensures pairs { ticks.new ≤ ticks.old + pair_count (length table.now.places) }
     ensures rows { (reach : ℕ) → EndsWithin table.now reach → ticks.new ≤ ticks.old + length table.now.places * (reach + reach / 8) }
 {
-    let Pricing { prices, origins } = price_places(alloc, table, ticks)?;
+    let PriceTable { prices, origins } = price_places(alloc, table, ticks)?;
     let last = table.len() - 1;
     if price_of(prices.as_slice(), last).is_some() {
-        let plan = plan_back(alloc, table, prices.as_slice(), origins.as_slice())?;
+        let plan = trace_plan(alloc, table, prices.as_slice(), origins.as_slice())?;
         return Ok(Planned::Cut { plan, prices });
     }
-    let closed = priced_places(alloc, prices.as_slice())?;
+    let closed = closed_set(alloc, prices.as_slice())?;
     Ok(Planned::NoCut { closed })
 }
 
@@ -80,21 +80,21 @@ pub fn plan_counted(
     requires { ticks.old < 2 ^ 62 }
     ensures good { IfOk result (λ planned. IsGood (certificate_of table.now planned)) }
     ensures best { IfOk result (IsBest table.now) }
-    ensures exact { IfOk result (IsExact table.now) }
-    ensures shown { IfOk result (CanBeShown table.now) }
+    ensures exact { IfOk result (HasExactPrices table.now) }
+    ensures shown { IfOk result (HasClaimForm table.now) }
     ensures rises { ticks.old ≤ ticks.new }
-    ensures pairs { ticks.new ≤ ticks.old + pairs_of (length table.now.places) }
+    ensures pairs { ticks.new ≤ ticks.old + pair_count (length table.now.places) }
     ensures rows { (reach : ℕ) → EndsWithin table.now reach → ticks.new ≤ ticks.old + length table.now.places * (reach + reach / 8) }
 {
-    find(alloc, table, ticks)
+    find_plan(alloc, table, ticks)
 }
 
 /// What `plan_counted` gives, by a count of its own.
 pub fn plan(alloc: Global, table: &PlaceTable) -> Result<Planned, AllocError>
     ensures good { IfOk result (λ planned. IsGood (certificate_of table.now planned)) }
     ensures best { IfOk result (IsBest table.now) }
-    ensures exact { IfOk result (IsExact table.now) }
-    ensures shown { IfOk result (CanBeShown table.now) }
+    ensures exact { IfOk result (HasExactPrices table.now) }
+    ensures shown { IfOk result (HasClaimForm table.now) }
 {
     plan_counted(alloc, table, &mut Ticks::new())
 }

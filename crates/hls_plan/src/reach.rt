@@ -23,7 +23,7 @@ fn first_step(table: &PlaceTable, p: usize, ticks: &mut Ticks) -> Option<usize>
 {
     let count = table.len();
     for q in p + 1..count {
-        if table.allowed(p, q) {
+        if table.is_allowed(p, q) {
             return Some(q);
         }
         ticks.tick();
@@ -36,7 +36,7 @@ fn first_step(table: &PlaceTable, p: usize, ticks: &mut Ticks) -> Option<usize>
 
 /// How far to look from a place that a step leads to: an eighth further than that place is.
 #[inline(always)]
-fn ahead(p: usize, last: usize) -> usize
+fn lookahead_end(p: usize, last: usize) -> usize
     requires forward { p < last }
     requires small { last < 2 ^ 32 }
     ensures { result ≡ last + 1 + (last - p) / 8 }
@@ -51,7 +51,7 @@ fn look_ahead(table: &PlaceTable, p: usize, first: usize, ticks: &mut Ticks) -> 
     requires step { Allowed table.now p first }
     requires room { ticks.old < 2 ^ 62 + 2 ^ 61 }
     ensures allowed { Allowed table.now p result.0 }
-    ensures behind { first ≤ result.0 }
+    ensures not_before { first ≤ result.0 }
     ensures before { (result.0 < result.1) × (result.1 ≤ length table.now.places) }
     ensures none { (j : ℕ) → result.1 ≤ j → Allowed table.now p j → ⊥ }
     ensures near { result.1 ≤ result.0 + 1 + (result.0 - p) / 8 }
@@ -59,21 +59,27 @@ fn look_ahead(table: &PlaceTable, p: usize, first: usize, ticks: &mut Ticks) -> 
 {
     let count = table.len();
     let mut last = first;
-    let mut far = ahead(p, last);
+    let mut far = lookahead_end(p, last);
     while far < count {
-        if !table.allowed(p, far) {
+        if !table.is_allowed(p, far) {
             ticks.tick();
             return (last, far);
         }
         last = far;
-        far = ahead(p, last);
+        far = lookahead_end(p, last);
     }
     (last, count)
 }
 
 /// The last place that a step from place `p` leads to, where one leads to place `low` and none to place `high` or
 /// behind it.
-fn last_between(table: &PlaceTable, p: usize, low: usize, high: usize, ticks: &mut Ticks) -> usize
+fn last_allowed_between(
+    table: &PlaceTable,
+    p: usize,
+    low: usize,
+    high: usize,
+    ticks: &mut Ticks,
+) -> usize
     requires valid { IsTable table.now }
     requires orderly { IsOrderly table.now }
     requires step { Allowed table.now p low }
@@ -81,7 +87,7 @@ fn last_between(table: &PlaceTable, p: usize, low: usize, high: usize, ticks: &m
     requires none { (j : ℕ) → high ≤ j → Allowed table.now p j → ⊥ }
     requires room { ticks.old < 2 ^ 62 + 2 ^ 61 + 2 ^ 60 }
     ensures allowed { Allowed table.now p result }
-    ensures behind { low ≤ result }
+    ensures not_before { low ≤ result }
     ensures last { (j : ℕ) → result < j → Allowed table.now p j → ⊥ }
     ensures looked { (ticks.old ≤ ticks.new) × (ticks.new + result + 1 ≤ ticks.old + high) }
 {
@@ -89,7 +95,7 @@ fn last_between(table: &PlaceTable, p: usize, low: usize, high: usize, ticks: &m
     let mut end = high;
     while last + 1 < end {
         let middle = last + (end - last) / 2;
-        if table.allowed(p, middle) {
+        if table.is_allowed(p, middle) {
             last = middle;
         } else {
             ticks.tick();
@@ -101,7 +107,11 @@ fn last_between(table: &PlaceTable, p: usize, low: usize, high: usize, ticks: &m
 
 /// The places that steps from place `p` lead to: from the first on, and below the second. It looks at each place
 /// up to the first of them, and then for the last of them at fewer the further they reach.
-pub fn span(table: &PlaceTable, p: usize, ticks: &mut Ticks) -> Option<(usize, usize)>
+pub fn find_reachable_range(
+    table: &PlaceTable,
+    p: usize,
+    ticks: &mut Ticks,
+) -> Option<(usize, usize)>
     requires valid { IsTable table.now }
     requires orderly { IsOrderly table.now }
     requires in_range { p < length table.now.places }
@@ -115,6 +125,6 @@ pub fn span(table: &PlaceTable, p: usize, ticks: &mut Ticks) -> Option<(usize, u
         return None;
     };
     let (low, high) = look_ahead(table, p, first, ticks);
-    let last = last_between(table, p, low, high, ticks);
+    let last = last_allowed_between(table, p, low, high, ticks);
     Some((first, last + 1))
 }

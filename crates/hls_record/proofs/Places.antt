@@ -7,12 +7,12 @@ use Rattle.std.proofs.lemmas.List.{length-map, take_all}
 use Rattle.std.proofs.lemmas.Option.{slice_get_within}
 use Rattle.hls_record.proofs.Cited.{units_are_bounded, some_at}
 use Rattle.hls_blocks.specs.Numbered.{Numbered, item_at}
-use Rattle.hls_record.specs.declared.item.Key.TheVariants as keys
+use Rattle.hls_record.specs.declared.recorded_unit.SearchKey.TheVariants as keys
 use Rattle.hls_record.specs.declared.recording.Recording.TheInside.{Inside}
-use Rattle.hls_record.specs.Recorded.{Recorded, offset_at, total_of, piece_at}
-use Rattle.hls_record.specs.Valid.{IsRecorded}
-use Rattle.hls_record.specs.Search.{IsFirst, Stands}
-use Rattle.hls_record.specs.Kept.{seen, IsKept}
+use Rattle.hls_record.specs.RecordingData.{RecordingData, offset_at, total_of, piece_at}
+use Rattle.hls_record.specs.IsRecorded.{IsRecorded}
+use Rattle.hls_record.specs.Search.{IsFirst, IsInUnit}
+use Rattle.hls_record.specs.Model.{model_of, IsSoundRecording}
 use Rattle.hls_record.proofs.Offsets.{next_offset, kept_before, kept_length}
 use Rattle.hls_record.proofs.Pieces.{piece_of_unit, no_piece}
 
@@ -20,17 +20,17 @@ pub item_kept : {T : Type 0} (s : Numbered T) (n : ℕ) → s.first ≤ n → it
 item_kept s n low = rw (le-ltb n s.first low) refl
 
 -- at or past the count, the offset is the total
-pub offset_past : (r : Recorded) (n : ℕ) → length r.facts ≤ n → offset_at r n ≡ total_of r
+pub offset_past : (r : RecordingData) (n : ℕ) → length r.facts ≤ n → offset_at r n ≡ total_of r
 offset_past r n past = rw (take_all n r.facts past) refl
 
-pub unit_found : (i : Inside) (at after : ℕ) → IsKept i → IsFirst keys.Offset i.items.items i.units.first (at + 1) after
-    → offset_at (seen i) i.units.first ≤ at → at < total_of (seen i) → (0 < after) × Stands (seen i) at (after - 1)
+pub unit_found : (i : Inside) (at after : ℕ) → IsSoundRecording i → IsFirst keys.Offset i.items.items i.units.first (at + 1) after
+    → offset_at (model_of i) i.units.first ≤ at → at < total_of (model_of i) → (0 < after) × IsInUnit (model_of i) at (after - 1)
 unit_found i at after kept found low high =
     let count : length (map (λ x. x.facts) i.items.items) ≡ length i.items.items = length-map i.items.items (λ x. x.facts) in
     let below : i.units.first < length i.items.items =
     elim (cases_lt i.units.first (length i.items.items)) [
       | inl h ↦ h
-      | inr past ↦ absurd (omega (arith, offset_past (seen i) i.units.first (omega arith)))
+      | inr past ↦ absurd (omega (arith, offset_past (model_of i) i.units.first (omega arith)))
     ] in
     let floor = some_at i.items.items i.units.first below in
     let later : i.units.first < after =
@@ -40,15 +40,15 @@ unit_found i at after kept found low high =
     ] in
     let before : after - 1 < length i.items.items = omega (arith, found.high) in
     let here = some_at i.items.items (after - 1) before in
-    let from : offset_at (seen i) (after - 1) ≤ at =
+    let from : offset_at (model_of i) (after - 1) ≤ at =
     omega (arith, found.before (after - 1) here.0 (omega arith) (omega arith) here.1, kept.offsets (after - 1) here.0 here.1) in
     let after_is : after - 1 + 1 ≡ after = omega arith in
-    let until : at < offset_at (seen i) after =
+    let until : at < offset_at (model_of i) after =
     elim (cases_lt after (length i.items.items)) [
       | inl h ↦
           (let next = some_at i.items.items after h in
           omega (arith, found.after after next.0 (omega arith) next.1, kept.offsets after next.0 next.1))
-      | inr past ↦ omega (arith, offset_past (seen i) after (omega arith))
+      | inr past ↦ omega (arith, offset_past (model_of i) after (omega arith))
     ] in (
       omega arith,
       record {
@@ -60,7 +60,7 @@ unit_found i at after kept found low high =
     )
 
 -- a kept unit is as long as its offsets say
-pub unit_length : (r : Recorded) (n : ℕ) (u : List ℕ) → IsRecorded r → r.floor ≤ n → slice_get r.units (n - r.floor) ≡ Some u
+pub unit_length : (r : RecordingData) (n : ℕ) (u : List ℕ) → IsRecorded r → r.floor ≤ n → slice_get r.units (n - r.floor) ≡ Some u
     → offset_at r (n + 1) ≡ offset_at r n + length u
 unit_length r n u valid low at =
     let within : n - r.floor < length r.units = slice_get_within r.units (n - r.floor) u at in
@@ -70,7 +70,7 @@ unit_length r n u valid low at =
     rw (← (units_are_bounded r.init u f.0 is).len_is) (next_offset r n f.0 f.1)
 
 -- the piece from a byte that stands in a kept unit is the rest of that unit
-pub piece_there : (r : Recorded) (at n : ℕ) (u : List ℕ) → IsRecorded r → Stands r at n → slice_get r.units (n - r.floor) ≡ Some u
+pub piece_there : (r : RecordingData) (at n : ℕ) (u : List ℕ) → IsRecorded r → IsInUnit r at n → slice_get r.units (n - r.floor) ≡ Some u
     → Some (drop (at - offset_at r n) u) ≡ piece_at r at
 piece_there r at n u valid there is =
     let long = unit_length r n u valid there.low is in
@@ -82,7 +82,7 @@ piece_there r at n u valid there is =
     (sym (piece_of_unit r.units (n - r.floor) (at - offset_at r n) u is inside))
 
 -- past the end there is no piece
-pub none_there : (r : Recorded) (at : ℕ) → IsRecorded r → length r.head ≤ at → offset_at r r.floor ≤ at → total_of r ≤ at → None ≡ piece_at r at
+pub none_there : (r : RecordingData) (at : ℕ) → IsRecorded r → length r.head ≤ at → offset_at r r.floor ≤ at → total_of r ≤ at → None ≡ piece_at r at
 none_there r at valid behind kept past =
     rw (le-ltb at (length r.head) behind, le-ltb at (offset_at r r.floor) kept)
     (sym (no_piece r.units (at - offset_at r r.floor) (omega (arith, kept_length r valid))))
@@ -92,7 +92,7 @@ pub unit_read : (i : Inside) (n : ℕ) (u : List ℕ) → i.units.first ≤ n �
 unit_read i n u low is = sym (is ∙ item_kept i.units n low)
 
 -- a kept unit is there to be read
-pub unit_there : (i : Inside) (n : ℕ) → IsKept i → i.units.first ≤ n → n < length (seen i).facts → None ≡ item_at i.units n → ⊥
+pub unit_there : (i : Inside) (n : ℕ) → IsSoundRecording i → i.units.first ≤ n → n < length (model_of i).facts → None ≡ item_at i.units n → ⊥
 unit_there i n kept low high none =
     let valid = kept.valid in
     let there = some_at i.units.items (n - i.units.first) (omega (arith, valid.kept)) in

@@ -2,7 +2,7 @@
 use Rattle.std.proofs.Common.{◌≡◌, sym, ap, ℕ, ◌==◌, List, length, take, take_all, Some, None, inl, inr, position}
 use Rattle.std.specs.List.{position_or_len}
 use Rattle.std.proofs.lemmas.Bool.{cases_lt, lt-ltb, le-ltb}
-use Rattle.hls_refusals.specs.Lines.{name_in}
+use Rattle.hls_refusals.specs.Explanations.{name_in}
 
 abbrev colon_place : List ℕ → ℕ
 colon_place line = position_or_len (λ b. b == 58) line

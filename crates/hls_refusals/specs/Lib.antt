@@ -1,2 +1,2 @@
-pub mod Explained
-pub mod Lines
+pub mod ExplainRun
+pub mod Explanations

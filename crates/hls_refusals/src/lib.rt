@@ -1,9 +1,9 @@
 //! The command `explain`: what a refusal's name means, and what to change. One text has a line for each name.
 #![tactic(auto)]
 
-mod lines;
+mod explain;
+mod explanations;
 mod meanings;
-mod run;
 
+pub use explain::{ExplainEnd, run_explain};
 pub use meanings::MEANINGS;
-pub use run::{ExplainEnd, run_explain};

@@ -1,2 +1,2 @@
-pub mod Contents
-pub mod Recent
+pub mod ResponseContents
+pub mod PlaylistCache

@@ -2,24 +2,29 @@
 //! refusals, and how they are sent. Media go out from the recording itself, and a job's from its own snapshot.
 #![tactic(auto)]
 
-pub use answer::{Answer, output_of};
-pub use body::Body;
-pub use jobs::{added_answer, file_answer, query_answer, removed_answer, told_answer};
-pub use media::media_answer;
-pub use playlists::{list_answer, master_answer};
-pub use query::{read_query, request_for, wanted_of};
-pub use recent::RecentLists;
-pub use standing::status_answer;
-pub use texts::{fault_answer, finish_answer, method_answer, refused_answer, taken_answer};
+pub use job_responses::{
+    added_response, file_response, job_response, query_response, removed_response,
+};
+pub use media_responses::media_response;
+pub use playlist_cache::PlaylistCache;
+pub use playlist_responses::{live_master_response, live_playlist_response};
+pub use query::{make_request, read_query, resolve_query};
+pub use response::{Response, into_send_buffer};
+pub use response_body::ResponseBody;
+pub use status::status_response;
+pub use text_responses::{
+    fault_response, finish_response, ingest_refused_response, ingested_response,
+    method_not_allowed_response,
+};
 
-mod answer;
-mod body;
-mod content;
-mod jobs;
-mod media;
-mod playlists;
+mod job_media;
+mod job_responses;
+mod media_responses;
+mod playlist_cache;
+mod playlist_responses;
 mod query;
-mod recent;
-mod resource;
-mod standing;
-mod texts;
+mod response;
+mod response_body;
+mod response_content;
+mod status;
+mod text_responses;

@@ -4,46 +4,47 @@
 use hls_core::snapshot::Snapshot;
 use hls_core_laws::done::Done;
 use hls_core_laws::refusal::Refusal;
-use hls_fakes::goes_out;
+use hls_fakes::sends_exactly;
 use hls_feed::StreamFault;
 use hls_http_laws::fault::HttpFault;
-use hls_http_laws::range::Asked;
+use hls_http_laws::range_spec::RangeSpec;
 use hls_replies::{
-    Answer, RecentLists, fault_answer, finish_answer, list_answer, master_answer, media_answer,
-    method_answer, output_of, read_query, refused_answer, status_answer, taken_answer,
+    PlaylistCache, Response, fault_response, finish_response, ingest_refused_response,
+    ingested_response, into_send_buffer, live_master_response, live_playlist_response,
+    media_response, method_not_allowed_response, read_query, status_response,
 };
-use hls_sample_channels::{opened, with_units};
-use hls_serve_laws::ingest::Counts;
-use hls_serve_laws::query::{Moment, Query};
+use hls_sample_channels::{open_channel, with_units};
+use hls_serve_laws::catchup_query::{CatchupQuery, TimePoint};
+use hls_serve_laws::ingest::IngestCounts;
 use hls_serve_laws::route::Route;
 use std::alloc::{AllocError, Global};
 use std::sync::Arc;
 
 /// Two units, of which more may come: one live segment.
-pub fn recorded(alloc: Global) -> Option<Arc<Snapshot>> {
-    let none = opened(alloc).ok()?;
+pub fn record_two_units(alloc: Global) -> Option<Arc<Snapshot>> {
+    let none = open_channel(alloc).ok()?;
     with_units(alloc, &none, 0, &[(0, 4), (4, 8)]).ok()
 }
 
 /// The same, recorded once more where memory was refused.
-fn recorded_at_last(alloc: Global) -> Option<Arc<Snapshot>> {
-    match recorded(alloc) {
+fn record_with_retry(alloc: Global) -> Option<Arc<Snapshot>> {
+    match record_two_units(alloc) {
         Some(snapshot) => Some(snapshot),
-        None => recorded(alloc),
+        None => record_two_units(alloc),
     }
 }
 
 /// What is asked of the channel, or done with it.
 #[derive(Clone, Copy)]
-enum Act {
+enum RequestCase {
     Status,
     Master,
     List,
     /// The same list of those at hand, asked for once before.
-    Again,
+    Cached,
     Part,
     Outside,
-    Taken,
+    Ingested,
     Refused,
     Finished,
     Full,
@@ -51,77 +52,92 @@ enum Act {
     Unknown,
 }
 
-const COUNTS: Counts = Counts {
+const COUNTS: IngestCounts = IngestCounts {
     inits: 1,
     units: 2,
     repeats: 0,
 };
 
-fn part(alloc: Global, snapshot: &Arc<Snapshot>, asked: Asked) -> Result<Answer, AllocError> {
-    media_answer(alloc, Arc::try_clone(snapshot)?, 0, asked)
+fn part(alloc: Global, snapshot: &Arc<Snapshot>, asked: RangeSpec) -> Result<Response, AllocError> {
+    media_response(alloc, Arc::try_clone(snapshot)?, 0, asked)
 }
 
-fn again(alloc: Global, snapshot: &Arc<Snapshot>) -> Result<Answer, AllocError> {
-    let mut lists = RecentLists::new(alloc);
-    let _ = lists.answer(Arc::try_clone(snapshot)?, 0)?;
-    lists.answer(Arc::try_clone(snapshot)?, 0)
+fn cached_list_response(alloc: Global, snapshot: &Arc<Snapshot>) -> Result<Response, AllocError> {
+    let mut lists = PlaylistCache::new(alloc);
+    let _ = lists.get_or_render(Arc::try_clone(snapshot)?, 0)?;
+    lists.get_or_render(Arc::try_clone(snapshot)?, 0)
 }
 
-fn answer(alloc: Global, snapshot: &Arc<Snapshot>, act: Act) -> Result<Answer, AllocError> {
-    match act {
-        Act::Status => status_answer(alloc, snapshot, 0),
-        Act::Master => master_answer(alloc, snapshot),
-        Act::List => list_answer(alloc, Arc::try_clone(snapshot)?, 0),
-        Act::Again => again(alloc, snapshot),
-        Act::Part => part(alloc, snapshot, Asked::Between(0, 7)),
-        Act::Outside => part(alloc, snapshot, Asked::From(2600)),
-        Act::Taken => taken_answer(alloc, COUNTS),
-        Act::Refused => refused_answer(alloc, StreamFault::Core(Refusal::RecordingFull), COUNTS),
-        Act::Finished => finish_answer(alloc, Ok(Done::Repeat)),
-        Act::Full => finish_answer(alloc, Err(Refusal::LedgerFull)),
-        Act::Method => method_answer(alloc, Route::Status),
-        Act::Unknown => fault_answer(alloc, HttpFault::NotFound),
+fn response(
+    alloc: Global,
+    snapshot: &Arc<Snapshot>,
+    case: RequestCase,
+) -> Result<Response, AllocError> {
+    match case {
+        RequestCase::Status => status_response(alloc, snapshot, 0),
+        RequestCase::Master => live_master_response(alloc, snapshot),
+        RequestCase::List => live_playlist_response(alloc, Arc::try_clone(snapshot)?, 0),
+        RequestCase::Cached => cached_list_response(alloc, snapshot),
+        RequestCase::Part => part(alloc, snapshot, RangeSpec::Between(0, 7)),
+        RequestCase::Outside => part(alloc, snapshot, RangeSpec::From(2600)),
+        RequestCase::Ingested => ingested_response(alloc, COUNTS),
+        RequestCase::Refused => ingest_refused_response(
+            alloc,
+            StreamFault::Core(Refusal::RecordingFull),
+            COUNTS,
+        ),
+        RequestCase::Finished => finish_response(alloc, Ok(Done::Repeat)),
+        RequestCase::Full => finish_response(alloc, Err(Refusal::LedgerFull)),
+        RequestCase::Method => method_not_allowed_response(alloc, Route::Status),
+        RequestCase::Unknown => fault_response(alloc, HttpFault::NotFound),
     }
 }
 
 /// What became of an answer.
 #[derive(Clone, Copy, PartialEq, Eq)]
-enum Came {
+enum ResponseOutcome {
     /// There was no memory to make it, or for its reply's head.
-    Nowhere,
+    OutOfMemory,
     /// Its reply is the one that is wanted.
-    Far,
+    Sent,
     /// Its reply is another.
-    Astray,
+    Wrong,
 }
 
 /// Makes an answer's reply, to HEAD or to GET, which is wanted to be this one.
-fn give(alloc: Global, snapshot: &Arc<Snapshot>, act: Act, reply: &[u8], to_head: bool) -> Came {
-    let Ok(answer) = answer(alloc, snapshot, act) else {
-        return Came::Nowhere;
+fn outcome_of(
+    alloc: Global,
+    snapshot: &Arc<Snapshot>,
+    case: RequestCase,
+    reply: &[u8],
+    to_head: bool,
+) -> ResponseOutcome {
+    let Ok(response) = response(alloc, snapshot, case) else {
+        return ResponseOutcome::OutOfMemory;
     };
-    let Ok(output) = output_of(alloc, answer, false, to_head) else {
-        return Came::Nowhere;
+    let Ok(output) = into_send_buffer(alloc, response, false, to_head) else {
+        return ResponseOutcome::OutOfMemory;
     };
-    if goes_out(output, reply) {
-        Came::Far
+    if sends_exactly(output, reply) {
+        ResponseOutcome::Sent
     } else {
-        Came::Astray
+        ResponseOutcome::Wrong
     }
 }
 
 /// Whether of two tries the second gives the answer where the first found no memory, and no other one in any case.
-fn gives_at_last(
+fn is_sent_with_retry(
     alloc: Global,
     snapshot: &Arc<Snapshot>,
-    act: Act,
+    case: RequestCase,
     reply: &[u8],
     to_head: bool,
 ) -> bool {
-    match give(alloc, snapshot, act, reply, to_head) {
-        Came::Far => true,
-        Came::Astray => false,
-        Came::Nowhere => give(alloc, snapshot, act, reply, to_head) == Came::Far,
+    match outcome_of(alloc, snapshot, case, reply, to_head) {
+        ResponseOutcome::Sent => true,
+        ResponseOutcome::Wrong => false,
+        ResponseOutcome::OutOfMemory => outcome_of(alloc, snapshot, case, reply, to_head)
+            == ResponseOutcome::Sent,
     }
 }
 
@@ -129,57 +145,57 @@ const LIST: &[u8] =
     b"HTTP/1.1 200 OK\r\nContent-Type: application/vnd.apple.mpegurl\r\nContent-Length: 210\r\n\r\n#EXTM3U\n#EXT-X-VERSION:6\n#EXT-X-TARGETDURATION:6\n#EXT-X-MEDIA-SEQUENCE:0\n#EXT-X-DISCONTINUITY-SEQUENCE:0\n#EXT-X-MAP:URI=\"/media/0.mp4\",BYTERANGE=\"600@0\"\n#EXTINF:4.000000,\n#EXT-X-BYTERANGE:1000@600\n/media/0.mp4\n";
 
 /// Answers with their whole replies.
-const GIVEN: [(Act, &[u8]); 12] = [
+const CASES: [(RequestCase, &[u8]); 12] = [
     (
-        Act::Status,
+        RequestCase::Status,
         b"HTTP/1.1 200 OK\r\nContent-Type: text/plain\r\nContent-Length: 47\r\n\r\nversion 3\nplaces 2\nsegments 1\nremoved 0\njobs 0\n",
     ),
     (
-        Act::Master,
+        RequestCase::Master,
         b"HTTP/1.1 200 OK\r\nContent-Type: application/vnd.apple.mpegurl\r\nContent-Length: 74\r\n\r\n#EXTM3U\n#EXT-X-VERSION:6\n#EXT-X-STREAM-INF:BANDWIDTH=3000000\n/live/0.m3u8\n",
     ),
-    (Act::List, LIST),
-    (Act::Again, LIST),
+    (RequestCase::List, LIST),
+    (RequestCase::Cached, LIST),
     (
-        Act::Part,
+        RequestCase::Part,
         b"HTTP/1.1 206 Partial Content\r\nContent-Type: video/mp4\r\nContent-Length: 8\r\nContent-Range: bytes 0-7/2600\r\n\r\n\0\0\0\x10ftyp",
     ),
     (
-        Act::Outside,
+        RequestCase::Outside,
         b"HTTP/1.1 416 Range Not Satisfiable\r\nContent-Type: text/plain\r\nContent-Length: 21\r\nContent-Range: bytes */2600\r\n\r\nrefused RangeOutside\n",
     ),
     (
-        Act::Taken,
+        RequestCase::Ingested,
         b"HTTP/1.1 200 OK\r\nContent-Type: text/plain\r\nContent-Length: 29\r\n\r\ninit 1 accepted 2 repeated 0\n",
     ),
     (
-        Act::Refused,
+        RequestCase::Refused,
         b"HTTP/1.1 507 Insufficient Storage\r\nContent-Type: text/plain\r\nContent-Length: 51\r\n\r\nrefused RecordingFull init 1 accepted 2 repeated 0\n",
     ),
     (
-        Act::Finished,
+        RequestCase::Finished,
         b"HTTP/1.1 200 OK\r\nContent-Type: text/plain\r\nContent-Length: 9\r\n\r\nrepeated\n",
     ),
     (
-        Act::Full,
+        RequestCase::Full,
         b"HTTP/1.1 507 Insufficient Storage\r\nContent-Type: text/plain\r\nContent-Length: 19\r\n\r\nrefused LedgerFull\n",
     ),
     (
-        Act::Method,
+        RequestCase::Method,
         b"HTTP/1.1 405 Method Not Allowed\r\nContent-Type: text/plain\r\nContent-Length: 18\r\nAllow: GET, HEAD\r\n\r\nrefused BadMethod\n",
     ),
     (
-        Act::Unknown,
+        RequestCase::Unknown,
         b"HTTP/1.1 404 Not Found\r\nContent-Type: text/plain\r\nContent-Length: 17\r\n\r\nrefused NotFound\n",
     ),
 ];
 
 #[test]
-fn refused_memory_changes_no_answer(rt: HostRuntime) {
+fn out_of_memory_changes_no_answer(rt: HostRuntime) {
     let alloc = rt.alloc();
-    let snapshot = recorded_at_last(alloc).expect(&rt, "a snapshot with two units");
-    for (act, reply) in GIVEN {
-        assert!(rt; gives_at_last(alloc, &snapshot, act, reply, false));
+    let snapshot = record_with_retry(alloc).expect(&rt, "a snapshot with two units");
+    for (case, reply) in CASES {
+        assert!(rt; is_sent_with_retry(alloc, &snapshot, case, reply, false));
     }
     assert_eq!(rt; snapshot.version(), 3);
 }
@@ -195,25 +211,25 @@ fn head_of(reply: &[u8]) -> &[u8] {
 }
 
 #[test]
-fn refused_memory_to_head_has_no_body(rt: HostRuntime) {
+fn out_of_memory_to_head_has_no_body(rt: HostRuntime) {
     let alloc = rt.alloc();
-    let snapshot = recorded_at_last(alloc).expect(&rt, "a snapshot with two units");
-    for (act, reply) in GIVEN {
-        assert!(rt; gives_at_last(alloc, &snapshot, act, head_of(reply), true));
+    let snapshot = record_with_retry(alloc).expect(&rt, "a snapshot with two units");
+    for (case, reply) in CASES {
+        assert!(rt; is_sent_with_retry(alloc, &snapshot, case, head_of(reply), true));
     }
 }
 
 #[test]
-fn refused_memory_tells_nothing_of_a_query(rt: HostRuntime) {
+fn out_of_memory_tells_nothing_of_a_query(rt: HostRuntime) {
     let alloc = rt.alloc();
     let query = b"fro%6d=%30&to=2024-01-01T00:00:00%2B00:00";
     let said = match read_query(alloc, query) {
         Ok(said) => said,
         Err(_) => read_query(alloc, query).ok().flatten(),
     };
-    let asked = Query {
-        start: Moment::Time(0),
-        stop: Moment::Instant(1_704_067_200_000_000),
+    let asked = CatchupQuery {
+        start: TimePoint::Time(0),
+        stop: TimePoint::Instant(1_704_067_200_000_000),
         preferred: None,
         charge: None,
     };

@@ -2,5 +2,5 @@
 //! `hls_serve_laws`.
 #![tactic(auto)]
 
-pub mod path;
-pub mod route;
+pub mod parse_route;
+pub mod route_path;

@@ -1,11 +1,11 @@
 //! Events that bring media.
 
 ghost use Rattle.std.specs.Prelude.{◌≡◌, IfOk, true};
-ghost use Rattle.hls_samples.specs.Init.{init_of};
-ghost use Rattle.hls_samples.specs.Unit.{unit_of};
+ghost use Rattle.hls_samples.specs.Init.{init_bytes};
+ghost use Rattle.hls_samples.specs.UnitBytes.{unit_bytes};
 ghost use Rattle.hls_core_laws.specs.State.{State};
 ghost use Rattle.hls_core_laws.specs.Moves.{IsFitting, IsFittingAsSeen};
-ghost use Rattle.hls_sample_channels.specs.Samples.{Begins, Adds};
+ghost use Rattle.hls_sample_channels.specs.Samples.{IsBeginEvent, IsAcceptEvent};
 
 use crate::fault::SampleFault;
 use bytes::Bytes;
@@ -24,7 +24,7 @@ pub fn begin_event(
 ) -> Result<Event, SampleFault>
     ensures fits { IfOk result (λ event. (s : State) → IsFitting s event) }
     ensures seen { IfOk result (λ event. (s : State) → IsFittingAsSeen s event) }
-    ensures bytes { IfOk result (λ event. Begins rendition (init_of handler.now scale) event) }
+    ensures bytes { IfOk result (λ event. IsBeginEvent rendition (init_bytes handler.now scale) event) }
 {
     let bytes = init_bytes(alloc, handler, scale)?;
     let init = read_init(alloc, &bytes)?;
@@ -46,7 +46,7 @@ pub fn accept_event(
 ) -> Result<Event, SampleFault>
     ensures fits { IfOk result (λ event. IsFitting snapshot.now event) }
     ensures seen { IfOk result (λ event. IsFittingAsSeen snapshot.now event) }
-    ensures bytes { IfOk result (λ event. Adds rendition (unit_of start ticks true 1000) event) }
+    ensures bytes { IfOk result (λ event. IsAcceptEvent rendition (unit_bytes start ticks true 1000) event) }
 {
     let Some(recording) = snapshot.recording(rendition) else {
         return Err(SampleFault::NotBegun);

@@ -2,14 +2,16 @@
 //! one sync sample and 1000 bytes.
 #![tactic(auto)]
 
-mod again;
 mod events;
 mod fault;
 mod opening;
+mod retries;
 mod states;
 
-pub use again::{THREE_UNITS, ended_at_last, recorded, recorded_at_last};
 pub use events::{accept_event, begin_event};
 pub use fault::SampleFault;
-pub use opening::{SECOND, opened, opened_with, rendition};
-pub use states::{TEN_UNITS, begun, finished, stepped, with_unit, with_units};
+pub use opening::{SECOND, open_channel, open_channel_with, rendition};
+pub use retries::{THREE_UNITS, end_channel_with_retry, record_channel, record_channel_with_retry};
+pub use states::{
+    TEN_UNITS, apply_event, begin_rendition, finish_rendition, with_unit, with_units,
+};

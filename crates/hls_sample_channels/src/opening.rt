@@ -33,7 +33,7 @@ pub fn rendition(
 }
 
 /// A channel of these renditions; its time 0 is at this epoch, if it has one, in microseconds since 1970.
-pub fn opened_with(
+pub fn open_channel_with(
     alloc: Global,
     renditions: Vec<Rendition>,
     epoch: Option<i64>,
@@ -45,10 +45,10 @@ pub fn opened_with(
 }
 
 /// A channel of one video rendition.
-pub fn opened(alloc: Global) -> Result<Arc<Snapshot>, SampleFault>
+pub fn open_channel(alloc: Global) -> Result<Arc<Snapshot>, SampleFault>
     ensures { IfOk result (λ s. s.value ≡ first_state (config_of (rendition_of (codes "v1") true 0 ∷ []) None)) }
 {
     let mut renditions = Vec::new(alloc);
     renditions.push(rendition(alloc, b"v1", true, 0)?)?;
-    opened_with(alloc, renditions, None)
+    open_channel_with(alloc, renditions, None)
 }

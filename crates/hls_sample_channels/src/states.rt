@@ -1,11 +1,11 @@
 //! Channels after some events, all of worker 0.
 
 ghost use Rattle.std.specs.Prelude.{◌≡◌, ◌+◌, ◌*◌, length, codes, true, IfOk};
-ghost use Rattle.hls_samples.specs.Init.{init_of};
-ghost use Rattle.hls_samples.specs.Unit.{unit_of};
+ghost use Rattle.hls_samples.specs.Init.{init_bytes};
+ghost use Rattle.hls_samples.specs.UnitBytes.{unit_bytes};
 ghost use Rattle.hls_core_laws.specs.declared.event.Event.TheVariants.{Finish};
-ghost use Rattle.hls_core_laws.specs.Moves.{advanced, IsFitting};
-ghost use Rattle.hls_sample_channels.specs.Samples.{Begins, Adds, IsAfter};
+ghost use Rattle.hls_core_laws.specs.Moves.{state_with_entry, IsFitting};
+ghost use Rattle.hls_sample_channels.specs.Samples.{IsBeginEvent, IsAcceptEvent, FollowsByEvent};
 
 use crate::events::{accept_event, begin_event};
 use crate::fault::SampleFault;
@@ -17,13 +17,13 @@ use std::alloc::Global;
 use std::sync::Arc;
 
 /// The channel after an event that is new in it.
-pub fn stepped(
+pub fn apply_event(
     alloc: Global,
     snapshot: &Snapshot,
     event: Event,
 ) -> Result<Arc<Snapshot>, SampleFault>
     requires { IsFitting snapshot.now event }
-    ensures { IfOk result (λ next. next.value ≡ advanced snapshot.now 0 event) }
+    ensures { IfOk result (λ next. next.value ≡ state_with_entry snapshot.now 0 event) }
 {
     match step(snapshot, alloc, 0, event)? {
         Stepped::New(next) => Ok(next),
@@ -32,16 +32,16 @@ pub fn stepped(
 }
 
 /// With the init section of a video rendition of this timescale (ticks a second).
-pub fn begun(
+pub fn begin_rendition(
     alloc: Global,
     snapshot: &Snapshot,
     rendition: usize,
     scale: u32,
 ) -> Result<Arc<Snapshot>, SampleFault>
-    ensures { IfOk result (λ next. IsAfter snapshot.now (Begins rendition (init_of (codes "vide") scale)) next.value) }
+    ensures { IfOk result (λ next. FollowsByEvent snapshot.now (IsBeginEvent rendition (init_bytes (codes "vide") scale)) next.value) }
 {
     let event = begin_event(alloc, rendition, b"vide", scale)?;
-    stepped(alloc, snapshot, event)
+    apply_event(alloc, snapshot, event)
 }
 
 /// With a unit of a rendition that has begun; its start and duration are in ticks.
@@ -52,10 +52,10 @@ pub fn with_unit(
     start: u64,
     ticks: u32,
 ) -> Result<Arc<Snapshot>, SampleFault>
-    ensures { IfOk result (λ next. IsAfter snapshot.now (Adds rendition (unit_of start ticks true 1000)) next.value) }
+    ensures { IfOk result (λ next. FollowsByEvent snapshot.now (IsAcceptEvent rendition (unit_bytes start ticks true 1000)) next.value) }
 {
     let event = accept_event(alloc, snapshot, rendition, start, ticks)?;
-    stepped(alloc, snapshot, event)
+    apply_event(alloc, snapshot, event)
 }
 
 /// With the init section of a video rendition, and units from one second to another.
@@ -67,7 +67,7 @@ pub fn with_units(
 ) -> Result<Arc<Snapshot>, SampleFault>
     ensures { IfOk result (λ next. length next.value.log ≡ length snapshot.now.log + 1 + length seconds.now) }
 {
-    let mut state = begun(alloc, snapshot, rendition, 90_000)?;
+    let mut state = begin_rendition(alloc, snapshot, rendition, 90_000)?;
     for &(from, to) in seconds {
         let ticks = to.saturating_sub(from).saturating_mul(90_000);
         state = with_unit(alloc, &state, rendition, u64::from(from) * 90_000, ticks)?;
@@ -90,12 +90,12 @@ pub const TEN_UNITS: [(u32, u32); 10] = [
 ];
 
 /// With a rendition that has begun at its end.
-pub fn finished(
+pub fn finish_rendition(
     alloc: Global,
     snapshot: &Snapshot,
     rendition: usize,
 ) -> Result<Arc<Snapshot>, SampleFault>
-    ensures { IfOk result (λ next. next.value ≡ advanced snapshot.now 0 (Finish rendition)) }
+    ensures { IfOk result (λ next. next.value ≡ state_with_entry snapshot.now 0 (Finish rendition)) }
 {
-    stepped(alloc, snapshot, Event::Finish { rendition })
+    apply_event(alloc, snapshot, Event::Finish { rendition })
 }

@@ -4,13 +4,13 @@ use Rattle.std.specs.Int.{to_be_bytes, w32}
 use Rattle.std.specs.List.{concat, flat_map}
 
 -- a number of 32 bits, its highest byte first
-abbrev pub word : ℕ → List ℕ
-word n = to_be_bytes w32 n
+abbrev pub u32_bytes : ℕ → List ℕ
+u32_bytes n = to_be_bytes w32 n
 
 -- 32-bit numbers, one after the other
-abbrev pub words : List ℕ → List ℕ
-words ns = flat_map word ns
+abbrev pub number_bytes : List ℕ → List ℕ
+number_bytes ns = flat_map u32_bytes ns
 
 -- a box: its size, its four-letter type, and its content in pieces (4.2)
 unfoldable pub box_of : List ℕ → List (List ℕ) → List ℕ
-box_of kind pieces = word (8 + length (concat pieces)) ++ kind ++ concat pieces
+box_of kind pieces = u32_bytes (8 + length (concat pieces)) ++ kind ++ concat pieces

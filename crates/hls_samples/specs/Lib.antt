@@ -1,3 +1,3 @@
 pub mod Boxes
 pub mod Init
-pub mod Unit
+pub mod UnitBytes

@@ -2,7 +2,7 @@
 
 ghost use Rattle.std.specs.Prelude.{◌≡◌, ◌+◌, ◌*◌, ◌^◌, ◌<◌, [], ◌∷◌, length, map, IfOk};
 ghost use Rattle.std.specs.List.{concat};
-ghost use Rattle.hls_samples.specs.Boxes.{words, box_of};
+ghost use Rattle.hls_samples.specs.Boxes.{number_bytes, box_of};
 
 use std::alloc::{AllocError, Global};
 
@@ -10,12 +10,12 @@ use std::alloc::{AllocError, Global};
 ///
 /// A box that holds others takes their bytes as pieces: every other builder stands on this one.
 #[tactic(auto, unfolding(crate::specs::Boxes::box_of))]
-pub fn boxed(alloc: Global, kind: &[u8; 4], pieces: &[&[u8]]) -> Result<Vec<u8>, AllocError>
+pub fn box_bytes(alloc: Global, kind: &[u8; 4], pieces: &[&[u8]]) -> Result<Vec<u8>, AllocError>
     requires { 8 + length (concat (map (λ p. p.now) pieces.now)) < 2 ^ 32 }
     ensures bytes { IfOk result (λ v. v.items ≡ box_of kind.now (map (λ p. p.now) pieces.now)) }
     ensures len { IfOk result (λ v. length v.items ≡ 8 + length (concat (map (λ p. p.now) pieces.now))) }
 {
-    let content = joined(alloc, pieces)?;
+    let content = concat_pieces(alloc, pieces)?;
     let size = 8 + content.len() as u32;
     let mut bytes = Vec::new(alloc);
     bytes.extend_from_slice(&size.to_be_bytes())?;
@@ -25,18 +25,18 @@ pub fn boxed(alloc: Global, kind: &[u8; 4], pieces: &[&[u8]]) -> Result<Vec<u8>,
 }
 
 /// A box of 32-bit numbers; in a full box the first is its version (8 bits) and flags (24 bits).
-pub fn word_box(alloc: Global, kind: &[u8; 4], numbers: &[u32]) -> Result<Vec<u8>, AllocError>
+pub fn number_box(alloc: Global, kind: &[u8; 4], numbers: &[u32]) -> Result<Vec<u8>, AllocError>
     requires { 8 + 4 * length numbers.now < 2 ^ 32 }
-    ensures bytes { IfOk result (λ v. v.items ≡ box_of kind.now (words numbers.now ∷ [])) }
+    ensures bytes { IfOk result (λ v. v.items ≡ box_of kind.now (number_bytes numbers.now ∷ [])) }
     ensures len { IfOk result (λ v. length v.items ≡ 8 + 4 * length numbers.now) }
 {
     let content = number_bytes(alloc, numbers)?;
-    boxed(alloc, kind, &[&content])
+    box_bytes(alloc, kind, &[&content])
 }
 
 // 32-bit numbers, one after the other.
 pub(crate) fn number_bytes(alloc: Global, numbers: &[u32]) -> Result<Vec<u8>, AllocError>
-    ensures bytes { IfOk result (λ v. v.items ≡ words numbers.now) }
+    ensures bytes { IfOk result (λ v. v.items ≡ number_bytes numbers.now) }
     ensures len { IfOk result (λ v. length v.items ≡ 4 * length numbers.now) }
 {
     let mut bytes = Vec::new(alloc);
@@ -47,7 +47,7 @@ pub(crate) fn number_bytes(alloc: Global, numbers: &[u32]) -> Result<Vec<u8>, Al
 }
 
 // The pieces, one after the other.
-fn joined(alloc: Global, pieces: &[&[u8]]) -> Result<Vec<u8>, AllocError>
+fn concat_pieces(alloc: Global, pieces: &[&[u8]]) -> Result<Vec<u8>, AllocError>
     ensures { IfOk result (λ v. v.items ≡ concat (map (λ p. p.now) pieces.now)) }
 {
     let mut bytes = Vec::new(alloc);

@@ -1,25 +1,25 @@
 //! An init section.
 
 ghost use Rattle.std.specs.Prelude.{◌≡◌, length, IfOk};
-ghost use Rattle.hls_samples.specs.Init.{ftyp, tkhd, mdia, trak, trex, free, moov, init_of};
+ghost use Rattle.hls_samples.specs.Init.{ftyp, tkhd, mdia, trak, trex, free, moov, init_bytes};
 
-use crate::boxes::{boxed, number_bytes, word_box};
+use crate::boxes::{box_bytes, number_box, number_bytes};
 use std::alloc::{AllocError, Global};
 
 /// An init section of 600 bytes: `ftyp`, a `free` box of zeros, and a `moov` of one track, number 1,
 /// with this four-letter handler and timescale (ticks a second).
 pub fn init_bytes(alloc: Global, handler: &[u8; 4], scale: u32) -> Result<Vec<u8>, AllocError>
-    ensures bytes { IfOk result (λ v. v.items ≡ init_of handler.now scale) }
+    ensures bytes { IfOk result (λ v. v.items ≡ init_bytes handler.now scale) }
     ensures len { IfOk result (λ v. length v.items ≡ 600) }
 {
-    let mut bytes = brand_box(alloc)?;
-    bytes.extend_from_slice(&spare_box(alloc)?)?;
-    bytes.extend_from_slice(&movie_box(alloc, handler, scale)?)?;
+    let mut bytes = ftyp_box(alloc)?;
+    bytes.extend_from_slice(&free_box(alloc)?)?;
+    bytes.extend_from_slice(&moov_box(alloc, handler, scale)?)?;
     Ok(bytes)
 }
 
 /// The `trak` box of a track's number, four-letter handler and timescale (ticks a second).
-pub fn track_box(
+pub fn trak_box(
     alloc: Global,
     track: u32,
     handler: &[u8; 4],
@@ -28,56 +28,56 @@ pub fn track_box(
     ensures bytes { IfOk result (λ v. v.items ≡ trak track handler.now scale) }
     ensures len { IfOk result (λ v. length v.items ≡ 173) }
 {
-    let header = header_box(alloc, track)?;
-    let media = media_box(alloc, handler, scale)?;
-    boxed(alloc, b"trak", &[&header, &media])
+    let header = tkhd_box(alloc, track)?;
+    let media = mdia_box(alloc, handler, scale)?;
+    box_bytes(alloc, b"trak", &[&header, &media])
 }
 
 /// The `trex` box of a track without defaults.
-pub fn defaults_box(alloc: Global, track: u32) -> Result<Vec<u8>, AllocError>
+pub fn trex_box(alloc: Global, track: u32) -> Result<Vec<u8>, AllocError>
     ensures bytes { IfOk result (λ v. v.items ≡ trex track) }
     ensures len { IfOk result (λ v. length v.items ≡ 32) }
 {
-    word_box(alloc, b"trex", &[0, track, 1, 0, 0, 0])
+    number_box(alloc, b"trex", &[0, track, 1, 0, 0, 0])
 }
 
-fn brand_box(alloc: Global) -> Result<Vec<u8>, AllocError>
+fn ftyp_box(alloc: Global) -> Result<Vec<u8>, AllocError>
     ensures bytes { IfOk result (λ v. v.items ≡ ftyp) }
     ensures len { IfOk result (λ v. length v.items ≡ 16) }
 {
-    boxed(alloc, b"ftyp", &[b"isom", &[0; 4]])
+    box_bytes(alloc, b"ftyp", &[b"isom", &[0; 4]])
 }
 
-fn spare_box(alloc: Global) -> Result<Vec<u8>, AllocError>
+fn free_box(alloc: Global) -> Result<Vec<u8>, AllocError>
     ensures bytes { IfOk result (λ v. v.items ≡ free) }
     ensures len { IfOk result (λ v. length v.items ≡ 363) }
 {
-    boxed(alloc, b"free", &[&[0; 355]])
+    box_bytes(alloc, b"free", &[&[0; 355]])
 }
 
-fn movie_box(alloc: Global, handler: &[u8; 4], scale: u32) -> Result<Vec<u8>, AllocError>
+fn moov_box(alloc: Global, handler: &[u8; 4], scale: u32) -> Result<Vec<u8>, AllocError>
     ensures bytes { IfOk result (λ v. v.items ≡ moov handler.now scale) }
     ensures len { IfOk result (λ v. length v.items ≡ 221) }
 {
-    let track = track_box(alloc, 1, handler, scale)?;
-    let defaults = defaults_box(alloc, 1)?;
-    let extends = boxed(alloc, b"mvex", &[&defaults])?;
-    boxed(alloc, b"moov", &[&track, &extends])
+    let track = trak_box(alloc, 1, handler, scale)?;
+    let defaults = trex_box(alloc, 1)?;
+    let extends = box_bytes(alloc, b"mvex", &[&defaults])?;
+    box_bytes(alloc, b"moov", &[&track, &extends])
 }
 
-fn header_box(alloc: Global, track: u32) -> Result<Vec<u8>, AllocError>
+fn tkhd_box(alloc: Global, track: u32) -> Result<Vec<u8>, AllocError>
     ensures bytes { IfOk result (λ v. v.items ≡ tkhd track) }
     ensures len { IfOk result (λ v. length v.items ≡ 92) }
 {
     let numbers = number_bytes(alloc, &[3, 0, 0, track])?;
-    boxed(alloc, b"tkhd", &[&numbers, &[0; 68]])
+    box_bytes(alloc, b"tkhd", &[&numbers, &[0; 68]])
 }
 
-fn media_box(alloc: Global, handler: &[u8; 4], scale: u32) -> Result<Vec<u8>, AllocError>
+fn mdia_box(alloc: Global, handler: &[u8; 4], scale: u32) -> Result<Vec<u8>, AllocError>
     ensures bytes { IfOk result (λ v. v.items ≡ mdia handler.now scale) }
     ensures len { IfOk result (λ v. length v.items ≡ 73) }
 {
-    let times = word_box(alloc, b"mdhd", &[0, 0, 0, scale, 0, 0x55c4_0000])?;
-    let kind = boxed(alloc, b"hdlr", &[&[0; 8], handler, &[0; 13]])?;
-    boxed(alloc, b"mdia", &[&times, &kind])
+    let times = number_box(alloc, b"mdhd", &[0, 0, 0, scale, 0, 0x55c4_0000])?;
+    let kind = box_bytes(alloc, b"hdlr", &[&[0; 8], handler, &[0; 13]])?;
+    box_bytes(alloc, b"mdia", &[&times, &kind])
 }

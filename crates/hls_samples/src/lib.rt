@@ -5,6 +5,6 @@ mod boxes;
 mod init;
 mod unit;
 
-pub use boxes::{boxed, word_box};
-pub use init::{defaults_box, init_bytes, track_box};
+pub use boxes::{box_bytes, number_box};
+pub use init::{init_bytes, trak_box, trex_box};
 pub use unit::unit_bytes;

@@ -3,24 +3,24 @@ use Rattle.std.proofs.Common.{◌≡◌, ◌∙◌, ℕ, ◌<◌, Bool, true, fa
 use Rattle.std.proofs.lemmas.List.{nil_from_length, take-append-drop}
 use Rattle.std.specs.Io.KnownBytes.{Consumes, IsAtEnd}
 use Rattle.bytes.specs.Unread.{IsChunkOf}
-use Rattle.hls_io.specs.{Rose.Rose, Writing.Writes}
+use Rattle.hls_io.specs.{Failures.FailuresRose, Writing.Writes}
 use Rattle.hls_http.proofs.Callers.{writes_whole}
 use Rattle.hls_http_laws.specs.declared.end.SessionEnd.{SessionEnd}
 use Rattle.hls_http_laws.specs.declared.end.SessionEnd.TheVariants as ends
 use Rattle.hls_core_laws.specs.{IsState.IsState}
-use Rattle.hls_serve_laws.specs.Acts.{Act, Chain, Knowledge}
-use Rattle.hls_serve_laws.specs.Meanwhile.{Meanwhile}
-use Rattle.hls_serve_laws.specs.Connections.{Stage, Over}
-use Rattle.hls_serve_laws.specs.Sessions.{EndsSo, GoesOn, Session}
+use Rattle.hls_serve_laws.specs.Acts.{Act, AreActSteps, Knowledge}
+use Rattle.hls_serve_laws.specs.OtherActors.{OtherActors}
+use Rattle.hls_serve_laws.specs.ConnectionStates.{Stage, Over}
+use Rattle.hls_serve_laws.specs.Sessions.{EndsSession, IsNotOver, Session}
 use Rattle.hls_serve_laws.proofs.Callers.{acted_on}
-use Rattle.hls_serve.specs.{declared.ending.Ending.Ending, declared.place.Idle.Idle, Endings.end_of}
-use Rattle.hls_serve.specs.declared.ending.Ending.TheVariants as own
-use Rattle.hls_serve.specs.declared.machine.State.TheVariants as states
-use Rattle.hls_serve.specs.declared.place.Place.TheVariants as places
-use Rattle.hls_serve.specs.Machine.{GoesOnIn, IsOver, LacksMore, stage_of, total}
-use Rattle.hls_serve.specs.Places.{IsFresh, connection_of}
-use Rattle.hls_serve.specs.Moments.{Ended, Led, Moment}
-use Rattle.hls_serve.specs.Talks.{Advances, Connection, RestsAt, WantsMore, hears, history_of, sends}
+use Rattle.hls_serve.specs.{declared.machine_end.MachineEnd.MachineEnd, declared.connection_memory.IdleConnection.IdleConnection, MachineEnds.end_of}
+use Rattle.hls_serve.specs.declared.machine_end.MachineEnd.TheVariants as own
+use Rattle.hls_serve.specs.declared.machine.MachineState.TheVariants as states
+use Rattle.hls_serve.specs.declared.connection_memory.ConnectionMemory.TheVariants as places
+use Rattle.hls_serve.specs.Machine.{IsNotOverIn, IsOver, LacksMore, stage_of, all_acts}
+use Rattle.hls_serve.specs.Memory.{IsFresh, trace_of}
+use Rattle.hls_serve.specs.Moments.{HasRunToEnd, HasRun, SessionMoment}
+use Rattle.hls_serve.specs.Traces.{Advances, ConnectionTrace, TraceIsIdleOrBlocked, WantsMore, trace_after_read, history_of, trace_after_send}
 use Rattle.hls_serve.proofs.HoldLaws.{holds_more, holds_sent, served_of}
 use Rattle.hls_serve.proofs.TalkLaws.{idle_holds, suited_new}
 
@@ -38,35 +38,35 @@ chunk_first waiting chunk is = sym (take-append-drop (length chunk) waiting) ∙
 -- ---- it goes on
 
 -- from its beginning, where nothing came but what was held
-pub led_first : (between : Meanwhile) (m : Moment) (i : Idle) → IsFresh i → m.at ≡ hears (connection_of (places.Idle i)) m.at.unread false → IsState m.known.seen
-    → i.renditions ≡ length m.known.seen.config.renditions → Led between m m
+pub led_first : (between : OtherActors) (m : SessionMoment) (i : IdleConnection) → IsFresh i → m.at ≡ trace_after_read (trace_of (places.Idle i)) m.at.unread false → IsState m.known.seen
+    → i.renditions ≡ length m.known.seen.config.renditions → HasRun between m m
 led_first between m i fresh is valid count =
-    let nothing : total (connection_of (places.Idle i)).machine ≡ [] = rw fresh.asked in
-    subst (λ (c : Connection). Led between m (record m { at = c })) (sym is) (record {
-      asked = (suited_new valid count nothing, count, ([], nothing, refl));
+    let nothing : all_acts (trace_of (places.Idle i)).machine ≡ [] = rw fresh.past_acts in
+    subst (λ (c : ConnectionTrace). HasRun between m (record m { at = c })) (sym is) (record {
+      past_acts = (suited_new valid count nothing, count, ([], nothing, refl));
       holds = holds_more m.at.unread false tt (idle_holds i fresh);
-      came = λ input known. (input, known, rw fresh.came refl, λ never. absurd (cc));
-      written = λ out known. rw fresh.gone (known ∙ ap Some (sym (append-nil out)));
+      read_log = λ input known. (input, known, rw fresh.read_log refl, λ never. absurd (cc));
+      written = λ out known. rw fresh.write_log (known ∙ ap Some (sym (append-nil out)));
       quiet = (refl, refl);
     })
 
-pub led_advances : {between : Meanwhile} {first m : Moment} {b : Knowledge} {c : Connection} → Led between first m → Advances between m.known m.at b c → Led between first (record m { at = c; known = b })
+pub led_advances : {between : OtherActors} {first m : SessionMoment} {b : Knowledge} {c : ConnectionTrace} → HasRun between first m → Advances between m.known m.at b c → HasRun between first (record m { at = c; known = b })
 led_advances {between} {first} {m} {b} {c} x y = record {
-  asked = (y.suits, y.renditions ∙ x.asked.1, acted_on between first.known m.known b [] (total m.at.machine) (total c.machine) x.asked.2 y.acted);
+  past_acts = (y.suits, y.renditions ∙ x.past_acts.1, acted_on between first.known m.known b [] (all_acts m.at.machine) (all_acts c.machine) x.past_acts.2 y.acted);
   holds = y.holds x.holds;
-  came = rw (y.quiet.received, y.quiet.ended) x.came;
+  read_log = rw (y.quiet.received, y.quiet.ended) x.read_log;
   written = rw y.quiet.sent x.written;
   quiet = x.quiet;
 }
 
-pub led_hears : {between : Meanwhile} {first m : Moment} {now : Connection} (more : List ℕ) (ended : Bool) {left : Option (List ℕ)} {reads : ℕ} → now ≡ hears m.at more ended → GoesOnIn m.at.machine.state
-    → Consumes m.left left more → (IsTrue ended → IsAtEnd left) → reads ≡ m.reads → Led between first m → Led between first (record m { at = now; left = left; reads = reads })
+pub led_hears : {between : OtherActors} {first m : SessionMoment} {now : ConnectionTrace} (more : List ℕ) (ended : Bool) {left : Option (List ℕ)} {reads : ℕ} → now ≡ trace_after_read m.at more ended → IsNotOverIn m.at.machine.state
+    → Consumes m.left left more → (IsTrue ended → IsAtEnd left) → reads ≡ m.reads → HasRun between first m → HasRun between first (record m { at = now; left = left; reads = reads })
 led_hears {between} {first} {m} more ended {left} {reads} is going consumes at_end same x =
-    subst (λ (c : Connection). Led between first (record m { at = c; left = left; reads = reads })) (sym is) (record {
-      asked = x.asked;
+    subst (λ (c : ConnectionTrace). HasRun between first (record m { at = c; left = left; reads = reads })) (sym is) (record {
+      past_acts = x.past_acts;
       holds = holds_more more ended going x.holds;
-      came = λ input known.
-          let was = x.came input known in
+      read_log = λ input known.
+          let was = x.read_log input known in
           let now = left_of was.0 more left (rw was.1 at consumes) in
           let all = was.2 ∙ ap (λ (t : List ℕ). m.at.received ++ t) now.2 ∙ sym (append_assoc m.at.received more now.0) in
           (now.0, now.1, all, λ over. rw now.1 at (at_end over));
@@ -75,53 +75,53 @@ led_hears {between} {first} {m} more ended {left} {reads} is going consumes at_e
     })
 
 -- so much of what waits was handed out, and written
-led_sent : {between : Meanwhile} {first m : Moment} (gone waits : List ℕ) {contents : Option (List ℕ)} {writes : ℕ} → m.at.machine.output ≡ gone ++ waits
-    → ((held : List ℕ) → m.contents ≡ Some held → contents ≡ Some (held ++ gone)) → writes ≡ m.writes → Led between first m
-    → Led between first (record m { at = record m.at { machine = record m.at.machine { output = waits }; sent = m.at.sent ++ gone }; contents = contents; writes = writes })
-led_sent {between} {first} {m} gone waits is wrote same x = record {
-  asked = x.asked;
-  holds = holds_sent gone waits is x.holds;
-  came = x.came;
-  written = λ out known. wrote (out ++ m.at.sent) (x.written out known) ∙ ap Some (append_assoc out m.at.sent gone);
+led_sent : {between : OtherActors} {first m : SessionMoment} (write_log waits : List ℕ) {contents : Option (List ℕ)} {writes : ℕ} → m.at.machine.output ≡ write_log ++ waits
+    → ((held : List ℕ) → m.contents ≡ Some held → contents ≡ Some (held ++ write_log)) → writes ≡ m.writes → HasRun between first m
+    → HasRun between first (record m { at = record m.at { machine = record m.at.machine { output = waits }; sent = m.at.sent ++ write_log }; contents = contents; writes = writes })
+led_sent {between} {first} {m} write_log waits is wrote same x = record {
+  past_acts = x.past_acts;
+  holds = holds_sent write_log waits is x.holds;
+  read_log = x.read_log;
+  written = λ out known. wrote (out ++ m.at.sent) (x.written out known) ∙ ap Some (append_assoc out m.at.sent write_log);
   quiet = (x.quiet.0, same ∙ x.quiet.1);
 }
 
-pub led_sends : {between : Meanwhile} {first m : Moment} {now : Connection} (chunk : List ℕ) {contents : Option (List ℕ)} {writes : ℕ} → now ≡ sends m.at (length chunk) → IsChunkOf chunk m.at.machine.output
-    → ((held : List ℕ) → m.contents ≡ Some held → Writes held chunk contents true) → writes ≡ m.writes → Led between first m
-    → Led between first (record m { at = now; contents = contents; writes = writes })
+pub led_sends : {between : OtherActors} {first m : SessionMoment} {now : ConnectionTrace} (chunk : List ℕ) {contents : Option (List ℕ)} {writes : ℕ} → now ≡ trace_after_send m.at (length chunk) → IsChunkOf chunk m.at.machine.output
+    → ((held : List ℕ) → m.contents ≡ Some held → Writes held chunk contents true) → writes ≡ m.writes → HasRun between first m
+    → HasRun between first (record m { at = now; contents = contents; writes = writes })
 led_sends {between} {first} {m} chunk {contents} {writes} sent is wrote same x =
     let waiting = m.at.machine.output in
-    subst (λ (c : Connection). Led between first (record m { at = c; contents = contents; writes = writes })) (sym sent)
+    subst (λ (c : ConnectionTrace). HasRun between first (record m { at = c; contents = contents; writes = writes })) (sym sent)
     (led_sent (take (length chunk) waiting) (drop (length chunk) waiting) (sym (take-append-drop (length chunk) waiting))
     (λ held known. rw is.front (writes_whole held chunk contents (wrote held known))) same x)
 
 -- ---- it ends
 
-session_of : {between : Meanwhile} {first m : Moment} (end : SessionEnd) → EndsSo end (stage_of m.at.machine.state) m.at.machine.output → Led between first m
+session_of : {between : OtherActors} {first m : SessionMoment} (end : SessionEnd) → EndsSession end (stage_of m.at.machine.state) m.at.machine.output → HasRun between first m
     → (input out : List ℕ) → first.left ≡ Some input → first.contents ≡ Some out → Session between first.known (first.at.unread ++ input) out m.contents m.known end
 session_of {between} {first} {m} end so x input out known there =
-    let came = x.came input known in
+    let read_log = x.read_log input known in
     record {
       stage = stage_of m.at.machine.state;
       history = history_of m.at;
-      served = rw x.asked.1 at (served_of x.holds);
-      later = came.0;
-      received = came.2;
-      at_end = came.3;
+      served = rw x.past_acts.1 at (served_of x.holds);
+      later = read_log.0;
+      received = read_log.2;
+      at_end = read_log.3;
       written = x.written out there;
-      leads = subst (λ (acts : List Act). Chain between first.known acts m.known) (sym x.asked.2.1) x.asked.2.2;
+      act_steps = subst (λ (acts : List Act). AreActSteps between first.known acts m.known) (sym x.past_acts.2.1) x.past_acts.2.2;
       ends = so;
     }
 
 -- by a failed read
-pub ended_unread : {between : Meanwhile} {first m : Moment} {reads : ℕ} → WantsMore m.at → Rose m.reads reads → Led between first m → Ended between first (record m { reads = reads }) ends.ReadFailed
+pub ended_unread : {between : OtherActors} {first m : SessionMoment} {reads : ℕ} → WantsMore m.at → FailuresRose m.reads reads → HasRun between first m → HasRunToEnd between first (record m { reads = reads }) ends.ReadFailed
 ended_unread {m} wants rose x =
     (session_of ends.ReadFailed (wants.2, nil_from_length m.at.machine.output wants.1) x, (rw x.quiet.0 at rose, x.quiet.1))
 
 -- by a failed write, behind a beginning of what waits first
-pub ended_unwritten : {between : Meanwhile} {first m : Moment} (chunk : List ℕ) (contents : Option (List ℕ)) (writes : ℕ) → IsChunkOf chunk m.at.machine.output
-    → ((held : List ℕ) → m.contents ≡ Some held → Writes held chunk contents false) → Rose m.writes writes → Led between first m
-    → Ended between first (record m { contents = contents; writes = writes }) ends.WriteFailed
+pub ended_unwritten : {between : OtherActors} {first m : SessionMoment} (chunk : List ℕ) (contents : Option (List ℕ)) (writes : ℕ) → IsChunkOf chunk m.at.machine.output
+    → ((held : List ℕ) → m.contents ≡ Some held → Writes held chunk contents false) → FailuresRose m.writes writes → HasRun between first m
+    → HasRunToEnd between first (record m { contents = contents; writes = writes }) ends.WriteFailed
 ended_unwritten {first} {m} chunk contents writes is wrote rose x =
     let rest = drop (length chunk) m.at.machine.output in (
       (λ input out known there.
@@ -135,10 +135,10 @@ ended_unwritten {first} {m} chunk contents writes is wrote rose x =
     )
 
 -- by the connection itself, where all was handed out
-pub ended_itself : {between : Meanwhile} {first m : Moment} (end : Ending) → m.at.machine.state ≡ states.Over end → length m.at.machine.output ≡ 0 → Led between first m → Ended between first m (end_of end)
+pub ended_itself : {between : OtherActors} {first m : SessionMoment} (end : MachineEnd) → m.at.machine.state ≡ states.Ended end → length m.at.machine.output ≡ 0 → HasRun between first m → HasRunToEnd between first m (end_of end)
 ended_itself {between} {first} {m} end over empty x = by end (ap stage_of over, nil_from_length m.at.machine.output empty)
   where
-    by : (end : Ending) → (stage_of m.at.machine.state ≡ Over (end_of end)) × (m.at.machine.output ≡ []) → Ended between first m (end_of end)
+    by : (end : MachineEnd) → (stage_of m.at.machine.state ≡ Over (end_of end)) × (m.at.machine.output ≡ []) → HasRunToEnd between first m (end_of end)
     by own.Closed is = (session_of ends.Closed is x, x.quiet)
     by own.Refused is = (session_of ends.Refused is x, x.quiet)
     by own.CutShort is = (session_of ends.CutShort is x, x.quiet)
@@ -146,14 +146,14 @@ ended_itself {between} {first} {m} end over empty x = by end (ap stage_of over, 
 -- ---- a connection that waits for more
 
 -- it waits since nothing is to be handed out and the input goes on; nothing can be done with what is unread, and there is room
-pub rests_before : (c : Connection) → length c.machine.output ≡ 0 → GoesOnIn c.machine.state → RestsAt c → IsFalse c.ended × LacksMore c.machine.state c.unread × (length c.unread < 16384)
+pub rests_before : (c : ConnectionTrace) → length c.machine.output ≡ 0 → IsNotOverIn c.machine.state → TraceIsIdleOrBlocked c → IsFalse c.ended × LacksMore c.machine.state c.unread × (length c.unread < 16384)
 rests_before c empty going (inl some) = absurd (omega (arith, empty, some))
 rests_before c empty going (inr (inl over)) = absurd (not_both (stage_of c.machine.state) going over)
   where
-    not_both : (stage : Stage) → GoesOn stage → IsOver stage → ⊥
+    not_both : (stage : Stage) → IsNotOver stage → IsOver stage → ⊥
     not_both (Over end) going over = going
     not_both stage going over = over
 rests_before c empty going (inr (inr waits)) = (waits.0, waits.2, waits.1)
 
-pub rests_open : (c : Connection) → length c.machine.output ≡ 0 → GoesOnIn c.machine.state → RestsAt c → WantsMore c
-rests_open c empty going rests = let waits = rests_before c empty going rests in (waits.0, empty, going, omega (arith, waits.2))
+pub rests_open : (c : ConnectionTrace) → length c.machine.output ≡ 0 → IsNotOverIn c.machine.state → TraceIsIdleOrBlocked c → WantsMore c
+rests_open c empty going idle_or_blocked = let waits = rests_before c empty going idle_or_blocked in (waits.0, empty, going, omega (arith, waits.2))

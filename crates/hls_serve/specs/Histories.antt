@@ -1,7 +1,7 @@
 -- What becomes of a connection's history.
 use Rattle.std.specs.Prelude.{◌≡◌, ℕ, false, List, [], ◌++◌, ◌==◌, length, take, drop, Option}
 use Rattle.std.specs.Io.KnownBytes.{Consumes, IsAtEnd, Keeps}
-use Rattle.hls_serve_laws.specs.Connections.{History}
+use Rattle.hls_serve_laws.specs.ConnectionStates.{History}
 
 -- nothing came and nothing was asked
 abbrev pub new_history : History
@@ -16,13 +16,13 @@ abbrev pub after_sent : History → ℕ → History
 after_sent h count = record h { sent = h.sent ++ take count h.pending; pending = drop count h.pending }
 
 -- a read brought so many bytes of what was still to come, none only at its end
-abbrev pub Reads : History → History → Option (List ℕ) → Option (List ℕ) → ℕ → Type 0
-Reads old new before left n =
+abbrev pub HasRead : History → History → Option (List ℕ) → Option (List ℕ) → ℕ → Type 0
+HasRead old new before left n =
     (more : List ℕ) × (length more ≡ n) × Consumes before left more × (new ≡ after_read old more) × (n ≡ 0 → IsAtEnd left)
 
 -- a read failed, and nothing has changed
-abbrev pub ReadsInVain : History → History → Option (List ℕ) → Option (List ℕ) → Type 0
-ReadsInVain old new before left = (new ≡ old) × Keeps before left
+abbrev pub FailsToRead : History → History → Option (List ℕ) → Option (List ℕ) → Type 0
+FailsToRead old new before left = (new ≡ old) × Keeps before left
 
 -- nothing was read and nothing handed out
 pub record StaysQuiet (old new : History) : Type 0 where

@@ -1,11 +1,11 @@
 //! A channel kept on one thread, with its jobs.
 
 ghost use Rattle.std.specs.Prelude.{◌≡◌};
-ghost use Rattle.hls_core_laws.specs.{Known.Submits, Moves.IsFittingAsSeen};
-ghost use Rattle.hls_serve_laws.specs.{Acts.knows, Meanwhile.Met, Meanwhile.Nobody};
+ghost use Rattle.hls_core_laws.specs.{PassView.Submits, Moves.IsFittingAsSeen};
+ghost use Rattle.hls_serve_laws.specs.{Acts.knowledge_of, OtherActors.HasMet, OtherActors.Nobody};
 ghost use Rattle.hls_serve.specs.Alone.{known_alone};
 
-use crate::acts::{Acts, Noted};
+use crate::act_log::{ActLog, ActNote};
 use crate::keeper::Keeper;
 use hls_catchup::{Job, JobFault, JobTable, Request};
 use hls_core::snapshot::Snapshot;
@@ -14,7 +14,7 @@ use hls_core::stepped::Stepped;
 use hls_core_laws::done::Done;
 use hls_core_laws::event::Event;
 use hls_core_laws::refusal::Refusal;
-use hls_replies::{Answer, list_answer};
+use hls_replies::{Response, live_playlist_response};
 use http_server::Log;
 use std::alloc::{AllocError, Global};
 use std::sync::Arc;
@@ -32,7 +32,7 @@ pub struct Alone {
     /// The jobs.
     pub jobs: JobTable,
     /// What it was asked.
-    pub acts: Acts,
+    pub acts: ActLog,
 }
 
 /// Lets a state meet an event of the worker of this number, and puts the one that it leads to in its place.
@@ -44,7 +44,7 @@ fn meet(
 ) -> Result<Done, Refusal>
     requires { IsFittingAsSeen snapshot.old.value event }
     ensures submits { Submits (known_alone number snapshot.old.value) event result (known_alone number snapshot.new.value) }
-    ensures met { Met Nobody (known_alone number snapshot.old.value) event (known_alone number snapshot.new.value) }
+    ensures met { HasMet Nobody (known_alone number snapshot.old.value) event (known_alone number snapshot.new.value) }
 {
     let version = snapshot.version();
     match step(snapshot, alloc, number, event) {
@@ -60,15 +60,15 @@ fn meet(
 }
 
 impl Keeper for Alone {
-    ghost known = { λ alone. knows (known_alone alone.number alone.snapshot.value) alone.acts };
+    ghost known = { λ alone. knowledge_of (known_alone alone.number alone.snapshot.value) alone.acts };
 
-    ghost meanwhile = { Nobody };
+    ghost other_actors = { Nobody };
 
     fn alloc(&self) -> Global {
         self.alloc
     }
 
-    fn renditions(&self) -> usize {
+    fn rendition_count(&self) -> usize {
         let _ = self.snapshot.version();
         self.snapshot.config().renditions().len()
     }
@@ -79,35 +79,39 @@ impl Keeper for Alone {
         shown
     }
 
-    fn list(&mut self, state: Arc<Snapshot>, rendition: usize) -> Result<Answer, AllocError> {
-        list_answer(self.alloc, state, rendition)
+    fn live_playlist_response(
+        &mut self,
+        state: Arc<Snapshot>,
+        rendition: usize,
+    ) -> Result<Response, AllocError> {
+        live_playlist_response(self.alloc, state, rendition)
     }
 
     fn submit(&mut self, event: Event) -> Result<Done, Refusal> {
         let note = Log::new().and(&event, &());
         let done = meet(self.alloc, self.number, &mut self.snapshot, event);
-        self.acts.note(Noted::Submitted(note, done));
+        self.acts.push(ActNote::Submitted(note, done));
         done
     }
 
     fn add_job(&mut self, snapshot: Arc<Snapshot>, request: Request) -> Result<u64, JobFault> {
         let note = Log::new().and(&snapshot, &());
         let added = self.jobs.add(snapshot, request);
-        self.acts.note(Noted::Added(note, request, added));
+        self.acts.push(ActNote::Added(note, request, added));
         added
     }
 
-    fn job(&self, id: u64) -> Result<Job, JobFault> {
+    fn get_job(&self, id: u64) -> Result<Job, JobFault> {
         self.jobs.get(id)
     }
 
     fn remove_job(&mut self, id: u64) -> Result<(), JobFault> {
         let removed = self.jobs.remove(id);
-        self.acts.note(Noted::Removed(id, removed));
+        self.acts.push(ActNote::Removed(id, removed));
         removed
     }
 
-    fn jobs(&self) -> usize {
+    fn job_count(&self) -> usize {
         self.jobs.len()
     }
 }

@@ -2,28 +2,28 @@
 //! sessions.
 //!
 //! What a session is stands in `hls_serve_laws`. The channel is kept by a [`Keeper`](keeper::Keeper): by
-//! [`Alone`](alone::Alone) on one thread, by a [`Station`](station::Station) on each of many.
+//! [`Alone`](alone::Alone) on one thread, by a [`ChannelHandle`](channel_handle::ChannelHandle) on each of many.
 #![tactic(auto)]
 
-pub mod acts;
-mod after_body;
+pub mod act_log;
 pub mod alone;
-mod by_route;
-mod call;
-pub mod channel;
-mod dropping;
-mod ending;
-mod feeding;
-pub mod ingest;
+mod body_end;
+mod body_progress;
+pub mod channel_handle;
+pub mod connection;
+mod connection_memory;
+mod discarding_body;
+pub mod events;
+mod handlers;
+pub mod ingest_sink;
+mod ingesting_body;
 pub mod keeper;
 pub mod laws;
 mod machine;
-mod making;
-pub mod news;
-mod next;
-mod place;
-mod reply;
+mod machine_end;
+mod pending_response;
+mod request_context;
 pub mod session;
-pub mod station;
-mod talk;
-pub mod visit;
+pub mod shared_channel;
+mod traced_machine;
+mod writing_response;

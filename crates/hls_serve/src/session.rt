@@ -1,81 +1,84 @@
 //! Sessions.
 
-ghost use Rattle.hls_serve_laws.specs.{Acts.Knowledge, Meanwhile.Meanwhile};
-ghost use Rattle.hls_http.specs.Source.{held_of};
-ghost use Rattle.hls_serve.specs.{Counted.SessionCounts, Exchanges.Exchanges};
-ghost use Rattle.hls_serve.specs.Moments.{LeadsOn, moment};
-ghost use Rattle.hls_serve.specs.Talks.{IsSuitedTo, WantsMore, connection};
+ghost use Rattle.hls_serve_laws.specs.{Acts.Knowledge, OtherActors.OtherActors};
+ghost use Rattle.hls_http.specs.BufferedReader.{unread_of};
+ghost use Rattle.hls_serve.specs.{FailureCounts.SessionCounts, RunsSession.RunsSession};
+ghost use Rattle.hls_serve.specs.Moments.{ContinuesRun, moment};
+ghost use Rattle.hls_serve.specs.Traces.{IsSuitedTo, WantsMore, connection_trace};
 
+use crate::connection_memory::IdleConnection;
+use crate::events::Observer;
 use crate::keeper::Keeper;
-use crate::news::Observer;
-use crate::place::Idle;
-use crate::talk::Talk;
-use hls_http::{Filled, Session, SessionEnd, write_whole};
+use crate::traced_machine::TracedMachine;
+use hls_http::{ReadOutcome, Session, SessionEnd, write_whole};
 use std::io::{Read, Write};
 use std::sync::Wait;
 
 /// Writes the next bytes that wait; how the session ends where they can't be written.
-fn hand_out<R: Read, W: Write>(talk: &mut Talk, session: &mut Session<R, W>) -> Option<SessionEnd>
-    ensures { (m : Meanwhile) (known : Knowledge) → LeadsOn m (moment R.remaining W.contents talk.old session.old known) result
-        (moment R.remaining W.contents talk.new session.new known) }
+fn write_pending<R: Read, W: Write>(
+    traced: &mut TracedMachine,
+    session: &mut Session<R, W>,
+) -> Option<SessionEnd>
+    ensures { (m : OtherActors) (known : Knowledge) → ContinuesRun m (moment R.remaining W.contents traced.old session.old known) result
+        (moment R.remaining W.contents traced.new session.new known) }
 {
-    let next = talk.machine.output.chunk();
+    let next = traced.machine.output.chunk();
     if !write_whole(&mut session.writer, next) {
         return Some(SessionEnd::WriteFailed);
     }
     let count = next.len();
-    talk.sent(count);
+    traced.mark_sent(count);
     None
 }
 
 /// Reads what comes next; how the session ends where it can't be read.
-fn take_more<O: Observer, R: Read, W: Write>(
-    talk: &mut Talk,
+fn read_more<O: Observer, R: Read, W: Write>(
+    traced: &mut TracedMachine,
     session: &mut Session<R, W>,
     observer: &O,
 ) -> Option<SessionEnd>
-    requires wants { WantsMore (connection talk.old (held_of session.old.source)) }
-    ensures { (m : Meanwhile) (known : Knowledge) → LeadsOn m (moment R.remaining W.contents talk.old session.old known) result
-        (moment R.remaining W.contents talk.new session.new known) }
+    requires wants { WantsMore (connection_trace traced.old (unread_of session.old.source)) }
+    ensures { (m : OtherActors) (known : Knowledge) → ContinuesRun m (moment R.remaining W.contents traced.old session.old known) result
+        (moment R.remaining W.contents traced.new session.new known) }
 {
-    let before = session.source.held().len();
-    match session.source.fill() {
-        Filled::More => {
-            talk.hear(&session.source.input, before, false);
+    let before = session.source.unread().len();
+    match session.source.read_more() {
+        ReadOutcome::Data => {
+            traced.note_read(&session.source.input, before, false);
             None
         }
-        Filled::AtEnd => {
-            talk.hear(&session.source.input, before, true);
+        ReadOutcome::Eof => {
+            traced.note_read(&session.source.input, before, true);
             None
         }
-        Filled::Failed => {
-            talk.machine.fail(observer);
+        ReadOutcome::Failed => {
+            traced.machine.report_read_failure(observer);
             Some(SessionEnd::ReadFailed)
         }
     }
 }
 
 /// Goes on by one step: of the connection, of writing what waits, or of reading. How the session ends, where it does.
-fn turn<K: Keeper, O: Observer, R: Read, W: Write>(
-    talk: &mut Talk,
+fn step_session<K: Keeper, O: Observer, R: Read, W: Write>(
+    traced: &mut TracedMachine,
     session: &mut Session<R, W>,
     keeper: &mut K,
     observer: &O,
 ) -> Option<SessionEnd>
-    requires suits { IsSuitedTo (K.known keeper.old) talk.old.machine }
-    ensures { LeadsOn K.meanwhile (moment R.remaining W.contents talk.old session.old (K.known keeper.old)) result
-        (moment R.remaining W.contents talk.new session.new (K.known keeper.new)) }
+    requires suits { IsSuitedTo (K.known keeper.old) traced.old.machine }
+    ensures { ContinuesRun K.other_actors (moment R.remaining W.contents traced.old session.old (K.known keeper.old)) result
+        (moment R.remaining W.contents traced.new session.new (K.known keeper.new)) }
 {
-    if talk.advance(&mut session.source.input, keeper, observer) {
+    if traced.advance(&mut session.source.input, keeper, observer) {
         return None;
     }
-    if !talk.machine.output.is_empty() {
-        return hand_out(talk, session);
+    if !traced.machine.output.is_empty() {
+        return write_pending(traced, session);
     }
-    if let Some(end) = talk.machine.ending() {
-        return Some(end.end());
+    if let Some(end) = traced.machine.end() {
+        return Some(end.into_session_end());
     }
-    take_more(talk, session, observer)
+    read_more(traced, session, observer)
 }
 
 /// Serves the requests of a session, each to its reply before the next is looked at, up to the end of the input, a reply that
@@ -89,14 +92,14 @@ pub fn session_on<K: Keeper, O: Observer, T: Wait, R: Read, W: Write>(
     keeper: &mut K,
     observer: &O,
 ) -> SessionEnd
-    ensures session { Exchanges K.meanwhile R.remaining W.contents session.old session.new (K.known keeper.old) (K.known keeper.new) result }
+    ensures session { RunsSession K.other_actors R.remaining W.contents session.old session.new (K.known keeper.old) (K.known keeper.new) result }
     ensures counts { SessionCounts session.old session.new result }
 {
-    let idle = Idle::new(keeper.renditions());
-    let mut talk = idle.begin();
-    talk.hear(&session.source.input, 0, false);
+    let idle = IdleConnection::new(keeper.rendition_count());
+    let mut traced = idle.activate();
+    traced.note_read(&session.source.input, 0, false);
     for _ in rt.forever() {
-        if let Some(end) = turn(&mut talk, session, keeper, observer) {
+        if let Some(end) = step_session(&mut traced, session, keeper, observer) {
             return end;
         }
     }

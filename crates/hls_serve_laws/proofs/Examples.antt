@@ -1,24 +1,24 @@
 -- The definitions, computed on rows that tests don't show, or only within longer ones.
 use Rattle.std.proofs.Common.{◌≡◌, pos, false, [], ◌∷◌, ◌++◌, Some, None, Ok, refl, codes}
 use Rattle.std.specs.Fmt.{digits}
-use Rattle.hls_http_laws.specs.declared.range.Asked.TheVariants as ranges
-use Rattle.hls_text.specs.Digits.{number_of}
+use Rattle.hls_http_laws.specs.declared.range_spec.RangeSpec.TheVariants as ranges
+use Rattle.hls_text.specs.Digits.{number_of_digits}
 use Rattle.hls_catchup_laws.specs.declared.jobs.job.Job.TheVariants as told
-use Rattle.hls_serve_laws.specs.{declared.query.Moment.TheVariants.Instant, Queries.wanted_of, Routes.route_of}
+use Rattle.hls_serve_laws.specs.{declared.catchup_query.TimePoint.TheVariants.Instant, Queries.catchup_params_of, Routes.route_of}
 use Rattle.hls_serve_laws.specs.declared.route.Route.TheVariants as routes
 use Rattle.hls_serve_laws.specs.declared.route.JobFile.TheVariants as files
-use Rattle.hls_serve_laws.specs.JobReplies.{file_answer, resource_answer, told_answer}
-use Rattle.hls_serve_laws.specs.Replies.{answer_text, whole}
+use Rattle.hls_serve_laws.specs.JobResponses.{file_answer, resource_answer, job_answer}
+use Rattle.hls_serve_laws.specs.Responses.{answer_text, whole_range}
 
 leading_zero : route_of 2 (codes "/live/01.m3u8") ≡ None
 leading_zero = refl
 
 job_media : route_of 1 (codes "/job/12/0.mp4") ≡ Some (routes.JobFile 12 (files.Media 0))
-unfolding number_of
+unfolding number_of_digits
 job_media = refl
 
 -- a job that failed for memory has neither a line nor a file
-no_line : told_answer told.Failed ≡ None
+no_line : job_answer told.Failed ≡ None
 no_line = refl
 
 no_file : file_answer files.Certificate ranges.All told.Failed ≡ None
@@ -31,11 +31,11 @@ unfolding digits
 part = refl
 
 -- instants of 2024-01-01T00:00:05Z and :09Z, where time 0 is that day's beginning
-by_the_clock : wanted_of (Some (pos 1704067200000000)) (record { start = Instant (pos 1704067205000000); stop = Instant (pos 1704067209000000); preferred = None; charge = None })
+by_the_clock : catchup_params_of (Some (pos 1704067200000000)) (record { start = Instant (pos 1704067205000000); stop = Instant (pos 1704067209000000); preferred = None; charge = None })
     ≡ Ok (record { start_us = 5000000; stop_us = 9000000; preferred = None; charge = None })
 by_the_clock = refl
 
 -- a byte that is trimmed
-trimmed : whole (Some 1 ∷ None ∷ []) ≡ None
-unfolding whole
+trimmed : whole_range (Some 1 ∷ None ∷ []) ≡ None
+unfolding whole_range
 trimmed = refl

@@ -1,9 +1,9 @@
--- The statuses of the refusals of an encoder's body; their names are a stream's (`hls_feed/specs/Names.antt`).
+-- The statuses of the refusals of an encoder's body; their names are a stream's (`hls_feed/specs/FaultName.antt`).
 use Rattle.hls_boxes_laws.specs.declared.fault.BoxFault.TheVariants as boxes
 use Rattle.hls_media_laws.specs.declared.fault.MediaFault.TheVariants as media
 use Rattle.hls_core_laws.specs.declared.refusal.Refusal.TheVariants as core
-use Rattle.hls_feed.specs.declared.fault.StreamFault.TheVariants.{Boxes, Media, Core}
-use Rattle.hls_http_laws.specs.declared.reply.Status.TheVariants.{BadRequest, NotFound, Conflict, ContentTooLarge, Unavailable, InsufficientStorage}
+use Rattle.hls_feed.specs.declared.feed_fault.StreamFault.TheVariants.{Boxes, Media, Core}
+use Rattle.hls_http_laws.specs.declared.response_parts.Status.TheVariants.{BadRequest, NotFound, Conflict, ContentTooLarge, Unavailable, InsufficientStorage}
 use Rattle.hls_serve_laws.specs.Types.{Refusal, StreamFault, Status}
 
 -- what the channel's state doesn't allow is 409 (section 15.5.10), a full store 507 (RFC 4918, section 11.5)

@@ -4,23 +4,23 @@ use Rattle.std.specs.Prelude.{◌≡◌, ◌≢◌, ◌⊎◌, ℕ, nat_eq, ◌+
 use Rattle.std.specs.Fmt.{decimal}
 use Rattle.hls_boxes_laws.specs.declared.part.Part.{Part}
 use Rattle.hls_boxes_laws.specs.declared.part.Part.TheVariants as parts
-use Rattle.hls_feed.specs.declared.fault.StreamFault.TheVariants.{Boxes, Media, Core}
-use Rattle.hls_feed.specs.declared.fault.Untaken.{Untaken}
-use Rattle.hls_feed.specs.declared.fault.Untaken.TheVariants as untaken
-use Rattle.hls_feed.specs.Streams.{EndsSo, IsTaken, Refuses as RefusesAt, Wants}
+use Rattle.hls_feed.specs.declared.feed_fault.StreamFault.TheVariants.{Boxes, Media, Core}
+use Rattle.hls_feed.specs.declared.feed_fault.FeedFault.{FeedFault}
+use Rattle.hls_feed.specs.declared.feed_fault.FeedFault.TheVariants as feed_faults
+use Rattle.hls_feed.specs.Streams.{EndsStream, IsTaken, Refuses as RefusesAt, Wants}
 use Rattle.hls_media_laws.specs.{InitData.InitData, declared.facts.Facts.Facts, Inits.init_of, UnitFacts.facts}
-use Rattle.hls_media_laws.specs.Meaning.{IsInit, IsUnit}
+use Rattle.hls_media_laws.specs.IsInitOrUnit.{IsInit, IsUnit}
 use Rattle.hls_core_laws.specs.declared.event.Event.TheVariants.{Begin, Accept}
 use Rattle.hls_core_laws.specs.declared.refusal.Refusal.TheVariants.{NoInit, Memory}
-use Rattle.hls_core.specs.Reads.{recording_of}
+use Rattle.hls_core.specs.Getters.{recording_of}
 use Rattle.hls_core_laws.specs.declared.done.Done.TheVariants as done
-use Rattle.hls_http_laws.specs.declared.body.Body.TheVariants.{Length}
+use Rattle.hls_http_laws.specs.declared.framing.BodyFraming.TheVariants.{Length}
 use Rattle.hls_http_laws.specs.Bodies.{IsBroken, IsOpen}
 use Rattle.hls_http_laws.specs.declared.end.BodyEnd.TheVariants as bodies
-use Rattle.hls_serve_laws.specs.declared.ingest.Counts.{Counts}
-use Rattle.hls_serve_laws.specs.declared.ingest.Intake.TheVariants as came
-use Rattle.hls_serve_laws.specs.Acts.{Act, Looks, LooksAndSubmitsInVain, Submits}
-use Rattle.hls_serve_laws.specs.Types.{StreamFault, Refusal, State, Done, Body, BodyEnd, Intake}
+use Rattle.hls_serve_laws.specs.declared.ingest.IngestCounts.{IngestCounts}
+use Rattle.hls_serve_laws.specs.declared.ingest.IngestStop.TheVariants as ingest_stops
+use Rattle.hls_serve_laws.specs.Acts.{Act, RecordsLook, LooksAndFailsToSubmit, RecordsSubmit}
+use Rattle.hls_serve_laws.specs.Types.{StreamFault, Refusal, State, Done, BodyFraming, BodyEnd, IngestStop}
 
 -- ---- counts
 
@@ -28,16 +28,16 @@ use Rattle.hls_serve_laws.specs.Types.{StreamFault, Refusal, State, Done, Body, 
 abbrev pub one_more : ℕ → ℕ
 one_more n = min (n + 1) 18446744073709551615
 
-abbrev pub with_init : Done → Counts → Counts
+abbrev pub with_init : Done → IngestCounts → IngestCounts
 with_init (done.New version) c = record { inits = one_more c.inits; units = c.units; repeats = c.repeats }
 with_init done.Repeat c = record { inits = c.inits; units = c.units; repeats = one_more c.repeats }
 
-abbrev pub with_unit : Done → Counts → Counts
+abbrev pub with_unit : Done → IngestCounts → IngestCounts
 with_unit (done.New version) c = record { inits = c.inits; units = one_more c.units; repeats = c.repeats }
 with_unit done.Repeat c = record { inits = c.inits; units = c.units; repeats = one_more c.repeats }
 
 -- new init sections, new units, and what came again of either
-abbrev pub counts_text : Counts → List ℕ
+abbrev pub counts_text : IngestCounts → List ℕ
 counts_text c =
     codes "init " ++ (decimal c.inits ++ (codes " accepted " ++ (decimal c.units ++ (codes " repeated " ++ (decimal c.repeats ++ 10 ∷ [])))))
 
@@ -47,27 +47,27 @@ counts_text c =
 pub record Progress : Type 0 where
   pub acts : List Act
   pub init : Option InitData
-  pub counts : Counts
+  pub counts : IngestCounts
 
-abbrev pub begun : Progress
-begun = record { acts = []; init = None; counts = record { inits = 0; units = 0; repeats = 0 } }
+abbrev pub no_progress : Progress
+no_progress = record { acts = []; init = None; counts = record { inits = 0; units = 0; repeats = 0 } }
 
 -- at a body's first unit the state is looked at, once, for the rendition's init section, under which its units are read
-pub record LooksFor (r : ℕ) (x : Progress) (found : Option InitData) (z : List Act) : Type 0 where
+pub record LooksUpInit (r : ℕ) (x : Progress) (found : Option InitData) (z : List Act) : Type 0 where
   pub first : x.init ≡ None
   pub state : State
-  pub looks : Looks x.acts state z
+  pub looks : RecordsLook x.acts state z
   pub found_is : found ≡ option_map (λ rec. rec.init) (recording_of state r)
 
 abbrev pub FindsInit : ℕ → Progress → InitData → List Act → Type 0
-FindsInit r x init z = ((x.init ≡ Some init) × (z ≡ x.acts)) ⊎ LooksFor r x (Some init) z
+FindsInit r x init z = ((x.init ≡ Some init) × (z ≡ x.acts)) ⊎ LooksUpInit r x (Some init) z
 
 -- an init section that is new, or the rendition's own once more
 pub record TakesInit (r : ℕ) (x : Progress) (bytes : List ℕ) (y : Progress) : Type 0 where
   pub init : InitData
   pub reads : IsInit bytes init
   pub done : Done
-  pub submits : Submits x.acts (Begin r init bytes) (Ok done) y.acts
+  pub submits : RecordsSubmit x.acts (Begin r init bytes) (Ok done) y.acts
   pub kept : y.init ≡ x.init
   pub counts : y.counts ≡ with_init done x.counts
 
@@ -79,13 +79,13 @@ pub record TakesUnit (r : ℕ) (x : Progress) (bytes : List ℕ) (y : Progress) 
   pub facts : Facts
   pub reads : IsUnit init bytes facts
   pub done : Done
-  pub submits : Submits looked (Accept r facts bytes) (Ok done) y.acts
+  pub submits : RecordsSubmit looked (Accept r facts bytes) (Ok done) y.acts
   pub kept : y.init ≡ Some init
   pub counts : y.counts ≡ with_unit done x.counts
 
-abbrev pub Takes : ℕ → Progress → Part → Progress → Type 0
-Takes r x (parts.Init bytes) y = TakesInit r x bytes y
-Takes r x (parts.Unit bytes) y = TakesUnit r x bytes y
+abbrev pub TakesPart : ℕ → Progress → Part → Progress → Type 0
+TakesPart r x (parts.Init bytes) y = TakesInit r x bytes y
+TakesPart r x (parts.Unit bytes) y = TakesUnit r x bytes y
 
 -- ---- refusals
 
@@ -94,11 +94,11 @@ abbrev pub RefusesInit : ℕ → List Act → List ℕ → StreamFault → List 
 RefusesInit r before bytes (Boxes fault) z = ⊥
 RefusesInit r before bytes (Media fault) z = (init_of bytes ≡ Err fault) × (z ≡ before)
 RefusesInit r before bytes (Core refusal) z =
-    (refusal ≢ Memory) × ((init : InitData) × IsInit bytes init × Submits before (Begin r init bytes) (Err refusal) z)
+    (refusal ≢ Memory) × ((init : InitData) × IsInit bytes init × RecordsSubmit before (Begin r init bytes) (Err refusal) z)
 
 -- a unit before any init section
 pub record IsTooEarly (r : ℕ) (x : Progress) (refusal : Refusal) (z : List Act) : Type 0 where
-  pub looked : LooksFor r x None z
+  pub looked : LooksUpInit r x None z
   pub refusal_is : refusal ≡ NoInit
 
 -- a unit that the channel refuses
@@ -108,60 +108,60 @@ pub record RefusesUnitAt (r : ℕ) (x : Progress) (bytes : List ℕ) (refusal : 
   pub finds : FindsInit r x init looked
   pub facts : Facts
   pub reads : IsUnit init bytes facts
-  pub told : refusal ≢ Memory
-  pub submits : Submits looked (Accept r facts bytes) (Err refusal) z
+  pub not_memory : refusal ≢ Memory
+  pub submits : RecordsSubmit looked (Accept r facts bytes) (Err refusal) z
 
 abbrev pub RefusesUnit : ℕ → Progress → List ℕ → StreamFault → List Act → Type 0
 RefusesUnit r x bytes (Boxes fault) z = ⊥
 RefusesUnit r x bytes (Media fault) z = (init : InitData) × FindsInit r x init z × (facts init bytes ≡ Err fault)
 RefusesUnit r x bytes (Core refusal) z = IsTooEarly r x refusal z ⊎ RefusesUnitAt r x bytes refusal z
 
-abbrev pub Refuses : ℕ → Progress → Part → StreamFault → List Act → Type 0
-Refuses r x (parts.Init bytes) fault z = RefusesInit r x.acts bytes fault z
-Refuses r x (parts.Unit bytes) fault z = RefusesUnit r x bytes fault z
+abbrev pub RefusesPart : ℕ → Progress → Part → StreamFault → List Act → Type 0
+RefusesPart r x (parts.Init bytes) fault z = RefusesInit r x.acts bytes fault z
+RefusesPart r x (parts.Unit bytes) fault z = RefusesUnit r x bytes fault z
 
 -- what one part comes to: it is taken, or refused; where memory is wanted nothing comes of it, behind one look and one event at most
-abbrev pub PartComes : ℕ → Progress → Part → Progress → Result (Unit {0}) Untaken → Type 0
-PartComes r x part y (Ok taken) = Takes r x part y
-PartComes r x part y (Err (untaken.Refused fault)) = Refuses r x part fault y.acts × (y.counts ≡ x.counts)
-PartComes r x part y (Err untaken.Memory) = LooksAndSubmitsInVain x.acts y.acts
+abbrev pub HandlesPart : ℕ → Progress → Part → Progress → Result (Unit {0}) FeedFault → Type 0
+HandlesPart r x part y (Ok taken) = TakesPart r x part y
+HandlesPart r x part y (Err (feed_faults.Refused fault)) = RefusesPart r x part fault y.acts × (y.counts ≡ x.counts)
+HandlesPart r x part y (Err feed_faults.Memory) = LooksAndFailsToSubmit x.acts y.acts
 
 -- ---- a body, by the whole of its content
 
 -- why no more is taken of a body of which more may come
-abbrev pub intake_of : Untaken → Intake
-intake_of (untaken.Refused fault) = came.Refused fault
-intake_of untaken.Memory = came.Memory
+abbrev pub ingest_stop_of : FeedFault → IngestStop
+ingest_stop_of (feed_faults.Refused fault) = ingest_stops.Refused fault
+ingest_stop_of feed_faults.Memory = ingest_stops.Memory
 
 -- whether a body ends behind so many bytes of its content: by length it may. In chunks it never does, since the last chunk's line and
 -- the trailers are still to come
-abbrev pub ends_at : Body → ℕ → Bool
+abbrev pub ends_at : BodyFraming → ℕ → Bool
 ends_at (Length n) size = nat_eq size n
 ends_at _ size = false
 
 -- all of the content came, and its parts are taken: it is whole, or ends inside a part
-pub record IsEnded (r : ℕ) (content : List ℕ) (last : Body) (y : Progress) (result : Result (Unit {0}) StreamFault) : Type 0 where
+pub record IsEnded (r : ℕ) (content : List ℕ) (last : BodyFraming) (y : Progress) (result : Result (Unit {0}) StreamFault) : Type 0 where
   pub over : last ≡ Length 0
-  pub taken : IsTaken (PartComes r) begun content y
-  pub ends : EndsSo content result
+  pub taken : IsTaken (HandlesPart r) no_progress content y
+  pub ends : EndsStream content result
 
 -- the first `size` bytes of the content, and no fewer, show a refusal: what stands behind them is never looked at. Less than 65536
 -- bytes came behind them
 pub record IsRefusedAt (size : ℕ) (r : ℕ) (content : List ℕ) (fault : StreamFault) (y : Progress) : Type 0 where
-  pub refuses : RefusesAt (PartComes r) begun content size fault y
+  pub refuses : RefusesAt (HandlesPart r) no_progress content size fault y
   pub few : length content < size + 65536
 
 -- why no more of a body comes that stands so, where this is unread
-abbrev pub Stops : Body → List ℕ → BodyEnd → Type 0
-Stops last unread bodies.BadFraming = IsBroken last unread
-Stops last unread end = IsOpen last unread
+abbrev pub IsBodyStop : BodyFraming → List ℕ → BodyEnd → Type 0
+IsBodyStop last unread bodies.BadFraming = IsBroken last unread
+IsBodyStop last unread end = IsOpen last unread
 
 -- what the body comes to, of which so much content came, and whether the reply is given before its end: Truncated stands at the body's
 -- end, and every other refusal where it shows. Where no more of the body comes, all that came was taken
-abbrev pub BodyComes : ℕ → Body → List ℕ → Body → List ℕ → Progress → Bool → Result (Unit {0}) Intake → Type 0
-BodyComes r body content last unread y early (Ok done) = IsEnded r content last y (Ok done) × (early ≡ false)
-BodyComes r body content last unread y early (Err (came.Refused fault)) =
+abbrev pub HandlesBody : ℕ → BodyFraming → List ℕ → BodyFraming → List ℕ → Progress → Bool → Result (Unit {0}) IngestStop → Type 0
+HandlesBody r body content last unread y early (Ok done) = IsEnded r content last y (Ok done) × (early ≡ false)
+HandlesBody r body content last unread y early (Err (ingest_stops.Refused fault)) =
     (IsEnded r content last y (Err fault) × (early ≡ false))
     ⊎ ((size : ℕ) × IsRefusedAt size r content fault y × (early ≡ not (ends_at body size)))
-BodyComes r body content last unread y early (Err came.Memory) = Wants (PartComes r) begun content y
-BodyComes r body content last unread y early (Err (came.Stopped end)) = IsTaken (PartComes r) begun content y × Stops last unread end
+HandlesBody r body content last unread y early (Err ingest_stops.Memory) = Wants (HandlesPart r) no_progress content y
+HandlesBody r body content last unread y early (Err (ingest_stops.Stopped end)) = IsTaken (HandlesPart r) no_progress content y × IsBodyStop last unread end

@@ -2,25 +2,25 @@
 -- what is served of a table of jobs that threads share is right, whichever jobs it has.
 use Rattle.std.specs.Prelude.{◌≡◌, ◌⊎◌, ℕ, false, List, length, map, Some, Result, codes}
 use Rattle.hls_http_laws.specs.declared.fault.HttpFault.TheVariants as http
-use Rattle.hls_http_laws.specs.declared.reply.Status.TheVariants.{Done}
-use Rattle.hls_http_laws.specs.Requests.{Request as WholeRequest, Cuts}
+use Rattle.hls_http_laws.specs.declared.response_parts.Status.TheVariants.{Done}
+use Rattle.hls_http_laws.specs.Requests.{HttpRequest as WholeRequest, AreRequestsThenRest}
 use Rattle.hls_http_laws.specs.{declared.method.Method.TheVariants.Other, Methods.method_of}
-use Rattle.hls_catchup_laws.specs.{declared.fault.CatchFault.CatchFault, Replies.IsAnswered, Jobs.Line.result_line}
+use Rattle.hls_catchup_laws.specs.{declared.fault.CatchFault.CatchFault, Replies.IsAnswered, Jobs.JobLine.result_line}
 use Rattle.hls_catchup_laws.specs.Replies.{ReplyData, IsRightReply}
-use Rattle.hls_serve_laws.specs.Connections.{Exchange, Serves}
-use Rattle.hls_serve_laws.specs.Heard.{ShowsJob}
-use Rattle.hls_serve_laws.specs.JobReplies.{file_answer, reply_answer, told_answer}
-use Rattle.hls_serve_laws.specs.Replies.{Answer, fault_answer, text_answer}
+use Rattle.hls_serve_laws.specs.ConnectionStates.{Exchange, Serves}
+use Rattle.hls_serve_laws.specs.Exchanges.{RespondsWithJob}
+use Rattle.hls_serve_laws.specs.JobResponses.{file_answer, reply_answer, job_answer}
+use Rattle.hls_serve_laws.specs.Responses.{ResponseData, fault_answer, text_answer}
 use Rattle.hls_serve_laws.specs.Routes.{allows, named_methods}
-use Rattle.hls_serve_laws.specs.Types.{State, Asked, Request, JobFile, Route}
+use Rattle.hls_serve_laws.specs.Types.{State, RangeSpec, Request, JobFile, Route}
 
 -- ---- requests
 
 -- the text begins with so many requests, each a head and its whole body, and then the rest
 pub record BeginsWith (count : ℕ) (text rest : List ℕ) : Type 0 where
   pub requests : List WholeRequest
-  pub so_many : length requests ≡ count
-  pub cuts : Cuts text requests rest
+  pub count_is : length requests ≡ count
+  pub cuts : AreRequestsThenRest text requests rest
 
 -- the requests behind whose replies a connection goes on are the first ones of its stream, and what is to come stands right behind them
 abbrev pub RequestsAreRead : Type 0
@@ -36,20 +36,20 @@ pub record AllowNamesMethods : Type 0 where
 -- ---- jobs
 
 -- the file of the right reply of some state to some request
-pub record IsOfRightReply (file : JobFile) (asked : Asked) (answer : Answer) : Type 0 where
+pub record IsOfRightReply (file : JobFile) (range : RangeSpec) (answer : ResponseData) : Type 0 where
   pub state : State
   pub request : Request
   pub reply : ReplyData
   pub right : IsRightReply state request reply
-  pub answer_is : answer ≡ reply_answer file asked reply
+  pub answer_is : answer ≡ reply_answer file range reply
 
 -- whatever is replied to a request for a job's file, it is that of a right reply; or there is no such job, or no reply
-abbrev pub FilesAreRight : Type 0
-FilesAreRight = (id : ℕ) (file : JobFile) (asked : Asked) (answer : Answer) → ShowsJob id (file_answer file asked) answer →
-    (answer ≡ fault_answer http.NotFound) ⊎ ((answer ≡ fault_answer http.Conflict) ⊎ IsOfRightReply file asked answer)
+abbrev pub JobFilesAreRight : Type 0
+JobFilesAreRight = (id : ℕ) (file : JobFile) (range : RangeSpec) (answer : ResponseData) → RespondsWithJob id (file_answer file range) answer →
+    (answer ≡ fault_answer http.NotFound) ⊎ ((answer ≡ fault_answer http.Conflict) ⊎ IsOfRightReply file range answer)
 
 -- the line of the right answer of some state to some request, with that state's version
-pub record IsOfRightAnswer (answer : Answer) : Type 0 where
+pub record IsOfRightAnswer (answer : ResponseData) : Type 0 where
   pub state : State
   pub request : Request
   pub result : Result ReplyData CatchFault
@@ -57,10 +57,10 @@ pub record IsOfRightAnswer (answer : Answer) : Type 0 where
   pub answer_is : answer ≡ text_answer Done (result_line result (length state.log))
 
 -- a job has no answer yet
-abbrev pub IsOfUnfinished : Answer → Type 0
+abbrev pub IsOfUnfinished : ResponseData → Type 0
 IsOfUnfinished answer = (answer ≡ text_answer Done (codes "waiting\n")) ⊎ (answer ≡ text_answer Done (codes "running\n"))
 
 -- whatever is told of a job, it is that of a right answer; or there is no such job, or no answer yet
-abbrev pub LinesAreRight : Type 0
-LinesAreRight = (id : ℕ) (answer : Answer) → ShowsJob id told_answer answer →
+abbrev pub JobLinesAreRight : Type 0
+JobLinesAreRight = (id : ℕ) (answer : ResponseData) → RespondsWithJob id job_answer answer →
     (answer ≡ fault_answer http.NotFound) ⊎ (IsOfUnfinished answer ⊎ IsOfRightAnswer answer)

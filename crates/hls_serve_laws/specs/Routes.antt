@@ -3,38 +3,38 @@ use Rattle.std.specs.Prelude.{ℕ, nat_lt, min, Bool, true, false, ◌&&◌, ◌
 use Rattle.std.specs.Prelude.{List, [], ◌∷◌, length, take, drop, position, bytes_eq, codes}
 use Rattle.std.specs.List.{filter, join_by, position_or_len}
 use Rattle.std.specs.Str.{all_ascii_digits}
-use Rattle.hls_text.specs.Digits.{is_plain, number_of}
+use Rattle.hls_text.specs.Digits.{has_no_leading_zero, number_of_digits}
 use Rattle.hls_http_laws.specs.declared.method.Method.TheVariants.{Get, Head, Post, Put, Delete}
 use Rattle.hls_serve_laws.specs.declared.route.Route.TheVariants as routes
 use Rattle.hls_serve_laws.specs.declared.route.JobFile.TheVariants as files
 use Rattle.hls_serve_laws.specs.Types.{Method, Route, JobFile}
 
 -- what stands before the first such byte, and behind it
-abbrev pub place_of : ℕ → List ℕ → ℕ
-place_of byte text = position_or_len (λ b. b == byte) text
+abbrev pub position_of : ℕ → List ℕ → ℕ
+position_of byte text = position_or_len (λ b. b == byte) text
 
 -- the path of a target, and its query (RFC 9112, section 3.2.1)
 abbrev pub path_of : List ℕ → List ℕ
-path_of target = take (place_of 63 target) target
+path_of target = take (position_of 63 target) target
 
 abbrev pub query_of : List ℕ → List ℕ
-query_of target = drop (place_of 63 target + 1) target
+query_of target = drop (position_of 63 target + 1) target
 
 -- what follows this front
-abbrev pub behind : List ℕ → List ℕ → Option (List ℕ)
-behind front text = cond (bytes_eq (take (length front) text) front) (Some (drop (length front) text)) None
+abbrev pub without_prefix : List ℕ → List ℕ → Option (List ℕ)
+without_prefix front text = cond (bytes_eq (take (length front) text) front) (Some (drop (length front) text)) None
 
 -- what stands before this back
-abbrev pub before : List ℕ → List ℕ → Option (List ℕ)
-before back text = cond (bytes_eq (drop (length text - length back) text) back) (Some (take (length text - length back) text)) None
+abbrev pub without_suffix : List ℕ → List ℕ → Option (List ℕ)
+without_suffix back text = cond (bytes_eq (drop (length text - length back) text) back) (Some (take (length text - length back) text)) None
 
 -- the number of a rendition of which there are so many
 abbrev pub rendition_in : ℕ → List ℕ → Option ℕ
-rendition_in count text = cond (is_plain text) (option_and_then (λ r. cond (nat_lt r count) (Some r) None) (number_of 16 text)) None
+rendition_in count text = cond (has_no_leading_zero text) (option_and_then (λ r. cond (nat_lt r count) (Some r) None) (number_of_digits 16 text)) None
 
 -- what is named by such a number before this back
-abbrev pub numbered : {A : Type 0} → List ℕ → (ℕ → A) → ℕ → List ℕ → Option A
-numbered back name count text = option_and_then (λ number. option_map name (rendition_in count number)) (before back text)
+abbrev pub numbered_route : {A : Type 0} → List ℕ → (ℕ → A) → ℕ → List ℕ → Option A
+numbered_route back name count text = option_and_then (λ number. option_map name (rendition_in count number)) (without_suffix back text)
 
 -- above the number of every job
 abbrev pub no_job : ℕ
@@ -42,7 +42,7 @@ no_job = 9007199254740992
 
 -- the number of a job, or that of none where it has too many digits
 abbrev pub job_in : List ℕ → Option ℕ
-job_in text = cond (is_plain text && all_ascii_digits text) (Some (min (unwrap_or (number_of 16 text) no_job) no_job)) None
+job_in text = cond (has_no_leading_zero text && all_ascii_digits text) (Some (min (unwrap_or (number_of_digits 16 text) no_job) no_job)) None
 
 -- what is named by what stands there; without that, another
 abbrev pub or_else : {A B : Type 0} → Option A → (A → Option B) → Option B → Option B
@@ -51,15 +51,15 @@ or_else (Some a) route other = route a
 
 abbrev pub live_route : ℕ → List ℕ → Option Route
 live_route count text =
-    cond (bytes_eq text (codes "master.m3u8")) (Some routes.LiveMaster) (numbered (codes ".m3u8") routes.LiveList count text)
+    cond (bytes_eq text (codes "master.m3u8")) (Some routes.LiveMaster) (numbered_route (codes ".m3u8") routes.LiveList count text)
 
 -- a file of a job by its name
 abbrev pub file_of : ℕ → List ℕ → Option JobFile
 file_of count name =
     cond (bytes_eq name (codes "master.m3u8")) (Some files.Master)
     (cond (bytes_eq name (codes "certificate.txt")) (Some files.Certificate)
-    (or_else (before (codes ".m3u8") name) (λ number. option_map files.List (rendition_in count number))
-    (numbered (codes ".mp4") files.Media count name)))
+    (or_else (without_suffix (codes ".m3u8") name) (λ number. option_map files.List (rendition_in count number))
+    (numbered_route (codes ".mp4") files.Media count name)))
 
 -- a job, or behind the next `/` one of its files
 abbrev pub job_route_at : ℕ → List ℕ → Option ℕ → Option Route
@@ -72,11 +72,11 @@ job_route count text = job_route_at count text (position (λ b. b == 47) text)
 
 abbrev pub folder_route : ℕ → List ℕ → Option Route
 folder_route count path =
-    or_else (behind (codes "/ingest/") path) (λ number. option_map routes.Ingest (rendition_in count number))
-    (or_else (behind (codes "/finish/") path) (λ number. option_map routes.Finish (rendition_in count number))
-    (or_else (behind (codes "/live/") path) (live_route count)
-    (or_else (behind (codes "/media/") path) (numbered (codes ".mp4") routes.Media count)
-    (option_and_then (job_route count) (behind (codes "/job/") path)))))
+    or_else (without_prefix (codes "/ingest/") path) (λ number. option_map routes.Ingest (rendition_in count number))
+    (or_else (without_prefix (codes "/finish/") path) (λ number. option_map routes.Finish (rendition_in count number))
+    (or_else (without_prefix (codes "/live/") path) (live_route count)
+    (or_else (without_prefix (codes "/media/") path) (numbered_route (codes ".mp4") routes.Media count)
+    (option_and_then (job_route count) (without_prefix (codes "/job/") path)))))
 
 -- what a path names, in a channel of so many renditions; paths aren't percent-decoded
 abbrev pub route_of : ℕ → List ℕ → Option Route
@@ -123,14 +123,14 @@ abbrev pub methods_of : Route → List ℕ
 methods_of route = join_by (λ named. named.1) (codes ", ") (filter (λ named. allows route named.0) named_methods)
 
 -- the job of such a request is taken away
-abbrev pub removes : Route → Method → Bool
-removes (routes.Job id) Delete = true
-removes route method = false
+abbrev pub removes_job : Route → Method → Bool
+removes_job (routes.Job id) Delete = true
+removes_job route method = false
 
 -- the body of such a request is taken part by part
-abbrev pub feeds : Option Route → Method → Bool
-feeds (Some (routes.Ingest r)) method = is_sent method
-feeds route method = false
+abbrev pub takes_ingest : Option Route → Method → Bool
+takes_ingest (Some (routes.Ingest r)) method = is_sent method
+takes_ingest route method = false
 
 abbrev pub is_to_head : Method → Bool
 is_to_head Head = true

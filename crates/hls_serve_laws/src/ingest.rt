@@ -1,14 +1,14 @@
 //! What is told of an encoder's body.
 
 ghost use Rattle.std.specs.Prelude.{◌≡◌};
-ghost use Rattle.hls_serve_laws.specs.Ingest.{intake_of};
+ghost use Rattle.hls_serve_laws.specs.Ingest.{ingest_stop_of};
 
-use hls_feed::{StreamFault, Untaken};
+use hls_feed::{FeedFault, StreamFault};
 use hls_http_laws::end::BodyEnd;
 
 /// How many parts of a body were taken.
 #[derive(Clone, Copy, Drop)]
-pub struct Counts {
+pub struct IngestCounts {
     /// New init sections.
     pub inits: u64,
     /// New units.
@@ -19,7 +19,7 @@ pub struct Counts {
 
 /// Why no more of a body is taken.
 #[derive(Clone, Copy, Drop)]
-pub enum Intake {
+pub enum IngestStop {
     /// It is refused.
     Refused(StreamFault),
     /// Memory was wanted.
@@ -28,13 +28,13 @@ pub enum Intake {
     Stopped(BodyEnd),
 }
 
-impl From<Untaken> for Intake {
-    ghost from_gives = { λ untaken intake. intake ≡ intake_of untaken };
+impl From<FeedFault> for IngestStop {
+    ghost from_gives = { λ feed_fault stop. stop ≡ ingest_stop_of feed_fault };
 
-    fn from(untaken: Untaken) -> Intake {
-        match untaken {
-            Untaken::Refused(fault) => Intake::Refused(fault),
-            Untaken::Memory => Intake::Memory,
+    fn from(feed_fault: FeedFault) -> IngestStop {
+        match feed_fault {
+            FeedFault::Refused(fault) => IngestStop::Refused(fault),
+            FeedFault::Memory => IngestStop::Memory,
         }
     }
 }

@@ -1,18 +1,18 @@
 //! Theorems about the definitions. Each function has no body: its contract is the law.
 
-ghost use Rattle.hls_serve_laws.specs.Laws.{AllowNamesMethods, FilesAreRight, LinesAreRight, RequestsAreRead};
-ghost use Rattle.hls_serve_laws.specs.Linked.{ActsAreLater, ActsLink, LinksFollow, LinksStay};
+ghost use Rattle.hls_serve_laws.specs.Laws.{AllowNamesMethods, JobFilesAreRight, JobLinesAreRight, RequestsAreRead};
+ghost use Rattle.hls_serve_laws.specs.ActLinks.{ActsAreLater, ActsExtendLinks, LinkedStatesFollow, LinksStay};
 
 /// Whatever a session replies to a request for a job's file, it is a file of the right reply of some state to some request;
 /// or it says that there is none.
-pub fn files_are_right()
-    ensures { FilesAreRight }
+pub fn job_files_are_right()
+    ensures { JobFilesAreRight }
 {}
 
 /// Whatever a session tells of a job, it is what the right answer of some state to some request came to, with that state's
 /// version; or that there is no answer yet, or no such job.
-pub fn lines_are_right()
-    ensures { LinesAreRight }
+pub fn job_lines_are_right()
+    ensures { JobLinesAreRight }
 {}
 
 /// The field Allow names just the methods that a route allows (RFC 9110 10.2.1).
@@ -29,14 +29,14 @@ pub fn requests_are_read()
 
 /// Acts that lead on from one another link to those of the same connection before, whatever others did between.
 #[tactic(auto, using(crate::proofs::Linking::linked_later))]
-pub fn acts_link()
-    ensures link { ActsLink }
+pub fn acts_extend_links()
+    ensures link { ActsExtendLinks }
     ensures stay { LinksStay }
 {}
 
 /// Linked acts lead from a state to one that follows it; so does each act of another's.
 #[tactic(auto, using(crate::proofs::Linking::linked_follows, crate::proofs::Linking::act_later))]
-pub fn links_follow()
-    ensures follow { LinksFollow }
+pub fn linked_states_follow()
+    ensures follow { LinkedStatesFollow }
     ensures acts { ActsAreLater }
 {}

@@ -7,7 +7,7 @@ use hls_catchup::{JobFault, JobTable, run_job};
 use hls_core::config::Config;
 use hls_core::snapshot::Snapshot;
 use hls_core_laws::rendition::Rendition;
-use hls_serve::acts::Acts;
+use hls_serve::act_log::ActLog;
 use hls_serve::alone::Alone;
 use std::alloc::{AllocError, Global};
 use std::sync::Arc;
@@ -25,7 +25,7 @@ pub fn video(alloc: Global) -> Result<Rendition, AllocError>
 }
 
 /// The state of a channel of one rendition with an epoch or without one, before anything came; none where memory was refused.
-pub fn opening(alloc: Global, epoch: Option<i64>) -> Option<Snapshot> {
+pub fn first_snapshot(alloc: Global, epoch: Option<i64>) -> Option<Snapshot> {
     let mut renditions = Vec::new(alloc);
     renditions.push(video(alloc).ok()?).ok()?;
     let config = Config::with_epoch(alloc, 6, 4_000_000, renditions, epoch).ok()?;
@@ -33,7 +33,7 @@ pub fn opening(alloc: Global, epoch: Option<i64>) -> Option<Snapshot> {
 }
 
 /// A channel of this state, with no job.
-pub fn owned(alloc: Global, snapshot: Snapshot) -> Result<Alone, AllocError>
+pub fn new_alone(alloc: Global, snapshot: Snapshot) -> Result<Alone, AllocError>
     ensures { IfOk result (λ own. own.number ≡ 0) }
 {
     Ok(Alone {
@@ -41,7 +41,7 @@ pub fn owned(alloc: Global, snapshot: Snapshot) -> Result<Alone, AllocError>
         snapshot: Arc::new(alloc, snapshot)?,
         number: 0,
         jobs: JobTable::new(alloc)?,
-        acts: Acts::none(),
+        acts: ActLog::new(),
     })
 }
 

@@ -5,14 +5,14 @@
 #[cfg(test)]
 mod channels;
 #[cfg(test)]
-mod held;
-#[cfg(test)]
 mod refused;
 #[cfg(test)]
 mod refused_turn;
 #[cfg(test)]
 mod script;
 #[cfg(test)]
+mod session_outcome;
+#[cfg(test)]
 mod streams;
 #[cfg(test)]
-mod went;
+mod test_origin;

@@ -2,14 +2,14 @@
 
 ghost use Rattle.std.specs.Prelude.{◌≡◌};
 
-use crate::channels::{opening, owned, run_all};
-use crate::held::{Origin, Seen, send_twice};
-use crate::went::{Ran, Went, ran_as};
-use hls_fakes::Page;
+use crate::channels::{first_snapshot, new_alone, run_all};
+use crate::session_outcome::{JobRunOutcome, SessionOutcome, job_run_outcome};
+use crate::test_origin::{Holdings, TestOrigin, send_twice};
+use hls_fakes::PageWriter;
 use hls_http::{Session, SessionEnd};
 use hls_serve::alone::Alone;
+use hls_serve::events::NoObserver;
 use hls_serve::keeper::Keeper;
-use hls_serve::news::Unobserved;
 use hls_serve::session::session_on;
 use std::alloc::Global;
 use std::io::{Read, Write};
@@ -17,7 +17,7 @@ use std::sync::Wait;
 
 /// A channel that one thread keeps.
 #[derive(Drop)]
-struct Kept<'a, T: Wait> {
+struct AloneOrigin<'a, T: Wait> {
     rt: &'a T,
     own: Alone,
 }
@@ -30,22 +30,22 @@ fn serve_at<T: Wait, K: Keeper, R: Read, W: Write>(
 ) -> SessionEnd
     ensures { result ≡ result }
 {
-    session_on(rt, session, keeper, &Unobserved)
+    session_on(rt, session, keeper, &NoObserver)
 }
 
-impl<'a, T: Wait> Origin for Kept<'a, T> {
-    fn memory(&self) -> Global {
+impl<'a, T: Wait> TestOrigin for AloneOrigin<'a, T> {
+    fn alloc(&self) -> Global {
         self.own.alloc
     }
 
-    fn serve(&mut self, session: &mut Session<&[u8], Page>) -> SessionEnd {
+    fn serve(&mut self, session: &mut Session<&[u8], PageWriter>) -> SessionEnd {
         serve_at(self.rt, session, &mut self.own)
     }
 
-    fn turn_round(&mut self) {}
+    fn swap_handles(&mut self) {}
 
-    fn seen(&mut self) -> Option<Seen> {
-        Some(Seen::of(&self.own.snapshot))
+    fn holdings(&mut self) -> Option<Holdings> {
+        Some(Holdings::from_snapshot(&self.own.snapshot))
     }
 
     fn job_count(&self) -> usize {
@@ -56,27 +56,27 @@ impl<'a, T: Wait> Origin for Kept<'a, T> {
         let _ = run_all(self.own.alloc, &mut self.own);
     }
 
-    fn ran(&self, id: u32) -> Ran {
-        ran_as(&self.own.jobs.get(u64::from(id)))
+    fn job_outcome(&self, id: u32) -> JobRunOutcome {
+        job_run_outcome(&self.own.jobs.get(u64::from(id)))
     }
 }
 
 /// How the script goes that is sent twice to a channel of one thread; none where the channel was refused memory, too.
-fn sent<T: Wait>(rt: &T, alloc: Global) -> Option<(Went, bool)>
+fn send_alone<T: Wait>(rt: &T, alloc: Global) -> Option<(SessionOutcome, bool)>
     ensures { result ≡ result }
 {
-    let own = owned(alloc, opening(alloc, None)?).ok()?;
-    let mut kept = Kept { rt, own };
+    let own = new_alone(alloc, first_snapshot(alloc, None)?).ok()?;
+    let mut kept = AloneOrigin { rt, own };
     send_twice(&mut kept)
 }
 
 #[test]
-fn refused_memory_is_wanted_once(rt: HostRuntime) {
+fn out_of_memory_is_wanted_once(rt: HostRuntime) {
     let alloc = rt.alloc();
-    let (went, is_whole) = match sent(&rt, alloc) {
+    let (went, is_whole) = match send_alone(&rt, alloc) {
         Some(both) => both,
-        None => sent(&rt, alloc).expect(&rt, "a channel"),
+        None => send_alone(&rt, alloc).expect(&rt, "a channel"),
     };
-    assert!(rt; went != Went::Astray);
+    assert!(rt; went != SessionOutcome::Wrong);
     assert!(rt; is_whole);
 }

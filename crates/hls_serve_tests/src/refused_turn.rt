@@ -3,15 +3,15 @@
 
 ghost use Rattle.std.specs.Prelude.{◌≡◌};
 
-use crate::channels::opening;
-use crate::held::{Origin, Seen, send_twice};
-use crate::went::{Ran, Went, ran_as};
+use crate::channels::first_snapshot;
+use crate::session_outcome::{JobRunOutcome, SessionOutcome, job_run_outcome};
+use crate::test_origin::{Holdings, TestOrigin, send_twice};
 use hls_catchup::{Gate, Jobs, work_loop};
-use hls_fakes::Page;
+use hls_fakes::PageWriter;
 use hls_http::{Session, SessionEnd};
-use hls_serve::channel::Channel;
+use hls_serve::channel_handle::{ChannelHandle, serve_session};
 use hls_serve::keeper::Keeper;
-use hls_serve::station::{Station, serve_session};
+use hls_serve::shared_channel::SharedChannel;
 use hls_turn::Turn;
 use std::alloc::Global;
 use std::mem::swap;
@@ -19,73 +19,78 @@ use std::sync::Wait;
 
 /// Lets every job in.
 #[derive(Drop)]
-struct Open;
+struct OpenGate;
 
-impl Gate for Open {
+impl Gate for OpenGate {
     fn enter(&self, _id: u64) -> bool {
         true
     }
 }
 
-/// Two stations at one channel, of which one serves.
+/// Two handles of one channel, of which one serves.
 #[derive(Drop)]
-struct Pair<'a, T: Wait> {
-    here: Station<'a, T>,
-    other: Station<'a, T>,
+struct HandlePair<'a, T: Wait> {
+    here: ChannelHandle<'a, T>,
+    other: ChannelHandle<'a, T>,
 }
 
-impl<'a, T: Wait> Origin for Pair<'a, T> {
-    fn memory(&self) -> Global {
+impl<'a, T: Wait> TestOrigin for HandlePair<'a, T> {
+    fn alloc(&self) -> Global {
         self.here.alloc
     }
 
-    fn serve(&mut self, session: &mut Session<&[u8], Page>) -> SessionEnd {
+    fn serve(&mut self, session: &mut Session<&[u8], PageWriter>) -> SessionEnd {
         serve_session(session, &mut self.here)
     }
 
-    fn turn_round(&mut self) {
+    fn swap_handles(&mut self) {
         swap(&mut self.here, &mut self.other);
     }
 
-    fn seen(&mut self) -> Option<Seen> {
+    fn holdings(&mut self) -> Option<Holdings> {
         let state = self.here.look().ok()?;
-        Some(Seen::of(&state))
+        Some(Holdings::from_snapshot(&state))
     }
 
     fn job_count(&self) -> usize {
-        self.here.jobs()
+        self.here.job_count()
     }
 
     fn run_jobs(&mut self) {
-        work_loop(self.here.rt, self.here.alloc, self.here.channel.jobs, &Open);
+        work_loop(
+            self.here.rt,
+            self.here.alloc,
+            self.here.channel.jobs,
+            &OpenGate,
+        );
     }
 
-    fn ran(&self, id: u32) -> Ran {
-        ran_as(&self.here.job(u64::from(id)))
+    fn job_outcome(&self, id: u32) -> JobRunOutcome {
+        job_run_outcome(&self.here.get_job(u64::from(id)))
     }
 }
 
-/// How the script goes that is sent to a new turn at one station, and then at another.
-fn sent_to<T: Wait>(rt: &T, alloc: Global, jobs: &Jobs) -> Option<(Went, bool)> {
-    let Ok((turn, mut passes)) = Turn::new(rt, alloc, opening(alloc, None)?, 2) else {
+/// How the script goes that is sent to a new turn through one handle, and then through another.
+fn sent_to<T: Wait>(rt: &T, alloc: Global, jobs: &Jobs) -> Option<(SessionOutcome, bool)> {
+    let Ok((turn, mut passes)) = Turn::new(rt, alloc, first_snapshot(alloc, None)?, 2) else {
         return None;
     };
-    let channel = Channel { turn: &turn, jobs };
+    let channel = SharedChannel { turn: &turn, jobs };
     let Some(second) = passes.pop() else {
         return None;
     };
     let Some(first) = passes.pop() else {
         return None;
     };
-    let mut pair = Pair {
-        here: Station::new(rt, alloc, &channel, first),
-        other: Station::new(rt, alloc, &channel, second),
+    let mut pair = HandlePair {
+        here: ChannelHandle::new(rt, alloc, &channel, first),
+        other: ChannelHandle::new(rt, alloc, &channel, second),
     };
     send_twice(&mut pair)
 }
 
 /// The same with a new table of jobs; none where the turn, the jobs or a text were refused memory.
-fn sent<T: Wait>(rt: &T, alloc: Global) -> Option<(Went, bool)>
+fn send_by_handles<T: Wait>(rt: &T, alloc: Global) -> Option<(SessionOutcome, bool)>
     ensures { result ≡ result }
 {
     let jobs = Jobs::new(alloc).ok()?;
@@ -95,12 +100,12 @@ fn sent<T: Wait>(rt: &T, alloc: Global) -> Option<(Went, bool)>
 }
 
 #[test]
-fn refused_memory_holds_no_turn(rt: HostRuntime) {
+fn out_of_memory_holds_no_turn(rt: HostRuntime) {
     let alloc = rt.alloc();
-    let (went, is_whole) = match sent(&rt, alloc) {
+    let (went, is_whole) = match send_by_handles(&rt, alloc) {
         Some(both) => both,
-        None => sent(&rt, alloc).expect(&rt, "a channel"),
+        None => send_by_handles(&rt, alloc).expect(&rt, "a channel"),
     };
-    assert!(rt; went != Went::Astray);
+    assert!(rt; went != SessionOutcome::Wrong);
     assert!(rt; is_whole);
 }

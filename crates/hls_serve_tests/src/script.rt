@@ -128,16 +128,16 @@ pub fn reply(alloc: Global, head: &str, text: &str) -> Result<Vec<u8>, AllocErro
 
 /// The replies to requests for a job's files.
 #[derive(Drop)]
-pub struct Files {
+pub struct JobFiles {
     master: Vec<u8>,
     list: Vec<u8>,
     media: Vec<u8>,
     certificate: Vec<u8>,
 }
 
-impl Files {
-    pub fn new(alloc: Global) -> Result<Files, AllocError> {
-        Ok(Files {
+impl JobFiles {
+    pub fn new(alloc: Global) -> Result<JobFiles, AllocError> {
+        Ok(JobFiles {
             master: reply(alloc, "200 OK", MASTER)?,
             list: reply(alloc, "200 OK", LIST)?,
             media: media_reply(alloc)?,

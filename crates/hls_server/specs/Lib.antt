@@ -1,2 +1,2 @@
-pub mod Guests
-pub mod Going
+pub mod HandlerConnections
+pub mod HistoryGrowth

@@ -5,15 +5,15 @@
 //! nothing is claimed.
 #![tactic(auto)]
 
-mod client;
-mod guest;
-mod lines;
-mod planner;
-mod reception;
-mod room;
+mod gate;
+mod handler;
+mod limits;
+mod log_lines;
+mod logged_connection;
+mod observer;
 mod server;
-mod start;
+mod startup;
 
-pub use lines::{Ingest, Request};
+pub use log_lines::{AccessLine, IngestLine};
 pub use server::run_server;
-pub use start::tell_start;
+pub use startup::log_start;

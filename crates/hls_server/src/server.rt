@@ -2,15 +2,18 @@
 
 ghost use Rattle.std.specs.Prelude.{◌≡◌, ◌+◌, ◌≤◌, All, max, min};
 
-use crate::planner::Open;
-use crate::reception::Reception;
-use crate::room::{crew_of, places_of};
+use crate::gate::AlwaysOpen;
+use crate::handler::ServerHandler;
+use crate::limits::{connection_count, worker_count};
 use hls_catchup::{Jobs, work_loop};
 use hls_core::snapshot::Snapshot;
-use hls_house::{Crew, Household, Log, Told, keep_house, tell_ended_worker, tell_fewer_threads};
-use hls_loop::{Door, Post, open_files, widen, work};
-use hls_serve::channel::Channel;
-use hls_serve::station::Station;
+use hls_house::{
+    LogThrottle, OperatorLog, ServerStatus, ThreadCounts, log_ended_worker, log_fewer_threads,
+    run_housekeeper,
+};
+use hls_loop::{WorkerIo, WorkerLoads, open_file_limit, run_worker, tune_listener};
+use hls_serve::channel_handle::ChannelHandle;
+use hls_serve::shared_channel::SharedChannel;
 use hls_settings::Settings;
 use hls_turn::{Pass, Turn};
 use std::alloc::{AllocError, Global};
@@ -27,33 +30,33 @@ pub const MOST_WORKERS: u64 = 63;
 
 /// What the threads of a server have in common.
 #[derive(Clone, Copy)]
-struct Site<'a> {
+struct ServerContext<'a> {
     alloc: Global,
     settings: &'a Settings,
-    channel: &'a Channel<'a>,
+    channel: &'a SharedChannel<'a>,
     /// Where workers find connections.
     listener: &'a TcpListener,
     /// How many workers serve at most.
-    crew: u64,
+    worker_count: u64,
     /// What workers know of one another.
-    door: &'a Door,
-    told: &'a Told,
+    worker_loads: &'a WorkerLoads,
+    throttle: &'a LogThrottle,
     /// Whether all workers have ended.
     closed: &'a AtomicBool,
 }
 
-impl<'a> Household for Site<'a> {
-    fn jobs<R: Wait>(&self, rt: &R) -> usize {
+impl<'a> ServerStatus for ServerContext<'a> {
+    fn job_count<R: Wait>(&self, rt: &R) -> usize {
         self.channel.jobs.len(rt)
     }
 
-    fn has_closed(&self) -> bool {
+    fn is_closed(&self) -> bool {
         self.closed.load(Ordering::SeqCst)
     }
 }
 
 /// How many passes there are: one for each worker that is asked for, 1 to 63, and the housekeeper's.
-fn passes_for(workers: u64) -> u16
+fn pass_count(workers: u64) -> u16
     ensures count { result ≡ max 1 (min workers 63) + 1 }
     ensures few { (1 ≤ result) × (result ≤ 64) }
 {
@@ -79,84 +82,112 @@ where
 {
     let config = settings.config.share()?;
     let snapshot = Snapshot::first(alloc, config)?;
-    let workers = settings.plain.workers;
-    let count = passes_for(workers.workers);
+    let workers = settings.server.workers;
+    let count = pass_count(workers.workers);
     let (turn, passes) = Turn::new(rt, alloc, snapshot, count)?;
     let jobs = Jobs::new(alloc)?;
-    let files = open_files();
-    let crew = crew_of(workers, files);
-    let channel = Channel {
+    let files = open_file_limit();
+    let worker_count = worker_count(workers, files);
+    let channel = SharedChannel {
         turn: &turn,
         jobs: &jobs,
     };
     let most = connections.unwrap_or(u64::MAX);
-    let Ok(door) = Door::new(alloc, crew, places_of(workers, files), most) else {
+    let Ok(worker_loads) = WorkerLoads::new(
+        alloc,
+        worker_count,
+        connection_count(workers, files),
+        most,
+    ) else {
         return Err(AllocError);
     };
-    let told = Told::new();
+    let throttle = LogThrottle::new();
     let closed = AtomicBool::new(false);
-    let site = Site {
+    let context = ServerContext {
         alloc,
         settings,
         channel: &channel,
         listener,
-        crew,
-        door: &door,
-        told: &told,
+        worker_count,
+        worker_loads: &worker_loads,
+        throttle: &throttle,
         closed: &closed,
     };
-    widen(listener);
-    let ran = run_threads(rt, &site, passes);
+    tune_listener(listener);
+    let ran = run_threads(rt, &context, passes);
     let _ = listener.set_nonblocking(false);
     ran
 }
 
 /// Serves connections on one thread; the operator is told where the system doesn't let it.
-fn serve<R: Wait + Clock + Eprint>(rt: &R, site: &Site<'_>, post: Post, pass: Pass)
-    requires { pass.turn ≡ site.now.channel.now.turn.now }
+fn run_worker_thread<R: Wait + Clock + Eprint>(
+    rt: &R,
+    context: &ServerContext<'_>,
+    io: WorkerIo,
+    pass: Pass,
+)
+    requires { pass.turn ≡ context.now.channel.now.turn.now }
 {
-    let reception = Reception {
-        station: Station::new(rt, site.alloc, site.channel, pass),
-        settings: site.settings,
-        told: site.told,
+    let handler = ServerHandler {
+        handle: ChannelHandle::new(rt, context.alloc, context.channel, pass),
+        settings: context.settings,
+        throttle: context.throttle,
     };
-    let patience = site.settings.plain.workers.patience;
-    if let Err(error) = work(rt, site.alloc, post, site.door, reception, patience) {
-        tell_ended_worker(rt, error);
+    let idle_timeout_s = context.settings.server.workers.idle_timeout_s;
+    if let Err(error) = run_worker(
+        rt,
+        context.alloc,
+        io,
+        context.worker_loads,
+        handler,
+        idle_timeout_s,
+    ) {
+        log_ended_worker(rt, error);
     }
 }
 
-/// Keeps house on one thread.
-fn keep<R: Wait + Clock + Eprint + Env>(rt: &R, site: &Site<'_>, mut pass: Pass)
-    requires { pass.turn ≡ site.now.channel.now.turn.now }
+/// Runs the housekeeper on one thread.
+fn run_housekeeper_thread<R: Wait + Clock + Eprint + Env>(
+    rt: &R,
+    context: &ServerContext<'_>,
+    mut pass: Pass,
+)
+    requires { pass.turn ≡ context.now.channel.now.turn.now }
 {
-    let turn = site.channel.turn;
-    keep_house(rt, site.alloc, turn, site.settings, site, &mut pass);
+    let turn = context.channel.turn;
+    run_housekeeper(
+        rt,
+        context.alloc,
+        turn,
+        context.settings,
+        context,
+        &mut pass,
+    );
 }
 
 /// Starts a thread for each pass, which serves connections: those that there are then.
 fn start_workers<'s, E, R: Net<Listener = TcpListener, Stream = TcpStream>>(
     scope: &Scope<'s, E>,
     rt: &'s R,
-    site: &'s Site<'s>,
+    context: &'s ServerContext<'s>,
     passes: Vec<Pass>,
     mut started: Vec<JoinHandle<()>>,
 ) -> Vec<JoinHandle<()>>
 where
     R: Wait + Clock + Eprint + Sync,
-    requires { All (λ p. p.turn ≡ site.now.channel.now.turn.now) passes.items }
+    requires { All (λ p. p.turn ≡ context.now.channel.now.turn.now) passes.items }
 {
     for pass in passes {
-        if started.len() as u64 >= site.crew {
+        if started.len() as u64 >= context.worker_count {
             continue;
         }
-        let Ok(post) = Post::at(rt, site.alloc, site.listener) else {
+        let Ok(io) = WorkerIo::listen_on(rt, context.alloc, context.listener) else {
             continue;
         };
         let worker = scope.spawn(
             move || -> ()
-                requires { pass.turn ≡ site.now.channel.now.turn.now }
-            { serve(rt, site, post, pass) },
+                requires { pass.turn ≡ context.now.channel.now.turn.now }
+            { run_worker_thread(rt, context, io, pass) },
         );
         if let Ok(worker) = worker {
             let _ = started.push(worker);
@@ -175,7 +206,7 @@ fn start_planners<'s, E, R: Wait + Sync>(
 ) -> u64 {
     let mut started: u64 = 0;
     for _ in 0..wanted {
-        let planner = scope.spawn(move || work_loop(rt, alloc, jobs, &Open));
+        let planner = scope.spawn(move || work_loop(rt, alloc, jobs, &AlwaysOpen));
         if planner.is_ok() {
             started = started.saturating_add(1);
         }
@@ -183,47 +214,50 @@ fn start_planners<'s, E, R: Wait + Sync>(
     started
 }
 
-/// Runs a thread for each pass: the last one's keeps house, and the others serve connections. The planners' are beside them.
+/// Runs a thread for each pass: the last one's runs the housekeeper, and the others serve connections. The planners' are beside them.
 fn run_threads<R: Net<Listener = TcpListener, Stream = TcpStream>>(
     rt: &R,
-    site: &Site<'_>,
+    context: &ServerContext<'_>,
     passes: Vec<Pass>,
 ) -> Result<(), AllocError>
 where
     R: Threads + Wait + Clock + Eprint + Env + Sync,
-    requires { All (λ p. p.turn ≡ site.now.channel.now.turn.now) passes.items }
+    requires { All (λ p. p.turn ≡ context.now.channel.now.turn.now) passes.items }
 {
     thread::scope(
         thread::scope_env(),
         rt,
         move |scope| -> Result<(), AllocError>
-            requires { All (λ p. p.turn ≡ site.now.channel.now.turn.now) passes.items }
+            requires { All (λ p. p.turn ≡ context.now.channel.now.turn.now) passes.items }
         {
-            let room = Vec::with_capacity(site.alloc, passes.len())?;
+            let room = Vec::with_capacity(context.alloc, passes.len())?;
             let mut passes = passes;
             let Some(last) = passes.pop() else {
                 return Ok(());
             };
-            let (jobs, planners) = (site.channel.jobs, site.settings.plain.workers.planners);
-            let wanted = Crew::whole(passes.len(), planners);
+            let (jobs, planners) = (
+                context.channel.jobs,
+                context.settings.server.workers.planners,
+            );
+            let wanted = ThreadCounts::all(passes.len(), planners);
             let keeper = scope.spawn(
                 move || -> ()
-                    requires { last.turn ≡ site.now.channel.now.turn.now }
-                { keep(rt, site, last) },
+                    requires { last.turn ≡ context.now.channel.now.turn.now }
+                { run_housekeeper_thread(rt, context, last) },
             );
-            let workers = start_workers(scope, rt, site, passes, room);
-            let started = Crew {
-                keeps_house: keeper.is_ok(),
+            let workers = start_workers(scope, rt, context, passes, room);
+            let started = ThreadCounts {
+                has_housekeeper: keeper.is_ok(),
                 workers: workers.len() as u64,
-                planners: start_planners(scope, rt, site.alloc, jobs, planners),
+                planners: start_planners(scope, rt, context.alloc, jobs, planners),
             };
-            tell_fewer_threads(&Log::new(rt), started, wanted);
+            log_fewer_threads(&OperatorLog::new(rt), started, wanted);
             for worker in workers {
                 worker.join(rt);
             }
             jobs.close(rt);
-            site.closed.store(true, Ordering::SeqCst);
-            site.channel.turn.tell(rt);
+            context.closed.store(true, Ordering::SeqCst);
+            context.channel.turn.tell(rt);
             if started.workers == 0 {
                 return Err(AllocError);
             }

@@ -1,7 +1,7 @@
 -- Options of a table, one after the other.
 use Rattle.std.proofs.Common.{◌≡◌, ℕ, zero, suc, ◌+◌, ◌<◌, List, [], ◌∷◌, Bool, Bor, length, get_or, map, drop, ap, arith, add-one}
 use Rattle.clap.specs.Words.{App, Text, with_rule}
-use Rattle.hls_settings.specs.Building.{option_rule, with_options}
+use Rattle.hls_settings.specs.ClapCommand.{option_rule, with_options}
 
 next : (old new : App) (options : List (Bor Text × Bool)) (n : ℕ) (d : Bor Text × Bool) → n < length options → new ≡ with_rule old (option_rule (get_or options n d).0.now (get_or options n d).1)
     → with_options new (map (λ o. (o.0.now, o.1)) (drop (suc n) options)) ≡ with_options old (map (λ o. (o.0.now, o.1)) (drop n options))

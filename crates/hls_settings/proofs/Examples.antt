@@ -2,83 +2,83 @@
 use Rattle.std.proofs.Common.{◌≡◌, [], ◌∷◌, Some, None, Ok, Err, codes, true, false, refl}
 use Rattle.clap.proofs.OnLiterals.{clap_on_literals}
 use Rattle.hls_instants.specs.Instants.{instant_of}
-use Rattle.hls_instants.specs.Shape.{after_pattern}
-use Rattle.hls_text.specs.Digits.{number_of}
-use Rattle.hls_settings.specs.declared.options_fault.OptionsFault.TheVariants as faults
-use Rattle.hls_settings.specs.declared.wrong_word.WordFault.TheVariants as word
-use Rattle.hls_settings.specs.WrongWords.{cut_options, serve_options, wrong_word}
+use Rattle.hls_instants.specs.Pattern.{rest_after_pattern}
+use Rattle.hls_text.specs.Digits.{number_of_digits}
+use Rattle.hls_settings.specs.declared.cut_options_fault.CutOptionsFault.TheVariants as faults
+use Rattle.hls_settings.specs.declared.wrong_argument.ArgumentFault.TheVariants as argument
+use Rattle.hls_settings.specs.WrongArguments.{cut_options, serve_options, wrong_argument}
 use Rattle.hls_settings.specs.Options.{cut_app, options_of}
 
 -- no words
 defaults : options_of [] ≡ Ok (record { target = 6; uri = codes "media.mp4"; preferred = None; charge = None; epoch = None; certificate = false })
-unfolding options_of cut_app clap_on_literals number_of
+unfolding options_of cut_app clap_on_literals number_of_digits
 defaults = refl
 
 both : options_of (codes "--target" ∷ codes "0010" ∷ codes "--each" ∷ codes "--uri=a.mp4" ∷ []) ≡ Ok (record { target = 10; uri = codes "a.mp4"; preferred = None; charge = None; epoch = None; certificate = false })
-unfolding options_of cut_app clap_on_literals number_of
+unfolding options_of cut_app clap_on_literals number_of_digits
 both = refl
 
 target_too_large : options_of (codes "--target" ∷ codes "3601" ∷ []) ≡ Err faults.Target
-unfolding options_of cut_app clap_on_literals number_of
+unfolding options_of cut_app clap_on_literals number_of_digits
 target_too_large = refl
 
 planned : options_of (codes "--preferred" ∷ codes "4000000" ∷ codes "--certificate" ∷ []) ≡ Ok (record { target = 6; uri = codes "media.mp4"; preferred = Some 4000000; charge = None; epoch = None; certificate = true })
-unfolding options_of cut_app clap_on_literals number_of
+unfolding options_of cut_app clap_on_literals number_of_digits
 planned = refl
 
 preferred_above_the_target : options_of (codes "--preferred" ∷ codes "6000001" ∷ []) ≡ Err faults.Preferred
-unfolding options_of cut_app clap_on_literals number_of
+unfolding options_of cut_app clap_on_literals number_of_digits
 preferred_above_the_target = refl
 
 certificate_of_no_plan : options_of (codes "--certificate" ∷ []) ≡ Err faults.Unplanned
-unfolding options_of cut_app clap_on_literals number_of
+unfolding options_of cut_app clap_on_literals number_of_digits
 certificate_of_no_plan = refl
 
 each_and_preferred : options_of (codes "--each" ∷ codes "--preferred" ∷ codes "4000000" ∷ []) ≡ Err faults.Each
-unfolding options_of cut_app clap_on_literals number_of
+unfolding options_of cut_app clap_on_literals number_of_digits
 each_and_preferred = refl
 
 -- a charge of 0 is a charge
 charged : options_of (codes "--preferred" ∷ codes "4000000" ∷ codes "--charge" ∷ codes "0" ∷ []) ≡ Ok (record { target = 6; uri = codes "media.mp4"; preferred = Some 4000000; charge = Some 0; epoch = None; certificate = false })
-unfolding options_of cut_app clap_on_literals number_of
+unfolding options_of cut_app clap_on_literals number_of_digits
 charged = refl
 
 charge_too_large : options_of (codes "--preferred" ∷ codes "4000000" ∷ codes "--charge" ∷ codes "3600000001" ∷ []) ≡ Err faults.Charge
-unfolding options_of cut_app clap_on_literals number_of
+unfolding options_of cut_app clap_on_literals number_of_digits
 charge_too_large = refl
 
 charge_of_no_plan : options_of (codes "--charge" ∷ codes "1" ∷ []) ≡ Err faults.Unplanned
-unfolding options_of cut_app clap_on_literals number_of
+unfolding options_of cut_app clap_on_literals number_of_digits
 charge_of_no_plan = refl
 
 epoch_of_no_shape : options_of (codes "--epoch" ∷ codes "0" ∷ []) ≡ Err faults.Epoch
-unfolding options_of cut_app clap_on_literals number_of instant_of after_pattern
+unfolding options_of cut_app clap_on_literals number_of_digits instant_of rest_after_pattern
 epoch_of_no_shape = refl
 
-unknown_word : options_of (codes "--rule" ∷ codes "1" ∷ []) ≡ Err (faults.Words (Some (record { index = 0; fault = word.Unknown })))
-unfolding options_of cut_app clap_on_literals number_of
+unknown_word : options_of (codes "--rule" ∷ codes "1" ∷ []) ≡ Err (faults.Arguments (Some (record { index = 0; fault = argument.Unknown })))
+unfolding options_of cut_app clap_on_literals number_of_digits
 unknown_word = refl
 
 -- ---- the first word that can't stand where it does
 
-misspelt : wrong_word serve_options true (codes "127.0.0.1:80" ∷ codes "--prefered=4000000" ∷ codes "--other" ∷ []) ≡ Some (record { index = 1; fault = word.Unknown })
+misspelt : wrong_argument serve_options true (codes "127.0.0.1:80" ∷ codes "--prefered=4000000" ∷ codes "--other" ∷ []) ≡ Some (record { index = 1; fault = argument.Unknown })
 misspelt = refl
 
-given_twice : wrong_word serve_options true (codes "--target" ∷ codes "6" ∷ codes "--target=6" ∷ []) ≡ Some (record { index = 2; fault = word.Repeated })
+given_twice : wrong_argument serve_options true (codes "--target" ∷ codes "6" ∷ codes "--target=6" ∷ []) ≡ Some (record { index = 2; fault = argument.Repeated })
 given_twice = refl
 
 -- what begins with a hyphen is no value
-without_value : wrong_word serve_options true (codes "--log" ∷ codes "--target" ∷ codes "6" ∷ []) ≡ Some (record { index = 0; fault = word.NoValue })
+without_value : wrong_argument serve_options true (codes "--log" ∷ codes "--target" ∷ codes "6" ∷ []) ≡ Some (record { index = 0; fault = argument.NoValue })
 without_value = refl
 
-with_value : wrong_word cut_options false (codes "--each=1" ∷ []) ≡ Some (record { index = 0; fault = word.Unneeded })
+with_value : wrong_argument cut_options false (codes "--each=1" ∷ []) ≡ Some (record { index = 0; fault = argument.Unneeded })
 with_value = refl
 
-stray : wrong_word cut_options false (codes "--target" ∷ codes "6" ∷ codes "7" ∷ []) ≡ Some (record { index = 2; fault = word.Stray })
+stray : wrong_argument cut_options false (codes "--target" ∷ codes "6" ∷ codes "7" ∷ []) ≡ Some (record { index = 2; fault = argument.Stray })
 stray = refl
 
-stray_after_hyphens : wrong_word cut_options false (codes "--" ∷ codes "--each" ∷ []) ≡ Some (record { index = 1; fault = word.Stray })
+stray_after_hyphens : wrong_argument cut_options false (codes "--" ∷ codes "--each" ∷ []) ≡ Some (record { index = 1; fault = argument.Stray })
 stray_after_hyphens = refl
 
-none_wrong : wrong_word serve_options true (codes "--target" ∷ codes "-" ∷ codes "--log=" ∷ codes "--" ∷ codes "--other" ∷ []) ≡ None
+none_wrong : wrong_argument serve_options true (codes "--target" ∷ codes "-" ∷ codes "--log=" ∷ codes "--" ∷ codes "--other" ∷ []) ≡ None
 none_wrong = refl

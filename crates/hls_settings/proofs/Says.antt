@@ -6,11 +6,11 @@ use Rattle.hls_core_laws.specs.declared.rendition.Rendition.{Rendition}
 use Rattle.hls_settings.specs.declared.fault.SettingsFault.{SettingsFault}
 use Rattle.hls_settings.specs.declared.fault.SettingsFault.TheVariants as faults
 use Rattle.hls_settings.specs.Renditions.{rendition_of}
-use Rattle.hls_settings.specs.Reading.{ReadsRendition, ReadsRenditions, Say}
+use Rattle.hls_settings.specs.ReadSettings.{ReadsRendition, ReadsRenditions, ParsesTo}
 
 -- one word more
-more : (words : List (Bor Text)) (renditions : List Rendition) (n : ℕ) (d : Bor Text) (r : Rendition) → n < length words → rendition_of (get_or words n d).now ≡ Some r
-    → Say (take n (map (λ w. w.now) words)) renditions → Say (take (suc n) (map (λ w. w.now) words)) (renditions ++ r ∷ [])
+more : (arguments : List (Bor Text)) (renditions : List Rendition) (n : ℕ) (d : Bor Text) (r : Rendition) → n < length arguments → rendition_of (get_or arguments n d).now ≡ Some r
+    → ParsesTo (take n (map (λ w. w.now) arguments)) renditions → ParsesTo (take (suc n) (map (λ w. w.now) arguments)) (renditions ++ r ∷ [])
 more [] renditions n d r below is said = absurd (omega arith)
 more (w ∷ ws) [] zero d r below is said = ap (λ (o : Option Rendition). o ∷ []) is
 more (w ∷ ws) (x ∷ xs) zero d r below is said = absurd (cc)
@@ -19,21 +19,21 @@ more (w ∷ ws) (x ∷ xs) (suc n) d r below is said =
     ap₂ (λ (o : Option Rendition) (os : List (Option Rendition)). o ∷ os) (ap (λ (os : List (Option Rendition)). get_or os 0 None) said)
     (more ws xs n d r (omega arith) is (ap (drop 1) said))
 
-pub say_more : (words : List (Bor Text)) (renditions : List Rendition) (n : ℕ) (d : Bor Text) (r : Rendition) → n < length words → rendition_of (get_or words n d).now ≡ Some r
-    → Say (take n (map (λ w. w.now) words)) renditions → Say (take (n + 1) (map (λ w. w.now) words)) (renditions ++ r ∷ [])
-say_more words renditions n d r below is said = rw add-one (more words renditions n d r below is said)
+pub say_more : (arguments : List (Bor Text)) (renditions : List Rendition) (n : ℕ) (d : Bor Text) (r : Rendition) → n < length arguments → rendition_of (get_or arguments n d).now ≡ Some r
+    → ParsesTo (take n (map (λ w. w.now) arguments)) renditions → ParsesTo (take (n + 1) (map (λ w. w.now) arguments)) (renditions ++ r ∷ [])
+say_more arguments renditions n d r below is said = rw add-one (more arguments renditions n d r below is said)
 
 -- a word that says no rendition, or want of memory, after words that say these
-pub unread_at : (words : List (Bor Text)) (renditions : List Rendition) (n m : ℕ) (d : Bor Text) (fault : SettingsFault) → n < length words → m ≡ n → Say (take n (map (λ w. w.now) words)) renditions
-    → ReadsRendition m (get_or words n d).now (Err fault) → ReadsRenditions (map (λ w. w.now) words) (Err fault)
-unread_at words renditions n m d (faults.Rendition k) below same said unread =
+pub unread_at : (arguments : List (Bor Text)) (renditions : List Rendition) (n m : ℕ) (d : Bor Text) (fault : SettingsFault) → n < length arguments → m ≡ n → ParsesTo (take n (map (λ w. w.now) arguments)) renditions
+    → ReadsRendition m (get_or arguments n d).now (Err fault) → ReadsRenditions (map (λ w. w.now) arguments) (Err fault)
+unread_at arguments renditions n m d (faults.Rendition k) below same said unread =
     let k_is_n : k ≡ n = unread.0 ∙ same in
     record {
       renditions = renditions;
-      front = subst (λ (i : ℕ). Say (take i (map (λ w. w.now) words)) renditions) (sym k_is_n) said;
-      word = (get_or words n d).now;
-      is = ap (slice_get (map (λ w. w.now) words)) k_is_n ∙ slice_get-map (λ (w : Bor Text). w.now) words n ∙ ap (option_map (λ (w : Bor Text). w.now)) (slice_get-get_or words n d below);
+      front = subst (λ (i : ℕ). ParsesTo (take i (map (λ w. w.now) arguments)) renditions) (sym k_is_n) said;
+      argument = (get_or arguments n d).now;
+      is = ap (slice_get (map (λ w. w.now) arguments)) k_is_n ∙ slice_get-map (λ (w : Bor Text). w.now) arguments n ∙ ap (option_map (λ (w : Bor Text). w.now)) (slice_get-get_or arguments n d below);
       unread = unread.1;
     }
-unread_at words renditions n m d faults.Memory below same said unread = tt
-unread_at words renditions n m d _ below same said unread = absurd unread
+unread_at arguments renditions n m d faults.Memory below same said unread = tt
+unread_at arguments renditions n m d _ below same said unread = absurd unread

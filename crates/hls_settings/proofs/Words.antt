@@ -12,10 +12,10 @@ use Rattle.hls_settings.specs.declared.fault.SettingsFault.{SettingsFault}
 use Rattle.hls_settings.specs.declared.fault.SettingsFault.TheVariants as faults
 use Rattle.hls_settings.specs.declared.settings.Settings.{Settings}
 use Rattle.hls_settings.specs.Command.{channel_app, options_app, serve_app, texts_in, texts_of, timing_app}
-use Rattle.hls_settings.specs.Reading.{Reads, SetsBy, SetsIn, refused_by, words_of}
-use Rattle.hls_settings.specs.Settings.{Texts, plain_of}
-use Rattle.hls_settings.specs.WrongWords.{serve_options, wrong_word}
-use Rattle.hls_settings.specs.declared.wrong_word.WrongWord.{WrongWord}
+use Rattle.hls_settings.specs.ReadSettings.{ReadsSettings, SetsBy, SetsIn, refused_by, rendition_arguments}
+use Rattle.hls_settings.specs.Settings.{Texts, server_settings_of}
+use Rattle.hls_settings.specs.WrongArguments.{serve_options, wrong_argument}
+use Rattle.hls_settings.specs.declared.wrong_argument.WrongArgument.{WrongArgument}
 
 pub serve_is_simple : is_simple serve_app ≡ true
 unfolding serve_app options_app channel_app timing_app
@@ -27,7 +27,7 @@ serve_is_simple_and_free = refl
 
 -- what the getters read, by the rows
 abbrev texts_from : Option Text → Option Text → Option Text → Option Text → Option Text → Option Text → Option Text → Option Text → Option Text → Option Text → Option Text → Option (List Text) → Texts
-texts_from a b c d e f g h i j k l = record { target = a; preferred = b; window = c; keep = d; epoch = e; workers = f; connections = g; planners = h; patience = i; log = j; address = k; renditions = l }
+texts_from a b c d e f g h i j k l = record { target = a; preferred = b; window = c; keep = d; epoch = e; workers = f; connections = g; planners = h; idle_timeout_s = i; log = j; address = k; renditions = l }
 
 same_texts : (a a' b b' c c' d d' e e' f f' g g' h h' i i' j j' k k' : Option Text) (l l' : Option (List Text)) → a ≡ a' → b ≡ b' → c ≡ c' → d ≡ d' → e ≡ e' → f ≡ f' → g ≡ g' → h ≡ h' → i ≡ i' → j ≡ j' → k ≡ k' → l ≡ l'
     → texts_from a b c d e f g h i j k l ≡ texts_from a' b' c' d' e' f' g' h' i' j' k' l'
@@ -61,37 +61,37 @@ texts-rows found = same_texts _ _ _ _ _ _ _ _ _ _ _ _ _ _ _ _ _ _ _ _ _ _ _ _
     (raw_values-rows found (codes "renditions"))
 
 -- words that were taken
-pub taken_words : (app : App) (words : List Text) (m : ArgMatches) (result : Result Settings SettingsFault) → app ≡ serve_app → HasMatchesOf app words m → fault_of app words ≡ []
-    → SetsBy (plain_of (texts_in (found_of m))) (words_of (texts_in (found_of m)).renditions) result → Reads words result
-taken_words app words m result is has none given =
-    let rows : rows_of (found_of m) ≡ matches_of serve_app words = (has (ap is_simple is ∙ serve_is_simple)).0 ∙ ap (λ (a : App). matches_of a words) is in
-    let texts : texts_in (found_of m) ≡ texts_of (matches_of serve_app words) = texts-rows (found_of m) ∙ ap texts_of rows in
-    let no_fault : fault_of serve_app words ≡ [] = sym (ap (λ (a : App). fault_of a words) is) ∙ none in
-    let moved : SetsBy (plain_of (texts_of (matches_of serve_app words))) (words_of (texts_of (matches_of serve_app words)).renditions) result =
-    subst (λ (t : Texts). SetsBy (plain_of t) (words_of t.renditions) result) texts given in
-    inr (subst (λ (ks : Kinds). SetsIn words ks (texts_of (matches_of serve_app words)) result) (sym no_fault) moved)
+pub taken_words : (app : App) (arguments : List Text) (m : ArgMatches) (result : Result Settings SettingsFault) → app ≡ serve_app → HasMatchesOf app arguments m → fault_of app arguments ≡ []
+    → SetsBy (server_settings_of (texts_in (found_of m))) (rendition_arguments (texts_in (found_of m)).renditions) result → ReadsSettings arguments result
+taken_words app arguments m result is has none given =
+    let rows : rows_of (found_of m) ≡ matches_of serve_app arguments = (has (ap is_simple is ∙ serve_is_simple)).0 ∙ ap (λ (a : App). matches_of a arguments) is in
+    let texts : texts_in (found_of m) ≡ texts_of (matches_of serve_app arguments) = texts-rows (found_of m) ∙ ap texts_of rows in
+    let no_fault : fault_of serve_app arguments ≡ [] = sym (ap (λ (a : App). fault_of a arguments) is) ∙ none in
+    let moved : SetsBy (server_settings_of (texts_of (matches_of serve_app arguments))) (rendition_arguments (texts_of (matches_of serve_app arguments)).renditions) result =
+    subst (λ (t : Texts). SetsBy (server_settings_of t) (rendition_arguments t.renditions) result) texts given in
+    inr (subst (λ (ks : Kinds). SetsIn arguments ks (texts_of (matches_of serve_app arguments)) result) (sym no_fault) moved)
 
 -- a refusal is for want of memory, or of the words
-memory_or_words : (k : ErrorKind) (wrong : Option WrongWord) → (refused_by k wrong ≡ faults.Memory) ⊎ (refused_by k wrong ≡ faults.Words wrong)
+memory_or_words : (k : ErrorKind) (wrong : Option WrongArgument) → (refused_by k wrong ≡ faults.Memory) ⊎ (refused_by k wrong ≡ faults.Arguments wrong)
 memory_or_words kind.OutOfMemory wrong = inl refl
 memory_or_words _ wrong = inr refl
 
-some_fault : (words : List Text) (ks : Kinds) (k : ErrorKind) (texts : Texts) → IsAmong k ks → SetsIn words ks texts (Err (faults.Words (wrong_word serve_options true words)))
-some_fault words [] k texts among = absurd among
-some_fault words (j ∷ ks) k texts among = refl
+some_fault : (arguments : List Text) (ks : Kinds) (k : ErrorKind) (texts : Texts) → IsAmong k ks → SetsIn arguments ks texts (Err (faults.Arguments (wrong_argument serve_options true arguments)))
+some_fault arguments [] k texts among = absurd among
+some_fault arguments (j ∷ ks) k texts among = refl
 
 -- words that were refused
-pub refused_words : (app : App) (words : List Text) (e : Error) (fault : SettingsFault) → app ≡ serve_app → fault ≡ refused_by (kind_of e) (wrong_word serve_options true words)
-    → HasKind (fault_of app words) e → Reads words (Err fault)
-refused_words app words e fault is by (inl memory) = inl (ap Err (by ∙ ap (λ (k : ErrorKind). refused_by k (wrong_word serve_options true words)) memory))
-refused_words app words e fault is by (inr among) = go (memory_or_words (kind_of e) (wrong_word serve_options true words))
+pub refused_words : (app : App) (arguments : List Text) (e : Error) (fault : SettingsFault) → app ≡ serve_app → fault ≡ refused_by (kind_of e) (wrong_argument serve_options true arguments)
+    → HasKind (fault_of app arguments) e → ReadsSettings arguments (Err fault)
+refused_words app arguments e fault is by (inl memory) = inl (ap Err (by ∙ ap (λ (k : ErrorKind). refused_by k (wrong_argument serve_options true arguments)) memory))
+refused_words app arguments e fault is by (inr among) = go (memory_or_words (kind_of e) (wrong_argument serve_options true arguments))
   where
-    go : (refused_by (kind_of e) (wrong_word serve_options true words) ≡ faults.Memory)
-        ⊎ (refused_by (kind_of e) (wrong_word serve_options true words) ≡ faults.Words (wrong_word serve_options true words)) → Reads words (Err fault)
+    go : (refused_by (kind_of e) (wrong_argument serve_options true arguments) ≡ faults.Memory)
+        ⊎ (refused_by (kind_of e) (wrong_argument serve_options true arguments) ≡ faults.Arguments (wrong_argument serve_options true arguments)) → ReadsSettings arguments (Err fault)
     go (inl memory) = inl (ap Err (by ∙ memory))
     go (inr wrong) =
-        let some : SetsIn words (fault_of app words) (texts_of (matches_of serve_app words)) (Err (faults.Words (wrong_word serve_options true words))) =
-        some_fault words (fault_of app words) (kind_of e) _ among in
-        let of_serve : SetsIn words (fault_of serve_app words) (texts_of (matches_of serve_app words)) (Err (faults.Words (wrong_word serve_options true words))) =
-        subst (λ (a : App). SetsIn words (fault_of a words) (texts_of (matches_of serve_app words)) (Err (faults.Words (wrong_word serve_options true words)))) is some in
-        inr (subst (λ (f : SettingsFault). SetsIn words (fault_of serve_app words) (texts_of (matches_of serve_app words)) (Err f)) (sym (by ∙ wrong)) of_serve)
+        let some : SetsIn arguments (fault_of app arguments) (texts_of (matches_of serve_app arguments)) (Err (faults.Arguments (wrong_argument serve_options true arguments))) =
+        some_fault arguments (fault_of app arguments) (kind_of e) _ among in
+        let of_serve : SetsIn arguments (fault_of serve_app arguments) (texts_of (matches_of serve_app arguments)) (Err (faults.Arguments (wrong_argument serve_options true arguments))) =
+        subst (λ (a : App). SetsIn arguments (fault_of a arguments) (texts_of (matches_of serve_app arguments)) (Err (faults.Arguments (wrong_argument serve_options true arguments)))) is some in
+        inr (subst (λ (f : SettingsFault). SetsIn arguments (fault_of serve_app arguments) (texts_of (matches_of serve_app arguments)) (Err f)) (sym (by ∙ wrong)) of_serve)

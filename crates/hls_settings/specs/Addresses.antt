@@ -1,12 +1,12 @@
 -- Where the server listens: `a.b.c.d:port` in decimal, without leading zeros.
 use Rattle.std.specs.Prelude.{ℕ, List, Option, Some, None, cond, option_and_then}
-use Rattle.hls_text.specs.Digits.{is_plain, number_of}
-use Rattle.hls_settings.specs.declared.address.Address.{Address}
-use Rattle.hls_settings.specs.Numbers.{cut_at, within}
+use Rattle.hls_text.specs.Digits.{has_no_leading_zero, number_of_digits}
+use Rattle.hls_settings.specs.declared.listen_address.ListenAddress.{ListenAddress}
+use Rattle.hls_settings.specs.Numbers.{cut_at, in_range}
 
 -- a number of at most so much
 abbrev pub small_of : ℕ → List ℕ → Option ℕ
-small_of most text = cond (is_plain text) (option_and_then (within 0 most) (number_of 16 text)) None
+small_of most text = cond (has_no_leading_zero text) (option_and_then (in_range 0 most) (number_of_digits 16 text)) None
 
 abbrev pub numbered_by : Option ℕ → List ℕ → Option (ℕ × List ℕ)
 numbered_by None rest = None
@@ -23,11 +23,11 @@ octet_of text = numbered 255 (cut_at 46 text)
 abbrev pub last_octet_of : List ℕ → Option (ℕ × List ℕ)
 last_octet_of text = numbered 255 (cut_at 58 text)
 
-abbrev pub address_with : ℕ → ℕ → ℕ → ℕ → Option ℕ → Option Address
+abbrev pub address_with : ℕ → ℕ → ℕ → ℕ → Option ℕ → Option ListenAddress
 address_with a b c d None = None
 address_with a b c d (Some port) = Some (record { a = a; b = b; c = c; d = d; port = port })
 
-abbrev pub address_of : List ℕ → Option Address
+abbrev pub address_of : List ℕ → Option ListenAddress
 address_of text =
     option_and_then (λ a. option_and_then (λ b. option_and_then (λ c. option_and_then (λ d. address_with a.0 b.0 c.0 d.0 (small_of 65535 d.1))
     (last_octet_of c.1)) (octet_of b.1)) (octet_of a.1)) (octet_of text)

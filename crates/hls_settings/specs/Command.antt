@@ -5,8 +5,8 @@ use Rattle.clap.specs.declared.parser.matches.Found.{Found}
 use Rattle.clap.specs.declared.builder.action.ArgAction.TheVariants.{Append}
 use Rattle.hls_settings.specs.Settings.{Texts, timing_of, workers_of}
 use Rattle.hls_settings.specs.declared.fault.SettingsFault.{SettingsFault}
-use Rattle.hls_settings.specs.declared.timing.Timing.{Timing}
-use Rattle.hls_settings.specs.declared.workers.Workers.{Workers}
+use Rattle.hls_settings.specs.declared.window_settings.WindowSettings.{WindowSettings}
+use Rattle.hls_settings.specs.declared.thread_settings.ThreadSettings.{ThreadSettings}
 
 -- an option that takes a value, by its long name
 abbrev pub value_rule : Text → Rule
@@ -46,18 +46,18 @@ texts_in found = record {
   workers = first_value found (codes "workers");
   connections = first_value found (codes "connections");
   planners = first_value found (codes "planners");
-  patience = first_value found (codes "patience");
+  idle_timeout_s = first_value found (codes "patience");
   log = first_value found (codes "log");
   address = first_value found (codes "address");
   renditions = option_map raw_values (matched_of found (codes "renditions"));
 }
 
 -- the lengths of time and the workers among what was found. For the code alone
-abbrev pub timing_found : Found → Result Timing SettingsFault
+abbrev pub timing_found : Found → Result WindowSettings SettingsFault
 timing_found found =
     timing_of (first_value found (codes "target")) (first_value found (codes "preferred")) (first_value found (codes "window")) (first_value found (codes "keep"))
 
-abbrev pub workers_found : Found → Result Workers SettingsFault
+abbrev pub workers_found : Found → Result ThreadSettings SettingsFault
 workers_found found =
     workers_of (first_value found (codes "workers")) (first_value found (codes "connections")) (first_value found (codes "planners")) (first_value found (codes "patience"))
 
@@ -72,7 +72,7 @@ texts_of rows = record {
   workers = first_of (codes "workers") rows;
   connections = first_of (codes "connections") rows;
   planners = first_of (codes "planners") rows;
-  patience = first_of (codes "patience") rows;
+  idle_timeout_s = first_of (codes "patience") rows;
   log = first_of (codes "log") rows;
   address = first_of (codes "address") rows;
   renditions = all_of (codes "renditions") rows;

@@ -1,10 +1,10 @@
 pub mod Numbers
 pub mod Renditions
 pub mod Addresses
-pub mod Said
+pub mod ParsedArgs
 pub mod Settings
-pub mod WrongWords
+pub mod WrongArguments
 pub mod Command
-pub mod Reading
+pub mod ReadSettings
 pub mod Options
-pub mod Building
+pub mod ClapCommand

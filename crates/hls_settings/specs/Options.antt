@@ -10,19 +10,19 @@ use Rattle.clap.specs.declared.error.kind.ErrorKind.{ErrorKind}
 use Rattle.clap.specs.declared.error.kind.ErrorKind.TheVariants as kinds
 use Rattle.hls_m3u8.specs.Uri.{IsUri, is_uri_text}
 use Rattle.hls_core_laws.specs.Config.{IsEpoch}
-use Rattle.hls_text.specs.Digits.{number_of}
-use Rattle.hls_settings.specs.declared.options_fault.OptionsFault.{OptionsFault}
-use Rattle.hls_settings.specs.declared.options_fault.OptionsFault.TheVariants as faults
+use Rattle.hls_text.specs.Digits.{number_of_digits}
+use Rattle.hls_settings.specs.declared.cut_options_fault.CutOptionsFault.{CutOptionsFault}
+use Rattle.hls_settings.specs.declared.cut_options_fault.CutOptionsFault.TheVariants as faults
 use Rattle.hls_settings.specs.Command.{value_rule, without_name}
 use Rattle.hls_settings.specs.Settings.{epoch_in}
-use Rattle.hls_settings.specs.WrongWords.{cut_options, wrong_word}
-use Rattle.hls_settings.specs.declared.wrong_word.WrongWord.{WrongWord}
+use Rattle.hls_settings.specs.WrongArguments.{cut_options, wrong_argument}
+use Rattle.hls_settings.specs.declared.wrong_argument.WrongArgument.{WrongArgument}
 use Rattle.hls_check_laws.specs.Tables.{charge_limit, target_limit}
 
 -- the options: the target duration in seconds, the URI's bytes, the preferred length in µs where a least plan is wanted,
 -- what it pays for each segment where it is least by rule 2, the moment of time 0 where it is known, and whether the
 -- plan's certificate is wanted in place of the playlist
-pub record Choice : Type 0 where
+pub record CutOptionsData : Type 0 where
   pub target : ℕ
   pub uri : List ℕ
   pub preferred : Option ℕ
@@ -39,12 +39,12 @@ IsCharge None = Unit {0}
 IsCharge (Some charge) = charge ≤ charge_limit
 
 -- the choice of these options, in the order of its fields
-abbrev pub choice_with : ℕ → List ℕ → Option ℕ → Option ℕ → Option ℤ → Bool → Choice
+abbrev pub choice_with : ℕ → List ℕ → Option ℕ → Option ℕ → Option ℤ → Bool → CutOptionsData
 choice_with target uri preferred charge epoch certificate =
     record { target = target; uri = uri; preferred = preferred; charge = charge; epoch = epoch; certificate = certificate }
 
 -- all are in their ranges
-pub record IsGood (choice : Choice) : Type 0 where
+pub record IsGood (choice : CutOptionsData) : Type 0 where
   pub least : 1 ≤ choice.target
   pub most : choice.target ≤ target_limit
   pub is_uri : IsUri choice.uri
@@ -72,7 +72,7 @@ in_range target = cond (nat_lt 0 target && nat_le target target_limit) (Some tar
 -- the target duration: the text's, or 6
 abbrev pub target_in : Option Text → Option ℕ
 target_in None = Some 6
-target_in (Some text) = option_and_then in_range (number_of 16 text)
+target_in (Some text) = option_and_then in_range (number_of_digits 16 text)
 
 -- a preferred length in its range of 1 µs to the target
 abbrev pub preferred_at : ℕ → ℕ → Option (Option ℕ)
@@ -81,7 +81,7 @@ preferred_at target length = cond (nat_lt 0 length && not (nat_lt (target * 1000
 -- the preferred length, where one is given
 abbrev pub preferred_in : ℕ → Option Text → Option (Option ℕ)
 preferred_in target None = Some None
-preferred_in target (Some text) = option_and_then (preferred_at target) (number_of 16 text)
+preferred_in target (Some text) = option_and_then (preferred_at target) (number_of_digits 16 text)
 
 -- a charge in its range of 0 to 3600000000 µs, where one is given
 abbrev pub charge_at : ℕ → Option (Option ℕ)
@@ -89,7 +89,7 @@ charge_at charge = cond (nat_le charge charge_limit) (Some (Some charge)) None
 
 abbrev pub charge_in : Option Text → Option (Option ℕ)
 charge_in None = Some None
-charge_in (Some text) = option_and_then charge_at (number_of 16 text)
+charge_in (Some text) = option_and_then charge_at (number_of_digits 16 text)
 
 -- one that a playlist can name
 abbrev pub checked_uri : List ℕ → Option (List ℕ)
@@ -106,70 +106,70 @@ is_set None = false
 is_set (Some text) = bytes_eq text (codes "true")
 
 -- `--each` excludes `--preferred` and `--certificate`
-abbrev pub stands_alone : Bool → Bool → Bool → Bool
-stands_alone each preferred certificate = not (each && (preferred || certificate))
+abbrev pub allows_each : Bool → Bool → Bool → Bool
+allows_each each preferred certificate = not (each && (preferred || certificate))
 
 -- `--certificate` and `--charge` need `--preferred`
-abbrev pub is_planned : Bool → Bool → Bool → Bool
-is_planned preferred certificate charge = not ((certificate || charge) && not preferred)
+abbrev pub has_needed_preferred : Bool → Bool → Bool → Bool
+has_needed_preferred preferred certificate charge = not ((certificate || charge) && not preferred)
 
 -- what a good value leads to, or what is wrong
-abbrev pub or_wrong : {A : Type 0} → OptionsFault → Option A → (A → Result Choice OptionsFault) → Result Choice OptionsFault
+abbrev pub or_wrong : {A : Type 0} → CutOptionsFault → Option A → (A → Result CutOptionsData CutOptionsFault) → Result CutOptionsData CutOptionsFault
 or_wrong fault None next = Err fault
 or_wrong fault (Some value) next = next value
 
 -- what good values come to
-abbrev pub chosen : ℕ → List ℕ → Option ℕ → Option ℕ → Option ℤ → Bool → Bool → Result Choice OptionsFault
-chosen target uri preferred charge epoch each certificate =
-    cond (stands_alone each (is_some preferred) certificate)
-    (cond (is_planned (is_some preferred) certificate (is_some charge)) (Ok (choice_with target uri preferred charge epoch certificate)) (Err faults.Unplanned))
+abbrev pub options_or_fault : ℕ → List ℕ → Option ℕ → Option ℕ → Option ℤ → Bool → Bool → Result CutOptionsData CutOptionsFault
+options_or_fault target uri preferred charge epoch each certificate =
+    cond (allows_each each (is_some preferred) certificate)
+    (cond (has_needed_preferred (is_some preferred) certificate (is_some charge)) (Ok (choice_with target uri preferred charge epoch certificate)) (Err faults.Unplanned))
     (Err faults.Each)
 
-abbrev pub choice_in : Option Text → Option Text → Option Text → Option Text → Option Text → Option Text → Option Text → Result Choice OptionsFault
+abbrev pub choice_in : Option Text → Option Text → Option Text → Option Text → Option Text → Option Text → Option Text → Result CutOptionsData CutOptionsFault
 choice_in each preferred certificate target uri charge epoch =
     or_wrong faults.Target (target_in target) (λ t. or_wrong faults.Uri (uri_in uri) (λ u. or_wrong faults.Preferred (preferred_in t preferred) (λ p.
-    or_wrong faults.Charge (charge_in charge) (λ c. or_wrong faults.Epoch (epoch_in epoch) (λ e. chosen t u p c e (is_set each) (is_set certificate))))))
+    or_wrong faults.Charge (charge_in charge) (λ c. or_wrong faults.Epoch (epoch_in epoch) (λ e. options_or_fault t u p c e (is_set each) (is_set certificate))))))
 
 -- whether the options that are given stand together. For the code alone
-abbrev pub check_together : Bool → Bool → Bool → Bool → Result (Unit {0}) OptionsFault
+abbrev pub check_together : Bool → Bool → Bool → Bool → Result (Unit {0}) CutOptionsFault
 check_together each preferred certificate charge =
-    cond (stands_alone each preferred certificate) (cond (is_planned preferred certificate charge) (Ok tt) (Err faults.Unplanned)) (Err faults.Each)
+    cond (allows_each each preferred certificate) (cond (has_needed_preferred preferred certificate charge) (Ok tt) (Err faults.Unplanned)) (Err faults.Each)
 
 -- the choice with this target duration and URI, by the values of the other options. For the code alone
-abbrev pub choice_after : ℕ → List ℕ → (List ℕ → Option Text) → Result Choice OptionsFault
+abbrev pub choice_after : ℕ → List ℕ → (List ℕ → Option Text) → Result CutOptionsData CutOptionsFault
 choice_after target uri value =
     or_wrong faults.Preferred (preferred_in target (value (codes "preferred"))) (λ p. or_wrong faults.Charge (charge_in (value (codes "charge"))) (λ c.
-    or_wrong faults.Epoch (epoch_in (value (codes "epoch"))) (λ e. chosen target uri p c e (is_set (value (codes "each"))) (is_set (value (codes "certificate"))))))
+    or_wrong faults.Epoch (epoch_in (value (codes "epoch"))) (λ e. options_or_fault target uri p c e (is_set (value (codes "each"))) (is_set (value (codes "certificate"))))))
 
 -- words that `clap` refuses are refused by the first that can't stand where it does
-abbrev pub unless_refused : Kinds → Option WrongWord → Result Choice OptionsFault → Result Choice OptionsFault
+abbrev pub unless_refused : Kinds → Option WrongArgument → Result CutOptionsData CutOptionsFault → Result CutOptionsData CutOptionsFault
 unless_refused [] wrong choice = choice
-unless_refused (k ∷ ks) wrong choice = Err (faults.Words wrong)
+unless_refused (k ∷ ks) wrong choice = Err (faults.Arguments wrong)
 
 -- by the value of each option, where it is given
-abbrev pub choice_by : (List ℕ → Option Text) → Result Choice OptionsFault
+abbrev pub choice_by : (List ℕ → Option Text) → Result CutOptionsData CutOptionsFault
 choice_by value =
     choice_in (value (codes "each")) (value (codes "preferred")) (value (codes "certificate")) (value (codes "target"))
     (value (codes "uri")) (value (codes "charge")) (value (codes "epoch"))
 
-abbrev pub choice_of : List Row → Result Choice OptionsFault
+abbrev pub choice_of : List Row → Result CutOptionsData CutOptionsFault
 choice_of rows = choice_by (λ name. first_of name rows)
 
 -- the options that the words give, or which word is wrong first
-unfoldable pub options_of : List Text → Result Choice OptionsFault
-options_of words = unless_refused (fault_of cut_app words) (wrong_word cut_options false words) (choice_of (matches_of cut_app words))
+unfoldable pub options_of : List Text → Result CutOptionsData CutOptionsFault
+options_of arguments = unless_refused (fault_of cut_app arguments) (wrong_argument cut_options false arguments) (choice_of (matches_of cut_app arguments))
 
 -- want of memory may come instead
-abbrev pub ReadsOptions : List Text → Result Choice OptionsFault → Type 0
-ReadsOptions words (Err faults.Memory) = Unit {0}
-ReadsOptions words result = options_of words ≡ result
+abbrev pub ReadsOptions : List Text → Result CutOptionsData CutOptionsFault → Type 0
+ReadsOptions arguments (Err faults.Memory) = Unit {0}
+ReadsOptions arguments result = options_of arguments ≡ result
 
 -- words that are refused, but for want of memory. For the code alone
-abbrev pub refused_option : ErrorKind → Option WrongWord → OptionsFault
+abbrev pub refused_option : ErrorKind → Option WrongArgument → CutOptionsFault
 refused_option kinds.OutOfMemory wrong = faults.Memory
-refused_option _ wrong = faults.Words wrong
+refused_option _ wrong = faults.Arguments wrong
 
 -- what `clap` finds in the words leads to the options that they give. For the code alone
-abbrev pub FindsOptions : List Text → Result ArgMatches OptionsFault → Type 0
-FindsOptions words (Ok matches) = choice_by (first_value (found_of matches)) ≡ options_of words
-FindsOptions words (Err fault) = ReadsOptions words (Err fault)
+abbrev pub FindsOptions : List Text → Result ArgMatches CutOptionsFault → Type 0
+FindsOptions arguments (Ok matches) = choice_by (first_value (found_of matches)) ≡ options_of arguments
+FindsOptions arguments (Err fault) = ReadsOptions arguments (Err fault)

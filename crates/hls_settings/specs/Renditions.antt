@@ -2,7 +2,7 @@
 use Rattle.std.specs.Prelude.{ℕ, List, Option, Some, None, cond, Bool, true, false, codes}
 use Rattle.std.specs.Str.{bytes_eq}
 use Rattle.hls_core_laws.specs.declared.rendition.Rendition.{Rendition}
-use Rattle.hls_text.specs.Digits.{number_of}
+use Rattle.hls_text.specs.Digits.{number_of_digits}
 use Rattle.hls_settings.specs.Numbers.{cut_at}
 
 -- whether a kind is video
@@ -17,7 +17,7 @@ rendition_with name video (Some bandwidth) (Some tolerance) = Some (record { nam
 abbrev pub rendition_by : List ℕ → Option Bool → Option (List ℕ × List ℕ) → Option Rendition
 rendition_by name None numbers = None
 rendition_by name (Some video) None = None
-rendition_by name (Some video) (Some numbers) = rendition_with name video (number_of 16 numbers.0) (number_of 16 numbers.1)
+rendition_by name (Some video) (Some numbers) = rendition_with name video (number_of_digits 16 numbers.0) (number_of_digits 16 numbers.1)
 
 abbrev pub rendition_after : List ℕ → Option (List ℕ × List ℕ) → Option Rendition
 rendition_after name None = None

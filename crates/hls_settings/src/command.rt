@@ -1,7 +1,7 @@
 //! The words as `clap` reads them.
 ghost use Rattle.std.specs.Prelude.{◌≡◌, IfOk, false, map};
 ghost use Rattle.clap.specs.Words.{app_of, new_app, rule_of};
-ghost use Rattle.hls_settings.specs.Building.{command_with, option_rule};
+ghost use Rattle.hls_settings.specs.ClapCommand.{command_with, option_rule};
 ghost use Rattle.hls_settings.specs.Command.{serve_app, without_name};
 
 use clap::{Arg, ArgAction, Command};
@@ -22,7 +22,7 @@ pub const OPTIONS: [(&str, bool); 10] = [
 ];
 
 /// An option by its long name, which takes a value or none.
-fn option<'a>(alloc: Global, name: &'a str, takes_value: bool) -> Arg<'a>
+fn build_option<'a>(alloc: Global, name: &'a str, takes_value: bool) -> Arg<'a>
     ensures rule { rule_of result ≡ option_rule name.entry.now takes_value }
     ensures local { result.global ≡ false }
 {
@@ -35,7 +35,7 @@ fn option<'a>(alloc: Global, name: &'a str, takes_value: bool) -> Arg<'a>
 }
 
 /// A command of such a name, with which its words don't begin.
-fn named<'a>(alloc: Global, name: &'a str) -> Command<'a>
+fn build_subcommand<'a>(alloc: Global, name: &'a str) -> Command<'a>
     ensures { app_of result ≡ without_name (new_app name.entry.now) }
 {
     Command::new(alloc, name).no_binary_name(true)
@@ -49,19 +49,19 @@ pub fn with_options<'a>(
 ) -> Result<Command<'a>, AllocError>
     ensures { IfOk result (λ made. app_of made ≡ command_with name.entry.now (map (λ o. (o.0.now, o.1)) options.entry.now)) }
 {
-    let mut command = named(alloc, name);
+    let mut command = build_subcommand(alloc, name);
     for (long, takes_value) in options {
-        command = command.arg(option(alloc, long, *takes_value))?;
+        command = command.arg(build_option(alloc, long, *takes_value))?;
     }
     Ok(command)
 }
 
 /// The command as `clap` reads it.
-pub fn command<'a>(alloc: Global) -> Result<Command<'a>, AllocError>
+pub fn serve_command<'a>(alloc: Global) -> Result<Command<'a>, AllocError>
     ensures { IfOk result (λ made. app_of made ≡ serve_app) }
 {
     let command = with_options(alloc, "serve", &OPTIONS)?;
     let command = command.arg(Arg::new(alloc, "address"))?;
-    let words = Arg::new(alloc, "renditions").action(ArgAction::Append);
-    command.arg(words)
+    let arguments = Arg::new(alloc, "renditions").action(ArgAction::Append);
+    command.arg(arguments)
 }

@@ -4,9 +4,9 @@ ghost use Rattle.hls_core_laws.specs.Config.{IsEpoch};
 ghost use Rattle.hls_settings.specs.Settings.{epoch_in, epoch_within, text_of};
 
 use hls_core::config::LAST_EPOCH;
-use hls_instants::instant_of;
+use hls_instants::parse_instant;
 
-fn within(us: i64) -> Option<Option<i64>>
+fn check_epoch(us: i64) -> Option<Option<i64>>
     ensures value { result ≡ epoch_within us }
     ensures bounds { IfSome result IsEpoch }
 {
@@ -25,6 +25,6 @@ pub fn read_epoch(text: Option<&str>) -> Option<Option<i64>>
 {
     match text {
         None => Some(None),
-        Some(text) => within(instant_of(text.as_bytes())?),
+        Some(text) => check_epoch(parse_instant(text.as_bytes())?),
     }
 }

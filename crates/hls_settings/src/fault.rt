@@ -1,13 +1,13 @@
-//! Which word is wrong.
+//! Which argument is wrong.
 
-use crate::wrong_word::WrongWord;
+use crate::wrong_argument::WrongArgument;
 
-/// Which word after `serve` is wrong first, in the order of the variants.
+/// Which argument of `serve` is wrong first, in the order of the variants.
 #[derive(Clone, Copy, Debug, PartialEq, Eq, Drop)]
 pub enum SettingsFault {
-    /// An option that doesn't exist, is given twice or has no value: the first such word, or `None` where `clap` refuses the words
-    /// and none of them is such.
-    Words(Option<WrongWord>),
+    /// An option that doesn't exist, is given twice or has no value: the first such argument, or `None` where `clap` refuses the
+    /// arguments and none of them is such.
+    Arguments(Option<WrongArgument>),
     /// `--target` isn't 1 to 3600 seconds.
     Target,
     /// `--preferred` isn't 1 microsecond to the target.

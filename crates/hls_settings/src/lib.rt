@@ -1,30 +1,30 @@
 //! What the words after `serve` and `cut` ask for, or which word is wrong and what it may be.
 #![tactic(auto)]
 
-mod address;
 mod command;
+mod cut_options;
+mod cut_options_fault;
 mod epoch;
 mod fault;
+mod listen_address;
 mod number;
-mod options;
-mod options_fault;
-mod plain;
-mod rendition;
+mod printable_argument;
+mod rendition_spec;
+mod server_settings;
 mod settings;
-mod shown;
-mod timing;
-mod workers;
-mod wrong;
-mod wrong_word;
+mod settings_message;
+mod thread_settings;
+mod window_settings;
+mod wrong_argument;
 
-pub use address::{Address, read_address};
+pub use cut_options::{CutOptions, read_options};
+pub use cut_options_fault::CutOptionsFault;
 pub use fault::SettingsFault;
-pub use options::{Options, read_options};
-pub use options_fault::OptionsFault;
-pub use plain::Plain;
+pub use listen_address::{ListenAddress, read_address};
+pub use printable_argument::PrintableArgument;
+pub use server_settings::ServerSettings;
 pub use settings::{Settings, read_settings};
-pub use shown::Shown;
-pub use timing::Timing;
-pub use workers::Workers;
-pub use wrong::Wrong;
-pub use wrong_word::{WordFault, WrongWord};
+pub use settings_message::SettingsMessage;
+pub use thread_settings::ThreadSettings;
+pub use window_settings::WindowSettings;
+pub use wrong_argument::{ArgumentFault, WrongArgument};

@@ -4,15 +4,15 @@ ghost use Rattle.clap.specs.Words.{found_of, matched_of, raw_values};
 ghost use Rattle.hls_core_laws.specs.Config.{IsEpoch, IsTarget, IsPreferred};
 ghost use Rattle.hls_settings.specs.Command.{texts_in};
 ghost use Rattle.clap.specs.Words.{kind_of};
-ghost use Rattle.hls_settings.specs.Reading.{Configures, Finds, Reads, ReadsRendition, ReadsRenditions, Sets, SetsBy, refused_by, words_of};
-ghost use Rattle.hls_settings.specs.Settings.{plain_of};
+ghost use Rattle.hls_settings.specs.ReadSettings.{Configures, FindsSettings, ReadsSettings, ReadsRendition, ReadsRenditions, MakesSettings, SetsBy, refused_by, rendition_arguments};
+ghost use Rattle.hls_settings.specs.Settings.{server_settings_of};
 
-use crate::command::{OPTIONS, command};
+use crate::command::{OPTIONS, serve_command};
 use crate::fault::SettingsFault;
-use crate::plain::{Plain, read_plain};
-use crate::rendition::{named, read_word};
-use crate::timing::Timing;
-use crate::wrong_word::{WrongWord, find_wrong};
+use crate::rendition_spec::{make_rendition, parse_spec};
+use crate::server_settings::{ServerSettings, read_server_settings};
+use crate::window_settings::WindowSettings;
+use crate::wrong_argument::{WrongArgument, find_wrong_argument};
 use clap::error::ErrorKind;
 use clap::{ArgMatches, Error};
 use hls_core::config::{Config, ConfigFault};
@@ -23,31 +23,31 @@ use std::convert::AsStr;
 /// What a server is started with.
 #[derive(Drop)]
 pub struct Settings {
-    pub plain: Plain,
+    pub server: ServerSettings,
     /// The channel.
     pub config: Config,
 }
 
 /// The rendition that a word says, which is the n-th.
-fn read_rendition(alloc: Global, n: usize, word: &str) -> Result<Rendition, SettingsFault>
-    ensures { ReadsRendition n word.now result }
+fn read_rendition(alloc: Global, n: usize, argument: &str) -> Result<Rendition, SettingsFault>
+    ensures { ReadsRendition n argument.now result }
 {
-    let Some(word) = read_word(word) else {
+    let Some(argument) = parse_spec(argument) else {
         return Err(SettingsFault::Rendition(n));
     };
-    match named(alloc, word) {
+    match make_rendition(alloc, argument) {
         Ok(rendition) => Ok(rendition),
         Err(_) => Err(SettingsFault::Memory),
     }
 }
 
 /// The renditions that the words say, in their order.
-fn read_renditions(alloc: Global, words: &[&str]) -> Result<Vec<Rendition>, SettingsFault>
-    ensures { ReadsRenditions (map (λ w. w.now) words.now) result }
+fn read_renditions(alloc: Global, arguments: &[&str]) -> Result<Vec<Rendition>, SettingsFault>
+    ensures { ReadsRenditions (map (λ w. w.now) arguments.now) result }
 {
     let mut renditions = Vec::new(alloc);
-    for word in words {
-        let rendition = read_rendition(alloc, renditions.len(), word)?;
+    for argument in arguments {
+        let rendition = read_rendition(alloc, renditions.len(), argument)?;
         let Ok(()) = renditions.push(rendition) else {
             return Err(SettingsFault::Memory);
         };
@@ -56,9 +56,9 @@ fn read_renditions(alloc: Global, words: &[&str]) -> Result<Vec<Rendition>, Sett
 }
 
 /// The channel of these renditions.
-fn configure(
+fn make_config(
     alloc: Global,
-    timing: Timing,
+    timing: WindowSettings,
     epoch: Option<i64>,
     renditions: Vec<Rendition>,
 ) -> Result<Config, SettingsFault>
@@ -78,61 +78,68 @@ fn configure(
 }
 
 /// The settings with these renditions.
-fn set(alloc: Global, plain: Plain, words: &[&str]) -> Result<Settings, SettingsFault>
-    requires target { IsTarget plain.timing.target }
-    requires preferred { IsPreferred plain.timing.target plain.timing.preferred }
-    requires epoch { IsEpoch plain.epoch }
-    ensures { Sets plain (map (λ w. w.now) words.now) result }
+fn make_settings(
+    alloc: Global,
+    server: ServerSettings,
+    arguments: &[&str],
+) -> Result<Settings, SettingsFault>
+    requires target { IsTarget server.timing.target }
+    requires preferred { IsPreferred server.timing.target server.timing.preferred }
+    requires epoch { IsEpoch server.epoch }
+    ensures { MakesSettings server (map (λ w. w.now) arguments.now) result }
 {
-    let renditions = read_renditions(alloc, words)?;
-    let config = configure(alloc, plain.timing, plain.epoch, renditions)?;
-    Ok(Settings { plain, config })
+    let renditions = read_renditions(alloc, arguments)?;
+    let config = make_config(alloc, server.timing, server.epoch, renditions)?;
+    Ok(Settings { server, config })
 }
 
 /// The settings among what `clap` found.
-fn settings_in(alloc: Global, matches: &ArgMatches) -> Result<Settings, SettingsFault>
-    ensures { SetsBy (plain_of (texts_in (found_of matches.now))) (words_of (texts_in (found_of matches.now)).renditions) result }
+fn settings_from_matches(alloc: Global, matches: &ArgMatches) -> Result<Settings, SettingsFault>
+    ensures { SetsBy (server_settings_of (texts_in (found_of matches.now))) (rendition_arguments (texts_in (found_of matches.now)).renditions) result }
 {
-    let plain = read_plain(matches)?;
+    let server = read_server_settings(matches)?;
     match matches.get_strs("renditions") {
-        Some(words) => set(alloc, plain, words),
-        None => set(alloc, plain, &[]),
+        Some(arguments) => make_settings(alloc, server, arguments),
+        None => make_settings(alloc, server, &[]),
     }
 }
 
 /// Why `clap` took no settings, by the first word that can't stand where it does.
-fn refused(error: &Error, wrong: Option<WrongWord>) -> SettingsFault
+fn fault_from_clap(error: &Error, wrong: Option<WrongArgument>) -> SettingsFault
     ensures { result ≡ refused_by (kind_of error.now) wrong }
 {
     if error.kind() == ErrorKind::OutOfMemory {
         SettingsFault::Memory
     } else {
-        SettingsFault::Words(wrong)
+        SettingsFault::Arguments(wrong)
     }
 }
 
 /// What `clap` finds in the words, or why it takes none.
 fn find_settings<'a, S: AsStr>(
     alloc: Global,
-    words: &'a [S],
+    arguments: &'a [S],
 ) -> Result<ArgMatches<'a>, SettingsFault>
-    ensures { Finds (map S.text words.entry.now) result }
+    ensures { FindsSettings (map S.text arguments.entry.now) result }
 {
-    let Ok(command) = command(alloc) else {
+    let Ok(command) = serve_command(alloc) else {
         return Err(SettingsFault::Memory);
     };
-    match command.try_get_matches_from(words) {
+    match command.try_get_matches_from(arguments) {
         Ok(matches) => Ok(matches),
-        Err(error) => Err(refused(&error, find_wrong(&OPTIONS, true, words))),
+        Err(error) => Err(fault_from_clap(&error, find_wrong_argument(&OPTIONS, true, arguments))),
     }
 }
 
 /// Reads the words after `serve`: options, then the address `a.b.c.d:port`, then a word `name:kind:bandwidth:tolerance` for
 /// each rendition. The first word that is wrong is told, in the order of the variants of `SettingsFault`; `Memory` comes only
 /// where a growth was refused.
-pub fn read_settings<'a, S: AsStr>(alloc: Global, words: &'a [S]) -> Result<Settings, SettingsFault>
-    ensures { Reads (map S.text words.entry.now) result }
+pub fn read_settings<'a, S: AsStr>(
+    alloc: Global,
+    arguments: &'a [S],
+) -> Result<Settings, SettingsFault>
+    ensures { ReadsSettings (map S.text arguments.entry.now) result }
 {
-    let matches = find_settings(alloc, words)?;
-    settings_in(alloc, &matches)
+    let matches = find_settings(alloc, arguments)?;
+    settings_from_matches(alloc, &matches)
 }

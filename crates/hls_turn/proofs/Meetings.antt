@@ -9,12 +9,12 @@ use Rattle.hls_core_laws.specs.Follows.{Follows}
 use Rattle.hls_core_laws.specs.Workers.{events_by}
 use Rattle.hls_core_laws.proofs.Callers.{follows_itself, follows_through, workers_settled}
 use Rattle.hls_turn.specs.Passes.{PassData}
-use Rattle.hls_turn.specs.Calls.{Looked, LooksAt, MeetsAt, SettledAt, last_seen}
+use Rattle.hls_turn.specs.Calls.{HasLooked, LooksAt, MeetsAt, SettledAt, last_seen}
 
 abbrev seen_of : PassData → State
 seen_of p = p.known.seen
 
-pub looked_through : (a b c : PassData) → Looked a b → Looked b c → Looked a c
+pub looked_through : (a b c : PassData) → HasLooked a b → HasLooked b c → HasLooked a c
 looked_through a b c first then = record {
   turn = then.turn ∙ first.turn;
   looked = record {
@@ -24,7 +24,7 @@ looked_through a b c first then = record {
   };
 }
 
-pub all_looked : (olds mids news : List PassData) → AllZip Looked olds mids → AllZip Looked mids news → AllZip Looked olds news
+pub all_looked : (olds mids news : List PassData) → AllZip HasLooked olds mids → AllZip HasLooked mids news → AllZip HasLooked olds news
 all_looked [] [] [] first then = tt
 all_looked [] [] (c ∷ news) first then = absurd then
 all_looked [] (b ∷ mids) news first then = absurd first
@@ -33,7 +33,7 @@ all_looked (a ∷ olds) (b ∷ mids) [] first then = absurd then
 all_looked (a ∷ olds) (b ∷ mids) (c ∷ news) first then = (looked_through a b c first.0 then.0, all_looked olds mids news first.1 then.1)
 
 -- one pass: s follows what it saw, and has just its events
-meets : (s : State) (a b c : PassData) → Looked a b → LooksAt b c → Follows c.known.seen s → events_by c.known.number s.log ≡ events_by c.known.number c.known.seen.log → MeetsAt s a c
+meets : (s : State) (a b c : PassData) → HasLooked a b → LooksAt b c → Follows c.known.seen s → events_by c.known.number s.log ≡ events_by c.known.number c.known.seen.log → MeetsAt s a c
 meets s a b c looked looks follows entries =
     let through = looked_through a b c looked (record { turn = looks.turn; looked = looks.looks.looked }) in
     let number : c.known.number ≡ b.known.number = looks.looks.looked.number in
@@ -54,7 +54,7 @@ no_more : {A : Type 0} (xs : List A) (x : A) → [] ≡ xs ++ x ∷ [] → ⊥
 no_more [] x e = let never : [] ≡ x ∷ [] = e in absurd (cc)
 no_more (y ∷ ys) x e = let never : [] ≡ y ∷ (ys ++ x ∷ []) = e in absurd (cc)
 
-none_left : (s : State) (olds mids news : List PassData) → AllZip Looked olds mids → AllZip LooksAt mids news → map seen_of news ≡ [] → AllZip (MeetsAt s) olds news
+none_left : (s : State) (olds mids news : List PassData) → AllZip HasLooked olds mids → AllZip LooksAt mids news → map seen_of news ≡ [] → AllZip (MeetsAt s) olds news
 none_left s [] [] [] looked looks none = tt
 none_left s [] [] (c ∷ news) looked looks none = absurd looks
 none_left s [] (b ∷ mids) news looked looks none = absurd looked
@@ -63,7 +63,7 @@ none_left s (a ∷ olds) (b ∷ mids) [] looked looks none = absurd looks
 none_left s (a ∷ olds) (b ∷ mids) (c ∷ news) looked looks none = let never : c.known.seen ∷ map seen_of news ≡ [] = none in absurd (cc)
 
 -- all of them: the last has seen s, and s is settled for each of the others
-pub all_meet : (s : State) (states : List State) (olds mids news : List PassData) → AllZip Looked olds mids → AllZip LooksAt mids news → map seen_of news ≡ states ++ s ∷ [] → AllZip (SettledAt s) states (take (length states) news) → AllZip (MeetsAt s) olds news
+pub all_meet : (s : State) (states : List State) (olds mids news : List PassData) → AllZip HasLooked olds mids → AllZip LooksAt mids news → map seen_of news ≡ states ++ s ∷ [] → AllZip (SettledAt s) states (take (length states) news) → AllZip (MeetsAt s) olds news
 all_meet s states [] [] [] looked looks are settled = tt
 all_meet s states [] [] (c ∷ news) looked looks are settled = absurd looks
 all_meet s states [] (b ∷ mids) news looked looks are settled = absurd looked
@@ -93,10 +93,10 @@ last_is s states (c ∷ news) are = let is : suc (length news) - 1 ≡ length ne
     ap (λ (n : ℕ). option_map seen_of (slice_get (c ∷ news) n)) is ∙ last_at s states c news are
 
 -- as many passes, and each keeps its turn
-pub as_many : (olds news : List PassData) → AllZip Looked olds news → length news ≡ length olds
-as_many olds news looked = AllZip-long Looked olds news looked
+pub as_many : (olds news : List PassData) → AllZip HasLooked olds news → length news ≡ length olds
+as_many olds news looked = AllZip-long HasLooked olds news looked
 
-pub all_ours : (turn : TableId) (olds news : List PassData) → AllZip Looked olds news → All (λ (p : PassData). p.turn ≡ turn) olds → All (λ (p : PassData). p.turn ≡ turn) news
+pub all_ours : (turn : TableId) (olds news : List PassData) → AllZip HasLooked olds news → All (λ (p : PassData). p.turn ≡ turn) olds → All (λ (p : PassData). p.turn ≡ turn) news
 all_ours turn olds news looked ours k d low =
     let low' : k < length olds = subst (λ (n : ℕ). k < n) (as_many olds news looked) low in
-    (AllZip-get_or Looked olds news k d d looked low').turn ∙ ours k d low'
+    (AllZip-get_or HasLooked olds news k d d looked low').turn ∙ ours k d low'

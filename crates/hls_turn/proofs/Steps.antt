@@ -12,10 +12,10 @@ use Rattle.hls_core_laws.specs.Follows.{Follows}
 use Rattle.hls_core_laws.specs.Workers.{events_by}
 use Rattle.hls_core_laws.proofs.Callers.{follows_itself, follows_through, moves_follow, workers_apart}
 use Rattle.hls_turn.specs.declared.view.View.{View}
-use Rattle.hls_turn.specs.Rule.{newcomer, after_take, after_put, with_one_more, beside, log_seen, Takes, FollowsSeen, Advances, MayPut, Each, Knows, Unmade, IsFree, IsFreeBut, Lies, IsHeld, Runs, Opens, Keeps}
+use Rattle.hls_turn.specs.Rule.{new_view, after_take, after_put, with_one_more, split_view, log_seen, TakesState, FollowsSeen, Advances, MayPut, EachView, Knows, HasNoPass, IsFree, IsFreeBut, Lies, IsHeld, Runs, Opens, Keeps}
 
 -- where one view is set, a fact of every view needs showing of the new one, and of the others from what they were
-each_set : (P : ℕ → View → Type 0) (views : List View) (port : ℕ) (w : View) → P port w → ((j : ℕ) (u : View) → j ≢ port → get_elem? views j ≡ some u → P j u) → Each P (set views port w)
+each_set : (P : ℕ → View → Type 0) (views : List View) (port : ℕ) (w : View) → P port w → ((j : ℕ) (u : View) → j ≢ port → get_elem? views j ≡ some u → P j u) → EachView P (set views port w)
 each_set P views port w mine others j u e = ⊎_elim
     (λ (x : (j ≡ port) × (w ≡ u)). subst (λ (y : ℕ × View). P y.0 y.1) (λ i. (sym x.0 i, x.1 i)) mine)
     (λ (x : (j ≢ port) × (get_elem? views j ≡ some u)). others j u x.0 x.1)
@@ -71,43 +71,43 @@ advances-apart t s number other = ⊎_elim (λ is apart. ap (λ (x : State). eve
     (λ e apart. (workers_apart t s number other e.0 e.3).1 apart)
 
 -- the views of a run, each set by w at this port, where w is the port's own and still knows the state
-knows-set : (s : State) (views : List View) (port : ℕ) (w : View) → Each (Knows s) views → Knows s port w → Each (Knows s) (set views port w)
+knows-set : (s : State) (views : List View) (port : ℕ) (w : View) → EachView (Knows s) views → Knows s port w → EachView (Knows s) (set views port w)
 knows-set s views port w each mine = each_set (Knows s) views port w mine (λ j u _ at. each j u at)
 
--- `made` is kept where the view at 0, if set, keeps its count
-made-set : (views : List View) (port : ℕ) (v w : View) → get_elem? views port ≡ some v → w.made ≡ v.made → ((u : View) → get_elem? views 0 ≡ some u → u.made ≡ length views)
-    → (u : View) → get_elem? (set views port w) 0 ≡ some u → u.made ≡ length (set views port w)
-made-set views port v w at same made u e = ⊎_elim
-    (λ (x : (0 ≡ port) × (w ≡ u)). ap (λ (y : View). y.made) (sym x.1) ∙ same ∙ made v (subst (λ (i : ℕ). get_elem? views i ≡ some v) (sym x.0) at) ∙ sym (length_set views port w))
-    (λ (x : (0 ≢ port) × (get_elem? views 0 ≡ some u)). made u x.1 ∙ sym (length_set views port w))
+-- `pass_count` is kept where the view at 0, if set, keeps its count
+pass_count-set : (views : List View) (port : ℕ) (v w : View) → get_elem? views port ≡ some v → w.pass_count ≡ v.pass_count → ((u : View) → get_elem? views 0 ≡ some u → u.pass_count ≡ length views)
+    → (u : View) → get_elem? (set views port w) 0 ≡ some u → u.pass_count ≡ length (set views port w)
+pass_count-set views port v w at same pass_count u e = ⊎_elim
+    (λ (x : (0 ≡ port) × (w ≡ u)). ap (λ (y : View). y.pass_count) (sym x.1) ∙ same ∙ pass_count v (subst (λ (i : ℕ). get_elem? views i ≡ some v) (sym x.0) at) ∙ sym (length_set views port w))
+    (λ (x : (0 ≢ port) × (get_elem? views 0 ≡ some u)). pass_count u x.1 ∙ sym (length_set views port w))
     (at_set views port 0 w u e)
 
-alone-at : (views : List View) (port : ℕ) (v : View) → views ≡ newcomer ∷ [] → get_elem? views port ≡ some v → (port ≡ 0) × (v ≡ newcomer)
-alone-at views zero v is at = (refl, sym (some-injective newcomer v (subst (λ (l : List View). get_elem? l 0 ≡ some v) is at)))
+alone-at : (views : List View) (port : ℕ) (v : View) → views ≡ new_view ∷ [] → get_elem? views port ≡ some v → (port ≡ 0) × (v ≡ new_view)
+alone-at views zero v is at = (refl, sym (some-injective new_view v (subst (λ (l : List View). get_elem? l 0 ≡ some v) is at)))
 alone-at views (suc port) v is at = absurd (some-ne-none v (sym (subst (λ (l : List View). get_elem? l (suc port) ≡ some v) is at)))
 
-made-set-more : (views : List View) (port : ℕ) (v l : View) → get_elem? views 0 ≡ some v → (u : View) → get_elem? (set views 0 (with_one_more v)) 0 ≡ some u → u.made ≡ v.made + 1
-made-set-more views port v l at u e = ap (λ (y : View). y.made) (sym (some-injective (with_one_more v) u (sym (set_here views 0 (with_one_more v) (within views 0 v at)) ∙ e)))
+pass_count-set-more : (views : List View) (port : ℕ) (v l : View) → get_elem? views 0 ≡ some v → (u : View) → get_elem? (set views 0 (with_one_more v)) 0 ≡ some u → u.pass_count ≡ v.pass_count + 1
+pass_count-set-more views port v l at u e = ap (λ (y : View). y.pass_count) (sym (some-injective (with_one_more v) u (sym (set_here views 0 (with_one_more v) (within views 0 v at)) ∙ e)))
 
 module _ {A : Type 0} where
   held_at : (s t : State) (items : List (Arc State A)) (views : List View) (port : ℕ) (v : View) → get_elem? views port ≡ some v → v.holds ≡ Some t → (held : IsHeld s items views) → Dec (port ≡ held.holder)
-      → (items ≡ []) × (t ≡ s) × Each (IsFreeBut port) views
+      → (items ≡ []) × (t ≡ s) × EachView (IsFreeBut port) views
   held_at s t items views port v at holds held (yes is) =
       let same : v ≡ held.view = same_view views port v held.view at (subst (λ (i : ℕ). get_elem? views i ≡ some held.view) (sym is) held.at) in
       let states : Some t ≡ Some s = sym holds ∙ ap (λ (y : View). y.holds) same ∙ held.holds in
-      (held.empty, Some-injective t s states, subst (λ (i : ℕ). Each (IsFreeBut i) views) (sym is) held.free)
+      (held.empty, Some-injective t s states, subst (λ (i : ℕ). EachView (IsFreeBut i) views) (sym is) held.free)
   held_at s t items views port v at holds held (no other) = absurd (none_here v.holds t ((held.free port v at).holds other) holds)
 
   -- a pass that holds a state holds the current one, and no other pass holds any
   held_by : (s t : State) (items : List (Arc State A)) (views : List View) (port : ℕ) (v : View) → get_elem? views port ≡ some v → v.holds ≡ Some t → Lies s items views ⊎ IsHeld s items views
-      → (items ≡ []) × (t ≡ s) × Each (IsFreeBut port) views
+      → (items ≡ []) × (t ≡ s) × EachView (IsFreeBut port) views
   held_by s t items views port v at holds place = ⊎_elim
       (λ (lies : Lies s items views). absurd (none_here v.holds t (lies.free port v at).holds holds))
       (λ (held : IsHeld s items views). held_at s t items views port v at holds held (ℕ_discrete port held.holder))
       place
 
   -- where an item lies in the place, it is the current state, and no pass holds one
-  lying : (s : State) (x : Arc State A) (items : List (Arc State A)) (views : List View) → Lies s (x ∷ items) views ⊎ IsHeld s (x ∷ items) views → (items ≡ []) × (x.value ≡ s) × Each IsFree views
+  lying : (s : State) (x : Arc State A) (items : List (Arc State A)) (views : List View) → Lies s (x ∷ items) views ⊎ IsHeld s (x ∷ items) views → (items ≡ []) × (x.value ≡ s) × EachView IsFree views
   lying s x items views place = ⊎_elim
       (λ (lies : Lies s (x ∷ items) views).
       let heads : Some x ≡ Some lies.item = ap first_of lies.items_are in
@@ -117,16 +117,16 @@ module _ {A : Type 0} where
       place
 
   -- the first put: the state that it puts is the current one, and pass 0 has seen it
-  opens : (x : Arc State A) → Runs (x ∷ []) (after_put newcomer x.value ∷ [])
-  opens x = let s : State = x.value in let w : View = after_put newcomer s in
+  opens : (x : Arc State A) → Runs (x ∷ []) (after_put new_view x.value ∷ [])
+  opens x = let s : State = x.value in let w : View = after_put new_view s in
       let only : (j : ℕ) (u : View) → get_elem? (w ∷ []) j ≡ some u → (j ≡ 0) × (u ≡ w) = only-one w in
       record {
         state = s;
         place = inl (record { item = x; items_are = refl; item_is = refl; free = λ j u e. record { holds = ap (λ (y : View). y.holds) (only j u e).1 } });
         each = λ j u e. subst (λ (y : ℕ × View). Knows s y.0 y.1) (λ i. (sym (only j u e).0 i, sym (only j u e).1 i))
             (record { number = refl; last = s; seen = refl; follows = follows_itself s; mine = refl });
-        made = λ u e. ap (λ (y : View). y.made) (only 0 u e).1;
-        unmade = λ number _ j u e. record { entries = ap (λ (y : View). events_by number (log_seen y.seen)) (only j u e).1 };
+        pass_count = λ u e. ap (λ (y : View). y.pass_count) (only 0 u e).1;
+        unassigned = λ number _ j u e. record { entries = ap (λ (y : View). events_by number (log_seen y.seen)) (only j u e).1 };
       }
 
   -- a put by the one that holds the state
@@ -156,17 +156,17 @@ module _ {A : Type 0} where
               follows = follows_through known.last runs.state s known.follows follows;
               mine = apart u.number (λ same. differs (sym known.number ∙ same ∙ mine.number)) ∙ known.mine;
             });
-        made = made-set views port v w at refl runs.made;
-        unmade = λ number high. let past : length views ≤ number = subst (λ (n : ℕ). n ≤ number) (length_set views port w) high in
-            each_set (Unmade s number) views port w (record { entries = refl })
-            (λ j u differs e. record { entries = (runs.unmade number past j u e).entries ∙ sym (apart number (λ same. beyond views port v number at past (same ∙ mine.number))) });
+        pass_count = pass_count-set views port v w at refl runs.pass_count;
+        unassigned = λ number high. let past : length views ≤ number = subst (λ (n : ℕ). n ≤ number) (length_set views port w) high in
+            each_set (HasNoPass s number) views port w (record { entries = refl })
+            (λ j u differs e. record { entries = (runs.unassigned number past j u e).entries ∙ sym (apart number (λ same. beyond views port v number at past (same ∙ mine.number))) });
       }
 
   pub puts : (n port : ℕ) (v : View) (x : Arc State A) → MayPut v x.value → Pushes (Keeps {A = A}) n port v x (λ w. w ≡ after_put v x.value)
   puts n port v x may items views _ keeps at = (
     after_put v x.value,
     ⊎_elim
-        (λ (is : v ≡ newcomer). ⊎_elim
+        (λ (is : v ≡ new_view). ⊎_elim
         (λ (opening : Opens items views). let place = (alone-at views port v opening.alone at).0 in
         inr (subst (λ (y : List (Arc State A) × List View × ℕ × View). Runs (y.0 ++ x ∷ []) (set y.1 y.2 (after_put y.3 x.value)))
         (λ i. (sym opening.empty i, sym opening.alone i, sym place i, sym is i)) (opens x)))
@@ -185,13 +185,13 @@ module _ {A : Type 0} where
   empty_at_put port v x may items views keeps at = ⊎_elim
       (λ (opening : Opens items views). opening.empty)
       (λ (runs : Runs items views). ⊎_elim
-      (λ (is : v ≡ newcomer). absurd (none_here v.seen (runs.each port v at).last (ap (λ (y : View). y.seen) is) (runs.each port v at).seen))
+      (λ (is : v ≡ new_view). absurd (none_here v.seen (runs.each port v at).last (ap (λ (y : View). y.seen) is) (runs.each port v at).seen))
       (λ (holds : (t : State) × (v.holds ≡ Some t) × Advances t v.number x.value). (held_by runs.state holds.0 items views port v at holds.1 runs.place).0)
       may)
       keeps
 
   take_runs : (items : List (Arc State A)) (views : List View) (port : ℕ) (v : View) (x : Arc State A) → Runs (x ∷ items) views → get_elem? views port ≡ some v
-      → Runs items (set views port (after_take v x.value)) × Takes v x.value (after_take v x.value)
+      → Runs items (set views port (after_take v x.value)) × TakesState v x.value (after_take v x.value)
   take_runs items views port v x runs at =
       let s : State = x.value in let w : View = after_take v s in
       let lies = lying runs.state x items views runs.place in
@@ -211,10 +211,10 @@ module _ {A : Type 0} where
           each = each_set (Knows s) views port w
               (record { number = mine.number; last = s; seen = refl; follows = follows_itself s; mine = entries })
               (λ j u _ e. subst (λ (y : State). Knows y j u) current (runs.each j u e));
-          made = made-set views port v w at refl runs.made;
-          unmade = λ number high. let past : length views ≤ number = subst (λ (n : ℕ). n ≤ number) (length_set views port w) high in
-              each_set (Unmade s number) views port w (record { entries = refl })
-              (λ j u _ e. subst (λ (y : State). Unmade y number j u) current (runs.unmade number past j u e));
+          pass_count = pass_count-set views port v w at refl runs.pass_count;
+          unassigned = λ number high. let past : length views ≤ number = subst (λ (n : ℕ). n ≤ number) (length_set views port w) high in
+              each_set (HasNoPass s number) views port w (record { entries = refl })
+              (λ j u _ e. subst (λ (y : State). HasNoPass y number j u) current (runs.unassigned number past j u e));
         },
         record {
           follows = subst (λ (y : Option State). FollowsSeen y s) (sym mine.seen) (subst (λ (y : State). Follows mine.last y) current mine.follows);
@@ -223,18 +223,18 @@ module _ {A : Type 0} where
         },
       )
 
-  pub takes : (port : ℕ) (v : View) → Pops (Keeps {A = A}) port v (λ x w. Takes v x.value w)
+  pub takes : (port : ℕ) (v : View) → Pops (Keeps {A = A}) port v (λ x w. TakesState v x.value w)
   takes port v x items views keeps at = ⊎_elim
       (λ (opening : Opens (x ∷ items) views). let never : x ∷ items ≡ [] = opening.empty in absurd (cc))
       (λ (runs : Runs (x ∷ items) views). let taken = take_runs items views port v x runs at in (after_take v x.value, inr taken.0, taken.1))
       keeps
 
-  pub begins : Keeps {A = A} [] (newcomer ∷ [])
+  pub begins : Keeps {A = A} [] (new_view ∷ [])
   begins = inl (record { empty = refl; alone = refl })
 
 -- pass 0 with so many passes made, all from the opening state
 abbrev pub made_to : ℕ → State → View
-made_to made s = record { number = 0; made = made; seen = Some s; mine = events_by 0 s.log; holds = None }
+made_to pass_count s = record { number = 0; pass_count = pass_count; seen = Some s; mine = events_by 0 s.log; holds = None }
 
 module _ {A : Type 0} where
   fork_place : (s : State) (items : List (Arc State A)) (views : List View) (port : ℕ) (v l r : View) → get_elem? views port ≡ some v → l.holds ≡ v.holds → v.holds ≡ None → r.holds ≡ None
@@ -264,34 +264,34 @@ module _ {A : Type 0} where
       }))
       place
 
-  fork_runs : (items : List (Arc State A)) (views : List View) (v : View) → Runs items views → get_elem? views 0 ≡ some v → v.holds ≡ None → Runs items (set views 0 (with_one_more v) ++ beside v ∷ [])
+  fork_runs : (items : List (Arc State A)) (views : List View) (v : View) → Runs items views → get_elem? views 0 ≡ some v → v.holds ≡ None → Runs items (set views 0 (with_one_more v) ++ split_view v ∷ [])
   fork_runs items views v runs at none =
-      let l : View = with_one_more v in let r : View = beside v in let s : State = runs.state in
+      let l : View = with_one_more v in let r : View = split_view v in let s : State = runs.state in
       let mine = runs.each 0 v at in
-      let count : v.made ≡ length views = runs.made v at in
+      let count : v.pass_count ≡ length views = runs.pass_count v at in
       let longer : length (set views 0 l ++ r ∷ []) ≡ length views + 1 = length-append (set views 0 l) (r ∷ []) ∙ ap (λ n. n + 1) (length_set views 0 l) in
-      let high : length views ≤ v.made = omega (arith, count) in
+      let high : length views ≤ v.pass_count = omega (arith, count) in
       record {
         state = s;
         place = fork_place s items views 0 v l r at refl none refl runs.place;
         each = λ j u e. ⊎_elim
             (λ x. each_set (Knows s) views 0 l (record { number = mine.number; last = mine.last; seen = mine.seen; follows = mine.follows; mine = mine.mine }) (λ i w _ y. runs.each i w y) j u x)
             (λ (x : (j ≡ length (set views 0 l)) × (r ≡ u)). subst (λ (y : ℕ × View). Knows s y.0 y.1) (λ i. (sym x.0 i, x.1 i))
-            (record { number = count ∙ sym (length_set views 0 l); last = mine.last; seen = mine.seen; follows = mine.follows; mine = sym (runs.unmade v.made high 0 v at).entries }))
+            (record { number = count ∙ sym (length_set views 0 l); last = mine.last; seen = mine.seen; follows = mine.follows; mine = sym (runs.unassigned v.pass_count high 0 v at).entries }))
             (at_end (set views 0 l) r u j e);
-        made = λ u e. ⊎_elim
-            (λ x. made-set-more views 0 v l at u x ∙ ap (λ n. n + 1) count ∙ sym longer)
+        pass_count = λ u e. ⊎_elim
+            (λ x. pass_count-set-more views 0 v l at u x ∙ ap (λ n. n + 1) count ∙ sym longer)
             (λ (x : (0 ≡ length (set views 0 l)) × (r ≡ u)). let low : 0 < length views = within views 0 v at in let same : 0 ≡ length views = x.0 ∙ length_set views 0 l in absurd (omega arith))
             (at_end (set views 0 l) r u 0 e);
-        unmade = λ number past j u e. let past' : length views + 1 ≤ number = subst (λ (n : ℕ). n ≤ number) longer past in let low : length views ≤ number = omega arith in ⊎_elim
-            (λ x. each_set (Unmade s number) views 0 l (record { entries = (runs.unmade number low 0 v at).entries }) (λ i w _ y. runs.unmade number low i w y) j u x)
-            (λ (x : (j ≡ length (set views 0 l)) × (r ≡ u)). subst (λ (y : View). Unmade s number j y) x.1 (record { entries = (runs.unmade number low 0 v at).entries }))
+        unassigned = λ number past j u e. let past' : length views + 1 ≤ number = subst (λ (n : ℕ). n ≤ number) longer past in let low : length views ≤ number = omega arith in ⊎_elim
+            (λ x. each_set (HasNoPass s number) views 0 l (record { entries = (runs.unassigned number low 0 v at).entries }) (λ i w _ y. runs.unassigned number low i w y) j u x)
+            (λ (x : (j ≡ length (set views 0 l)) × (r ≡ u)). subst (λ (y : View). HasNoPass s number j y) x.1 (record { entries = (runs.unassigned number low 0 v at).entries }))
             (at_end (set views 0 l) r u j e);
       }
 
-  pub forks : (s : State) (made port : ℕ) (v : View) → port ≡ 0 → v ≡ made_to made s → Forks (Keeps {A = A}) port v (with_one_more v) (beside v)
-  forks s made port v zeroth is items views keeps at = ⊎_elim
-      (λ (opening : Opens items views). absurd (none_here newcomer.seen s refl (ap (λ (y : View). y.seen) (sym (alone-at views port v opening.alone at).1 ∙ is))))
-      (λ (runs : Runs items views). inr (subst (λ (p : ℕ). Runs items (set views p (with_one_more v) ++ beside v ∷ [])) (sym zeroth)
+  pub forks : (s : State) (pass_count port : ℕ) (v : View) → port ≡ 0 → v ≡ made_to pass_count s → Forks (Keeps {A = A}) port v (with_one_more v) (split_view v)
+  forks s pass_count port v zeroth is items views keeps at = ⊎_elim
+      (λ (opening : Opens items views). absurd (none_here new_view.seen s refl (ap (λ (y : View). y.seen) (sym (alone-at views port v opening.alone at).1 ∙ is))))
+      (λ (runs : Runs items views). inr (subst (λ (p : ℕ). Runs items (set views p (with_one_more v) ++ split_view v ∷ [])) (sym zeroth)
       (fork_runs items views v runs (subst (λ (p : ℕ). get_elem? views p ≡ some v) zeroth at) (ap (λ (y : View). y.holds) is))))
       keeps

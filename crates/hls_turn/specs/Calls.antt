@@ -5,7 +5,7 @@ use Rattle.atomic_table.specs.Seated.{TableId}
 use Rattle.hls_core_laws.specs.State.{State}
 use Rattle.hls_core_laws.specs.Follows.{Follows}
 use Rattle.hls_core_laws.specs.Workers.{events_by}
-use Rattle.hls_core_laws.specs.Known.{LookedOn, Looks}
+use Rattle.hls_core_laws.specs.PassView.{MaySeeLater, Looks}
 use Rattle.hls_turn.specs.Passes.{PassData}
 
 -- pass i at the opening: it has seen the state that was handed in, and its events are that state's entries of number i
@@ -16,9 +16,9 @@ abbrev pub opening_passes : TableId → State → ℕ → List PassData
 opening_passes turn s workers = map (opening_pass turn s) (range_with_len 0 workers)
 
 -- the same of a pass among others, which keeps its turn
-pub record Looked (old new : PassData) : Type 0 where
+pub record HasLooked (old new : PassData) : Type 0 where
   pub turn : new.turn ≡ old.turn
-  pub looked : LookedOn old.known new.known
+  pub looked : MaySeeLater old.known new.known
 
 pub record LooksAt (old new : PassData) : Type 0 where
   pub turn : new.turn ≡ old.turn
@@ -27,7 +27,7 @@ pub record LooksAt (old new : PassData) : Type 0 where
 -- of one of several passes that look together: what it had seen and has seen leads to s, where its entries are the events that it brought
 pub record MeetsAt (s : State) (old new : PassData) : Type 0 where
   pub turn : new.turn ≡ old.turn
-  pub looked : LookedOn old.known new.known
+  pub looked : MaySeeLater old.known new.known
   pub follows : Follows new.known.seen s
   pub entries : events_by old.known.number s.log ≡ old.known.mine
 

@@ -3,13 +3,13 @@ use Rattle.std.specs.Prelude.{◌≡◌, ℕ, [], Some, None, length, unwrap_or}
 use Rattle.atomic_table.specs.Seated.{TableId}
 use Rattle.hls_core_laws.specs.State.{State}
 use Rattle.hls_core_laws.specs.IsState.{IsState}
-use Rattle.hls_core_laws.specs.Known.{Known}
+use Rattle.hls_core_laws.specs.PassView.{PassView}
 use Rattle.hls_core_laws.specs.Workers.{events_by}
 use Rattle.hls_turn.specs.declared.view.View.{View}
 
 pub record PassData : Type 0 where
   pub turn : TableId
-  pub known : Known
+  pub known : PassView
 
 -- a state of no channel, where a pass has seen none: between calls each has seen one
 abbrev pub no_state : State
@@ -18,7 +18,7 @@ no_state = record { config = record { target = 0; preferred = 0; renditions = []
 abbrev pub seen_by : View → State
 seen_by v = unwrap_or v.seen no_state
 
-abbrev pub known_by : View → Known
+abbrev pub known_by : View → PassView
 known_by v = record { number = v.number; seen = seen_by v; mine = v.mine }
 
 -- between calls a pass has seen a state, which is one, holds none, and its events are the entries of its number in what it saw

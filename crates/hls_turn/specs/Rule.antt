@@ -15,14 +15,14 @@ use Rattle.hls_core_laws.specs.Workers.{events_by}
 use Rattle.hls_turn.specs.declared.view.View.{View}
 
 -- pass 0 before the first state is put in
-abbrev pub newcomer : View
-newcomer = record { number = 0; made = 1; seen = None; mine = []; holds = None }
+abbrev pub new_view : View
+new_view = record { number = 0; pass_count = 1; seen = None; mine = []; holds = None }
 
 abbrev pub after_take : View → State → View
-after_take v s = record { number = v.number; made = v.made; seen = Some s; mine = v.mine; holds = Some s }
+after_take v s = record { number = v.number; pass_count = v.pass_count; seen = Some s; mine = v.mine; holds = Some s }
 
 abbrev pub after_put : View → State → View
-after_put v s = record { number = v.number; made = v.made; seen = Some s; mine = events_by v.number s.log; holds = None }
+after_put v s = record { number = v.number; pass_count = v.pass_count; seen = Some s; mine = events_by v.number s.log; holds = None }
 
 abbrev pub log_seen : Option State → List Entry
 log_seen None = []
@@ -30,17 +30,17 @@ log_seen (Some s) = s.log
 
 -- pass 0 once a pass was made beside it, and that pass: it has seen the same state, and its number is the next one
 abbrev pub with_one_more : View → View
-with_one_more v = record { number = v.number; made = v.made + 1; seen = v.seen; mine = v.mine; holds = v.holds }
+with_one_more v = record { number = v.number; pass_count = v.pass_count + 1; seen = v.seen; mine = v.mine; holds = v.holds }
 
-abbrev pub beside : View → View
-beside v = record { number = v.made; made = 0; seen = v.seen; mine = events_by v.made (log_seen v.seen); holds = None }
+abbrev pub split_view : View → View
+split_view v = record { number = v.pass_count; pass_count = 0; seen = v.seen; mine = events_by v.pass_count (log_seen v.seen); holds = None }
 
 abbrev pub FollowsSeen : Option State → State → Type 0
 FollowsSeen None s = Unit {0}
 FollowsSeen (Some t) s = Follows t s
 
 -- the state is taken out: it follows what the pass saw, and has the events that the pass brought
-pub record Takes (v : View) (s : State) (w : View) : Type 0 where
+pub record TakesState (v : View) (s : State) (w : View) : Type 0 where
   pub follows : FollowsSeen v.seen s
   pub entries : events_by v.number s.log ≡ v.mine
   pub view_is : w ≡ after_take v s
@@ -51,10 +51,10 @@ Advances t number s = (s ≡ t) ⊎ ((event : Event) × IsState t × IsFitting t
 
 -- who may put the state s in: pass 0 at the opening, then the one who holds a state, as that or advanced
 abbrev pub MayPut : View → State → Type 0
-MayPut v s = (v ≡ newcomer) ⊎ ((t : State) × (v.holds ≡ Some t) × Advances t v.number s)
+MayPut v s = (v ≡ new_view) ⊎ ((t : State) × (v.holds ≡ Some t) × Advances t v.number s)
 
-abbrev pub Each : (ℕ → View → Type 0) → List View → Type 0
-Each P views = (port : ℕ) (v : View) → get_elem? views port ≡ some v → P port v
+abbrev pub EachView : (ℕ → View → Type 0) → List View → Type 0
+EachView P views = (port : ℕ) (v : View) → get_elem? views port ≡ some v → P port v
 
 -- what a pass knows is so in the current state s
 pub record Knows (s : State) (port : ℕ) (v : View) : Type 0 where
@@ -65,7 +65,7 @@ pub record Knows (s : State) (port : ℕ) (v : View) : Type 0 where
   pub mine : events_by v.number s.log ≡ v.mine
 
 -- what a pass has seen of a number that no pass has yet is all there is of it
-pub record Unmade (s : State) (number : ℕ) (port : ℕ) (v : View) : Type 0 where
+pub record HasNoPass (s : State) (number : ℕ) (port : ℕ) (v : View) : Type 0 where
   pub entries : events_by number (log_seen v.seen) ≡ events_by number s.log
 
 pub record IsFree (port : ℕ) (v : View) : Type 0 where
@@ -80,7 +80,7 @@ module _ {A : Type 0} where
     pub item : Arc State A
     pub items_are : items ≡ item ∷ []
     pub item_is : item.value ≡ s
-    pub free : Each IsFree views
+    pub free : EachView IsFree views
 
   -- the place is empty, and just one pass holds the state
   pub record IsHeld (s : State) (items : List (Arc State A)) (views : List View) : Type 0 where
@@ -89,20 +89,20 @@ module _ {A : Type 0} where
     pub empty : items ≡ []
     pub at : get_elem? views holder ≡ some view
     pub holds : view.holds ≡ Some s
-    pub free : Each (IsFreeBut holder) views
+    pub free : EachView (IsFreeBut holder) views
 
   -- from the opening on: one current state, which follows all that was seen; in it each pass's entries are those that it brought
   pub record Runs (items : List (Arc State A)) (views : List View) : Type 0 where
     pub state : State
     pub place : Lies state items views ⊎ IsHeld state items views
-    pub each : Each (Knows state) views
-    pub made : (v : View) → get_elem? views 0 ≡ some v → v.made ≡ length views
-    pub unmade : (number : ℕ) → length views ≤ number → Each (Unmade state number) views
+    pub each : EachView (Knows state) views
+    pub pass_count : (v : View) → get_elem? views 0 ≡ some v → v.pass_count ≡ length views
+    pub unassigned : (number : ℕ) → length views ≤ number → EachView (HasNoPass state number) views
 
   -- before the opening the place is empty, and pass 0 stands alone
   pub record Opens (items : List (Arc State A)) (views : List View) : Type 0 where
     pub empty : items ≡ []
-    pub alone : views ≡ newcomer ∷ []
+    pub alone : views ≡ new_view ∷ []
 
   abbrev pub Keeps : List (Arc State A) → List View → Type 0
   Keeps items views = Opens items views ⊎ Runs items views

@@ -5,7 +5,7 @@
 #![tactic(auto)]
 
 mod pass;
-mod queue;
+mod state_queue;
 mod turn;
 mod view;
 

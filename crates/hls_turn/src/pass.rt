@@ -1,30 +1,30 @@
-//! What one thread may do with a turn.
+//! A pass is a thread's handle of a turn.
 
-use crate::queue::Seat;
+use crate::state_queue::QueuePass;
 use std::marker::Model;
 
-/// What one thread may do with a turn: a number, the state that it saw last, and the events that it brought.
+/// A thread's handle of a turn: a number, the state that it saw last, and its events in the log.
 ///
 /// A contract sees it as the turn that it came with and what it knows. It is used by `&mut`, so one call at a time.
 #[derive(Drop)]
 pub struct Pass {
     pub(crate) number: u16,
     pub(crate) renditions: usize,
-    pub(crate) seat: Seat,
+    pub(crate) queue_pass: QueuePass,
 }
 
 impl Model for Pass {
     ghost use Rattle.std.specs.Prelude.{◌≡◌, unwrap_or, None, Some, []};
-    ghost use Rattle.crossbeam_queue.specs.Passes.{view as told};
+    ghost use Rattle.crossbeam_queue.specs.Passes.{view as current_view};
     ghost use Rattle.hls_core_laws.specs.Workers.{events_by};
     ghost use Rattle.hls_turn.specs.Passes.{PassData, known_by, IsPass, renditions_seen};
 
     ghost Value = { PassData };
 
-    ghost view = { λ p. record { turn = p.seat.table_id; known = known_by (told p.seat) } };
+    ghost view = { λ p. record { turn = p.queue_pass.table_id; known = known_by (current_view p.queue_pass) } };
 
-    ghost invariant = { λ p. (p.seat.me.1 ≡ []) × ((told p.seat).number ≡ p.number) × IsPass (told p.seat)
-        × (renditions_seen (told p.seat) ≡ p.renditions) };
+    ghost invariant = { λ p. (p.queue_pass.me.1 ≡ []) × ((current_view p.queue_pass).number ≡ p.number) × IsPass (current_view p.queue_pass)
+        × (renditions_seen (current_view p.queue_pass) ≡ p.renditions) };
 }
 
 impl Pass {
@@ -39,7 +39,7 @@ impl Pass {
     }
 
     /// The number of the channel's renditions, which never changes.
-    pub fn renditions(&self) -> usize
+    pub fn rendition_count(&self) -> usize
         ensures count { result ≡ length self.now.known.seen.config.renditions }
         ensures valid { IsState self.now.known.seen }
     {

@@ -1,13 +1,13 @@
-//! The turn.
+//! The turn is the one state of a channel, which threads take, change and put back one after another.
 ghost use Rattle.std.specs.Prelude.{◌≡◌, ◌<◌, ◌≤◌, true, All, IfOk, length, map, take, Some};
 ghost use Rattle.std.specs.List.{AllZip};
 ghost use Rattle.hls_core_laws.specs.Moves.{IsFittingAsSeen};
-ghost use Rattle.hls_core_laws.specs.Known.{LookedOn, Looks, Submits};
-ghost use Rattle.hls_turn.specs.Calls.{opening_passes, Looked, LooksAt, MeetsAt, SettledAt, last_seen};
+ghost use Rattle.hls_core_laws.specs.PassView.{MaySeeLater, Looks, Submits};
+ghost use Rattle.hls_turn.specs.Calls.{opening_passes, HasLooked, LooksAt, MeetsAt, SettledAt, last_seen};
 
 use crate::pass::Pass;
-use crate::queue::{Queue, put, take};
-use crate::view::Beside;
+use crate::state_queue::{StateQueue, put_state, take_state};
+use crate::view::PassSplit;
 use hls_core::follows::follows;
 use hls_core::snapshot::Snapshot;
 use hls_core::step::step;
@@ -20,14 +20,14 @@ use std::marker::Model;
 use std::sync::{Arc, Condvar, Mutex, Wait};
 use std::thread;
 
-/// The state of a channel that threads share, and a bell for the one that keeps it up.
+/// The state of a channel that threads share, and a condition on which the housekeeper waits for changes.
 ///
 /// A contract sees it as its queue's identity, which each of its passes has too.
 #[derive(Drop)]
 pub struct Turn {
-    queue: Queue,
-    told: Mutex<bool>,
-    bell: Condvar,
+    queue: StateQueue,
+    notified: Mutex<bool>,
+    changed: Condvar,
 }
 
 impl Model for Turn {
@@ -63,26 +63,26 @@ impl Turn {
         let _ = snapshot.version();
         let renditions = snapshot.config().renditions().len();
         let state = Arc::new(alloc, snapshot)?;
-        let (queue, mut seat) = Queue::ruled(alloc, 1)?;
-        put(rt, &queue, &mut seat, state);
+        let (queue, mut queue_pass) = StateQueue::ruled(alloc, 1)?;
+        put_state(rt, &queue, &mut queue_pass, state);
         for number in 1..workers {
-            let seat = queue.another::<Beside>(&mut seat);
+            let queue_pass = queue.another::<PassSplit>(&mut queue_pass);
             passes.push(Pass {
                 number,
                 renditions,
-                seat,
+                queue_pass,
             })?;
         }
         let first = Pass {
             number: 0,
             renditions,
-            seat,
+            queue_pass,
         };
         passes.insert(0, first)?;
         let turn = Turn {
             queue,
-            told: Mutex::new(false),
-            bell: Condvar::new(),
+            notified: Mutex::new(false),
+            changed: Condvar::new(),
         };
         Ok((turn, passes))
     }
@@ -104,11 +104,11 @@ impl Turn {
         ensures submits { Submits pass.old.known event result pass.new.known }
     {
         let is_unit = matches!(&event, Event::Accept { .. });
-        let state = take(rt, &self.queue, &mut pass.seat);
+        let state = take_state(rt, &self.queue, &mut pass.queue_pass);
         let version = state.version();
         match step(&state, alloc, pass.number, event) {
             Ok(Stepped::New(next)) => {
-                put(rt, &self.queue, &mut pass.seat, next);
+                put_state(rt, &self.queue, &mut pass.queue_pass, next);
                 if is_unit {
                     self.tell(rt);
                 }
@@ -117,11 +117,11 @@ impl Turn {
                 })
             }
             Ok(Stepped::Repeat) => {
-                put(rt, &self.queue, &mut pass.seat, state);
+                put_state(rt, &self.queue, &mut pass.queue_pass, state);
                 Ok(Done::Repeat)
             }
             Err(refusal) => {
-                put(rt, &self.queue, &mut pass.seat, state);
+                put_state(rt, &self.queue, &mut pass.queue_pass, state);
                 Err(refusal)
             }
         }
@@ -136,12 +136,12 @@ impl Turn {
     ) -> Result<Arc<Snapshot>, AllocError>
         requires ours { pass.old.turn ≡ self.now }
         ensures ours { pass.new.turn ≡ pass.old.turn }
-        ensures looked { LookedOn pass.old.known pass.new.known }
+        ensures looked { MaySeeLater pass.old.known pass.new.known }
         ensures looks { IfOk result (λ s. Looks pass.old.known s.value pass.new.known) }
     {
-        let state = take(rt, &self.queue, &mut pass.seat);
+        let state = take_state(rt, &self.queue, &mut pass.queue_pass);
         let copy = Arc::try_clone(&state);
-        put(rt, &self.queue, &mut pass.seat, state);
+        put_state(rt, &self.queue, &mut pass.queue_pass, state);
         Ok(copy?)
     }
 
@@ -157,7 +157,7 @@ impl Turn {
     ) -> Result<Arc<Snapshot>, AllocError>
         requires some { 0 < length passes.old }
         requires ours { All (λ p. p.turn ≡ self.now) passes.old }
-        ensures looked { AllZip Looked passes.old passes.new }
+        ensures looked { AllZip HasLooked passes.old passes.new }
         ensures meets { IfOk result (λ s. AllZip (MeetsAt s.value) passes.old passes.new) }
         ensures last { IfOk result (λ s. last_seen passes.new ≡ Some s.value) }
     {
@@ -166,7 +166,7 @@ impl Turn {
             let Some(last) = states.pop() else {
                 unreachable!()
             };
-            if are_settled(&states, passes, &last) {
+            if all_agree(&states, passes, &last) {
                 return Ok(last);
             }
             thread::yield_now();
@@ -182,7 +182,7 @@ impl Turn {
         passes: &mut [Pass],
     ) -> Result<Vec<Arc<Snapshot>>, AllocError>
         requires ours { All (λ p. p.turn ≡ self.now) passes.old }
-        ensures looked { AllZip Looked passes.old passes.new }
+        ensures looked { AllZip HasLooked passes.old passes.new }
         ensures looks { IfOk result (λ _. AllZip LooksAt passes.old passes.new) }
         ensures states { IfOk result (λ v. map (λ s. s.value) v.items ≡ map (λ p. p.known.seen) passes.new) }
     {
@@ -197,26 +197,30 @@ impl Turn {
 
     /// Says that there may be something to keep up. May wait.
     pub fn tell<R: Wait>(&self, rt: &R) {
-        *self.told.lock(rt) = true;
-        self.bell.notify_all();
+        *self.notified.lock(rt) = true;
+        self.changed.notify_all();
     }
 
     /// Waits until something was told since the last call.
     pub fn wait_told<R: Wait>(&self, rt: &R) {
-        let mut told = self.bell.wait_while(rt, self.told.lock(rt), |told| !*told);
-        *told = false;
+        let mut notified = self
+            .changed
+            .wait_while(rt, self.notified.lock(rt), |notified| !*notified);
+        *notified = false;
     }
 }
 
 /// Whether the state `last` follows each of these states, and has no further entry of the pass that saw it.
-fn are_settled(states: &[Arc<Snapshot>], passes: &[Pass], last: &Snapshot) -> bool
+fn all_agree(states: &[Arc<Snapshot>], passes: &[Pass], last: &Snapshot) -> bool
     requires { length states.now < length passes.now }
     ensures { result ≡ true → AllZip (SettledAt last.now) (map (λ s. s.value) states.now) (take (length states.now) passes.now) }
 {
     for i in 0..states.len() {
         let state: &Snapshot = &states[i];
         let number = passes[i].number();
-        if !follows(state, last) || last.count_by(number) != state.count_by(number) {
+        if !follows(state, last)
+            || last.count_entries_by(number) != state.count_entries_by(number)
+        {
             return false;
         }
     }

@@ -1,9 +1,9 @@
 //! The queue's rule, and what its steps tell: types for the proofs, of which no value is made.
 
-use crate::queue::Queue;
+use crate::state_queue::StateQueue;
 use crossbeam_queue::protocol::{Lesson, Outcome, Protocol, Split};
 use hls_core::snapshot::Snapshot;
-use hls_core_laws::event::Logged;
+use hls_core_laws::event::LoggedEvent;
 use std::collections::LinkedList;
 use std::sync::Arc;
 
@@ -11,59 +11,59 @@ use std::sync::Arc;
 /// that it brought, and the state that it holds.
 pub struct View {
     pub number: u16,
-    pub made: u16,
+    pub pass_count: u16,
     pub seen: Option<Snapshot>,
-    pub mine: LinkedList<Logged>,
+    pub mine: LinkedList<LoggedEvent>,
     pub holds: Option<Snapshot>,
 }
 
 /// The turn's rule.
-pub struct OneState;
+pub struct TurnProtocol;
 
-impl Protocol<Arc<Snapshot>, View> for OneState {
-    ghost use Rattle.hls_turn.specs.Rule.{Keeps, newcomer};
+impl Protocol<Arc<Snapshot>, View> for TurnProtocol {
+    ghost use Rattle.hls_turn.specs.Rule.{Keeps, new_view};
 
     ghost holds = { Keeps };
 
-    ghost first = { newcomer };
+    ghost first = { new_view };
 }
 
 /// The state is taken out.
-pub struct Taken;
+pub struct TakeOutcome;
 
-impl Outcome<Arc<Snapshot>, View> for Taken {
-    ghost use Rattle.hls_turn.specs.Rule.{Takes};
+impl Outcome<Arc<Snapshot>, View> for TakeOutcome {
+    ghost use Rattle.hls_turn.specs.Rule.{TakesState};
 
-    ghost then = { λ v x w. Takes v x.value w };
+    ghost then = { λ v x w. TakesState v x.value w };
 }
 
-impl Lesson<Arc<Snapshot>, View> for Taken {
+impl Lesson<Arc<Snapshot>, View> for TakeOutcome {
     ghost fact = { λ v items. Unit {0} };
 }
 
 /// A state is put in: the first one, the one that was taken, or one that is an event further.
-pub struct Put;
+pub struct PutOutcome;
 
-impl Outcome<Arc<Snapshot>, View> for Put {
+impl Outcome<Arc<Snapshot>, View> for PutOutcome {
     ghost use Rattle.std.specs.Prelude.{◌≡◌};
     ghost use Rattle.hls_turn.specs.Rule.{after_put};
 
     ghost then = { λ v x w. w ≡ after_put v x.value };
 }
 
-impl Lesson<Arc<Snapshot>, View> for Put {
+impl Lesson<Arc<Snapshot>, View> for PutOutcome {
     ghost use Rattle.std.specs.Prelude.{◌≡◌, []};
 
     ghost fact = { λ v items. items ≡ [] };
 }
 
 /// A new pass is made beside pass 0.
-pub struct Beside;
+pub struct PassSplit;
 
-impl Split<View> for Beside {
-    ghost use Rattle.hls_turn.specs.Rule.{with_one_more, beside};
+impl Split<View> for PassSplit {
+    ghost use Rattle.hls_turn.specs.Rule.{with_one_more, split_view};
 
     ghost left = { with_one_more };
 
-    ghost right = { beside };
+    ghost right = { split_view };
 }

@@ -1,12 +1,12 @@
 //! Connections of one worker, over sockets, with a host that hands back what it receives.
 
 ghost use Rattle.std.specs.Prelude.{◌≡◌, ◌≤◌, ◌<◌, ◌∷◌, [], length, if◌then◌else◌, Some, None, IsFalse};
-ghost use Rattle.hls_base_tests.specs.Echoes.{Echoes, echo_follows, echo_stays};
-ghost use Rattle.hls_loop.specs.declared.host.End.TheVariants as ends;
-ghost use Rattle.hls_pace.specs.declared.pace.Stage.TheVariants as stages;
+ghost use Rattle.hls_base_tests.specs.Echoes.{Echoes, echo_composed, echo_unchanged};
+ghost use Rattle.hls_loop.specs.declared.handler.ConnectionEnd.TheVariants as ends;
+ghost use Rattle.hls_pace.specs.declared.activity.ConnectionStage.TheVariants as stages;
 
-use hls_loop::{Door, End, Host, Post, widen, work};
-use hls_pace::Stage;
+use hls_loop::{ConnectionEnd, Handler, WorkerIo, WorkerLoads, run_worker, tune_listener};
+use hls_pace::ConnectionStage;
 use std::alloc::Global;
 use std::io::{self, ErrorKind, Read, Write};
 use std::net::{Net, Shutdown, SocketAddr, TcpListener, TcpStream};
@@ -16,13 +16,13 @@ use std::time::{Clock, Duration};
 
 /// A connection that hands back what it receives.
 #[derive(Drop)]
-struct Echo {
-    waits: Vec<u8>,
+struct EchoConnection {
+    unsent: Vec<u8>,
     ended: bool,
     /// Whether there is no memory for what it still sends.
-    starved: bool,
+    is_out_of_memory: bool,
     /// How often the host had acted when it was lent last.
-    seen: u64,
+    acts_seen: u64,
 }
 
 /// A byte behind which there is no memory.
@@ -30,110 +30,114 @@ const TOO_MUCH: u8 = 255;
 
 /// Hands back what its connections send; counts how often it acts.
 #[derive(Drop)]
-struct Mirror {
+struct EchoHandler {
     alloc: Global,
     acts: u64,
 }
 
-impl Host for Mirror {
-    type Visit = Echo;
+impl Handler for EchoHandler {
+    type Connection = EchoConnection;
 
-    ghost suits = { λ mirror echo. echo.seen ≤ mirror.acts };
+    ghost valid = { λ echo_handler echo. echo.acts_seen ≤ echo_handler.acts };
 
-    ghost goes = { λ a before traffic b now. Echoes before.waits.items before.ended traffic now.waits.items now.ended };
+    ghost becomes = { λ a before traffic b now. Echoes before.unsent.items before.ended traffic now.unsent.items now.ended };
 
-    ghost begins = { λ echo. echo.waits.items ≡ [] };
+    ghost is_new = { λ echo. echo.unsent.items ≡ [] };
 
-    ghost pending = { λ echo. echo.waits.items };
+    ghost pending = { λ echo. echo.unsent.items };
 
-    ghost reads = { λ echo. IsFalse echo.ended };
+    ghost may_read = { λ echo. IsFalse echo.ended };
 
-    ghost rests = { λ echo. Unit {0} };
+    ghost needs_io = { λ echo. Unit {0} };
 
-    ghost steps = { λ echo. 0 };
+    ghost max_steps = { λ echo. 0 };
 
-    ghost closes = { λ echo. if echo.ended then Some ends.Closed else None };
+    ghost own_end = { λ echo. if echo.ended then Some ends.Closed else None };
 
-    ghost stands = { λ echo stage. (length echo.waits.items ≡ 0 → stage ≡ stages.Idle)
-        × (0 < length echo.waits.items → stage ≡ stages.Replying) };
+    ghost has_stage = { λ echo stage. (length echo.unsent.items ≡ 0 → stage ≡ stages.Idle)
+        × (0 < length echo.unsent.items → stage ≡ stages.Responding) };
 
-    ghost want = { 110 ∷ 111 ∷ 110 ∷ 101 ∷ [] };
+    ghost out_of_memory_reply = { 110 ∷ 111 ∷ 110 ∷ 101 ∷ [] };
 
-    fn begin(&self) -> Echo {
-        Echo {
-            waits: Vec::new(self.alloc),
+    fn open(&self) -> EchoConnection {
+        EchoConnection {
+            unsent: Vec::new(self.alloc),
             ended: false,
-            starved: false,
-            seen: 0,
+            is_out_of_memory: false,
+            acts_seen: 0,
         }
     }
 
-    fn advance(&mut self, visit: &mut Echo, _peer: SocketAddr) -> bool {
+    fn advance(&mut self, connection: &mut EchoConnection, _peer: SocketAddr) -> bool {
         if self.acts < u64::MAX {
             self.acts += 1;
         }
-        visit.seen = self.acts;
+        connection.acts_seen = self.acts;
         false
     }
 
-    fn read<R: Read>(&self, visit: &mut Echo, reader: &mut R) -> io::Result<usize> {
-        if visit.starved {
+    fn read<R: Read>(&self, connection: &mut EchoConnection, reader: &mut R) -> io::Result<usize> {
+        if connection.is_out_of_memory {
             return Err(io::Error::from(ErrorKind::OutOfMemory));
         }
-        visit.waits.reserve(1)?;
+        connection.unsent.reserve(1)?;
         let mut bytes = [0; 1];
         let count = reader.read(&mut bytes)?;
-        visit.ended = count == 0;
+        connection.ended = count == 0;
         if count > 0 {
-            visit.starved = bytes[0] == TOO_MUCH;
-            visit.waits.push_reserved(bytes[0]);
+            connection.is_out_of_memory = bytes[0] == TOO_MUCH;
+            connection.unsent.push_reserved(bytes[0]);
         }
         Ok(count)
     }
 
-    fn output<'v>(&self, visit: &'v Echo) -> &'v [u8] {
-        visit.waits.as_slice()
+    fn output<'v>(&self, connection: &'v EchoConnection) -> &'v [u8] {
+        connection.unsent.as_slice()
     }
 
-    fn sent(&self, visit: &mut Echo, count: usize) {
-        visit.waits.drain(..count);
+    fn mark_sent(&self, connection: &mut EchoConnection, count: usize) {
+        connection.unsent.drain(..count);
     }
 
-    fn wants_write(&self, visit: &Echo) -> bool {
-        !visit.waits.is_empty()
+    fn wants_write(&self, connection: &EchoConnection) -> bool {
+        !connection.unsent.is_empty()
     }
 
-    fn wants_read(&self, visit: &Echo) -> bool {
-        !visit.ended
+    fn wants_read(&self, connection: &EchoConnection) -> bool {
+        !connection.ended
     }
 
-    fn end(&self, visit: &Echo) -> Option<End> {
-        if visit.ended { Some(End::Closed) } else { None }
-    }
-
-    fn stage(&self, visit: &Echo) -> Stage {
-        if visit.waits.is_empty() {
-            Stage::Idle
+    fn end(&self, connection: &EchoConnection) -> Option<ConnectionEnd> {
+        if connection.ended {
+            Some(ConnectionEnd::Closed)
         } else {
-            Stage::Replying
+            None
         }
     }
 
-    fn no_memory(&self) -> &'static [u8] {
+    fn stage(&self, connection: &EchoConnection) -> ConnectionStage {
+        if connection.unsent.is_empty() {
+            ConnectionStage::Idle
+        } else {
+            ConnectionStage::Responding
+        }
+    }
+
+    fn out_of_memory_text(&self) -> &'static [u8] {
         b"none"
     }
 
-    fn give_up(&self, _visit: &Echo, _peer: SocketAddr) {}
+    fn abandon(&self, _connection: &EchoConnection, _peer: SocketAddr) {}
 
-    fn fail_accept(&self, _error: io::Error) {}
+    fn note_failed_accept(&self, _error: io::Error) {}
 
-    ghost stays = { λ mirror echo. echo_stays echo.waits.items echo.ended };
+    ghost unchanged = { λ echo_handler echo. echo_unchanged echo.unsent.items echo.ended };
 
-    ghost follows = { λ a b c u v w s t first second. echo_follows u.waits.items v.waits.items w.waits.items u.ended v.ended w.ended s t first second };
+    ghost composed = { λ a b c u v w s t first second. echo_composed u.unsent.items v.unsent.items w.unsent.items u.ended v.ended w.ended s t first second };
 }
 
 /// A client of the worker's, which waits for ten seconds at most.
-fn client<R: Net<Stream = TcpStream>>(rt: &R, address: SocketAddr) -> io::Result<TcpStream>
+fn connect_client<R: Net<Stream = TcpStream>>(rt: &R, address: SocketAddr) -> io::Result<TcpStream>
     ensures { result ≡ result }
 {
     let stream = TcpStream::connect(rt, address)?;
@@ -142,7 +146,7 @@ fn client<R: Net<Stream = TcpStream>>(rt: &R, address: SocketAddr) -> io::Result
 }
 
 /// Whether a byte that is sent comes back.
-fn is_handed_back(stream: &TcpStream, byte: u8) -> bool
+fn is_echoed(stream: &TcpStream, byte: u8) -> bool
     ensures { result ≡ result }
 {
     let mut stream = stream;
@@ -154,7 +158,7 @@ fn is_handed_back(stream: &TcpStream, byte: u8) -> bool
 }
 
 /// Whether the byte behind which there is no memory comes back, and word of that behind it: the two may come at once.
-fn is_refused(stream: &TcpStream) -> bool
+fn is_out_of_memory_reported(stream: &TcpStream) -> bool
     ensures { result ≡ result }
 {
     let mut stream = stream;
@@ -166,7 +170,7 @@ fn is_refused(stream: &TcpStream) -> bool
 }
 
 /// Whether the connection ends, with no byte before.
-fn is_ended(stream: &TcpStream) -> bool
+fn is_disconnected(stream: &TcpStream) -> bool
     ensures { result ≡ result }
 {
     let mut stream = stream;
@@ -179,25 +183,25 @@ fn is_ended(stream: &TcpStream) -> bool
 
 /// What clients do at a worker.
 #[derive(Clone, Copy, PartialEq, Eq)]
-enum Scene {
+enum LoopScenario {
     /// Three are there at once, and send a byte in turns.
-    Turns,
+    Concurrent,
     /// One more comes than there are places.
     Full,
     /// One is silent for longer than the patience.
-    Silence,
+    IdleTimeout,
     /// One ends its side.
     HalfClose,
     /// One sends what there is no memory for.
-    NoMemory,
+    OutOfMemory,
 }
 
-impl Scene {
+impl LoopScenario {
     /// How many places the worker has, and how many connections it takes.
     fn size(self) -> (u64, u64) {
         match self {
-            Scene::Turns => (8, 3),
-            Scene::Full => (2, 3),
+            LoopScenario::Concurrent => (8, 3),
+            LoopScenario::Full => (2, 3),
             _ => (8, 1),
         }
     }
@@ -209,12 +213,12 @@ fn take_turns<R: Net<Stream = TcpStream>>(
     address: SocketAddr,
     first: &TcpStream,
 ) -> io::Result<bool> {
-    let second = client(rt, address)?;
-    let third = client(rt, address)?;
+    let second = connect_client(rt, address)?;
+    let third = connect_client(rt, address)?;
     for byte in 2..9 {
-        let right = is_handed_back(first, byte)
-            && is_handed_back(&second, byte | 16)
-            && is_handed_back(&third, byte | 32);
+        let right = is_echoed(first, byte)
+            && is_echoed(&second, byte | 16)
+            && is_echoed(&third, byte | 32);
         if !right {
             return Ok(false);
         }
@@ -223,101 +227,101 @@ fn take_turns<R: Net<Stream = TcpStream>>(
 }
 
 /// Whether the first of three clients goes, which is idle for the longest time.
-fn give_way<R: Net<Stream = TcpStream>>(
+fn evict_longest_idle<R: Net<Stream = TcpStream>>(
     rt: &R,
     address: SocketAddr,
     first: &TcpStream,
 ) -> io::Result<bool> {
-    let second = client(rt, address)?;
-    let before = is_handed_back(&second, 2);
-    let third = client(rt, address)?;
-    let after = is_handed_back(&third, 3);
-    Ok(before && after && is_ended(first) && is_handed_back(&second, 4))
+    let second = connect_client(rt, address)?;
+    let before = is_echoed(&second, 2);
+    let third = connect_client(rt, address)?;
+    let after = is_echoed(&third, 3);
+    Ok(before && after && is_disconnected(first) && is_echoed(&second, 4))
 }
 
 /// Whether the clients of a scene see what they are to see. All of them close at the end.
-fn is_right<R: Net<Stream = TcpStream>>(
+fn clients_succeed<R: Net<Stream = TcpStream>>(
     rt: &R,
     address: SocketAddr,
-    scene: Scene,
+    scenario: LoopScenario,
 ) -> io::Result<bool>
     ensures { result ≡ result }
 {
-    let first = client(rt, address)?;
-    if !is_handed_back(&first, 1) {
+    let first = connect_client(rt, address)?;
+    if !is_echoed(&first, 1) {
         return Ok(false);
     }
-    match scene {
-        Scene::Turns => take_turns(rt, address, &first),
-        Scene::Full => give_way(rt, address, &first),
-        Scene::Silence => Ok(is_ended(&first)),
-        Scene::NoMemory => Ok(is_refused(&first) && is_ended(&first)),
-        Scene::HalfClose => {
+    match scenario {
+        LoopScenario::Concurrent => take_turns(rt, address, &first),
+        LoopScenario::Full => evict_longest_idle(rt, address, &first),
+        LoopScenario::IdleTimeout => Ok(is_disconnected(&first)),
+        LoopScenario::OutOfMemory => Ok(
+            is_out_of_memory_reported(&first) && is_disconnected(&first),
+        ),
+        LoopScenario::HalfClose => {
             first.shutdown(Shutdown::Write)?;
-            Ok(is_ended(&first))
+            Ok(is_disconnected(&first))
         }
     }
 }
 
 /// A worker's post at a free port of this machine, and its address.
-fn opened<R: Net<Listener = TcpListener, Stream = TcpStream>>(
+fn open_worker_io<R: Net<Listener = TcpListener, Stream = TcpStream>>(
     rt: &R,
     alloc: Global,
-) -> io::Result<(Post, SocketAddr)>
+) -> io::Result<(WorkerIo, SocketAddr)>
     ensures { result ≡ result }
 {
     let listener = TcpListener::bind(rt, "127.0.0.1:0")?;
-    widen(&listener);
+    tune_listener(&listener);
     let address = listener.local_addr()?;
-    Ok((Post::at(rt, alloc, &listener)?, address))
+    Ok((WorkerIo::listen_on(rt, alloc, &listener)?, address))
 }
 
 /// Whether a scene goes as it is to go, at a worker that has a patience of a second.
-fn goes<R: Net<Listener = TcpListener, Stream = TcpStream> + Threads + Wait + Clock + Sync>(
-    rt: &R,
-    alloc: Global,
-    scene: Scene,
-) -> bool
+fn scenario_succeeds<
+    R: Net<Listener = TcpListener, Stream = TcpStream> + Threads + Wait + Clock + Sync,
+>(rt: &R, alloc: Global, scenario: LoopScenario) -> bool
     ensures { result ≡ result }
 {
-    let Ok((post, address)) = opened(rt, alloc) else {
+    let Ok((io, address)) = open_worker_io(rt, alloc) else {
         return false;
     };
-    let (places, connections) = scene.size();
-    let Ok(door) = Door::new(alloc, 1, places, connections) else {
+    let (capacity, connections) = scenario.size();
+    let Ok(worker_loads) = WorkerLoads::new(alloc, 1, capacity, connections) else {
         return false;
     };
-    let door = &door;
+    let worker_loads = &worker_loads;
     thread::scope(thread::scope_env(), rt, move |scope| -> bool {
-        let mirror = Mirror { alloc, acts: 0 };
+        let echo_handler = EchoHandler { alloc, acts: 0 };
         let worker = scope.spawn(move || {
-            let _ = work(rt, alloc, post, door, mirror, 1);
+            let _ = run_worker(rt, alloc, io, worker_loads, echo_handler, 1);
         });
-        worker.is_ok() && matches!(is_right(rt, address, scene), Ok(true))
+        worker.is_ok() && matches!(clients_succeed(rt, address, scenario), Ok(true))
     })
 }
 
 #[test]
 fn each_has_its_own(rt: HostRuntime) {
-    assert!(rt; goes(&rt, rt.alloc(), Scene::Turns));
+    assert!(rt; scenario_succeeds(&rt, rt.alloc(), LoopScenario::Concurrent));
 }
 
 #[test]
 fn the_longest_idle_goes_where_all_places_are_taken(rt: HostRuntime) {
-    assert!(rt; goes(&rt, rt.alloc(), Scene::Full));
+    assert!(rt; scenario_succeeds(&rt, rt.alloc(), LoopScenario::Full));
 }
 
 #[test]
 fn a_silent_one_goes(rt: HostRuntime) {
-    assert!(rt; goes(&rt, rt.alloc(), Scene::Silence));
+    assert!(rt; scenario_succeeds(&rt, rt.alloc(), LoopScenario::IdleTimeout));
 }
 
 #[test]
 fn one_that_ended_its_side_goes(rt: HostRuntime) {
-    assert!(rt; goes(&rt, rt.alloc(), Scene::HalfClose));
+    assert!(rt; scenario_succeeds(&rt, rt.alloc(), LoopScenario::HalfClose));
 }
 
 #[test]
-fn want_of_memory_is_told(rt: HostRuntime) {
-    assert!(rt; goes(&rt, rt.alloc(), Scene::NoMemory));
+fn allocation_failure_is_reported(rt: HostRuntime) {
+    assert!(rt; scenario_succeeds(&rt, rt.alloc(), LoopScenario::OutOfMemory));
 }

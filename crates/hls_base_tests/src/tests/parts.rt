@@ -9,7 +9,7 @@ use std::alloc::AllocError;
 use std::process::Abort;
 
 /// Feeds a piece. Where memory is refused and the reader is as it was, it does so once more.
-pub fn fed(reader: &mut UnitReader, piece: &[u8]) -> Result<(), BoxFault>
+pub fn feed_with_retry(reader: &mut UnitReader, piece: &[u8]) -> Result<(), BoxFault>
     ensures { 0 ≤ length piece.now }
 {
     let before = reader.finish();
@@ -20,7 +20,7 @@ pub fn fed(reader: &mut UnitReader, piece: &[u8]) -> Result<(), BoxFault>
 }
 
 /// Takes a part. Where memory is refused and the reader is as it was, it does so once more.
-pub fn taken(reader: &mut UnitReader) -> Result<Option<Part>, AllocError> {
+pub fn take_with_retry(reader: &mut UnitReader) -> Result<Option<Part>, AllocError> {
     let before = reader.finish();
     match reader.take() {
         Err(AllocError) if reader.finish() == before => reader.take(),
@@ -30,20 +30,20 @@ pub fn taken(reader: &mut UnitReader) -> Result<Option<Part>, AllocError> {
 
 /// What is to come out of a reader.
 #[derive(Clone, Copy)]
-pub enum Next<'a> {
+pub enum ExpectedPart<'a> {
     Init(&'a [u8]),
     Unit(&'a [u8]),
     Nothing,
 }
 
 /// Whether that comes out next.
-pub fn gives(reader: &mut UnitReader, next: Next<'_>) -> bool
+pub fn is_next_part(reader: &mut UnitReader, next: ExpectedPart<'_>) -> bool
     ensures { result ≡ result }
 {
-    match (taken(reader), next) {
-        (Ok(Some(Part::Init(found))), Next::Init(bytes)) => found.as_slice() == bytes,
-        (Ok(Some(Part::Unit(found))), Next::Unit(bytes)) => found.as_slice() == bytes,
-        (Ok(None), Next::Nothing) => true,
+    match (take_with_retry(reader), next) {
+        (Ok(Some(Part::Init(found))), ExpectedPart::Init(bytes)) => found.as_slice() == bytes,
+        (Ok(Some(Part::Unit(found))), ExpectedPart::Unit(bytes)) => found.as_slice() == bytes,
+        (Ok(None), ExpectedPart::Nothing) => true,
         _ => false,
     }
 }
@@ -52,14 +52,14 @@ pub fn gives(reader: &mut UnitReader, next: Next<'_>) -> bool
 pub fn is_at_its_end(reader: &mut UnitReader) -> bool
     ensures { result ≡ result }
 {
-    gives(reader, Next::Nothing) && reader.finish().is_ok()
+    is_next_part(reader, ExpectedPart::Nothing) && reader.finish().is_ok()
 }
 
 /// An init section and a unit come out, and nothing is left.
-pub fn gives_both(rt: &impl Abort, reader: &mut UnitReader, init: &[u8], unit: &[u8])
+pub fn assert_init_and_unit(rt: &impl Abort, reader: &mut UnitReader, init: &[u8], unit: &[u8])
     ensures { 0 ≤ length init.now }
 {
-    assert!(rt; gives(reader, Next::Init(init)));
-    assert!(rt; gives(reader, Next::Unit(unit)));
+    assert!(rt; is_next_part(reader, ExpectedPart::Init(init)));
+    assert!(rt; is_next_part(reader, ExpectedPart::Unit(unit)));
     assert!(rt; is_at_its_end(reader));
 }

@@ -4,16 +4,16 @@ use Rattle.std.specs.Prelude.{◌==◌, All, slice_get, slice_set}
 use Rattle.std.specs.List.{AllByRecursion, remove}
 use Rattle.std.proofs.lemmas.Bool.{eq-eqb, ne_eqb}
 use Rattle.std.proofs.lemmas.List.Elements.{All-head, All-tail}
-use Rattle.hls_catchup_laws.specs.declared.jobs.row.Row.{Row}
-use Rattle.hls_catchup_laws.specs.declared.jobs.row.Phase.{Phase}
-use Rattle.hls_catchup_laws.specs.Jobs.Tables.{AreRising, phase_at, with_phase, without}
+use Rattle.hls_catchup_laws.specs.declared.jobs.row.JobRow.{JobRow}
+use Rattle.hls_catchup_laws.specs.declared.jobs.row.JobState.{JobState}
+use Rattle.hls_catchup_laws.specs.Jobs.Tables.{HaveRisingIds, job_state_at, rows_with_state, rows_without}
 
 -- what stands at a number is one row
-pub same_row : (first row : Row) → Some first ≡ Some row → first ≡ row
+pub same_row : (first row : JobRow) → Some first ≡ Some row → first ≡ row
 same_row first row is = cc
 
 -- nothing stands among no rows
-pub none_there : (row : Row) → None ≡ Some row → ⊥
+pub none_there : (row : JobRow) → None ≡ Some row → ⊥
 none_there row there = cc
 
 -- an id below another isn't that one
@@ -24,49 +24,49 @@ apart_below : (low high : ℕ) → low < high → (low == high) ≡ false
 apart_below low high below = ne_eqb low high (λ same. omega (arith, same))
 
 -- what stands among the later rows has a later id
-pub later_at : (id : ℕ) (rows : List Row) (at : ℕ) (row : Row) → AllByRecursion (λ later. id < later.id) rows → slice_get rows at ≡ Some row → id < row.id
+pub later_at : (id : ℕ) (rows : List JobRow) (at : ℕ) (row : JobRow) → AllByRecursion (λ later. id < later.id) rows → slice_get rows at ≡ Some row → id < row.id
 later_at id [] at row later there = absurd (none_there row there)
-later_at id (first ∷ rows) zero row later there = subst (λ (r : Row). id < r.id) (same_row first row there) later.0
+later_at id (first ∷ rows) zero row later there = subst (λ (r : JobRow). id < r.id) (same_row first row there) later.0
 later_at id (first ∷ rows) (suc at) row later there = later_at id rows at row later.1 there
 
 -- where all ids are greater, no row has this one
-pub kept_with : (id : ℕ) (phase : Phase) (rows : List Row) → AllByRecursion (λ later. id < later.id) rows → with_phase id phase rows ≡ rows
-kept_with id phase [] later = refl
-kept_with id phase (row ∷ rows) later = rw (apart id row.id later.0) (ap (λ (rs : List Row). row ∷ rs) (kept_with id phase rows later.1))
+pub kept_with : (id : ℕ) (state : JobState) (rows : List JobRow) → AllByRecursion (λ later. id < later.id) rows → rows_with_state id state rows ≡ rows
+kept_with id state [] later = refl
+kept_with id state (row ∷ rows) later = rw (apart id row.id later.0) (ap (λ (rs : List JobRow). row ∷ rs) (kept_with id state rows later.1))
 
-pub kept_without : (id : ℕ) (rows : List Row) → AllByRecursion (λ later. id < later.id) rows → without id rows ≡ rows
+pub kept_without : (id : ℕ) (rows : List JobRow) → AllByRecursion (λ later. id < later.id) rows → rows_without id rows ≡ rows
 kept_without id [] later = refl
-kept_without id (row ∷ rows) later = rw (apart id row.id later.0) (ap (λ (rs : List Row). row ∷ rs) (kept_without id rows later.1))
+kept_without id (row ∷ rows) later = rw (apart id row.id later.0) (ap (λ (rs : List JobRow). row ∷ rs) (kept_without id rows later.1))
 
 -- the phase of the job that stands at a number is that of its id
-pub phase_is : (rows : List Row) (at : ℕ) (row : Row) → AreRising rows → slice_get rows at ≡ Some row → phase_at row.id rows ≡ Some row.phase
+pub phase_is : (rows : List JobRow) (at : ℕ) (row : JobRow) → HaveRisingIds rows → slice_get rows at ≡ Some row → job_state_at row.id rows ≡ Some row.state
 phase_is [] at row rising there = absurd (none_there row there)
 phase_is (first ∷ rows) zero row rising there =
-    subst (λ (r : Row). phase_at r.id (first ∷ rows) ≡ Some r.phase) (same_row first row there) (rw (eq-eqb first.id first.id refl) refl)
+    subst (λ (r : JobRow). job_state_at r.id (first ∷ rows) ≡ Some r.state) (same_row first row there) (rw (eq-eqb first.id first.id refl) refl)
 phase_is (first ∷ rows) (suc at) row rising there =
     rw (apart_below first.id row.id (later_at first.id rows at row rising.0 there)) (phase_is rows at row rising.1 there)
 
 -- to change the job at a number is to change the one of its id
-pub set_is : (rows : List Row) (at : ℕ) (row : Row) (phase : Phase) → AreRising rows → slice_get rows at ≡ Some row
-    → slice_set rows at (record { id = row.id; phase = phase }) ≡ with_phase row.id phase rows
-set_is [] at row phase rising there = absurd (none_there row there)
-set_is (first ∷ rows) zero row phase rising there =
-    subst (λ (r : Row). slice_set (first ∷ rows) 0 (record { id = r.id; phase = phase }) ≡ with_phase r.id phase (first ∷ rows)) (same_row first row there)
-    (rw (eq-eqb first.id first.id refl) (ap (λ (rs : List Row). record { id = first.id; phase = phase } ∷ rs) (sym (kept_with first.id phase rows rising.0))))
-set_is (first ∷ rows) (suc at) row phase rising there =
-    rw (apart_below first.id row.id (later_at first.id rows at row rising.0 there)) (ap (λ (rs : List Row). first ∷ rs) (set_is rows at row phase rising.1 there))
+pub set_is : (rows : List JobRow) (at : ℕ) (row : JobRow) (state : JobState) → HaveRisingIds rows → slice_get rows at ≡ Some row
+    → slice_set rows at (record { id = row.id; state = state }) ≡ rows_with_state row.id state rows
+set_is [] at row state rising there = absurd (none_there row there)
+set_is (first ∷ rows) zero row state rising there =
+    subst (λ (r : JobRow). slice_set (first ∷ rows) 0 (record { id = r.id; state = state }) ≡ rows_with_state r.id state (first ∷ rows)) (same_row first row there)
+    (rw (eq-eqb first.id first.id refl) (ap (λ (rs : List JobRow). record { id = first.id; state = state } ∷ rs) (sym (kept_with first.id state rows rising.0))))
+set_is (first ∷ rows) (suc at) row state rising there =
+    rw (apart_below first.id row.id (later_at first.id rows at row rising.0 there)) (ap (λ (rs : List JobRow). first ∷ rs) (set_is rows at row state rising.1 there))
 
 -- to take out the job at a number is to take out the one of its id
-pub removed_is : (rows : List Row) (at : ℕ) (row : Row) → AreRising rows → slice_get rows at ≡ Some row → remove rows at ≡ without row.id rows
+pub removed_is : (rows : List JobRow) (at : ℕ) (row : JobRow) → HaveRisingIds rows → slice_get rows at ≡ Some row → remove rows at ≡ rows_without row.id rows
 removed_is [] at row rising there = absurd (none_there row there)
 removed_is (first ∷ rows) zero row rising there =
-    subst (λ (r : Row). rows ≡ without r.id (first ∷ rows)) (same_row first row there)
+    subst (λ (r : JobRow). rows ≡ rows_without r.id (first ∷ rows)) (same_row first row there)
     (rw (eq-eqb first.id first.id refl) (sym (kept_without first.id rows rising.0)))
 removed_is (first ∷ rows) (suc at) row rising there =
-    rw (apart_below first.id row.id (later_at first.id rows at row rising.0 there)) (ap (λ (rs : List Row). first ∷ rs) (removed_is rows at row rising.1 there))
+    rw (apart_below first.id row.id (later_at first.id rows at row rising.0 there)) (ap (λ (rs : List JobRow). first ∷ rs) (removed_is rows at row rising.1 there))
 
 -- where no row has the id, there is no such job
-pub none_is : (id : ℕ) (rows : List Row) → All (λ row. row.id ≢ id) rows → phase_at id rows ≡ None
+pub none_is : (id : ℕ) (rows : List JobRow) → All (λ row. row.id ≢ id) rows → job_state_at id rows ≡ None
 none_is id [] other = refl
 none_is id (row ∷ rows) other =
-    rw (ne_eqb row.id id (All-head (λ (r : Row). r.id ≢ id) row rows other)) (none_is id rows (All-tail (λ (r : Row). r.id ≢ id) row rows other))
+    rw (ne_eqb row.id id (All-head (λ (r : JobRow). r.id ≢ id) row rows other)) (none_is id rows (All-tail (λ (r : JobRow). r.id ≢ id) row rows other))

@@ -3,45 +3,45 @@ use Rattle.std.proofs.Common.{◌≡◌, ◌∙◌, ℕ, ◌≤◌, min, List, [
 use Rattle.std.proofs.lemmas.List.{drop_all, drop_min}
 use Rattle.std.proofs.lemmas.List.Folds.{drop_split}
 use Rattle.hls_check_laws.specs.declared.spot.Spot.{Spot}
-use Rattle.hls_check_laws.specs.Certificates.{Printed}
-use Rattle.hls_check_text.specs.Text.{head_lines, place_line, shown_lines, text}
+use Rattle.hls_check_laws.specs.Certificates.{CertificateData}
+use Rattle.hls_check_text.specs.Text.{head_lines, place_line, claim_lines, text}
 use Rattle.hls_check_text.proofs.Written.{places_parts, text_parts}
-use Rattle.hls_text.specs.Lines.{joined}
+use Rattle.hls_text.specs.Lines.{text_of_lines}
 use Rattle.hls_catchup_laws.specs.Replies.{ReplyData}
-use Rattle.hls_catchup_laws.specs.declared.jobs.standing.Withheld.{Withheld}
-use Rattle.hls_catchup.specs.Jobs.CertificateTexts.{certificate_by, left_by, left_in}
+use Rattle.hls_catchup_laws.specs.declared.jobs.find_reply.FilesUnavailable.{FilesUnavailable}
+use Rattle.hls_catchup.specs.Jobs.CertificateWriter.{certificate_of_result, rest_of_result, rest_of_certificate}
 use Rattle.hls_catchup_laws.specs.Jobs.Files.{certificate_of}
 
 -- the places from one number to the one before another are written
-pub places-on : (c : Printed) (places : List (List Spot)) (old new : List ℕ) (written from stop : ℕ) → places ≡ c.table.places → from ≡ min written (length places)
-    → from ≤ stop → new ≡ old ++ joined (map place_line (slice_range places from stop)) → new ++ left_in c stop ≡ old ++ left_in c written
+pub places-on : (c : CertificateData) (places : List (List Spot)) (old new : List ℕ) (written from stop : ℕ) → places ≡ c.table.places → from ≡ min written (length places)
+    → from ≤ stop → new ≡ old ++ text_of_lines (map place_line (slice_range places from stop)) → new ++ rest_of_certificate c stop ≡ old ++ rest_of_certificate c written
 places-on c places old new written from stop same from_is far is =
-    ap (λ (ps : List (List Spot)). new ++ joined (map place_line (drop stop ps) ++ shown_lines c.shown)) (sym same)
-    ∙ places_parts old new (slice_range places from stop) (drop stop places) (shown_lines c.shown) is
-    ∙ ap (λ (ps : List (List Spot)). old ++ joined (map place_line ps ++ shown_lines c.shown))
+    ap (λ (ps : List (List Spot)). new ++ text_of_lines (map place_line (drop stop ps) ++ claim_lines c.shown)) (sym same)
+    ∙ places_parts old new (slice_range places from stop) (drop stop places) (claim_lines c.shown) is
+    ∙ ap (λ (ps : List (List Spot)). old ++ text_of_lines (map place_line ps ++ claim_lines c.shown))
     (sym (drop_split places from stop far) ∙ ap (λ (n : ℕ). drop n places) from_is ∙ drop_min written places)
-    ∙ ap (λ (ps : List (List Spot)). old ++ joined (map place_line (drop written ps) ++ shown_lines c.shown)) same
+    ∙ ap (λ (ps : List (List Spot)). old ++ text_of_lines (map place_line (drop written ps) ++ claim_lines c.shown)) same
 
 -- all that are left are, and then the claim
-pub all-written : (c : Printed) (places : List (List Spot)) (old new all : List ℕ) (written from : ℕ) → places ≡ c.table.places → from ≡ min written (length places)
-    → new ≡ old ++ joined (map place_line (slice_range places from (length places))) → all ≡ new ++ joined (shown_lines c.shown) → all ≡ old ++ left_in c written
+pub all-written : (c : CertificateData) (places : List (List Spot)) (old new all : List ℕ) (written from : ℕ) → places ≡ c.table.places → from ≡ min written (length places)
+    → new ≡ old ++ text_of_lines (map place_line (slice_range places from (length places))) → all ≡ new ++ text_of_lines (claim_lines c.shown) → all ≡ old ++ rest_of_certificate c written
 all-written c places old new all written from same from_is is all_is =
     let rest = slice_range places from (length places) in
     let within : from ≤ length places = omega (arith, from_is) in
     let left : rest ++ drop (length places) places ≡ drop written places =
     sym (drop_split places from (length places) within) ∙ ap (λ (n : ℕ). drop n places) from_is ∙ drop_min written places in
-    all_is ∙ places_parts old new rest [] (shown_lines c.shown) is
-    ∙ ap (λ (ps : List (List Spot)). old ++ joined (map place_line (rest ++ ps) ++ shown_lines c.shown)) (sym (drop_all (length places) places (omega arith)))
-    ∙ ap (λ (ps : List (List Spot)). old ++ joined (map place_line ps ++ shown_lines c.shown)) left
-    ∙ ap (λ (ps : List (List Spot)). old ++ joined (map place_line (drop written ps) ++ shown_lines c.shown)) same
+    all_is ∙ places_parts old new rest [] (claim_lines c.shown) is
+    ∙ ap (λ (ps : List (List Spot)). old ++ text_of_lines (map place_line (rest ++ ps) ++ claim_lines c.shown)) (sym (drop_all (length places) places (omega arith)))
+    ∙ ap (λ (ps : List (List Spot)). old ++ text_of_lines (map place_line ps ++ claim_lines c.shown)) left
+    ∙ ap (λ (ps : List (List Spot)). old ++ text_of_lines (map place_line (drop written ps) ++ claim_lines c.shown)) same
 
 -- the head is written
-pub head-written : (files : Result ReplyData Withheld) (reply : ReplyData) (c : Printed) (out : List ℕ) → Ok reply ≡ files → c ≡ certificate_of reply.cutout
-    → out ≡ joined (head_lines c.table.goal c.table.renditions (length c.table.places)) → Some (out ++ left_by files 0) ≡ certificate_by files
+pub head-written : (files : Result ReplyData FilesUnavailable) (reply : ReplyData) (c : CertificateData) (out : List ℕ) → Ok reply ≡ files → c ≡ certificate_of reply.cut_result
+    → out ≡ text_of_lines (head_lines c.table.goal c.table.renditions (length c.table.places)) → Some (out ++ rest_of_result files 0) ≡ certificate_of_result files
 head-written files reply c out there c_is is =
-    ap (λ f. Some (out ++ left_by f 0)) (sym there)
-    ∙ ap (λ (d : Printed). Some (out ++ left_in d 0)) (sym c_is)
-    ∙ ap (λ (t : List ℕ). Some (t ++ left_in c 0)) is
+    ap (λ f. Some (out ++ rest_of_result f 0)) (sym there)
+    ∙ ap (λ (d : CertificateData). Some (out ++ rest_of_certificate d 0)) (sym c_is)
+    ∙ ap (λ (t : List ℕ). Some (t ++ rest_of_certificate c 0)) is
     ∙ ap Some (sym (text_parts c))
-    ∙ ap (λ (d : Printed). Some (text d)) c_is
-    ∙ ap certificate_by there
+    ∙ ap (λ (d : CertificateData). Some (text d)) c_is
+    ∙ ap certificate_of_result there

@@ -1,6 +1,6 @@
 //! The loop that works on jobs.
 
-use crate::jobs::finished::run_job;
+use crate::jobs::run_job::run_job;
 use crate::jobs::shared::Jobs;
 use std::alloc::Global;
 use std::sync::Wait;

@@ -1,25 +1,25 @@
-//! The job table under a lock, and a bell for those who wait for work.
+//! The job table under a lock, and a condition variable for those who wait for work.
 
 ghost use Rattle.std.specs.Prelude.{◌≡◌, ◌⊎◌, IfOk, IfSome, true, false};
-ghost use Rattle.hls_catchup.specs.Jobs.{Refusals.told, Rows.HasWaiting};
-ghost use Rattle.hls_catchup_laws.specs.Jobs.Phases.{IsRightJob};
+ghost use Rattle.hls_catchup.specs.Jobs.{Errors.without_returned, Rows.HasWaiting};
+ghost use Rattle.hls_catchup_laws.specs.Jobs.States.{IsRightJob};
 ghost use Rattle.hls_catchup_laws.specs.Jobs.Shared.{HasAdded, HasCounted, HasFinished, HasGot, HasRemoved, HasTaken};
 
-use crate::jobs::refused::Refused;
+use crate::jobs::error::JobError;
 use crate::jobs::table::JobTable;
-use hls_catchup_laws::{Finished, Job, JobFault, Request, Row, Work};
+use hls_catchup_laws::{Finished, Job, JobFault, JobRow, Request, Work};
 use hls_core::snapshot::Snapshot;
 use std::alloc::{AllocError, Global};
 use std::sync::{Arc, Condvar, Mutex, Wait};
 
 /// What lies under the lock.
 #[derive(Drop)]
-struct Desk {
+struct JobsInner {
     table: JobTable,
     closed: bool,
 }
 
-impl Desk {
+impl JobsInner {
     /// Closes the table: a loop that finds no waiting job then ends.
     fn close(&mut self)
         ensures closed { self.new.closed ≡ true }
@@ -41,8 +41,8 @@ impl Desk {
 /// or let go of under it.
 #[derive(Drop)]
 pub struct Jobs {
-    desk: Mutex<Desk>,
-    bell: Condvar,
+    inner: Mutex<JobsInner>,
+    available: Condvar,
 }
 
 impl Jobs {
@@ -50,11 +50,11 @@ impl Jobs {
     pub fn new(alloc: Global) -> Result<Jobs, AllocError> {
         let table = JobTable::new(alloc)?;
         Ok(Jobs {
-            desk: Mutex::new(Desk {
+            inner: Mutex::new(JobsInner {
                 table,
                 closed: false,
             }),
-            bell: Condvar::new(),
+            available: Condvar::new(),
         })
     }
 
@@ -68,23 +68,23 @@ impl Jobs {
     ) -> Result<u64, JobFault>
         ensures { HasAdded snapshot request result }
     {
-        let added = self.take_in(rt, snapshot, request);
-        self.bell.notify_one();
+        let added = self.try_add(rt, snapshot, request);
+        self.available.notify_one();
         match added {
             Ok(id) => Ok(id),
             Err(refused) => Err(refused.fault),
         }
     }
 
-    fn take_in<R: Wait>(
+    fn try_add<R: Wait>(
         &self,
         rt: &R,
         snapshot: Arc<Snapshot>,
         request: Request,
-    ) -> Result<u64, Refused<Arc<Snapshot>>>
-        ensures { HasAdded snapshot request (told result) }
+    ) -> Result<u64, JobError<Arc<Snapshot>>>
+        ensures { HasAdded snapshot request (without_returned result) }
     {
-        self.desk.lock(rt).table.take_in(snapshot, request)
+        self.inner.lock(rt).table.try_add(snapshot, request)
     }
 
     /// How far a job is; an answer is shared out of the lock, not copied. May wait.
@@ -92,44 +92,44 @@ impl Jobs {
         ensures gets { HasGot id result }
         ensures right { IfOk result IsRightJob }
     {
-        self.desk.lock(rt).table.get(id)
+        self.inner.lock(rt).table.get(id)
     }
 
     /// Takes a job away. What it held is let go of outside the lock. May wait.
     pub fn remove<R: Wait>(&self, rt: &R, id: u64) -> Result<(), JobFault>
         ensures { HasRemoved id result }
     {
-        match self.take_out(rt, id) {
+        match self.try_remove(rt, id) {
             Ok(_) => Ok(()),
             Err(fault) => Err(fault),
         }
     }
 
-    fn take_out<R: Wait>(&self, rt: &R, id: u64) -> Result<Row, JobFault>
+    fn try_remove<R: Wait>(&self, rt: &R, id: u64) -> Result<JobRow, JobFault>
         ensures { HasRemoved id result }
     {
-        self.desk.lock(rt).table.take_out(id)
+        self.inner.lock(rt).table.try_remove(id)
     }
 
     /// How many jobs there are, in any phase. May wait.
     pub fn len<R: Wait>(&self, rt: &R) -> usize
         ensures { HasCounted result }
     {
-        self.desk.lock(rt).table.len()
+        self.inner.lock(rt).table.len()
     }
 
     /// Ends each loop that finds no waiting job, and wakes those that wait for one. May wait.
     pub fn close<R: Wait>(&self, rt: &R) {
-        self.desk.lock(rt).close();
-        self.bell.notify_all();
+        self.inner.lock(rt).close();
+        self.available.notify_all();
     }
 
     /// The next job, once there is one; none where there is none and the table was closed. May wait.
     pub(crate) fn wait_work<R: Wait>(&self, rt: &R) -> Option<Work>
         ensures { HasTaken result }
     {
-        self.bell
-            .wait_while(rt, self.desk.lock(rt), |desk| desk.lacks_work())
+        self.available
+            .wait_while(rt, self.inner.lock(rt), |inner| inner.lacks_work())
             .table
             .take_work()
     }
@@ -138,15 +138,15 @@ impl Jobs {
     pub(crate) fn finish<R: Wait>(&self, rt: &R, finished: Finished) -> Result<(), JobFault>
         ensures { HasFinished finished result }
     {
-        match self.end(rt, finished) {
+        match self.try_finish(rt, finished) {
             Ok(()) => Ok(()),
             Err(refused) => Err(refused.fault),
         }
     }
 
-    fn end<R: Wait>(&self, rt: &R, finished: Finished) -> Result<(), Refused<Finished>>
-        ensures { HasFinished finished (told result) }
+    fn try_finish<R: Wait>(&self, rt: &R, finished: Finished) -> Result<(), JobError<Finished>>
+        ensures { HasFinished finished (without_returned result) }
     {
-        self.desk.lock(rt).table.end(finished)
+        self.inner.lock(rt).table.try_finish(finished)
     }
 }

@@ -1,21 +1,21 @@
 //! The job table.
 
 ghost use Rattle.std.specs.Prelude.{◌≡◌, IfOk, IfErr, length};
-ghost use Rattle.hls_catchup_laws.specs.Jobs.Tables.{IsTable, empty_table};
+ghost use Rattle.hls_catchup_laws.specs.Jobs.Tables.{IsJobTable, empty_table};
 ghost use Rattle.hls_catchup_laws.specs.Jobs.Changes.{Adds, Takes, Finishes, Gets, Removes};
-ghost use Rattle.hls_catchup.specs.Jobs.{Refusals.told, Rows.HasWaiting};
+ghost use Rattle.hls_catchup.specs.Jobs.{Errors.without_returned, Rows.HasWaiting};
 
-use crate::jobs::phase::{ended, runs_for, shown};
-use crate::jobs::refused::Refused;
-use crate::jobs::rows::{begin, first_waiting, place_of, push, set_phase};
-use hls_catchup_laws::{Finished, Job, JobFault, Phase, Request, Row, Work};
+use crate::jobs::error::JobError;
+use crate::jobs::rows::{find_row, find_waiting_row, push_row, set_state, start_job};
+use crate::jobs::state::{is_running_for, report_job, state_of_outcome};
+use hls_catchup_laws::{Finished, Job, JobFault, JobRow, JobState, Request, Work};
 use hls_core::snapshot::Snapshot;
 use std::alloc::{AllocError, Global};
 use std::marker::Model;
 use std::sync::Arc;
 
 /// The most jobs at once, in any phase.
-const PLACES: usize = 64;
+const JOB_LIMIT: usize = 64;
 
 /// What is past the last id.
 const ID_LIMIT: u64 = 1 << 53;
@@ -27,19 +27,19 @@ const ID_LIMIT: u64 = 1 << 53;
 #[derive(Drop)]
 pub struct JobTable {
     next: u64,
-    rows: Vec<Row>,
+    rows: Vec<JobRow>,
 }
 
 impl Model for JobTable {
-    ghost use Rattle.hls_catchup_laws.specs.Jobs.Tables.{TableData};
+    ghost use Rattle.hls_catchup_laws.specs.Jobs.Tables.{JobTableData};
 
-    ghost Value = { TableData };
+    ghost Value = { JobTableData };
 
-    ghost use Rattle.hls_catchup.specs.Jobs.Kept.{seen, IsKept};
+    ghost use Rattle.hls_catchup.specs.Jobs.Model.{model_of, IsSoundTable};
 
-    ghost view = { seen };
+    ghost view = { model_of };
 
-    ghost invariant = { IsKept };
+    ghost invariant = { IsSoundTable };
 }
 
 impl JobTable {
@@ -49,14 +49,14 @@ impl JobTable {
     {
         Ok(JobTable {
             next: 1,
-            rows: Vec::with_capacity(alloc, PLACES)?,
+            rows: Vec::with_capacity(alloc, JOB_LIMIT)?,
         })
     }
 
     /// How many jobs there are, in any phase.
     pub fn len(&self) -> usize
         ensures value { result ≡ length self.now.rows }
-        ensures valid { IsTable self.now }
+        ensures valid { IsJobTable self.now }
     {
         self.rows.len()
     }
@@ -64,33 +64,33 @@ impl JobTable {
     /// Adds a job, which waits, and answers its id. `TableFull` is the only fault. Takes no memory.
     pub fn add(&mut self, snapshot: Arc<Snapshot>, request: Request) -> Result<u64, JobFault>
         ensures adds { Adds self.old snapshot request result self.new }
-        ensures valid { IsTable self.old }
+        ensures valid { IsJobTable self.old }
     {
-        match self.take_in(snapshot, request) {
+        match self.try_add(snapshot, request) {
             Ok(id) => Ok(id),
             Err(refused) => Err(refused.fault),
         }
     }
 
     /// Adds a job, or gives its snapshot back: to let go of that can take a while.
-    pub(crate) fn take_in(
+    pub(crate) fn try_add(
         &mut self,
         snapshot: Arc<Snapshot>,
         request: Request,
-    ) -> Result<u64, Refused<Arc<Snapshot>>>
-        ensures adds { Adds self.old snapshot request (told result) self.new }
-        ensures back { IfErr result (λ refused. refused.back ≡ snapshot) }
-        ensures valid { IsTable self.old }
+    ) -> Result<u64, JobError<Arc<Snapshot>>>
+        ensures adds { Adds self.old snapshot request (without_returned result) self.new }
+        ensures returned { IfErr result (λ refused. refused.returned ≡ snapshot) }
+        ensures valid { IsJobTable self.old }
     {
         let id = self.next;
-        if self.rows.len() >= PLACES || id >= ID_LIMIT {
-            return Err(Refused {
+        if self.rows.len() >= JOB_LIMIT || id >= ID_LIMIT {
+            return Err(JobError {
                 fault: JobFault::TableFull,
-                back: snapshot,
+                returned: snapshot,
             });
         }
-        let phase = Phase::Waiting { snapshot, request };
-        push(&mut self.rows, Row { id, phase });
+        let state = JobState::Waiting { snapshot, request };
+        push_row(&mut self.rows, JobRow { id, state });
         self.next = id + 1;
         Ok(id)
     }
@@ -99,61 +99,65 @@ impl JobTable {
     pub(crate) fn has_work(&self) -> bool
         ensures { HasWaiting self.now.rows result }
     {
-        first_waiting(&self.rows).is_some()
+        find_waiting_row(&self.rows).is_some()
     }
 
     /// The waiting job that was added first. It runs from then on, until it is finished or removed. Takes no memory.
     pub fn take_work(&mut self) -> Option<Work>
         ensures takes { Takes self.old result self.new }
-        ensures valid { IsTable self.old }
+        ensures valid { IsJobTable self.old }
     {
-        let at = first_waiting(&self.rows)?;
-        Some(begin(&mut self.rows, at))
+        let at = find_waiting_row(&self.rows)?;
+        Some(start_job(&mut self.rows, at))
     }
 
     /// Ends a job that runs, for the version and the request that it runs for. `UnknownJob` comes before `Stray`; both leave
     /// the table as it was. Takes no memory.
     pub fn finish(&mut self, finished: Finished) -> Result<(), JobFault>
         ensures finishes { Finishes self.old finished result self.new }
-        ensures valid { IsTable self.old }
+        ensures valid { IsJobTable self.old }
     {
-        match self.end(finished) {
+        match self.try_finish(finished) {
             Ok(()) => Ok(()),
             Err(refused) => Err(refused.fault),
         }
     }
 
     /// Ends a job, or gives back what it came to: to let go of an answer can take a while.
-    pub(crate) fn end(&mut self, finished: Finished) -> Result<(), Refused<Finished>>
-        ensures finishes { Finishes self.old finished (told result) self.new }
-        ensures back { IfErr result (λ refused. refused.back ≡ finished) }
-        ensures valid { IsTable self.old }
+    pub(crate) fn try_finish(&mut self, finished: Finished) -> Result<(), JobError<Finished>>
+        ensures finishes { Finishes self.old finished (without_returned result) self.new }
+        ensures returned { IfErr result (λ refused. refused.returned ≡ finished) }
+        ensures valid { IsJobTable self.old }
     {
-        let Some(at) = place_of(&self.rows, finished.id()) else {
-            return Err(Refused {
+        let Some(at) = find_row(&self.rows, finished.id()) else {
+            return Err(JobError {
                 fault: JobFault::UnknownJob,
-                back: finished,
+                returned: finished,
             });
         };
-        if !runs_for(&self.rows[at].phase, finished.version(), finished.request()) {
-            return Err(Refused {
+        if !is_running_for(&self.rows[at].state, finished.version(), finished.request()) {
+            return Err(JobError {
                 fault: JobFault::Stray,
-                back: finished,
+                returned: finished,
             });
         }
-        set_phase(&mut self.rows, at, ended(finished.into_ending()));
+        set_state(
+            &mut self.rows,
+            at,
+            state_of_outcome(finished.into_outcome()),
+        );
         Ok(())
     }
 
     /// How far a job is. An answer is shared with the table; `Memory` comes where that can't be.
     pub fn get(&self, id: u64) -> Result<Job, JobFault>
         ensures gets { Gets self.now id result }
-        ensures valid { IsTable self.now }
+        ensures valid { IsJobTable self.now }
     {
-        let Some(at) = place_of(&self.rows, id) else {
+        let Some(at) = find_row(&self.rows, id) else {
             return Err(JobFault::UnknownJob);
         };
-        match shown(&self.rows[at].phase) {
+        match report_job(&self.rows[at].state) {
             Ok(job) => Ok(job),
             Err(_) => Err(JobFault::Memory),
         }
@@ -162,20 +166,20 @@ impl JobTable {
     /// Takes a job away, in whatever phase it is, and frees its place. `UnknownJob` is the only fault. Takes no memory.
     pub fn remove(&mut self, id: u64) -> Result<(), JobFault>
         ensures removes { Removes self.old id result self.new }
-        ensures valid { IsTable self.old }
+        ensures valid { IsJobTable self.old }
     {
-        match self.take_out(id) {
+        match self.try_remove(id) {
             Ok(_) => Ok(()),
             Err(fault) => Err(fault),
         }
     }
 
     /// Takes a job away, and gives it out: to let go of an answer can take a while.
-    pub(crate) fn take_out(&mut self, id: u64) -> Result<Row, JobFault>
+    pub(crate) fn try_remove(&mut self, id: u64) -> Result<JobRow, JobFault>
         ensures removes { Removes self.old id result self.new }
-        ensures valid { IsTable self.old }
+        ensures valid { IsJobTable self.old }
     {
-        let Some(at) = place_of(&self.rows, id) else {
+        let Some(at) = find_row(&self.rows, id) else {
             return Err(JobFault::UnknownJob);
         };
         Ok(self.rows.remove(at))

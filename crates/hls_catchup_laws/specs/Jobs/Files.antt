@@ -1,36 +1,36 @@
 -- The texts among a job's files.
 use Rattle.std.specs.Prelude.{ℕ, List, option_map, Option, Some, None, slice_get}
-use Rattle.hls_check_laws.specs.Certificates.{Printed}
+use Rattle.hls_check_laws.specs.Certificates.{CertificateData}
 use Rattle.hls_check_text.specs.Text.{text}
 use Rattle.hls_m3u8.specs.Playlist.{playlist_of}
 use Rattle.hls_m3u8.specs.Lines.{media_text}
 use Rattle.hls_m3u8.specs.Masters.{master_text}
 use Rattle.hls_core_laws.specs.State.{State}
 use Rattle.hls_lists_laws.specs.Masters.{job_master}
-use Rattle.hls_catchup_laws.specs.declared.cutout.Cutout.{Cutout}
-use Rattle.hls_catchup_laws.specs.declared.cutout.Cutout.TheVariants.{Cut, NoCut}
+use Rattle.hls_catchup_laws.specs.declared.cut_result.CutResult.{CutResult}
+use Rattle.hls_catchup_laws.specs.declared.cut_result.CutResult.TheVariants.{Cut, NoCut}
 use Rattle.hls_catchup_laws.specs.Replies.{ReplyData}
 
-abbrev pub certificate_of : Cutout → Printed
+abbrev pub certificate_of : CutResult → CertificateData
 certificate_of (Cut lists certificate) = certificate
 certificate_of (NoCut certificate) = certificate
 
 -- the one text of its certificate
 abbrev pub certificate_file : ReplyData → List ℕ
-certificate_file reply = text (certificate_of reply.cutout)
+certificate_file reply = text (certificate_of reply.cut_result)
 
 -- the text of a rendition's playlist; none where there is no cut, or no such rendition
-abbrev pub playlist_in : Cutout → ℕ → Option (List ℕ)
+abbrev pub playlist_in : CutResult → ℕ → Option (List ℕ)
 playlist_in (Cut lists certificate) r = option_map (λ list. media_text (playlist_of list)) (slice_get lists.items r)
 playlist_in (NoCut certificate) r = None
 
 abbrev pub playlist_file : ReplyData → ℕ → Option (List ℕ)
-playlist_file reply r = playlist_in reply.cutout r
+playlist_file reply r = playlist_in reply.cut_result r
 
 -- the text of the master playlist, beside which they stand; none where there is no cut
-abbrev pub master_in : State → Cutout → Option (List ℕ)
+abbrev pub master_in : State → CutResult → Option (List ℕ)
 master_in s (Cut lists certificate) = Some (master_text (job_master s))
 master_in s (NoCut certificate) = None
 
 abbrev pub master_file : ReplyData → Option (List ℕ)
-master_file reply = master_in reply.state reply.cutout
+master_file reply = master_in reply.state reply.cut_result

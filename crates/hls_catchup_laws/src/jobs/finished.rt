@@ -1,19 +1,19 @@
 //! What a job came to.
 
 ghost use Rattle.std.specs.Prelude.{◌≡◌};
-ghost use Rattle.hls_catchup_laws.specs.Jobs.Finishes.{IsEndOf, IsOfItsJob};
+ghost use Rattle.hls_catchup_laws.specs.Jobs.Finished.{IsOutcomeOf, HasOwnOutcome};
 
-use crate::jobs::answered::Answered;
+use crate::jobs::answer::JobAnswer;
 use crate::request::Request;
 use std::marker::Model;
 
 /// How a job ended.
 #[derive(Drop)]
-pub enum Ending {
+pub enum JobOutcome {
     /// With an answer.
-    Answered(Answered),
+    Answered(JobAnswer),
     /// Memory ran out.
-    NoMemory,
+    OutOfMemory,
 }
 
 /// What a job came to: its id, and the version (the number of log entries) and the request that it was run for.
@@ -24,30 +24,30 @@ pub struct Finished {
     id: u64,
     version: u64,
     request: Request,
-    ending: Ending,
+    outcome: JobOutcome,
 }
 
 impl Model for Finished {
-    ghost use Rattle.hls_catchup_laws.specs.Jobs.Finishes.{FinishedData, seen, IsOfItsJob};
+    ghost use Rattle.hls_catchup_laws.specs.Jobs.Finished.{FinishedData, model_of, HasOwnOutcome};
 
     ghost Value = { FinishedData };
 
-    ghost view = { seen };
+    ghost view = { model_of };
 
-    ghost invariant = { λ f. IsOfItsJob (seen f) };
+    ghost invariant = { λ f. HasOwnOutcome (model_of f) };
 }
 
 impl Finished {
     /// The job of an id, run for a version and a request, with how it ended.
-    pub fn new(id: u64, version: u64, request: Request, ending: Ending) -> Finished
-        requires { IsEndOf version request ending }
-        ensures { result ≡ record { id = id; version = version; request = request; ending = ending } }
+    pub fn new(id: u64, version: u64, request: Request, outcome: JobOutcome) -> Finished
+        requires { IsOutcomeOf version request outcome }
+        ensures { result ≡ record { id = id; version = version; request = request; outcome = outcome } }
     {
         Finished {
             id,
             version,
             request,
-            ending,
+            outcome,
         }
     }
 
@@ -73,10 +73,10 @@ impl Finished {
     }
 
     /// The answer, or want of memory.
-    pub fn into_ending(self) -> Ending
-        ensures value { result ≡ self.ending }
-        ensures right { IsOfItsJob self }
+    pub fn into_outcome(self) -> JobOutcome
+        ensures value { result ≡ self.outcome }
+        ensures right { HasOwnOutcome self }
     {
-        self.ending
+        self.outcome
     }
 }

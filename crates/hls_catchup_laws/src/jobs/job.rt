@@ -1,6 +1,6 @@
 //! How far a job is, as it is told to whom asks.
 
-use crate::jobs::answered::Answered;
+use crate::jobs::answer::JobAnswer;
 
 /// How far a job is.
 #[derive(Drop)]
@@ -10,7 +10,7 @@ pub enum Job {
     /// It is worked on.
     Running,
     /// It has an answer, shared with the table.
-    Finished(Answered),
+    Finished(JobAnswer),
     /// Memory ran out while it was worked on.
     Failed,
 }

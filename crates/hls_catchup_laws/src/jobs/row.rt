@@ -1,13 +1,13 @@
 //! A job in the table.
 
-use crate::jobs::answered::Answered;
+use crate::jobs::answer::JobAnswer;
 use crate::request::Request;
 use hls_core::snapshot::Snapshot;
 use std::sync::Arc;
 
 /// How far a job is, with what is needed to go on.
 #[derive(Drop)]
-pub enum Phase {
+pub enum JobState {
     /// Nobody has taken it. The snapshot is the one that was looked at when the job was added.
     Waiting {
         snapshot: Arc<Snapshot>,
@@ -19,14 +19,14 @@ pub enum Phase {
         request: Request,
     },
     /// It has an answer.
-    Finished(Answered),
+    Finished(JobAnswer),
     /// Memory ran out.
     Failed,
 }
 
 /// A job with its id.
 #[derive(Drop)]
-pub struct Row {
+pub struct JobRow {
     pub id: u64,
-    pub phase: Phase,
+    pub state: JobState,
 }

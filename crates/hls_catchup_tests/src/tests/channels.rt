@@ -4,7 +4,7 @@ ghost use Rattle.std.specs.Prelude.{◌≡◌, ◌+◌, ◌≤◌, length, IfOk}
 
 use hls_catchup::{CostRule, Request};
 use hls_core::snapshot::Snapshot;
-use hls_sample_channels::{SECOND, SampleFault, opened_with, rendition, with_units};
+use hls_sample_channels::{SECOND, SampleFault, open_channel_with, rendition, with_units};
 use std::alloc::Global;
 use std::sync::Arc;
 
@@ -12,7 +12,7 @@ use std::sync::Arc;
 pub const EPOCH: i64 = 1_704_067_200_000_000;
 
 /// One rendition with units from one second to another, of which more may come. Time 0 is at the epoch, if there is one.
-pub fn recorded(
+pub fn record_units(
     alloc: Global,
     epoch: Option<i64>,
     units: &[(u32, u32)],
@@ -20,7 +20,7 @@ pub fn recorded(
     ensures { IfOk result (λ s. length units.now + 1 ≤ length s.value.log) }
 {
     let renditions = Vec::from_array(alloc, [rendition(alloc, b"v1", true, 0)?])?;
-    let none = opened_with(alloc, renditions, epoch)?;
+    let none = open_channel_with(alloc, renditions, epoch)?;
     with_units(alloc, &none, 0, units)
 }
 

@@ -2,52 +2,57 @@
 
 ghost use Rattle.std.specs.Prelude.{IfOk};
 ghost use Rattle.hls_core_laws.specs.Moves.{IsFitting};
-ghost use Rattle.hls_catchup.specs.Plays.{IsRunTo};
+ghost use Rattle.hls_catchup.specs.Play.{IsRunTo};
 
 use super::channels::request;
 use hls_catchup::{Action, CatchFault, Reply, play};
 use hls_core::config::Config;
-use hls_core::replay::next;
+use hls_core::replay::apply_event;
 use hls_core::snapshot::Snapshot;
 use hls_core_laws::event::Event;
-use hls_sample_channels::{SECOND, SampleFault, accept_event, begin_event, opened};
+use hls_sample_channels::{SECOND, SampleFault, accept_event, begin_event, open_channel};
 use std::alloc::Global;
 use std::sync::Arc;
 
 /// Actions, and the state that their events lead to.
 #[derive(Drop)]
-struct Run {
+struct TestRun {
     actions: Vec<Action>,
     state: Arc<Snapshot>,
 }
 
-fn with_event(alloc: Global, config: &Config, run: Run, event: Event) -> Result<Run, SampleFault>
-    requires so_far { IsRunTo config.now run.actions.items run.state.value }
+fn with_event(
+    alloc: Global,
+    config: &Config,
+    run: TestRun,
+    event: Event,
+) -> Result<TestRun, SampleFault>
+    requires is_run { IsRunTo config.now run.actions.items run.state.value }
     requires fits { IsFitting run.state.value event }
     ensures { IfOk result (λ run. IsRunTo config.now run.actions.items run.state.value) }
 {
-    let Run { mut actions, state } = run;
-    let state = next(alloc, state, 0, &event)?;
+    let TestRun { mut actions, state } = run;
+    let state = apply_event(alloc, state, 0, &event)?;
     actions.push(Action::Event(0, event))?;
-    Ok(Run { actions, state })
+    Ok(TestRun { actions, state })
 }
 
 /// With a request for the first four seconds.
-fn with_request(config: &Config, run: Run) -> Result<Run, SampleFault>
+fn with_request(config: &Config, run: TestRun) -> Result<TestRun, SampleFault>
     requires { IsRunTo config.now run.actions.items run.state.value }
     ensures { IfOk result (λ run. IsRunTo config.now run.actions.items run.state.value) }
 {
-    let Run { mut actions, state } = run;
+    let TestRun { mut actions, state } = run;
     actions.push(Action::Ask(request(0, 4 * SECOND)))?;
-    Ok(Run { actions, state })
+    Ok(TestRun { actions, state })
 }
 
 /// With the init section alone.
-fn begun(alloc: Global, config: &Config) -> Result<Run, SampleFault>
+fn begin_run(alloc: Global, config: &Config) -> Result<TestRun, SampleFault>
     ensures { IfOk result (λ run. IsRunTo config.now run.actions.items run.state.value) }
 {
     let state = Snapshot::first(alloc, config.share()?)?;
-    let run = Run {
+    let run = TestRun {
         actions: Vec::new(alloc),
         state: Arc::new(alloc, state)?,
     };
@@ -56,10 +61,10 @@ fn begun(alloc: Global, config: &Config) -> Result<Run, SampleFault>
 }
 
 /// A unit of four seconds, and a request for it: before the end, after it, and once the unit is trimmed.
-fn asked(alloc: Global, config: &Config) -> Result<Run, SampleFault>
+fn build_run(alloc: Global, config: &Config) -> Result<TestRun, SampleFault>
     ensures { IfOk result (λ run. IsRunTo config.now run.actions.items run.state.value) }
 {
-    let run = begun(alloc, config)?;
+    let run = begin_run(alloc, config)?;
     let event = accept_event(alloc, &run.state, 0, 0, 360_000)?;
     let run = with_request(config, with_event(alloc, config, run, event)?)?;
     let run = with_event(alloc, config, run, Event::Finish { rendition: 0 })?;
@@ -73,18 +78,18 @@ fn asked(alloc: Global, config: &Config) -> Result<Run, SampleFault>
 }
 
 /// The last state, and the answers; none where memory was refused.
-fn played(alloc: Global) -> Option<(Arc<Snapshot>, Vec<Result<Reply, CatchFault>>)> {
-    let config = opened(alloc).ok()?.config().share().ok()?;
-    let run = asked(alloc, &config).ok()?;
+fn play_run(alloc: Global) -> Option<(Arc<Snapshot>, Vec<Result<Reply, CatchFault>>)> {
+    let config = open_channel(alloc).ok()?.config().share().ok()?;
+    let run = build_run(alloc, &config).ok()?;
     play(alloc, config, &run.actions).ok()
 }
 
 #[test]
-fn refused_memory_changes_no_run(rt: HostRuntime) {
+fn out_of_memory_changes_no_run(rt: HostRuntime) {
     let alloc = rt.alloc();
-    let (state, answers) = match played(alloc) {
+    let (state, answers) = match play_run(alloc) {
         Some(run) => run,
-        None => played(alloc).expect(&rt, "a run"),
+        None => play_run(alloc).expect(&rt, "a run"),
     };
     assert_eq!(rt; state.version(), 5);
     assert_eq!(rt; answers.len(), 3);

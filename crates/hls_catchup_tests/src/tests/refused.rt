@@ -1,6 +1,6 @@
 //! Where memory is refused: an answer leaves the snapshot as it was, a job failed alone, and the same request again is answered.
 
-use super::channels::{recorded, request};
+use super::channels::{record_units, request};
 use hls_catchup::{CatchFault, Job, JobTable, Reply, answer, reply_total, run_job};
 use hls_core::snapshot::Snapshot;
 use hls_sample_channels::SECOND;
@@ -9,9 +9,9 @@ use std::sync::Arc;
 
 /// Two units, recorded once more where memory was refused.
 fn two_units(alloc: Global) -> Option<Arc<Snapshot>> {
-    match recorded(alloc, None, &[(0, 4), (4, 8)]) {
+    match record_units(alloc, None, &[(0, 4), (4, 8)]) {
         Ok(snapshot) => Some(snapshot),
-        Err(_) => recorded(alloc, None, &[(0, 4), (4, 8)]).ok(),
+        Err(_) => record_units(alloc, None, &[(0, 4), (4, 8)]).ok(),
     }
 }
 
@@ -21,7 +21,7 @@ fn is_whole(reply: &Reply) -> bool {
 }
 
 #[test]
-fn refused_memory_changes_no_answer(rt: HostRuntime) {
+fn out_of_memory_changes_no_answer(rt: HostRuntime) {
     let alloc = rt.alloc();
     let snapshot = two_units(alloc).expect(&rt, "a snapshot with two units");
     let asked = request(0, 4 * SECOND);
@@ -33,7 +33,7 @@ fn refused_memory_changes_no_answer(rt: HostRuntime) {
 }
 
 /// Adds a job and runs it: how far it is then.
-fn run(alloc: Global, jobs: &mut JobTable, snapshot: &Arc<Snapshot>) -> Option<Job> {
+fn run_one_job(alloc: Global, jobs: &mut JobTable, snapshot: &Arc<Snapshot>) -> Option<Job> {
     let id = jobs
         .add(Arc::try_clone(snapshot).ok()?, request(0, 4 * SECOND))
         .ok()?;
@@ -50,14 +50,14 @@ fn is_answered(job: &Option<Job>) -> bool {
 }
 
 #[test]
-fn refused_memory_fails_one_job_alone(rt: HostRuntime) {
+fn out_of_memory_fails_one_job_alone(rt: HostRuntime) {
     let alloc = rt.alloc();
     let snapshot = two_units(alloc).expect(&rt, "a snapshot with two units");
     let mut jobs = match JobTable::new(alloc) {
         Ok(jobs) => jobs,
         Err(_) => JobTable::new(alloc).expect(&rt, "a table"),
     };
-    let first = run(alloc, &mut jobs, &snapshot);
+    let first = run_one_job(alloc, &mut jobs, &snapshot);
     assert!(rt; is_answered(&first) || matches!(first, Some(Job::Failed)));
-    assert!(rt; is_answered(&first) || is_answered(&run(alloc, &mut jobs, &snapshot)));
+    assert!(rt; is_answered(&first) || is_answered(&run_one_job(alloc, &mut jobs, &snapshot)));
 }

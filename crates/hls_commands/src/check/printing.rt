@@ -1,8 +1,8 @@
 //! The line of an answer. It takes no memory.
 ghost use Rattle.std.specs.Prelude.{◌≡◌, ◌+◌, ◌≤◌, ◌++◌, [], ◌∷◌};
 ghost use Rattle.arrayvec.specs.ArrayString.{array_string_len};
-ghost use Rattle.hls_text.specs.Numbers.{spaced};
-ghost use Rattle.hls_commands.specs.CheckAnswer.{answer_words, fault_numbers, printed};
+ghost use Rattle.hls_text.specs.Numbers.{spaced_numbers};
+ghost use Rattle.hls_commands.specs.CheckAnswer.{answer_words, fault_numbers, check_line};
 
 use arrayvec::ArrayString;
 use hls_check_laws::{CertFault, Verdict};
@@ -14,7 +14,7 @@ pub const LINE_LEN: usize = 65;
 /// Adds a space and a number.
 pub fn push_number(line: &mut ArrayString<LINE_LEN>, number: u64)
     requires { array_string_len line.old + 21 ≤ LINE_LEN }
-    ensures bytes { line.new.bytes ≡ line.old.bytes ++ spaced (number ∷ []) }
+    ensures bytes { line.new.bytes ≡ line.old.bytes ++ spaced_numbers (number ∷ []) }
     ensures len { array_string_len line.new ≤ array_string_len line.old + 21 }
 {
     line.push_str(" ");
@@ -24,7 +24,7 @@ pub fn push_number(line: &mut ArrayString<LINE_LEN>, number: u64)
 /// Adds two numbers, each with a space before it.
 fn push_pair(line: &mut ArrayString<LINE_LEN>, first: usize, second: usize)
     requires { array_string_len line.old + 42 ≤ LINE_LEN }
-    ensures bytes { line.new.bytes ≡ line.old.bytes ++ spaced (first ∷ second ∷ []) }
+    ensures bytes { line.new.bytes ≡ line.old.bytes ++ spaced_numbers (first ∷ second ∷ []) }
     ensures len { array_string_len line.new ≤ array_string_len line.old + 42 }
 {
     push_number(line, first as u64);
@@ -34,7 +34,7 @@ fn push_pair(line: &mut ArrayString<LINE_LEN>, first: usize, second: usize)
 /// Adds a fault's numbers, each with a space before it.
 fn push_numbers(line: &mut ArrayString<LINE_LEN>, fault: CertFault)
     requires { array_string_len line.old + 42 ≤ LINE_LEN }
-    ensures bytes { line.new.bytes ≡ line.old.bytes ++ spaced (fault_numbers fault) }
+    ensures bytes { line.new.bytes ≡ line.old.bytes ++ spaced_numbers (fault_numbers fault) }
     ensures len { array_string_len line.new ≤ array_string_len line.old + 42 }
 {
     match fault {
@@ -51,7 +51,7 @@ fn push_numbers(line: &mut ArrayString<LINE_LEN>, fault: CertFault)
 }
 
 /// The words of a fault.
-fn fault_words(fault: CertFault) -> ArrayString<LINE_LEN>
+fn write_fault(fault: CertFault) -> ArrayString<LINE_LEN>
     ensures bytes { result.bytes ≡ answer_words (Err fault) }
     ensures len { array_string_len result + 1 ≤ LINE_LEN }
 {
@@ -63,7 +63,7 @@ fn fault_words(fault: CertFault) -> ArrayString<LINE_LEN>
 }
 
 /// The words of a verdict.
-fn verdict_words(verdict: Verdict) -> ArrayString<LINE_LEN>
+fn write_verdict(verdict: Verdict) -> ArrayString<LINE_LEN>
     ensures bytes { result.bytes ≡ answer_words (Ok verdict) }
     ensures len { array_string_len result + 1 ≤ LINE_LEN }
 {
@@ -80,12 +80,12 @@ fn verdict_words(verdict: Verdict) -> ArrayString<LINE_LEN>
 
 /// The line of an answer: `cut` and the cost in microseconds, `none`, or `refused`, the fault's name
 /// and its numbers.
-pub fn answer_line(answer: Result<Verdict, CertFault>) -> ArrayString<LINE_LEN>
-    ensures { result.bytes ≡ printed answer }
+pub fn write_check_line(answer: Result<Verdict, CertFault>) -> ArrayString<LINE_LEN>
+    ensures { result.bytes ≡ check_line answer }
 {
     let mut line = match answer {
-        Ok(verdict) => verdict_words(verdict),
-        Err(fault) => fault_words(fault),
+        Ok(verdict) => write_verdict(verdict),
+        Err(fault) => write_fault(fault),
     };
     line.push_str("\n");
     line

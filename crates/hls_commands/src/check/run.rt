@@ -1,11 +1,11 @@
 //! `check`, from the bytes in to the bytes out.
 ghost use Rattle.hls_io.specs.Counted.{failures_of};
-ghost use Rattle.hls_io.specs.Streams.{FromInput, Through, ToOutput};
-ghost use Rattle.hls_commands.specs.CheckParts.{AnswersText, CountsPrinting, CountsTelling, PrintsAnswer, TellsAnswer};
-ghost use Rattle.hls_commands.specs.CheckRun.{CountsFailures, Runs};
+ghost use Rattle.hls_io.specs.Streams.{RelatesInput, RelatesInputAndOutput, RelatesOutput};
+ghost use Rattle.hls_commands.specs.CheckParts.{AnswersText, CountsPrinting, CountsReadFailures, PrintsAnswer, ReportsAnswer};
+ghost use Rattle.hls_commands.specs.CheckRun.{CountsFailures, RunsCheck};
 
-use crate::check::printing::answer_line;
-use crate::reading::{Unread, read_whole};
+use crate::check::printing::write_check_line;
+use crate::read_input::{ReadFault, read_whole};
 use hls_check_laws::{CertFault, Verdict};
 use hls_io::{Counted, write_whole};
 use std::alloc::Global;
@@ -26,11 +26,7 @@ pub enum CheckEnd {
 }
 
 /// The answer to a text.
-fn answer_text(
-    rt: &(impl Threads + Sync),
-    alloc: Global,
-    bytes: &[u8],
-) -> Result<Verdict, CertFault>
+fn check_text(rt: &(impl Threads + Sync), alloc: Global, bytes: &[u8]) -> Result<Verdict, CertFault>
     ensures { AnswersText bytes.now result }
 {
     match hls_check_text::read(alloc, bytes) {
@@ -40,27 +36,27 @@ fn answer_text(
 }
 
 /// The answer to the whole of a stream; None where a read failed.
-fn answer_stream<R: Read>(
+fn check_stream<R: Read>(
     rt: &(impl Threads + Sync),
     alloc: Global,
     input: &mut Counted<R>,
 ) -> Option<Result<Verdict, CertFault>>
-    ensures tells { FromInput R.remaining input.old input.new TellsAnswer result }
-    ensures counts { CountsTelling result (failures_of input.old) (failures_of input.new) }
+    ensures reports { RelatesInput R.remaining input.old input.new ReportsAnswer result }
+    ensures counts { CountsReadFailures result (failures_of input.old) (failures_of input.new) }
 {
     match read_whole(alloc, input, None) {
-        Ok(bytes) => Some(answer_text(rt, alloc, &bytes)),
-        Err(Unread::ReadFailed) => None,
-        Err(Unread::Memory) => Some(Err(CertFault::Memory)),
+        Ok(bytes) => Some(check_text(rt, alloc, &bytes)),
+        Err(ReadFault::ReadFailed) => None,
+        Err(ReadFault::Memory) => Some(Err(CertFault::Memory)),
     }
 }
 
 /// Writes the line of an answer, which is whole before the first write.
 fn print_answer<W: Write>(output: &mut Counted<W>, answer: Result<Verdict, CertFault>) -> CheckEnd
-    ensures prints { ToOutput W.contents output.old output.new (PrintsAnswer answer) result }
+    ensures prints { RelatesOutput W.contents output.old output.new (PrintsAnswer answer) result }
     ensures counts { CountsPrinting result (failures_of output.old) (failures_of output.new) }
 {
-    let line = answer_line(answer);
+    let line = write_check_line(answer);
     if !write_whole(output, line.as_str().as_bytes()) {
         return CheckEnd::WriteFailed(answer);
     }
@@ -84,10 +80,10 @@ pub fn run_check<R: Read, W: Write>(
     input: &mut Counted<R>,
     output: &mut Counted<W>,
 ) -> CheckEnd
-    ensures runs { Through R.remaining input.old input.new W.contents output.old output.new Runs result }
+    ensures runs { RelatesInputAndOutput R.remaining input.old input.new W.contents output.old output.new RunsCheck result }
     ensures counts { CountsFailures result (failures_of input.old) (failures_of input.new) (failures_of output.old) (failures_of output.new) }
 {
-    match answer_stream(rt, alloc, input) {
+    match check_stream(rt, alloc, input) {
         Some(answer) => print_answer(output, answer),
         None => CheckEnd::ReadFailed,
     }

@@ -1,10 +1,10 @@
 //! Why `cut` refuses a stream.
 ghost use Rattle.std.specs.Prelude.{◌≡◌};
-ghost use Rattle.hls_commands.specs.FaultName.{fault_of, name_of};
+ghost use Rattle.hls_commands.specs.CutFaultName.{fault_of, name_of};
 ghost use Rattle.hls_commands.specs.declared.cut.fault.CutFault.TheVariants.{Memory};
 
-use hls_feed::{StreamFault, Untaken};
-use hls_origin_listing::ListFault;
+use hls_feed::{FeedFault, StreamFault};
+use hls_origin_listing::ListingFault;
 use std::alloc::{AllocError, AllocFailed};
 use std::fmt::{self, Display, Formatter, Write};
 use thiserror::Error;
@@ -16,7 +16,7 @@ pub enum CutFault {
     /// a unit is no good; or the channel refuses what comes, or the end before any init section.
     Stream(StreamFault),
     /// The recorded stream can't be listed.
-    Listing(ListFault),
+    Listing(ListingFault),
     /// A read failed.
     ReadFailed,
     /// A write failed.
@@ -46,13 +46,13 @@ impl Display for CutFault {
     }
 }
 
-impl From<Untaken> for CutFault {
-    ghost from_gives = { λ untaken fault. fault ≡ fault_of untaken };
+impl From<FeedFault> for CutFault {
+    ghost from_gives = { λ feed_fault fault. fault ≡ fault_of feed_fault };
 
-    fn from(untaken: Untaken) -> CutFault {
-        match untaken {
-            Untaken::Refused(fault) => CutFault::Stream(fault),
-            Untaken::Memory => CutFault::Memory,
+    fn from(feed_fault: FeedFault) -> CutFault {
+        match feed_fault {
+            FeedFault::Refused(fault) => CutFault::Stream(fault),
+            FeedFault::Memory => CutFault::Memory,
         }
     }
 }

@@ -4,11 +4,11 @@ ghost use Rattle.hls_media_laws.specs.Inits.{init_of};
 ghost use Rattle.hls_media_laws.specs.UnitFacts.{facts};
 ghost use Rattle.hls_core_laws.specs.Moves.{IsFitting};
 ghost use Rattle.hls_core_laws.specs.Runs.{first_state};
-ghost use Rattle.hls_core.specs.Reads.{recording_of};
-ghost use Rattle.hls_feed.specs.declared.fault.StreamFault.TheVariants.{Media};
-ghost use Rattle.hls_commands.specs.Accepts.{Becomes, Means};
-ghost use Rattle.hls_commands.specs.Recorded.{ended, stepped, with_part};
-ghost use Rattle.hls_commands.specs.Then.{or_refused_as};
+ghost use Rattle.hls_core.specs.Getters.{recording_of};
+ghost use Rattle.hls_feed.specs.declared.feed_fault.StreamFault.TheVariants.{Media};
+ghost use Rattle.hls_commands.specs.MemoryCases.{IsDefinedOrMemory, IsReadOrMemory};
+ghost use Rattle.hls_commands.specs.RecordedState.{state_at_end, state_after, with_part};
+ghost use Rattle.hls_commands.specs.OrRefused.{or_refused_as};
 
 use bytes::Bytes;
 use hls_boxes_laws::part::Part;
@@ -18,7 +18,7 @@ use hls_core::step::step;
 use hls_core::stepped::Stepped;
 use hls_core_laws::event::Event;
 use hls_core_laws::refusal::Refusal;
-use hls_feed::{StreamFault, Taker, Untaken};
+use hls_feed::{FeedFault, PartSink, StreamFault};
 use hls_media::{read_facts, read_init};
 use hls_media_laws::fault::MediaFault;
 use hls_media_laws::init::Init;
@@ -50,13 +50,13 @@ impl Model for Recorder {
 }
 
 /// What the bytes of an init section mean.
-fn meaning_of(alloc: Global, bytes: &[u8]) -> Result<Init, Untaken>
-    ensures { Means (or_refused_as Media (init_of bytes.now)) result }
+fn parse_init(alloc: Global, bytes: &[u8]) -> Result<Init, FeedFault>
+    ensures { IsReadOrMemory (or_refused_as Media (init_of bytes.now)) result }
 {
     match read_init(alloc, bytes) {
         Ok(meaning) => Ok(meaning),
-        Err(MediaFault::Memory) => Err(Untaken::Memory),
-        Err(fault) => Err(Untaken::Refused(StreamFault::Media(fault))),
+        Err(MediaFault::Memory) => Err(FeedFault::Memory),
+        Err(fault) => Err(FeedFault::Refused(StreamFault::Media(fault))),
     }
 }
 
@@ -79,9 +79,9 @@ impl Recorder {
     }
 
     /// Takes an event; one that comes again adds nothing.
-    fn take(&mut self, alloc: Global, event: Event) -> Result<(), Untaken>
+    fn apply_event(&mut self, alloc: Global, event: Event) -> Result<(), FeedFault>
         requires { IsFitting self.old event }
-        ensures { Becomes (stepped self.old event) self.new result }
+        ensures { IsDefinedOrMemory (state_after self.old event) self.new result }
     {
         match step(&self.snapshot, alloc, WORKER, event) {
             Ok(Stepped::New(next)) => {
@@ -89,16 +89,16 @@ impl Recorder {
                 Ok(())
             }
             Ok(Stepped::Repeat) => Ok(()),
-            Err(Refusal::Memory) => Err(Untaken::Memory),
-            Err(refusal) => Err(Untaken::Refused(StreamFault::Core(refusal))),
+            Err(Refusal::Memory) => Err(FeedFault::Memory),
+            Err(refusal) => Err(FeedFault::Refused(StreamFault::Core(refusal))),
         }
     }
 
     /// Takes an init section.
-    fn accept_init(&mut self, alloc: Global, bytes: Bytes) -> Result<(), Untaken>
-        ensures { Becomes (with_part self.old (Part.Init bytes)) self.new result }
+    fn accept_init(&mut self, alloc: Global, bytes: Bytes) -> Result<(), FeedFault>
+        ensures { IsDefinedOrMemory (with_part self.old (Part.Init bytes)) self.new result }
     {
-        let init = match meaning_of(alloc, &bytes) {
+        let init = match parse_init(alloc, &bytes) {
             Ok(init) => init,
             Err(fault) => return Err(fault),
         };
@@ -107,52 +107,52 @@ impl Recorder {
             init,
             bytes,
         };
-        self.take(alloc, event)
+        self.apply_event(alloc, event)
     }
 
     /// Takes a unit.
-    fn accept_unit(&mut self, alloc: Global, bytes: Bytes) -> Result<(), Untaken>
-        ensures { Becomes (with_part self.old (Part.Unit bytes)) self.new result }
+    fn accept_unit(&mut self, alloc: Global, bytes: Bytes) -> Result<(), FeedFault>
+        ensures { IsDefinedOrMemory (with_part self.old (Part.Unit bytes)) self.new result }
     {
         let Some(recording) = self.snapshot.recording(RENDITION) else {
-            return Err(Untaken::Refused(StreamFault::Core(Refusal::NoInit)));
+            return Err(FeedFault::Refused(StreamFault::Core(Refusal::NoInit)));
         };
         let facts = match read_facts(recording.init(), &bytes) {
             Ok(facts) => facts,
-            Err(fault) => return Err(Untaken::Refused(StreamFault::Media(fault))),
+            Err(fault) => return Err(FeedFault::Refused(StreamFault::Media(fault))),
         };
         let event = Event::Accept {
             rendition: RENDITION,
             facts,
             bytes,
         };
-        self.take(alloc, event)
+        self.apply_event(alloc, event)
     }
 
     /// Ends the stream: no unit will come any more.
-    #[tactic(auto, unfolding(crate::specs::Recorded::ended))]
-    pub fn finish(&mut self, alloc: Global) -> Result<(), Untaken>
-        ensures { Becomes (ended self.old) self.new result }
+    #[tactic(auto, unfolding(crate::specs::RecordedState::state_at_end))]
+    pub fn finish(&mut self, alloc: Global) -> Result<(), FeedFault>
+        ensures { IsDefinedOrMemory (state_at_end self.old) self.new result }
     {
         let event = Event::Finish {
             rendition: RENDITION,
         };
-        self.take(alloc, event)
+        self.apply_event(alloc, event)
     }
 }
 
 /// Takes the parts of a stream into a recorder.
 #[derive(Clone, Copy)]
-pub struct Recording {
+pub struct RecorderSink {
     /// Where memory is taken.
     pub alloc: Global,
 }
 
-impl Taker for Recording {
+impl PartSink for RecorderSink {
     ghost use Rattle.hls_core_laws.specs.State.{State};
-    ghost use Rattle.hls_commands.specs.Recorded.{PartComes};
+    ghost use Rattle.hls_commands.specs.RecordedState.{PartYields};
 
-    type Kept = ();
+    type StreamState = ();
 
     type Channel = Recorder;
 
@@ -162,15 +162,20 @@ impl Taker for Recording {
 
     ghost fits = { λ recording kept recorder. Unit {0} };
 
-    ghost comes = { λ recording. PartComes };
+    ghost yields = { λ recording. PartYields };
 
-    ghost goes = { λ kept recorder later now. Unit {0} };
+    ghost changes = { λ kept recorder later now. Unit {0} };
 
-    ghost stays = { λ kept recorder. tt };
+    ghost changes_refl = { λ kept recorder. tt };
 
-    ghost goes_on = { λ kept recorder later now last then first second. tt };
+    ghost changes_trans = { λ kept recorder later now last then first second. tt };
 
-    fn take(&self, _kept: &mut (), recorder: &mut Recorder, part: Part) -> Result<(), Untaken> {
+    fn accept_part(
+        &self,
+        _kept: &mut (),
+        recorder: &mut Recorder,
+        part: Part,
+    ) -> Result<(), FeedFault> {
         match part {
             Part::Init(bytes) => recorder.accept_init(self.alloc, bytes),
             Part::Unit(bytes) => recorder.accept_unit(self.alloc, bytes),

@@ -1,21 +1,21 @@
 //! `cut`, from the words and the bytes in to the bytes out.
 ghost use Rattle.std.specs.Prelude.{◌≡◌, Ok, map, IfOk, false, true};
 ghost use Rattle.hls_io.specs.Counted.{failures_of};
-ghost use Rattle.hls_io.specs.Streams.{FromInput, Through, ToOutput};
+ghost use Rattle.hls_io.specs.Streams.{RelatesInput, RelatesInputAndOutput, RelatesOutput};
 ghost use Rattle.hls_commands.specs.Channel.{opening_of};
-ghost use Rattle.hls_commands.specs.Gather.{CountsReads};
-ghost use Rattle.hls_commands.specs.Recorded.{ended};
-ghost use Rattle.hls_commands.specs.Run.{CountsFailures, IsUsageFault, Runs, is_usage};
-ghost use Rattle.hls_commands.specs.RunParts.{CountsPrint, ListsAtEnd, Prints, Takes};
+ghost use Rattle.hls_commands.specs.RecordStream.{CountsReads};
+ghost use Rattle.hls_commands.specs.RecordedState.{state_at_end};
+ghost use Rattle.hls_commands.specs.CutRun.{CountsFailures, IsUsageFault, RunsCut, is_usage};
+ghost use Rattle.hls_commands.specs.CutParts.{CountsPrint, ListsAtEnd, Prints, ListsStream};
 ghost use Rattle.hls_settings.specs.Options.{options_of};
 
-use crate::cut::channel::{config, listing};
+use crate::cut::channel_config::{listing_mode, make_config};
 use crate::cut::fault::CutFault;
-use crate::cut::gather::gather;
+use crate::cut::record_stream::record_stream;
 use crate::cut::recorder::Recorder;
 use hls_io::{Counted, write_whole};
-use hls_origin_listing::{ListFault, Listed, list};
-use hls_settings::{Options, OptionsFault, read_options};
+use hls_origin_listing::{ListingFault, ListingOutput, list_channel};
+use hls_settings::{CutOptions, CutOptionsFault, read_options};
 use std::alloc::{AllocError, Global};
 use std::convert::AsStr;
 use std::io::{Read, Write};
@@ -30,53 +30,58 @@ pub enum CutEnd {
     /// The stream was refused, or a read or write failed: status 1.
     Refused(CutFault),
     /// A word is wrong; nothing was read or written: status 2.
-    Usage(OptionsFault),
+    Usage(CutOptionsFault),
 }
 
 /// A recorder of the channel that the options ask for.
-fn recorder_for(alloc: Global, options: &Options<'_>) -> Result<Recorder, AllocError>
+fn make_recorder(alloc: Global, options: &CutOptions<'_>) -> Result<Recorder, AllocError>
     ensures { IfOk result (λ recorder. recorder ≡ opening_of options.now) }
 {
-    Recorder::new(alloc, config(alloc, options)?)
+    Recorder::new(alloc, make_config(alloc, options)?)
 }
 
 /// Ends a recorded stream, and lists it.
 fn list_recorded(
     alloc: Global,
-    options: &Options<'_>,
+    options: &CutOptions<'_>,
     recorder: &mut Recorder,
-) -> Result<Listed, CutFault>
-    ensures { ListsAtEnd options.now (ended recorder.old) result }
+) -> Result<ListingOutput, CutFault>
+    ensures { ListsAtEnd options.now (state_at_end recorder.old) result }
 {
     recorder.finish(alloc)?;
-    match list(alloc, recorder.snapshot(), options.uri(), listing(options)) {
+    match list_channel(
+        alloc,
+        recorder.snapshot(),
+        options.uri(),
+        listing_mode(options),
+    ) {
         Ok(listed) => Ok(listed),
-        Err(ListFault::Memory) => Err(CutFault::Memory),
+        Err(ListingFault::Memory) => Err(CutFault::Memory),
         Err(fault) => Err(CutFault::Listing(fault)),
     }
 }
 
 /// Reads a stream, and lists it.
-fn take_stream<R: Read>(
+fn list_stream<R: Read>(
     alloc: Global,
-    options: &Options<'_>,
+    options: &CutOptions<'_>,
     input: &mut Counted<R>,
-) -> Result<Listed, CutFault>
-    ensures takes { FromInput R.remaining input.old input.new (Takes options.now) result }
+) -> Result<ListingOutput, CutFault>
+    ensures takes { RelatesInput R.remaining input.old input.new (ListsStream options.now) result }
     ensures counts { CountsReads result (failures_of input.old) (failures_of input.new) }
 {
-    let Ok(mut recorder) = recorder_for(alloc, options) else {
+    let Ok(mut recorder) = make_recorder(alloc, options) else {
         return Err(CutFault::Memory);
     };
-    match gather(alloc, input, &mut recorder) {
+    match record_stream(alloc, input, &mut recorder) {
         Ok(()) => list_recorded(alloc, options, &mut recorder),
         Err(fault) => Err(fault),
     }
 }
 
 /// Writes what was listed, and answers `end`, or that a write failed.
-fn print<W: Write>(output: &mut Counted<W>, text: &[u8], end: CutEnd) -> CutEnd
-    ensures writes { ToOutput W.contents output.old output.new (λ held contents. Prints held text.now contents end) result }
+fn write_listing<W: Write>(output: &mut Counted<W>, text: &[u8], end: CutEnd) -> CutEnd
+    ensures writes { RelatesOutput W.contents output.old output.new (λ held contents. Prints held text.now contents end) result }
     ensures counts { CountsPrint end result (failures_of output.old) (failures_of output.new) }
 {
     if write_whole(output, text) {
@@ -87,19 +92,19 @@ fn print<W: Write>(output: &mut Counted<W>, text: &[u8], end: CutEnd) -> CutEnd
 }
 
 /// Reads a stream and writes what is listed of it, which is whole before the first write.
-fn run<R: Read, W: Write>(
+fn cut_stream<R: Read, W: Write>(
     alloc: Global,
-    options: &Options<'_>,
+    options: &CutOptions<'_>,
     input: &mut Counted<R>,
     output: &mut Counted<W>,
 ) -> CutEnd
-    ensures runs { Through R.remaining input.old input.new W.contents output.old output.new (Runs (Ok options.now)) result }
+    ensures runs { RelatesInputAndOutput R.remaining input.old input.new W.contents output.old output.new (RunsCut (Ok options.now)) result }
     ensures counts { CountsFailures result (failures_of input.old) (failures_of input.new) (failures_of output.old) (failures_of output.new) }
     ensures used { is_usage result ≡ false }
 {
-    match take_stream(alloc, options, input) {
-        Ok(Listed::Text(text)) => print(output, &text, CutEnd::Done),
-        Ok(Listed::NoCut(text)) => print(output, &text, CutEnd::NoCut),
+    match list_stream(alloc, options, input) {
+        Ok(ListingOutput::Text(text)) => write_listing(output, &text, CutEnd::Done),
+        Ok(ListingOutput::NoCut(text)) => write_listing(output, &text, CutEnd::NoCut),
         Err(fault) => CutEnd::Refused(fault),
     }
 }
@@ -115,19 +120,19 @@ fn run<R: Read, W: Write>(
 /// text is there. `Memory` is answered only where memory was refused.
 pub fn run_cut<'a, S: AsStr, R: Read, W: Write>(
     alloc: Global,
-    words: &'a [S],
+    arguments: &'a [S],
     input: &mut Counted<R>,
     output: &mut Counted<W>,
 ) -> CutEnd
-    ensures runs { Through R.remaining input.old input.new W.contents output.old output.new
-        (Runs (options_of (map S.text words.entry.now))) result }
+    ensures runs { RelatesInputAndOutput R.remaining input.old input.new W.contents output.old output.new
+        (RunsCut (options_of (map S.text arguments.entry.now))) result }
     ensures counts { CountsFailures result (failures_of input.old) (failures_of input.new) (failures_of output.old) (failures_of output.new) }
-    ensures words { IsUsageFault result (options_of (map S.text words.entry.now)) }
+    ensures arguments { IsUsageFault result (options_of (map S.text arguments.entry.now)) }
     ensures untouched { is_usage result ≡ true → (input.new ≡ input.old) × (output.new ≡ output.old) }
 {
-    match read_options(alloc, words) {
-        Ok(options) => run(alloc, &options, input, output),
-        Err(OptionsFault::Memory) => CutEnd::Refused(CutFault::Memory),
+    match read_options(alloc, arguments) {
+        Ok(options) => cut_stream(alloc, &options, input, output),
+        Err(CutOptionsFault::Memory) => CutEnd::Refused(CutFault::Memory),
         Err(fault) => CutEnd::Usage(fault),
     }
 }

@@ -2,27 +2,27 @@
 ghost use Rattle.std.specs.Prelude.{◌≡◌, ◌+◌, ◌≤◌, ◌++◌, [], ◌∷◌, Ok, Err, OnOk, IfOk};
 ghost use Rattle.arrayvec.specs.ArrayString.{array_string_len};
 ghost use Rattle.hls_m3u8.specs.Playlist.{playlist_of};
-ghost use Rattle.hls_text.specs.Numbers.{spaced};
+ghost use Rattle.hls_text.specs.Numbers.{spaced_numbers};
 ghost use Rattle.hls_time.specs.Seconds.{seconds_text};
-ghost use Rattle.hls_commands.specs.LintAnswer.{count_words, end_words, extent, fault_lines, field, header, kind_words, length_words};
-ghost use Rattle.hls_commands.specs.LintAnswer.{longest, printed, sequences, total_us};
+ghost use Rattle.hls_commands.specs.LintAnswer.{count_words, end_words, extent, fault_line_numbers, field, header, kind_words, length_words};
+ghost use Rattle.hls_commands.specs.LintAnswer.{longest_us, lint_line, sequences, total_us};
 
 use crate::check::printing::{LINE_LEN, push_number};
 use arrayvec::ArrayString;
-use hls_m3u8::{Kind, ListFault, MediaPlaylist, Segment};
+use hls_m3u8::{ListFault, MediaPlaylist, MediaSegment, PlaylistKind};
 use hls_time::write_seconds;
 use std::alloc::{AllocError, Global};
 
 /// The longest time that is told, in microseconds.
-const LONGEST: u64 = (1 << 53) - 1;
+const LONGEST_US: u64 = (1 << 53) - 1;
 
 /// The segments' lengths together in microseconds, or the longest time that is told.
-fn total_us(segments: &[Segment]) -> u64
+fn total_us(segments: &[MediaSegment]) -> u64
     ensures { result ≡ total_us segments.now }
 {
     let mut total = 0u64;
     for segment in segments {
-        total = total.saturating_add(segment.us).min(LONGEST);
+        total = total.saturating_add(segment.us).min(LONGEST_US);
     }
     total
 }
@@ -38,7 +38,7 @@ fn push_field(out: &mut Vec<u8>, label: &[u8], number: u64) -> Result<(), AllocE
 
 /// Adds a time in seconds.
 fn push_seconds(out: &mut Vec<u8>, us: u64) -> Result<(), AllocError>
-    requires { us ≤ longest }
+    requires { us ≤ longest_us }
     ensures { OnOk result (out.new.items ≡ out.old.items ++ seconds_text us) }
 {
     let mut seconds = [0; 24];
@@ -48,7 +48,7 @@ fn push_seconds(out: &mut Vec<u8>, us: u64) -> Result<(), AllocError>
 }
 
 /// Adds how many segments there are.
-fn push_count(out: &mut Vec<u8>, segments: &[Segment]) -> Result<(), AllocError>
+fn push_count(out: &mut Vec<u8>, segments: &[MediaSegment]) -> Result<(), AllocError>
     ensures { OnOk result (out.new.items ≡ out.old.items ++ count_words segments.now) }
 {
     push_field(out, b"media playlist: ", segments.len() as u64)
@@ -56,7 +56,7 @@ fn push_count(out: &mut Vec<u8>, segments: &[Segment]) -> Result<(), AllocError>
 
 /// Adds how long they are.
 fn push_length(out: &mut Vec<u8>, us: u64) -> Result<(), AllocError>
-    requires { us ≤ longest }
+    requires { us ≤ longest_us }
     ensures { OnOk result (out.new.items ≡ out.old.items ++ length_words us) }
 {
     out.extend_from_slice(b" segments, ")?;
@@ -65,7 +65,7 @@ fn push_length(out: &mut Vec<u8>, us: u64) -> Result<(), AllocError>
 }
 
 /// Adds how many segments there are, and how long they are.
-fn push_extent(out: &mut Vec<u8>, segments: &[Segment]) -> Result<(), AllocError>
+fn push_extent(out: &mut Vec<u8>, segments: &[MediaSegment]) -> Result<(), AllocError>
     ensures { OnOk result (out.new.items ≡ out.old.items ++ extent segments.now) }
 {
     push_count(out, segments)?;
@@ -106,13 +106,13 @@ fn push_numbers(out: &mut Vec<u8>, list: &MediaPlaylist) -> Result<(), AllocErro
 }
 
 /// Adds what kind of list it is.
-fn push_kind(out: &mut Vec<u8>, kind: Option<Kind>) -> Result<(), AllocError>
+fn push_kind(out: &mut Vec<u8>, kind: Option<PlaylistKind>) -> Result<(), AllocError>
     ensures { OnOk result (out.new.items ≡ out.old.items ++ kind_words kind) }
 {
     match kind {
         None => out.extend_from_slice(b", live"),
-        Some(Kind::Vod) => out.extend_from_slice(b", VOD"),
-        Some(Kind::Event) => out.extend_from_slice(b", EVENT"),
+        Some(PlaylistKind::Vod) => out.extend_from_slice(b", VOD"),
+        Some(PlaylistKind::Event) => out.extend_from_slice(b", EVENT"),
     }
 }
 
@@ -127,8 +127,8 @@ fn push_end(out: &mut Vec<u8>, ended: bool) -> Result<(), AllocError>
 }
 
 /// The line of a list.
-pub fn list_line(alloc: Global, list: &MediaPlaylist) -> Result<Vec<u8>, AllocError>
-    ensures { IfOk result (λ line. line.items ≡ printed (Ok (playlist_of list.now))) }
+pub fn write_list_line(alloc: Global, list: &MediaPlaylist) -> Result<Vec<u8>, AllocError>
+    ensures { IfOk result (λ line. line.items ≡ lint_line (Ok (playlist_of list.now))) }
 {
     let mut out = Vec::new(alloc);
     push_extent(&mut out, list.segments.as_slice())?;
@@ -140,9 +140,9 @@ pub fn list_line(alloc: Global, list: &MediaPlaylist) -> Result<Vec<u8>, AllocEr
 }
 
 /// Adds the number of the line that is refused, with a space before it.
-fn push_fault_line(line: &mut ArrayString<LINE_LEN>, fault: ListFault)
+fn push_fault_line_number(line: &mut ArrayString<LINE_LEN>, fault: ListFault)
     requires { array_string_len line.old + 21 ≤ LINE_LEN }
-    ensures bytes { line.new.bytes ≡ line.old.bytes ++ spaced (fault_lines fault) }
+    ensures bytes { line.new.bytes ≡ line.old.bytes ++ spaced_numbers (fault_line_numbers fault) }
     ensures len { array_string_len line.new ≤ array_string_len line.old + 21 }
 {
     match fault {
@@ -157,13 +157,13 @@ fn push_fault_line(line: &mut ArrayString<LINE_LEN>, fault: ListFault)
 
 /// The line of a refusal: `refused`, the fault's name, and the number of the line in the playlist's text where it has one.
 /// It takes no memory.
-pub fn fault_line(fault: ListFault) -> ArrayString<LINE_LEN>
-    ensures { result.bytes ≡ printed (Err fault) }
+pub fn write_fault_line(fault: ListFault) -> ArrayString<LINE_LEN>
+    ensures { result.bytes ≡ lint_line (Err fault) }
 {
     let mut line = ArrayString::new();
     line.push_str("refused ");
     line.push_str(fault.name());
-    push_fault_line(&mut line, fault);
+    push_fault_line_number(&mut line, fault);
     line.push_str("\n");
     line
 }

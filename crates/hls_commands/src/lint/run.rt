@@ -1,11 +1,11 @@
 //! `lint`, from the bytes in to the bytes out.
 ghost use Rattle.hls_io.specs.Counted.{failures_of};
-ghost use Rattle.hls_io.specs.Streams.{FromInput, Through, ToOutput};
-ghost use Rattle.hls_commands.specs.LintParts.{CountsTelling, CountsText, IsLine, PrintsText, TellsLine, done_of, line_bytes};
-ghost use Rattle.hls_commands.specs.LintRun.{CountsFailures, Runs};
+ghost use Rattle.hls_io.specs.Streams.{RelatesInput, RelatesInputAndOutput, RelatesOutput};
+ghost use Rattle.hls_commands.specs.LintParts.{CountsReadFailures, CountsText, IsLine, PrintsText, ReportsLine, lint_end_of, line_bytes};
+ghost use Rattle.hls_commands.specs.LintRun.{CountsFailures, RunsLint};
 
-use crate::lint::printing::{fault_line, list_line};
-use crate::reading::{Unread, read_whole};
+use crate::lint::printing::{write_fault_line, write_list_line};
+use crate::read_input::{ReadFault, read_whole};
 use hls_io::{Counted, write_whole};
 use hls_m3u8::{ListFault, TEXT_LIMIT, read_media};
 use std::alloc::Global;
@@ -29,30 +29,30 @@ pub enum LintEnd {
 }
 
 /// The line of a text, or why it is refused.
-fn text_line(alloc: Global, text: &[u8]) -> Result<Vec<u8>, ListFault>
+fn lint_text(alloc: Global, text: &[u8]) -> Result<Vec<u8>, ListFault>
     ensures { IsLine text.now result }
 {
     match read_media(alloc, text) {
-        Ok(list) => Ok(list_line(alloc, &list)?),
+        Ok(list) => Ok(write_list_line(alloc, &list)?),
         Err(fault) => Err(fault),
     }
 }
 
 /// The line of the whole of a stream; None where a read failed.
-fn stream_line<R: Read>(alloc: Global, input: &mut Counted<R>) -> Option<Result<Vec<u8>, ListFault>>
-    ensures tells { FromInput R.remaining input.old input.new TellsLine result }
-    ensures counts { CountsTelling result (failures_of input.old) (failures_of input.new) }
+fn lint_stream<R: Read>(alloc: Global, input: &mut Counted<R>) -> Option<Result<Vec<u8>, ListFault>>
+    ensures reports { RelatesInput R.remaining input.old input.new ReportsLine result }
+    ensures counts { CountsReadFailures result (failures_of input.old) (failures_of input.new) }
 {
     match read_whole(alloc, input, Some(HELD_BYTES)) {
-        Ok(text) => Some(text_line(alloc, &text)),
-        Err(Unread::ReadFailed) => None,
-        Err(Unread::Memory) => Some(Err(ListFault::Memory)),
+        Ok(text) => Some(lint_text(alloc, &text)),
+        Err(ReadFault::ReadFailed) => None,
+        Err(ReadFault::Memory) => Some(Err(ListFault::Memory)),
     }
 }
 
 /// Writes a text, and ends as `done` says unless a write failed.
 fn print_text<W: Write>(output: &mut Counted<W>, text: &[u8], done: LintEnd) -> LintEnd
-    ensures prints { ToOutput W.contents output.old output.new (PrintsText text.now done) result }
+    ensures prints { RelatesOutput W.contents output.old output.new (PrintsText text.now done) result }
     ensures counts { CountsText done result (failures_of output.old) (failures_of output.new) }
 {
     if write_whole(output, text) {
@@ -64,13 +64,13 @@ fn print_text<W: Write>(output: &mut Counted<W>, text: &[u8], done: LintEnd) -> 
 
 /// Writes a line, which is whole before the first write.
 fn print_line<W: Write>(output: &mut Counted<W>, line: Result<Vec<u8>, ListFault>) -> LintEnd
-    ensures prints { ToOutput W.contents output.old output.new (PrintsText (line_bytes line) (done_of line)) result }
-    ensures counts { CountsText (done_of line) result (failures_of output.old) (failures_of output.new) }
+    ensures prints { RelatesOutput W.contents output.old output.new (PrintsText (line_bytes line) (lint_end_of line)) result }
+    ensures counts { CountsText (lint_end_of line) result (failures_of output.old) (failures_of output.new) }
 {
     match line {
         Ok(line) => print_text(output, line.as_slice(), LintEnd::Readable),
         Err(fault) => {
-            let line = fault_line(fault);
+            let line = write_fault_line(fault);
             print_text(output, line.as_str().as_bytes(), LintEnd::Refused)
         }
     }
@@ -88,10 +88,10 @@ pub fn run_lint<R: Read, W: Write>(
     input: &mut Counted<R>,
     output: &mut Counted<W>,
 ) -> LintEnd
-    ensures runs { Through R.remaining input.old input.new W.contents output.old output.new Runs result }
+    ensures runs { RelatesInputAndOutput R.remaining input.old input.new W.contents output.old output.new RunsLint result }
     ensures counts { CountsFailures result (failures_of input.old) (failures_of input.new) (failures_of output.old) (failures_of output.new) }
 {
-    match stream_line(alloc, input) {
+    match lint_stream(alloc, input) {
         Some(line) => print_line(output, line),
         None => LintEnd::ReadFailed,
     }

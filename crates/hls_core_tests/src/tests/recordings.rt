@@ -1,57 +1,57 @@
 //! A recording whose requests for memory are refused is as it was, and the same call again gives what was wanted.
 
 ghost use Rattle.std.specs.Prelude.{◌<◌, ◌^◌, length, IfOk};
-ghost use Rattle.hls_record.specs.Valid.{IsRecorded};
+ghost use Rattle.hls_record.specs.IsRecorded.{IsRecorded};
 
-use super::two_units::{Known, TWO, known_of, resource, two_units, with_sample};
+use super::two_units::{Observed, TWO, observe, resource_bytes, two_units, with_sample};
 use hls_record::{RangeFault, RecordFault, Recording};
 use std::alloc::{AllocError, Global};
 use std::test::Fail;
 
 /// The third unit appended, in a second call where the first was refused memory.
-fn appends_at_last(alloc: Global, two: &Recording) -> bool {
-    let want = Known {
+fn appends_with_retry(alloc: Global, two: &Recording) -> bool {
+    let expected = Observed {
         count: 3,
         floor: 0,
         total: 966,
         last_end: 1080000,
     };
     match with_sample(alloc, two, 720000, 130) {
-        Ok(three) => known_of(&three) == want,
+        Ok(three) => observe(&three) == expected,
         Err(RecordFault::Memory) => {
-            with_sample(alloc, two, 720000, 130).is_ok_and(|three| known_of(&three) == want)
+            with_sample(alloc, two, 720000, 130).is_ok_and(|three| observe(&three) == expected)
         }
         Err(_) => false,
     }
 }
 
 /// The first unit trimmed, in the same way.
-fn trims_at_last(alloc: Global, two: &Recording) -> bool {
+fn trims_with_retry(alloc: Global, two: &Recording) -> bool {
     if two.count() != 2 || two.floor() != 0 {
         return false;
     }
-    let want = Known { floor: 1, ..TWO };
+    let expected = Observed { floor: 1, ..TWO };
     match two.trimmed(alloc, 1) {
-        Ok(second) => known_of(&second) == want,
+        Ok(second) => observe(&second) == expected,
         Err(_) => two
             .trimmed(alloc, 1)
-            .is_ok_and(|second| known_of(&second) == want),
+            .is_ok_and(|second| observe(&second) == expected),
     }
 }
 
 /// A range of the init section and the first unit copied, in the same way.
-fn copies_at_last(alloc: Global, two: &Recording, wanted: &[u8]) -> bool {
+fn copies_with_retry(alloc: Global, two: &Recording, expected_bytes: &[u8]) -> bool {
     match two.copy_range(alloc, 599, 717) {
-        Ok(copied) => copied.as_slice() == wanted,
+        Ok(copied) => copied.as_slice() == expected_bytes,
         Err(RangeFault::Memory) => two
             .copy_range(alloc, 599, 717)
-            .is_ok_and(|copied| copied.as_slice() == wanted),
+            .is_ok_and(|copied| copied.as_slice() == expected_bytes),
         Err(_) => false,
     }
 }
 
 /// What a test begins with, tried again where memory was refused.
-fn two_at_last(alloc: Global) -> Result<Recording, RecordFault>
+fn two_with_retry(alloc: Global) -> Result<Recording, RecordFault>
     ensures { IfOk result IsRecorded }
 {
     match two_units(alloc) {
@@ -60,26 +60,26 @@ fn two_at_last(alloc: Global) -> Result<Recording, RecordFault>
     }
 }
 
-fn resource_at_last(alloc: Global) -> Result<Vec<u8>, AllocError>
+fn resource_with_retry(alloc: Global) -> Result<Vec<u8>, AllocError>
     ensures { IfOk result (λ all. length all.items < 2 ^ 64) }
 {
-    match resource(alloc) {
+    match resource_bytes(alloc) {
         Ok(all) => Ok(all),
-        Err(_) => resource(alloc),
+        Err(_) => resource_bytes(alloc),
     }
 }
 
 /// And after each the recording is as it was.
 #[test]
-fn refused_memory_changes_no_recording(rt: HostRuntime) -> Result<(), Fail> {
+fn out_of_memory_changes_no_recording(rt: HostRuntime) -> Result<(), Fail> {
     let alloc = rt.alloc();
-    let all = resource_at_last(alloc)?;
-    let two = two_at_last(alloc)?;
-    let wanted = all.get(599..717).expect(&rt, "the resource of two units");
-    assert!(rt; appends_at_last(alloc, &two));
-    assert_eq!(rt; known_of(&two), TWO);
-    assert!(rt; trims_at_last(alloc, &two));
-    assert_eq!(rt; known_of(&two), TWO);
-    assert!(rt; copies_at_last(alloc, &two, wanted));
+    let all = resource_with_retry(alloc)?;
+    let two = two_with_retry(alloc)?;
+    let expected_bytes = all.get(599..717).expect(&rt, "the resource of two units");
+    assert!(rt; appends_with_retry(alloc, &two));
+    assert_eq!(rt; observe(&two), TWO);
+    assert!(rt; trims_with_retry(alloc, &two));
+    assert_eq!(rt; observe(&two), TWO);
+    assert!(rt; copies_with_retry(alloc, &two, expected_bytes));
     Ok(())
 }

@@ -7,14 +7,14 @@ use hls_core::step::step;
 use hls_core::stepped::Stepped;
 use hls_core_laws::event::Event;
 use hls_core_laws::refusal::Refusal;
-use hls_sample_channels::{accept_event, begin_event, opened_with, rendition};
+use hls_sample_channels::{accept_event, begin_event, open_channel_with, rendition};
 use std::alloc::Global;
 use std::sync::Arc;
 
 /// What the tests do: rendition 0 or 1 begins, a unit of 4 s comes to rendition 0 at so many ticks, a rendition ends, segments
 /// slide away, or rendition 0 is trimmed.
 #[derive(Clone, Copy)]
-enum Act {
+enum TestEvent {
     Begin(usize),
     Accept(u64),
     Finish(usize),
@@ -23,7 +23,7 @@ enum Act {
 }
 
 /// A channel of one or two renditions; none where memory was refused.
-fn opened(alloc: Global, two: bool) -> Option<Arc<Snapshot>> {
+fn open_sample_channel(alloc: Global, two: bool) -> Option<Arc<Snapshot>> {
     let mut renditions = Vec::new(alloc);
     renditions
         .push(rendition(alloc, b"v1", true, 0).ok()?)
@@ -33,34 +33,42 @@ fn opened(alloc: Global, two: bool) -> Option<Arc<Snapshot>> {
             .push(rendition(alloc, b"en", true, 0).ok()?)
             .ok()?;
     }
-    opened_with(alloc, renditions, None).ok()
+    open_channel_with(alloc, renditions, None).ok()
 }
 
-fn event_of(alloc: Global, snapshot: &Snapshot, act: Act) -> Option<Event>
+fn event_of(alloc: Global, snapshot: &Snapshot, test_event: TestEvent) -> Option<Event>
     ensures { IfSome result (λ event. IsFitting snapshot.now event) }
 {
-    match act {
-        Act::Begin(rendition) => begin_event(alloc, rendition, b"vide", 90000).ok(),
-        Act::Accept(start) => accept_event(alloc, snapshot, 0, start, 360000).ok(),
-        Act::Finish(rendition) => Some(Event::Finish { rendition }),
-        Act::Slide(count) => Some(Event::Slide { count }),
-        Act::Trim(floor) => Some(Event::Trim {
+    match test_event {
+        TestEvent::Begin(rendition) => begin_event(alloc, rendition, b"vide", 90000).ok(),
+        TestEvent::Accept(start) => accept_event(alloc, snapshot, 0, start, 360000).ok(),
+        TestEvent::Finish(rendition) => Some(Event::Finish { rendition }),
+        TestEvent::Slide(count) => Some(Event::Slide { count }),
+        TestEvent::Trim(floor) => Some(Event::Trim {
             rendition: 0,
             floor,
         }),
     }
 }
 
-fn stepped(alloc: Global, snapshot: &Snapshot, act: Act) -> Result<Stepped, Refusal> {
-    match event_of(alloc, snapshot, act) {
+fn step_event(
+    alloc: Global,
+    snapshot: &Snapshot,
+    test_event: TestEvent,
+) -> Result<Stepped, Refusal> {
+    match event_of(alloc, snapshot, test_event) {
         Some(event) => step(snapshot, alloc, 0, event),
         None => Err(Refusal::Memory),
     }
 }
 
 /// The next snapshot; none where memory was refused, or the event isn't new.
-fn after(alloc: Global, snapshot: &Snapshot, act: Act) -> Option<Arc<Snapshot>> {
-    match stepped(alloc, snapshot, act) {
+fn snapshot_after(
+    alloc: Global,
+    snapshot: &Snapshot,
+    test_event: TestEvent,
+) -> Option<Arc<Snapshot>> {
+    match step_event(alloc, snapshot, test_event) {
         Ok(Stepped::New(next)) => Some(next),
         _ => None,
     }
@@ -68,13 +76,13 @@ fn after(alloc: Global, snapshot: &Snapshot, act: Act) -> Option<Arc<Snapshot>> 
 
 /// The first rendition begun, with one unit.
 fn one_unit(alloc: Global) -> Option<Arc<Snapshot>> {
-    let none = opened(alloc, true)?;
-    let begun = after(alloc, &none, Act::Begin(0))?;
-    after(alloc, &begun, Act::Accept(0))
+    let none = open_sample_channel(alloc, true)?;
+    let begun = snapshot_after(alloc, &none, TestEvent::Begin(0))?;
+    snapshot_after(alloc, &begun, TestEvent::Accept(0))
 }
 
 /// The same, built once more where memory was refused.
-fn one_unit_at_last(alloc: Global) -> Option<Arc<Snapshot>> {
+fn one_unit_with_retry(alloc: Global) -> Option<Arc<Snapshot>> {
     match one_unit(alloc) {
         Some(snapshot) => Some(snapshot),
         None => one_unit(alloc),
@@ -83,16 +91,16 @@ fn one_unit_at_last(alloc: Global) -> Option<Arc<Snapshot>> {
 
 /// One rendition with two units, finished, without the first of its two segments.
 fn one_segment(alloc: Global) -> Option<Arc<Snapshot>> {
-    let none = opened(alloc, false)?;
-    let begun = after(alloc, &none, Act::Begin(0))?;
-    let one = after(alloc, &begun, Act::Accept(0))?;
-    let two = after(alloc, &one, Act::Accept(360000))?;
-    let ended = after(alloc, &two, Act::Finish(0))?;
-    after(alloc, &ended, Act::Slide(1))
+    let none = open_sample_channel(alloc, false)?;
+    let begun = snapshot_after(alloc, &none, TestEvent::Begin(0))?;
+    let one = snapshot_after(alloc, &begun, TestEvent::Accept(0))?;
+    let two = snapshot_after(alloc, &one, TestEvent::Accept(360000))?;
+    let ended = snapshot_after(alloc, &two, TestEvent::Finish(0))?;
+    snapshot_after(alloc, &ended, TestEvent::Slide(1))
 }
 
 /// The same, built once more where memory was refused.
-fn one_segment_at_last(alloc: Global) -> Option<Arc<Snapshot>> {
+fn one_segment_with_retry(alloc: Global) -> Option<Arc<Snapshot>> {
     match one_segment(alloc) {
         Some(snapshot) => Some(snapshot),
         None => one_segment(alloc),
@@ -102,19 +110,19 @@ fn one_segment_at_last(alloc: Global) -> Option<Arc<Snapshot>> {
 /// What a snapshot is known by: its version, the bytes of the first rendition's resource, its floor, and how many segments the
 /// line has lost.
 #[derive(Clone, Copy, PartialEq, Eq)]
-struct Known {
+struct Observed {
     version: u64,
     total: u64,
     floor: u64,
     removed: u64,
 }
 
-fn known_of(snapshot: &Snapshot) -> Known {
+fn observe(snapshot: &Snapshot) -> Observed {
     let (total, floor) = match snapshot.recording(0) {
         Some(recording) => (recording.total(), recording.floor()),
         None => (0, 0),
     };
-    Known {
+    Observed {
         version: snapshot.version(),
         total,
         floor,
@@ -124,51 +132,57 @@ fn known_of(snapshot: &Snapshot) -> Known {
 
 /// Whether the act takes the snapshot to the next one, and leaves the snapshot itself as it was; where the step was refused
 /// memory, a second one does.
-fn steps_at_last(alloc: Global, snapshot: &Snapshot, act: Act, want: Known) -> bool {
-    let before = known_of(snapshot);
-    let first = stepped(alloc, snapshot, act);
-    if known_of(snapshot) != before {
+fn steps_with_retry(
+    alloc: Global,
+    snapshot: &Snapshot,
+    test_event: TestEvent,
+    expected: Observed,
+) -> bool {
+    let before = observe(snapshot);
+    let first = step_event(alloc, snapshot, test_event);
+    if observe(snapshot) != before {
         return false;
     }
     match first {
-        Ok(Stepped::New(next)) => known_of(&next) == want,
+        Ok(Stepped::New(next)) => observe(&next) == expected,
         Err(Refusal::Memory) => {
-            after(alloc, snapshot, act).is_some_and(|next| known_of(&next) == want)
+            snapshot_after(alloc, snapshot, test_event).is_some_and(|next| observe(&next)
+                == expected)
         }
         _ => false,
     }
 }
 
 #[test]
-fn refused_memory_changes_no_snapshot(rt: HostRuntime) {
+fn out_of_memory_changes_no_snapshot(rt: HostRuntime) {
     let alloc = rt.alloc();
-    let snapshot = one_unit_at_last(alloc).expect(&rt, "a snapshot with one unit");
-    for (act, total) in [
-        (Act::Accept(360000), 2600),
-        (Act::Begin(1), 1600),
-        (Act::Finish(0), 1600),
+    let snapshot = one_unit_with_retry(alloc).expect(&rt, "a snapshot with one unit");
+    for (test_event, total) in [
+        (TestEvent::Accept(360000), 2600),
+        (TestEvent::Begin(1), 1600),
+        (TestEvent::Finish(0), 1600),
     ] {
-        let want = Known {
+        let expected = Observed {
             version: 3,
             total,
             floor: 0,
             removed: 0,
         };
-        assert!(rt; steps_at_last(alloc, &snapshot, act, want));
+        assert!(rt; steps_with_retry(alloc, &snapshot, test_event, expected));
     }
 }
 
 #[test]
-fn refused_memory_slides_and_trims_nothing(rt: HostRuntime) {
+fn out_of_memory_slides_and_trims_nothing(rt: HostRuntime) {
     let alloc = rt.alloc();
-    let snapshot = one_segment_at_last(alloc).expect(&rt, "a snapshot with one segment");
-    for (act, floor, removed) in [(Act::Slide(1), 0, 2), (Act::Trim(1), 1, 1)] {
-        let want = Known {
+    let snapshot = one_segment_with_retry(alloc).expect(&rt, "a snapshot with one segment");
+    for (test_event, floor, removed) in [(TestEvent::Slide(1), 0, 2), (TestEvent::Trim(1), 1, 1)] {
+        let expected = Observed {
             version: 6,
             total: 2600,
             floor,
             removed,
         };
-        assert!(rt; steps_at_last(alloc, &snapshot, act, want));
+        assert!(rt; steps_with_retry(alloc, &snapshot, test_event, expected));
     }
 }

@@ -1,7 +1,7 @@
 //! Recordings over the sample init section of 600 bytes.
 
 ghost use Rattle.std.specs.Prelude.{◌≤◌, IfOk};
-ghost use Rattle.hls_record.specs.Valid.{IsRecorded};
+ghost use Rattle.hls_record.specs.IsRecorded.{IsRecorded};
 
 use bytes::Bytes;
 use hls_media::{read_facts, read_init};
@@ -13,15 +13,15 @@ use std::test::Fail;
 
 /// A unit of a sample recording, in ticks.
 #[derive(Clone, Copy)]
-pub struct Unit {
+pub struct SampleUnit {
     pub start: u64,
     pub ticks: u32,
     pub sync: bool,
 }
 
 /// A sync unit.
-pub fn sync_unit(start: u64, ticks: u32) -> Unit {
-    Unit {
+pub fn sync_unit(start: u64, ticks: u32) -> SampleUnit {
+    SampleUnit {
         start,
         ticks,
         sync: true,
@@ -29,7 +29,7 @@ pub fn sync_unit(start: u64, ticks: u32) -> Unit {
 }
 
 /// A recording without a unit, at so many ticks a second.
-pub fn begun(alloc: Global, scale: u32) -> Result<Recording, MediaFault>
+pub fn begin_recording(alloc: Global, scale: u32) -> Result<Recording, MediaFault>
     ensures { IfOk result IsRecorded }
 {
     let Ok(head) = init_bytes(alloc, b"vide", scale) else {
@@ -42,7 +42,7 @@ pub fn begun(alloc: Global, scale: u32) -> Result<Recording, MediaFault>
     }
 }
 
-fn unit_of(alloc: Global, unit: Unit, len: u32) -> Result<Bytes, AllocError>
+fn unit_of(alloc: Global, unit: SampleUnit, len: u32) -> Result<Bytes, AllocError>
     requires { 108 ≤ len }
 {
     let bytes = unit_bytes(alloc, unit.start, unit.ticks, unit.sync, len)?;
@@ -53,7 +53,7 @@ fn unit_of(alloc: Global, unit: Unit, len: u32) -> Result<Bytes, AllocError>
 pub fn with_unit(
     alloc: Global,
     recording: &Recording,
-    unit: Unit,
+    unit: SampleUnit,
     len: u32,
 ) -> Result<Recording, RecordFault>
     requires { 108 ≤ len }
@@ -72,10 +72,10 @@ pub fn with_unit(
 }
 
 /// A recording of these units, at so many ticks a second.
-pub fn recorded(alloc: Global, scale: u32, units: &[Unit]) -> Result<Recording, Fail>
+pub fn record_units(alloc: Global, scale: u32, units: &[SampleUnit]) -> Result<Recording, Fail>
     ensures { IfOk result IsRecorded }
 {
-    let mut recording = begun(alloc, scale)?;
+    let mut recording = begin_recording(alloc, scale)?;
     for unit in units {
         recording = with_unit(alloc, &recording, *unit, 108)?;
     }

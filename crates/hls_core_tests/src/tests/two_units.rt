@@ -1,18 +1,18 @@
 //! A recording of two sample units.
 
 ghost use Rattle.std.specs.Prelude.{◌≤◌, ◌<◌, ◌^◌, length, IfOk};
-ghost use Rattle.hls_record.specs.Valid.{IsRecorded};
+ghost use Rattle.hls_record.specs.IsRecorded.{IsRecorded};
 
-use super::samples::{begun, sync_unit, with_unit};
+use super::samples::{begin_recording, sync_unit, with_unit};
 use hls_record::{RecordFault, Recording};
 use hls_samples::{init_bytes, unit_bytes};
 use std::alloc::{AllocError, Global};
 
 /// A recording without a unit.
-fn none(alloc: Global) -> Result<Recording, RecordFault>
+fn empty_recording(alloc: Global) -> Result<Recording, RecordFault>
     ensures { IfOk result IsRecorded }
 {
-    match begun(alloc, 90000) {
+    match begin_recording(alloc, 90000) {
         Ok(recording) => Ok(recording),
         Err(_) => Err(RecordFault::Memory),
     }
@@ -35,12 +35,12 @@ pub fn with_sample(
 pub fn two_units(alloc: Global) -> Result<Recording, RecordFault>
     ensures { IfOk result IsRecorded }
 {
-    let one = with_sample(alloc, &none(alloc)?, 0, 116)?;
+    let one = with_sample(alloc, &empty_recording(alloc)?, 0, 116)?;
     with_sample(alloc, &one, 360000, 120)
 }
 
 /// Their whole resource, from the builders.
-pub fn resource(alloc: Global) -> Result<Vec<u8>, AllocError>
+pub fn resource_bytes(alloc: Global) -> Result<Vec<u8>, AllocError>
     ensures { IfOk result (λ all. length all.items < 2 ^ 64) }
 {
     let mut all = init_bytes(alloc, b"vide", 90000)?;
@@ -51,15 +51,15 @@ pub fn resource(alloc: Global) -> Result<Vec<u8>, AllocError>
 
 /// What a recording is known by here: its units, the first whose bytes it has, the length of its resource, and where it ends.
 #[derive(Clone, Copy, Debug, PartialEq, Eq)]
-pub struct Known {
+pub struct Observed {
     pub count: u64,
     pub floor: u64,
     pub total: u64,
     pub last_end: u64,
 }
 
-pub fn known_of(recording: &Recording) -> Known {
-    Known {
+pub fn observe(recording: &Recording) -> Observed {
+    Observed {
         count: recording.count(),
         floor: recording.floor(),
         total: recording.total(),
@@ -67,7 +67,7 @@ pub fn known_of(recording: &Recording) -> Known {
     }
 }
 
-pub const TWO: Known = Known {
+pub const TWO: Observed = Observed {
     count: 2,
     floor: 0,
     total: 836,

@@ -19,7 +19,7 @@ const NO_SCALE: &[u8; 92] =
 /// All memory here is that of the init section, so this is the test to run with each allocation refused in turn: a refusal
 /// stands in place of a value alone, and a second try gives it.
 #[test]
-fn refused_memory(rt: HostRuntime) -> Result<(), Fail> {
+fn out_of_memory_is_reported(rt: HostRuntime) -> Result<(), Fail> {
     let alloc = rt.alloc();
     assert_eq!(rt;
         read_init(alloc, NO_SCALE).err(),

@@ -2,9 +2,9 @@
 ghost use Rattle.std.specs.Prelude.{map};
 ghost use Rattle.hls_origin.specs.ServeRun.{EndsServe};
 
-use hls_house::{Log, tell_listening};
-use hls_server::{run_server, tell_start};
-use hls_settings::{Address, SettingsFault, read_settings};
+use hls_house::{OperatorLog, log_listening};
+use hls_server::{log_start, run_server};
+use hls_settings::{ListenAddress, SettingsFault, read_settings};
 use std::alloc::Global;
 use std::convert::AsStr;
 use std::io::Eprint;
@@ -27,13 +27,13 @@ pub enum ServeEnd {
     Memory,
 }
 
-fn socket_of(address: Address) -> SocketAddrV4 {
+fn socket_address(address: ListenAddress) -> SocketAddrV4 {
     let ip = Ipv4Addr::new(address.a, address.b, address.c, address.d);
     SocketAddrV4::new(ip, address.port)
 }
 
 /// Reads the words, listens, and serves. It says on standard error where it listens, and what comes of each encoder's body.
-pub fn run_serve<'a, S: AsStr, R>(rt: &R, alloc: Global, words: &'a [S]) -> ServeEnd
+pub fn run_serve<'a, S: AsStr, R>(rt: &R, alloc: Global, arguments: &'a [S]) -> ServeEnd
 where
     R: Net<Listener = TcpListener, Stream = TcpStream>
         + Threads
@@ -43,20 +43,20 @@ where
         + Env
         + Files
         + Sync,
-    ensures { EndsServe (map S.text words.entry.now) result }
+    ensures { EndsServe (map S.text arguments.entry.now) result }
 {
-    let settings = match read_settings(alloc, words) {
+    let settings = match read_settings(alloc, arguments) {
         Ok(settings) => settings,
         Err(SettingsFault::Memory) => return ServeEnd::Memory,
         Err(fault) => return ServeEnd::Usage(fault),
     };
-    let Ok(listener) = TcpListener::bind(rt, socket_of(settings.plain.address)) else {
+    let Ok(listener) = TcpListener::bind(rt, socket_address(settings.server.address)) else {
         return ServeEnd::BindFailed;
     };
     if let Ok(address) = listener.local_addr() {
-        tell_listening(rt, address, &settings);
+        log_listening(rt, address, &settings);
     }
-    tell_start(&Log::new(rt), alloc, &settings);
+    log_start(&OperatorLog::new(rt), alloc, &settings);
     match run_server(rt, alloc, &settings, &listener, None) {
         Ok(()) => ServeEnd::Done,
         Err(_) => ServeEnd::Memory,

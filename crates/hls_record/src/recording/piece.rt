@@ -1,12 +1,12 @@
 //! The bytes of a recording, from a place to the end of its init section or unit.
 ghost use Rattle.std.specs.Prelude.{◌≡◌, ◌+◌, ◌<◌, ◌≤◌, length, Some};
 ghost use Rattle.std.specs.Option.{option_copied};
-ghost use Rattle.hls_record.specs.Recorded.{offset_at, total_of, piece_at};
-ghost use Rattle.hls_record.specs.Search.{Stands};
+ghost use Rattle.hls_record.specs.RecordingData.{offset_at, total_of, piece_at};
+ghost use Rattle.hls_record.specs.Search.{IsInUnit};
 
 use super::Recording;
-use crate::find::first_from;
-use crate::item::Key;
+use crate::recorded_unit::SearchKey;
+use crate::unit_search::first_from;
 
 impl Recording {
     /// The bytes from byte `at` of the resource to the end of the init section or the unit in which it stands.
@@ -25,22 +25,22 @@ impl Recording {
         if self.total <= at {
             return None;
         }
-        let n = self.unit_of(at);
-        Some(self.piece_of(n, at))
+        let n = self.find_unit(at);
+        Some(self.piece_in_unit(n, at))
     }
 
     /// The number of the kept unit in which byte `at` stands. Found in logarithmic time.
-    pub fn unit_of(&self, at: u64) -> u64
+    pub fn find_unit(&self, at: u64) -> u64
         requires low { offset_at self.now self.now.floor ≤ at }
         requires high { at < total_of self.now }
-        ensures { Stands self.now at result }
+        ensures { IsInUnit self.now at result }
     {
-        first_from(&self.items, Key::Offset, self.units.first(), at + 1) - 1
+        first_from(&self.items, SearchKey::Offset, self.units.first(), at + 1) - 1
     }
 
     // The bytes from byte `at`, which stands in the kept unit `n`, to the end of that unit.
-    fn piece_of(&self, n: u64, at: u64) -> &[u8]
-        requires { Stands self.now at n }
+    fn piece_in_unit(&self, n: u64, at: u64) -> &[u8]
+        requires { IsInUnit self.now at n }
         ensures { Some result.now ≡ piece_at self.now at }
     {
         let from = (at - self.offset(n)) as usize;

@@ -3,6 +3,6 @@ use Rattle.hls_check.proofs.checker.check.Goals as goal
 
 pub returns-clause-good : goal.returns-clause-good
 returns-clause-good c = (
-  good_from_ok _ _ c.answer_to.ensures.answer,
-  ok_from_good _ c.answer_to.ensures.form.table _ c.answer_to.ensures.answer,
+  good_from_ok _ _ c.check_sequentially.ensures.answer,
+  ok_from_good _ c.check_sequentially.ensures.form.table _ c.check_sequentially.ensures.answer,
 )

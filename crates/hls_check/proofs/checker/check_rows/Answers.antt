@@ -3,6 +3,6 @@ use Rattle.hls_check.proofs.checker.check_rows.Goals as goal
 
 pub returns-clause-good : goal.returns-clause-good
 returns-clause-good g c = (
-  good_from_ok _ _ c.answer_by_rows.ensures.answer,
-  ok_from_good _ c.answer_by_rows.ensures.form.table _ c.answer_by_rows.ensures.answer,
+  good_from_ok _ _ c.check_in_parallel.ensures.answer,
+  ok_from_good _ c.check_in_parallel.ensures.form.table _ c.check_in_parallel.ensures.answer,
 )

@@ -1,8 +1,8 @@
-use Rattle.hls_check_laws.specs.Certificates.{shown_by}
+use Rattle.hls_check_laws.specs.Certificates.{claim_data}
 use Rattle.hls_check.proofs.Seen.{whole_column}
 use Rattle.hls_check.proofs.rows.column_fault.Goals as goal
 
 pub returns : goal.returns
 returns c =
-    whole_column c.args.table.now (shown_by c.args.claim.now) c.args.places.start c.args.places.end c.args.q c.min.result c.first_of_column.result
-    c.min.ensures c.first_of_column.ensures
+    whole_column c.args.table.now (claim_data c.args.claim.now) c.args.places.start c.args.places.end c.args.q c.min.result c.first_broken_in_column.result
+    c.min.ensures c.first_broken_in_column.ensures

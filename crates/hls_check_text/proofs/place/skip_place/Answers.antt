@@ -6,7 +6,7 @@ pub returns-in_default : goal.returns-in_default
 returns-in_default c = none_first c.args.renditions c.args.text.now c.requires c.in_default.ensures
 
 pub loop-skipped-init : goal.loop-skipped-init
-loop-skipped-init c = one_passed c.args.renditions c.args.text.now c.in-Some._first c.in-Some.behind.now c.requires c.in-Some.ensures
+loop-skipped-init c = one_passed c.args.renditions c.args.text.now c.in-Some._first c.in-Some.after_first.now c.requires c.in-Some.ensures
 
 pub returns-in_default-take_next_spot : goal.returns-in_default-take_next_spot
 returns-in_default-take_next_spot c =

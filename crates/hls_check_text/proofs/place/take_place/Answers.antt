@@ -8,7 +8,7 @@ returns-in_default c = no_first_spot c.args.renditions c.args.text.now c.require
 pub loop-r-init : goal.loop-r-init
 loop-r-init c =
     rw (c.in_ok-push.ensures.items, c.in_ok-spots.ensures.items)
-    (one_read c.args.renditions c.args.text.now c.in-Some.first c.in-Some.behind.now c.requires.0 c.in-Some.ensures)
+    (one_read c.args.renditions c.args.text.now c.in-Some.first c.in-Some.after_first.now c.requires.0 c.in-Some.ensures)
 
 pub returns-in_default-take_next_spot : goal.returns-in_default-take_next_spot
 returns-in_default-take_next_spot c =

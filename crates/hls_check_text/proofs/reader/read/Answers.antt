@@ -5,8 +5,8 @@ pub returns-in-Some-clause-only : goal.returns-in-Some-clause-only
 returns-in-Some-clause-only c = λ other good e. absurd (c.in-Some.ensures.no_text other good e)
 
 pub returns-clause-answer : goal.returns-clause-answer
-returns-clause-answer c = reads c.args.bytes.now c.build.result c.in_default.ensures c.build.ensures
+returns-clause-answer c = reads c.args.bytes.now c.read_certificate.result c.in_default.ensures c.read_certificate.ensures
 
 pub returns-clause-only : goal.returns-clause-only
 returns-clause-only c = λ other good e.
-    gives c.args.bytes.now other c.build.result (reads c.args.bytes.now c.build.result c.in_default.ensures c.build.ensures) good e
+    gives c.args.bytes.now other c.read_certificate.result (reads c.args.bytes.now c.read_certificate.result c.in_default.ensures c.read_certificate.ensures) good e

@@ -8,9 +8,9 @@ returns-clause-continues c =
     let config : c.args.a.now.config ≡ c.args.b.now.config =
     sym c.config.ensures.value ∙ c.same_config.ensures.0 c.if-not-same_config.false ∙ c.config-2.ensures.value in
     let front : take (length c.args.a.now.log) c.args.b.now.log ≡ c.args.a.now.log =
-    rw (c.log.ensures.value, c.log-2.ensures.value) at c.begins.ensures.0 c.if-not-begins.false in (
-      λ yes. continues_when c.args.a.now c.args.b.now config front (c.same_sides.ensures.0 yes),
-      λ continues. c.same_sides.ensures.1 continues.same,
+    rw (c.log.ensures.value, c.log-2.ensures.value) at c.is_prefix.ensures.0 c.if-not-is_prefix.false in (
+      λ yes. continues_when c.args.a.now c.args.b.now config front (c.all_have_same_bytes.ensures.0 yes),
+      λ continues. c.all_have_same_bytes.ensures.1 continues.same,
     )
 
 pub returns-clause-follows : goal.returns-clause-follows

@@ -9,12 +9,12 @@ returns-in_err-met c =
     rw same (c.in_err-met.ensures.refused, refl)
 
 pub returns-in_default : goal.returns-in_default
-returns-in_default c = (c.in_ok-met.ensures.again c.in_default.is, refl)
+returns-in_default c = (c.in_ok-met.ensures.repeated c.in_default.is, refl)
 
 pub appended-requires-clause-room : goal.appended-requires-clause-room
 appended-requires-clause-room c =
     let may = rw c.in-Some.is at c.in_ok-met.ensures.new in
-    omega (arith, may.room, accepts_units c.args.snapshot.now c.args.rendition c.in-Some.recording.now c.args.facts c.accepts.ensures.valid may)
+    omega (arith, may.room, accepts_units c.args.snapshot.now c.args.rendition c.in-Some.recording.now c.args.facts c.check_accept.ensures.valid may)
 
 pub returns-in-Err-Overlap : goal.returns-in-Err-Overlap
 returns-in-Err-Overlap c =
@@ -34,31 +34,31 @@ returns-in-Err-Memory c =
     let memory = rw c.in-Err-Memory.field-0-is at c.in-Err-Memory.ensures.cases in
     (accept_small c.args.snapshot.now c.args.rendition c.in-Some.recording.now c.args.facts c.args.bytes may memory.1, refl)
 
-pub returns-in_err-side : goal.returns-in_err-side
-returns-in_err-side c =
+pub returns-in_err-rendition_state : goal.returns-in_err-rendition_state
+returns-in_err-rendition_state c =
     let may = rw c.in-Some.is at c.in_ok-met.ensures.new in
-    let memory : c.from_residual-in_err-side.result ≡ Err Memory = search rules in
+    let memory : c.from_residual-in_err-rendition_state.result ≡ Err Memory = search rules in
     rw memory (accept_small c.args.snapshot.now c.args.rendition c.in-Some.recording.now c.args.facts c.args.bytes may c.in-Ok.ensures.cases.0.1, refl)
 
-pub with_side-requires-clause-room : goal.with_side-requires-clause-room
-with_side-requires-clause-room c = let may = rw c.in-Some.is at c.in_ok-met.ensures.new in may.room
+pub with_rendition-requires-clause-room : goal.with_rendition-requires-clause-room
+with_rendition-requires-clause-room c = let may = rw c.in-Some.is at c.in_ok-met.ensures.new in may.room
 
-pub with_side-requires-clause-there : goal.with_side-requires-clause-there
-with_side-requires-clause-there c =
+pub with_rendition-requires-clause-there : goal.with_rendition-requires-clause-there
+with_rendition-requires-clause-there c =
     let may = rw c.in-Some.is at c.in_ok-met.ensures.new in
     accepts_within c.args.snapshot.now c.args.rendition c.in-Some.recording.now c.args.facts may
 
-pub with_side-requires-clause-take : goal.with_side-requires-clause-take
-with_side-requires-clause-take c =
+pub with_rendition-requires-clause-take : goal.with_rendition-requires-clause-take
+with_rendition-requires-clause-take c =
     let may = rw c.in-Some.is at c.in_ok-met.ensures.new in
     let goes = accepts_goes c.args.snapshot.now c.args.by c.args.rendition c.in-Some.recording.now c.in-Ok.recording c.args.facts c.args.bytes
-    c.accepts.ensures.valid may c.requires c.in-Ok.ensures.cases.0.1 c.in-Ok.ensures.cases.1 c.in-Ok.ensures.valid in
-    (goes_as c.in_ok-side.ensures goes).take
+    c.check_accept.ensures.valid may c.requires c.in-Ok.ensures.cases.0.1 c.in-Ok.ensures.cases.1 c.in-Ok.ensures.valid in
+    (goes_as c.in_ok-rendition_state.ensures goes).take
 
 pub returns : goal.returns
 returns c =
     let may = rw c.in-Some.is at c.in_ok-met.ensures.new in
     let goes = accepts_goes c.args.snapshot.now c.args.by c.args.rendition c.in-Some.recording.now c.in-Ok.recording c.args.facts c.args.bytes
-    c.accepts.ensures.valid may c.requires c.in-Ok.ensures.cases.0.1 c.in-Ok.ensures.cases.1 c.in-Ok.ensures.valid in
-    steps_goes _ c.with_side.result c.answer_of.result refl (goes_as c.in_ok-side.ensures goes)
-    c.with_side.ensures c.answer_of.ensures.new c.answer_of.ensures.refused
+    c.check_accept.ensures.valid may c.requires c.in-Ok.ensures.cases.0.1 c.in-Ok.ensures.cases.1 c.in-Ok.ensures.valid in
+    steps_goes _ c.with_rendition.result c.into_stepped.result refl (goes_as c.in_ok-rendition_state.ensures goes)
+    c.with_rendition.ensures c.into_stepped.ensures.new c.into_stepped.ensures.refused

@@ -20,25 +20,25 @@ returns-in_err-share c =
     let memory : c.from_residual.result ≡ Err Memory = search rules in
     rw memory (finish_new c.args.snapshot.now c.args.rendition c.in-Some.old.now c.in-Some-recording.recording c.in-Some.ensures.some c.in-Some-recording.is c.if-old.false (room_of c.args.snapshot.now c.is_full.result c.is_full.ensures c.if-is_full.false), refl)
 
-pub returns-in_err-side : goal.returns-in_err-side
-returns-in_err-side c =
-    let memory : c.from_residual-in_err-side.result ≡ Err Memory = search rules in
+pub returns-in_err-rendition_state : goal.returns-in_err-rendition_state
+returns-in_err-rendition_state c =
+    let memory : c.from_residual-in_err-rendition_state.result ≡ Err Memory = search rules in
     rw memory (finish_new c.args.snapshot.now c.args.rendition c.in-Some.old.now c.in-Some-recording.recording c.in-Some.ensures.some c.in-Some-recording.is c.if-old.false (room_of c.args.snapshot.now c.is_full.result c.is_full.ensures c.if-is_full.false), refl)
 
-pub with_side-requires-clause-there : goal.with_side-requires-clause-there
-with_side-requires-clause-there c = within c.args.snapshot.now c.args.rendition c.in-Some.old.now c.in-Some.ensures.some
+pub with_rendition-requires-clause-there : goal.with_rendition-requires-clause-there
+with_rendition-requires-clause-there c = within c.args.snapshot.now c.args.rendition c.in-Some.old.now c.in-Some.ensures.some
 
-pub with_side-requires-clause-take : goal.with_side-requires-clause-take
-with_side-requires-clause-take c =
+pub with_rendition-requires-clause-take : goal.with_rendition-requires-clause-take
+with_rendition-requires-clause-take c =
     let goes = finish_goes c.args.snapshot.now c.args.by c.args.rendition c.in-Some.old.now c.in-Some-recording.recording
-    c.in_ok-share.field-0 c.side.ensures.valid c.in-Some.ensures.some c.in-Some-recording.is c.if-old.false
+    c.in_ok-share.field-0 c.rendition.ensures.valid c.in-Some.ensures.some c.in-Some-recording.is c.if-old.false
     (room_of c.args.snapshot.now c.is_full.result c.is_full.ensures c.if-is_full.false) c.in_ok-share.ensures.value c.in_ok-share.ensures.valid in
-    (goes_as c.in_ok-side.ensures goes).take
+    (goes_as c.in_ok-rendition_state.ensures goes).take
 
 pub returns : goal.returns
 returns c =
     let goes = finish_goes c.args.snapshot.now c.args.by c.args.rendition c.in-Some.old.now c.in-Some-recording.recording
-    c.in_ok-share.field-0 c.side.ensures.valid c.in-Some.ensures.some c.in-Some-recording.is c.if-old.false
+    c.in_ok-share.field-0 c.rendition.ensures.valid c.in-Some.ensures.some c.in-Some-recording.is c.if-old.false
     (room_of c.args.snapshot.now c.is_full.result c.is_full.ensures c.if-is_full.false) c.in_ok-share.ensures.value c.in_ok-share.ensures.valid in
-    steps_goes _ c.with_side.result c.answer_of.result refl (goes_as c.in_ok-side.ensures goes)
-    c.with_side.ensures c.answer_of.ensures.new c.answer_of.ensures.refused
+    steps_goes _ c.with_rendition.result c.into_stepped.result refl (goes_as c.in_ok-rendition_state.ensures goes)
+    c.with_rendition.ensures c.into_stepped.ensures.new c.into_stepped.ensures.refused

@@ -21,9 +21,9 @@ returns-in_err-trimmed c =
     let memory : c.from_residual.result ≡ Err Memory = search rules in
     rw memory (trim_new c.args.snapshot.now c.args.rendition c.args.floor c.in-Some.old.now c.in-Some.ensures.some (omega (arith, c.floor.ensures, c.if-floor.false)) (omega (arith, c.trim_limit.ensures, c.if-trim_limit-floor.false)) (room_of c.args.snapshot.now c.is_full.result c.is_full.ensures c.if-is_full.false), refl)
 
-pub returns-in_err-side : goal.returns-in_err-side
-returns-in_err-side c =
-    let memory : c.from_residual-in_err-side.result ≡ Err Memory = search rules in
+pub returns-in_err-rendition_state : goal.returns-in_err-rendition_state
+returns-in_err-rendition_state c =
+    let memory : c.from_residual-in_err-rendition_state.result ≡ Err Memory = search rules in
     rw memory (trim_new c.args.snapshot.now c.args.rendition c.args.floor c.in-Some.old.now c.in-Some.ensures.some (omega (arith, c.floor.ensures, c.if-floor.false)) (omega (arith, c.trim_limit.ensures, c.if-trim_limit-floor.false)) (room_of c.args.snapshot.now c.is_full.result c.is_full.ensures c.if-is_full.false), refl)
 
 pub unreachable-requires : goal.unreachable-requires
@@ -36,23 +36,23 @@ trimmed-requires-clause-high c =
     trim_within c.args.snapshot.now c.args.rendition c.args.floor c.in-Some.old.now _ c.in-Some.ensures.some c.in-Some-recording.is
     (omega (arith, c.floor.ensures, c.if-floor.false)) (omega (arith, c.trim_limit.ensures, c.if-trim_limit-floor.false))
 
-pub with_trimmed-requires-clause-there : goal.with_trimmed-requires-clause-there
-with_trimmed-requires-clause-there c =
+pub with_trim-requires-clause-there : goal.with_trim-requires-clause-there
+with_trim-requires-clause-there c =
     within c.args.snapshot.now c.args.rendition c.in-Some.old.now c.in-Some.ensures.some
 
-pub with_trimmed-requires-clause-trim : goal.with_trimmed-requires-clause-trim
-with_trimmed-requires-clause-trim c =
+pub with_trim-requires-clause-trim : goal.with_trim-requires-clause-trim
+with_trim-requires-clause-trim c =
     let goes = trim_goes c.args.snapshot.now c.args.by c.args.rendition c.args.floor c.in-Some.old.now c.in-Some-recording.recording
-    c.in_ok-trimmed.field-0 c.side.ensures.valid c.in-Some.ensures.some c.in-Some-recording.is
+    c.in_ok-trimmed.field-0 c.rendition.ensures.valid c.in-Some.ensures.some c.in-Some-recording.is
     (omega (arith, c.floor.ensures, c.if-floor.false)) (omega (arith, c.trim_limit.ensures, c.if-trim_limit-floor.false))
     (room_of c.args.snapshot.now c.is_full.result c.is_full.ensures c.if-is_full.false) c.in_ok-trimmed.ensures.value c.in_ok-trimmed.ensures.valid in
-    (trims_as c.in_ok-side.ensures goes).trim
+    (trims_as c.in_ok-rendition_state.ensures goes).trim
 
 pub returns : goal.returns
 returns c =
     let goes = trim_goes c.args.snapshot.now c.args.by c.args.rendition c.args.floor c.in-Some.old.now c.in-Some-recording.recording
-    c.in_ok-trimmed.field-0 c.side.ensures.valid c.in-Some.ensures.some c.in-Some-recording.is
+    c.in_ok-trimmed.field-0 c.rendition.ensures.valid c.in-Some.ensures.some c.in-Some-recording.is
     (omega (arith, c.floor.ensures, c.if-floor.false)) (omega (arith, c.trim_limit.ensures, c.if-trim_limit-floor.false))
     (room_of c.args.snapshot.now c.is_full.result c.is_full.ensures c.if-is_full.false) c.in_ok-trimmed.ensures.value c.in_ok-trimmed.ensures.valid in
-    steps_trims c.with_trimmed.result c.answer_of.result (trims_as c.in_ok-side.ensures goes)
-    c.with_trimmed.ensures c.answer_of.ensures.new c.answer_of.ensures.refused
+    steps_trims c.with_trim.result c.into_stepped.result (trims_as c.in_ok-rendition_state.ensures goes)
+    c.with_trim.ensures c.into_stepped.ensures.new c.into_stepped.ensures.refused

@@ -6,6 +6,6 @@ pub returns-in-Ok-Complete-2 : goal.returns-in-Ok-Complete-2
 returns-in-Ok-Complete-2 c =
     let ok = rw c.in-Ok-Complete.field-0-is at c.in-Ok-Complete.ensures in (
       ok.within.section.len_fits,
-      found_head c.args.text.now c.parse_request.new.headers c.in-Ok-Complete.spans ok.complete.0 c.kept.result ok.complete.1 (c.kept.ensures ok.complete.0 ok.complete.1)
+      found_head c.args.text.now c.parse_request.new.headers c.in-Ok-Complete.spans ok.complete.0 c.summarize_head.result ok.complete.1 (c.summarize_head.ensures ok.complete.0 ok.complete.1)
           (omega (arith, c.parse_request.auto.headers)) c.if-spans-gt-MOST_HEAD.false,
     )

@@ -1,11 +1,11 @@
 use Rattle.std.proofs.Common.{◌≡◌, List, ℕ, Some, length}
-use Rattle.hls_io.specs.Counted.{failures_of, inside_of}
+use Rattle.hls_io.specs.Counted.{failures_of, inner_of}
 use Rattle.hls_http.proofs.SendLaws.{Sent}
 use Rattle.hls_http.proofs.session.write_output.Given as goal
 
 abbrev pub invariant-loop-output : goal.invariant-loop-output
 invariant-loop-output g l = record {
-  sent : (held : List ℕ) → g.W.Write.contents (inside_of l.initial.writer) ≡ Some held → Sent held l.fn.output l.output (g.W.Write.contents (inside_of l.writer));
+  sent : (held : List ℕ) → g.W.Write.contents (inner_of l.initial.writer) ≡ Some held → Sent held l.fn.output l.output (g.W.Write.contents (inner_of l.writer));
   quiet : failures_of l.writer ≡ failures_of l.initial.writer;
 }
 

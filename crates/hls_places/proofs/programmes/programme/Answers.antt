@@ -6,7 +6,7 @@ use Rattle.hls_places_laws.specs.declared.place.Place.{Place}
 use Rattle.hls_places_laws.specs.declared.fault.ProgrammeFault.{ProgrammeFault}
 use Rattle.hls_places_laws.specs.declared.fault.ProgrammeFault.TheVariants.{Memory}
 use Rattle.hls_places_laws.specs.Firsts.{first_after, first_from}
-use Rattle.hls_places_laws.specs.Programmes.{StopsLate, cut_out, IsProgramme}
+use Rattle.hls_places_laws.specs.Programmes.{StopsLate, table_between, IsProgramme}
 use Rattle.hls_places.proofs.Cited.{start-before_stop, none-by, stops-late, programme-fits, programme-too_long}
 use Rattle.hls_places.proofs.programmes.programme.Goals as goal
 use Rattle.hls_places.proofs.programmes.programme.Goals.{then-finished, else-finished}
@@ -18,8 +18,8 @@ overflow_sub-to c =
     (omega (arith, count, c.first_from-to.ensures)) in
     omega (arith, order, c.first_after-after.ensures, c.first_from-to.ensures)
 
-pub table-requires-clause-order : goal.table-requires-clause-order
-table-requires-clause-order c =
+pub build_table-requires-clause-order : goal.build_table-requires-clause-order
+build_table-requires-clause-order c =
     let count = length-map c.args.places.now (λ p. p.now) in
     let order = start-before_stop c.args.start_us c.args.stop_us (map (λ p. p.now) c.args.places.now) c.requires.order
     (omega (arith, count, c.first_from-to.ensures)) in
@@ -53,11 +53,11 @@ only_memory : (r : Result Table ProgrammeFault) → IsErrAnd r (λ e. e ≡ Memo
 only_memory (Ok t) is = absurd is
 only_memory (Err e) is = ap (λ (x : ProgrammeFault). Err x) is
 
-pub returns-in_err-table : goal.returns-in_err-table
-returns-in_err-table c =
+pub returns-in_err-build_table : goal.returns-in_err-build_table
+returns-in_err-build_table c =
     let places : List Place = map (λ (p : Bor Place). p.now) c.args.places.now in
     let count = length-map c.args.places.now (λ (p : Bor Place). p.now) in
-    let t : Table = cut_out c.args.goal places (first_after c.args.start_us places - 1) (first_from c.args.stop_us places) in
+    let t : Table = table_between c.args.goal places (first_after c.args.start_us places - 1) (first_from c.args.stop_us places) in
     let fits = programme-fits c.args.goal places c.requires.places c.args.start_us c.args.stop_us c.requires.order
     (omega (arith, c.first_after-after.ensures, c.if-after-eq0.false)) (omega (arith, count, c.first_from-to.ensures, c.if-places-to.false))
     (omega (arith, c.first_after-after.ensures, c.first_from-to.ensures, c.if-to-from-gt-PLACE_LIMIT.false)) t refl in
@@ -69,8 +69,8 @@ pub returns : goal.returns
 returns c =
     let places : List Place = map (λ (p : Bor Place). p.now) c.args.places.now in
     let count = length-map c.args.places.now (λ (p : Bor Place). p.now) in
-    let is : c.in_ok-table.field-0 ≡ cut_out c.args.goal places (first_after c.args.start_us places - 1) (first_from c.args.stop_us places) =
-    rw (← c.first_after-after.ensures, ← c.first_from-to.ensures) c.in_ok-table.ensures in
+    let is : c.in_ok-build_table.field-0 ≡ table_between c.args.goal places (first_after c.args.start_us places - 1) (first_from c.args.stop_us places) =
+    rw (← c.first_after-after.ensures, ← c.first_from-to.ensures) c.in_ok-build_table.ensures in
     programme-fits c.args.goal places c.requires.places c.args.start_us c.args.stop_us c.requires.order
     (omega (arith, c.first_after-after.ensures, c.if-after-eq0.false)) (omega (arith, count, c.first_from-to.ensures, c.if-places-to.false))
-    (omega (arith, c.first_after-after.ensures, c.first_from-to.ensures, c.if-to-from-gt-PLACE_LIMIT.false)) c.in_ok-table.field-0 is
+    (omega (arith, c.first_after-after.ensures, c.first_from-to.ensures, c.if-to-from-gt-PLACE_LIMIT.false)) c.in_ok-build_table.field-0 is

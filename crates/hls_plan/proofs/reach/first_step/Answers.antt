@@ -6,14 +6,14 @@ pub returns-then-is_row_end-clause-found : goal.returns-then-is_row_end-clause-f
 returns-then-is_row_end-clause-found c = λ j after there.
     elim (cases_lt j c.loop-q.q) [
       | inl before ↦ c.loop-q.invariant.none j after before there
-      | inr behind ↦ c.is_row_end.ensures.none_after c.if-is_row_end.true j behind there
+      | inr not_before ↦ c.is_row_end.ensures.none_after c.if-is_row_end.true j not_before there
     ]
 
 pub loop-q-preserved : goal.loop-q-preserved
 loop-q-preserved c = record {
   none = λ j after below there.
       elim (cases_eq j c.loop-q.q) [
-        | inl same ↦ let yes = c.allowed.ensures.1 (rw same at there) in let no = c.if-allowed.false in cc
+        | inl same ↦ let yes = c.is_allowed.ensures.1 (rw same at there) in let no = c.if-is_allowed.false in cc
         | inr other ↦ c.loop-q.invariant.none j after (omega arith) there
       ];
   no_end = λ j after below end.

@@ -5,7 +5,7 @@ use Rattle.hls_plan.proofs.reach.look_ahead.Given as goal
 abbrev pub invariant-loop-far : goal.invariant-loop-far
 invariant-loop-far l = record {
   allowed : Allowed l.table l.p l.last;
-  behind : l.fn.first ≤ l.last;
+  not_before : l.fn.first ≤ l.last;
   far : l.far ≡ l.last + 1 + (l.last - l.p) / 8;
   count : l.ticks ≡ l.initial.ticks;
 }

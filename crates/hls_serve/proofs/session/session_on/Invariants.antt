@@ -1,4 +1,4 @@
-use Rattle.hls_serve.specs.Moments.{Led, moment}
+use Rattle.hls_serve.specs.Moments.{HasRun, moment}
 use Rattle.hls_serve.proofs.session.session_on.Given as goal
 
 abbrev pub invariant-loop : goal.invariant-loop
@@ -7,5 +7,5 @@ invariant-loop g l =
     record {
       can_next : (goal.iterator-loop g).can_next l.iterator';
       is_finite : (goal.iterator-loop g).is_finite l.iterator';
-      led : Led g.K.Keeper.meanwhile (at l.initial.talk l.initial.session (g.K.Keeper.known l.initial.keeper)) (at l.talk l.session (g.K.Keeper.known l.keeper));
+      led : HasRun g.K.Keeper.other_actors (at l.initial.traced l.initial.session (g.K.Keeper.known l.initial.keeper)) (at l.traced l.session (g.K.Keeper.known l.keeper));
     }

@@ -1,6 +1,6 @@
 use Rattle.std.proofs.Common.{◌≡◌, drop, map}
 use Rattle.clap.specs.Words.{app_of, new_app}
-use Rattle.hls_settings.specs.Building.{with_options}
+use Rattle.hls_settings.specs.ClapCommand.{with_options}
 use Rattle.hls_settings.specs.Command.{without_name}
 use Rattle.hls_settings.proofs.command.with_options.Given as goal
 

@@ -13,4 +13,4 @@ returns-in-Ok-try_get_matches_from g c =
 pub returns-in-Err : goal.returns-in-Err
 returns-in-Err g c =
     let app_is : app_of c.in-Ok.command ≡ serve_app = c.in-Ok.ensures in
-    refused_words _ _ c.in-Err.error _ app_is (rw (← c.find_wrong.ensures) c.refused.ensures) (c.in-Err.ensures.kinds (ap is_simple_and_free app_is ∙ serve_is_simple_and_free))
+    refused_words _ _ c.in-Err.error _ app_is (rw (← c.find_wrong_argument.ensures) c.fault_from_clap.ensures) (c.in-Err.ensures.kinds (ap is_simple_and_free app_is ∙ serve_is_simple_and_free))

@@ -1,9 +1,9 @@
 use Rattle.std.proofs.Common.{◌≡◌, length, map, take}
-use Rattle.hls_settings.specs.Reading.{Say}
+use Rattle.hls_settings.specs.ReadSettings.{ParsesTo}
 use Rattle.hls_settings.proofs.settings.read_renditions.Given as goal
 
-abbrev pub invariant-loop-word : goal.invariant-loop-word
-invariant-loop-word l = record {
-  all : length l.renditions.items ≡ l.word-index;
-  said : Say (take l.word-index (map (λ w. w.now) l.words)) l.renditions.items;
+abbrev pub invariant-loop-argument : goal.invariant-loop-argument
+invariant-loop-argument l = record {
+  all : length l.renditions.items ≡ l.argument-index;
+  said : ParsesTo (take l.argument-index (map (λ w. w.now) l.arguments)) l.renditions.items;
 }

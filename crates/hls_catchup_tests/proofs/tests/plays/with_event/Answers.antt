@@ -5,4 +5,4 @@ pub returns : goal.returns
 returns c =
     rw (c.in_ok-push.ensures.items)
     (run_with_event c.args.config.now c.args.run.actions.items c.args.run.state.value c.in_ok-state.state.value 0 c.args.event
-    c.requires.so_far c.requires.fits c.in_ok-state.ensures)
+    c.requires.is_run c.requires.fits c.in_ok-state.ensures)

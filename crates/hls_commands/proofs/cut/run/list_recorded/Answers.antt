@@ -3,8 +3,8 @@ use Rattle.hls_commands.proofs.Begun.{ended_is_listed, ended_is_single}
 use Rattle.hls_commands.proofs.RunLaws.{ends_listed, ends_unlisted}
 use Rattle.hls_commands.proofs.cut.run.list_recorded.Goals as goal
 
-pub list-requires-clause-single : goal.list-requires-clause-single
-list-requires-clause-single c = ended_is_single c.args.recorder.now c.snapshot.result.now (search rules) (search rules)
+pub list_channel-requires-clause-single : goal.list_channel-requires-clause-single
+list_channel-requires-clause-single c = ended_is_single c.args.recorder.now c.snapshot.result.now (search rules) (search rules)
 
 pub returns-in-Ok : goal.returns-in-Ok
 returns-in-Ok c =

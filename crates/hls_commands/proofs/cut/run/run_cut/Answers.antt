@@ -8,5 +8,5 @@ returns-in-Err-Memory-clause-runs g c = λ stream held known empty. runs_without
 pub returns-in-Err-clause-runs : goal.returns-in-Err-clause-runs
 returns-in-Err-clause-runs g c = λ stream held known empty. runs_unused _ c.in-Err.fault stream held _ _ (told_wrong _ c.in-Err.fault (search rules) c.in-Err.ensures) known empty
 
-pub returns-in-Err-clause-words : goal.returns-in-Err-clause-words
-returns-in-Err-clause-words g c = told_wrong _ c.in-Err.fault (search rules) c.in-Err.ensures
+pub returns-in-Err-clause-arguments : goal.returns-in-Err-clause-arguments
+returns-in-Err-clause-arguments g c = told_wrong _ c.in-Err.fault (search rules) c.in-Err.ensures

@@ -1,15 +1,15 @@
 use Rattle.std.proofs.Common.{◌∙◌, ap, refl, map}
-use Rattle.hls_core.specs.Sides.{fresh_side}
+use Rattle.hls_core.specs.RenditionStates.{fresh_rendition_state}
 use Rattle.hls_core.proofs.Taken.{seen_first, kept_first}
 use Rattle.hls_core.proofs.snapshot.Snapshot.first.Goals as goal
 
 pub invariant_of-result : goal.invariant_of-result
 invariant_of-result c =
-    kept_first (record { config = c.args.config; log = c.empty.result; sides = c.in_ok-sides.sides; placed = c.in_ok-placed.placed })
+    kept_first (record { config = c.args.config; log = c.empty.result; rendition_states = c.in_ok-rendition_states.rendition_states; line_state = c.in_ok-line_state.line_state })
     c.args.config c.renditions.ensures.valid refl c.empty.ensures
-    (c.in_ok-sides.ensures ∙ ap (map fresh_side) c.renditions.ensures.value) c.in_ok-placed.ensures
+    (c.in_ok-rendition_states.ensures ∙ ap (map fresh_rendition_state) c.renditions.ensures.value) c.in_ok-line_state.ensures
 
 pub returns : goal.returns
 returns c =
-    seen_first (record { config = c.args.config; log = c.empty.result; sides = c.in_ok-sides.sides; placed = c.in_ok-placed.placed })
-    c.args.config refl c.empty.ensures (c.in_ok-sides.ensures ∙ ap (map fresh_side) c.renditions.ensures.value)
+    seen_first (record { config = c.args.config; log = c.empty.result; rendition_states = c.in_ok-rendition_states.rendition_states; line_state = c.in_ok-line_state.line_state })
+    c.args.config refl c.empty.ensures (c.in_ok-rendition_states.ensures ∙ ap (map fresh_rendition_state) c.renditions.ensures.value)

@@ -1,15 +1,15 @@
 use Rattle.std.proofs.Common.{◌≡◌, ◌+◌, ◌*◌, ◌++◌, List, [], ℕ, Some, length}
-use Rattle.hls_http_laws.specs.Bodies.{Goes}
-use Rattle.hls_http.specs.Source.{held_of, read_failures, reader_of, reads_left}
+use Rattle.hls_http_laws.specs.Bodies.{RunsOnReader}
+use Rattle.hls_http.specs.BufferedReader.{unread_of, read_failures, reader_of, reads_left}
 use Rattle.hls_http.proofs.session.Session.body.Given as goal
 
 abbrev pub invariant-loop-self : goal.invariant-loop-self
 invariant-loop-self g l = record {
   goes : (rest : List ℕ) → g.R.Read.remaining (reader_of l.initial.self.source) ≡ Some rest
-      → Goes l.initial.body (held_of l.initial.self.source ++ rest) [] l.body (held_of l.self.source) (g.R.Read.remaining (reader_of l.self.source));
+      → RunsOnReader l.initial.body (unread_of l.initial.self.source ++ rest) [] l.body (unread_of l.self.source) (g.R.Read.remaining (reader_of l.self.source));
   quiet : read_failures l.self.source ≡ read_failures l.initial.self.source;
   writer : l.self.writer ≡ l.initial.self.writer;
 }
 
 abbrev pub decreases-loop-self : goal.decreases-loop-self
-decreases-loop-self g l = reads_left l.self.source * 131072 + length (held_of l.self.source)
+decreases-loop-self g l = reads_left l.self.source * 131072 + length (unread_of l.self.source)

@@ -1,12 +1,12 @@
 use Rattle.std.proofs.Common.{◌≡◌, ◌++◌, List, ℕ, Some}
 use Rattle.std.specs.Io.KnownBytes.{prepend_known}
-use Rattle.hls_http.specs.Source.{held_of, read_failures, reader_of, reads_left}
+use Rattle.hls_http.specs.BufferedReader.{unread_of, read_failures, reader_of, reads_left}
 use Rattle.hls_http.proofs.session.Session.next_head.Given as goal
 
 abbrev pub invariant-loop-head : goal.invariant-loop-head
 invariant-loop-head g l = record {
   same : (rest : List ℕ) → g.R.Read.remaining (reader_of l.initial.self.source) ≡ Some rest
-      → prepend_known (held_of l.self.source) (g.R.Read.remaining (reader_of l.self.source)) ≡ Some (held_of l.initial.self.source ++ rest);
+      → prepend_known (unread_of l.self.source) (g.R.Read.remaining (reader_of l.self.source)) ≡ Some (unread_of l.initial.self.source ++ rest);
   quiet : read_failures l.self.source ≡ read_failures l.initial.self.source;
   writer : l.self.writer ≡ l.initial.self.writer;
 }

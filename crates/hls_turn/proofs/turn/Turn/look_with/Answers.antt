@@ -4,23 +4,23 @@ use Rattle.std.proofs.lemmas.List.{map-append}
 use Rattle.std.proofs.lemmas.List.Elements.{All-set}
 use Rattle.hls_core_laws.specs.State.{State}
 use Rattle.hls_turn.specs.Passes.{PassData}
-use Rattle.hls_core_laws.specs.Known.{Looks}
-use Rattle.hls_turn.specs.Calls.{Looked, LooksAt}
+use Rattle.hls_core_laws.specs.PassView.{Looks}
+use Rattle.hls_turn.specs.Calls.{HasLooked, LooksAt}
 use Rattle.hls_turn.proofs.Pairs.{zip_self, zip_all, zip_map, zip_put, zip_more, drop_set, drop_one, put_map}
 use Rattle.hls_turn.proofs.Told.{looked_self, looks_looked}
 use Rattle.hls_turn.proofs.turn.Turn.look_with.Goals as goal
 
 pub returns-in_err-states-clause-looked : goal.returns-in_err-states-clause-looked
-returns-in_err-states-clause-looked g c = zip_self Looked looked_self _
+returns-in_err-states-clause-looked g c = zip_self HasLooked looked_self _
 
 pub returns-in_err-state-clause-looked : goal.returns-in_err-state-clause-looked
-returns-in_err-state-clause-looked g c = zip_put LooksAt Looked looked_self looks_looked c.loop-i.i _ _ c.index-passes-i.result c.look.new.pass (search rules) c.loop-i.invariant.looks c.loop-i.invariant.rest (record { turn = c.look.ensures.ours; looked = c.look.ensures.looked })
+returns-in_err-state-clause-looked g c = zip_put LooksAt HasLooked looked_self looks_looked c.loop-i.i _ _ c.index-passes-i.result c.look.new.pass (search rules) c.loop-i.invariant.looks c.loop-i.invariant.rest (record { turn = c.look.ensures.ours; looked = c.look.ensures.looked })
 
 pub returns-in_err-push-clause-looked : goal.returns-in_err-push-clause-looked
-returns-in_err-push-clause-looked g c = zip_put LooksAt Looked looked_self looks_looked c.loop-i.i _ _ c.index-passes-i.result c.look.new.pass (search rules) c.loop-i.invariant.looks c.loop-i.invariant.rest (record { turn = c.look.ensures.ours; looked = c.look.ensures.looked })
+returns-in_err-push-clause-looked g c = zip_put LooksAt HasLooked looked_self looks_looked c.loop-i.i _ _ c.index-passes-i.result c.look.new.pass (search rules) c.loop-i.invariant.looks c.loop-i.invariant.rest (record { turn = c.look.ensures.ours; looked = c.look.ensures.looked })
 
 pub returns-clause-looked : goal.returns-clause-looked
-returns-clause-looked g c = zip_all Looked looked_self c.loop-i.i _ _ (zip_map LooksAt Looked looks_looked _ _ c.loop-i.invariant.looks) c.loop-i.invariant.rest
+returns-clause-looked g c = zip_all HasLooked looked_self c.loop-i.i _ _ (zip_map LooksAt HasLooked looks_looked _ _ c.loop-i.invariant.looks) c.loop-i.invariant.rest
 
 pub loop-i-preserved : goal.loop-i-preserved
 loop-i-preserved g c =

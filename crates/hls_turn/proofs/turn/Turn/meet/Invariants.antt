@@ -1,9 +1,9 @@
 use Rattle.std.proofs.Common.{◌≡◌, ◌<◌, All, length}
 use Rattle.std.specs.List.{AllZip}
-use Rattle.hls_turn.specs.Calls.{Looked}
+use Rattle.hls_turn.specs.Calls.{HasLooked}
 use Rattle.hls_turn.proofs.turn.Turn.meet.Given as goal
 
 abbrev pub invariant-loop : goal.invariant-loop
 invariant-loop g l =
     (goal.iterator-loop g).can_next l.iterator' × (goal.iterator-loop g).is_finite l.iterator'
-    × All (λ p. p.turn ≡ l.fn.self) l.passes × (0 < length l.passes) × AllZip Looked l.initial.passes l.passes
+    × All (λ p. p.turn ≡ l.fn.self) l.passes × (0 < length l.passes) × AllZip HasLooked l.initial.passes l.passes

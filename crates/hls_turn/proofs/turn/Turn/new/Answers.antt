@@ -1,15 +1,15 @@
 use Rattle.std.proofs.Common.{rules, ◌∙◌, ℕ, List, [], ◌∷◌, ◌++◌, sym, ap}
 use Rattle.crossbeam_queue.specs.Passes.{view}
 use Rattle.atomic_table.specs.Seated.{TableId}
-use Rattle.hls_turn.specs.Rule.{beside}
+use Rattle.hls_turn.specs.Rule.{split_view}
 use Rattle.hls_turn.specs.Passes.{PassData, known_by}
 use Rattle.hls_turn.specs.Calls.{opening_pass}
 use Rattle.hls_turn.proofs.Steps.{forks}
 use Rattle.hls_turn.proofs.Openings.{next_pass, all_passes}
 use Rattle.hls_turn.proofs.turn.Turn.new.Goals as goal
 
-pub another-seat-requires-clause-rule : goal.another-seat-requires-clause-rule
-another-seat-requires-clause-rule g c = forks c.args.snapshot c.loop-number.number c.loop-number.seat.id (view c.loop-number.seat) c.loop-number.invariant.first c.loop-number.invariant.knows
+pub another-queue_pass-requires-clause-rule : goal.another-queue_pass-requires-clause-rule
+another-queue_pass-requires-clause-rule g c = forks c.args.snapshot c.loop-number.number c.loop-number.queue_pass.id (view c.loop-number.queue_pass) c.loop-number.invariant.first c.loop-number.invariant.knows
 
 pub loop-number-preserved : goal.loop-number-preserved
 loop-number-preserved g c =
@@ -21,7 +21,7 @@ loop-number-preserved g c =
       first = search rules;
       knows = search rules;
       others = c.in_ok-push.ensures.items
-          ∙ (λ i. passes ++ record { turn = c.another-seat.ensures.queue.1.0 i; known = known_by ((c.another-seat.ensures.rule.1 ∙ ap beside c.loop-number.invariant.knows) i) } ∷ [])
+          ∙ (λ i. passes ++ record { turn = c.another-queue_pass.ensures.queue.1.0 i; known = known_by ((c.another-queue_pass.ensures.rule.1 ∙ ap split_view c.loop-number.invariant.knows) i) } ∷ [])
           ∙ ap (λ (l : List PassData). l ++ opening_pass turn c.args.snapshot number ∷ []) c.loop-number.invariant.others
           ∙ sym (next_pass (opening_pass turn c.args.snapshot) number c.loop-number.auto.number);
     }

@@ -7,8 +7,8 @@ use Rattle.hls_turn.proofs.turn.Turn.new.Given as goal
 
 abbrev pub invariant-loop-number : goal.invariant-loop-number
 invariant-loop-number g l = record {
-  ours : IsPassOf l.queue l.seat;
-  first : l.seat.id ≡ 0;
-  knows : view l.seat ≡ made_to l.number l.fn.snapshot;
+  ours : IsPassOf l.queue l.queue_pass;
+  first : l.queue_pass.id ≡ 0;
+  knows : view l.queue_pass ≡ made_to l.number l.fn.snapshot;
   others : l.passes.items ≡ map (opening_pass l.queue.table.shared.table_id l.fn.snapshot) (range_with_len 1 (l.number - 1));
 }

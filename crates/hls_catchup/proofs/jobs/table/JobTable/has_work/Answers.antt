@@ -1,16 +1,16 @@
 use Rattle.std.proofs.Common.{ℕ, List, Option, Some, None, subst, sym, ap, ◌∙◌}
 use Rattle.std.specs.Option.{is_some}
-use Rattle.hls_catchup_laws.specs.declared.jobs.row.Row.{Row}
-use Rattle.hls_catchup_laws.specs.Jobs.Tables.{TableData}
+use Rattle.hls_catchup_laws.specs.declared.jobs.row.JobRow.{JobRow}
+use Rattle.hls_catchup_laws.specs.Jobs.Tables.{JobTableData}
 use Rattle.hls_catchup.specs.Jobs.Rows.{HasWaiting, IsFirstWaiting}
 use Rattle.hls_catchup.proofs.jobs.table.JobTable.has_work.Goals as goal
 
 -- a job was found, or none waits
-has_waiting : (rows : List Row) (found : Option ℕ) → IsFirstWaiting rows found → HasWaiting rows (is_some found)
+has_waiting : (rows : List JobRow) (found : Option ℕ) → IsFirstWaiting rows found → HasWaiting rows (is_some found)
 has_waiting rows None none = none
 has_waiting rows (Some at) waits = (at, waits)
 
 pub returns : goal.returns
 returns c =
-    subst (λ (t : TableData). HasWaiting t.rows c.is_some.result) c.self.view_is
-    (rw (c.is_some.ensures, ← c.deref.ensures.value) (has_waiting c.deref.result.now c.first_waiting.result c.first_waiting.ensures))
+    subst (λ (t : JobTableData). HasWaiting t.rows c.is_some.result) c.self.view_is
+    (rw (c.is_some.ensures, ← c.deref.ensures.value) (has_waiting c.deref.result.now c.find_waiting_row.result c.find_waiting_row.ensures))

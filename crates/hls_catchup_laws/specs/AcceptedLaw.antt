@@ -1,0 +1,25 @@
+-- What becomes of a good certificate that is printed: it is read as itself, and the checker's answer is yes.
+use Rattle.std.specs.Prelude.{◌≡◌, ℕ, Result, Ok, Err}
+use Rattle.hls_check_laws.specs.declared.cert_fault.CertFault.{CertFault}
+use Rattle.hls_check_laws.specs.declared.cert_fault.CertFault.TheVariants.{Form}
+use Rattle.hls_check_laws.specs.declared.verdict.Verdict.{Verdict}
+use Rattle.hls_check_laws.specs.declared.verdict.Verdict.TheVariants.{Cut, NoCut}
+use Rattle.hls_check_laws.specs.Certificates.{ClaimData, CutClaim, NoneClaim, CertificateData, IsCertificate, IsGood}
+use Rattle.hls_check_text.specs.Text.{text}
+use Rattle.hls_check_text.specs.WrongLines.{IsReadResult}
+use Rattle.hls_check.specs.CheckResults.{IsCheckResult}
+
+-- the checker's yes to what is shown: a cut with its cost, or none
+abbrev pub verdict_of : ClaimData → Verdict
+verdict_of (CutClaim total plan prices) = Cut total
+verdict_of (NoneClaim closed) = NoCut
+
+-- a reading of the printed bytes gives the certificate itself and no wrong line, and the one answer of the checker to it is yes
+pub record IsAccepted (c : CertificateData) : Type 0 where
+  pub form : IsCertificate c
+  pub read : (found : CertificateData) → IsReadResult (text c) (Ok found) → found ≡ c
+  pub well_formed : (line : ℕ) → IsReadResult (text c) (Err (Form line)) → ⊥
+  pub answer : (answer : Result Verdict CertFault) → IsCheckResult c answer → answer ≡ Ok (verdict_of c.shown)
+
+abbrev pub GoodCertificatesAreAccepted : Type 0
+GoodCertificatesAreAccepted = (c : CertificateData) → IsCertificate c → IsGood c → IsAccepted c

@@ -1,6 +1,0 @@
-use Rattle.hls_check.proofs.ClosedPrices.{broken_answer}
-use Rattle.hls_check.proofs.checker.close.Goals as goal
-
-pub returns-in-Some : goal.returns-in-Some
-returns-in-Some c =
-    broken_answer c.args.table.now _ c.in-Some.p c.in-Some.q c.requires.open (rw c.in-Some.is at c.requires.found)

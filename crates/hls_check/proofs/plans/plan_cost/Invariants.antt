@@ -1,0 +1,10 @@
+use Rattle.std.proofs.Common.{◌≡◌, ◌-◌, ◌*◌, ◌≤◌, take, slice_index}
+use Rattle.hls_check_laws.specs.Plans.{plan_cost}
+use Rattle.hls_check.proofs.plans.plan_cost.Given as goal
+use Rattle.hls_check_laws.specs.Steps.{cost_limit}
+
+abbrev pub invariant-loop-k : goal.invariant-loop-k
+invariant-loop-k l = record {
+  sum : l.total ≡ plan_cost l.table (take l.k l.plan);
+  bound : l.total ≤ slice_index l.plan (l.k - 1) * cost_limit;
+}

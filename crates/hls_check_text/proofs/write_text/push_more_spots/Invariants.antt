@@ -1,8 +1,0 @@
-use Rattle.std.proofs.Common.{◌≡◌, ◌++◌, drop}
-use Rattle.hls_text.specs.Numbers.{spaced}
-use Rattle.hls_check_text.specs.Text.{place_numbers}
-use Rattle.hls_check_text.proofs.write_text.push_more_spots.Given as goal
-
-abbrev pub invariant-loop-spot : goal.invariant-loop-spot
-invariant-loop-spot l =
-    l.out.items ++ spaced (place_numbers (drop l.spot-index l.spots)) ≡ l.initial.out.items ++ spaced (place_numbers l.spots)

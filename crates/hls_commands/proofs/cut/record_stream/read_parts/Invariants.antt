@@ -1,0 +1,14 @@
+use Rattle.std.proofs.Common.{◌≡◌, ◌<◌, List, ℕ, Some, length}
+use Rattle.hls_io.specs.Counted.{calls_left, failures_of, inner_of}
+use Rattle.hls_commands.proofs.GatherLaws.{Reading}
+use Rattle.hls_commands.proofs.cut.record_stream.read_parts.Given as goal
+
+abbrev pub invariant-pieces : goal.invariant-pieces
+invariant-pieces g l = record {
+  reading : (stream : List ℕ) → g.R.Read.remaining (inner_of l.initial.input) ≡ Some stream → Reading l.initial.recorder stream (g.R.Read.remaining (inner_of l.input)) l.reader l.recorder;
+  room : 0 < length l.piece;
+  quiet : failures_of l.input ≡ failures_of l.initial.input;
+}
+
+abbrev pub decreases-pieces : goal.decreases-pieces
+decreases-pieces g l = calls_left l.input

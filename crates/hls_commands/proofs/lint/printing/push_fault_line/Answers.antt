@@ -1,6 +1,0 @@
-use Rattle.std.proofs.Common.{arith}
-use Rattle.hls_commands.proofs.LintLines.{no_lines}
-use Rattle.hls_commands.proofs.lint.printing.push_fault_line.Goals as goal
-
-pub returns-in-NotM3u : goal.returns-in-NotM3u
-returns-in-NotM3u c = record { bytes = no_lines _ c.args.fault c.in-NotM3u.is; len = omega arith }

@@ -1,7 +1,0 @@
--- A text of which something may be missing.
-use Rattle.std.specs.Prelude.{◌≡◌, ℕ, List, ◌++◌}
-
--- a text that begins the whole one
-pub record IsBeginning (text whole : List ℕ) : Type 0 where
-  pub missing : List ℕ
-  pub is : whole ≡ text ++ missing

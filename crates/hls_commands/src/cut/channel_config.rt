@@ -1,0 +1,60 @@
+//! The channel that a stream is taken into, and how it is listed.
+ghost use Rattle.std.specs.Prelude.{◌≡◌, IfOk};
+ghost use Rattle.hls_origin_listing.specs.Listings.{CanList};
+ghost use Rattle.hls_commands.specs.Channel.{config_of, listing_mode_of, stream_rendition};
+
+use bytes::Bytes;
+use hls_core::config::{Config, ConfigFault};
+use hls_core_laws::rendition::Rendition;
+use hls_origin_listing::ListingMode;
+use hls_settings::CutOptions;
+use std::alloc::{AllocError, Global};
+
+/// The one rendition.
+fn make_rendition(alloc: Global) -> Result<Rendition, AllocError>
+    ensures { IfOk result (λ r. r ≡ stream_rendition) }
+{
+    Ok(Rendition {
+        name: Bytes::copy_from_slice(alloc, b"stream")?,
+        video: true,
+        bandwidth: 1,
+        tolerance: 0,
+    })
+}
+
+/// The configuration of a channel of one rendition, as the options ask for it.
+pub fn make_config(alloc: Global, options: &CutOptions<'_>) -> Result<Config, AllocError>
+    ensures { IfOk result (λ config. config ≡ config_of options.now) }
+{
+    let preferred = match options.preferred() {
+        Some(length) => length,
+        None => options.target() * 1_000_000,
+    };
+    let mut renditions = Vec::with_capacity(alloc, 1)?;
+    renditions.push(make_rendition(alloc)?)?;
+    match Config::with_epoch(
+        alloc,
+        options.target(),
+        preferred,
+        renditions,
+        options.epoch(),
+    ) {
+        Ok(config) => Ok(config),
+        Err(ConfigFault::Memory) => Err(AllocError),
+        Err(_) => unreachable!(),
+    }
+}
+
+/// How the recorded stream is to be listed: each place begins a segment, or a least plan is made.
+pub fn listing_mode(options: &CutOptions<'_>) -> ListingMode
+    ensures value { result ≡ listing_mode_of options.now }
+    ensures in_range { CanList result }
+{
+    if options.preferred().is_none() {
+        return ListingMode::Each;
+    }
+    ListingMode::Planned {
+        rule: options.rule(),
+        certificate: options.wants_certificate(),
+    }
+}

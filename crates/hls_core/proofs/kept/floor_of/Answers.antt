@@ -1,5 +1,0 @@
-use Rattle.hls_core.proofs.KeptPlaces.{floor-none}
-use Rattle.hls_core.proofs.kept.floor_of.Goals as goal
-
-pub returns-in-None : goal.returns-in-None
-returns-in-None c = floor-none c.args.snapshot.now c.args.rendition (rw c.in-None.is at c.side.ensures.none)

@@ -1,6 +1,0 @@
-use Rattle.std.proofs.Common.{arith}
-use Rattle.hls_core.proofs.KeptPlaces.{kept-counted}
-use Rattle.hls_core.proofs.kept.kept_count.Goals as goal
-
-pub returns : goal.returns
-returns c = omega (arith, c.place_count.ensures.count, kept-counted c.args.snapshot.now c.count_front.result c.count_front.ensures.front)

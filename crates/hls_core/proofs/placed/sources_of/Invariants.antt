@@ -1,6 +1,0 @@
-use Rattle.std.proofs.Common.{◌≡◌, map, take}
-use Rattle.hls_core.specs.Sides.{sources_by}
-use Rattle.hls_core.proofs.placed.sources_of.Given as goal
-
-abbrev pub invariant-loop-r : goal.invariant-loop-r
-invariant-loop-r l = l.sources.items ≡ take l.r (sources_by l.config (map (λ a. a.value) l.sides))

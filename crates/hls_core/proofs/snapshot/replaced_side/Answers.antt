@@ -1,7 +1,0 @@
-use Rattle.std.proofs.Common.{◌∙◌, refl}
-use Rattle.std.proofs.lemmas.List.{map-set}
-use Rattle.hls_core.proofs.snapshot.replaced_side.Goals as goal
-
-pub returns : goal.returns
-returns c =
-    map-set (λ a. a.value) c.in_ok-copies.copies.items c.args.r c.args.side ∙ rw c.in_ok-copies.ensures refl

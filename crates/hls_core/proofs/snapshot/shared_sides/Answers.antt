@@ -1,5 +1,0 @@
-use Rattle.hls_core.proofs.Moved.{when_ok, same_values}
-use Rattle.hls_core.proofs.snapshot.shared_sides.Goals as goal
-
-pub returns : goal.returns
-returns c = when_ok c.to_vec.result (λ v same. same_values c.args.sides.now v.items same) c.to_vec.ensures.ok

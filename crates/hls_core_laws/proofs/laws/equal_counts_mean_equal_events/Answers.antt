@@ -1,0 +1,5 @@
+use Rattle.hls_core_laws.proofs.Theorems.{workers_settled}
+use Rattle.hls_core_laws.proofs.laws.equal_counts_mean_equal_events.Goals as goal
+
+pub returns : goal.returns
+returns c = workers_settled

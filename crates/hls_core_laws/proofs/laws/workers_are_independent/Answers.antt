@@ -1,0 +1,5 @@
+use Rattle.hls_core_laws.proofs.Theorems.{workers_apart}
+use Rattle.hls_core_laws.proofs.laws.workers_are_independent.Goals as goal
+
+pub returns : goal.returns
+returns c = workers_apart

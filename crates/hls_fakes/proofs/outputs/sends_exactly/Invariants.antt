@@ -1,0 +1,5 @@
+use Rattle.std.proofs.Common.{length}
+use Rattle.hls_fakes.proofs.outputs.sends_exactly.Given as goal
+
+abbrev pub decreases-loop-output : goal.decreases-loop-output
+decreases-loop-output g l = length l.output

@@ -1,5 +1,0 @@
-use Rattle.std.proofs.Common.{length}
-use Rattle.hls_fakes.proofs.outputs.sent_of.Given as goal
-
-abbrev pub decreases-loop-output : goal.decreases-loop-output
-decreases-loop-output g l = length l.output

@@ -1,0 +1,60 @@
+//! Why a stream is refused.
+
+ghost use Rattle.std.specs.Prelude.{◌≡◌};
+ghost use Rattle.hls_feed.specs.FaultName.{name_of};
+
+use hls_boxes_laws::fault::BoxFault;
+use hls_core_laws::refusal::Refusal;
+use hls_media_laws::fault::MediaFault;
+use std::alloc::AllocError;
+use std::fmt::{self, Display, Formatter, Write};
+use thiserror::Error;
+
+/// Why a stream is refused: by its boxes, by what a part of it says, or by the channel's state.
+#[derive(Clone, Copy, Debug, PartialEq, Eq, Error)]
+pub enum StreamFault {
+    /// It is no stream of boxes, or ends inside a part.
+    Boxes(BoxFault),
+    /// A part is no good init section or no good unit.
+    Media(MediaFault),
+    /// The channel refuses a part: `NoInit` for a unit before any init section, `InitChanged`, `Overlap`, ..
+    Core(Refusal),
+}
+
+impl StreamFault {
+    /// The name of the fault that it holds, as replies and programs print it.
+    pub fn name(&self) -> &'static str
+        ensures { result.now ≡ name_of self.now }
+    {
+        match self {
+            StreamFault::Boxes(fault) => fault.name(),
+            StreamFault::Media(fault) => fault.name(),
+            StreamFault::Core(refusal) => refusal.name(),
+        }
+    }
+}
+
+impl Display for StreamFault {
+    fn fmt<W: Write>(&self, f: &mut Formatter<W>) -> fmt::Result {
+        f.write_str(self.name())
+    }
+}
+
+/// Why no more of a stream is taken.
+#[derive(Clone, Copy, Drop)]
+pub enum FeedFault {
+    /// It is refused.
+    Refused(StreamFault),
+    /// Memory was wanted.
+    Memory,
+}
+
+impl From<AllocError> for FeedFault {
+    ghost use Rattle.hls_feed.specs.declared.feed_fault.FeedFault.TheVariants.{Memory};
+
+    ghost from_gives = { λ _ untaken. untaken ≡ Memory };
+
+    fn from(_error: AllocError) -> FeedFault {
+        FeedFault::Memory
+    }
+}

@@ -1,0 +1,12 @@
+use Rattle.std.proofs.Common.{◌≡◌, ◌-◌, length, codes}
+use Rattle.std.specs.List.{list_any}
+use Rattle.hls_http_laws.specs.Fields.{expects_continue}
+use Rattle.hls_http.specs.Values.{values_from}
+use Rattle.hls_http.proofs.fields.expects_continue.Given as goal
+
+abbrev pub invariant-loop-next : goal.invariant-loop-next
+invariant-loop-next l =
+    list_any expects_continue (values_from l.text l.headers (codes "expect") 0) ≡ list_any expects_continue (values_from l.text l.headers (codes "expect") l.at)
+
+abbrev pub decreases-loop-next : goal.decreases-loop-next
+decreases-loop-next l = length l.headers - l.at

@@ -1,8 +1,0 @@
-use Rattle.std.proofs.Common.{vec_len}
-use Rattle.hls_http.proofs.Buffers.{takes}
-use Rattle.hls_http.proofs.input.Input.take.Goals as goal
-
-pub returns : goal.returns
-returns c =
-    let s = c.self.inside in
-    takes s.buffer.items s.from s.start s.end c.args.len (vec_len s.buffer) c.args.self.now c.self.invariant.1 c.self.view_is c.requires

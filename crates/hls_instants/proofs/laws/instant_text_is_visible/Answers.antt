@@ -1,0 +1,5 @@
+use Rattle.hls_instants.proofs.laws.instant_text_is_visible.Goals as goal
+use Rattle.hls_instants.proofs.Dates.{moments_are_visible}
+
+pub returns : goal.returns
+returns c = moments_are_visible

@@ -1,0 +1,5 @@
+use Rattle.hls_instants.proofs.laws.instant_text_reads_back.Goals as goal
+use Rattle.hls_instants.proofs.Moments.{moment_reads_back}
+
+pub returns : goal.returns
+returns c = moment_reads_back

@@ -1,6 +1,0 @@
--- Counts of failed calls.
-use Rattle.std.specs.Prelude.{◌≡◌, ℕ, ◌^◌, ◌<◌, ◌⊎◌}
-
--- a count of failures rose; one that stands at its end is taken as risen
-abbrev pub Rose : ℕ → ℕ → Type 0
-Rose old new = (old < new) ⊎ (new ≡ 2 ^ 63)

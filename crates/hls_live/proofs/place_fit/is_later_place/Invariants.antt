@@ -1,0 +1,6 @@
+use Rattle.std.proofs.Common.{ℕ, ◌<◌}
+use Rattle.hls_check_laws.specs.Tables.{spot_in}
+use Rattle.hls_live.proofs.place_fit.is_later_place.Given as goal
+
+abbrev pub invariant-loop-r : goal.invariant-loop-r
+invariant-loop-r l = (k : ℕ) → k < l.r → (spot_in l.starts k).fragment < (spot_in l.ends k).fragment

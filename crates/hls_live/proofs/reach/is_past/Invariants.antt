@@ -1,6 +1,0 @@
-use Rattle.std.proofs.Common.{ℕ, ◌<◌}
-use Rattle.hls_check_laws.specs.Tables.{spot_in}
-use Rattle.hls_live.proofs.reach.is_past.Given as goal
-
-abbrev pub invariant-loop-r : goal.invariant-loop-r
-invariant-loop-r l = (k : ℕ) → k < l.r → (spot_in l.starts k).fragment < (spot_in l.ends k).fragment

@@ -1,0 +1,5 @@
+use Rattle.hls_m3u8.proofs.Joined.{alike}
+use Rattle.hls_m3u8.proofs.laws.lines_determine_text.Goals as goal
+
+pub returns : goal.returns
+returns c = alike

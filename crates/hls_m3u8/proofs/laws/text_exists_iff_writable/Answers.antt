@@ -1,0 +1,5 @@
+use Rattle.hls_m3u8.proofs.laws.text_exists_iff_writable.Goals as goal
+use Rattle.hls_m3u8.proofs.Texts.{text_exactly_where}
+
+pub returns : goal.returns
+returns c = text_exactly_where

@@ -1,0 +1,5 @@
+use Rattle.hls_m3u8.proofs.laws.written_text_is_lines.Goals as goal
+use Rattle.hls_m3u8.proofs.Texts.{written_is_text}
+
+pub returns : goal.returns
+returns c = written_is_text

@@ -1,0 +1,17 @@
+use Rattle.std.proofs.Common.{◌≡◌, ◌+◌, ◌-◌, ◌≤◌, length, drop}
+use denote.Text.{Utf8}
+use denote.Shadow.{shadow}
+use Rattle.hls_m3u8.specs.Limits.{text_limit}
+use Rattle.hls_m3u8.specs.TextLines.{text_lines}
+use Rattle.hls_m3u8.specs.ReadLines.{initial_state, read_from, with_segments}
+use Rattle.hls_m3u8.proofs.read.collect_segments.Given as goal
+
+-- the segments kept, and what the lines that are left give, are what all give
+abbrev pub invariant-loop-line : goal.invariant-loop-line
+invariant-loop-line l =
+    shadow (Utf8 l.rest) × (l.number + length l.rest ≤ text_limit + 2) × (length l.rest ≤ length l.whole)
+    × (l.rest ≡ drop (length l.whole - length l.rest) l.whole)
+    × (read_from 2 initial_state (text_lines l.fn.text) ≡ with_segments l.collected.segments.items (read_from l.number l.collected.state (text_lines l.rest)))
+
+abbrev pub decreases-loop-line : goal.decreases-loop-line
+decreases-loop-line l = length l.rest

@@ -1,0 +1,34 @@
+-- The two forms of playlists that are written, each over one resource with its init section at the
+-- front.
+
+use Rattle.std.specs.Prelude.{ℕ, Bool, true, List, Some, None}
+use Rattle.hls_m3u8.specs.declared.playlist.PlaylistKind.TheVariants.{Vod}
+use Rattle.hls_m3u8.specs.declared.playlist.MediaSegment.{MediaSegment}
+use Rattle.hls_m3u8.specs.Playlist.{Playlist}
+use Rattle.hls_m3u8.specs.Written.{init_at}
+
+-- a list of VOD
+abbrev pub vod_list : ℕ → List ℕ → ℕ → List MediaSegment → Playlist
+vod_list target uri init_length segments = record {
+  version = 6;
+  target = target;
+  media_sequence = 0;
+  discontinuity_sequence = 0;
+  kind = Some Vod;
+  map = Some (init_at uri init_length);
+  segments = segments;
+  ended = true;
+}
+
+-- a live list, with the numbers of segments and of marks that were removed
+abbrev pub live_list : ℕ → ℕ → ℕ → List ℕ → ℕ → List MediaSegment → Bool → Playlist
+live_list target media_sequence discontinuity_sequence uri init_length segments ended = record {
+  version = 6;
+  target = target;
+  media_sequence = media_sequence;
+  discontinuity_sequence = discontinuity_sequence;
+  kind = None;
+  map = Some (init_at uri init_length);
+  segments = segments;
+  ended = ended;
+}

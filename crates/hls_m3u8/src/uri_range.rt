@@ -1,0 +1,46 @@
+//! What a text names: a resource, and bytes of it.
+
+ghost use Rattle.std.specs.Prelude.{◌≡◌, ℕ, List};
+ghost use Rattle.hls_m3u8.specs.ReaderRecords as records;
+
+use crate::ByteRange;
+use std::marker::Model;
+
+/// A URI as it stands in the text. A contract sees its bytes.
+#[derive(Drop)]
+pub(crate) struct UriRef<'a> {
+    text: &'a str,
+}
+
+impl<'a> Model for UriRef<'a> {
+    ghost Value = { List ℕ };
+
+    ghost view = { λ u. u.text.now };
+}
+
+impl<'a> UriRef<'a> {
+    pub(crate) fn new(text: &'a str) -> UriRef<'a>
+        ensures { result ≡ text.entry.now }
+    {
+        UriRef { text }
+    }
+
+    pub(crate) fn text(&self) -> &'a str
+        ensures { result.now ≡ self.now }
+    {
+        self.text
+    }
+}
+
+/// Bytes of a resource: the map's, or the last segment's.
+#[derive(Drop)]
+pub(crate) struct UriRange<'a> {
+    pub(crate) uri: UriRef<'a>,
+    pub(crate) range: Option<ByteRange>,
+}
+
+impl<'a> Model for UriRange<'a> {
+    ghost Value = { records.UriRange };
+
+    ghost view = { λ r. record { uri = r.uri; range = r.range } };
+}

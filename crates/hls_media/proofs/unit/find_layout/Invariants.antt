@@ -1,0 +1,9 @@
+use Rattle.std.proofs.Common.{length}
+use Rattle.hls_media.specs.UnitLayout.{HasScannedUnit}
+use Rattle.hls_media.proofs.unit.find_layout.Given as goal
+
+abbrev pub invariant-boxes : goal.invariant-boxes
+invariant-boxes l = HasScannedUnit l.unit l.met l.rest l.initial.ticks l.ticks
+
+abbrev pub decreases-boxes : goal.decreases-boxes
+decreases-boxes l = length l.rest

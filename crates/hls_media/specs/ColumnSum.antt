@@ -1,0 +1,8 @@
+-- What the values of samples come to.
+-- For the proofs of this crate; no public clause cites it.
+use Rattle.std.specs.Prelude.{ℕ, List, Option}
+use Rattle.hls_media_laws.specs.Fields.{total, some_missing}
+use Rattle.hls_media.specs.declared.trun_columns.ColumnSum.{ColumnSum}
+
+abbrev pub column_sum : List (Option ℕ) → ColumnSum
+column_sum vs = record { total = total vs; lacking = some_missing vs }

@@ -1,0 +1,31 @@
+-- What is known after boxes of so many bytes stays known after more.
+-- For the proofs of this crate; no public clause cites it.
+use Rattle.std.proofs.Common.{ℕ, ℤ, ◌+◌, ◌≤◌, Option, Some, None, arith}
+use Rattle.std.proofs.lemmas.Int.{ints}
+use Rattle.hls_media.specs.declared.traf_runs.TrunVisitor.{TrunVisitor}
+use Rattle.hls_media.specs.declared.traf_runs.RunSummary.{RunSummary}
+use Rattle.hls_media.specs.declared.moof.MoofSummary.{MoofSummary}
+use Rattle.hls_media.specs.declared.samples.SampleSummary.{SampleSummary}
+use Rattle.hls_media.specs.RunPlacement.{IsNear}
+use Rattle.hls_media.specs.Runs.{IsBoundedRuns, IsBrief}
+use Rattle.hls_media.specs.MoofSummary.{IsBoundedSummary}
+
+pub near-more : (n m : ℕ) (z : ℤ) → n ≤ m → IsNear n z → IsNear m z
+near-more n m z le near = (omega (arith, ints, near.0), omega (arith, ints, near.1))
+
+pub brief-more : (n m : ℕ) (sample_summary : Option SampleSummary) → n ≤ m → IsBrief n sample_summary → IsBrief m sample_summary
+brief-more n m None le brief = tt
+brief-more n m (Some t) le brief = omega (arith, le, brief)
+
+pub runs-more : (k : TrunVisitor) (n m : ℕ) (s : RunSummary) → n ≤ m → IsBoundedRuns k n s → IsBoundedRuns k m s
+runs-more k n m s le known = record {
+  base = known.base;
+  near = λ i base. near-more (i + n) (i + m) s.placement.end (omega (arith, le)) (known.near i base);
+  brief = brief-more n m s.sample_summary le known.brief;
+}
+
+pub summary-more : (n m : ℕ) (s : MoofSummary) → n ≤ m → IsBoundedSummary n s → IsBoundedSummary m s
+summary-more n m s le known = record { near = near-more n m s.placement.end le known.near; short = known.short }
+
+pub le-more : (n m weight : ℕ) → n ≤ m → weight ≤ n → weight ≤ m
+le-more n m weight le least = omega (arith, le, least)

@@ -1,0 +1,41 @@
+-- What the code keeps of the heading of a `traf`: its boxes one after the other, each looked at once.
+-- For the proofs of this crate; no public clause cites it.
+use Rattle.std.specs.Prelude.{ℕ, ◌==◌, nat_le, Bool, ◌&&◌, if◌then◌else◌, Option, Some, None, is_some, option_map, option_and_then, List, [], length, slice_get, slice_index_or}
+use Rattle.std.specs.List.{list_all}
+use Rattle.hls_boxes_laws.specs.Boxes.{Child, children, contents_of_type}
+use Rattle.hls_media_laws.specs.Kinds.{tfhd_type, tfdt_type}
+use Rattle.hls_media_laws.specs.Fields.{tfhd_fits, tfdt_fits, decode_time}
+use Rattle.hls_media.specs.declared.tfhd.Tfhd.{Tfhd}
+use Rattle.hls_media.specs.declared.traf_header.TrafHeader.{TrafHeader}
+use Rattle.hls_media.specs.declared.traf_header.PartialTrafHeader.{PartialTrafHeader}
+use Rattle.hls_media.specs.Boxes.{tfhd_fields, tfhd_of, tfdt_of}
+
+-- what is kept of these
+unfoldable pub header_with : List ℕ → Option (List ℕ) → TrafHeader
+header_with head time = record { head = tfhd_fields head; time = option_map decode_time time }
+
+-- just one `tfhd`, at most one `tfdt`, and no field past its box
+abbrev pub is_traf_header : List (List ℕ) → List (List ℕ) → Bool
+is_traf_header heads times = (length heads == 1) && list_all tfhd_fits heads && nat_le (length times) 1 && list_all tfdt_fits times
+
+abbrev pub header_from : List (List ℕ) → List (List ℕ) → Option TrafHeader
+header_from heads times = if is_traf_header heads times then Some (header_with (slice_index_or heads 0 []) (slice_get times 0)) else None
+
+abbrev pub header_of_boxes : List Child → Option TrafHeader
+header_of_boxes boxes = header_from (contents_of_type tfhd_type boxes) (contents_of_type tfdt_type boxes)
+
+-- the heading of the `traf` with this content, whatever its runs are
+unfoldable pub header_of_traf : List ℕ → Option TrafHeader
+header_of_traf content = option_and_then header_of_boxes (children content)
+
+abbrev pub no_header : PartialTrafHeader
+no_header = record { head = None; time = None }
+
+abbrev pub header_step : PartialTrafHeader → ℕ → List ℕ → Option PartialTrafHeader
+header_step s kind content =
+    if kind == tfhd_type then (if is_some s.head then None else option_map (λ (h : Tfhd). record s { head = Some h }) (tfhd_of content))
+    else (if kind == tfdt_type then (if is_some s.time then None else option_map (λ (t : ℕ). record s { time = Some t }) (tfdt_of content))
+    else Some s)
+
+abbrev pub finished_header : PartialTrafHeader → Option TrafHeader
+finished_header s = option_map (λ (h : Tfhd). record { head = h; time = s.time }) s.head

@@ -1,0 +1,14 @@
+-- What is handed out where so many bytes are taken, one count after the other, and what waits then.
+use Rattle.std.specs.Prelude.{◌≡◌, ℕ, List, [], ◌∷◌, ◌++◌, take, drop}
+
+abbrev pub sent_bytes : List ℕ → List ℕ → List ℕ
+sent_bytes bytes [] = []
+sent_bytes bytes (count ∷ counts) = take count bytes ++ sent_bytes (drop count bytes) counts
+
+abbrev pub waiting_bytes : List ℕ → List ℕ → List ℕ
+waiting_bytes bytes [] = bytes
+waiting_bytes bytes (count ∷ counts) = waiting_bytes (drop count bytes) counts
+
+-- together they are what there was
+abbrev pub SentAndWaitingAreAll : Type 0
+SentAndWaitingAreAll = (bytes counts : List ℕ) → sent_bytes bytes counts ++ waiting_bytes bytes counts ≡ bytes

@@ -1,7 +1,0 @@
-use Rattle.std.proofs.Common.{◌≡◌, drop}
-use Rattle.std.specs.List.{list_all}
-use Rattle.hls_places_laws.specs.Places.{has_ended}
-use Rattle.hls_places.proofs.closing.are_over.Given as goal
-
-abbrev pub invariant-loop-r : goal.invariant-loop-r
-invariant-loop-r l = list_all has_ended (drop l.r l.renditions) ≡ list_all has_ended l.renditions

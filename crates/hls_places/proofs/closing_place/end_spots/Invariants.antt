@@ -1,0 +1,6 @@
+use Rattle.std.proofs.Common.{◌≡◌, ◌++◌, drop, map}
+use Rattle.hls_places_laws.specs.Places.{source_end_spot}
+use Rattle.hls_places.proofs.closing_place.end_spots.Given as goal
+
+abbrev pub invariant-loop-r : goal.invariant-loop-r
+invariant-loop-r l = l.spots.items ++ map source_end_spot (drop l.r l.renditions) ≡ map source_end_spot l.renditions

@@ -1,8 +1,0 @@
-use Rattle.std.proofs.Common.{ℕ, ◌<◌}
-use Rattle.hls_places_laws.specs.Sources.{source_at}
-use Rattle.hls_places_laws.specs.Positions.{mark_at}
-use Rattle.hls_places.specs.Searches.{IsSettledAt}
-use Rattle.hls_places.proofs.marks.unsettled.Given as goal
-
-abbrev pub invariant-loop-r : goal.invariant-loop-r
-invariant-loop-r l = (k : ℕ) → k < l.r → IsSettledAt (source_at l.renditions k) (mark_at l.marks k)

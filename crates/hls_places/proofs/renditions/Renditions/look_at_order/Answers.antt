@@ -1,7 +1,0 @@
-use Rattle.std.proofs.Common.{below_more}
-use Rattle.hls_places.proofs.Lines.{timeline-of}
-use Rattle.hls_places.proofs.renditions.Renditions.look_at_order.Goals as goal
-
-pub loop-r-preserved : goal.loop-r-preserved
-loop-r-preserved c = below_more _ _ c.loop-r.invariant
-    (rw (← c.recording.ensures) (timeline-of c.recording.result.now c.count-count.ensures.valid))

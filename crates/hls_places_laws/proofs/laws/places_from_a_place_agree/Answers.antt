@@ -1,0 +1,5 @@
+use Rattle.hls_places_laws.proofs.Since.{places-since}
+use Rattle.hls_places_laws.proofs.laws.places_from_a_place_agree.Goals as goal
+
+pub returns : goal.returns
+returns c = places-since

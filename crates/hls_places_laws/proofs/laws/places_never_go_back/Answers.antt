@@ -1,0 +1,5 @@
+use Rattle.hls_places_laws.proofs.Since.{places-in_row}
+use Rattle.hls_places_laws.proofs.laws.places_never_go_back.Goals as goal
+
+pub returns : goal.returns
+returns c = places-in_row

@@ -1,0 +1,5 @@
+use Rattle.hls_places_laws.proofs.LineLemmas.Begun.{marks-since}
+use Rattle.hls_places_laws.proofs.line.laws.discontinuities_from_cut_agree.Goals as goal
+
+pub returns : goal.returns
+returns c = marks-since

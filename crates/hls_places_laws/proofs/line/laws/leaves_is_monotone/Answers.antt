@@ -1,0 +1,5 @@
+use Rattle.hls_places_laws.proofs.LineLemmas.Leaves.{leaves-more}
+use Rattle.hls_places_laws.proofs.line.laws.leaves_is_monotone.Goals as goal
+
+pub returns : goal.returns
+returns c = leaves-more

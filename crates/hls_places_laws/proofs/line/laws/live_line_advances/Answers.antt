@@ -1,0 +1,5 @@
+use Rattle.hls_places_laws.proofs.LineLemmas.Lives.{live-moves}
+use Rattle.hls_places_laws.proofs.line.laws.live_line_advances.Goals as goal
+
+pub returns : goal.returns
+returns c = live-moves

@@ -1,0 +1,5 @@
+use Rattle.hls_places_laws.proofs.LineLemmas.Tests.{step-from_allowed, allowed-from_step}
+use Rattle.hls_places_laws.proofs.line.laws.segment_test_is_step_test.Goals as goal
+
+pub returns : goal.returns
+returns c line_goal o q = (step-from_allowed line_goal o q, allowed-from_step line_goal o q)

@@ -1,0 +1,67 @@
+-- Renditions that are recorded from a place on, as an origin has them that was begun there: their spots and places, counted
+-- from that place.
+use Rattle.std.specs.Prelude.{◌≡◌, ℕ, ◌-◌, ◌<◌, ◌≤◌, ◌==◌, false, if◌then◌else◌, List, [], ◌∷◌, map, drop, Some, slice_get}
+use Rattle.std.specs.List.{AllPairs}
+use Rattle.hls_check_laws.specs.declared.spot.Spot.{Spot}
+use Rattle.hls_places_laws.specs.declared.place.Place.{Place}
+use Rattle.hls_places_laws.specs.Sources.{Source, AreSources}
+use Rattle.hls_places_laws.specs.Places.{places_of}
+
+-- a spot that isn't behind another of the same rendition: neither its unit nor the gaps before it
+pub record IsSpotFrom (cut spot : Spot) : Type 0 where
+  pub fragment : cut.fragment ≤ spot.fragment
+  pub outs : cut.run_out ≤ spot.run_out
+  pub ins : cut.fragment < spot.fragment → cut.run_out ≤ spot.run_in
+
+-- in each rendition
+abbrev pub AreSpotsFrom : List Spot → List Spot → Type 0
+AreSpotsFrom [] [] = Unit {0}
+AreSpotsFrom [] (spot ∷ spots) = ⊥
+AreSpotsFrom (c ∷ cut) [] = ⊥
+AreSpotsFrom (c ∷ cut) (spot ∷ spots) = IsSpotFrom c spot × AreSpotsFrom cut spots
+
+abbrev pub IsPlaceFrom : Place → Place → Type 0
+IsPlaceFrom cut p = AreSpotsFrom cut.spots p.spots
+
+-- of each two places the later one isn't behind the earlier
+abbrev pub AreInRow : List Place → Type 0
+AreInRow places = AllPairs IsPlaceFrom places
+
+abbrev pub PlacesNeverGoBack : Type 0
+PlacesNeverGoBack = (sources : List Source) → AreSources sources → AreInRow (places_of sources)
+
+-- a spot, counted from one that isn't behind it: the units and the gaps since, and no unit before the first one
+abbrev pub spot_since : Spot → Spot → Spot
+spot_since cut spot = record {
+  fragment = spot.fragment - cut.fragment;
+  prev_end = (if spot.fragment == cut.fragment then spot.start else spot.prev_end);
+  start = spot.start;
+  run_in = spot.run_in - cut.run_out;
+  run_out = spot.run_out - cut.run_out;
+}
+
+abbrev pub spots_since : List Spot → List Spot → List Spot
+spots_since [] spots = []
+spots_since (c ∷ cut) [] = []
+spots_since (c ∷ cut) (spot ∷ spots) = spot_since c spot ∷ spots_since cut spots
+
+abbrev pub place_since : List Spot → Place → Place
+place_since cut p = record { spots = spots_since cut p.spots; closing = p.closing }
+
+-- a rendition's units from a spot on
+abbrev pub source_since : Spot → Source → Source
+source_since cut s = record { facts = drop cut.fragment s.facts; tolerance = s.tolerance; finished = s.finished }
+
+abbrev pub sources_since : List Spot → List Source → List Source
+sources_since [] sources = []
+sources_since (c ∷ cut) [] = []
+sources_since (c ∷ cut) (s ∷ sources) = source_since c s ∷ sources_since cut sources
+
+-- renditions that are recorded from one of their common places on have that place and those behind it
+pub record KeepsPlaces (sources : List Source) (n : ℕ) (p : Place) : Type 0 where
+  pub are : AreSources (sources_since p.spots sources)
+  pub places : places_of (sources_since p.spots sources) ≡ map (place_since p.spots) (drop n (places_of sources))
+
+abbrev pub PlacesFromAPlaceAgree : Type 0
+PlacesFromAPlaceAgree = (sources : List Source) → AreSources sources → (n : ℕ) (p : Place) →
+    slice_get (places_of sources) n ≡ Some p → p.closing ≡ false → KeepsPlaces sources n p

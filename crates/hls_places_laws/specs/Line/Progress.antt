@@ -1,0 +1,61 @@
+-- The live line as it is told one place after the other.
+use Rattle.std.specs.Prelude.{ℕ, ◌+◌, Bool, nat_lt, if◌then◌else◌, List, [], ◌∷◌, ◌++◌, length, drop, Option, None, Some}
+use Rattle.hls_places_laws.specs.declared.place.Place.{Place}
+use Rattle.hls_places_laws.specs.declared.line.goal.LineGoal.{LineGoal}
+use Rattle.hls_places_laws.specs.declared.line.live_segment.LiveSegment.{LiveSegment}
+use Rattle.hls_places_laws.specs.declared.line.segment_start.SegmentStart.{SegmentStart}
+use Rattle.hls_places_laws.specs.Line.Steps.{is_later_place, is_allowed, is_long_enough}
+use Rattle.hls_places_laws.specs.Line.Cuts.{Line, start_at, restart_at, segment_to}
+
+-- the line so far, and the best place: the last one that a segment from the open place reaches
+pub record LineProgress : Type 0 where
+  pub line : Line
+  pub best : Option Place
+
+-- nothing was told yet
+abbrev pub no_progress : LineProgress
+no_progress = record { line = record { segments = []; segment_start = None }; best = None }
+
+abbrev pub progress_with : List LiveSegment → SegmentStart → Option Place → LineProgress
+progress_with segments o best = record { line = record { segments = segments; segment_start = Some o }; best = best }
+
+-- a segment stands before the next one: one that is kept, or one of those that were removed from the front
+abbrev pub has_earlier : ℕ → List LiveSegment → Bool
+has_earlier removed segments = nat_lt 0 (removed + length segments)
+
+abbrev pub closed_with : ℕ → List LiveSegment → SegmentStart → Place → List LiveSegment
+closed_with removed segments o to = segments ++ segment_to (has_earlier removed segments) o to ∷ []
+
+-- a place that isn't past the open one is skipped; else it closes the segment, or is the best so far, or is out of
+-- reach, which leaves `stopped`
+unfoldable pub progress_to : LineGoal → ℕ → List LiveSegment → SegmentStart → Option Place → Place → LineProgress → LineProgress
+progress_to line_goal removed segments o best q stopped =
+    (if is_later_place o.place q then
+    (if is_allowed line_goal o.place q then
+    (if is_long_enough line_goal o.place q then progress_with (closed_with removed segments o q) (start_at q) None else progress_with segments o (Some q))
+    else stopped) else progress_with segments o best)
+
+-- a place out of reach: the segment to the best place is closed and the place tried once more, or the line begins anew
+unfoldable pub progress_restarted_at : LineGoal → ℕ → List LiveSegment → SegmentStart → Option Place → Place → LineProgress
+progress_restarted_at line_goal removed segments o None q = progress_with segments (restart_at q) None
+progress_restarted_at line_goal removed segments o (Some b) q =
+    progress_to line_goal removed (closed_with removed segments o b) (start_at b) None q
+    (progress_with (closed_with removed segments o b) (restart_at q) None)
+
+unfoldable pub progress_from : LineGoal → ℕ → List LiveSegment → Option SegmentStart → Option Place → Place → LineProgress
+progress_from line_goal removed segments None best q = progress_with segments (start_at q) best
+progress_from line_goal removed segments (Some o) best q =
+    progress_to line_goal removed segments o best q (progress_restarted_at line_goal removed segments o best q)
+
+-- one more place
+abbrev pub progress_after : LineGoal → ℕ → LineProgress → Place → LineProgress
+progress_after line_goal removed t q = progress_from line_goal removed t.line.segments t.line.segment_start t.best q
+
+-- and all of a list
+unfoldable pub advanced_through : LineGoal → ℕ → LineProgress → List Place → LineProgress
+advanced_through line_goal removed t [] = t
+advanced_through line_goal removed t (q ∷ rest) = advanced_through line_goal removed (progress_after line_goal removed t q) rest
+
+-- without its first n segments
+abbrev pub progress_without : ℕ → LineProgress → LineProgress
+progress_without n t = record { line = record { segments = drop n t.line.segments; segment_start = t.line.segment_start }; best = t.best }

@@ -1,0 +1,11 @@
+use Rattle.std.proofs.Common.{◌≡◌, ◌+◌, Some}
+use Rattle.hls_check_laws.specs.Certificates.{price_at}
+use Rattle.hls_plan.specs.Pricing.{IsPricing}
+use Rattle.hls_plan.proofs.price_table.relax_row.Given as goal
+
+abbrev pub invariant-loop-q : goal.invariant-loop-q
+invariant-loop-q l = record {
+  pricing : IsPricing l.table l.p l.q l.prices l.origins;
+  priced : price_at l.prices l.p ≡ Some l.price;
+  count : l.ticks + l.first ≡ l.initial.ticks + l.q;
+}

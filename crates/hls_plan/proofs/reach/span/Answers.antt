@@ -1,9 +1,0 @@
-use Rattle.std.proofs.Common.{arith}
-use Rattle.hls_plan.proofs.Between.{span_found}
-use Rattle.hls_plan.proofs.reach.span.Goals as goal
-
-pub returns-clause-found : goal.returns-clause-found
-returns-clause-found c =
-    span_found c.args.table.now c.requires.orderly c.args.p c.in-Some.first c.last_between-last.result c.in-Some.ensures.found
-    c.last_between-last.ensures.allowed (omega (arith, c.look_ahead-low.ensures.behind, c.last_between-last.ensures.behind))
-    c.last_between-last.ensures.last

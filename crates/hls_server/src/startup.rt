@@ -1,0 +1,24 @@
+//! What the operator is told before the first connection is taken: settings that this machine can't keep to.
+
+use crate::limits::connection_count;
+use hls_house::{OperatorLog, log_memory};
+use hls_loop::open_file_limit;
+use hls_settings::Settings;
+use std::alloc::Global;
+use std::io::Eprint;
+use std::rt::Files;
+
+/// Tells of settings that can't be kept to: more connections than the process may have files, and more media kept than there is
+/// memory for, as far as the system says how much that is.
+pub fn log_start<R: Eprint + Files>(log: &OperatorLog<'_, R>, alloc: Global, settings: &Settings) {
+    let workers = settings.server.workers;
+    let files = open_file_limit();
+    let (wanted, held) = (workers.connections, connection_count(workers, files));
+    if held < wanted {
+        let level = log.warning_prefix();
+        let _ = eprintln!(log.rt;
+            "{level}serve: --connections {wanted} wants more than the {files} files that this process may have open: {held} are held"
+        );
+    }
+    log_memory(log, alloc, settings);
+}

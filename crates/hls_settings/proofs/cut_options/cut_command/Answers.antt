@@ -1,0 +1,6 @@
+use Rattle.hls_settings.specs.Options.{cut_app}
+use Rattle.hls_settings.proofs.cut_options.cut_command.Goals as goal
+
+pub returns : goal.returns
+unfolding cut_app
+returns c = c.with_options.ensures

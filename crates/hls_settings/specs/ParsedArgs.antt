@@ -1,0 +1,6 @@
+-- What a word of the command line says of a rendition. For the code alone.
+use Rattle.hls_core_laws.specs.declared.rendition.Rendition.{Rendition}
+use Rattle.hls_settings.specs.declared.rendition_spec.RenditionSpec.{RenditionSpec}
+
+abbrev pub parsed_args : RenditionSpec → Rendition
+parsed_args w = record { name = w.name.now; video = w.video; bandwidth = w.bandwidth; tolerance = w.tolerance }

@@ -1,0 +1,103 @@
+-- What reading the words after `serve` gives.
+use Rattle.std.specs.Prelude.{◌≡◌, ◌⊎◌, ℕ, ℤ, List, [], ◌∷◌, map, take, slice_get, true, Option, Some, None, Result, Ok, Err, Vec}
+use Rattle.std.specs.declared.alloc.Global.{Global}
+use Rattle.clap.specs.Words.{Text, fault_of, found_of, matches_of}
+use Rattle.clap.specs.declared.parser.matches.ArgMatches.{ArgMatches}
+use Rattle.clap.specs.Kinds.{Kinds}
+use Rattle.clap.specs.declared.error.kind.ErrorKind.{ErrorKind}
+use Rattle.clap.specs.declared.error.kind.ErrorKind.TheVariants as kinds
+use Rattle.hls_core_laws.specs.declared.rendition.Rendition.{Rendition}
+use Rattle.hls_core_laws.specs.Config.{IsConfig}
+use Rattle.hls_core.specs.declared.config.Config.{Config}
+use Rattle.hls_core.specs.Configures.{configured_from}
+use Rattle.hls_core.specs.FirstBad.{IsFirstBadRendition}
+use Rattle.hls_settings.specs.declared.fault.SettingsFault.{SettingsFault}
+use Rattle.hls_settings.specs.declared.fault.SettingsFault.TheVariants as faults
+use Rattle.hls_settings.specs.declared.server_settings.ServerSettings.{ServerSettings}
+use Rattle.hls_settings.specs.declared.window_settings.WindowSettings.{WindowSettings}
+use Rattle.hls_settings.specs.declared.settings.Settings.{Settings}
+use Rattle.hls_settings.specs.Command.{serve_app, texts_in, texts_of}
+use Rattle.hls_settings.specs.Renditions.{rendition_of}
+use Rattle.hls_settings.specs.Settings.{Texts, server_settings_of}
+use Rattle.hls_settings.specs.WrongArguments.{serve_options, wrong_argument}
+use Rattle.hls_settings.specs.declared.wrong_argument.WrongArgument.{WrongArgument}
+
+-- the words of renditions, none where there is no such word
+abbrev pub rendition_arguments : Option (List Text) → List Text
+rendition_arguments None = []
+rendition_arguments (Some arguments) = arguments
+
+-- words that say renditions
+abbrev pub ParsesTo : List Text → List Rendition → Type 0
+ParsesTo arguments renditions = map rendition_of arguments ≡ map Some renditions
+
+-- the first word that says no rendition
+pub record IsFirstUnread (arguments : List Text) (n : ℕ) : Type 0 where
+  pub renditions : List Rendition
+  pub front : ParsesTo (take n arguments) renditions
+  pub argument : Text
+  pub is : slice_get arguments n ≡ Some argument
+  pub unread : rendition_of argument ≡ None
+
+-- the rendition of the n-th word. For the code alone
+abbrev pub ReadsRendition : ℕ → Text → Result Rendition SettingsFault → Type 0
+ReadsRendition n argument (Ok rendition) = rendition_of argument ≡ Some rendition
+ReadsRendition n argument (Err (faults.Rendition m)) = (m ≡ n) × (rendition_of argument ≡ None)
+ReadsRendition n argument (Err faults.Memory) = Unit {0}
+ReadsRendition n argument (Err _) = ⊥
+
+abbrev pub ReadsRenditions : List Text → Result (Vec Rendition Global) SettingsFault → Type 0
+ReadsRenditions arguments (Ok renditions) = ParsesTo arguments renditions.items
+ReadsRenditions arguments (Err (faults.Rendition n)) = IsFirstUnread arguments n
+ReadsRenditions arguments (Err faults.Memory) = Unit {0}
+ReadsRenditions arguments (Err _) = ⊥
+
+-- renditions that a channel can't have: the first that is outside its limits
+pub record IsFirstOutside (arguments : List Text) (n : ℕ) : Type 0 where
+  pub renditions : List Rendition
+  pub parses : ParsesTo arguments renditions
+  pub outside : IsFirstBadRendition renditions n
+
+-- what was given, where the words apart from the renditions are right
+pub record IsConfigured (server : ServerSettings) (arguments : List Text) (settings : Settings) : Type 0 where
+  pub plain_is : settings.server ≡ server
+  pub renditions : List Rendition
+  pub parses : ParsesTo arguments renditions
+  pub config : settings.config ≡ configured_from server.timing.target server.timing.preferred renditions server.epoch
+  pub valid : IsConfig settings.config
+
+abbrev pub Configures : WindowSettings → Option ℤ → List Rendition → Result Config SettingsFault → Type 0
+Configures timing epoch renditions (Ok config) = (config ≡ configured_from timing.target timing.preferred renditions epoch) × IsConfig config
+Configures timing epoch renditions (Err (faults.Rendition n)) = IsFirstBadRendition renditions n
+Configures timing epoch renditions (Err faults.Memory) = Unit {0}
+Configures timing epoch renditions (Err _) = ⊥
+
+abbrev pub MakesSettings : ServerSettings → List Text → Result Settings SettingsFault → Type 0
+MakesSettings server arguments (Ok settings) = IsConfigured server arguments settings
+MakesSettings server arguments (Err (faults.Rendition n)) = IsFirstUnread arguments n ⊎ IsFirstOutside arguments n
+MakesSettings server arguments (Err faults.Memory) = Unit {0}
+MakesSettings server arguments (Err _) = ⊥
+
+-- by what stands apart from the renditions
+abbrev pub SetsBy : Result ServerSettings SettingsFault → List Text → Result Settings SettingsFault → Type 0
+SetsBy (Ok server) arguments result = MakesSettings server arguments result
+SetsBy (Err fault) arguments result = result ≡ Err fault
+
+-- words that `clap` refuses are refused by the first that can't stand where it does
+abbrev pub SetsIn : List Text → Kinds → Texts → Result Settings SettingsFault → Type 0
+SetsIn arguments [] texts result = SetsBy (server_settings_of texts) (rendition_arguments texts.renditions) result
+SetsIn arguments (k ∷ ks) texts result = result ≡ Err (faults.Arguments (wrong_argument serve_options true arguments))
+
+-- the settings that the words give, or the first word that is wrong; want of memory may come instead
+abbrev pub ReadsSettings : List Text → Result Settings SettingsFault → Type 0
+ReadsSettings arguments result = (result ≡ Err faults.Memory) ⊎ SetsIn arguments (fault_of serve_app arguments) (texts_of (matches_of serve_app arguments)) result
+
+-- words that are refused, but for want of memory. For the code alone
+abbrev pub refused_by : ErrorKind → Option WrongArgument → SettingsFault
+refused_by kinds.OutOfMemory wrong = faults.Memory
+refused_by _ wrong = faults.Arguments wrong
+
+-- what `clap` finds in the words leads to the settings that they give. For the code alone
+abbrev pub FindsSettings : List Text → Result ArgMatches SettingsFault → Type 0
+FindsSettings arguments (Ok matches) = (result : Result Settings SettingsFault) → SetsBy (server_settings_of (texts_in (found_of matches))) (rendition_arguments (texts_in (found_of matches)).renditions) result → ReadsSettings arguments result
+FindsSettings arguments (Err fault) = ReadsSettings arguments (Err fault)

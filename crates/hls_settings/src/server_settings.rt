@@ -1,0 +1,103 @@
+//! All that stands apart from the renditions.
+ghost use Rattle.std.specs.Prelude.{◌≡◌, IfOk, Some};
+ghost use Rattle.hls_core_laws.specs.Config.{IsEpoch, IsTarget, IsPreferred};
+ghost use Rattle.clap.specs.Words.{found_of};
+ghost use Rattle.hls_settings.specs.Settings.{address_in, log_of, server_from, server_settings_of, text_of};
+ghost use Rattle.hls_settings.specs.Command.{texts_in, timing_found, workers_found};
+
+use crate::epoch::read_epoch;
+use crate::fault::SettingsFault;
+use crate::listen_address::{ListenAddress, read_address};
+use crate::thread_settings::{ThreadSettings, read_thread_settings};
+use crate::window_settings::{WindowSettings, read_window_settings};
+use clap::ArgMatches;
+
+/// Settings but for the channel's renditions.
+#[derive(Clone, Copy, Drop)]
+pub struct ServerSettings {
+    pub timing: WindowSettings,
+    /// The moment of time 0 in microseconds since 1970-01-01T00:00:00Z, where it is known.
+    pub epoch: Option<i64>,
+    pub workers: ThreadSettings,
+    /// Whether each request is told to the operator.
+    pub logs_requests: bool,
+    pub address: ListenAddress,
+}
+
+/// Whether requests are logged; `None` where the text asks for something else.
+fn read_log(text: Option<&str>) -> Option<bool>
+    ensures { result ≡ log_of (text_of text.entry) }
+{
+    let Some(text) = text else {
+        return Some(false);
+    };
+    if text == "requests" { Some(true) } else { None }
+}
+
+fn read_listen_address(text: Option<&str>) -> Option<ListenAddress>
+    ensures { result ≡ address_in (text_of text.entry) }
+{
+    read_address(text?)
+}
+
+/// The lengths of time among what `clap` found.
+fn find_window_settings(matches: &ArgMatches) -> Result<WindowSettings, SettingsFault>
+    ensures valid { IfOk result (λ t. IsTarget t.target × IsPreferred t.target t.preferred) }
+    ensures value { result ≡ timing_found (found_of matches.now) }
+{
+    read_window_settings(
+        matches.get_str("target"),
+        matches.get_str("preferred"),
+        matches.get_str("window"),
+        matches.get_str("keep"),
+    )
+}
+
+/// The workers among what `clap` found.
+fn find_thread_settings(matches: &ArgMatches) -> Result<ThreadSettings, SettingsFault>
+    ensures { result ≡ workers_found (found_of matches.now) }
+{
+    read_thread_settings(
+        matches.get_str("workers"),
+        matches.get_str("connections"),
+        matches.get_str("planners"),
+        matches.get_str("patience"),
+    )
+}
+
+/// What was given with these lengths of time and this epoch, or what of the rest is wrong first.
+fn build_server_settings(
+    matches: &ArgMatches,
+    timing: WindowSettings,
+    epoch: Option<i64>,
+) -> Result<ServerSettings, SettingsFault>
+    ensures kept { IfOk result (λ p. (p.timing ≡ timing) × (p.epoch ≡ epoch)) }
+    ensures value { result ≡ server_from timing (Some epoch) (texts_in (found_of matches.now)) }
+{
+    let workers = find_thread_settings(matches)?;
+    let Some(logs_requests) = read_log(matches.get_str("log")) else {
+        return Err(SettingsFault::Log);
+    };
+    let Some(address) = read_listen_address(matches.get_str("address")) else {
+        return Err(SettingsFault::Address);
+    };
+    Ok(ServerSettings {
+        timing,
+        epoch,
+        workers,
+        logs_requests,
+        address,
+    })
+}
+
+/// What was given but for the renditions, or what of it is wrong first.
+pub fn read_server_settings(matches: &ArgMatches) -> Result<ServerSettings, SettingsFault>
+    ensures valid { IfOk result (λ p. IsTarget p.timing.target × IsPreferred p.timing.target p.timing.preferred × IsEpoch p.epoch) }
+    ensures value { result ≡ server_settings_of (texts_in (found_of matches.now)) }
+{
+    let timing = find_window_settings(matches)?;
+    let Some(epoch) = read_epoch(matches.get_str("epoch")) else {
+        return Err(SettingsFault::Epoch);
+    };
+    build_server_settings(matches, timing, epoch)
+}

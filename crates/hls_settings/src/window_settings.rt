@@ -1,0 +1,53 @@
+//! Lengths of time.
+ghost use Rattle.std.specs.Prelude.{◌≡◌, IfOk};
+ghost use Rattle.hls_core_laws.specs.Config.{IsTarget, IsPreferred};
+ghost use Rattle.hls_settings.specs.Settings.{text_of, timing_of};
+
+use crate::fault::SettingsFault;
+use crate::number::number_or_default;
+
+/// The greatest number of 16 digits.
+const MOST_NUMBER: u64 = 9_999_999_999_999_999;
+
+/// How long segments, the live window and the recording are.
+#[derive(Clone, Copy, Drop)]
+pub struct WindowSettings {
+    /// The target duration in seconds, 1 to 3600 (RFC 8216 section 4.3.3.1).
+    pub target: u64,
+    /// The preferred length of a segment in microseconds, 1 to the target.
+    pub preferred: u64,
+    /// What the live lists hold at least, in microseconds: three targets or more.
+    pub window: u64,
+    /// What is kept for catch-up, in microseconds: the window or more.
+    pub keep: u64,
+}
+
+/// The lengths that were given, or those that stand where they aren't.
+pub fn read_window_settings(
+    target: Option<&str>,
+    preferred: Option<&str>,
+    window: Option<&str>,
+    keep: Option<&str>,
+) -> Result<WindowSettings, SettingsFault>
+    ensures valid { IfOk result (λ t. IsTarget t.target × IsPreferred t.target t.preferred) }
+    ensures value { result ≡ timing_of (text_of target.entry) (text_of preferred.entry) (text_of window.entry) (text_of keep.entry) }
+{
+    let Some(target) = number_or_default(1, 3600, 6, target) else {
+        return Err(SettingsFault::Target);
+    };
+    let Some(preferred) = number_or_default(1, target * 1_000_000, 4_000_000, preferred) else {
+        return Err(SettingsFault::Preferred);
+    };
+    let Some(window) = number_or_default(target * 3_000_000, MOST_NUMBER, 30_000_000, window) else {
+        return Err(SettingsFault::Window);
+    };
+    let Some(keep) = number_or_default(window, MOST_NUMBER, 3_600_000_000, keep) else {
+        return Err(SettingsFault::Keep);
+    };
+    Ok(WindowSettings {
+        target,
+        preferred,
+        window,
+        keep,
+    })
+}

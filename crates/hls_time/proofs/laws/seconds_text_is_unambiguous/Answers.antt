@@ -1,0 +1,5 @@
+use Rattle.hls_time.proofs.laws.seconds_text_is_unambiguous.Goals as goal
+use Rattle.hls_time.proofs.SecondsRead.{one_time}
+
+pub returns : goal.returns
+returns c = one_time

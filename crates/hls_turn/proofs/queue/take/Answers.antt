@@ -1,5 +1,0 @@
-use Rattle.hls_turn.proofs.Steps.{takes}
-use Rattle.hls_turn.proofs.queue.take.Goals as goal
-
-pub pop_as-requires-clause-rule : goal.pop_as-requires-clause-rule
-pop_as-requires-clause-rule g c = (takes _ _, λ items views kept at. tt)
