@@ -1,17 +1,17 @@
-# The common part of the benchmarks: each runs in a repository of its own, made for the run, with
-# copies of this repository's crates and a program from its folder under bench/.
+# The common part of the benchmarks: each runs in a repository of its own, made for the run, with copies of this repository's crates
+# and a program from its folder in bench/.
 #
 #   source bench/lib.sh
 #   bench_program NAME "CRATE CRATE .." "LIBRARY .." [FOLDER]
 #
-# makes the program of bench/NAME/program.txt, or of another folder (the gate reads each .rt file as a crate's), which names
-# these crates of this repository and these libraries of the kit. What the crates stand on is proved first, in this repository
-# and as `bash build` does it, so that it is kept, and what a build left isn't proved again. It leaves in BENCH_PROGRAM the path
+# makes the program of bench/NAME/program.txt, or of another folder (the gate reads each .rt file as a crate's), which uses
+# these crates of this repository and these libraries of the kit. The crates' dependencies are proved first, in this repository
+# and as `bash build` does it, so that they are kept, and what a build left isn't proved again. It leaves in BENCH_PROGRAM the path
 # of the built program, and removes the folder of the run when the script ends. BENCH_KEEP=1 keeps it.
 
 bench_root=$(cd "$(dirname "${BASH_SOURCE[0]}")/.." && pwd)
 
-# bench_below CRATE..: these crates and those that they stand on, in the order of crates.txt.
+# bench_below CRATE..: these crates and their dependencies, in the order of crates.txt.
 bench_below() {
     awk -F: -v top="$*" '
         !/^#/ && NF { name[++count] = $1; uses[count] = $2 }
@@ -29,7 +29,7 @@ bench_below() {
         }' "$bench_root/crates.txt"
 }
 
-# bench_prove CRATE..: proves these crates and what they stand on, those first that stand on others of them.
+# bench_prove CRATE..: proves these crates and their dependencies, lowest last.
 bench_prove() {
     local crate left
     left=" $* "

@@ -1,8 +1,8 @@
 // What the edge does to lists, and the signatures of the paths in them: for nginx's njs (0.7.9), by edge/hls_origin.conf. Nothing
-// here is to be changed for a site. `tests/edge_lists` runs it by node.
+// here is to be changed for a site. `tests/edge/playlist_filter` runs it by node.
 //
 // The origin's lists name byte ranges of one growing recording. Here each range becomes a path of its own, with the run (which
-// counts up where the channel began anew) and a signature, so that nobody can ask for a range that no list named; and where a
+// counts the channel's restarts) and a signature, so that nobody can ask for a range that no list named; and where a
 // channel was handed over from one process to the next, the numbers of both are joined into one line (docs/EDGE.md).
 
 import crypto from 'crypto';
@@ -21,7 +21,7 @@ function equal(a, b) {
     return differs === 0;
 }
 
-// The name of a range: `place` is what stands before it, say news/seg/3/0, and `kind` its ending.
+// The name of a range: `place` is what precedes it, say news/seg/3/0, and `kind` its ending.
 function range_name(secret, place, first, last, kind) {
     const range = `${first}-${last}`;
     return `${range}-${signature(secret, `${place}/${range}.${kind}`)}.${kind}`;
@@ -131,7 +131,7 @@ function master_list(text) {
     return text.replace(/(^|")\/live\/([0-9]+\.m3u8)/gm, '$1$2');
 }
 
-// Half of a list's target, for which it may be kept: a new segment is told soon, and an origin seldom asked.
+// Half of a list's target, for which it may be kept: a new segment is seen soon, and an origin rarely asked.
 function half_target(text) {
     const found = /^#EXT-X-TARGETDURATION:([0-9]+)$/m.exec(text);
     return Math.max(1, Math.floor(Number(found ? found[1] : 2) / 2));
@@ -184,8 +184,8 @@ function is_whole(reply) {
     return Number(reply.headersOut['Content-Length']) === reply.responseBuffer.length;
 }
 
-// Answers with what `change` makes of the reply of an internal location, to be kept for so many seconds. What isn't 200 goes on as
-// it is, without its text: 404 for a second, since a list comes with the first segment, and faults, so that all who wait for it are
+// Answers with what `change` makes of the reply of an internal location, to be kept for the given number of seconds. What isn't 200 is passed on as
+// it is, without its text: 404 for a second, since a list comes with the first segment, and faults, so that all that wait for it are
 // told at once and the origin isn't asked by each.
 async function answer(r, inner, change, seconds) {
     const reply = await r.subrequest(inner);

@@ -7,7 +7,7 @@ import { loadText, readMedia } from "./playlist.js";
 /// RFC 8216 6.3.3: a player begins no nearer to the end of a live list than so many targets.
 const TARGETS_FROM_LIVE = 3;
 const KEPT_ENTRIES = 300; // of the line before what the list still has
-const FAR = 100000; // segments: who is that far ahead wasn't away, the channel is another
+const FAR = 100000; // segments: a list that far ahead is of another channel
 
 /// A media list, loaded anew when it is asked for and no fresher than it may be.
 export class Source {
@@ -15,7 +15,7 @@ export class Source {
         Object.assign(this, { url, list: null, loadedAt: -Infinity, loading: null });
     }
 
-    // The list, not older than so many seconds.
+    // The list, not older than the given number of seconds.
     async fresh(age) {
         if (this.list && (this.list.ended || performance.now() - this.loadedAt < age * 1000)) return this.list;
         this.loading ??= loadText(this.url, { cache: "no-cache" }).then((text) => {
@@ -75,7 +75,7 @@ export class Line {
         return entry?.date == null ? null : entry.date + 1000 * (time - entry.at);
     }
 
-    // Takes a later list; what it was: "" as expected, "anew" where the channel began anew, "lost" where segments slid away unseen.
+    // Takes a later list; what it was: "" as expected, "anew" if the channel was restarted, "lost" if segments slid away unseen.
     take(list) {
         const { segments } = list;
         Object.assign(this, { target: list.target, ended: list.ended });
@@ -111,7 +111,7 @@ export class Line {
         this.entries.push({ sequence, run: this.run, at: this.end, length: length / 1000000, date, url, range, gone: false });
     }
 
-    // What stands before isn't listed any more, so it can't be loaded.
+    // What precedes it isn't listed any more, so it can't be loaded.
     keepFrom(index) {
         for (let i = Math.min(this.listed, index); i < index; i++) this.entries[i].gone = true;
         this.listed = index;

@@ -12,7 +12,7 @@ const LOG_LIMIT = 4194304;
 const JOB_LIMIT = 64;
 const SURVEY_EVERY = 60; // seconds
 const LOOK_EVERY = 2;
-const LATE = 4; // seconds that a rendition may be behind the first before it is said
+const LATE = 4; // seconds that a rendition may be late before that is shown
 
 const $ = (id) => document.getElementById(id);
 const origin = new URLSearchParams(location.search).get("origin") ?? "1";
@@ -34,7 +34,7 @@ function clockOf(time) {
     return Number.isNaN(date.getTime()) ? "" : date.toLocaleTimeString("en-GB");
 }
 
-// What stands in the form's fields, with the viewer's day and offset; and back. Plain numbers are seconds of the channel's clock.
+// The values of the form's fields, with the viewer's day and offset; and back. Plain numbers are seconds of the channel's clock.
 function spell(time) {
     if (channel.epoch === null) return (time / 1000000).toFixed(3);
     const date = new Date(channel.epoch + time / 1000);
@@ -71,7 +71,7 @@ function paintFigures() {
     $("clock").textContent = new Date().toLocaleTimeString("en-GB");
 }
 
-// What the table says of a rendition: how far it is behind the newest end of all, and since when nothing came.
+// What the table says of a rendition: how far it is from the newest end of all, and since when nothing arrived.
 function cellsOf({ number, kind, name, codec, newest, gaps, kept, units, bandwidth }, behind, silent) {
     const length = units.length > 1 ? (newest.to - units[0].from) / 1000000 : 0;
     const rate = length > 0 ? units.reduce((sum, unit) => sum + unit.bytes, 0) * 8 / length : null;

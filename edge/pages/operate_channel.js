@@ -15,7 +15,7 @@ const PROBES = 96;
 const SEARCHES = 5; // for where what is kept begins
 const SILENCE = 15000; // milliseconds after which a request is given up
 const EVERY = 70; // milliseconds between two requests, since an edge lets operators ask so often,
-const AT_ONCE = 10; // and so many beyond that
+const AT_ONCE = 10; // and as many beyond that
 
 // Each request waits for its turn.
 let due = 0;
@@ -39,7 +39,7 @@ async function textOf(path, limit = 16777216) {
     throw new ReplyFault(reply.status);
 }
 
-// Asks for a range of a recording: its bytes with the recording's length, or what stands in their place.
+// Asks for a range of a recording: its bytes with the recording's length, or what came instead.
 async function ask(url, first, last) {
     const reply = await asked(url, { headers: { Range: `bytes=${first}-${last}` } });
     const total = Number(/\/(\d+)$/.exec(reply.headers.get("Content-Range") ?? "")?.[1] ?? NaN);
@@ -49,7 +49,7 @@ async function ask(url, first, last) {
     return { bytes: new Uint8Array(0), total };
 }
 
-// Where the first moof of some bytes begins, else -1: its name stands behind its size, and its first box is always a mfhd of 16 bytes.
+// Where the first moof of some bytes begins, else -1: its name follows its size, and its first box is always a mfhd of 16 bytes.
 const MOOF = [..."moof\0\0\0\x10mfhd"].map((letter) => letter.charCodeAt(0));
 function placeOfMoof(bytes) {
     for (let at = bytes.indexOf(MOOF[0], 4); at >= 0; at = bytes.indexOf(MOOF[0], at + 1)) {
@@ -145,7 +145,7 @@ class Rendition {
         return high;
     }
 
-    // When the first unit begins whose moof stands behind a place of the recording.
+    // When the first unit begins whose moof follows a place of the recording.
     async firstFrom(place) {
         for (let reads = 0; reads < PROBES; reads++) {
             const { bytes } = await ask(this.url, place, place + MANY - 1);
@@ -178,7 +178,7 @@ export class Channel {
     async lookAtStatus() {
         const text = await textOf(`${this.base}status`, 4096);
         const status = Object.fromEntries(text.trim().split("\n").map((line) => line.split(" ")).map(([name, number]) => [name, Number(number)]));
-        // a log never grows shorter: the origin began anew
+        // a log never gets shorter: the origin was restarted
         if (status.version < this.status.version) this.forget();
         this.before ??= { version: status.version, at: performance.now() };
         this.status = status;

@@ -1,6 +1,6 @@
 // The viewers' page's player: loads the segments of a channel or a recording and gives them to the browser by Media Source Extensions.
 // The first video rendition's list says where on the page's own line of time each segment lies, so gaps of the recording, a channel
-// that begins anew and seconds without a network leave no hole in what is seen. Nothing here is to be changed for a site.
+// that restarts and seconds without a network leave no hole in what is seen. Nothing here is specific to a site.
 "use strict";
 
 import { Line, Source } from "./line.js";
@@ -8,7 +8,7 @@ import { readInit, readUnit } from "./mp4.js";
 import { ListFault, ReplyFault, isMaster, load, loadText, readMaster } from "./playlist.js";
 
 const AHEAD = 30; // seconds of media that are loaded ahead of what is seen,
-const BEHIND = 30; // and kept behind it
+const BEHIND = 30; // and kept before it
 const MEDIA_LIMIT = 268435456;
 const INIT_LIMIT = 16777216;
 const KEPT_MISSES = 300;
@@ -16,7 +16,7 @@ const TRIES = 3; // for a segment that is listed and isn't given
 const SHUNNED = 60; // seconds for which a rendition that fails is left for another one
 const MISPLACED = 1.5; // seconds; renditions of one place lie nearer to each other
 const FIRST_RATE = 3000000; // bits a second that a network is taken to bear until it was measured
-const STANDS = 3; // seconds without a new picture after which that is said
+const STANDS = 3; // seconds without a new picture after which a message says so
 
 const sleep = (seconds) => new Promise((done) => { setTimeout(done, 1000 * seconds); });
 const once = (target, name) => new Promise((done) => { target.addEventListener(name, done, { once: true }); });
@@ -63,7 +63,7 @@ class Track {
         return null;
     }
 
-    // The rendition's segment of that number, once its list has it. One of another time is of a list from before the channel began anew.
+    // The rendition's segment of that number, once its list has it. One of another time is of a list from before the channel's restart.
     async segmentOf(entry) {
         const isOf = ({ date }) => date === null || entry.date === null || Math.abs(date - entry.date) < 1000 * MISPLACED;
         for (const age of [Infinity, 1, 0]) {
@@ -140,7 +140,7 @@ class Track {
         await this.forget();
     }
 
-    // Where the segment's media times lie on the line.
+    // Where the segment's media times are on the line.
     place(entry, bytes) {
         const { shifts } = this.player;
         const unit = readUnit(bytes, this.init);
@@ -148,7 +148,7 @@ class Track {
         const shift = entry.at - unit.from / 1000000;
         if (this.leads && (!shifts.has(entry.run) || this.misses.has(entry))) shifts.set(entry.run, shift);
         if (Math.abs(shifts.get(entry.run) - shift) > MISPLACED) {
-            // the number stands for other media: that list is old
+            // the number is of other media: that list is old
             this.source.loadedAt = -Infinity;
             throw new ReplyFault(404);
         }
@@ -323,7 +323,7 @@ export class Player {
         this.tick();
     }
 
-    // Several times a second: begins, goes on behind what can't be loaded, ends.
+    // Several times a second: begins, continues after what can't be loaded, ends.
     tick() {
         const { video: { buffered }, line } = this;
         this.show();

@@ -1,5 +1,5 @@
 -- For the proofs of this crate; no public clause cites it.
--- The list of a tree, or of no tree where there is no item.
+-- The list of a tree; without a tree it has no items.
 use Rattle.std.specs.Prelude.{◌≡◌, ℕ, Option, Some, None, []}
 use Rattle.hls_blocks.specs.Numbered.{Numbered, next_of}
 

@@ -1,4 +1,4 @@
-//! What each level of the tree offers the one above it. A node is seen as a list whose numbers count from 0 inside it.
+//! The interface of each level of the tree. Contracts see a node as a list whose numbers count from 0 inside it.
 ghost use Rattle.std.specs.Prelude.{◌≡◌, ℕ, ◌+◌, ◌^◌, ◌<◌, ◌≤◌, [], ◌∷◌, ◌++◌, length, map, IfOk, OnOk};
 ghost use Rattle.hls_blocks.specs.Numbered.{Numbered, next_of, with_item, from_number, items_starting_at, list_limit};
 
@@ -12,22 +12,22 @@ pub trait Node: Drop {
     // the items with their numbers inside the node
     ghost value_of: { Self → Numbered Self.Item };
 
-    // what holds of every node of a tree
+    // the invariant of every node of a tree
     ghost sound: { Self → Type 0 };
 
-    // how many items a full node holds
+    // the number of items of a full node
     ghost max_items: { ℕ };
 
-    // how many slots a push writes at most
+    // the maximum number of slots that a push writes
     ghost max_writes: { ℕ };
 
-    /// How many items a full node holds.
+    /// The number of items of a full node.
     fn capacity() -> u64
         requires { max_items ≤ list_limit }
         ensures value { result ≡ max_items }
         ensures some { 0 < result };
 
-    /// A node with one item, under the number `n`.
+    /// A node with one item, which has number `n`.
     fn new_with_item(
         alloc: Global,
         n: u64,
@@ -43,7 +43,7 @@ pub trait Node: Drop {
         ensures wrote { OnOk result (ticks.old < ticks.new) }
         ensures count { ticks.new ≤ ticks.old + max_writes };
 
-    /// The node with the item at its end; `n` is the number that it gets.
+    /// The node with the item appended; `n` is the item's number.
     fn push_item(
         &self,
         alloc: Global,
@@ -62,7 +62,7 @@ pub trait Node: Drop {
         ensures wrote { OnOk result (ticks.old < ticks.new) }
         ensures count { ticks.new ≤ ticks.old + max_writes };
 
-    /// The node without the items below number `n`, of which one at least is left.
+    /// The node without the items below number `n`. At least one remains.
     fn drop_front(&self, alloc: Global, n: u64) -> Result<Self, AllocError>
         requires small { max_items ≤ list_limit }
         requires sound { sound self.now }

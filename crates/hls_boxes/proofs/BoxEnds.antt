@@ -1,18 +1,18 @@
--- Where the box at the front of a text ends, or its header, while it isn't whole.
+-- Where the next box ends, or its header, if that is incomplete.
 use Rattle.std.proofs.Common.{◌≡◌, ℕ, ◌<◌, ◌≤◌, ◌==◌, Bool, Option, Some, None, List, ◌++◌, length, sym, ◌∙◌, ap, inl, inr, arith, refl, subst}
 use Rattle.std.proofs.lemmas.List.{length-append}
 use Rattle.std.proofs.lemmas.Bool.{cases_lt, cases_Bool, lt-ltb, le-ltb}
 use Rattle.std.specs.Int.{w32}
-use Rattle.hls_boxes_laws.specs.declared.box_header.BoxHeader.{BoxHeader}
-use Rattle.hls_boxes_laws.specs.declared.fault.BoxFault.{BoxFault}
-use Rattle.hls_boxes_laws.specs.declared.box_effect.BoxEffect.{BoxEffect}
-use Rattle.hls_boxes_laws.specs.declared.box_effect.BoxEffect.TheVariants.{Incomplete, Ends}
-use Rattle.hls_boxes_laws.specs.Boxes.{number_at, header_at}
-use Rattle.hls_boxes_laws.specs.Parts.{fault_of, effect_of_box, effect_of_checked_box, effect_at}
-use Rattle.hls_boxes_laws.proofs.Callers.{Short, Long, header_at-append, header_at-front, header_at-read, header_at-within, Came, Waits, Fails, Passes, came, fault_of-fits, is_end}
+use Rattle.hls_boxes.specs.declared.box_header.BoxHeader.{BoxHeader}
+use Rattle.hls_boxes.specs.declared.fault.BoxFault.{BoxFault}
+use Rattle.hls_boxes.specs.declared.box_effect.BoxEffect.{BoxEffect}
+use Rattle.hls_boxes.specs.declared.box_effect.BoxEffect.TheVariants.{Incomplete, Ends}
+use Rattle.hls_boxes.specs.Boxes.{number_at, header_at}
+use Rattle.hls_boxes.specs.Parts.{fault_of, effect_of_box, effect_of_checked_box, effect_at}
+use Rattle.hls_boxes.proofs.Callers.{Short, Long, header_at-append, header_at-front, header_at-read, header_at-within, Came, Waits, Fails, Passes, came, fault_of-fits, is_end}
 use Rattle.hls_boxes.specs.Feed.{needed_len, EndsAt}
 
--- a header that isn't whole wants more bytes
+-- an incomplete header needs more bytes
 none-wants : (xs : List ℕ) → header_at xs ≡ None → length xs < needed_len None (length xs)
 unfolding header_at
 none-wants xs none = elim (cases_lt (length xs) 8) [
@@ -43,11 +43,11 @@ unfolding effect_at
 waits-by xs before has_moof None header is = none-wants xs header
 waits-by xs before has_moof (Some h) header is = waits-if h (length xs) has_moof (fault_of h before has_moof) (rw header at is)
 
--- while the box isn't whole, bytes are missing
+-- an incomplete box needs more bytes
 pub waits-wants : (xs : List ℕ) (before : ℕ) (has_moof : Bool) → effect_at xs before has_moof ≡ Incomplete → length xs < needed_len (header_at xs) (length xs)
 waits-wants xs before has_moof is = waits-by xs before has_moof (header_at xs) refl is
 
--- a text that grows no further than is wanted isn't longer than the box
+-- a text that grows no further than is needed isn't longer than the box
 fits-by : (xs ys : List ℕ) (o : Option BoxHeader) (h : BoxHeader) → header_at xs ≡ o → header_at (xs ++ ys) ≡ Some h → h.head ≤ h.size
     → length (xs ++ ys) ≤ needed_len o (length xs) → length (xs ++ ys) ≤ h.size
 fits-by xs ys (Some k) h front whole fits long =
@@ -90,6 +90,6 @@ at_box_end-by xs ys before has_moof next long (Passes h box tail split one good 
     let size : h.size ≡ length (xs ++ ys) = omega (arith, fits, one.whole, ap length split, length-append box tail) in
     subst (EndsAt (length (xs ++ ys))) is (ends-passed h (length (xs ++ ys)) has_moof size)
 
--- and if it is whole then, it ends where the text does
+-- if the box is then complete, it ends where the text does
 pub at_box_end : (xs ys : List ℕ) (before : ℕ) (has_moof : Bool) → length (xs ++ ys) ≤ needed_len (header_at xs) (length xs) → EndsAt (length (xs ++ ys)) (effect_at (xs ++ ys) before has_moof)
 at_box_end xs ys before has_moof long = at_box_end-by xs ys before has_moof (effect_at (xs ++ ys) before has_moof) long (came (xs ++ ys) before has_moof)

@@ -1,20 +1,20 @@
--- How a stream is taken in: the part in progress from box to box, and the parts that it becomes.
+-- How a stream is consumed: the part in progress from box to box, and the parts that it becomes.
 use Rattle.std.proofs.Common.{◌≡◌, ℕ, ◌+◌, ◌-◌, ◌<◌, ◌≤◌, ◌==◌, false, Option, Some, None, Result, Ok, Err, OnErr, List, [], ◌∷◌, ◌++◌, length, take, drop, sym, ◌∙◌, ap, arith, refl, subst}
 use Rattle.std.specs.List.{flat_map}
 use Rattle.std.proofs.lemmas.List.{length-append, length-drop, length-take-le, append_assoc, append-nil, drop-drop, drop-append-le, drop_at, take-append-le, take-append-drop}
 use Rattle.std.proofs.lemmas.Grind.{flat_map-append}
 use Rattle.std.proofs.Math.Seq.{take-add, take-length, drop-length}
-use Rattle.hls_boxes_laws.specs.declared.fault.BoxFault.{BoxFault}
-use Rattle.hls_boxes_laws.specs.declared.box_effect.BoxEffect.TheVariants.{Fault, Continues, Ends}
-use Rattle.hls_boxes_laws.specs.Boxes.{header_at}
-use Rattle.hls_boxes_laws.specs.Parts.{part_of, effect_at, cut_at, stream_cut, after_parts}
-use Rattle.hls_boxes_laws.proofs.Callers.{refused, next-joins, next-ends, next-fault}
+use Rattle.hls_boxes.specs.declared.fault.BoxFault.{BoxFault}
+use Rattle.hls_boxes.specs.declared.box_effect.BoxEffect.TheVariants.{Fault, Continues, Ends}
+use Rattle.hls_boxes.specs.Boxes.{header_at}
+use Rattle.hls_boxes.specs.Parts.{part_of, effect_at, cut_at, stream_cut, after_parts}
+use Rattle.hls_boxes.proofs.Callers.{refused, next-joins, next-ends, next-fault}
 use Rattle.hls_boxes.specs.declared.pending_part.PendingPart.{PendingPart}
 use Rattle.hls_boxes.specs.declared.complete_part.CompletePart.{CompletePart}
 use Rattle.hls_boxes.specs.Feed.{needed_len, complete_part_bytes, IsCompletePart, AreCompleteParts, open_box, next_effect, IsPendingPart, NeedsMoreBytes, EndsAt, EndsAtBox, IsPendingWithFault, first_bytes, AppendsParts, AppendsPiece}
 use Rattle.hls_boxes.proofs.BoxEnds.{waits-wants, at_box_end}
 
--- nothing waits where nothing came
+-- an empty part needs more bytes
 pub waits-start : (pending : PendingPart) → pending.bytes.items ≡ [] → pending.at ≡ 0 → pending.has_moof ≡ false → NeedsMoreBytes pending
 unfolding effect_at header_at
 waits-start pending none at moof = record {
@@ -25,7 +25,7 @@ waits-start pending none at moof = record {
   last = rw (none, at) refl;
 }
 
--- what is passed stays passed when bytes follow
+-- what was consumed stays consumed when bytes follow
 pub reaches-grown : (old new : PendingPart) (more : List ℕ) → new.bytes.items ≡ old.bytes.items ++ more → new.at ≡ old.at → new.has_moof ≡ old.has_moof → IsPendingPart old → IsPendingPart new
 reaches-grown old new more grown at moof r = record {
   within = omega (arith, r.within, at, ap length grown, length-append old.bytes.items more);
@@ -39,11 +39,11 @@ reaches-grown old new more grown at moof r = record {
 open-grown : (old new : PendingPart) (more : List ℕ) → new.bytes.items ≡ old.bytes.items ++ more → new.at ≡ old.at → IsPendingPart old → open_box new ≡ open_box old ++ more
 open-grown old new more grown at r = rw (grown, at) (drop-append-le old.at old.bytes.items more r.within)
 
--- some bytes are missing while a box isn't whole
+-- an incomplete box lacks some bytes
 pub wants-some : (pending : PendingPart) → NeedsMoreBytes pending → 0 < needed_len (header_at (open_box pending)) (length (open_box pending)) - length (open_box pending)
 wants-some pending w = omega (arith, waits-wants (open_box pending) pending.at pending.has_moof w.last)
 
--- no more came than was missing, so no byte stands behind the box
+-- no more bytes came than were missing, so no byte follows the box
 pub at_box_end-grown : (old new : PendingPart) (more : List ℕ) → new.bytes.items ≡ old.bytes.items ++ more → new.at ≡ old.at → new.has_moof ≡ old.has_moof → NeedsMoreBytes old
     → length more ≤ needed_len (header_at (open_box old)) (length (open_box old)) - length (open_box old) → EndsAtBox new
 at_box_end-grown old new more grown at moof w few =
@@ -88,18 +88,18 @@ ends old whole size r even_box is bytes =
           ∙ ap (λ (xs : List ℕ). after_parts (part_of whole.kind (complete_part_bytes whole) ∷ []) (stream_cut (xs ++ more))) none;
     }
 
--- a header with a fault
+-- a faulty header
 pub refuses : (pending : PendingPart) (fault : BoxFault) → IsPendingPart pending → next_effect pending ≡ Fault fault → IsPendingWithFault pending (Some fault)
 refuses pending fault r is =
     ap stream_cut (sym (append-nil pending.bytes.items)) ∙ r.extends [] ∙ ap (λ (xs : List ℕ). cut_at (take pending.at pending.bytes.items) xs pending.has_moof) (append-nil (open_box pending))
     ∙ next-fault (take pending.at pending.bytes.items) (open_box pending) pending.has_moof fault (next-at pending r ∙ is)
 
--- which stays whatever follows
+-- which is permanent, whatever follows
 pending_is-grown : (old new : PendingPart) (more : List ℕ) (fault : BoxFault) → new.bytes.items ≡ old.bytes.items ++ more → IsPendingWithFault old (Some fault) → IsPendingWithFault new (Some fault)
 pending_is-grown old new more fault grown pending_is =
     ap stream_cut grown ∙ (refused old.bytes.items fault (ap (λ c. c.left) pending_is)).stays more ∙ pending_is
 
--- a box was looked at, and no part ended
+-- a box was examined, and no part ended
 pub passes-none : (old new : PendingPart) (before whole : List CompletePart) (fault : Option BoxFault) → new.bytes.items ≡ old.bytes.items → whole ≡ before → IsPendingWithFault new fault → AppendsPiece old before [] fault new whole
 passes-none old new before whole fault bytes queue pending_is = record {
   parts = [];
@@ -128,7 +128,7 @@ pub whole-append : (before parts : List CompletePart) → AreCompleteParts befor
 whole-append [] parts each others = others
 whole-append (whole ∷ before) parts each others = (each.0, whole-append before parts each.1 others)
 
--- nothing came yet
+-- nothing was consumed yet
 pub takes-nothing : (old : PendingPart) (before : List CompletePart) → NeedsMoreBytes old → AppendsPiece old before [] None old before
 takes-nothing old before waits = passes-none old old before before None refl refl waits
 
@@ -144,7 +144,7 @@ first-grown [] others mid grown new old more xs ys first is then = record {
 }
 first-grown (whole ∷ parts) others mid grown new old more xs ys first is then = record { more = more; first = first }
 
--- then bytes came, and the box was looked at
+-- bytes were appended, and the box was examined
 pub takes-more : (old mid grown new : PendingPart) (before between whole : List CompletePart) (taken xs : List ℕ) (fault : Option BoxFault)
     → AppendsPiece old before taken None mid between → grown.bytes.items ≡ mid.bytes.items ++ xs → AppendsPiece grown between [] fault new whole → AppendsPiece old before (taken ++ xs) fault new whole
 takes-more old mid grown new before between whole taken xs fault t is u =
@@ -161,7 +161,7 @@ takes-more old mid grown new before between whole taken xs fault t is u =
       pending_is = u.pending_is;
     }
 
--- behind a fault the rest of the piece is kept
+-- after a fault the rest of the piece is kept
 pub takes-rest : (old mid new : PendingPart) (before whole : List CompletePart) (taken xs : List ℕ) (fault : BoxFault)
     → AppendsPiece old before taken (Some fault) mid whole → new.bytes.items ≡ mid.bytes.items ++ xs → AppendsPiece old before (taken ++ xs) (Some fault) new whole
 takes-rest old mid new before whole taken xs fault t is =
@@ -177,12 +177,12 @@ takes-rest old mid new before whole taken xs fault t is =
       pending_is = pending_is-grown mid new xs fault is t.pending_is;
     }
 
--- so something was added, whatever of the piece was taken
+-- so something was added, whatever part of the piece was consumed
 pub adds : (old new : PendingPart) (before whole : List CompletePart) (taken : List ℕ) (fault : Option BoxFault)
     → AppendsPiece old before taken fault new whole → AppendsParts old before new whole
 adds old new before whole taken fault t = record { parts = t.parts; queued = t.queued; more = t.more; first = t.first }
 
--- and what is left when it is taken back
+-- what is left when it is removed
 back-parts : (before parts whole : List CompletePart) (n : ℕ) → n ≡ length before → whole ≡ before ++ parts → take n whole ≡ before
 back-parts before parts whole n len queue = rw (len, queue) (take-append-le (length before) before parts (omega arith) ∙ take-length before)
 
@@ -194,7 +194,7 @@ taken-back old new before whole n len is same a = (
       ∙ ap (λ (k : ℕ). take k (old.bytes.items ++ a.more)) same ∙ take-append-le (length old.bytes.items) old.bytes.items a.more (omega arith) ∙ take-length old.bytes.items,
 )
 
--- a piece falls into what came before, what comes now and the rest
+-- a piece consists of what was consumed before, what is consumed now, and the rest
 pub piece-is : (piece taken rest more tail : List ℕ) (n : ℕ) → piece ≡ taken ++ rest → more ≡ take n rest → tail ≡ drop n rest → piece ≡ (taken ++ more) ++ tail
 piece-is piece taken rest more tail n is front back =
     is ∙ ap (λ (xs : List ℕ). taken ++ xs) (sym (take-append-drop n rest) ∙ rw (front, back) refl) ∙ sym (append_assoc taken more tail)

@@ -1,21 +1,21 @@
--- What a reader answers, by its parts, the one in progress, and its fault.
+-- The results of a reader, by its parts, the one in progress, and its fault.
 use Rattle.std.proofs.Common.{◌≡◌, ℕ, ◌-◌, ◌<◌, ◌≤◌, ◌==◌, nat_lt, Bool, true, false, if◌then◌else◌, Option, Some, None, List, [], ◌∷◌, ◌++◌, length, take, inl, inr, sym, ◌∙◌, ap, arith, refl, subst}
 use Rattle.std.specs.List.{flat_map}
 use Rattle.std.proofs.lemmas.List.{append-nil, append_assoc, length-drop, length-take-le}
 use Rattle.std.proofs.lemmas.Grind.{flat_map-append}
 use Rattle.std.proofs.lemmas.Bool.{cases_lt, cases_Bool, lt-ltb, le-ltb}
-use Rattle.hls_boxes_laws.specs.declared.part.Part.{Part}
-use Rattle.hls_boxes_laws.specs.declared.fault.BoxFault.{BoxFault}
-use Rattle.hls_boxes_laws.specs.declared.fault.BoxFault.TheVariants.{BadSize, TooLarge, OpenEnded, MdatAlone, MoofWithoutMdat, Truncated, Memory}
-use Rattle.hls_boxes_laws.specs.Parts.{part_of, bytes_of, effect_at, Remainder, Nothing, Boxes, CutShort, Refused, rest_of_part, fault_of_rest, text_fault, fault_at_end, StreamCut, cut_at, stream_cut, after_parts}
-use Rattle.hls_boxes_laws.proofs.Callers.{IsHeaderFault, bytes_of-part_of, left_of-open, open-fault_left, refused, next-wait}
+use Rattle.hls_boxes.specs.declared.part.Part.{Part}
+use Rattle.hls_boxes.specs.declared.fault.BoxFault.{BoxFault}
+use Rattle.hls_boxes.specs.declared.fault.BoxFault.TheVariants.{BadSize, TooLarge, OpenEnded, MdatAlone, MoofWithoutMdat, Truncated, Memory}
+use Rattle.hls_boxes.specs.Parts.{part_of, bytes_of, effect_at, Remainder, Nothing, Boxes, CutShort, Refused, rest_of_part, fault_of_rest, text_fault, fault_at_end, StreamCut, cut_at, stream_cut, after_parts}
+use Rattle.hls_boxes.proofs.Callers.{IsHeaderFault, bytes_of-part_of, left_of-open, open-fault_left, refused, next-wait}
 use Rattle.hls_boxes.specs.declared.pending_part.PendingPart.{PendingPart}
 use Rattle.hls_boxes.specs.declared.complete_part.CompletePart.{CompletePart}
 use Rattle.hls_boxes.specs.Feed.{complete_part_bytes, IsCompletePart, AreCompleteParts, open_box, NeedsMoreBytes, IsPendingWithFault, AppendsPiece, reader_bytes, IsReaderState}
 use Rattle.hls_boxes.proofs.IntakeLaws.{whole-append}
 use Rattle.hls_boxes.specs.Reader.{bytes_after_feed, IsFeedRefusal, TakesFirstPart, HasPart}
 
--- what is left of the part in progress
+-- the remainder of the part in progress
 abbrev left_with : Option BoxFault → ℕ → ℕ → Bool → Remainder
 left_with None before rest has_moof = rest_of_part before rest has_moof
 left_with (Some fault) before rest has_moof = Refused fault
@@ -36,7 +36,7 @@ pending_is-cut : (pending : PendingPart) (fault : Option BoxFault) → IsPending
 pending_is-cut pending None w = waits-cut pending w
 pending_is-cut pending (Some fault) is = is
 
--- a part that is whole, and what follows it
+-- a complete part, and what follows it
 whole-first : (whole : CompletePart) (others : List CompletePart) (pending : PendingPart) → reader_bytes (whole ∷ others) pending ≡ complete_part_bytes whole ++ reader_bytes others pending
 whole-first whole others pending = append_assoc (complete_part_bytes whole) (flat_map complete_part_bytes others) pending.bytes.items
 
@@ -62,7 +62,7 @@ settles-fault whole pending fault s = ap fault_of_rest (settles-left whole pendi
 pub fault_is : (whole : List CompletePart) (pending : PendingPart) (now : List ℕ) (fault known : Option BoxFault) → reader_bytes whole pending ≡ now → fault ≡ known → IsReaderState whole pending fault → text_fault now ≡ known
 fault_is whole pending now fault known same is s = ap text_fault (sym same) ∙ settles-fault whole pending fault s ∙ is
 
--- the fault of a text is a header's
+-- the fault of a text is that of a header
 shown : (left : Remainder) (fault : BoxFault) → fault_of_rest left ≡ Some fault → left ≡ Refused fault
 shown Nothing fault is = absurd (cc)
 shown (Boxes has_moof) fault is = absurd (cc)
@@ -84,30 +84,30 @@ header-refusal Memory old piece new header held is = absurd header
 not-memory : (fault : BoxFault) → IsHeaderFault fault → fault ≡ Memory → ⊥
 not-memory fault header is = subst IsHeaderFault is header
 
--- a fault stays, and no piece is taken
+-- a fault is permanent, and no piece is accepted after it
 pub again : (whole : List CompletePart) (pending : PendingPart) (now piece : List ℕ) (fault : Option BoxFault) (found : BoxFault) → reader_bytes whole pending ≡ now → fault ≡ Some found → IsReaderState whole pending fault
     → IsFeedRefusal found now piece now
 again whole pending now piece fault found same is s =
     let shows = fault_is whole pending now fault (Some found) same is s in
     header-refusal found now piece now (text_fault-header now found shows) (ap (λ (o : Option BoxFault). bytes_after_feed o now piece) (sym shows)) shows
 
--- a piece brings a fault
+-- a piece has a fault
 pub brings : (whole : List CompletePart) (pending : PendingPart) (old piece : List ℕ) (found : BoxFault) → text_fault old ≡ None → reader_bytes whole pending ≡ old ++ piece → IsReaderState whole pending (Some found)
     → IsFeedRefusal found old piece (reader_bytes whole pending)
 brings whole pending old piece found none grown s =
     let shows = settles-fault whole pending (Some found) s in
     header-refusal found old piece (reader_bytes whole pending) (text_fault-header (reader_bytes whole pending) found shows) (grown ∙ ap (λ (o : Option BoxFault). bytes_after_feed o old piece) (sym none)) shows
 
--- a fault that a reader shows isn't want of memory
+-- a reader's fault is never an allocation failure
 pub no_memory : (whole : List CompletePart) (pending : PendingPart) (fault : Option BoxFault) (found : BoxFault) → fault ≡ Some found → IsReaderState whole pending fault → found ≡ Memory → ⊥
 no_memory whole pending fault found is s = not-memory found (text_fault-header (reader_bytes whole pending) found (settles-fault whole pending fault s ∙ is))
 
--- a piece of no bytes brings nothing
+-- an empty piece adds nothing
 pub nothing_more : (old piece : List ℕ) → true ≡ (length piece == 0) → old ≡ old ++ piece
 nothing_more old [] is = sym (append-nil old)
 nothing_more old (byte ∷ others) is = absurd (grind (arith, is))
 
--- a piece was taken in
+-- a piece was consumed
 pub fed_more : (old new : PendingPart) (before whole : List CompletePart) (piece : List ℕ) (fault : Option BoxFault) → AppendsPiece old before piece fault new whole → reader_bytes whole new ≡ reader_bytes before old ++ piece
 fed_more old new before whole piece fault t =
     ap (λ (ws : List CompletePart). reader_bytes ws new) t.queued ∙ ap (λ (xs : List ℕ). xs ++ new.bytes.items) (flat_map-append complete_part_bytes before t.parts)
@@ -120,7 +120,7 @@ settles-more old new before whole piece fault known t s = record {
   pending_is = t.pending_is;
 }
 
--- a reader that waits where another does
+-- a reader with the same unconsumed bytes needs more bytes as well
 waits-same : (old new : PendingPart) → new.bytes.items ≡ old.bytes.items → new.at ≡ old.at → new.has_moof ≡ old.has_moof → NeedsMoreBytes old → NeedsMoreBytes new
 waits-same old new bytes at moof w = record {
   is_pending = record {
@@ -139,7 +139,7 @@ settles-same old new before whole queue bytes at moof s = record {
 pub fed-same : (old new : PendingPart) (before whole : List CompletePart) → whole ≡ before → new.bytes.items ≡ old.bytes.items → reader_bytes whole new ≡ reader_bytes before old
 fed-same old new before whole queue bytes = rw (queue, bytes) refl
 
--- what `finish` answers
+-- the result of `finish`
 at_end : (before rest : ℕ) (has_moof : Bool) → fault_at_end (rest_of_part before rest has_moof) ≡ (if nat_lt 0 rest then Some Truncated else (if has_moof then Some Truncated else None))
 at_end before rest has_moof =
     elim (cases_lt 0 rest) [
@@ -183,12 +183,12 @@ nothing_held whole pending now fault same is s all no_moof =
     let none : length pending.bytes.items - pending.at ≤ 0 = omega (arith, all) in
     ends_without whole pending now fault same is s ∙ rw (le-ltb 0 (length pending.bytes.items - pending.at) none, no_moof) refl
 
--- no part is whole
+-- no part is complete
 pub none_whole : (whole : List CompletePart) (pending : PendingPart) (now : List ℕ) (fault : Option BoxFault) → reader_bytes whole pending ≡ now → whole ≡ [] → IsReaderState whole pending fault → (stream_cut now).parts ≡ []
 none_whole whole pending now fault same none s =
     ap (λ (xs : List ℕ). (stream_cut xs).parts) (sym same ∙ ap (λ (ws : List CompletePart). reader_bytes ws pending) none) ∙ ap (λ (c : StreamCut). c.parts) (pending_is-cut pending fault s.pending_is)
 
--- the first part that is whole is the first of what was fed
+-- the first complete part is the first of what was fed
 pub takes : (whole others : List CompletePart) (first : CompletePart) (pending : PendingPart) (now : List ℕ) (fault : Option BoxFault) (part : Part)
     → reader_bytes whole pending ≡ now → whole ≡ first ∷ others → part ≡ part_of first.kind (complete_part_bytes first) → IsReaderState whole pending fault
     → TakesFirstPart part now (reader_bytes others pending)
@@ -213,7 +213,7 @@ settles-rest whole others first pending fault queue s =
     let each : AreCompleteParts (first ∷ others) = subst AreCompleteParts queue s.each in
     record { each = each.1; pending_is = s.pending_is }
 
--- a part that was put back stands where it stood
+-- a part that was put back is where it was
 back-whole : (first second : CompletePart) → second.kind ≡ first.kind → complete_part_bytes second ≡ complete_part_bytes first → IsCompletePart first → IsCompletePart second
 back-whole first second kind bytes w = record { extends = λ more. rw (kind, bytes) (w.extends more) }
 

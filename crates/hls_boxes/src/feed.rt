@@ -1,19 +1,18 @@
-//! A piece of the stream, box after box.
+//! Feeds a piece of the stream, box by box.
 
 ghost use Rattle.std.specs.Prelude.{◌≡◌, [], IfOk, OnErr};
 ghost use Rattle.hls_boxes.specs.Feed.{AppendsParts, EndsAtBox, IsPendingPart, AppendsPiece, NeedsMoreBytes};
 
+use crate::box_effect::BoxEffect;
 use crate::complete_part::CompletePart;
+use crate::fault::BoxFault;
 use crate::pending_part::{PendingPart, append_bytes};
 use crate::read_box_effect::{count_missing_bytes, read_box_effect};
-use hls_boxes_laws::box_effect::BoxEffect;
-use hls_boxes_laws::fault::BoxFault;
 use std::alloc::{AllocError, Global};
 use std::collections::VecDeque;
 use std::mem;
 
-/// Passes the box that ends where the bytes end, if one does; a part that it ends becomes the last
-/// of those that are whole.
+/// Consumes the box that ends where the bytes end, if one does. If it ends a part, that part is appended to the complete ones.
 fn finish_box(
     alloc: Global,
     pending: &mut PendingPart,
@@ -40,7 +39,7 @@ fn finish_box(
     Ok(None)
 }
 
-/// Takes in a piece, up to its end or the first fault; what follows a fault is kept with it.
+/// Consumes a piece, up to its end or the first fault. The bytes after a fault are kept with it.
 pub(crate) fn feed_piece(
     alloc: Global,
     pending: &mut PendingPart,

@@ -1,4 +1,4 @@
-//! The beginning of a part.
+//! The part in progress.
 
 ghost use Rattle.std.specs.Prelude.{◌≡◌, ◌++◌, ◌≤◌, [], false, length, take, drop, OnOk, OnErr};
 ghost use Rattle.hls_boxes.specs.Feed.{first_bytes};
@@ -7,21 +7,21 @@ use crate::complete_part::CompletePart;
 use std::alloc::{AllocError, Global};
 use std::collections::VecDeque;
 
-/// As much room as a box gets on the word of its header alone, before its bytes come.
+/// The maximum room that is reserved for a box by its header alone, before its bytes arrive.
 const TRUSTED: usize = 1 << 20;
 
-/// A part of which not all bytes were fed yet.
+/// A part whose bytes haven't all arrived.
 #[derive(Drop)]
 pub(crate) struct PendingPart {
     pub(crate) bytes: Vec<u8>,
-    /// Where the first box begins that isn't passed yet.
+    /// Where the first box begins that isn't consumed yet.
     pub(crate) at: usize,
     /// Whether the boxes before it have a `moof`.
     pub(crate) has_moof: bool,
 }
 
 impl PendingPart {
-    /// No part, of which nothing was fed. It takes no memory.
+    /// The empty part. Doesn't allocate.
     pub(crate) fn empty(alloc: Global) -> PendingPart
         ensures bytes { result.bytes.items ≡ [] }
         ensures at { result.at ≡ 0 }
@@ -35,9 +35,8 @@ impl PendingPart {
     }
 }
 
-/// Puts more bytes at the end of a block, of which `missing` are still to come in all. The block
-/// grows to just that, so that a part has no room to spare; past what is trusted it only doubles,
-/// since a header may say more than comes.
+/// Appends bytes to a block that still lacks `missing` bytes. The block grows to exactly that length, so a part has no spare capacity.
+/// Beyond `TRUSTED` it only doubles, since a header may announce more than arrives.
 pub(crate) fn append_bytes(
     bytes: &mut Vec<u8>,
     more: &[u8],
@@ -53,7 +52,7 @@ pub(crate) fn append_bytes(
     bytes.extend_from_slice(more)
 }
 
-/// How much a reader held.
+/// A checkpoint of a reader's contents.
 #[derive(Clone, Copy)]
 pub(crate) struct Checkpoint {
     parts: usize,
@@ -77,8 +76,7 @@ impl Checkpoint {
         }
     }
 
-    /// Takes back what came since: the first part behind those that stood there is the one that was
-    /// in progress.
+    /// Restores the contents of the checkpoint: the first part after those that were complete then is the one that was in progress.
     pub(crate) fn restore(self, pending: &mut PendingPart, whole: &mut VecDeque<CompletePart>)
         ensures whole { whole.new.items ≡ take self.parts whole.old.items }
         ensures bytes { pending.new.bytes.items ≡ take self.len (first_bytes (drop self.parts whole.old.items) pending.old) }

@@ -1,16 +1,16 @@
-//! What the box at the front of the rest of a stream does.
+//! The effect of the next box of a stream.
 
 ghost use Rattle.std.specs.Prelude.{◌≡◌, ◌-◌, length};
-ghost use Rattle.hls_boxes_laws.specs.Boxes.{header_at};
-ghost use Rattle.hls_boxes_laws.specs.Parts.{fault_of, effect_at};
+ghost use Rattle.hls_boxes.specs.Boxes.{header_at};
+ghost use Rattle.hls_boxes.specs.Parts.{fault_of, effect_at};
 ghost use Rattle.hls_boxes.specs.Feed.{needed_len};
 
-use hls_boxes_laws::box_effect::BoxEffect;
-use hls_boxes_laws::box_header::BoxHeader;
-use hls_boxes_laws::fault::BoxFault;
-use hls_boxes_laws::kinds::{INIT_LIMIT, MDAT, MOOF, MOOV, UNIT_LIMIT};
+use crate::box_effect::BoxEffect;
+use crate::box_header::BoxHeader;
+use crate::fault::BoxFault;
+use crate::kinds::{INIT_LIMIT, MDAT, MOOF, MOOV, UNIT_LIMIT};
 
-/// The first fault of a box with this header, where its part has `before` bytes before it.
+/// The first fault of a box with this header, in a part with `before` bytes before the box.
 fn find_fault(header: BoxHeader, before: usize, has_moof: bool) -> Option<BoxFault>
     ensures { result ≡ fault_of header before has_moof }
 {
@@ -34,8 +34,8 @@ fn find_fault(header: BoxHeader, before: usize, has_moof: bool) -> Option<BoxFau
     None
 }
 
-/// What the box at the front of the bytes does, where its part has `before` bytes before it.
-#[tactic(auto, unfolding(hls_boxes_laws::specs::Parts::effect_at))]
+/// The effect of the box at the start of the bytes, in a part with `before` bytes before it.
+#[tactic(auto, unfolding(crate::specs::Parts::effect_at))]
 pub(crate) fn read_box_effect(bytes: &[u8], before: usize, has_moof: bool) -> BoxEffect
     ensures { result ≡ effect_at bytes.now before has_moof }
 {
@@ -61,8 +61,7 @@ pub(crate) fn read_box_effect(bytes: &[u8], before: usize, has_moof: bool) -> Bo
     }
 }
 
-/// How many bytes are still to come of the box at the front of the bytes, or of its header, while
-/// that isn't whole.
+/// The number of bytes that the box at the start of the bytes still lacks, or that its header lacks, if that is incomplete.
 pub(crate) fn count_missing_bytes(bytes: &[u8]) -> usize
     ensures { result ≡ needed_len (header_at bytes.now) (length bytes.now) - length bytes.now }
 {

@@ -1,26 +1,25 @@
 //! The reader of a stream.
 
 ghost use Rattle.std.specs.Prelude.{◌≡◌, ◌≢◌, [], ◌++◌, Err, IfOk, IfErr, OnOk, OnErr, None};
-ghost use Rattle.hls_boxes_laws.specs.Parts.{stream_cut, text_fault, fault_at_end};
+ghost use Rattle.hls_boxes.specs.Parts.{stream_cut, text_fault, fault_at_end};
 ghost use Rattle.hls_boxes.specs.Reader.{IsFeedRefusal, TakesNextPart, HasPart, ReportsFault};
 
 use crate::complete_part::CompletePart;
+use crate::fault::BoxFault;
 use crate::feed::feed_piece;
+use crate::part::Part;
 use crate::pending_part::{Checkpoint, PendingPart};
-use hls_boxes_laws::fault::BoxFault;
-use hls_boxes_laws::part::Part;
 use std::alloc::{AllocError, Global};
 use std::collections::VecDeque;
 use std::marker::Model;
 
-/// A reader of one stream, which comes in pieces of any length. Contracts see it as the bytes that
-/// were fed and not yet taken.
+/// A reader of one stream, which arrives in pieces of any length. Contracts see the bytes that were fed and not yet taken.
 #[derive(Drop)]
 pub struct UnitReader {
     alloc: Global,
-    /// The parts that are whole and not yet taken, in order.
+    /// The complete parts that weren't taken yet, in order.
     whole: VecDeque<CompletePart>,
-    /// What came behind them.
+    /// The part in progress, which follows them.
     pending: PendingPart,
     fault: Option<BoxFault>,
 }
@@ -37,7 +36,7 @@ impl Model for UnitReader {
 }
 
 impl UnitReader {
-    /// A reader that nothing was fed. It takes no memory before the first piece.
+    /// A reader that was fed nothing. Doesn't allocate.
     pub fn new(alloc: Global) -> UnitReader
         ensures { result ≡ [] }
     {
@@ -49,14 +48,13 @@ impl UnitReader {
         }
     }
 
-    /// Puts the next piece of the stream at the end of what was fed.
+    /// Appends the next piece of the stream.
     ///
-    /// `BadSize`, `TooLarge`, `OpenEnded`, `MdatAlone` and `MoofWithoutMdat` are the fault of the first
-    /// box header that shows one. Where the piece brings the fault it is taken, and the parts before
-    /// the fault can still be taken out; from then on each `feed` and `finish` answers that fault, and no
-    /// piece is taken.
-    /// After `Memory` the piece isn't taken and nothing has changed; it comes before a fault that the
-    /// piece would bring.
+    /// # Errors
+    /// `BadSize`, `TooLarge`, `OpenEnded`, `MdatAlone` and `MoofWithoutMdat` are the fault of the first faulty box header. The piece with
+    /// the fault is accepted, and the parts before the fault can still be taken. From then on each `feed` and `finish` returns that fault,
+    /// and no further piece is accepted.
+    /// `Memory` if an allocation failed. The piece isn't accepted then, and nothing has changed; a fault in that piece isn't reported yet.
     pub fn feed(&mut self, piece: &[u8]) -> Result<(), BoxFault>
         ensures ok { OnOk result ((self.new ≡ self.old ++ piece.now) × (text_fault self.new ≡ None)) }
         ensures err { IfErr result (λ fault. IsFeedRefusal fault self.old piece.now self.new) }
@@ -80,8 +78,7 @@ impl UnitReader {
         Ok(())
     }
 
-    /// Takes out the first part of what was fed; none where no part is whole yet. Nothing is lost
-    /// where memory is refused.
+    /// Takes the first complete part. Returns None if no part is complete yet. If an allocation fails, nothing is lost.
     pub fn take(&mut self) -> Result<Option<Part>, AllocError>
         ensures ok { IfOk result (λ part. TakesNextPart part self.old self.new) }
         ensures err { OnErr result ((self.new ≡ self.old) × HasPart self.old) }
@@ -98,10 +95,10 @@ impl UnitReader {
         }
     }
 
-    /// Says that the stream ends here. It takes no memory.
+    /// Declares the end of the stream. Doesn't allocate.
     ///
-    /// A fault of `feed` stays the answer for ever. `Truncated` is the answer where the stream ends
-    /// inside a box, or after a `moof` whose `mdat` hasn't come.
+    /// # Errors
+    /// A fault of `feed` is permanent. `Truncated` if the stream ends inside a box, or between a `moof` and its `mdat`.
     pub fn finish(&self) -> Result<(), BoxFault>
         ensures { ReportsFault result (fault_at_end (stream_cut self.now).left) }
     {

@@ -1,4 +1,4 @@
--- In every common place each rendition's fragment is one of those that were accepted, or the end of all.
+-- In every common place, each rendition's fragment is an accepted one, or the end of all.
 use Rattle.std.proofs.Common.{◌≡◌, ℕ, ◌+◌, ◌-◌, ◌<◌, ◌≤◌, List, [], ◌∷◌, ◌++◌, length, map, get_or, Option, Some, None, Bool, true, false, cond, arith, refl, sym, ap, subst, inl, inr, ◌∙◌}
 use Rattle.std.specs.Prelude.{option_map, All, ⊤, nat_lt, nat_le, ◌&&◌}
 use Rattle.std.specs.List.{filter_map, list_all}
@@ -6,26 +6,26 @@ use Rattle.std.proofs.lemmas.Bool.{cases_Bool, cond-true, cond-false, and_parts,
 use Rattle.std.proofs.lemmas.List.{append-nil}
 use Rattle.std.proofs.lemmas.Option.{same_Some}
 use Rattle.hls_media_laws.specs.declared.facts.Facts.{Facts}
-use Rattle.hls_check_laws.specs.declared.spot.Spot.{Spot}
+use Rattle.hls_check_tables.specs.declared.spot.Spot.{Spot}
 use Rattle.hls_places_laws.specs.declared.place.Place.{Place}
 use Rattle.hls_places_laws.specs.Sources.{Source, first_facts, fact_at, no_facts}
 use Rattle.hls_places_laws.specs.Spots.{near_spot, spot_at, first_entry}
 use Rattle.hls_places_laws.specs.Places.{spots, with_spot, place_of, common_at, has_ended, source_end_spot, closing_places, places_of}
 use Rattle.hls_catchup.proofs.Cited.{filter_map-all, all-snoc}
 
--- spots side by side with the renditions, none past the last fragment's end
+-- spots paired with the renditions, none past the end of the last fragment
 abbrev pub Bounded : List Source → List Spot → Type 0
 Bounded [] [] = ⊤
 Bounded [] (spot ∷ others) = ⊥
 Bounded (s ∷ sources) [] = ⊥
 Bounded (s ∷ sources) (spot ∷ others) = (spot.fragment ≤ length s.facts) × Bounded sources others
 
--- a conditional that gives something gives what stands under its condition
+-- a conditional that yields something yields what its condition guards
 taken_true : {A : Type 0} (b : Bool) (x y : A) → cond b (Some x) None ≡ Some y → (b ≡ true) × (x ≡ y)
 taken_true true x y is = (refl, same_Some x y is)
 taken_true false x y is = cc
 
--- what is below is within (a lemma of numbers alone, since omega looks through all that stands around it)
+-- what is below is within (a separate lemma of numbers, since omega searches everything in its context)
 below_is : (k m n : ℕ) → k < n → k ≡ m → m ≤ n
 below_is k m n below same = omega arith
 

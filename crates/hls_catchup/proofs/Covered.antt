@@ -1,4 +1,4 @@
--- A programme's table speaks of units that are kept.
+-- The units in a programme's table are kept.
 use Rattle.std.proofs.Common.{◌≡◌, ℕ, zero, suc, ◌+◌, ◌-◌, ◌≤◌, ℤ, Option, List, [], ◌∷◌, length, map, drop, Some, Bool, true, arith, refl, sym, ap, subst, ◌∙◌, All, Ok}
 use Rattle.std.specs.Prelude.{slice_get, ⊤, nat_le}
 use Rattle.std.specs.List.{filter, slice_range}
@@ -6,8 +6,8 @@ use Rattle.std.proofs.lemmas.Bool.{cond_both, and_parts, leb-true}
 use Rattle.std.proofs.lemmas.List.{length-map}
 use Rattle.std.proofs.lemmas.List.Elements.{All-nil, All-cons, All-head, All-tail, All-map, All-take, All-drop, All-get_or}
 use Rattle.hls_media_laws.specs.declared.facts.Facts.{Facts}
-use Rattle.hls_check_laws.specs.declared.spot.Spot.{Spot}
-use Rattle.hls_check_laws.specs.Tables.{Table, IsTable, IsPlaceOf, spot_in, place_at}
+use Rattle.hls_check_tables.specs.declared.spot.Spot.{Spot}
+use Rattle.hls_check_tables.specs.Tables.{Table, IsTable, IsPlaceOf, spot_in, place_at}
 use Rattle.hls_record.specs.RecordingData.{RecordingData}
 use Rattle.hls_core_laws.specs.State.{State, channel}
 use Rattle.hls_core_laws.specs.Places.{is_finished, tolerance_of, sources, kept_places}
@@ -16,21 +16,21 @@ use Rattle.hls_places_laws.specs.declared.place.Place.{Place}
 use Rattle.hls_places_laws.specs.Sources.{Source, sources_of}
 use Rattle.hls_places_laws.specs.Places.{places_of}
 use Rattle.hls_places_laws.specs.Programmes.{is_kept_above, is_kept, filter_kept, table_between}
-use Rattle.hls_catchup_laws.specs.declared.request.Request.{Request}
-use Rattle.hls_catchup_laws.specs.declared.cut_result.CutResult.{CutResult}
-use Rattle.hls_catchup_laws.specs.Answers.{AreCovered, IsRightCutResult}
-use Rattle.hls_catchup_laws.specs.Requests.{goal_for, IsTableFor, AreRecordings, IsRightAnswer}
+use Rattle.hls_catchup.specs.declared.request.Request.{Request}
+use Rattle.hls_catchup.specs.declared.cut_result.CutResult.{CutResult}
+use Rattle.hls_catchup.specs.Answers.{AreCovered, IsRightCutResult}
+use Rattle.hls_catchup.specs.Requests.{goal_for, IsTableFor, AreRecordings, IsRightAnswer}
 use Rattle.hls_catchup.proofs.Bounded.{Bounded, places-bounded}
 use Rattle.hls_catchup.proofs.States.{same_facts, same_floors}
 
--- the recordings side by side with the tolerances and with what is finished, and their floors
+-- the recordings paired with the tolerances and with whether they are finished, and their floors
 abbrev sources_with : List RecordingData → List ℕ → List Bool → List Source
 sources_with recordings tolerances finished = sources_of (map (λ (r : RecordingData). r.facts) recordings) tolerances finished
 
 abbrev floors_with : List RecordingData → List ℕ
 floors_with recordings = map (λ (r : RecordingData). r.floor) recordings
 
--- spots side by side with the recordings, each between the floor and the count
+-- spots paired with the recordings, each between the floor and the count
 abbrev pub Within : List RecordingData → List Spot → Type 0
 Within [] [] = ⊤
 Within [] (spot ∷ others) = ⊥
@@ -59,7 +59,7 @@ filtered test P Q (x ∷ xs) each all =
     cond_both (test x) (x ∷ filter test xs) (filter test xs) (λ zs. All Q zs)
     (λ passes. All-cons Q x (filter test xs) (each x passes (All-head P x xs all)) rest) (λ fails. rest)
 
--- every kept place lies within the recordings
+-- every kept place is within the recordings
 kept-within : (recordings : List RecordingData) (tolerances : List ℕ) (finished : List Bool) →
     length tolerances ≡ length recordings → length finished ≡ length recordings →
     All (λ (p : Place). Within recordings p.spots) (filter_kept (floors_with recordings) (places_of (sources_with recordings tolerances finished)))

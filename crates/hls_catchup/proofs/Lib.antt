@@ -1,8 +1,5 @@
 mod Cited
-mod Offsets
-mod Places
 mod Pieces
-mod ListLoop
 mod Walks
 mod Right
 mod States
@@ -12,8 +9,4 @@ mod Covered
 mod Slices
 mod Spans
 mod Plays
-mod Names
-mod LiveLists
-mod LiveTexts
-mod JobLemmas
 pub mod Callers

@@ -8,10 +8,10 @@ use Rattle.hls_catchup.proofs.Cited.{units_are_bounded, at_drop, no_piece, bytes
 use Rattle.hls_record.specs.RecordingData.{RecordingData, offset_at, unit_piece, piece_at}
 use Rattle.hls_record.specs.IsRecorded.{IsRecorded}
 use Rattle.hls_media_laws.specs.FactLists.{len_of}
-use Rattle.hls_lists_laws.specs.JobResource.{bytes_between, units_between, resource_of, HaveLengths}
-use Rattle.hls_catchup.proofs.Offsets.{offsets_add}
+use Rattle.hls_playlists_laws.specs.JobResource.{bytes_between, units_between, resource_of, HaveLengths}
+use Rattle.hls_playlists.proofs.Offsets.{offsets_add}
 
--- lengths side by side
+-- lists of equal lengths, element by element
 same_lengths : (fs : List Facts) (us : List (List ℕ)) →
     ((k : ℕ) (f : Facts) (u : List ℕ) → slice_get fs k ≡ Some f → slice_get us k ≡ Some u → f.len ≡ length u) → length us ≡ length fs →
     map len_of fs ≡ map length us
@@ -37,7 +37,7 @@ resource_long r first end valid kept =
     length-append r.head (concat (units_between r.floor r.units first end))
     ∙ ap (λ n. length r.head + n) (sym (bytes_are r.facts r.floor r.units first end kept (have_lengths r valid)))
 
--- a piece behind the first i units is one of the units after them
+-- a piece after the first i units is one of the units after them
 behind : (us : List (List ℕ)) (i y : ℕ) → unit_piece us (length (concat (take i us)) + y) ≡ unit_piece (drop i us) y
 behind us zero y = ap (unit_piece us) (zero-add y)
 behind [] (suc i) y = refl
@@ -46,7 +46,7 @@ behind (u ∷ us) (suc i) y =
     let rest : length u + (length (concat (take i us)) + y) - length u ≡ length (concat (take i us)) + y = omega arith in
     rw (long, le-ltb (length u + (length (concat (take i us)) + y)) (length u) (omega arith), rest) (behind us i y)
 
--- a piece within the first d units doesn't see those after them
+-- a piece within the first d units doesn't depend on those after them
 within_first : (us : List (List ℕ)) (d y : ℕ) → y < length (concat (take d us)) → unit_piece us y ≡ unit_piece (take d us) y
 within_first us zero y inside = absurd (omega arith)
 within_first [] (suc d) y inside = refl
@@ -59,7 +59,7 @@ within_first (u ∷ us) (suc d) y inside =
           )
     ]
 
--- past the units there is nothing
+-- past the units there is no piece
 pub piece_past : (r : RecordingData) (first end at : ℕ) → IsRecorded r → r.floor ≤ first → length r.head ≤ at →
     bytes_between r.facts first end ≤ at - length r.head →
     unit_piece (r.head ∷ units_between r.floor r.units first end) at ≡ None
@@ -68,7 +68,7 @@ piece_past r first end at valid kept behind_head past =
     bytes_are r.facts r.floor r.units first end kept (have_lengths r valid) in
     rw (le-ltb at (length r.head) behind_head) (no_piece (units_between r.floor r.units first end) (at - length r.head) (omega arith))
 
--- within them the recording has the piece, further back
+-- within the units the recording has the same piece, at a later offset
 pub piece_there : (r : RecordingData) (first end at : ℕ) → IsRecorded r → r.floor ≤ first → length r.head ≤ at →
     at - length r.head < bytes_between r.facts first end →
     piece_at r (offset_at r first + (at - length r.head)) ≡ unit_piece (r.head ∷ units_between r.floor r.units first end) at

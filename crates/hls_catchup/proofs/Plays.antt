@@ -1,4 +1,4 @@
--- How a run grows by one action.
+-- Extending a run by one action.
 use Rattle.std.proofs.Common.{◌≡◌, ℕ, zero, suc, ◌+◌, ◌<◌, ◌≤◌, List, [], ◌∷◌, ◌++◌, length, take, drop, get_or, arith, refl, sym, ap, subst, inl, inr, ◌∙◌, Some, Result, length-append}
 use Rattle.std.specs.Prelude.{slice_get}
 use Rattle.std.proofs.lemmas.Bool.{cases_lt}
@@ -9,11 +9,11 @@ use Rattle.hls_core_laws.specs.Config.{ConfigData}
 use Rattle.hls_core_laws.specs.State.{State}
 use Rattle.hls_core_laws.specs.Moves.{IsFitting}
 use Rattle.hls_core_laws.specs.Runs.{first_state, next_state, replayed_state, AreFitting}
-use Rattle.hls_catchup_laws.specs.declared.request.Request.{Request}
-use Rattle.hls_catchup_laws.specs.declared.fault.CatchFault.{CatchFault}
-use Rattle.hls_catchup.specs.declared.actions.Action.{Action}
-use Rattle.hls_catchup.specs.declared.actions.Action.TheVariants as action
-use Rattle.hls_catchup_laws.specs.Replies.{ReplyData, IsAnswered}
+use Rattle.hls_catchup.specs.declared.request.Request.{Request}
+use Rattle.hls_catchup.specs.declared.fault.CatchFault.{CatchFault}
+use Rattle.hls_catchup.specs.declared.standalone.Action.{Action}
+use Rattle.hls_catchup.specs.declared.standalone.Action.TheVariants as action
+use Rattle.hls_catchup.specs.Replies.{ReplyData, IsAnswered}
 use Rattle.hls_catchup.specs.Play.{events_in, requests_in, state_before, AppendsAnswer, IsPlayed, IsRunTo}
 
 events_in-append : (xs ys : List Action) → events_in (xs ++ ys) ≡ events_in xs ++ events_in ys
@@ -30,7 +30,7 @@ replayed-append : (s : State) (xs ys : List (ℕ × Event)) → replayed_state s
 replayed-append s [] ys = refl
 replayed-append s (e ∷ xs) ys = replayed-append (next_state s e.0 e.1) xs ys
 
--- what a run has come to after i actions
+-- the result of a run after i actions
 pub record IsPlayedTo (config : ConfigData) (actions : List Action) (i : ℕ) (state : State) (answers : List (Result ReplyData CatchFault)) : Type 0 where
   pub reached : state ≡ state_before config actions i
   pub fitting : AreFitting state (events_in (drop i actions))
@@ -38,7 +38,7 @@ pub record IsPlayedTo (config : ConfigData) (actions : List Action) (i : ℕ) (s
   pub each : (k : ℕ) (request : Request) → k < i → slice_get actions k ≡ Some (action.Ask request) →
       IsAnswered (state_before config actions k) request (slice_get answers (length (requests_in (take k actions))))
 
--- action i stands at the front of the rest, and at the end of those up to it
+-- action i is the first of the rest, and the last of those up to it
 record IsAction (actions : List Action) (i : ℕ) (a : Action) : Type 0 where
   rest : drop i actions ≡ a ∷ drop (i + 1) actions
   upto : take (i + 1) actions ≡ take i actions ++ a ∷ []
@@ -91,7 +91,7 @@ event_played config actions i state next answers a by event within is kind befor
           ];
     }
 
--- an answer stays where it is when more are given
+-- an answer keeps its index when more are appended
 kept_answer : (s : State) (request : Request) (answers more : List (Result ReplyData CatchFault)) (m : ℕ) →
     IsAnswered s request (slice_get answers m) → IsAnswered s request (slice_get (answers ++ more) m)
 kept_answer s request [] more m is = absurd is
@@ -165,13 +165,13 @@ all_played config actions i state answers all played =
       each = λ k request at. let within : k < length actions = slice_get_within actions k (action.Ask request) at in played.each k request (omega arith) at;
     }
 
--- one more event that fits in the state where the others lead
+-- one more event, which fits the state that the others lead to
 fitting-more : (s : State) (events : List (ℕ × Event)) (by : ℕ) (event : Event) → AreFitting s events → IsFitting (replayed_state s events) event →
     AreFitting s (events ++ ((by, event) ∷ []))
 fitting-more s [] by event fitting fits = (fits, tt)
 fitting-more s (e ∷ events) by event fitting fits = (fitting.0, fitting-more (next_state s e.0 e.1) events by event fitting.1 fits)
 
--- a run with an event more
+-- a run with one more event
 pub run_with_event : (config : ConfigData) (actions : List Action) (state next : State) (by : ℕ) (event : Event) → IsRunTo config actions state →
     IsFitting state event → next ≡ next_state state by event → IsRunTo config (actions ++ action.Event by event ∷ []) next
 run_with_event config actions state next by event run fits stepped =
@@ -183,7 +183,7 @@ run_with_event config actions state next by event run fits stepped =
           ∙ ap (replayed_state (first_state config)) (sym reported),
     )
 
--- a run with a request more
+-- a run with one more request
 pub run_with_request : (config : ConfigData) (actions : List Action) (state : State) (request : Request) → IsRunTo config actions state →
     IsRunTo config (actions ++ action.Ask request ∷ []) state
 run_with_request config actions state request run =

@@ -1,26 +1,26 @@
--- The lists that are made by a plan are right.
+-- The playlists that are made by a plan are right.
 use Rattle.std.proofs.Common.{◌≡◌, ℕ, zero, suc, ◌+◌, ◌<◌, ◌≤◌, ℤ, List, [], ◌∷◌, length, map, Some, refl, sym, ◌∙◌, ap, arith, subst, zero-add, All, Option, Bool, Vec, Global, Bor}
 use Rattle.std.specs.Prelude.{slice_get}
 use Rattle.std.proofs.lemmas.List.Elements.{All-nil, All-cons, All-head, All-tail}
 use Rattle.hls_catchup.proofs.Cited.{units_are_bounded, inits_are_bounded, vod_has_text, media_are_the_units, segments_are_good, number_uri}
 use Rattle.hls_record.specs.RecordingData.{RecordingData}
 use Rattle.hls_record.specs.IsRecorded.{IsRecorded}
-use Rattle.hls_check_laws.specs.Tables.{Table, IsTable}
-use Rattle.hls_check_laws.specs.Plans.{IsPlan, IsLeast}
-use Rattle.hls_check_laws.specs.Certificates.{CertificateData, IsGood}
+use Rattle.hls_check_tables.specs.Tables.{Table, IsTable}
+use Rattle.hls_check_tables.specs.Plans.{IsPlan, IsLeast}
+use Rattle.hls_check_tables.specs.Certificates.{CertificateData, IsGood}
 use Rattle.hls_plan.specs.declared.planned.Planned.{Planned}
 use Rattle.hls_plan.specs.declared.planned.Planned.TheVariants.{Cut, NoCut}
 use Rattle.hls_plan.specs.Planned.{certificate_of, IsBest}
 use Rattle.hls_m3u8.specs.Playlist.{Playlist}
 use Rattle.hls_core_laws.specs.Config.{IsEpoch}
-use Rattle.hls_lists_laws.specs.Segments.{ResourceLayout, plan_segments}
-use Rattle.hls_lists_laws.specs.SegmentLaws.{AreUnits, first_fragment}
-use Rattle.hls_catchup_laws.specs.JobPlaylists.{job_layout, job_uri, job_list, job_lists}
-use Rattle.hls_catchup_laws.specs.Answers.{IsCovered, AreCovered, IsRightList, AreRightLists, ShowsCut, ShowsNoCut, IsGoodFor}
-use Rattle.hls_catchup_laws.specs.AcceptedLaw.{IsAccepted}
+use Rattle.hls_playlists_laws.specs.Segments.{ResourceLayout, plan_segments}
+use Rattle.hls_playlists_laws.specs.SegmentLaws.{AreUnits, first_fragment}
+use Rattle.hls_playlists_laws.specs.JobPlaylists.{job_layout, job_uri, job_list, job_lists}
+use Rattle.hls_catchup.specs.Answers.{IsCovered, AreCovered, IsRightList, AreRightLists, ShowsCut, ShowsNoCut, IsGoodFor}
+use Rattle.hls_catchup.specs.AcceptedLaw.{IsAccepted}
 use Rattle.hls_catchup.proofs.Pieces.{have_lengths}
 
--- what holds of the element at each place holds of all
+-- what holds of the element at each index holds of all
 all_from_each : {A : Type 0} (P : A → Type 0) (xs : List A) → ((k : ℕ) (x : A) → slice_get xs k ≡ Some x → P x) → All P xs
 all_from_each P [] each = All-nil P
 all_from_each P (x ∷ xs) each = All-cons P x xs (each 0 x refl) (all_from_each P xs (λ k y at. each (suc k) y at))
@@ -52,7 +52,7 @@ right_list epoch recorded r t plan known valid table is_plan within covered =
       media = media_are_the_units t plan cut recorded.head recorded.floor recorded.units is_plan within refl refl covered.kept (have_lengths recorded valid);
     }
 
--- the list at each place
+-- the playlist at each index
 list_at : (epoch : Option ℤ) (first : ℕ) (recordings : List RecordingData) (t : Table) (plan : List ℕ) (k : ℕ) (recorded : RecordingData) (list : Playlist) →
     slice_get recordings k ≡ Some recorded → slice_get (job_lists epoch first recordings t plan) k ≡ Some list → list ≡ job_list epoch recorded (first + k) t plan
 list_at epoch first [] t plan k recorded list at there = cc
@@ -94,7 +94,7 @@ each_borrowed (first ∷ recordings) all zero recorded at =
 each_borrowed (first ∷ recordings) all (suc r) recorded at =
     each_borrowed recordings (All-tail (λ r. IsRecorded r.now) first recordings all) r recorded at
 
--- a least plan's lists and the certificate of it
+-- a least plan's playlists and its certificate
 pub right_cut : (epoch : Option ℤ) (recordings : List (Bor RecordingData)) (t : Table) (planned : Planned) (plan : Vec ℕ Global) (prices : Vec (Option ℕ) Global)
     (lists : List Playlist) (certificate : CertificateData) →
     certificate ≡ certificate_of t planned → planned ≡ Cut plan prices → IsGood (certificate_of t planned) → IsAccepted (certificate_of t planned) → IsBest t planned →

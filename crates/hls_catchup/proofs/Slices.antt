@@ -1,4 +1,4 @@
--- The slices of a resource, and where a byte stands in them.
+-- The slices of a resource, and the slice of a byte.
 use Rattle.std.proofs.Common.{◌≡◌, ◌∙◌, ℕ, zero, suc, ◌+◌, ◌-◌, ◌<◌, ◌≤◌, List, [], ◌∷◌, ◌++◌, length, take, drop, get_or, Option, refl, sym, ap, subst, inl, inr, arith, zero-add, add-one, length-append, length-take, length-drop}
 use Rattle.std.specs.Prelude.{unwrap_or}
 use Rattle.std.specs.List.{concat}
@@ -9,13 +9,13 @@ use Rattle.std.proofs.Math.Seq.{drop-append-add}
 use Rattle.hls_record.specs.RecordingData.{RecordingData, offset_at, total_of, unit_at}
 use Rattle.hls_record.specs.Search.{IsInUnit}
 use Rattle.hls_record.specs.IsRecorded.{IsRecorded}
-use Rattle.hls_lists_laws.specs.JobResource.{bytes_between, units_between}
+use Rattle.hls_playlists_laws.specs.JobResource.{bytes_between, units_between}
 use Rattle.hls_catchup.proofs.Cited.{bytes_are}
-use Rattle.hls_catchup_laws.specs.Resources.{IsPositionOf}
-use Rattle.hls_catchup.proofs.Offsets.{bytes_are_offsets, offsets_add}
+use Rattle.hls_catchup.specs.Resources.{IsPositionOf}
+use Rattle.hls_playlists.proofs.Offsets.{bytes_are_offsets, offsets_add}
 use Rattle.hls_catchup.proofs.Pieces.{have_lengths}
 
--- behind the first m slices and w bytes stands what stands w bytes into the others
+-- the bytes after the first m slices and w bytes are those w bytes into the remaining slices
 behind_slices : (us : List (List ℕ)) (m w : ℕ) → drop (length (concat (take m us)) + w) (concat us) ≡ drop w (concat (drop m us))
 behind_slices us zero w = ap (λ n. drop n (concat us)) (zero-add w)
 behind_slices [] (suc m) w = ap (λ n. drop n (concat [])) (zero-add w)
@@ -51,7 +51,7 @@ no_slice r first end number past =
     omega (arith, length-take (end - first) (drop (first - r.floor) r.units)) in
     sym (get_or_past (r.head ∷ units_between r.floor r.units first end) number [] long)
 
--- the resource is as long as its init section and the bytes between
+-- the length of the resource is that of its init section and the bytes between
 long_slices : (r : RecordingData) (first end : ℕ) → IsRecorded r → r.floor ≤ first
     → length (concat (r.head ∷ units_between r.floor r.units first end)) ≡ length r.head + bytes_between r.facts first end
 long_slices r first end valid kept =
@@ -62,7 +62,7 @@ pub none_past : (r : RecordingData) (first end at : ℕ) → IsRecorded r → r.
     → length (concat (r.head ∷ units_between r.floor r.units first end)) ≤ at
 none_past r first end at valid kept behind past = omega (arith, long_slices r first end valid kept, behind, past)
 
--- a unit in which a byte of those between stands is one of them
+-- the unit of a byte between two units is one of the units between them
 pub unit_between : (r : RecordingData) (first end at n : ℕ) → offset_at r first ≤ at → at < offset_at r end → IsInUnit r at n → (first ≤ n) × (n < end)
 unit_between r first end at n low high there =
     let up : first ≤ n = elim (cases_lt n first) [
@@ -107,7 +107,7 @@ pub nothing_past : (r : RecordingData) (first end at init between : ℕ) → IsR
 nothing_past r first end at init between valid kept init_is behind between_is past =
     none_past r first end at valid kept (omega (arith, init_is, init_offset r, behind)) (omega (arith, init_is, init_offset r, between_is, past))
 
--- no unit begins behind the end
+-- no unit begins after the end
 offset_small : (r : RecordingData) (n : ℕ) → offset_at r n ≤ total_of r
 offset_small r n =
     let all : offset_at r (length r.facts) ≡ total_of r = rw (take_all (length r.facts) r.facts (omega arith)) refl in
@@ -124,7 +124,7 @@ pub before_total : (r : RecordingData) (first end from rest between : ℕ) → f
 before_total r first end from rest between is between_is inside =
     omega (arith, is, between_is, inside, bytes_are_offsets r first end, offset_small r end)
 
--- the place by the numbers that were read
+-- the position, in terms of the numbers that were read
 pub place_is : (r : RecordingData) (first end at init from n unit between : ℕ) → IsRecorded r → r.floor ≤ first → init ≡ offset_at r 0 → init ≤ at
     → between ≡ bytes_between r.facts first end → at - init < between → from ≡ offset_at r first → IsInUnit r (from + (at - init)) n → unit ≡ offset_at r n
     → (first ≤ n) × IsPositionOf (r.head ∷ units_between r.floor r.units first end) at (n - first + 1) (from + (at - init) - unit)

@@ -1,4 +1,4 @@
--- The units that a reply's resource has.
+-- The units in a reply's resource.
 use Rattle.std.proofs.Common.{◌≡◌, ℕ, ◌<◌, ◌≤◌, List, ◌∷◌, length, Some, None, arith, sym, ap, subst, inl, inr, ◌∙◌, Vec, Global}
 use Rattle.std.specs.Prelude.{option_map}
 use Rattle.std.proofs.lemmas.Bool.{cases_lt}
@@ -8,16 +8,16 @@ use Rattle.hls_catchup.proofs.Cited.{some_at}
 use Rattle.hls_core_laws.specs.State.{State, channel}
 use Rattle.hls_core_laws.specs.Outcome.{held_bytes}
 use Rattle.hls_core.specs.Getters.{recorded_at, recording_of}
-use Rattle.hls_check_laws.specs.Certificates.{CertificateData}
+use Rattle.hls_check_tables.specs.Certificates.{CertificateData}
 use Rattle.hls_m3u8.specs.declared.playlist.MediaPlaylist.{MediaPlaylist}
-use Rattle.hls_lists_laws.specs.JobResource.{units_between}
-use Rattle.hls_lists_laws.specs.SegmentLaws.{first_fragment, end_fragment}
-use Rattle.hls_catchup_laws.specs.declared.cut_result.CutResult.TheVariants.{Cut}
+use Rattle.hls_playlists_laws.specs.JobResource.{units_between}
+use Rattle.hls_playlists_laws.specs.SegmentLaws.{first_fragment, end_fragment}
+use Rattle.hls_catchup.specs.declared.cut_result.CutResult.TheVariants.{Cut}
 use Rattle.hls_catchup.specs.declared.reply_units.ReplyUnits.{ReplyUnits}
-use Rattle.hls_catchup_laws.specs.Answers.{IsRightCutResult}
-use Rattle.hls_catchup_laws.specs.Requests.{IsRightAnswer}
-use Rattle.hls_catchup_laws.specs.Replies.{ReplyData}
-use Rattle.hls_catchup_laws.specs.Resources.{parts_of}
+use Rattle.hls_catchup.specs.Answers.{IsRightCutResult}
+use Rattle.hls_catchup.specs.Requests.{IsRightAnswer}
+use Rattle.hls_catchup.specs.Replies.{ReplyData}
+use Rattle.hls_catchup.specs.Resources.{parts_of}
 use Rattle.hls_catchup.specs.ReplyUnits.{AreReplyUnits}
 
 -- a recording is that of a rendition of the channel
@@ -49,6 +49,7 @@ span_is reply r lists certificate span cut right is first end =
     let firsts : first_fragment certificate.table r ≡ first_fragment right.table r = ap (λ t. first_fragment t r) table in
     let head : List ℕ = recorded.head in
     record {
+      recorded = is;
       kept = omega arith;
       parts = ap (parts_of s r) cut
           ∙ ap (option_map (λ (x : RecordingData). x.head ∷ units_between x.floor x.units (first_fragment certificate.table r) (end_fragment certificate.table r))) is

@@ -1,12 +1,11 @@
--- What a state's lanes and recordings have to do with one another.
+-- How a state's lanes and recordings correspond.
 use Rattle.std.proofs.Common.{◌≡◌, ℕ, zero, suc, ◌+◌, ◌<◌, List, [], ◌∷◌, ◌++◌, length, map, get_or, Option, Some, None, Bool, false, ◌&&◌, take, drop, arith, refl, sym, ap, inl, inr, ◌∙◌, Bor}
 use Rattle.std.specs.Prelude.{slice_get, option_map, unwrap_or}
 use Rattle.std.specs.List.{list_all}
-use Rattle.std.proofs.lemmas.Bool.{cases_lt}
-use Rattle.std.proofs.lemmas.List.{length-map, map-append, get_or_past, get_or-map, at_drop_more}
+use Rattle.std.proofs.lemmas.List.{length-map, map-append, get_or-map, at_drop_more}
 use Rattle.hls_media_laws.specs.InitData.{InitData}
 use Rattle.hls_record.specs.RecordingData.{RecordingData}
-use Rattle.hls_catchup.proofs.Cited.{some_at, at_snoc, lanes_count, sources_count, source_of, at_map, at_or, after-without}
+use Rattle.hls_catchup.proofs.Cited.{some_at, at_snoc, lanes_count, sources_count, source_of, after-without}
 use Rattle.hls_core_laws.specs.Channel.{Lane, no_lane}
 use Rattle.hls_core_laws.specs.State.{State, HeldBytes, channel}
 use Rattle.hls_core_laws.specs.IsState.{IsState}
@@ -16,7 +15,7 @@ use Rattle.hls_places_laws.specs.Sources.{source_at}
 use Rattle.hls_core.specs.Getters.{recorded_from, recorded_at, recording_of, finished_at}
 use Rattle.hls_places_laws.specs.declared.place.Place.{Place}
 use Rattle.hls_catchup.specs.KeptPlaces.{places_and_floors_of}
-use Rattle.hls_catchup_laws.specs.Requests.{AreRecordings}
+use Rattle.hls_catchup.specs.Requests.{AreRecordings}
 
 looked_up : (lanes : List Lane) (r : ℕ) → unwrap_or (option_map (λ (l : Lane). l.finished) (slice_get lanes r)) false ≡ get_or (map is_finished lanes) r false
 looked_up [] r = refl
@@ -26,7 +25,7 @@ looked_up (l ∷ lanes) (suc r) = looked_up lanes r
 pub finished_there : (s : State) (r : ℕ) → unwrap_or (finished_at s r) false ≡ get_or (map is_finished (channel s).lanes) r false
 finished_there s r = looked_up (channel s).lanes r
 
--- one recording more
+-- one more recording
 pub one_recording_more : (s : State) (recordings : List (Bor RecordingData)) (recording : Bor RecordingData) →
     ((r : ℕ) (recorded : RecordingData) → slice_get (map (λ r. r.now) recordings) r ≡ Some recorded → recording_of s r ≡ Some recorded) →
     recording_of s (length recordings) ≡ Some recording.now →
@@ -91,20 +90,7 @@ no_places s valid r within unbegun =
     let empty : (source_at (sources s) r).facts ≡ [] = (source_of s r l.0 l.1).facts ∙ (bare_lane s valid r l.0 within l.1 unbegun).facts in
     after-without (sources s) r (omega (arith, sources_count s, within)) empty 0
 
--- the floor of each rendition
-floor_at : (s : State) (r : ℕ) (l : Lane) → slice_get (channel s).lanes r ≡ Some l → get_or (floors s) r 0 ≡ l.floor
-floor_at s r l at = at_or (floors s) r 0 l.floor (at_map floor_of (channel s).lanes r l at)
-
-pub floor_unbegun : (s : State) → IsState s → (r : ℕ) → recording_of s r ≡ None → 0 ≡ get_or (floors s) r 0
-floor_unbegun s valid r unbegun =
-    elim (cases_lt r (length (channel s).lanes)) [
-      | inl within ↦
-          (let l = some_at (channel s).lanes r within in
-          sym (floor_at s r l.0 l.1 ∙ (bare_lane s valid r l.0 within l.1 unbegun).floor))
-      | inr past ↦ sym (get_or_past (floors s) r 0 (omega (arith, length-map (channel s).lanes floor_of)))
-    ]
-
--- lists side by side whose elements give the same
+-- lists whose elements, pairwise, map to the same values
 same_maps : {A B C : Type 0} (f : A → C) (g : B → C) (xs : List A) (ys : List B) → length xs ≡ length ys →
     ((r : ℕ) (x : A) (y : B) → slice_get xs r ≡ Some x → slice_get ys r ≡ Some y → f x ≡ g y) → map f xs ≡ map g ys
 same_maps f g [] [] count each = refl
@@ -125,14 +111,14 @@ same_floors s recordings are =
     same_maps (λ (r : RecordingData). r.floor) floor_of recordings (channel s).lanes are.count
     (λ r recorded l at there. (of_lane s r l recorded there (are.each r recorded at)).floor)
 
--- one rendition more that is finished, or isn't
+-- one more rendition that is finished, or isn't
 pub all_finished_from : (s : State) (r : ℕ) → r < length (channel s).lanes →
     list_all is_finished (drop r (channel s).lanes) ≡ (get_or (map is_finished (channel s).lanes) r false && list_all is_finished (drop (r + 1) (channel s).lanes))
 all_finished_from s r within =
     at_drop_more (list_all is_finished) (channel s).lanes r no_lane within
     ∙ ap (λ (b : Bool). b && list_all is_finished (drop (r + 1) (channel s).lanes)) (sym (get_or-map is_finished (channel s).lanes r no_lane false within))
 
--- the kept places of a state, by its own places and as many floors as it has renditions
+-- the kept places of a state, from its own places and a floor for each of its renditions
 pub kept_is : (s : State) (items : List Place) (above : List ℕ) (n : ℕ) → items ≡ places s → n ≡ length s.config.renditions →
     take (length (channel s).lanes) above ≡ floors s → record { items = items; floors = take n above } ≡ places_and_floors_of s
 kept_is s items above n items_are count above_are =

@@ -1,10 +1,10 @@
--- What a request's table is made of, and which fault stands in its place.
+-- What a request's table is made of, and which fault replaces it.
 use Rattle.std.proofs.Common.{◌≡◌, ℕ, zero, suc, ◌+◌, ◌-◌, ◌<◌, ◌≤◌, List, [], ◌∷◌, length, drop, take, Bool, true, false, not, arith, refl, sym, ap, subst, inl, inr, ◌∙◌, Ok, Err, length-drop}
 use Rattle.std.specs.Prelude.{nat_lt, if◌then◌else◌}
 use Rattle.std.proofs.lemmas.Bool.{cases_Bool, lt-leb, ltb-false}
 use Rattle.std.proofs.lemmas.List.Sums.{prefix_len-le-length}
-use Rattle.hls_check_laws.specs.Tables.{Table, place_limit, IsTable, table_of}
-use Rattle.hls_check_laws.specs.Orders.{IsOrderly}
+use Rattle.hls_check_tables.specs.Tables.{Table, place_limit, IsTable, table_of}
+use Rattle.hls_check_tables.specs.Orders.{IsOrderly}
 use Rattle.hls_core_laws.specs.State.{State}
 use Rattle.hls_core_laws.specs.Config.{IsConfig}
 use Rattle.hls_core_laws.specs.IsState.{IsState}
@@ -16,14 +16,14 @@ use Rattle.hls_places_laws.specs.Order.{no_place, time_of, spots_of, renditions_
 use Rattle.hls_places_laws.specs.Firsts.{first_after, first_from}
 use Rattle.hls_places_laws.specs.Programmes.{is_kept, filter_kept, table_between, StopsLate}
 use Rattle.hls_catchup.specs.declared.programme.Programme.{Programme}
-use Rattle.hls_catchup_laws.specs.declared.request.Request.{Request}
-use Rattle.hls_catchup_laws.specs.declared.fault.CatchFault.TheVariants.{BeforeRecording, NotYet, AfterRecording, ProgrammeTooLong}
+use Rattle.hls_catchup.specs.declared.request.Request.{Request}
+use Rattle.hls_catchup.specs.declared.fault.CatchFault.TheVariants.{BeforeRecording, NotYet, AfterRecording, ProgrammeTooLong}
 use Rattle.hls_catchup.specs.KeptPlaces.{PlacesAndFloors, places_and_floors_of, all_kept_places, kept_places_from, IsLastBy}
-use Rattle.hls_catchup_laws.specs.Requests.{all_finished, goal_for, IsInRange, IsTableFor}
+use Rattle.hls_catchup.specs.Requests.{all_finished, goal_for, IsInRange, IsTableFor}
 use Rattle.hls_catchup.specs.Programmes.{programme_table, ArePlacesFor}
 use Rattle.hls_catchup.proofs.Walks.{after-later, from-later}
 
--- where there is no place there is no table
+-- without places there is no table
 pub placeless : (s : State) (request : Request) (t : Table) → places s ≡ [] → IsTableFor s request (Ok t) → ⊥
 placeless s request t none is =
     let first = is.programme.0.begins in
@@ -45,7 +45,7 @@ apart-step start stop order p ks (suc a) is after from rest =
     let known : first_from stop ks ≡ a + first_from stop (drop a ks) = rw there at before in
     rw here (omega arith)
 
--- the first place at or after the stop is sought from the last one at or before the start on
+-- the first place at or after the stop may be searched from the last one at or before the start
 first-apart : (start stop : ℕ) → start < stop → (ks : List Place) → 1 ≤ first_after start ks →
     first_from stop ks ≡ (first_after start ks - 1) + first_from stop (drop (first_after start ks - 1) ks)
 first-apart start stop order [] some = absurd (omega arith)
@@ -61,7 +61,7 @@ first-apart start stop order (p ∷ ks) some =
           apart-step start stop order p ks (first_after start ks) refl after from (first-apart start stop order ks))
     ]
 
--- what the walks say of the kept places
+-- what follows about the kept places from the searches
 record AreApart (s : State) (request : Request) (n : ℕ) : Type 0 where
   some : 1 ≤ first_after request.start_us (kept_places s)
   rest : kept_places_from (places_and_floors_of s) n ≡ drop (first_after request.start_us (kept_places s) - 1) (kept_places s)

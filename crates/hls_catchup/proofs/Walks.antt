@@ -1,8 +1,8 @@
--- The kept ones along places, and the last of them by a time.
+-- Iterating over the kept places, and the last of them by a time.
 use Rattle.std.proofs.Common.{◌≡◌, ℕ, zero, suc, ◌+◌, ◌-◌, ◌<◌, ◌≤◌, List, [], ◌∷◌, length, Some, None, true, false, arith, refl, sym, ap, subst, inl, inr, ◌∙◌, ◌++◌, take, length-append, append_assoc}
 use Rattle.std.specs.Prelude.{nat_lt, nat_le, slice_get}
 use Rattle.std.proofs.lemmas.Bool.{cases_Bool, cond-true, cond-false, cond_both, lt-ltb, le-ltb}
-use Rattle.hls_check_laws.specs.declared.spot.Spot.{Spot}
+use Rattle.hls_check_tables.specs.declared.spot.Spot.{Spot}
 use Rattle.hls_places_laws.specs.declared.place.Place.{Place}
 use Rattle.hls_places_laws.specs.Order.{time_of, spots_of}
 use Rattle.hls_places_laws.specs.Firsts.{first_after, first_from}
@@ -27,7 +27,7 @@ after-later time p ps early = rw early refl
 pub from-later : (time : ℕ) (p : Place) (ps : List Place) → nat_le time (time_of p) ≡ false → first_from time (p ∷ ps) ≡ 1 + first_from time ps
 from-later time p ps early = rw early refl
 
--- where no kept place is by a time, the first after it is the first of all
+-- if no kept place is by a time, the first after it is the first of all
 none-first : (floors : List ℕ) (time : ℕ) (ps : List Place) → ((k : ℕ) (p : Place) → slice_get ps k ≡ Some p → is_kept floors p ≡ true → time < time_of p) →
     first_after time (filter_kept floors ps) ≡ 0
 none-first floors time [] each = refl
@@ -41,7 +41,7 @@ none-first floors time (p ∷ ps) each =
 abbrev of : List ℕ → List Place → PlacesAndFloors
 of floors ps = record { items = ps; floors = floors }
 
--- a place before the others that isn't kept changes nothing
+-- an additional first place that isn't kept changes nothing
 passed : (floors : List ℕ) (time : ℕ) (p : Place) (ps : List Place) (m : ℕ) → is_kept floors p ≡ false →
     IsLastBy (of floors ps) time m → IsLastBy (of floors (p ∷ ps)) time (suc m)
 passed floors time p ps m isnt last =
@@ -52,7 +52,7 @@ passed floors time p ps m isnt last =
       rest = rw same last.rest;
     }
 
--- nor does one by the time
+-- nor does a kept one by the time
 followed : (floors : List ℕ) (time : ℕ) (p : Place) (ps : List Place) (m : ℕ) → is_kept floors p ≡ true → nat_lt time (time_of p) ≡ false →
     IsLastBy (of floors ps) time m → IsLastBy (of floors (p ∷ ps)) time (suc m)
 followed floors time p ps m is early last =
@@ -103,21 +103,21 @@ last-at floors time (suc m) (p ∷ ps) place at is early late =
       | inr isnt ↦ passed floors time p ps m isnt rest
     ]
 
--- what the search finds, along the kept places
+-- the result of the search, along the kept places
 pub last-is : (s : State) (time n : ℕ) → IsLastKeptBy s time n → IsLastBy (places_and_floors_of s) time n
 last-is s time n found = last-at (floors s) time n (places s) found.place found.there found.kept found.by.early found.by.late
 
 pub none-is : (s : State) (time : ℕ) → NoKeptBy s time → first_after time (all_kept_places (places_and_floors_of s)) ≡ 0
 none-is s time none = none-first (floors s) time (places s) none
 
--- no more are kept than there are
+-- at most as many places are kept as there are
 pub kept-few : (floors : List ℕ) (ps : List Place) → length (filter_kept floors ps) ≤ length ps
 kept-few floors [] = omega arith
 kept-few floors (p ∷ ps) =
     let rest : length (filter_kept floors ps) ≤ length ps = kept-few floors ps in
     cond_both (is_kept floors p) (p ∷ filter_kept floors ps) (filter_kept floors ps) (λ ks. length ks ≤ length (p ∷ ps)) (λ is. omega arith) (λ isnt. omega arith)
 
--- one kept place more is copied
+-- one more kept place is copied
 pub one_copy_more : (spots : List (List Spot)) (copy : List Spot) (count : ℕ) (floors : List ℕ) (p : Place) (ps : List Place) (whole : List (List Spot)) →
     length spots < count → is_kept floors p ≡ true → copy ≡ p.spots →
     spots ++ spots_of (take (count - length spots) (filter_kept floors (p ∷ ps))) ≡ whole →

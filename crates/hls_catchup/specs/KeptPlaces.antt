@@ -7,9 +7,9 @@ use Rattle.hls_core_laws.specs.State.{State}
 use Rattle.hls_core_laws.specs.Places.{places, floors}
 use Rattle.hls_catchup.specs.declared.kept_places.KeptPlaces.TheInside.{Inside}
 use Rattle.hls_blocks.specs.Numbered.{list_limit}
-use Rattle.hls_check_laws.specs.Tables.{rendition_limit}
+use Rattle.hls_check_tables.specs.Tables.{rendition_limit}
 
--- all places so far, and of each rendition the number of the first fragment that isn't trimmed
+-- all places so far, and for each rendition the number of the first fragment that isn't trimmed
 pub record PlacesAndFloors : Type 0 where
   pub items : List Place
   pub floors : List ℕ
@@ -39,7 +39,7 @@ pub record IsLastBy (k : PlacesAndFloors) (time n : ℕ) : Type 0 where
   pub some : 1 ≤ first_after time (all_kept_places k)
   pub rest : kept_places_from k n ≡ drop (first_after time (all_kept_places k) - 1) (all_kept_places k)
 
--- how many kept ones there are from number n to the first at or after the time, that one included; none where all are earlier
+-- how many kept ones there are from number n to the first at or after the time, inclusive; none if all are earlier
 abbrev pub IsCountTo : PlacesAndFloors → ℕ → ℕ → Option ℕ → Type 0
 IsCountTo k n time count =
     MatchOption count (length (kept_places_from k n) ≤ first_from time (kept_places_from k n))

@@ -1,7 +1,11 @@
-pub mod LiveWriter
 pub mod KeptPlaces
 pub mod Programmes
 pub mod Play
 pub mod ReplyUnits
-pub mod RenditionNames
+pub mod FaultName
+pub mod AcceptedLaw
+pub mod Answers
+pub mod Requests
+pub mod Replies
+pub mod Resources
 pub mod Jobs

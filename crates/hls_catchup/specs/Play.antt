@@ -1,16 +1,16 @@
--- Runs of events and requests: where they end, and how each request is answered.
+-- Runs of events and requests: the last state, and the answer to each request.
 use Rattle.std.specs.Prelude.{◌≡◌, ℕ, List, [], ◌∷◌, ◌++◌, length, take, slice_get, Some, Result}
 use Rattle.hls_core_laws.specs.declared.event.Event.{Event}
 use Rattle.hls_core_laws.specs.Config.{ConfigData}
 use Rattle.hls_core_laws.specs.State.{State}
 use Rattle.hls_core_laws.specs.Runs.{first_state, replayed_state, AreFitting}
-use Rattle.hls_catchup_laws.specs.declared.request.Request.{Request}
-use Rattle.hls_catchup_laws.specs.declared.fault.CatchFault.{CatchFault}
-use Rattle.hls_catchup.specs.declared.actions.Action.{Action}
-use Rattle.hls_catchup.specs.declared.actions.Action.TheVariants as action
-use Rattle.hls_catchup_laws.specs.Replies.{ReplyData, IsAnswered}
+use Rattle.hls_catchup.specs.declared.request.Request.{Request}
+use Rattle.hls_catchup.specs.declared.fault.CatchFault.{CatchFault}
+use Rattle.hls_catchup.specs.declared.standalone.Action.{Action}
+use Rattle.hls_catchup.specs.declared.standalone.Action.TheVariants as action
+use Rattle.hls_catchup.specs.Replies.{ReplyData, IsAnswered}
 
--- the events of a run, in order, each with the worker who brought it
+-- the events of a run, in order, each with the worker that submitted it
 abbrev pub events_in : List Action → List (ℕ × Event)
 events_in [] = []
 events_in (action.Event by event ∷ rest) = (by, event) ∷ events_in rest
@@ -26,7 +26,7 @@ requests_in (action.Ask request ∷ rest) = request ∷ requests_in rest
 abbrev pub state_before : ConfigData → List Action → ℕ → State
 state_before config actions k = replayed_state (first_state config) (events_in (take k actions))
 
--- one answer more, the right one
+-- one more answer, the right one
 pub record AppendsAnswer (s : State) (request : Request) (before after : List (Result ReplyData CatchFault)) : Type 0 where
   pub answer : Result ReplyData CatchFault
   pub appended : after ≡ before ++ answer ∷ []
@@ -39,7 +39,7 @@ pub record IsPlayed (config : ConfigData) (actions : List Action) (last : State)
   pub each : (k : ℕ) (request : Request) → slice_get actions k ≡ Some (action.Ask request) →
       IsAnswered (state_before config actions k) request (slice_get answers (length (requests_in (take k actions))))
 
--- the events of these actions may come in this order, and lead to the state
+-- the events of these actions fit in this order, and lead to the state
 abbrev pub IsRunTo : ConfigData → List Action → State → Type 0
 IsRunTo config actions state =
     AreFitting (first_state config) (events_in actions) × (state ≡ replayed_state (first_state config) (events_in actions))

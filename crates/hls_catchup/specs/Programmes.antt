@@ -1,21 +1,21 @@
--- For the proofs of this crate; no public clause cites it. Where a request's programme stands among the places.
+-- For the proofs of this crate; no public clause cites it. A request's programme among the places.
 use Rattle.std.specs.Prelude.{◌≤◌, length, take, Result, Ok, Err}
-use Rattle.hls_check_laws.specs.Tables.{Table, IsTable, table_of}
-use Rattle.hls_check_laws.specs.Orders.{IsOrderly}
+use Rattle.hls_check_tables.specs.Tables.{Table, IsTable, table_of}
+use Rattle.hls_check_tables.specs.Orders.{IsOrderly}
 use Rattle.hls_places_laws.specs.Order.{spots_of}
 use Rattle.hls_core_laws.specs.State.{State}
 use Rattle.hls_catchup.specs.declared.programme.Programme.{Programme}
-use Rattle.hls_catchup_laws.specs.declared.request.Request.{Request}
-use Rattle.hls_catchup_laws.specs.declared.fault.CatchFault.{CatchFault}
+use Rattle.hls_catchup.specs.declared.request.Request.{Request}
+use Rattle.hls_catchup.specs.declared.fault.CatchFault.{CatchFault}
 use Rattle.hls_catchup.specs.KeptPlaces.{kept_places_from}
-use Rattle.hls_catchup_laws.specs.Requests.{goal_for, IsTableFor}
+use Rattle.hls_catchup.specs.Requests.{goal_for, IsTableFor}
 
 -- the table of a programme's places
 abbrev pub programme_table : State → Request → Programme → Table
 programme_table s request p =
     table_of (goal_for s request) (length s.config.renditions) (spots_of (take p.count (kept_places_from p.places p.from)))
 
--- the places of the table that a request asks for
+-- the places of the table for a request
 pub record ArePlacesFor (s : State) (request : Request) (p : Programme) : Type 0 where
   pub within : p.from ≤ length p.places.items
   pub defined : IsTableFor s request (Ok (programme_table s request p))

@@ -1,18 +1,19 @@
-//! A table cut by a least plan.
+//! Cuts a table by a least plan.
 
 ghost use Rattle.std.specs.Prelude.{map, IfOk};
 ghost use Rattle.hls_core_laws.specs.Config.{IsEpoch};
-ghost use Rattle.hls_catchup_laws.specs.Answers.{AreCovered, IsRightCutResult};
+ghost use Rattle.hls_catchup.specs.Answers.{AreCovered, IsRightCutResult};
 
-use crate::job_playlists::make_job_lists;
-use hls_catchup_laws::{CutResult, good_certificates_are_accepted};
-use hls_check_laws::PlaceTable;
+use crate::cut_result::CutResult;
+use crate::laws::good_certificates_are_accepted;
+use hls_check_tables::PlaceTable;
 use hls_plan::{Planned, certificate, plan};
+use hls_playlists::make_job_lists;
 use hls_record::Recording;
 use std::alloc::{AllocError, Global};
 
-/// Cuts the programme of a table: a least plan with its playlists, which are dated where the epoch is known, or the proof that
-/// there is no plan.
+/// Cuts the programme of a table: a least plan with its playlists, which have dates if there is an epoch, or the proof that there is
+/// no plan.
 pub fn cut_programme(
     alloc: Global,
     recordings: &[&Recording],
@@ -24,7 +25,7 @@ pub fn cut_programme(
     ensures { IfOk result (IsRightCutResult epoch (map (λ r. r.now) recordings.now) table) }
 {
     good_certificates_are_accepted();
-    let _ = table.len();
+    let _ = table.len(); // the proof needs that the table is well formed
     let planned = plan(alloc, &table)?;
     match &planned {
         Planned::Cut { plan, .. } => {

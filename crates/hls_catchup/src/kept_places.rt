@@ -8,17 +8,16 @@ ghost use Rattle.hls_places_laws.specs.Order.{spots_of};
 ghost use Rattle.hls_places_laws.specs.Programmes.{is_kept};
 ghost use Rattle.hls_catchup.specs.KeptPlaces.{places_and_floors_of, kept_places_from, IsCountTo};
 
-use crate::floors::floors_of;
-use crate::iterators::{iter_places_from, next_place};
-use crate::recordings::rendition_count;
+use crate::place_iterator::{iter_places_from, next_place};
 use hls_blocks::Shared;
-use hls_check_laws::RENDITION_LIMIT;
+use hls_check_tables::RENDITION_LIMIT;
+use hls_core::floors::{floors_of, rendition_count};
 use hls_core::snapshot::Snapshot;
 use hls_places::{Place, Spots, is_kept, time_of};
 use std::alloc::{AllocError, Global};
 use std::marker::Model;
 
-/// The common places of a snapshot with no trimmed fragment. Places count from 0, the trimmed ones too.
+/// The common places of a snapshot with no trimmed fragment. Places count from 0, including the trimmed ones.
 #[derive(Drop)]
 pub struct KeptPlaces<'a> {
     places: &'a Shared<Place>,
@@ -37,14 +36,14 @@ impl<'a> Model for KeptPlaces<'a> {
 }
 
 impl<'a> KeptPlaces<'a> {
-    /// The kept places of a snapshot. Takes no memory.
+    /// Returns the kept places of a snapshot. Doesn't allocate.
     pub fn new(snapshot: &'a Snapshot) -> KeptPlaces<'a>
         ensures value { result ≡ places_and_floors_of snapshot.now }
         ensures valid { IsState snapshot.now }
         ensures sources { AreSources (sources snapshot.now) }
     {
         let places = snapshot.places();
-        let _ = places.next();
+        let _ = places.next(); // the proof needs that the places' numbers fit
         KeptPlaces {
             places,
             floors: floors_of(snapshot),
@@ -58,8 +57,7 @@ impl<'a> KeptPlaces<'a> {
         is_kept(place, &self.floors[..self.renditions])
     }
 
-    /// How many kept places there are from number `from` to the first at or after a time in microseconds, that one included;
-    /// None where none is that late.
+    /// Counts the kept places from number `from` to the first at or after a time in microseconds, inclusive; `None` if none is that late.
     pub fn count_up_to(&self, from: u64, time: u64) -> Option<usize>
         requires { from ≤ length self.now.items }
         ensures { IsCountTo self.now from time result }
@@ -77,7 +75,7 @@ impl<'a> KeptPlaces<'a> {
         None
     }
 
-    /// A copy of the spots of the first `count` kept places from number `from` on.
+    /// Copies the spots of the first `count` kept places from number `from` on.
     pub fn copy_spots(
         &self,
         alloc: Global,
@@ -92,7 +90,7 @@ impl<'a> KeptPlaces<'a> {
         Ok(spots)
     }
 
-    /// Puts these copies in a list of none.
+    /// Appends these copies to an empty list.
     fn push_spots(&self, spots: &mut Vec<Spots>, from: u64, count: usize) -> Result<(), AllocError>
         requires from { from ≤ length self.now.items }
         requires none { spots.old.items ≡ [] }

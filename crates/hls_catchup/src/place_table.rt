@@ -1,17 +1,18 @@
 //! The table of a request's programme.
 
 ghost use Rattle.std.specs.Prelude.{◌≡◌, IfOk};
-ghost use Rattle.hls_catchup_laws.specs.Requests.{goal_for, IsTableFor};
+ghost use Rattle.hls_catchup.specs.Requests.{goal_for, IsTableFor};
 ghost use Rattle.hls_catchup.specs.Programmes.{programme_table, ArePlacesFor};
 
+use crate::fault::CatchFault;
 use crate::programme::{Programme, find_programme};
-use hls_catchup_laws::{CatchFault, Request};
-use hls_check_laws::{CertificateTable, Goal, PlaceTable};
+use crate::request::Request;
+use hls_check_tables::{CertificateTable, Goal, PlaceTable};
 use hls_core::snapshot::Snapshot;
 use std::alloc::{AllocError, Global};
 
-/// The table of the programme that a request asks for: the kept common places from the last one at or before its start to
-/// the first one at or after its stop, or the first fault. Every other fault is looked for before any memory is taken.
+/// Returns the table of the programme that a request asks for: the kept common places from the last one at or before its start to the
+/// first one at or after its stop, or the first fault. Every other fault is found before memory is allocated.
 pub fn table_of(
     alloc: Global,
     snapshot: &Snapshot,
@@ -25,7 +26,7 @@ pub fn table_of(
     }
 }
 
-/// What the segments that a request asks for are to be like: the target is the channel's.
+/// Returns the goal for the segments of a request; the target duration is the channel's.
 fn make_goal(snapshot: &Snapshot, request: Request) -> Goal
     ensures { result ≡ goal_for snapshot.now request }
 {
@@ -36,7 +37,7 @@ fn make_goal(snapshot: &Snapshot, request: Request) -> Goal
     }
 }
 
-/// The table of a programme's places.
+/// Builds the table of a programme's places.
 fn build_table(
     alloc: Global,
     snapshot: &Snapshot,

@@ -1,19 +1,20 @@
 //! The programme of a request among the kept places.
 
 ghost use Rattle.std.specs.Prelude.{◌≡◌, if◌then◌else◌};
-ghost use Rattle.hls_catchup_laws.specs.declared.fault.CatchFault.TheVariants.{NotYet, AfterRecording};
-ghost use Rattle.hls_catchup_laws.specs.Requests.{all_finished, IsInRange};
+ghost use Rattle.hls_catchup.specs.declared.fault.CatchFault.TheVariants.{NotYet, AfterRecording};
+ghost use Rattle.hls_catchup.specs.Requests.{all_finished, IsInRange};
 ghost use Rattle.hls_catchup.specs.Programmes.{IsProgrammeOrFault};
 
+use crate::fault::CatchFault;
 use crate::kept_places::KeptPlaces;
 use crate::recordings::all_finished;
-use hls_catchup_laws::{CatchFault, Request};
-use hls_check_laws::{CHARGE_LIMIT, PLACE_LIMIT};
+use crate::request::Request;
+use hls_check_tables::{CHARGE_LIMIT, PLACE_LIMIT};
 use hls_core::place_search::last_kept_place_by;
 use hls_core::snapshot::Snapshot;
 
 /// A programme is what a catch-up request gets: the kept places from the last one at or before its start to the first one at or after
-/// its end. Here: the first `count` kept ones from number `from` on.
+/// its end. They are the first `count` kept ones from number `from` on.
 #[derive(Drop)]
 pub struct Programme<'a> {
     pub places: KeptPlaces<'a>,
@@ -21,7 +22,7 @@ pub struct Programme<'a> {
     pub count: usize,
 }
 
-/// The programme that a request asks for, or the first fault. Takes no memory.
+/// Returns the programme that a request asks for, or the first fault. Doesn't allocate.
 pub fn find_programme(snapshot: &Snapshot, request: Request) -> Result<Programme<'_>, CatchFault>
     ensures { IsProgrammeOrFault snapshot.now request result }
 {
@@ -40,7 +41,7 @@ pub fn find_programme(snapshot: &Snapshot, request: Request) -> Result<Programme
     find_places(snapshot, request)
 }
 
-/// The kept places from the last one at or before the start to the first one at or after the stop.
+/// Returns the kept places from the last one at or before the start to the first one at or after the stop.
 fn find_places(snapshot: &Snapshot, request: Request) -> Result<Programme<'_>, CatchFault>
     requires { IsInRange snapshot.now request }
     ensures { IsProgrammeOrFault snapshot.now request result }
@@ -62,7 +63,7 @@ fn find_places(snapshot: &Snapshot, request: Request) -> Result<Programme<'_>, C
     })
 }
 
-/// Why there is no place at or after a stop.
+/// Returns why there is no place at or after a stop.
 fn find_late_fault(snapshot: &Snapshot) -> CatchFault
     ensures { result ≡ (if all_finished snapshot.now then AfterRecording else NotYet) }
 {

@@ -1,25 +1,16 @@
-//! What a snapshot has of all its renditions.
+//! The recordings of a snapshot's renditions.
 
-ghost use Rattle.std.specs.Prelude.{◌≡◌, ◌≤◌, [], length, map, slice_index_or, false, IfOk, MatchOption};
-ghost use Rattle.hls_check_laws.specs.Tables.{rendition_limit};
+ghost use Rattle.std.specs.Prelude.{◌≡◌, [], map, slice_index_or, false, IfOk, MatchOption};
 ghost use Rattle.hls_core_laws.specs.State.{channel};
 ghost use Rattle.hls_core_laws.specs.Places.{is_finished, places};
-ghost use Rattle.hls_catchup_laws.specs.Requests.{all_finished, AreRecordings};
+ghost use Rattle.hls_catchup.specs.Requests.{all_finished, AreRecordings};
 
+use hls_core::floors::rendition_count;
 use hls_core::snapshot::Snapshot;
 use hls_record::Recording;
 use std::alloc::{AllocError, Global};
 
-/// How many renditions the channel has.
-pub fn rendition_count(snapshot: &Snapshot) -> usize
-    ensures configured { result ≡ length snapshot.now.config.renditions }
-    ensures lanes { result ≡ length (channel snapshot.now).lanes }
-    ensures few { result ≤ rendition_limit }
-{
-    snapshot.config().renditions().len()
-}
-
-/// The recordings of all renditions; None where one hasn't begun, and so there is no common place yet.
+/// Returns the recordings of all renditions; `None` if one hasn't begun, so that there is no common place yet.
 pub fn collect_recordings(
     alloc: Global,
     snapshot: &Snapshot,

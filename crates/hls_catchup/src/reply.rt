@@ -1,49 +1,75 @@
-//! Answers to requests.
+//! The reply to a request.
 
-ghost use Rattle.std.specs.Prelude.{Err, MatchResult};
-ghost use Rattle.hls_catchup_laws.specs.Requests.{IsTableFor, IsRightAnswer};
-ghost use Rattle.hls_catchup_laws.specs.Replies.{IsReplyTo};
+ghost use Rattle.std.specs.Prelude.{◌≡◌, IfOk};
+ghost use Rattle.hls_catchup.specs.Requests.{IsRightAnswer};
+ghost use Rattle.hls_catchup.specs.Replies.{IsRightReply};
 
-use crate::cut::cut_programme;
-use crate::place_table::table_of;
-use crate::recordings::collect_recordings;
-use hls_catchup_laws::{CatchFault, CutResult, Reply, Request};
+use crate::cut_result::CutResult;
+use crate::request::Request;
 use hls_core::snapshot::Snapshot;
-use std::alloc::Global;
+use std::alloc::AllocError;
+use std::marker::Model;
 use std::sync::Arc;
 
-/// Answers a request from one snapshot: a least plan of the programme's table with a playlist for each rendition, or the
-/// proof that there is no plan, with its certificate; or the first fault.
-pub fn answer(
-    alloc: Global,
-    snapshot: &Arc<Snapshot>,
+/// The answer to a request: it holds the snapshot from which it was cut, so no later event changes it.
+#[derive(Drop)]
+pub struct Reply {
+    snapshot: Arc<Snapshot>,
     request: Request,
-) -> Result<Reply, CatchFault>
-    ensures { IsReplyTo snapshot.now.value request result }
-{
-    match cut_request(alloc, snapshot, request) {
-        Ok(cut_result) => Ok(Reply::new(Arc::try_clone(snapshot)?, request, cut_result)),
-        Err(fault) => Err(fault),
-    }
+    cut_result: CutResult,
 }
 
-/// What the programme of a request is cut into, or the first fault.
-fn cut_request(
-    alloc: Global,
-    snapshot: &Snapshot,
-    request: Request,
-) -> Result<CutResult, CatchFault>
-    ensures { MatchResult result (IsRightAnswer snapshot.now request) (λ fault. IsTableFor snapshot.now request (Err fault)) }
-{
-    match table_of(alloc, snapshot, request) {
-        Ok(table) => {
-            let _ = table.len();
-            let Some(recordings) = collect_recordings(alloc, snapshot)? else {
-                unreachable!()
-            };
-            let epoch = snapshot.config().epoch();
-            Ok(cut_programme(alloc, recordings.as_slice(), epoch, table)?)
+impl Model for Reply {
+    ghost use Rattle.hls_catchup.specs.Replies.{ReplyData, model_of};
+    ghost use Rattle.hls_catchup.specs.Requests.{IsRightAnswer};
+
+    ghost Value = { ReplyData };
+
+    ghost view = { model_of };
+
+    ghost invariant = { λ r. IsRightAnswer r.snapshot.value r.request r.cut_result };
+}
+
+impl Reply {
+    /// Makes the reply of a snapshot to a request, given that the cut result is right.
+    pub fn new(snapshot: Arc<Snapshot>, request: Request, cut_result: CutResult) -> Reply
+        requires { IsRightAnswer snapshot.value request cut_result }
+        ensures reply { IsRightReply snapshot.value request result }
+        ensures cut_result { result.cut_result ≡ cut_result }
+    {
+        Reply {
+            snapshot,
+            request,
+            cut_result,
         }
-        Err(fault) => Err(fault),
+    }
+
+    /// Returns the snapshot that answers.
+    pub fn snapshot(&self) -> &Snapshot
+        ensures value { result.now ≡ self.now.state }
+        ensures right { IsRightAnswer self.now.state self.now.request self.now.cut_result }
+    {
+        &self.snapshot
+    }
+
+    /// Returns the same snapshot, shared.
+    pub fn share_snapshot(&self) -> Result<Arc<Snapshot>, AllocError>
+        ensures { IfOk result (λ snapshot. snapshot.value ≡ self.now.state) }
+    {
+        Arc::try_clone(&self.snapshot)
+    }
+
+    /// Returns the request.
+    pub fn request(&self) -> Request
+        ensures { result ≡ self.now.request }
+    {
+        self.request
+    }
+
+    /// Returns the playlists with their certificate, or the certificate that there is no plan.
+    pub fn cut_result(&self) -> &CutResult
+        ensures { result.now ≡ self.now.cut_result }
+    {
+        &self.cut_result
     }
 }

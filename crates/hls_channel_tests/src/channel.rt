@@ -1,5 +1,5 @@
-//! A channel of a video and perhaps an audio rendition before anything came; none where memory was refused. Target 6 s, preferred
-//! length 4 s.
+//! A channel of a video and optionally an audio rendition without any events; `None` if an allocation failed. The target duration is 6
+//! s, the preferred length 4 s.
 
 use hls_core::config::Config;
 use hls_core::snapshot::Snapshot;
@@ -7,7 +7,7 @@ use hls_core_laws::rendition::Rendition;
 use hls_sample_channels::{SECOND, rendition};
 use std::alloc::Global;
 
-/// Adds a rendition to others.
+/// Appends a rendition to others.
 fn add_rendition(
     alloc: Global,
     renditions: &mut Vec<Rendition>,
@@ -17,7 +17,7 @@ fn add_rendition(
     renditions.push(rendition(alloc, name, video, 0).ok()?).ok()
 }
 
-/// A video rendition, and an audio one where two are asked for.
+/// Makes a video rendition, and an audio one if `two`.
 pub fn renditions(alloc: Global, two: bool) -> Option<Vec<Rendition>> {
     let mut renditions = Vec::new(alloc);
     add_rendition(alloc, &mut renditions, b"v1", true)?;

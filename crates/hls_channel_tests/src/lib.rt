@@ -1,6 +1,7 @@
-//! Tests of a channel's calls whose requests for memory are refused: configurations, events, states, places and turns. Each call
-//! gives its one answer, or says that it wanted memory; what it was lent is then as it was, and the same call again gives the
-//! answer. `tests/refuse_each_allocation` refuses each request in turn.
+//! Tests of a channel's calls under allocation failures: configurations, events, recordings, steps, states, places, turns and catch-up.
+//!
+//! Each call returns its only answer, or reports that it is out of memory; its arguments are then unchanged, and the same call again
+//! returns the answer. `tests/gate/fail_each_allocation` refuses each allocation in turn.
 #![tactic(auto)]
 
 #[cfg(test)]
@@ -8,6 +9,20 @@ mod channel;
 #[cfg(test)]
 mod places;
 #[cfg(test)]
+mod plays;
+#[cfg(test)]
+mod recordings;
+#[cfg(test)]
+mod refused_replies;
+#[cfg(test)]
+mod refused_steps;
+#[cfg(test)]
+mod requests;
+#[cfg(test)]
+mod samples;
+#[cfg(test)]
 mod states;
 #[cfg(test)]
 mod turns;
+#[cfg(test)]
+mod two_units;

@@ -3,7 +3,7 @@
 ghost use Rattle.std.specs.Prelude.{IfSome};
 ghost use Rattle.hls_places_laws.specs.Order.{ArePlaces};
 
-use hls_check_laws::{CostRule, Goal, PlaceTable, Spots};
+use hls_check_tables::{CostRule, Goal, PlaceTable, Spots};
 use hls_fakes::CallOutcome;
 use hls_places::{Place, PlaceCursor, common, programme};
 use hls_places_laws::ProgrammeFault;
@@ -11,7 +11,7 @@ use hls_record::Recording;
 use hls_sample_channels::{SECOND, THREE_UNITS, end_channel_with_retry};
 use std::alloc::Global;
 
-/// Whether it's the place of a number, 4 s behind the one before it; the fourth is the closing one.
+/// Whether it is the place with a number, 4 s after the one before it; the fourth is the closing one.
 fn is_place(place: &Place, number: u64) -> bool {
     let start = number.wrapping_mul(4 * SECOND);
     match place.spots.as_slice() {
@@ -36,7 +36,7 @@ fn are_places(places: &[Place]) -> bool {
     }
 }
 
-/// The places of the recording.
+/// Returns the places of the recording.
 pub fn find_places(alloc: Global, recording: &Recording) -> Option<Vec<Place>>
     ensures { IfSome result (λ places. ArePlaces places.items) }
 {
@@ -65,7 +65,7 @@ fn starts_at(spots: &Spots, start: u64) -> bool {
     }
 }
 
-/// Whether it's the table of the places from 4 s to 12 s.
+/// Whether it is the table of the places from 4 s to 12 s.
 fn is_programme(table: &PlaceTable) -> bool {
     match table.places() {
         [first, second, third] => {
@@ -77,7 +77,7 @@ fn is_programme(table: &PlaceTable) -> bool {
     }
 }
 
-/// The programme from 5 s to 9 s.
+/// The outcome of the programme from 5 s to 9 s.
 pub fn outcome_of_programme(alloc: Global, places: &[Place]) -> CallOutcome
     requires { ArePlaces places.now }
 {

@@ -1,4 +1,4 @@
-//! Configurations, events, and the states that they come to.
+//! Configurations, events, and the states to which they lead.
 
 ghost use Rattle.std.specs.Prelude.{IfSome};
 ghost use Rattle.hls_media_laws.specs.IsInitOrUnit.{IsInit};
@@ -10,12 +10,11 @@ use hls_core::replay::replay;
 use hls_core::snapshot::Snapshot;
 use hls_core_laws::event::Event;
 use hls_core_laws::rendition::Rendition;
-use hls_fakes::CallOutcome;
+use hls_fakes::{CallOutcome, init_bytes};
 use hls_media::read_init;
 use hls_media_laws::init::Init;
 use hls_record::Recording;
 use hls_sample_channels::{THREE_UNITS, end_channel_with_retry, record_channel_with_retry};
-use hls_samples::init_bytes;
 use std::alloc::Global;
 
 fn are_renditions(renditions: &[Rendition]) -> bool {
@@ -40,7 +39,7 @@ pub fn outcome_of_config(alloc: Global) -> CallOutcome {
     }
 }
 
-/// What a wrong preferred length is told, for which no memory is taken but that of the renditions.
+/// The outcome of an invalid preferred length, for which only the renditions are allocated.
 pub fn outcome_of_preferred(alloc: Global) -> CallOutcome {
     let Some(renditions) = renditions(alloc, true) else {
         return CallOutcome::OutOfMemory;
@@ -51,12 +50,12 @@ pub fn outcome_of_preferred(alloc: Global) -> CallOutcome {
     }
 }
 
-/// Whether it's the opening state of the configuration that was shared.
+/// Whether it is the opening state of the configuration that was shared.
 fn is_opening(state: &Snapshot, shared: &Config) -> bool {
     state.version() == 0 && is_config(state.config()) && is_config(shared)
 }
 
-/// The opening state of a configuration, and the configuration shared.
+/// The outcome of the opening state of a configuration, and of sharing the configuration.
 pub fn outcome_of_opening(alloc: Global) -> CallOutcome {
     let Some(config) = config(alloc, true) else {
         return CallOutcome::OutOfMemory;
@@ -70,7 +69,7 @@ pub fn outcome_of_opening(alloc: Global) -> CallOutcome {
     }
 }
 
-/// Whether it's the state after two events, one of each worker: the video rendition's begin and its end.
+/// Whether it is the state after two events, one of each worker: the video rendition's begin and its end.
 fn is_replayed(state: &Snapshot) -> bool {
     state.version() == 2
         && state.count_entries_by(0) == 1
@@ -79,7 +78,7 @@ fn is_replayed(state: &Snapshot) -> bool {
         && state.is_finished(1) == Some(false)
 }
 
-/// An init section of 600 bytes, and its bytes.
+/// Makes an init section of 600 bytes, and its bytes.
 fn init(alloc: Global) -> Option<(Init, Bytes)>
     ensures { IfSome result (λ r. IsInit r.1 r.0) }
 {
@@ -89,7 +88,7 @@ fn init(alloc: Global) -> Option<(Init, Bytes)>
     Some((init, bytes))
 }
 
-/// A run of three events by two workers, of which the first is refused.
+/// The outcome of a run of three events by two workers, whose first event is refused.
 pub fn outcome_of_replay(alloc: Global) -> CallOutcome {
     let Some(config) = config(alloc, true) else {
         return CallOutcome::OutOfMemory;
@@ -113,7 +112,7 @@ pub fn outcome_of_replay(alloc: Global) -> CallOutcome {
     }
 }
 
-/// Whether it's the second rendition's begin.
+/// Whether it is the second rendition's begin.
 fn is_begin(event: &Event) -> bool {
     match event {
         Event::Begin {
@@ -125,7 +124,7 @@ fn is_begin(event: &Event) -> bool {
     }
 }
 
-/// An event shared.
+/// The outcome of sharing an event.
 pub fn outcome_of_shared(alloc: Global) -> CallOutcome {
     let Some((init, bytes)) = init(alloc) else {
         return CallOutcome::OutOfMemory;
@@ -156,12 +155,12 @@ fn out_of_memory_then_shares_events_again(rt: HostRuntime) {
     assert!(rt; outcome_of_shared(alloc).is_consistent_with(outcome_of_shared(alloc)));
 }
 
-/// Whether it's a recording of three units.
+/// Whether it is a recording of three units.
 fn is_recording(recording: &Recording) -> bool {
     recording.count() == 3 && recording.total() == 3600
 }
 
-/// A recording shared, of three units.
+/// The outcome of sharing a recording of three units.
 pub fn outcome_of_recording(alloc: Global, state: &Snapshot) -> CallOutcome {
     let Some(recording) = state.recording(0) else {
         return CallOutcome::Wrong;

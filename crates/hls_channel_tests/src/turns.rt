@@ -1,5 +1,4 @@
-//! A turn and its two passes: whatever was refused memory, the state is in its place again, just as it was, and the same call
-//! again goes through.
+//! A turn and its two passes: after an allocation failure the state is back in the turn, unchanged, and the same call again succeeds.
 
 ghost use Rattle.std.specs.Prelude.{◌≡◌, IfSome};
 ghost use Rattle.hls_core_laws.specs.Moves.{IsFittingAsSeen};
@@ -14,7 +13,7 @@ use std::alloc::Global;
 use std::sync::Wait;
 use std::test::Fail;
 
-/// What the passes bring.
+/// What the passes submit.
 #[derive(Clone, Copy)]
 enum PassEvent {
     Begin,
@@ -22,7 +21,7 @@ enum PassEvent {
     Finish,
 }
 
-/// The event of an act after a state; none where memory was refused.
+/// Returns the event of an act in a state; `None` if an allocation failed.
 fn event_of(alloc: Global, state: &Snapshot, pass_event: PassEvent) -> Option<Event>
     ensures { IfSome result (λ event. IsFittingAsSeen state.now event) }
 {
@@ -35,7 +34,7 @@ fn event_of(alloc: Global, state: &Snapshot, pass_event: PassEvent) -> Option<Ev
     }
 }
 
-/// An event that is brought by a pass.
+/// Submits an event with a pass.
 fn submit_event<T: Wait>(
     rt: &T,
     alloc: Global,
@@ -71,7 +70,7 @@ fn counts_of(state: &Snapshot) -> SnapshotCounts {
     )
 }
 
-/// What a pass sees as it looks; none where memory was refused.
+/// Returns what a pass sees when it looks; `None` if an allocation failed.
 fn look_at_counts<T: Wait>(
     rt: &T,
     alloc: Global,
@@ -85,7 +84,7 @@ fn look_at_counts<T: Wait>(
     Some(counts_of(&state))
 }
 
-/// The same, seen once more where memory was refused.
+/// Returns the same, and retries once if an allocation failed.
 fn look_at_counts_with_retry<T: Wait>(
     rt: &T,
     alloc: Global,
@@ -101,8 +100,8 @@ fn look_at_counts_with_retry<T: Wait>(
     }
 }
 
-/// Whether an event that a pass brings is new, in a second call where the first was refused memory and left the state, which the
-/// other pass sees, as it was.
+/// Whether a pass's event is new, in a second call if the first failed to allocate and left the state unchanged, as the other pass
+/// sees.
 fn submits_with_retry<T: Wait>(
     rt: &T,
     alloc: Global,
@@ -128,7 +127,7 @@ fn submits_with_retry<T: Wait>(
     first == done && look_at_counts_with_retry(rt, alloc, turn, other) == Some(to)
 }
 
-/// Whether the first pass brings an init section and a unit, and the second one another unit and the end.
+/// Whether the first pass submits an init section and a unit, and the second one another unit and the end.
 fn all_submit_with_retry<T: Wait>(
     rt: &T,
     alloc: Global,
@@ -187,7 +186,7 @@ fn all_submit_with_retry<T: Wait>(
     )
 }
 
-/// Whether all go through a new turn; none where the turn was refused memory.
+/// Whether all of them succeed on a new turn; `None` if the turn couldn't be allocated.
 fn runs_all_events<T: Wait>(rt: &T, alloc: Global) -> Option<bool> {
     let (turn, mut passes) = Turn::new(rt, alloc, first_snapshot(alloc, false)?, 2).ok()?;
     let mut second = passes.pop()?;
@@ -206,7 +205,7 @@ fn out_of_memory_puts_the_state_back(rt: HostRuntime) -> Result<(), Fail> {
     Ok(())
 }
 
-/// Whether two passes meet after an event of the first one; none where the turn, the event or the meeting was refused memory.
+/// Whether two passes meet after an event of the first one; `None` if an allocation failed in the turn, the event or the meeting.
 fn meets_after_begin<T: Wait>(rt: &T, alloc: Global) -> Option<bool> {
     let (turn, mut passes) = Turn::new(rt, alloc, first_snapshot(alloc, false)?, 2).ok()?;
     let first = passes.first_mut()?;

@@ -1,14 +1,14 @@
 use Rattle.std.proofs.Common.{◌≡◌, ℕ, zero, suc, List, [], ◌∷◌, length, map, Bool, true, false, refl, ◌∙◌, arith, Err}
 use Rattle.std.proofs.lemmas.List.{length-map}
-use Rattle.hls_check_laws.specs.declared.cert_fault.CertFault.TheVariants.{PriceStep}
-use Rattle.hls_check_laws.specs.Tables.{Table}
-use Rattle.hls_check_laws.specs.Steps.{cost}
-use Rattle.hls_check_laws.specs.Certificates.{ClaimData, CutClaim, NoneClaim, price_at, is_closed, KeepsPrice, NoneKeepsClosed, IsForm}
+use Rattle.hls_check_tables.specs.declared.cert_fault.CertFault.TheVariants.{PriceStep}
+use Rattle.hls_check_tables.specs.Tables.{Table}
+use Rattle.hls_check_tables.specs.Steps.{cost}
+use Rattle.hls_check_tables.specs.Certificates.{ClaimData, CutClaim, NoneClaim, price_at, is_closed, KeepsPrice, NoneKeepsClosed, IsForm}
 use Rattle.hls_check.specs.Faults.{IsFirstBrokenStep}
 use Rattle.hls_check.specs.CheckResults.{CheckResultOver}
 use Rattle.hls_check.specs.Rows.{price_if_closed, claimed_prices, StepKeepsPrices, HasNoEarlyFault}
 
--- the price of a place is that of its mark
+-- the price of a place is that of its flag
 pub price_of_closed : (closed : List Bool) (p : ℕ) → price_at (map price_if_closed closed) p ≡ price_if_closed (is_closed closed p)
 price_of_closed [] p = refl
 price_of_closed (mark ∷ closed) zero = refl
@@ -19,7 +19,7 @@ pub one_price_each : (count : ℕ) (shown : ClaimData) → IsForm count shown �
 one_price_each count (CutClaim total plan prices) form = form.one_each
 one_price_each count (NoneClaim closed) form = length-map closed price_if_closed ∙ form
 
--- a step keeps to the prices of a closed set just where it stays in it
+-- a step respects the prices of a closed set if and only if it stays in the set
 marks_keep : (step : ℕ) (from to : Bool) → KeepsPrice step (price_if_closed from) (price_if_closed to) → from ≡ true → to ≡ true
 marks_keep step true true keeps inside = refl
 marks_keep step true false keeps inside = absurd keeps
@@ -51,7 +51,7 @@ first_that_leaves t closed p q first = record {
   rows = λ i j below. stays_in t closed i j (first.rows i j below);
 }
 
--- and the answer to what is shown
+-- and the result for the claim
 pub broken_answer : (t : Table) (shown : ClaimData) (p q : ℕ) → HasNoEarlyFault t shown → IsFirstBrokenStep (StepKeepsPrices t shown) p q →
     CheckResultOver t shown (Err (PriceStep p q))
 broken_answer t (CutClaim total plan prices) p q so_far first = (so_far.0, so_far.1, so_far.2, so_far.3, first)

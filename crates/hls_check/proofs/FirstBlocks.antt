@@ -5,17 +5,17 @@ use Rattle.std.specs.Borrow.{Bor}
 use Rattle.std.proofs.lemmas.Bool.{cases_lt, cases_eq}
 use Rattle.rayon.specs.Lists.{filter_by_mask}
 use Rattle.rayon.specs.Numbers.{nat_range}
-use Rattle.hls_check_laws.specs.Tables.{Table}
-use Rattle.hls_check_laws.specs.Certificates.{ClaimData}
+use Rattle.hls_check_tables.specs.Tables.{Table}
+use Rattle.hls_check_tables.specs.Certificates.{ClaimData}
 use Rattle.hls_check.specs.Faults.{IsFirstBrokenStep}
 use Rattle.hls_check.specs.Rows.{StepKeepsPrices, RowsKeepPrices, BlockKeepsPrices, IsFirstBadBlock, IsFirstOfRows}
 use Rattle.hls_check.proofs.Blocks.{first_of_all}
 
--- the answer that was given at a block
+-- the result for a block
 abbrev pub IsToldAt : Table → ClaimData → ℕ → Bool → Type 0
 IsToldAt t shown b bad = (p : Bor ℕ) × (p.now ≡ b) × MatchBool bad (BlockKeepsPrices t shown p.now → ⊥) (BlockKeepsPrices t shown p.now)
 
--- the first at which it was yes
+-- the first block whose result is true
 first_yes : (t : Table) (shown : ClaimData) (a n : ℕ) (bs : List Bool) → AllZip (IsToldAt t shown) (range_with_len a n) bs →
     MatchOption (slice_get (filter_by_mask (range_with_len a n) bs) 0)
     ((b : ℕ) → a ≤ b → b < a + n → BlockKeepsPrices t shown b) (IsFirstBadBlock t shown a (a + n))
@@ -65,7 +65,7 @@ first_told t shown from to start end order is_start is_end xs bs r is told found
 pub rows_of_blocks : (t : Table) (shown : ClaimData) (n : ℕ) → ((b : ℕ) → b < n → BlockKeepsPrices t shown b) → RowsKeepPrices t shown 0 (n * 32)
 rows_of_blocks t shown n keep i j from below = keep (i / 32) (omega (arith, below)) i j (omega arith) (omega arith)
 
--- so the first step of the first bad block is the first of all
+-- so the first broken step of the first bad block is the first of all
 pub first_of_bad : (t : Table) (shown : ClaimData) (done end block : ℕ) (r : Option (ℕ × ℕ)) →
     ((b : ℕ) → b < done → BlockKeepsPrices t shown b) → IsFirstBadBlock t shown done end block →
     MatchOption r (BlockKeepsPrices t shown block) (λ step. IsFirstOfRows t shown (block * 32) (block * 32 + 32) step.0 step.1) →
@@ -80,7 +80,7 @@ first_of_bad t shown done end block (Some step) before first found =
     ]))
     found
 
--- where all blocks keep to the prices each step does
+-- if all blocks respect the prices, each step does
 pub all_of_blocks : (t : Table) (shown : ClaimData) (blocks : ℕ) → length t.places ≤ blocks * 32 →
     ((b : ℕ) → b < blocks → BlockKeepsPrices t shown b) → (p q : ℕ) → StepKeepsPrices t shown p q
 all_of_blocks t shown blocks enough keep p q rises allowed =

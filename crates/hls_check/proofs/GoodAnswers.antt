@@ -1,14 +1,14 @@
 use Rattle.std.proofs.Common.{ℕ, List, Option, Bool, Result, Ok, Err, IsOk, refl}
-use Rattle.hls_check_laws.specs.declared.cert_fault.CertFault.{CertFault}
-use Rattle.hls_check_laws.specs.declared.cert_fault.CertFault.TheVariants.{Form, TableNotSorted, PlanEnds, PlanStep, PlanCost, PriceStart, PriceStep, EndReached, Memory}
-use Rattle.hls_check_laws.specs.declared.verdict.Verdict.{Verdict}
-use Rattle.hls_check_laws.specs.declared.verdict.Verdict.TheVariants.{Cut, NoCut}
-use Rattle.hls_check_laws.specs.Tables.{Table, IsTable}
-use Rattle.hls_check_laws.specs.Certificates.{CertificateData, ClaimData, CutClaim, NoneClaim, IsGoodCut, IsGoodNone, IsGoodOver, IsGood}
+use Rattle.hls_check_tables.specs.declared.cert_fault.CertFault.{CertFault}
+use Rattle.hls_check_tables.specs.declared.cert_fault.CertFault.TheVariants.{Form, TableNotSorted, PlanEnds, PlanStep, PlanCost, PriceStart, PriceStep, EndReached, Memory}
+use Rattle.hls_check_tables.specs.declared.verdict.Verdict.{Verdict}
+use Rattle.hls_check_tables.specs.declared.verdict.Verdict.TheVariants.{Cut, NoCut}
+use Rattle.hls_check_tables.specs.Tables.{Table, IsTable}
+use Rattle.hls_check_tables.specs.Certificates.{CertificateData, ClaimData, CutClaim, NoneClaim, IsGoodCut, IsGoodNone, IsGoodOver, IsGood}
 use Rattle.hls_check.specs.CheckResults.{CutCheckResult, NoneCheckResult, CheckResultOver, IsCheckResult}
 use Rattle.hls_check.proofs.PlanLists.{ends_from_plan, steps_from_plan}
 
--- a cut that is answered by a fault isn't good
+-- a cut with a fault isn't good
 pub cut_fault : (t : Table) → IsTable t → (total : ℕ) (plan : List ℕ) (prices : List (Option ℕ)) (fault : CertFault) →
     CutCheckResult t total plan prices (Err fault) → IsGoodCut t total plan prices → ⊥
 cut_fault t ok total plan prices (Form line) answer good = answer
@@ -41,7 +41,7 @@ none_fault t closed EndReached answer good =
     cc
 none_fault t closed Memory answer good = answer
 
--- a yes is given of good certificates alone, and of each
+-- the result is Ok for every good certificate, and for no other
 pub good_from_ok : (c : CertificateData) (r : Result Verdict CertFault) → IsCheckResult c r → IsOk r → IsGood c
 good_from_ok c r answer is_ok = good_over c.table c.shown r answer is_ok
   where

@@ -1,19 +1,19 @@
 use Rattle.std.proofs.Common.{◌≡◌, ℕ, ◌<◌, List, Option, Bool, Result, Ok, Err, arith, refl, sym, ap, ◌∙◌, inl, inr}
 use Rattle.std.proofs.lemmas.Bool.{cases_lt, cases_eq}
-use Rattle.hls_check_laws.specs.declared.cert_fault.CertFault.{CertFault}
-use Rattle.hls_check_laws.specs.declared.cert_fault.CertFault.TheVariants.{Form, TableNotSorted, PlanEnds, PlanStep, PlanCost, PriceStart, PriceStep, EndReached, Memory}
-use Rattle.hls_check_laws.specs.declared.verdict.Verdict.{Verdict}
-use Rattle.hls_check_laws.specs.declared.verdict.Verdict.TheVariants.{Cut, NoCut}
-use Rattle.hls_check_laws.specs.Tables.{Table, IsTable}
-use Rattle.hls_check_laws.specs.Orders.{IsSorted, IsFirstUnsorted}
-use Rattle.hls_check_laws.specs.Plans.{IsPlan}
-use Rattle.hls_check_laws.specs.Certificates.{IsCertificate, CertificateData, ClaimData, CutClaim, NoneClaim}
+use Rattle.hls_check_tables.specs.declared.cert_fault.CertFault.{CertFault}
+use Rattle.hls_check_tables.specs.declared.cert_fault.CertFault.TheVariants.{Form, TableNotSorted, PlanEnds, PlanStep, PlanCost, PriceStart, PriceStep, EndReached, Memory}
+use Rattle.hls_check_tables.specs.declared.verdict.Verdict.{Verdict}
+use Rattle.hls_check_tables.specs.declared.verdict.Verdict.TheVariants.{Cut, NoCut}
+use Rattle.hls_check_tables.specs.Tables.{Table, IsTable}
+use Rattle.hls_check_tables.specs.Orders.{IsSorted, IsFirstUnsorted}
+use Rattle.hls_check_tables.specs.Plans.{IsPlan}
+use Rattle.hls_check_tables.specs.Certificates.{IsCertificate, CertificateData, ClaimData, CutClaim, NoneClaim}
 use Rattle.hls_check.specs.Faults.{IsFirstBadPair, IsFirstBrokenStep}
 use Rattle.hls_check.specs.CheckResults.{CutCheckResult, NoneCheckResult, CheckResultOver, IsCheckResult}
 use Rattle.hls_check.proofs.PlanLists.{ends_from_plan, steps_from_plan}
 use Rattle.hls_check.proofs.GoodAnswers.{cut_fault, none_fault}
 
--- of two firsts neither is before the other
+-- of two first elements neither is before the other
 one_first : (p q : ℕ) → (p < q → ⊥) → (q < p → ⊥) → p ≡ q
 one_first p q before behind =
     elim (cases_lt p q) [
@@ -21,7 +21,7 @@ one_first p q before behind =
       | inr above ↦ elim (cases_eq p q) [ inl same ↦ same | inr ne ↦ absurd (behind (omega arith)) ]
     ]
 
--- the first place out of order is one
+-- the first place out of order is unique
 one_unsorted : (t : Table) (p q : ℕ) → IsFirstUnsorted t p → IsFirstUnsorted t q → p ≡ q
 one_unsorted t p q one other =
     one_first p q (λ below. one.unsorted (other.sorted_before p below)) (λ above. other.unsorted (one.sorted_before q above))
@@ -29,7 +29,7 @@ one_unsorted t p q one other =
 unsorted_sorted : (t : Table) (p : ℕ) → IsFirstUnsorted t p → IsSorted t → ⊥
 unsorted_sorted t p first sorted = first.unsorted (sorted p first.in_range)
 
--- the first bad pair of a plan is one
+-- the first bad pair of a plan is unique
 one_at : (t : Table) (plan : List ℕ) (p q i j : ℕ) (one : IsFirstBadPair t plan p q) (other : IsFirstBadPair t plan i j) →
     one.at ≡ other.at
 one_at t plan p q i j one other =
@@ -40,7 +40,7 @@ bad_pair_plan : (t : Table) → IsTable t → (plan : List ℕ) (p q : ℕ) → 
 bad_pair_plan t ok plan p q sorted first is_plan =
     first.bad (rw (← first.is_from, ← first.is_to) (steps_from_plan t ok sorted plan is_plan first.at first.in_plan))
 
--- the first broken step is one
+-- the first broken step is unique
 one_row : (Holds : ℕ → ℕ → Type 0) (p q i j : ℕ) → IsFirstBrokenStep Holds p q → IsFirstBrokenStep Holds i j → p ≡ i
 one_row Holds p q i j one other =
     one_first p i (λ below. one.in_row.broken (other.rows p q below)) (λ above. other.in_row.broken (one.rows i j above))
@@ -49,7 +49,7 @@ one_place : (Holds : ℕ → ℕ → Type 0) (p q j : ℕ) → IsFirstBrokenStep
 one_place Holds p q j one other =
     one_first q j (λ below. one.in_row.broken (other.in_row.before q below)) (λ above. other.in_row.broken (one.in_row.before j above))
 
--- two faults of one cut are one
+-- two faults of one cut are the same
 cut_faults : (t : Table) → IsTable t → (total : ℕ) (plan : List ℕ) (prices : List (Option ℕ)) (one other : CertFault) →
     CutCheckResult t total plan prices (Err one) → CutCheckResult t total plan prices (Err other) → one ≡ other
 cut_faults t ok total plan prices (TableNotSorted p) (TableNotSorted q) a b = ap (λ (x : ℕ). TableNotSorted x) (one_unsorted t p q a b)
@@ -104,7 +104,7 @@ cut_faults t ok total plan prices one (Form x) a b = absurd b
 cut_faults t ok total plan prices one EndReached a b = absurd b
 cut_faults t ok total plan prices one Memory a b = absurd b
 
--- two faults of one closed set are one
+-- two faults of one closed set are the same
 none_faults : (t : Table) (closed : List Bool) (one other : CertFault) →
     NoneCheckResult t closed (Err one) → NoneCheckResult t closed (Err other) → one ≡ other
 none_faults t closed (TableNotSorted p) (TableNotSorted q) a b = ap (λ (x : ℕ). TableNotSorted x) (one_unsorted t p q a b)
@@ -137,7 +137,7 @@ none_faults t closed one (PlanStep i j) a b = absurd b
 none_faults t closed one PlanCost a b = absurd b
 none_faults t closed one Memory a b = absurd b
 
--- two answers to one certificate are one
+-- two results for one certificate are the same
 one_over : (t : Table) → IsTable t → (shown : ClaimData) (one other : Result Verdict CertFault) →
     CheckResultOver t shown one → CheckResultOver t shown other → one ≡ other
 one_over t ok (CutClaim total plan prices) (Ok (Cut x)) (Ok (Cut y)) a b =

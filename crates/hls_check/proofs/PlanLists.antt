@@ -1,9 +1,9 @@
 use Rattle.std.proofs.Common.{◌≡◌, ℕ, zero, suc, ◌+◌, ◌-◌, ◌<◌, ◌≤◌, List, [], ◌∷◌, length, get_or, take, arith, refl, subst}
-use Rattle.hls_check_laws.specs.Tables.{Table, IsTable}
-use Rattle.hls_check_laws.specs.Steps.{cost}
-use Rattle.hls_check_laws.specs.Orders.{IsSorted}
-use Rattle.hls_check_laws.specs.Plans.{StepsAreAllowed, last_place, cost_from, IsPlan, plan_cost, HasEnds}
-use Rattle.hls_check_laws.proofs.Walks.{Allowed-rises}
+use Rattle.hls_check_tables.specs.Tables.{Table, IsTable}
+use Rattle.hls_check_tables.specs.Steps.{cost}
+use Rattle.hls_check_tables.specs.Orders.{IsSorted}
+use Rattle.hls_check_tables.specs.Plans.{StepsAreAllowed, last_place, cost_from, IsPlan, plan_cost, HasEnds}
+use Rattle.hls_check_tables.proofs.Walks.{Allowed-rises}
 use Rattle.hls_check.specs.Faults.{IsForwardStep, HasSteps}
 
 -- the end of a walk is its last place
@@ -50,7 +50,7 @@ plan_from_parts t (p ∷ rest) ends steps =
     subst (λ (j : ℕ). Q k j) same (steps k (omega arith)) in
     (ends.0, ends.1, leads_from_steps t p rest pairs)
 
--- and a plan of a sorted table has its ends and goes forward step by step
+-- and a plan of a sorted table has its ends, and each step leads forward
 pub ends_from_plan : (t : Table) (plan : List ℕ) → IsPlan t plan → HasEnds t plan
 ends_from_plan t [] is_plan = is_plan
 ends_from_plan t (p ∷ rest) is_plan = (is_plan.0, is_plan.1)

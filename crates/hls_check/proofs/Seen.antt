@@ -1,23 +1,23 @@
--- The lemmas on a search through the steps: what it has seen is good, and the next step, column or block too.
+-- The lemmas on a search through the steps: the steps examined so far respect the prices, and the next step, column or block does too.
 use Rattle.std.proofs.Common.{◌≡◌, ℕ, ◌+◌, ◌<◌, ◌≤◌, ◌↔◌, length, min, Bool, true, false, Option, Some, None, refl, inl, inr, arith}
 use Rattle.std.proofs.lemmas.Bool.{cases_lt, cases_eq}
 use Rattle.std.specs.Prelude.{IsTrue, MatchOption}
 use Rattle.std.specs.Bool.{MatchBool}
-use Rattle.hls_check_laws.specs.Tables.{Table}
-use Rattle.hls_check_laws.specs.Steps.{Allowed, cost}
-use Rattle.hls_check_laws.specs.Certificates.{ClaimData, KeepsPrice, price_at}
+use Rattle.hls_check_tables.specs.Tables.{Table}
+use Rattle.hls_check_tables.specs.Steps.{Allowed, cost}
+use Rattle.hls_check_tables.specs.Certificates.{ClaimData, KeepsPrice, price_at}
 use Rattle.hls_check.specs.Rows.{claimed_prices, StepKeepsPrices, RowsKeepPrices, ColumnKeepsPrices, IsFirstOfColumn, IsFirstFound, IsLowerBound, IsFirstOfRowsOrNone}
 
--- a place without a price keeps to every step from it
+-- every step from a place without a price respects the prices
 pub unpriced : (t : Table) (shown : ClaimData) (p q : ℕ) → price_at (claimed_prices shown) p ≡ None → StepKeepsPrices t shown p q
 unpriced t shown p q none = λ forward allowed. rw none tt
 
--- a price that is kept to
+-- a step that respects a price
 pub kept : (t : Table) (shown : ClaimData) (p q price between : ℕ) (to : Option ℕ) → Some price ≡ price_at (claimed_prices shown) p
     → between ≡ cost t p q → to ≡ price_at (claimed_prices shown) q → KeepsPrice between (Some price) to → StepKeepsPrices t shown p q
 kept t shown p q price between to from_is between_is to_is keeps = λ forward allowed. (rw (from_is, between_is, to_is) at keeps)
 
--- one that isn't, by whether the step is allowed
+-- one that doesn't, by whether the step is allowed
 pub unkept : (t : Table) (shown : ClaimData) (p q price between : ℕ) (to : Option ℕ) (step : Bool) → p < q → Some price ≡ price_at (claimed_prices shown) p
     → between ≡ cost t p q → to ≡ price_at (claimed_prices shown) q → (KeepsPrice between (Some price) to → IsTrue false) → (IsTrue step ↔ Allowed t p q)
     → MatchBool step (StepKeepsPrices t shown p q → ⊥) (StepKeepsPrices t shown p q)
@@ -26,21 +26,21 @@ unkept t shown p q price between to true forward from_is between_is to_is breaks
 unkept t shown p q price between to false forward from_is between_is to_is breaks is_step =
     λ forward allowed. let no : false ≡ true = is_step.1 allowed in cc
 
--- one place more of a column
+-- one more place of a column
 pub more_places : (P : ℕ → Type 0) (first p : ℕ) → ((i : ℕ) → first ≤ i → i < p → P i) → P p → (i : ℕ) → first ≤ i → i < p + 1 → P i
 more_places P first p before here i from below = elim (cases_eq i p) [ inl same ↦ rw same here | inr other ↦ before i from (omega arith) ]
 
--- one column more
+-- one more column
 pub more_columns : (P : ℕ → ℕ → Type 0) (first end q : ℕ) → ((i j : ℕ) → first ≤ i → i < end → j < q → P i j)
     → ((i : ℕ) → first ≤ i → i < end → P i q) → (i j : ℕ) → first ≤ i → i < end → j < q + 1 → P i j
 more_columns P first end q before here i j from below to =
     elim (cases_eq j q) [ inl same ↦ rw same (here i from below) | inr other ↦ before i j from below (omega arith) ]
 
--- one block more
+-- one more block
 pub more_rows : (t : Table) (shown : ClaimData) (first end next : ℕ) → RowsKeepPrices t shown first end → RowsKeepPrices t shown end next → RowsKeepPrices t shown first next
 more_rows t shown first end next before here i j from below = elim (cases_lt i end) [ inl low ↦ before i j from low | inr high ↦ here i j high below ]
 
--- from the places from q on no step leads forward to q
+-- from place q and later ones no step leads forward to q
 pub whole_column : (t : Table) (shown : ClaimData) (first end q before : ℕ) (found : Option ℕ) → before ≡ min end q
     → MatchOption found (ColumnKeepsPrices t shown first before q) (IsFirstOfColumn t shown first before q)
     → MatchOption found (ColumnKeepsPrices t shown first end q) (IsFirstOfColumn t shown first end q)
@@ -52,11 +52,11 @@ whole_column t shown first end q before (Some p) before_is is = record {
   column = is.column;
 }
 
--- before the first column none is seen
+-- before the first column none was examined
 pub no_columns : (t : Table) (shown : ClaimData) (first end : ℕ) → (i j : ℕ) → first ≤ i → i < end → j < first + 1 → StepKeepsPrices t shown i j
 no_columns t shown first end i j from below to = λ forward. absurd (omega arith)
 
--- what is seen of a block's rows once a step from place p is found, which is the least place that one leads from
+-- what was examined of a block's rows after a step from place p was found, which is the least place with one
 pub record IsCut (t : Table) (shown : ClaimData) (first p q price start : ℕ) : Type 0 where
   pub within : p ≤ first + 32
   pub so_far : (i j : ℕ) → first ≤ i → i < p → j < q + 1 → StepKeepsPrices t shown i j
@@ -96,6 +96,6 @@ found_of_rows t shown first end q (Some step) past so_far is = record {
   rows = λ i j from below forward allowed. so_far i j from (omega (arith, is.0)) (omega (arith, allowed.to)) forward allowed;
 }
 
--- no step leads from behind the last place
+-- no step starts after the last place
 pub all_rows : (t : Table) (shown : ClaimData) (first : ℕ) → length t.places ≤ first → RowsKeepPrices t shown 0 first → (p q : ℕ) → StepKeepsPrices t shown p q
 all_rows t shown first past rows p q = λ forward allowed. rows p q (omega arith) (omega (arith, allowed.from)) forward allowed

@@ -1,17 +1,16 @@
--- The checker's answers: what each says of its certificate.
+-- The results of the checker, and what each means.
 use Rattle.std.specs.Prelude.{◌≡◌, ◌≢◌, ℕ, ◌-◌, List, length, Option, Some, Bool, true, Result, Ok, Err}
-use Rattle.hls_check_laws.specs.declared.cert_fault.CertFault.{CertFault}
-use Rattle.hls_check_laws.specs.declared.cert_fault.CertFault.TheVariants.{Form, TableNotSorted, PlanEnds, PlanStep, PlanCost, PriceStart, PriceStep, EndReached, Memory}
-use Rattle.hls_check_laws.specs.declared.verdict.Verdict.{Verdict}
-use Rattle.hls_check_laws.specs.declared.verdict.Verdict.TheVariants.{Cut, NoCut}
-use Rattle.hls_check_laws.specs.Tables.{Table}
-use Rattle.hls_check_laws.specs.Orders.{IsSorted, IsFirstUnsorted}
-use Rattle.hls_check_laws.specs.Plans.{IsPlan, HasEnds}
-use Rattle.hls_check_laws.specs.Certificates.{CertificateData, ClaimData, CutClaim, NoneClaim, price_at, is_closed, IsGoodCut, IsGoodNone, HasEqualCosts, CutKeepsPrices, NoneKeepsClosed}
+use Rattle.hls_check_tables.specs.declared.cert_fault.CertFault.{CertFault}
+use Rattle.hls_check_tables.specs.declared.cert_fault.CertFault.TheVariants.{Form, TableNotSorted, PlanEnds, PlanStep, PlanCost, PriceStart, PriceStep, EndReached, Memory}
+use Rattle.hls_check_tables.specs.declared.verdict.Verdict.{Verdict}
+use Rattle.hls_check_tables.specs.declared.verdict.Verdict.TheVariants.{Cut, NoCut}
+use Rattle.hls_check_tables.specs.Tables.{Table}
+use Rattle.hls_check_tables.specs.Orders.{IsSorted, IsFirstUnsorted}
+use Rattle.hls_check_tables.specs.Plans.{IsPlan, HasEnds}
+use Rattle.hls_check_tables.specs.Certificates.{CertificateData, ClaimData, CutClaim, NoneClaim, price_at, is_closed, IsGoodCut, IsGoodNone, HasEqualCosts, CutKeepsPrices, NoneKeepsClosed}
 use Rattle.hls_check.specs.Faults.{IsFirstBadPair, IsFirstBrokenStep}
 
--- The answer to a cut. A fault's line says that the tests before it hold and that its own doesn't,
--- and which place or pair is the first.
+-- The result for a cut. The clause of a fault says that the earlier tests pass and this one fails, and which place or pair is the first.
 abbrev pub CutCheckResult : Table → ℕ → List ℕ → List (Option ℕ) → Result Verdict CertFault → Type 0
 CutCheckResult t total plan prices (Ok (Cut cost)) = (cost ≡ total) × IsGoodCut t total plan prices
 CutCheckResult t total plan prices (Ok NoCut) = ⊥
@@ -28,7 +27,7 @@ CutCheckResult t total plan prices (Err (PriceStep p q)) =
 CutCheckResult t total plan prices (Err EndReached) = ⊥
 CutCheckResult t total plan prices (Err Memory) = ⊥
 
--- the answer to no cut
+-- the result for no cut
 abbrev pub NoneCheckResult : Table → List Bool → Result Verdict CertFault → Type 0
 NoneCheckResult t closed (Ok (Cut cost)) = ⊥
 NoneCheckResult t closed (Ok NoCut) = IsGoodNone t closed
@@ -45,11 +44,11 @@ NoneCheckResult t closed (Err EndReached) =
     (is_closed closed (length t.places - 1) ≡ true)
 NoneCheckResult t closed (Err Memory) = ⊥
 
--- the answer over a table to what is shown
+-- the result for a claim over a table
 abbrev pub CheckResultOver : Table → ClaimData → Result Verdict CertFault → Type 0
 CheckResultOver t (CutClaim total plan prices) = CutCheckResult t total plan prices
 CheckResultOver t (NoneClaim closed) = NoneCheckResult t closed
 
--- the checker's one answer: Ok exactly where the certificate is good, else the first fault
+-- the result of the checker: Ok if and only if the certificate is good, otherwise the first fault
 abbrev pub IsCheckResult : CertificateData → Result Verdict CertFault → Type 0
 IsCheckResult c = CheckResultOver c.table c.shown

@@ -1,9 +1,9 @@
--- Which pair of a plan is the first that is no step, and which step the first that breaks a rule.
+-- The first pair of a plan that isn't a step, and the first step that breaks a rule.
 use Rattle.std.specs.Prelude.{◌≡◌, ℕ, ◌+◌, ◌<◌, List, length, slice_index}
-use Rattle.hls_check_laws.specs.Tables.{Table}
-use Rattle.hls_check_laws.specs.Steps.{Allowed}
+use Rattle.hls_check_tables.specs.Tables.{Table}
+use Rattle.hls_check_tables.specs.Steps.{Allowed}
 
--- a step that goes forward and is allowed
+-- an allowed step that leads forward
 pub record IsForwardStep (t : Table) (p q : ℕ) : Type 0 where
   pub rises : p < q
   pub allowed : Allowed t p q
@@ -12,7 +12,7 @@ pub record IsForwardStep (t : Table) (p q : ℕ) : Type 0 where
 abbrev pub IsStepAt : Table → List ℕ → ℕ → Type 0
 IsStepAt t plan k = IsForwardStep t (slice_index plan k) (slice_index plan (k + 1))
 
--- so is each pair of a plan
+-- each pair of a plan is such a step
 abbrev pub HasSteps : Table → List ℕ → Type 0
 HasSteps t plan = (k : ℕ) → k + 1 < length plan → IsStepAt t plan k
 

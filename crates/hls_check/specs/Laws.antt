@@ -1,11 +1,11 @@
--- The law of the checker's answers.
+-- The law of the checker's results.
 use Rattle.std.specs.Prelude.{◌≡◌, Result}
-use Rattle.hls_check_laws.specs.declared.cert_fault.CertFault.{CertFault}
-use Rattle.hls_check_laws.specs.declared.verdict.Verdict.{Verdict}
-use Rattle.hls_check_laws.specs.Certificates.{CertificateData, IsCertificate}
+use Rattle.hls_check_tables.specs.declared.cert_fault.CertFault.{CertFault}
+use Rattle.hls_check_tables.specs.declared.verdict.Verdict.{Verdict}
+use Rattle.hls_check_tables.specs.Certificates.{CertificateData, IsCertificate}
 use Rattle.hls_check.specs.CheckResults.{IsCheckResult}
 
--- a certificate has at most one answer: of several faults just the first is named
+-- a certificate has at most one result: of several faults only the first is reported
 abbrev pub CheckResultIsUnique : Type 0
 CheckResultIsUnique =
     (c : CertificateData) (one other : Result Verdict CertFault) →

@@ -2,3 +2,10 @@ pub mod Faults
 pub mod CheckResults
 pub mod Rows
 pub mod Laws
+pub mod Text
+pub mod SpotTexts
+pub mod LineTexts
+pub mod WrongLines
+pub mod Stages
+pub mod NextLines
+pub mod TextLaws

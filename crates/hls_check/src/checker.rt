@@ -1,9 +1,10 @@
-//! The checker's answer: the tests in their order, with either search of the rows.
+//! The checker: the tests in their order, with either search for a broken step. The program calls only `check_rows`; `check` differs from
+//! it in the search.
 
 ghost use Rattle.std.specs.Prelude.{◌≡◌, ℕ, ◌↔◌, length, IsTrue, IsOk, MatchOption, Err};
-ghost use Rattle.hls_check_laws.specs.Tables.{IsTable};
-ghost use Rattle.hls_check_laws.specs.Certificates.{IsCertificate, IsCutForm, IsGood, HasEqualCosts, CutClaim, NoneClaim, claim_data};
-ghost use Rattle.hls_check_laws.specs.Orders.{IsSorted};
+ghost use Rattle.hls_check_tables.specs.Tables.{IsTable};
+ghost use Rattle.hls_check_tables.specs.Certificates.{IsCertificate, IsCutForm, IsGood, HasEqualCosts, CutClaim, NoneClaim, claim_data};
+ghost use Rattle.hls_check_tables.specs.Orders.{IsSorted};
 ghost use Rattle.hls_check.specs.Faults.{HasSteps};
 ghost use Rattle.hls_check.specs.CheckResults.{CutCheckResult, NoneCheckResult, CheckResultOver, IsCheckResult};
 ghost use Rattle.hls_check.specs.Rows.{claimed_prices, StepKeepsPrices, IsFirstBrokenOrNone, HasNoEarlyFault};
@@ -12,7 +13,7 @@ use crate::parallel::first_broken_step_in_parallel;
 use crate::plans::{first_bad_pair, has_ends, plan_cost};
 use crate::prices::{has_price, is_closed};
 use crate::rows::first_broken_step;
-use hls_check_laws::{CertFault, Certificate, CertificateTable, Claim, Verdict, first_unsorted};
+use hls_check_tables::{CertFault, Certificate, CertificateTable, Claim, Verdict, first_unsorted};
 use std::alloc::Global;
 use std::thread::Threads;
 
@@ -30,7 +31,7 @@ fn has_equal_costs(
     plan_cost(table, plan) == total && has_price(prices, last, total)
 }
 
-/// The first fault of a cut, of those before the steps that don't keep to the prices.
+/// The first fault of a cut that isn't about the prices after a step.
 #[tactic(auto, using(crate::proofs::PlanLists::plan_from_parts))]
 fn find_early_cut_fault(
     table: &CertificateTable,
@@ -58,7 +59,7 @@ fn find_early_cut_fault(
     None
 }
 
-/// The first fault of a closed set, of those before the steps that leave it.
+/// The first fault of a closed set that isn't about a step that leaves it.
 fn find_early_none_fault(table: &CertificateTable, closed: &[bool]) -> Option<CertFault>
     requires valid { IsTable table.now }
     requires each { length closed.now ≡ length table.now.places }
@@ -71,7 +72,7 @@ fn find_early_none_fault(table: &CertificateTable, closed: &[bool]) -> Option<Ce
     None
 }
 
-/// The first fault of those before the steps.
+/// The first fault that isn't about a step.
 fn find_early_fault(certificate: &Certificate) -> Option<CertFault>
     ensures fault { MatchOption result (HasNoEarlyFault certificate.now.table certificate.now.shown) (λ fault. IsCheckResult certificate.now (Err fault)) }
     ensures form { IsCertificate certificate.now }
@@ -88,7 +89,7 @@ fn find_early_fault(certificate: &Certificate) -> Option<CertFault>
     }
 }
 
-/// The answer to a closed set that no step leaves.
+/// The result for a closed set that no step leaves.
 fn decide_none(table: &CertificateTable, closed: &[bool]) -> Result<Verdict, CertFault>
     requires each { length closed.now ≡ length table.now.places }
     requires open { HasNoEarlyFault table.now (NoneClaim closed.now) }
@@ -101,7 +102,7 @@ fn decide_none(table: &CertificateTable, closed: &[bool]) -> Result<Verdict, Cer
     Ok(Verdict::NoCut)
 }
 
-/// The answer where the tests before the steps hold, and this is the first step that doesn't keep to the prices.
+/// The result if the earlier tests pass, given the first step that doesn't respect the prices.
 fn decide_verdict(
     table: &CertificateTable,
     claim: &Claim,
@@ -132,11 +133,14 @@ fn check_sequentially(certificate: &Certificate) -> Result<Verdict, CertFault>
     decide_verdict(table, claim, first_broken_step(table, claim))
 }
 
-/// Whether a certificate is good: a cut with its cost in microseconds, or no cut; else the first
-/// fault, in the order of `CertFault`. Of two steps that break a rule the one from the first place
-/// is named, then the one to the first. It takes no memory. At most each pair of places is looked
-/// at, up to the fault's block of rows; where a place is priced no higher than any of a block's
-/// rows asks, the pairs of these with it aren't.
+/// Checks a certificate. Returns what it proves: a cut with its cost in microseconds, or no cut. Doesn't allocate.
+///
+/// # Errors
+/// The first fault, in the order of `CertFault`. Of several broken steps it is the one with the least first place, and of these the one
+/// with the least second place.
+///
+/// At most each pair of places is examined once, up to the block of rows with the fault. If a place's price is at most what every row of a
+/// block allows, its pairs with that block are skipped.
 pub fn check(certificate: &Certificate) -> Result<Verdict, CertFault>
     ensures answer { IsCheckResult certificate.now result }
     ensures good { IsOk result ↔ IsGood certificate.now }
@@ -162,9 +166,8 @@ fn check_in_parallel(
     )
 }
 
-/// What `check` answers, with the same fault of several, by rows of pairs that are looked at side by
-/// side in as many threads as there are processors, and in this one alone where none can be made.
-/// It takes no memory either.
+/// Returns the same result as `check`, with the same fault. Blocks of rows are examined in parallel, by one thread for each processor, or
+/// by the calling thread if no thread can be created. Doesn't allocate.
 pub fn check_rows(
     rt: &(impl Threads + Sync),
     _alloc: Global,

@@ -1,8 +1,8 @@
-//! Laws of the checker's answers.
+//! Laws of the checker's results.
 
 ghost use Rattle.hls_check.specs.Laws.{CheckResultIsUnique};
 
-/// A certificate has at most one answer: its verdict, or the first fault with its numbers.
+/// A certificate has at most one result: its verdict, or its first fault with that fault's numbers.
 pub fn check_result_is_unique()
     ensures { CheckResultIsUnique }
 {}

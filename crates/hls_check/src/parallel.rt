@@ -1,23 +1,23 @@
-//! The first step that doesn't keep to the prices, by blocks of rows that are looked at side by side, in as many
-//! threads as there are processors. Where no thread can be made, the one that there is looks at all of them.
+//! Finds the first step that doesn't respect the prices, by blocks of rows that are examined in parallel, with one thread for each
+//! processor. If no thread can be created, the calling thread examines all of them.
 
 ghost use Rattle.std.specs.Prelude.{◌≡◌, ℕ, ◌+◌, ◌*◌, ◌<◌, ◌≤◌, length};
-ghost use Rattle.hls_check_laws.specs.Tables.{IsTable};
-ghost use Rattle.hls_check_laws.specs.Certificates.{claim_data};
+ghost use Rattle.hls_check_tables.specs.Tables.{IsTable};
+ghost use Rattle.hls_check_tables.specs.Certificates.{claim_data};
 ghost use Rattle.hls_check.specs.Rows.{claimed_prices, DecidesBlock, IsFirstBadBlockOrNone, IsFirstBrokenOrNone};
 
 use crate::rows::{BLOCK_ROWS, first_broken_in_block};
-use hls_check_laws::{CertificateTable, Claim};
+use hls_check_tables::{CertificateTable, Claim};
 use rayon::prelude::*;
 use std::thread::Threads;
 
-/// How many blocks one thread looks at at least: it costs more to start one than these take.
+/// The minimum number of blocks for a thread: starting a thread costs more than examining these.
 const MIN_BLOCKS: usize = 4;
 
-/// How many blocks are looked at before the next ones: those behind a fault aren't.
+/// The number of blocks in a round. After a round with a fault no further block is examined.
 const ROUND_BLOCKS: usize = 64;
 
-/// Whether some step from a block of places doesn't keep to the prices.
+/// Whether some step from a block of places doesn't respect the prices.
 fn is_bad_block(table: &CertificateTable, claim: &Claim, block: usize) -> bool
     requires valid { IsTable table.now }
     requires in_range { block * 32 < length table.now.places }
@@ -27,7 +27,7 @@ fn is_bad_block(table: &CertificateTable, claim: &Claim, block: usize) -> bool
     first_broken_in_block(table, claim, block * BLOCK_ROWS).is_some()
 }
 
-/// The first of some blocks from which a step doesn't keep to the prices.
+/// The first of some blocks with a step that doesn't respect the prices.
 fn first_bad_block(
     rt: &(impl Threads + Sync),
     table: &CertificateTable,
@@ -53,7 +53,7 @@ fn first_bad_block(
         )
 }
 
-/// What `first_broken_step` of the rows gives.
+/// Returns the result of `first_broken_step`, computed in parallel.
 pub fn first_broken_step_in_parallel(
     rt: &(impl Threads + Sync),
     table: &CertificateTable,

@@ -1,11 +1,11 @@
-//! A plan looked at: its ends, its pairs, its cost.
+//! The tests of a plan: its ends, its pairs and its cost.
 
 ghost use Rattle.std.specs.Prelude.{◌≡◌, ℕ, ◌+◌, ◌*◌, ◌<◌, ◌≤◌, ◌↔◌, length, IsTrue, MatchOption, All};
-ghost use Rattle.hls_check_laws.specs.Tables.{IsTable};
-ghost use Rattle.hls_check_laws.specs.Plans.{plan_cost, HasEnds};
+ghost use Rattle.hls_check_tables.specs.Tables.{IsTable};
+ghost use Rattle.hls_check_tables.specs.Plans.{plan_cost, HasEnds};
 ghost use Rattle.hls_check.specs.Faults.{HasSteps, IsForwardStep, IsFirstBadPair};
 
-use hls_check_laws::CertificateTable;
+use hls_check_tables::CertificateTable;
 
 pub fn has_ends(table: &CertificateTable, plan: &[usize]) -> bool
     requires { 0 < length plan.now }
@@ -21,7 +21,7 @@ fn is_forward_step(table: &CertificateTable, p: usize, q: usize) -> bool
     p < q && table.is_allowed(p, q)
 }
 
-/// The first pair of a plan that doesn't rise or isn't an allowed step.
+/// The first pair of a plan that isn't increasing or isn't an allowed step.
 pub fn first_bad_pair(table: &CertificateTable, plan: &[usize]) -> Option<(usize, usize)>
     ensures { MatchOption result (HasSteps table.now plan.now) (λ pair. IsFirstBadPair table.now plan.now pair.0 pair.1) }
 {
@@ -35,7 +35,7 @@ pub fn first_bad_pair(table: &CertificateTable, plan: &[usize]) -> Option<(usize
     None
 }
 
-/// What a plan costs, in microseconds.
+/// The cost of a plan, in microseconds.
 pub fn plan_cost(table: &CertificateTable, plan: &[usize]) -> u64
     requires valid { IsTable table.now }
     requires some { 0 < length plan.now }

@@ -1,10 +1,10 @@
-//! What a claim says of one place.
+//! The claim about one place.
 
 ghost use Rattle.std.specs.Prelude.{◌≡◌, ◌<◌, ◌↔◌, length, IsTrue, Some};
-ghost use Rattle.hls_check_laws.specs.Certificates.{price_at, is_closed, claim_data};
+ghost use Rattle.hls_check_tables.specs.Certificates.{price_at, is_closed, claim_data};
 ghost use Rattle.hls_check.specs.Rows.{claimed_prices};
 
-use hls_check_laws::Claim;
+use hls_check_tables::Claim;
 
 /// Whether place `p` is in the closed set.
 #[inline(always)]
@@ -15,7 +15,7 @@ pub fn is_closed(closed: &[bool], p: usize) -> bool
     closed[p]
 }
 
-/// Whether place `p` has this price.
+/// Whether this is the price of place `p`.
 pub fn has_price(prices: &[Option<u64>], p: usize, price: u64) -> bool
     requires { p < length prices.now }
     ensures { IsTrue result ↔ (price_at prices.now p ≡ Some price) }
@@ -23,7 +23,7 @@ pub fn has_price(prices: &[Option<u64>], p: usize, price: u64) -> bool
     prices[p] == Some(price)
 }
 
-/// The price of place `p`, if it has one: in a closed set 0.
+/// The price of place `p`, if it has one. In a closed set the price is 0.
 #[inline(always)]
 #[tactic(auto, using(crate::proofs::ClosedPrices::price_of_closed))]
 pub fn price_of(claim: &Claim, p: usize) -> Option<u64>

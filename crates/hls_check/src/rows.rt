@@ -1,21 +1,21 @@
-//! The first step that doesn't keep to the prices. The rows of a table, one for the steps from each place, are
-//! looked at some at a time: each place is compared with all of these rows before the next one is.
+//! Finds the first step that doesn't respect the prices. A row of a table is the steps from one place. The rows are examined in blocks:
+//! each place is compared with all rows of a block before the next place is.
 
 ghost use Rattle.std.specs.Prelude.{◌≡◌, ℕ, ◌+◌, ◌*◌, ◌<◌, ◌≤◌, ◌↔◌, length, IsTrue, MatchOption, Some};
 ghost use Rattle.std.specs.Bool.{MatchBool};
-ghost use Rattle.hls_check_laws.specs.Tables.{IsTable};
-ghost use Rattle.hls_check_laws.specs.Certificates.{KeepsPrice, claim_data};
+ghost use Rattle.hls_check_tables.specs.Tables.{IsTable};
+ghost use Rattle.hls_check_tables.specs.Certificates.{KeepsPrice, claim_data};
 ghost use Rattle.hls_check.specs.Rows.{claimed_prices, StepKeepsPrices, ColumnKeepsPrices, IsFirstOfColumn, IsLowerBound, IsBelowBound, IsFirstOfRowsOrNone, IsFirstBrokenOrNone};
 
 use crate::prices::price_of;
 use crate::steps::is_step;
-use hls_check_laws::{CertificateTable, Claim};
+use hls_check_tables::{CertificateTable, Claim};
 use std::ops::Range;
 
-/// How many rows are looked at together: their places are to stay in a processor's nearest memory.
+/// The number of rows in a block. Their places should stay in the processor's first-level cache.
 pub const BLOCK_ROWS: usize = 32;
 
-/// Whether a place with the price `to` keeps to a step of this cost from a place with price `from`.
+/// Whether a step of this cost, from a place with price `from` to one with price `to`, respects the prices.
 #[inline(always)]
 fn keeps_price(cost: u64, from: u64, to: Option<u64>) -> bool
     ensures { IsTrue result ↔ KeepsPrice cost (Some from) to }
@@ -26,7 +26,7 @@ fn keeps_price(cost: u64, from: u64, to: Option<u64>) -> bool
     }
 }
 
-/// Whether the step from place `p` to place `q` doesn't keep to the prices.
+/// Whether the step from place `p` to place `q` doesn't respect the prices.
 #[inline(always)]
 fn is_broken_step(
     table: &CertificateTable,
@@ -45,14 +45,14 @@ fn is_broken_step(
     let Some(price) = price_of(claim, p) else {
         return false;
     };
-    // The prices are compared first: they are two numbers, and a step is five for each rendition.
+    // The prices are compared first: that takes two numbers, whereas a step takes five for each rendition.
     if keeps_price(table.cost_between(p, q), price, price_of(claim, q)) {
         return false;
     }
     is_step(table, p, q, row, column)
 }
 
-/// The first place from `first` on and below `end` from which the step to place `q` doesn't keep to the prices.
+/// The first place in `first..end` from which the step to place `q` doesn't respect the prices.
 #[inline(always)]
 fn first_broken_in_column(
     table: &CertificateTable,
@@ -78,7 +78,7 @@ fn first_broken_in_column(
     None
 }
 
-/// What no priced place of some rows is below in its price, and none behind in its start.
+/// A lower bound of some rows: no place with a price has a lower price, and none starts later.
 #[derive(Clone, Copy)]
 struct LowerBound {
     price: u64,
@@ -104,7 +104,7 @@ fn lower_bound_of(table: &CertificateTable, claim: &Claim, first: usize, end: us
     lower_bound
 }
 
-/// Whether place `q` is priced so low that the steps to it from all places with this floor keep to the prices.
+/// Whether the price of place `q` is so low that the steps to it from all of these rows respect the prices.
 #[inline(always)]
 fn is_below_bound(
     table: &CertificateTable,
@@ -127,8 +127,7 @@ fn is_below_bound(
             .saturating_add(table.place(q).get(0).prev_end.saturating_sub(least))
 }
 
-/// The first of these places, none of which is below the floor, from which the step to place `q` doesn't keep to
-/// the prices.
+/// The first of these places, to which the lower bound applies, from which the step to place `q` doesn't respect the prices.
 #[inline(always)]
 fn column_fault(
     table: &CertificateTable,
@@ -152,8 +151,7 @@ fn column_fault(
     first_broken_in_column(table, claim, places.start, places.end.min(q), q, rows)
 }
 
-/// The first step that doesn't keep to the prices, of those from a block of places. Once one is found, the rows
-/// before it alone are looked at further on.
+/// The first step from a block of places that doesn't respect the prices. After one is found, only the rows before it are examined further.
 pub fn first_broken_in_block(
     table: &CertificateTable,
     claim: &Claim,
@@ -178,8 +176,7 @@ pub fn first_broken_in_block(
     found
 }
 
-/// The first step that doesn't keep to the prices: the least place that one leads from, and then the least that
-/// it leads to.
+/// The first step that doesn't respect the prices: the one with the least first place, and of these the one with the least second place.
 pub fn first_broken_step(table: &CertificateTable, claim: &Claim) -> Option<(usize, usize)>
     requires { length (claimed_prices (claim_data claim.now)) ≡ length table.now.places }
     ensures { IsFirstBrokenOrNone table.now (claim_data claim.now) result }

@@ -1,14 +1,14 @@
-//! Whether a step is allowed, asked of one pair of places after the other: the rendition that refused the last
-//! pair of the same row, and that of the same column, are asked first. A table that is made to cost much has each
-//! pair refused by one rendition alone.
+//! Tests whether steps are allowed, one pair of places after another. The rendition that excluded the last pair of the same row, and the
+//! one that excluded the last pair of the same column, are tested first. In a table that was made to be expensive a single rendition
+//! excludes each pair.
 
 ghost use Rattle.std.specs.Prelude.{◌≡◌, ◌<◌, ◌↔◌, length, IsTrue, MatchOption};
-ghost use Rattle.hls_check_laws.specs.Tables.{IsTable};
-ghost use Rattle.hls_check_laws.specs.Steps.{Allowed};
+ghost use Rattle.hls_check_tables.specs.Tables.{IsTable};
+ghost use Rattle.hls_check_tables.specs.Steps.{Allowed};
 
-use hls_check_laws::{CertificateTable, spot_allowed};
+use hls_check_tables::{CertificateTable, spot_allowed};
 
-/// Whether rendition `r` doesn't allow the step from place `p` to place `q`; false where there is no such rendition.
+/// Whether rendition `r` excludes the step from place `p` to place `q`. False if there is no such rendition.
 #[inline(always)]
 fn refuses_step(table: &CertificateTable, p: usize, q: usize, r: usize) -> bool
     requires valid { IsTable table.now }
@@ -24,7 +24,7 @@ fn refuses_step(table: &CertificateTable, p: usize, q: usize, r: usize) -> bool
         )
 }
 
-/// The first rendition that doesn't allow the step from place `p` to place `q`.
+/// The first rendition that excludes the step from place `p` to place `q`.
 #[inline(always)]
 fn first_refusing_rendition(table: &CertificateTable, p: usize, q: usize) -> Option<usize>
     requires valid { IsTable table.now }
@@ -41,8 +41,8 @@ fn first_refusing_rendition(table: &CertificateTable, p: usize, q: usize) -> Opt
     None
 }
 
-/// Whether the step from place `p` to place `q` is allowed. The two renditions are those to be asked first; that
-/// which refuses takes their place.
+/// Whether the step from place `p` to place `q` is allowed. The two renditions are tested first; the one that excludes the step replaces
+/// them.
 #[inline(always)]
 pub fn is_step(
     table: &CertificateTable,

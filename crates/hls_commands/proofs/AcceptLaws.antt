@@ -1,6 +1,6 @@
--- One part more, by the answers of the readers and of the step.
+-- One more part, by the results of the readers and of the step.
 use Rattle.std.proofs.Common.{◌≡◌, ◌∙◌, ℕ, List, Option, Some, None, Result, Ok, Err, refl, ap, sym}
-use Rattle.hls_boxes_laws.specs.declared.part.Part.TheVariants as parts
+use Rattle.hls_boxes.specs.declared.part.Part.TheVariants as parts
 use Rattle.hls_media_laws.specs.declared.fault.MediaFault.{MediaFault}
 use Rattle.hls_media_laws.specs.declared.fault.MediaFault.TheVariants as faults
 use Rattle.hls_media_laws.specs.declared.facts.Facts.{Facts}
@@ -17,15 +17,15 @@ use Rattle.hls_core_laws.specs.State.{State}
 use Rattle.hls_core_laws.specs.Outcome.{Outcome, New, Repeated, Refused, outcome_of}
 use Rattle.hls_core_laws.specs.Moves.{IsRefused, state_with_entry}
 use Rattle.hls_core.specs.Getters.{recording_of}
-use Rattle.hls_feed.specs.declared.feed_fault.StreamFault.{StreamFault}
-use Rattle.hls_feed.specs.declared.feed_fault.StreamFault.TheVariants as fault
-use Rattle.hls_feed.specs.declared.feed_fault.FeedFault.{FeedFault}
-use Rattle.hls_feed.specs.declared.feed_fault.FeedFault.TheVariants as feed_fault
+use Rattle.hls_core.specs.declared.feed_fault.StreamFault.{StreamFault}
+use Rattle.hls_core.specs.declared.feed_fault.StreamFault.TheVariants as fault
+use Rattle.hls_core.specs.declared.feed_fault.FeedFault.{FeedFault}
+use Rattle.hls_core.specs.declared.feed_fault.FeedFault.TheVariants as feed_fault
 use Rattle.hls_commands.specs.MemoryCases.{IsDefinedOrMemory, IsReadOrMemory}
 use Rattle.hls_commands.specs.RecordedState.{state_by_outcome, state_after, with_part, with_unit}
 use Rattle.hls_commands.specs.OrRefused.{◌>>=◌, or_refused_as}
 
--- ---- an init section that is read
+-- ---- an init section that was read
 
 pub means_fault : (f : MediaFault) (defined : Result InitData MediaFault) → (f ≡ faults.Memory → ⊥) → ReadsAs (Err f) defined → IsReadOrMemory (or_refused_as fault.Media defined) (Err (feed_fault.Refused (fault.Media f)))
 means_fault faults.Memory defined other is = absurd (other refl)

@@ -1,15 +1,15 @@
--- From what was read to what is answered, and from there to what is written.
+-- From what was read to the answer, and from the answer to what is written.
 use Rattle.std.proofs.Common.{◌≡◌, ◌∙◌, ℕ, List, [], ◌++◌, inl, inr, Option, Some, None, Result, Ok, Err, Vec, true, false, refl, sym, ap, subst, append-nil}
 use Rattle.std.specs.Global.{Global}
-use Rattle.hls_check_laws.specs.declared.cert_fault.CertFault.{CertFault}
-use Rattle.hls_check_laws.specs.declared.cert_fault.CertFault.TheVariants.{Form, Memory}
-use Rattle.hls_check_laws.specs.declared.verdict.Verdict.{Verdict}
-use Rattle.hls_check_laws.specs.Certificates.{CertificateData, ClaimData, CutClaim, NoneClaim, IsCertificate}
-use Rattle.hls_check_laws.specs.Tables.{Table}
+use Rattle.hls_check_tables.specs.declared.cert_fault.CertFault.{CertFault}
+use Rattle.hls_check_tables.specs.declared.cert_fault.CertFault.TheVariants.{Form, Memory}
+use Rattle.hls_check_tables.specs.declared.verdict.Verdict.{Verdict}
+use Rattle.hls_check_tables.specs.Certificates.{CertificateData, ClaimData, CutClaim, NoneClaim, IsCertificate}
+use Rattle.hls_check_tables.specs.Tables.{Table}
 use Rattle.hls_check.specs.CheckResults.{CheckResultOver, IsCheckResult}
 use Rattle.hls_check.proofs.OneAnswer as answers
-use Rattle.hls_check_text.specs.Text.{text}
-use Rattle.hls_check_text.proofs.Wrongs.{text_is_told, wrong_is_one}
+use Rattle.hls_check.specs.Text.{text}
+use Rattle.hls_check.proofs.Wrongs.{text_is_told, wrong_is_one}
 use Rattle.hls_io.specs.Writing.{Writes}
 use Rattle.hls_commands.specs.declared.read_input.ReadFault.{ReadFault}
 use Rattle.hls_commands.specs.declared.check.run.CheckEnd.{CheckEnd}
@@ -20,7 +20,7 @@ use Rattle.hls_commands.specs.CheckRun.{AnswersCheck, AnswersStream, CountsFailu
 use Rattle.hls_commands.specs.CheckParts.{AnswersText, CountsPrinting, Prints, PrintsAnswer, ReportsAnswer}
 use Rattle.hls_commands.specs.ReadInput.{Reads}
 
--- ---- what is answered
+-- ---- the answer
 
 answers_whole : (stream : List ℕ) (answer : Result Verdict CertFault) → AnswersText stream answer → AnswersStream stream [] answer
 answers_whole stream (Ok verdict) h = (refl, h)
@@ -64,7 +64,7 @@ prints_beginning (Err f) held line contents line_is h =
 
 -- ---- both together
 
--- the answer that a failed write tells
+-- the answer that a failed write reports
 whose : (stream rest text : List ℕ) (answer reported : Result Verdict CertFault) → AnswersStream stream rest answer → reported ≡ answer →
     IsPrefix text (check_line answer) → AnswersCheck stream rest text (WriteFailed reported)
 whose stream rest text answer reported answers is beginning =
@@ -94,7 +94,7 @@ counts_printed Refused read_old read_new write_old write_new quiet counts = (qui
 counts_printed (WriteFailed reported) read_old read_new write_old write_new quiet counts = (quiet, counts)
 counts_printed ReadFailed read_old read_new write_old write_new quiet counts = absurd counts
 
--- ---- a text has one answer, and want of memory is none
+-- ---- a text has one answer, and out of memory is none
 
 same_certificate : (c d : CertificateData) (bytes : List ℕ) (one other : Result Verdict CertFault) → IsCertificate c → IsCertificate d → bytes ≡ text c → bytes ≡ text d → IsCheckResult c one → IsCheckResult d other → one ≡ other
 same_certificate c d bytes one other of_c of_d is_c is_d answers_c answers_d =
@@ -112,7 +112,7 @@ no_memory_over : (t : Table) (shown : ClaimData) → CheckResultOver t shown (Er
 no_memory_over t (CutClaim total plan prices) h = h
 no_memory_over t (NoneClaim closed) h = h
 
--- want of memory is no text's answer
+-- out of memory is no text's answer
 pub no_memory : (bytes : List ℕ) → AnswerOf bytes (Err Memory) → ⊥
 no_memory bytes (inl c) = no_memory_over c.certificate.table c.certificate.shown c.answer_is
 no_memory bytes (inr n) = cc

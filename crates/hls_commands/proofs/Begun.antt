@@ -10,9 +10,9 @@ use Rattle.hls_core_laws.specs.Outcome.{Outcome, New, Repeated, Refused, finish,
 use Rattle.hls_core_laws.specs.Moves.{state_with_entry}
 use Rattle.hls_core_laws.proofs.Callers.{may_add, channel_advanced, Finishes, finishes, lane_after}
 use Rattle.hls_core.specs.Getters.{recorded_at, recorded_from, recording_of}
-use Rattle.hls_origin_listing.specs.declared.listing_fault.ListingFault.{ListingFault}
-use Rattle.hls_origin_listing.specs.declared.listing_mode.ListingOutput.{ListingOutput}
-use Rattle.hls_origin_listing.specs.Listings.{IsSingle, Lists}
+use Rattle.hls_commands.specs.declared.listing_fault.ListingFault.{ListingFault}
+use Rattle.hls_commands.specs.declared.listing_mode.ListingOutput.{ListingOutput}
+use Rattle.hls_commands.specs.Listings.{IsSingle, Lists}
 use Rattle.hls_commands.specs.Channel.{listing_mode_of}
 use Rattle.hls_settings.specs.Options.{CutOptionsData}
 use Rattle.hls_commands.specs.RecordedState.{state_at_end, state_by_outcome}

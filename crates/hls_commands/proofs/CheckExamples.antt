@@ -1,8 +1,8 @@
 -- Worked examples: the lines of answers, computed.
 use Rattle.std.proofs.Common.{◌≡◌, Ok, Err, codes, refl}
 use Rattle.std.specs.Fmt.{digits}
-use Rattle.hls_check_laws.specs.declared.cert_fault.CertFault.TheVariants.{Form, TableNotSorted, PlanEnds, PlanStep, PlanCost, PriceStart, PriceStep, EndReached, Memory}
-use Rattle.hls_check_laws.specs.declared.verdict.Verdict.TheVariants.{Cut, NoCut}
+use Rattle.hls_check_tables.specs.declared.cert_fault.CertFault.TheVariants.{Form, TableNotSorted, PlanEnds, PlanStep, PlanCost, PriceStart, PriceStep, EndReached, Memory}
+use Rattle.hls_check_tables.specs.declared.verdict.Verdict.TheVariants.{Cut, NoCut}
 use Rattle.hls_text.specs.Numbers.{spaced_numbers}
 use Rattle.hls_commands.specs.CheckAnswer.{check_line}
 

@@ -1,16 +1,16 @@
--- What was taken of a stream, as a state or its first refusal, and how its reading goes on.
+-- The part of a stream that was read, as a state or its first refusal, and how the reading continues.
 use Rattle.std.proofs.Common.{◌≡◌, ◌∙◌, ℕ, List, [], ◌∷◌, ◌++◌, take, drop, Option, Some, None, Result, Ok, Err, refl, sym, ap, subst, append_assoc, inl, inr}
 use Rattle.std.proofs.lemmas.List.{take-append-drop}
 use Rattle.std.specs.Io.KnownBytes.{Consumes, IsAtEnd, Keeps}
-use Rattle.hls_boxes_laws.specs.declared.part.Part.{Part}
-use Rattle.hls_boxes_laws.specs.Parts.{StreamCut, Remainder, Refused as Broken, stream_cut, fault_at_end}
-use Rattle.hls_boxes_laws.proofs.Callers.{stay}
+use Rattle.hls_boxes.specs.declared.part.Part.{Part}
+use Rattle.hls_boxes.specs.Parts.{StreamCut, Remainder, Refused as Broken, stream_cut, fault_at_end}
+use Rattle.hls_boxes.proofs.Callers.{stay}
 use Rattle.hls_core_laws.specs.State.{State}
-use Rattle.hls_feed.specs.declared.feed_fault.StreamFault.{StreamFault}
-use Rattle.hls_feed.specs.declared.feed_fault.FeedFault.{FeedFault}
-use Rattle.hls_feed.specs.declared.feed_fault.FeedFault.TheVariants.{Refused, Memory}
-use Rattle.hls_feed.specs.Streams.{EndsStream, FeedsBehind, IsTaken, Reached, Refuses, RefusesBox, RefusesPart, TakesAll}
-use Rattle.hls_feed.proofs.Callers.{left_refused, reached_none, grows}
+use Rattle.hls_core.specs.declared.feed_fault.StreamFault.{StreamFault}
+use Rattle.hls_core.specs.declared.feed_fault.FeedFault.{FeedFault}
+use Rattle.hls_core.specs.declared.feed_fault.FeedFault.TheVariants.{Refused, Memory}
+use Rattle.hls_core.specs.Streams.{EndsStream, FeedsBehind, IsTaken, Reached, Refuses, RefusesBox, RefusesPart, TakesAll}
+use Rattle.hls_core.proofs.Callers.{left_refused, reached_none, grows}
 use Rattle.hls_commands.specs.declared.cut.fault.CutFault.TheVariants as fault
 use Rattle.hls_commands.specs.CutFaultName.{fault_of}
 use Rattle.hls_commands.specs.RecordStream.{CountsReads, RecordsStream, IsRefused}
@@ -62,7 +62,7 @@ refused_here o s taken size f (inr h) = refused_box o s taken size f h
 
 -- ---- the whole reading
 
--- what was read of a stream, and how far that was recorded
+-- what was read of a stream, and the recording so far
 pub record Reading (opening : State) (stream : List ℕ) (left : Option (List ℕ)) (held : List ℕ) (s : State) : Type 0 where
   pub taken : List ℕ
   pub rest : List ℕ
@@ -74,7 +74,7 @@ pub reading_none : (o : State) (stream : List ℕ) (left : Option (List ℕ)) (h
 reading_none o stream left held is held_is =
     record { taken = []; rest = stream; left_is = is; split = refl; reached = subst (λ (xs : List ℕ). Reached PartYields o [] xs o) (sym held_is) (reached_none PartYields o) }
 
--- a read that gave a piece
+-- a read that returned a piece
 pub record Took (opening : State) (stream : List ℕ) (left : Option (List ℕ)) (held piece : List ℕ) (s : State) : Type 0 where
   pub taken : List ℕ
   pub rest : List ℕ
@@ -92,7 +92,7 @@ took_known o stream taken rest held piece (Some xs) (Some ys) s is gave split h 
 pub took : (o : State) (stream held piece : List ℕ) (old new : Option (List ℕ)) (s : State) → Reading o stream old held s → Consumes old new piece → Took o stream new held piece s
 took o stream held piece old new s h gave = took_known o stream h.taken h.rest held piece old new s h.left_is gave h.split h.reached
 
--- .. which was taken in
+-- .. which was fed
 pub reading_more : (o : State) (stream old piece held : List ℕ) (left : Option (List ℕ)) (s next : State) → Took o stream left old piece s
     → ((t : List ℕ) → Reached PartYields o t old s → Reached PartYields o (t ++ piece) held next) → Reading o stream left held next
 reading_more o stream old piece held left s next h taken_in = record {

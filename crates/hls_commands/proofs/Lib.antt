@@ -9,3 +9,10 @@ mod LintLines
 mod PrintLaws
 mod ReadLaws
 mod RunLaws
+mod Walked
+mod Good
+mod Whole
+mod Singles
+mod ListTexts
+mod ListedPlans
+mod Colons

@@ -1,4 +1,4 @@
--- From a playlist's text to the line that is written of it.
+-- From a playlist's text to the line about it.
 use Rattle.std.proofs.Common.{◌≡◌, ◌∙◌, ℕ, ◌≤◌, ◌<◌, ◌⊎◌, inl, inr, List, [], ◌++◌, length, take, Option, Some, None, Result, Ok, Err, Vec, true, false, refl, sym, ap, subst, append-nil, arith}
 use Rattle.std.specs.Global.{Global}
 use Rattle.std.proofs.lemmas.Bool.{cond-true, lt-ltb}
@@ -17,7 +17,7 @@ use Rattle.hls_commands.specs.LintRun.{AnswersLint, AnswersStream, CountsFailure
 use Rattle.hls_commands.specs.LintParts.{CountsText, IsLine, PrintsText, IsStreamLine, ReportsLine, WritesText, lint_end_of, held_bytes, line_bytes}
 use Rattle.hls_commands.specs.ReadInput.{Reads}
 
--- ---- what is held of a text is enough
+-- ---- the bytes that are held of a text are enough
 
 too_long : (text : List ℕ) → 16777216 < length text → reading_of text ≡ Err TooLong
 too_long text long = cond-true _ _ _ (lt-ltb 16777216 (length text) long)

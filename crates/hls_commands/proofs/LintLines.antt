@@ -6,7 +6,7 @@ use Rattle.hls_m3u8.specs.declared.fault.ListFault.TheVariants.{NotM3u, Utf8, Mi
 use Rattle.hls_text.specs.Numbers.{spaced_numbers}
 use Rattle.hls_commands.specs.LintAnswer.{fault_line_numbers, longest_us}
 
--- one segment more
+-- one more segment
 pub next_total : (total us rest whole new : ℕ) → new ≡ min (min (total + us) (2 ^ 64 - 1)) longest_us → min (total + (us + rest)) longest_us ≡ whole → min (new + rest) longest_us ≡ whole
 next_total total us rest whole new is before = omega (arith, is, before)
 
@@ -27,7 +27,7 @@ two_written o p q xs ys first second = second ∙ ap (λ t. t ++ ys) first ∙ a
 pub three_written : (o p q r xs ys zs : List ℕ) → p ≡ o ++ xs → q ≡ p ++ ys → r ≡ q ++ zs → r ≡ o ++ ((xs ++ ys) ++ zs)
 three_written o p q r xs ys zs first second third = two_written o q r (xs ++ ys) zs (two_written o p q xs ys first second) third
 
--- the four parts of a list's line, and its end
+-- the four parts of a playlist's line, and its end
 pub whole_line : (o p q r s t extent numbers kind end last : List ℕ) → o ≡ [] → p ≡ o ++ extent → q ≡ p ++ numbers → r ≡ q ++ kind → s ≡ r ++ end → t ≡ s ++ last →
     t ≡ ((extent ++ numbers) ++ (kind ++ end)) ++ last
 whole_line o p q r s t extent numbers kind end last empty first second third fourth fifth =

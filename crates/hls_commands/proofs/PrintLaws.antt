@@ -1,8 +1,8 @@
 -- A line, word by word.
 use Rattle.std.proofs.Common.{◌≡◌, ◌∙◌, ℕ, List, [], ◌∷◌, ◌++◌, ◌⊎◌, inl, inr, sym, ap, append_assoc, append-nil}
 use Rattle.std.specs.Fmt.{decimal}
-use Rattle.hls_check_laws.specs.declared.cert_fault.CertFault.{CertFault}
-use Rattle.hls_check_laws.specs.declared.cert_fault.CertFault.TheVariants.{PlanEnds, PlanCost, PriceStart, EndReached, Memory}
+use Rattle.hls_check_tables.specs.declared.cert_fault.CertFault.{CertFault}
+use Rattle.hls_check_tables.specs.declared.cert_fault.CertFault.TheVariants.{PlanEnds, PlanCost, PriceStart, EndReached, Memory}
 use Rattle.hls_text.specs.Numbers.{spaced_numbers}
 use Rattle.hls_commands.specs.CheckAnswer.{fault_numbers}
 

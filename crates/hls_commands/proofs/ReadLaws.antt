@@ -8,7 +8,7 @@ use Rattle.std.proofs.lemmas.List.{take_all, take_min, take-append-le, length-ta
 use Rattle.hls_commands.specs.declared.read_input.ReadFault.TheVariants as unread
 use Rattle.hls_commands.specs.ReadInput.{Reads, kept_bytes, held_len}
 
--- ---- what is held
+-- ---- the bytes that are held
 
 held_within : (most : ℕ) (taken piece : List ℕ) → length taken ≤ most → take most (taken ++ piece) ≡ taken ++ take (min (most - length taken) (length piece)) piece
 held_within most taken piece within =
@@ -36,7 +36,7 @@ held_most most taken piece (inr past) =
 within_or_past : (m n : ℕ) → (m ≤ n) ⊎ (n ≤ m)
 within_or_past m n = grind arith
 
--- what is held of more bytes: of those that come as many as there is room for
+-- what is held after more bytes: as many of them as there is room for
 held_more : (most : Option ℕ) (taken piece : List ℕ) →
     kept_bytes most (taken ++ piece) ≡ kept_bytes most taken ++ take (held_len most (length (kept_bytes most taken)) (length piece)) piece
 held_more None taken piece = ap (λ xs. taken ++ xs) (sym (take-length piece))
@@ -44,7 +44,7 @@ held_more (Some most) taken piece = held_most most taken piece (within_or_past (
 
 -- ---- what was read
 
--- some bytes were taken of the stream, and these of them are held
+-- some bytes of the stream were read, and these of them are held
 pub record Reading (most : Option ℕ) (stream : List ℕ) (left : Option (List ℕ)) (bytes : List ℕ) : Type 0 where
   pub taken : List ℕ
   pub rest : List ℕ

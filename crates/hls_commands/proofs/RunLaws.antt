@@ -1,17 +1,17 @@
--- From what was gathered to what is answered.
+-- From what was gathered to the answer.
 use Rattle.std.proofs.Common.{◌≡◌, ◌≢◌, ◌∙◌, ℕ, List, [], ◌++◌, Option, Some, None, Result, Ok, Err, Bool, refl, sym, ap, subst, inl, inr, true, false, append-nil}
 use Rattle.hls_core_laws.specs.State.{State}
 use Rattle.hls_io.specs.Writing.{CountsWrite, Writes}
-use Rattle.hls_origin_listing.specs.declared.listing_fault.ListingFault.{ListingFault}
-use Rattle.hls_origin_listing.specs.declared.listing_fault.ListingFault.TheVariants as list
-use Rattle.hls_origin_listing.specs.declared.listing_mode.ListingOutput.{ListingOutput}
+use Rattle.hls_commands.specs.declared.listing_fault.ListingFault.{ListingFault}
+use Rattle.hls_commands.specs.declared.listing_fault.ListingFault.TheVariants as list
+use Rattle.hls_commands.specs.declared.listing_mode.ListingOutput.{ListingOutput}
 use Rattle.hls_commands.specs.declared.cut.fault.CutFault.{CutFault}
 use Rattle.hls_commands.specs.declared.cut.fault.CutFault.TheVariants as fault
 use Rattle.hls_commands.specs.declared.cut.run.CutEnd.{CutEnd}
 use Rattle.hls_commands.specs.declared.cut.run.CutEnd.TheVariants as end
-use Rattle.hls_feed.specs.declared.feed_fault.StreamFault.{StreamFault}
-use Rattle.hls_feed.specs.declared.feed_fault.FeedFault.{FeedFault}
-use Rattle.hls_feed.specs.declared.feed_fault.FeedFault.TheVariants as feed_fault
+use Rattle.hls_core.specs.declared.feed_fault.StreamFault.{StreamFault}
+use Rattle.hls_core.specs.declared.feed_fault.FeedFault.{FeedFault}
+use Rattle.hls_core.specs.declared.feed_fault.FeedFault.TheVariants as feed_fault
 use Rattle.hls_commands.specs.MemoryCases.{IsDefinedOrMemory}
 use Rattle.hls_commands.specs.Channel.{opening_of}
 use Rattle.hls_commands.specs.CutFaultName.{fault_of}
@@ -50,9 +50,9 @@ takes_err choice stream left o s f is h =
 pub takes_none : (choice : CutOptionsData) (stream : List ℕ) (left : Option (List ℕ)) → left ≡ Some stream → ListsStream choice stream left (Err fault.Memory)
 takes_none choice stream left is = record { taken = []; rest = stream; left_is = is; split = refl; yields = tt }
 
--- ---- what is listed
+-- ---- the listing
 
--- no listing and no refusal of a stream tells of a failed read or write
+-- no listing and no refusal of a stream reports a failed read or write
 no_read_failed : (choice : CutOptionsData) (x : Result State StreamFault) → IsListingOrFault choice x (Err fault.ReadFailed) → ⊥
 no_read_failed choice (Ok s) is = is
 no_read_failed choice (Err f) is = cc
@@ -122,7 +122,7 @@ runs_err choice stream held left contents f h is = record {
 whole_stream : (stream taken rest : List ℕ) → stream ≡ taken ++ rest → rest ≡ [] → stream ≡ taken
 whole_stream stream taken rest split none = split ∙ ap (λ xs. taken ++ xs) none ∙ append-nil taken
 
--- what ends a run that lists this
+-- the end of a run with this listing
 abbrev pub cut_end : Bool → CutEnd
 cut_end true = end.Done
 cut_end false = end.NoCut
@@ -214,7 +214,7 @@ runs_unused (Err g) f stream held left contents wrong left_is is = record {
 }
 runs_unused (Ok choice) f stream held left contents wrong left_is is = cc
 
--- words that are wrong, but for want of memory
+-- invalid arguments are reported, unless memory runs out
 pub told_wrong : (arguments : List Text) (f : CutOptionsFault) → (f ≡ wrong.Memory → ⊥) → ReadsOptions arguments (Err f) → options_of arguments ≡ Err f
 told_wrong arguments wrong.Memory other is = absurd (other refl)
 told_wrong arguments f other is = is

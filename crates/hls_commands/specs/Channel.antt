@@ -1,20 +1,20 @@
--- The channel that a stream is taken into, and how it is listed.
+-- The channel into which a stream is recorded, and how it is listed.
 use Rattle.std.specs.Prelude.{ℕ, ◌*◌, [], ◌∷◌, Option, Some, None, Bool, true, codes}
-use Rattle.hls_check_laws.specs.declared.cost_rule.CostRule.{CostRule}
-use Rattle.hls_check_laws.specs.Tables.{rule_of}
+use Rattle.hls_check_tables.specs.declared.cost_rule.CostRule.{CostRule}
+use Rattle.hls_check_tables.specs.Tables.{rule_of}
 use Rattle.hls_core_laws.specs.declared.rendition.Rendition.{Rendition}
 use Rattle.hls_core_laws.specs.Config.{ConfigData}
 use Rattle.hls_core_laws.specs.Runs.{first_state}
 use Rattle.hls_core_laws.specs.State.{State}
-use Rattle.hls_origin_listing.specs.declared.listing_mode.ListingMode.{ListingMode}
-use Rattle.hls_origin_listing.specs.declared.listing_mode.ListingMode.TheVariants.{Each, Planned}
+use Rattle.hls_commands.specs.declared.listing_mode.ListingMode.{ListingMode}
+use Rattle.hls_commands.specs.declared.listing_mode.ListingMode.TheVariants.{Each, Planned}
 use Rattle.hls_settings.specs.Options.{CutOptionsData}
 
--- the one rendition; what no playlist of a stream shows of it is as good as anything in range
+-- the only rendition; what no playlist of a stream shows has an arbitrary valid value
 abbrev pub stream_rendition : Rendition
 stream_rendition = record { name = codes "stream"; video = true; bandwidth = 1; tolerance = 0 }
 
--- the preferred length; where none is given it is the target, and nothing depends on it
+-- the preferred length; by default the target duration, and then nothing depends on it
 abbrev pub preferred_or : ℕ → Option ℕ → ℕ
 preferred_or target None = target * 1000000
 preferred_or target (Some length) = length
@@ -27,7 +27,7 @@ config_of choice =
 abbrev pub opening_of : CutOptionsData → State
 opening_of choice = first_state (config_of choice)
 
--- each place begins a segment, or a least plan is made where a preferred length is given
+-- each place begins a segment; or a least plan is made if a preferred length is given
 abbrev pub listing_mode_by : Option ℕ → CostRule → Bool → ListingMode
 listing_mode_by None rule certificate = Each
 listing_mode_by (Some length) rule certificate = Planned rule certificate

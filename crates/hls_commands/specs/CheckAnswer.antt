@@ -1,16 +1,16 @@
--- What the text of a certificate is answered, and how the answer is printed.
+-- The answer to the text of a certificate, and how it is printed.
 use Rattle.std.specs.Prelude.{◌≡◌, ℕ, List, [], ◌∷◌, ◌++◌, codes, Result, Ok, Err, ◌⊎◌}
 use Rattle.hls_text.specs.Numbers.{spaced_numbers}
-use Rattle.hls_check_laws.specs.declared.cert_fault.CertFault.{CertFault}
-use Rattle.hls_check_laws.specs.declared.cert_fault.CertFault.TheVariants.{Form, TableNotSorted, PlanEnds, PlanStep, PlanCost}
-use Rattle.hls_check_laws.specs.declared.cert_fault.CertFault.TheVariants.{PriceStart, PriceStep, EndReached, Memory}
-use Rattle.hls_check_laws.specs.declared.verdict.Verdict.{Verdict}
-use Rattle.hls_check_laws.specs.declared.verdict.Verdict.TheVariants.{Cut, NoCut}
-use Rattle.hls_check_laws.specs.Certificates.{CertificateData, IsCertificate}
-use Rattle.hls_check_laws.specs.Faults.{fault_name}
+use Rattle.hls_check_tables.specs.declared.cert_fault.CertFault.{CertFault}
+use Rattle.hls_check_tables.specs.declared.cert_fault.CertFault.TheVariants.{Form, TableNotSorted, PlanEnds, PlanStep, PlanCost}
+use Rattle.hls_check_tables.specs.declared.cert_fault.CertFault.TheVariants.{PriceStart, PriceStep, EndReached, Memory}
+use Rattle.hls_check_tables.specs.declared.verdict.Verdict.{Verdict}
+use Rattle.hls_check_tables.specs.declared.verdict.Verdict.TheVariants.{Cut, NoCut}
+use Rattle.hls_check_tables.specs.Certificates.{CertificateData, IsCertificate}
+use Rattle.hls_check_tables.specs.Faults.{fault_name}
 use Rattle.hls_check.specs.CheckResults.{IsCheckResult}
-use Rattle.hls_check_text.specs.Text.{text}
-use Rattle.hls_check_text.specs.WrongLines.{IsFirstWrongLine}
+use Rattle.hls_check.specs.Text.{text}
+use Rattle.hls_check.specs.WrongLines.{IsFirstWrongLine}
 
 -- the bytes are a certificate's text, and this is the answer to the certificate
 pub record AnswersCertificate (bytes : List ℕ) (answer : Result Verdict CertFault) : Type 0 where
@@ -25,7 +25,7 @@ pub record NamesWrongLine (bytes : List ℕ) (answer : Result Verdict CertFault)
   pub first_wrong : IsFirstWrongLine bytes line
   pub answer_is : answer ≡ Err (Form line)
 
--- the one answer to a text
+-- the only answer to a text
 abbrev pub AnswerOf : List ℕ → Result Verdict CertFault → Type 0
 AnswerOf bytes answer = AnswersCertificate bytes answer ⊎ NamesWrongLine bytes answer
 

@@ -1,10 +1,10 @@
 -- For the proofs of this crate; no public clause cites it.
--- What the parts of a run of `check` pass on to each other.
+-- What the parts of a run of `check` pass to each other.
 use Rattle.std.specs.Prelude.{◌≡◌, ℕ, List, ◌++◌, Option, Some, None, Result, Ok, Err}
-use Rattle.hls_check_laws.specs.declared.cert_fault.CertFault.{CertFault}
-use Rattle.hls_check_laws.specs.declared.cert_fault.CertFault.TheVariants.{Memory}
-use Rattle.hls_check_laws.specs.declared.verdict.Verdict.{Verdict}
-use Rattle.hls_check_text.specs.WrongLines.{IsCertificateText}
+use Rattle.hls_check_tables.specs.declared.cert_fault.CertFault.{CertFault}
+use Rattle.hls_check_tables.specs.declared.cert_fault.CertFault.TheVariants.{Memory}
+use Rattle.hls_check_tables.specs.declared.verdict.Verdict.{Verdict}
+use Rattle.hls_check.specs.WrongLines.{IsCertificateText}
 use Rattle.hls_io.specs.Failures.{FailuresRose}
 use Rattle.hls_commands.specs.declared.check.run.CheckEnd.{CheckEnd}
 use Rattle.hls_commands.specs.declared.check.run.CheckEnd.TheVariants.{Yes, Refused, ReadFailed, WriteFailed}
@@ -12,12 +12,12 @@ use Rattle.hls_commands.specs.Prefix.{IsPrefix}
 use Rattle.hls_commands.specs.CheckAnswer.{AnswerOf, check_line}
 use Rattle.hls_commands.specs.CheckRun.{AnswersStream}
 
--- the answer to a text; want of memory only of a certificate's
+-- the answer to a text; only a certificate's can be out of memory
 abbrev pub AnswersText : List ℕ → Result Verdict CertFault → Type 0
 AnswersText bytes (Err Memory) = IsCertificateText bytes
 AnswersText bytes answer = AnswerOf bytes answer
 
--- a stream's answer, or none where a read failed
+-- a stream's answer, or none if a read failed
 abbrev pub IsStreamVerdict : List ℕ → List ℕ → Option (Result Verdict CertFault) → Type 0
 IsStreamVerdict stream rest None = Unit {0}
 IsStreamVerdict stream rest (Some answer) = AnswersStream stream rest answer
@@ -33,8 +33,8 @@ abbrev pub CountsReadFailures : Option (Result Verdict CertFault) → ℕ → �
 CountsReadFailures None old new = FailuresRose old new
 CountsReadFailures (Some answer) old new = new ≡ old
 
--- An answer's line is written, whole or up to a failed write; it is a yes exactly where it is a cut
--- or that there is none.
+-- An answer's line is written, whole or up to a failed write; the end is `Yes` exactly if the verdict is a plan or that there is
+-- none.
 abbrev pub Prints : Result Verdict CertFault → List ℕ → CheckEnd → Type 0
 Prints (Ok verdict) text Yes = text ≡ check_line (Ok verdict)
 Prints (Err f) text Refused = text ≡ check_line (Err f)

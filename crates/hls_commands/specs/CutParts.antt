@@ -1,10 +1,10 @@
 -- For the proofs of this crate; no public clause cites it.
--- What the parts of a run of `cut` pass on to each other.
+-- What the parts of a run of `cut` pass to each other.
 use Rattle.std.specs.Prelude.{◌≡◌, ℕ, List, [], ◌++◌, Option, Some, Result, Ok, Err, Bool, true, false}
 use Rattle.hls_core_laws.specs.State.{State}
-use Rattle.hls_feed.specs.declared.feed_fault.StreamFault.{StreamFault}
+use Rattle.hls_core.specs.declared.feed_fault.StreamFault.{StreamFault}
 use Rattle.hls_io.specs.Writing.{CountsWrite, Writes}
-use Rattle.hls_origin_listing.specs.declared.listing_mode.ListingOutput.{ListingOutput}
+use Rattle.hls_commands.specs.declared.listing_mode.ListingOutput.{ListingOutput}
 use Rattle.hls_commands.specs.declared.cut.fault.CutFault.{CutFault}
 use Rattle.hls_commands.specs.declared.cut.fault.CutFault.TheVariants as fault
 use Rattle.hls_commands.specs.declared.cut.run.CutEnd.{CutEnd}
@@ -14,13 +14,13 @@ use Rattle.hls_commands.specs.RecordStream.{IsOpen}
 use Rattle.hls_settings.specs.Options.{CutOptionsData}
 use Rattle.hls_commands.specs.CutRun.{IsListingOrFault, EndsCut, IsStreamListing}
 
--- what the end of a recorded stream comes to
+-- the result at the end of a recorded stream
 abbrev pub ListsAtEnd : CutOptionsData → Result State StreamFault → Result ListingOutput CutFault → Type 0
 ListsAtEnd choice defined (Ok listed) = IsListingOrFault choice defined (Ok listed)
 ListsAtEnd choice defined (Err fault.Memory) = Unit {0}
 ListsAtEnd choice defined (Err f) = IsListingOrFault choice defined (Err f)
 
--- what the reading of `taken`, before which `rest` is left, came to
+-- the result of reading `taken`, with `rest` left
 abbrev pub ListsRead : CutOptionsData → List ℕ → List ℕ → Result ListingOutput CutFault → Type 0
 ListsRead choice taken rest (Ok listed) = (rest ≡ []) × IsStreamListing choice taken (Ok listed)
 ListsRead choice taken rest (Err fault.Memory) = Unit {0}
@@ -35,18 +35,18 @@ pub record ListsStream (choice : CutOptionsData) (stream : List ℕ) (left : Opt
   pub split : stream ≡ taken ++ rest
   pub yields : ListsRead choice taken rest result
 
--- how a run ends whose output is written to its end, or isn't
+-- the end of a run, by whether its output was written completely
 abbrev pub end_after_write : Bool → CutEnd → CutEnd
 end_after_write true e = e
 end_after_write false e = end.Refused fault.WriteFailed
 
--- of the text this was written behind what was held, and the answer is by that
+-- this part of the text was written after what was held, and the answer depends on it
 pub record Prints (held text : List ℕ) (contents : Option (List ℕ)) (ending answer : CutEnd) : Type 0 where
   pub done : Bool
   pub writes : Writes held text contents done
   pub answer_is : answer ≡ end_after_write done ending
 
--- a failed write is answered just where one was counted
+-- a failed write is reported exactly if one was counted
 pub record CountsPrint (ending answer : CutEnd) (old new : ℕ) : Type 0 where
   pub done : Bool
   pub counts : CountsWrite done old new

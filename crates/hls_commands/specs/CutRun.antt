@@ -1,16 +1,15 @@
--- What a run of `cut` reads, writes and answers: its promise. (What its parts pass on to each other
--- stands in CutParts.)
+-- The contract of a run of `cut`: what it reads, writes and returns. (CutParts has what its parts pass to each other.)
 use Rattle.std.specs.Prelude.{◌≡◌, ℕ, List, [], ◌++◌, Option, Some, Result, Ok, Err, ◌⊎◌, is_ok, Bool, true, false}
 use Rattle.hls_record.specs.RecordingData.{RecordingData}
 use Rattle.hls_core_laws.specs.State.{State}
 use Rattle.hls_core.specs.Getters.{recording_of}
-use Rattle.hls_feed.specs.declared.feed_fault.StreamFault.{StreamFault}
+use Rattle.hls_core.specs.declared.feed_fault.StreamFault.{StreamFault}
 use Rattle.hls_io.specs.Failures.{FailuresRose}
-use Rattle.hls_origin_listing.specs.declared.listing_fault.ListingFault.{ListingFault}
-use Rattle.hls_origin_listing.specs.declared.listing_fault.ListingFault.TheVariants as listing_fault
-use Rattle.hls_origin_listing.specs.declared.listing_mode.ListingOutput.{ListingOutput}
-use Rattle.hls_origin_listing.specs.declared.listing_mode.ListingOutput.TheVariants.{Text, NoCut}
-use Rattle.hls_origin_listing.specs.Listings.{ListsOf}
+use Rattle.hls_commands.specs.declared.listing_fault.ListingFault.{ListingFault}
+use Rattle.hls_commands.specs.declared.listing_fault.ListingFault.TheVariants as listing_fault
+use Rattle.hls_commands.specs.declared.listing_mode.ListingOutput.{ListingOutput}
+use Rattle.hls_commands.specs.declared.listing_mode.ListingOutput.TheVariants.{Text, NoCut}
+use Rattle.hls_commands.specs.Listings.{ListsOf}
 use Rattle.hls_commands.specs.declared.cut.fault.CutFault.{CutFault}
 use Rattle.hls_commands.specs.declared.cut.fault.CutFault.TheVariants as fault
 use Rattle.hls_commands.specs.declared.cut.run.CutEnd.{CutEnd}
@@ -22,13 +21,13 @@ use Rattle.hls_settings.specs.declared.cut_options_fault.CutOptionsFault.{CutOpt
 use Rattle.hls_settings.specs.Options.{CutOptionsData}
 use Rattle.hls_commands.specs.RecordedState.{state_of_stream}
 
--- what is listed of the state's one recording
+-- the listing of the state's only recording
 pub record IsListing (choice : CutOptionsData) (s : State) (result : Result ListingOutput ListingFault) : Type 0 where
   pub recording : RecordingData
   pub begun : recording_of s 0 ≡ Some recording
   pub lists : ListsOf s recording choice.uri (listing_mode_of choice) result
 
--- what a recorded state, or a refusal, comes to
+-- the result of a recorded state, or of a refusal
 abbrev pub IsListingOrFault : CutOptionsData → Result State StreamFault → Result ListingOutput CutFault → Type 0
 IsListingOrFault choice (Ok s) (Ok listed) = IsListing choice s (Ok listed)
 IsListingOrFault choice (Ok s) (Err (fault.Listing listing_fault.Memory)) = ⊥
@@ -37,15 +36,15 @@ IsListingOrFault choice (Ok s) (Err f) = ⊥
 IsListingOrFault choice (Err f) (Ok listed) = ⊥
 IsListingOrFault choice (Err f) (Err g) = g ≡ fault.Stream f
 
--- what a whole stream comes to: what is listed, or the first refusal in the stream's order
+-- the result of a whole stream: the listing, or the first refusal in the stream's order
 abbrev pub IsStreamListing : CutOptionsData → List ℕ → Result ListingOutput CutFault → Type 0
 IsStreamListing choice stream result = IsListingOrFault choice (state_of_stream (opening_of choice) stream) result
 
--- the refusal is that of the whole stream, or of what was taken of it, whatever follows
+-- the refusal is that of the whole stream, or of what was read of it, whatever follows
 abbrev pub EndsCut : CutOptionsData → CutFault → List ℕ → List ℕ → Type 0
 EndsCut choice f taken rest = ((rest ≡ []) × IsStreamListing choice taken (Err f)) ⊎ ((more : List ℕ) → IsStreamListing choice (taken ++ more) (Err f))
 
--- the bytes of what is listed, and whether a cut exists
+-- the bytes of the listing, and whether there is a plan
 abbrev pub bytes_of : ListingOutput → List ℕ
 bytes_of (Text text) = text.items
 bytes_of (NoCut text) = text.items
@@ -54,7 +53,7 @@ abbrev pub is_cut : ListingOutput → Bool
 is_cut (Text text) = true
 is_cut (NoCut text) = false
 
--- just this is written of what the whole stream comes to, up to a failed write
+-- a prefix of the whole stream's listing is written, up to a failed write
 pub record WritesSome (choice : CutOptionsData) (stream rest text : List ℕ) : Type 0 where
   pub whole : rest ≡ []
   pub listed : ListingOutput
@@ -69,7 +68,7 @@ pub record WritesAll (choice : CutOptionsData) (stream rest text : List ℕ) (cu
   pub text_is : bytes_of listed ≡ text
   pub cut_is : is_cut listed ≡ cut
 
--- of the stream `taken` was read and `rest` is left, and `text` is written
+-- `taken` was read from the stream, `rest` is left, and `text` is written
 abbrev pub AnswersCut : CutOptionsData → List ℕ → List ℕ → List ℕ → List ℕ → CutEnd → Type 0
 AnswersCut choice stream taken rest text end.Done = WritesAll choice stream rest text true
 AnswersCut choice stream taken rest text end.NoCut = WritesAll choice stream rest text false
@@ -79,14 +78,14 @@ AnswersCut choice stream taken rest text (end.Refused fault.ReadFailed) = (text 
 AnswersCut choice stream taken rest text (end.Refused fault.WriteFailed) = WritesSome choice stream rest text
 AnswersCut choice stream taken rest text (end.Refused f) = (text ≡ []) × EndsCut choice f taken rest
 
--- of words that are a usage fault the first wrong one is told, and nothing is read or written; else what the options ask for
+-- for invalid arguments the first invalid one is reported, and nothing is read or written; else the result is that of the options
 abbrev pub AnswersWords : Result CutOptionsData CutOptionsFault → List ℕ → List ℕ → List ℕ → List ℕ → CutEnd → Type 0
 AnswersWords (Err f) stream taken rest text (end.Usage g) = (f ≡ g) × (taken ≡ []) × (text ≡ [])
 AnswersWords (Err f) stream taken rest text (end.Refused fault.Memory) = (taken ≡ []) × (text ≡ [])
 AnswersWords (Err f) stream taken rest text e = ⊥
 AnswersWords (Ok choice) stream taken rest text e = AnswersCut choice stream taken rest text e
 
--- what was taken of the stream and what is left of it, and what was written behind what was held
+-- the bytes read from the stream and those left, and what was written after what was held
 pub record RunsCut (choice : Result CutOptionsData CutOptionsFault) (stream held : List ℕ) (left contents : Option (List ℕ)) (ending : CutEnd) : Type 0 where
   pub taken : List ℕ
   pub rest : List ℕ
@@ -96,13 +95,13 @@ pub record RunsCut (choice : Result CutOptionsData CutOptionsFault) (stream held
   pub contents_are : contents ≡ Some (held ++ text)
   pub answers : AnswersWords choice stream taken rest text ending
 
--- a failed read or write is told, and only where one was counted; no other is passed over
+-- a failed read or write is reported, and only if one was counted; none is ignored
 abbrev pub CountsFailures : CutEnd → ℕ → ℕ → ℕ → ℕ → Type 0
 CountsFailures (end.Refused fault.ReadFailed) read_old read_new write_old write_new = FailuresRose read_old read_new × (write_new ≡ write_old)
 CountsFailures (end.Refused fault.WriteFailed) read_old read_new write_old write_new = (read_new ≡ read_old) × FailuresRose write_old write_new
 CountsFailures e read_old read_new write_old write_new = (read_new ≡ read_old) × (write_new ≡ write_old)
 
--- words that give no options end so, but for want of memory, and no others do
+-- invalid arguments end in a usage fault, unless memory runs out, and no others do
 abbrev pub IsUsageFault : CutEnd → Result CutOptionsData CutOptionsFault → Type 0
 IsUsageFault (end.Usage f) choice = choice ≡ Err f
 IsUsageFault (end.Refused fault.Memory) choice = Unit {0}

@@ -14,3 +14,10 @@ pub mod RecordedState
 pub mod CutRun
 pub mod CutParts
 pub mod OrRefused
+pub mod Each
+pub mod Plans
+pub mod Listings
+pub mod Places
+pub mod ListingFaultName
+pub mod ExplainRun
+pub mod Explanations

@@ -1,4 +1,4 @@
--- What is said of the text of a media playlist, in one line.
+-- The line about the text of a media playlist.
 use Rattle.std.specs.Prelude.{ℕ, ◌-◌, ◌^◌, Bool, true, false, List, [], ◌∷◌, ◌++◌, length, min, Option, Some, None, Result, Ok, Err, codes}
 use Rattle.std.specs.Fmt.{decimal}
 use Rattle.std.specs.List.{sum_by}
@@ -19,11 +19,11 @@ field label n = label ++ decimal n
 abbrev pub us_of : MediaSegment → ℕ
 us_of segment = segment.us
 
--- the longest time that is told, in microseconds
+-- the longest time that is printed, in microseconds
 abbrev pub longest_us : ℕ
 longest_us = 2 ^ 53 - 1
 
--- the segments' lengths together, or the longest time that is told
+-- the total length of the segments, capped at the longest time that is printed
 abbrev pub total_us : List MediaSegment → ℕ
 total_us segments = min (sum_by us_of segments) longest_us
 
@@ -55,11 +55,11 @@ abbrev pub end_words : Bool → List ℕ
 end_words true = codes ", ended"
 end_words false = []
 
--- what a list is, in short
+-- a playlist's summary
 abbrev pub summary : Playlist → List ℕ
 summary list = (extent list.segments ++ (header list ++ sequences list)) ++ (kind_words list.kind ++ end_words list.ended)
 
--- the line of a tag that is refused
+-- the number of the line that is refused
 abbrev pub fault_line_numbers : ListFault → List ℕ
 fault_line_numbers NotM3u = []
 fault_line_numbers Utf8 = []

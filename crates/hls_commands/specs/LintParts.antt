@@ -1,5 +1,5 @@
 -- For the proofs of this crate; no public clause cites it.
--- What the parts of a run of `lint` pass on to each other.
+-- What the parts of a run of `lint` pass to each other.
 use Rattle.std.specs.Prelude.{◌≡◌, ℕ, ◌+◌, List, [], ◌++◌, Option, Some, None, Result, Ok, Err, Vec, ◌⊎◌}
 use Rattle.std.specs.Global.{Global}
 use Rattle.hls_io.specs.Failures.{FailuresRose}
@@ -13,17 +13,17 @@ use Rattle.hls_commands.specs.declared.lint.run.LintEnd.TheVariants.{Readable, R
 use Rattle.hls_commands.specs.Prefix.{IsPrefix}
 use Rattle.hls_commands.specs.LintAnswer.{lint_line}
 
--- how many bytes of a text are held: one past the most that a reader of playlists takes
+-- how many bytes of a text are held: one more than a reader of playlists accepts
 abbrev pub held_bytes : ℕ
 held_bytes = text_limit + 1
 
--- the line of a text that is a list, or why it is none
+-- the line of a text that is a playlist, or why it is none
 abbrev pub IsLine : List ℕ → Result (Vec ℕ Global) ListFault → Type 0
 IsLine text (Ok line) = (list : Playlist) × (reading_of text ≡ Ok list) × (line.items ≡ lint_line (Ok list))
 IsLine text (Err Memory) = Unit {0}
 IsLine text (Err f) = reading_of text ≡ Err f
 
--- the line of a stream of which nothing is left; none where a read failed
+-- the line of a stream with nothing left to read; none if a read failed
 abbrev pub IsStreamLine : List ℕ → List ℕ → Option (Result (Vec ℕ Global) ListFault) → Type 0
 IsStreamLine stream rest None = Unit {0}
 IsStreamLine stream rest (Some (Err Memory)) = Unit {0}
@@ -45,12 +45,12 @@ abbrev pub line_bytes : Result (Vec ℕ Global) ListFault → List ℕ
 line_bytes (Ok line) = line.items
 line_bytes (Err f) = lint_line (Err f)
 
--- how it ends once they are written
+-- the end after they are written
 abbrev pub lint_end_of : Result (Vec ℕ Global) ListFault → LintEnd
 lint_end_of (Ok line) = Readable
 lint_end_of (Err f) = Refused
 
--- all of a text is written, or a beginning of it up to a failed write
+-- the whole text is written, or a prefix of it up to a failed write
 abbrev pub WritesText : List ℕ → LintEnd → List ℕ → LintEnd → Type 0
 WritesText whole done text end = ((end ≡ done) × (text ≡ whole)) ⊎ ((end ≡ WriteFailed) × IsPrefix text whole)
 

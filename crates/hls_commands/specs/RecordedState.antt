@@ -1,9 +1,9 @@
--- What a stream comes to: the state of its channel, or its first refusal.
+-- The result of recording a stream: the state of its channel, or its first refusal.
 use Rattle.std.specs.Prelude.{ℕ, List, [], ◌∷◌, Option, Some, None, Result, Ok, Err}
-use Rattle.hls_boxes_laws.specs.declared.part.Part.{Part}
-use Rattle.hls_boxes_laws.specs.declared.part.Part.TheVariants as parts
-use Rattle.hls_boxes_laws.specs.declared.fault.BoxFault.{BoxFault}
-use Rattle.hls_boxes_laws.specs.Parts.{StreamCut, stream_cut, fault_at_end}
+use Rattle.hls_boxes.specs.declared.part.Part.{Part}
+use Rattle.hls_boxes.specs.declared.part.Part.TheVariants as parts
+use Rattle.hls_boxes.specs.declared.fault.BoxFault.{BoxFault}
+use Rattle.hls_boxes.specs.Parts.{StreamCut, stream_cut, fault_at_end}
 use Rattle.hls_media_laws.specs.Inits.{init_of}
 use Rattle.hls_media_laws.specs.UnitFacts.{facts}
 use Rattle.hls_record.specs.RecordingData.{RecordingData}
@@ -14,13 +14,13 @@ use Rattle.hls_core_laws.specs.State.{State}
 use Rattle.hls_core_laws.specs.Outcome.{Outcome, New, Repeated, Refused, outcome_of}
 use Rattle.hls_core_laws.specs.Moves.{state_with_entry}
 use Rattle.hls_core.specs.Getters.{recording_of}
-use Rattle.hls_feed.specs.declared.feed_fault.StreamFault.{StreamFault}
-use Rattle.hls_feed.specs.declared.feed_fault.StreamFault.TheVariants as fault
-use Rattle.hls_feed.specs.declared.feed_fault.FeedFault.{FeedFault}
+use Rattle.hls_core.specs.declared.feed_fault.StreamFault.{StreamFault}
+use Rattle.hls_core.specs.declared.feed_fault.StreamFault.TheVariants as fault
+use Rattle.hls_core.specs.declared.feed_fault.FeedFault.{FeedFault}
 use Rattle.hls_commands.specs.MemoryCases.{IsDefinedOrMemory}
 use Rattle.hls_commands.specs.OrRefused.{◌>>=◌, or_refused_as}
 
--- a new event leads on, one that comes again adds nothing, and a refused one ends the stream
+-- a new event leads to the next state, a duplicate adds nothing, and a refused one ends the stream
 abbrev pub state_by_outcome : Outcome → State → State → Result State StreamFault
 state_by_outcome New new old = Ok new
 state_by_outcome Repeated new old = Ok old
@@ -35,12 +35,12 @@ abbrev pub with_unit : Option RecordingData → State → List ℕ → Result St
 with_unit None s bytes = Err (fault.Core refusal.NoInit)
 with_unit (Some recorded) s bytes = or_refused_as fault.Media (facts recorded.init bytes) >>= (λ f. state_after s (Accept 0 f bytes))
 
--- one more part, of the one rendition
+-- one more part of the only rendition
 unfoldable pub with_part : State → Part → Result State StreamFault
 with_part s (parts.Init bytes) = or_refused_as fault.Media (init_of bytes) >>= (λ init. state_after s (Begin 0 init bytes))
 with_part s (parts.Unit bytes) = with_unit (recording_of s 0) s bytes
 
--- what comes of a part that is given to the recorder
+-- the result of a part that is given to the recorder
 abbrev pub PartYields : State → Part → State → Result (Unit {0}) FeedFault → Type 0
 PartYields s part t result = IsDefinedOrMemory (with_part s part) t result
 
@@ -49,19 +49,19 @@ unfoldable pub with_parts : State → List Part → Result State StreamFault
 with_parts s [] = Ok s
 with_parts s (p ∷ ps) = with_part s p >>= (λ next. with_parts next ps)
 
--- the end of a stream: no unit will come any more
+-- the end of a stream: there are no further units
 unfoldable pub state_at_end : State → Result State StreamFault
 state_at_end s = state_after s (Finish 0)
 
--- the end, where what is left of the stream is none of a part
+-- the end, unless the stream ends inside a part
 abbrev pub state_unless_left : State → Option BoxFault → Result State StreamFault
 state_unless_left s (Some f) = Err (fault.Boxes f)
 state_unless_left s None = state_at_end s
 
--- what the parts and the end come to from an opening state: the state, or the first refusal in the stream's order
+-- the result of the parts and the end from an opening state: the state, or the first refusal in the stream's order
 unfoldable pub state_of : State → StreamCut → Result State StreamFault
 state_of opening c = with_parts opening c.parts >>= (λ s. state_unless_left s (fault_at_end c.left))
 
--- what a whole stream comes to
+-- the result of a whole stream
 abbrev pub state_of_stream : State → List ℕ → Result State StreamFault
 state_of_stream opening stream = state_of opening (stream_cut stream)

@@ -1,12 +1,12 @@
-//! The room that a stream is read into, piece by piece.
+//! The buffer for reading a stream in pieces.
 ghost use Rattle.std.specs.Prelude.{◌≡◌, ◌<◌, IfOk, vec_len};
 
 use std::alloc::{AllocError, Global};
 
-/// How many bytes are asked of a reader at a time.
+/// The size of a read, in bytes.
 const PIECE_LEN: usize = 65536;
 
-/// Room for one piece.
+/// Allocates room for one piece.
 pub fn new_buffer(alloc: Global) -> Result<Vec<u8>, AllocError>
     ensures { IfOk result (λ piece. 0 < vec_len piece) }
 {

@@ -1,4 +1,4 @@
-//! The command `check`: a certificate's text in, the answer to it out.
+//! The command `check`: reads a certificate's text, and writes the answer to it.
 
 pub mod printing;
 pub mod run;

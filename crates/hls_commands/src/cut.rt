@@ -1,4 +1,4 @@
-//! The command `cut`: a recorded stream in, its playlist out.
+//! The command `cut`: reads a recorded stream, and writes its playlist.
 
 pub mod channel_config;
 pub mod fault;

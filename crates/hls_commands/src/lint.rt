@@ -1,4 +1,4 @@
-//! The command `lint`: a media playlist's text in, what it is out.
+//! The command `lint`: reads a media playlist's text, and writes a summary.
 
 mod printing;
 pub mod run;

@@ -1,4 +1,4 @@
-//! Reading a stream to its end.
+//! Reads a stream to its end.
 ghost use Rattle.std.specs.Prelude.{◌≡◌, ◌<◌, ◌≤◌, length};
 ghost use Rattle.hls_io.specs.Counted.{failures_of};
 ghost use Rattle.hls_io.specs.Streams.{RelatesInput};
@@ -14,11 +14,11 @@ use std::io::Read;
 pub enum ReadFault {
     /// A read failed.
     ReadFailed,
-    /// A growth of memory was refused.
+    /// Out of memory.
     Memory,
 }
 
-/// How many of `len` more bytes are held behind `held` ones, where at most so many are held.
+/// Returns how many of `len` more bytes are held after `held` ones, given that at most `most` are held.
 fn count_held(most: Option<usize>, held: usize, len: usize) -> usize
     ensures value { result ≡ held_len most held len }
     ensures bound { result ≤ len }
@@ -29,7 +29,7 @@ fn count_held(most: Option<usize>, held: usize, len: usize) -> usize
     }
 }
 
-/// The bytes of a stream, read to its end or a failed call by pieces that fit `piece`.
+/// Reads a stream to its end or a failed read, in pieces that fit `piece`.
 fn read_pieces<R: Read>(
     alloc: Global,
     input: &mut Counted<R>,
@@ -58,8 +58,8 @@ fn read_pieces<R: Read>(
     Ok(bytes)
 }
 
-/// The bytes of a stream, read to its end or a failed call. Where `most` is given, no more than the first so many bytes are
-/// held; those behind them are read and dropped.
+/// Reads a stream to its end or a failed read. If `most` is given, at most that many of the first bytes are held; those after them
+/// are read and dropped.
 pub fn read_whole<R: Read>(
     alloc: Global,
     input: &mut Counted<R>,

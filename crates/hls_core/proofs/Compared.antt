@@ -1,4 +1,4 @@
--- Comparisons of logs and of what is kept, one element on.
+-- Comparisons of logs and of kept bytes, extended by one element.
 use Rattle.std.proofs.Common.{◌≡◌, ℕ, ◌+◌, ◌-◌, ◌<◌, true, false, List, [], ◌∷◌, ◌++◌, Some, length, take, drop, refl, sym, ap, subst, inl, inr, ◌∙◌, arith, length-append}
 use Rattle.std.specs.Prelude.{slice_get, nat_lt, ◌==◌}
 use Rattle.std.proofs.lemmas.Bool.{le-ltb, eq-eqb, ne_eqb, cases_eq}
@@ -14,7 +14,7 @@ use Rattle.hls_core.specs.declared.rendition_state.RenditionState.{RenditionStat
 use Rattle.hls_core.specs.RenditionStates.{lane_of, held_of, HasRenditionState}
 
 module _ {T : Type 0} where
-  -- an item of a list that counts from 0
+  -- an item of a list whose items are numbered from 0
   pub item_there : (s : Numbered T) (n : ℕ) (x : T) → s.first ≡ 0 → Some x ≡ item_at s n → slice_get s.items n ≡ Some x
   item_there s n x first is =
       let test : nat_lt n s.first ≡ false = le-ltb n s.first (omega arith) in
@@ -29,7 +29,7 @@ begins_more a b n x y at_a at_b same front =
     let front_b = take_at b n y at_b in
     cc
 
--- one more entry, of the worker or of another
+-- one more entry, of this worker or of another
 one_by : (by : ℕ) (e : Entry) → e.by ≡ by → length (events_by by (e ∷ [])) ≡ 1
 one_by by e is = let test : (e.by == by) ≡ true = eq-eqb e.by by is in rw test refl
 
@@ -48,7 +48,7 @@ counted_own by xs n e at is = counted by xs n e at ∙ ap (λ k. length (events_
 pub counted_other : (by : ℕ) (xs : List Entry) (n : ℕ) (e : Entry) → slice_get xs n ≡ Some e → (e.by ≡ by → ⊥) → length (events_by by (take (n + 1) xs)) ≡ length (events_by by (take n xs))
 counted_other by xs n e at isnt = let none = none_by by e isnt in omega (arith, counted by xs n e at, none)
 
--- what two sides say of the bytes that two states keep
+-- what two rendition states say of the bytes that both states keep
 pub sides_same : (a b : State) (r : ℕ) (x y : RenditionState) → HasRenditionState a r x → HasRenditionState b r y → HaveSameBytes (lane_of x) (lane_of y) (held_of x) (held_of y) → (ha hb : HeldBytes) → slice_get a.bytes r ≡ Some ha → slice_get b.bytes r ≡ Some hb → HaveSameBytes (lane (channel a) r) (lane (channel b) r) ha hb
 sides_same a b r x y at_a at_b same ha hb held_a held_b =
     let a_is : held_of x ≡ ha = let was = at_a.held in cc in
@@ -68,7 +68,7 @@ same_at a b r x y at_a at_b same =
     (subst (λ (l : Lane). HaveSameBytes (lane (channel a) r) l (held_of x) (held_of y)) lane_b
     (same r (held_of x) (held_of y) at_a.held at_b.held))
 
--- one more rendition in which all that both keep is the same
+-- one more rendition in which everything that both keep is the same
 pub same_more : (a b : State) (n : ℕ) (x y : RenditionState) → HasRenditionState a n x → HasRenditionState b n y → HaveSameBytes (lane_of x) (lane_of y) (held_of x) (held_of y)
     → ((r : ℕ) (ha hb : HeldBytes) → r < n → slice_get a.bytes r ≡ Some ha → slice_get b.bytes r ≡ Some hb → HaveSameBytes (lane (channel a) r) (lane (channel b) r) ha hb)
     → (r : ℕ) (ha hb : HeldBytes) → r < n + 1 → slice_get a.bytes r ≡ Some ha → slice_get b.bytes r ≡ Some hb → HaveSameBytes (lane (channel a) r) (lane (channel b) r) ha hb
@@ -81,7 +81,7 @@ same_more a b n x y at_a at_b same before r ha hb below held_a held_b = elim (ca
   | inr other ↦ before r ha hb (omega arith) held_a held_b
 ]
 
--- these three tests decide what it is to continue
+-- these three tests decide whether b continues a
 pub continues_when : (a b : State) → a.config ≡ b.config → take (length a.log) b.log ≡ a.log → AllHaveSameBytes a b → Extends a b
 continues_when a b config front same =
     let whole : b.log ≡ a.log ++ drop (length a.log) b.log =

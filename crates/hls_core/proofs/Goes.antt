@@ -1,4 +1,4 @@
--- What the code has found out of an event makes it New, and the side that it puts in makes the state that the move says.
+-- The code's tests imply that an event is New, and the rendition state that it puts in yields the state of the move.
 use Rattle.std.proofs.Common.{arith, ◌≡◌, ℕ, ◌+◌, ◌-◌, ◌^◌, ◌<◌, ◌≤◌, Bool, true, false, List, [], ◌∷◌, ◌++◌, Option, Some, None, length, refl, sym, ap, subst, ◌∙◌, Result, Ok, Err, IfOk, IfErr, Global}
 use Rattle.std.specs.Prelude.{slice_get, slice_set, nat_le}
 use Rattle.std.specs.Str.{bytes_eq}
@@ -84,7 +84,7 @@ held_is s r rendition_state o at begun = at_or s.bytes r no_bytes (held_of rendi
 lane_at : (s : State) (r : ℕ) (rendition_state : RenditionState) (o : Option RecordingData) → HasRenditionState s r rendition_state → rendition_state.recording ≡ o → slice_get (channel s).lanes r ≡ Some (lane_from o rendition_state.finished)
 lane_at s r rendition_state o at begun = at.lane ∙ ap (λ (x : Option RecordingData). Some (lane_from x rendition_state.finished)) begun
 
--- the answer to what nothing but want of memory could still refuse
+-- the answer where only an allocation failure can still refuse
 pub steps_by : {E : Type 0} (s target : State) (by : ℕ) (event : Event) (next : Result (Arc Snapshot Global) E) (answer : Result Stepped Refusal) → outcome_of s event ≡ New → target ≡ state_with_entry s by event →
     IfOk next (λ n. n.value ≡ target) → IfOk next (λ n. answer ≡ Ok (stepped.New n)) → IfErr next (λ _. answer ≡ Err Memory) → Steps s by event answer
 steps_by s target by event (Ok n) answer new is made progress refused = subst (λ (x : Result Stepped Refusal). Steps s by event x) (sym progress) (new, made ∙ is)
@@ -95,7 +95,7 @@ pub steps_goes : {E : Type 0} {s : State} {by : ℕ} {event : Event} {r : ℕ} {
 steps_goes {s = s} {by = by} {event = event} {r = r} {rendition_state = rendition_state} entry next answer is goes made progress refused =
     steps_by s (with_rendition s entry r rendition_state) by event next answer goes.new (ap (λ (e : Entry). with_rendition s e r rendition_state) is ∙ goes.is) made progress refused
 
--- the side that was made is the one that goes
+-- the rendition state that was made is the one of the move
 pub goes_as : {s : State} {by : ℕ} {event : Event} {r : ℕ} {rendition_state made : RenditionState} → rendition_state ≡ made → Goes s by event r made → Goes s by event r rendition_state
 goes_as {s = s} {by = by} {event = event} {r = r} is goes = subst (λ (x : RenditionState). Goes s by event r x) (sym is) goes
 
@@ -109,7 +109,7 @@ room_of s full is isnt = leb-false 4194304 (length s.log) (sym is ∙ isnt)
 pub within : (s : State) (r : ℕ) (rendition_state : RenditionState) → HasRenditionState s r rendition_state → r < length s.bytes
 within s r rendition_state at = slice_get_within s.bytes r (held_of rendition_state) at.held
 
--- a recording has room for one more unit where the log isn't full
+-- a recording has room for one more unit if the log isn't full
 pub units_few : (s : State) (r : ℕ) (rendition_state : RenditionState) (rec : RecordingData) → IsState s → HasRenditionState s r rendition_state → rendition_state.recording ≡ Some rec → length rec.facts ≤ length s.log
 units_few s r rendition_state rec state at begun =
     units_are_logged s.config s.log state.legal r (lane_from (Some rec) rendition_state.finished) (lane_at s r rendition_state (Some rec) at begun)
@@ -288,7 +288,7 @@ pub record Trims (s : State) (by r floor : ℕ) (rendition_state : RenditionStat
   pub is : with_rendition s (entry_of by (Trim r floor)) r rendition_state ≡ state_with_entry s by (Trim r floor)
   pub trim : MayTrim s (entry_of by (Trim r floor)) r rendition_state
 
--- a floor that may rise lies among the units of a rendition that has begun
+-- a floor that may rise is among the units of a rendition that has begun
 pub trim_within : (s : State) (r floor : ℕ) (old : RenditionState) (o : Option RecordingData) → HasRenditionState s r old → old.recording ≡ o → (lane_of old).floor < floor → floor ≤ trim_limit (front_of (line s)) r → floor ≤ length (lane_from o old.finished).facts
 trim_within s r floor old o at begun rises far =
     omega (arith, far, front_within s r (lane_of old) at.lane, ap (λ (x : Option RecordingData). length (lane_from x old.finished).facts) begun)

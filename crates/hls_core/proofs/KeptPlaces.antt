@@ -1,8 +1,7 @@
--- What a search among the places of a state comes to.
+-- The results of a search among the places of a state.
 use Rattle.std.proofs.Common.{◌≡◌, ℕ, zero, suc, ◌+◌, ◌-◌, ◌<◌, ◌≤◌, Bool, true, false, List, [], ◌∷◌, length, map, get_or, None, Some, arith, refl, sym, ap, inl, inr, ◌∙◌}
 use Rattle.std.specs.Prelude.{slice_get, slice_index, not, nat_le}
 use Rattle.std.proofs.lemmas.Bool.{cases_lt, cond-true, cond-false, leb-true, leb-false, le-leb}
-use Rattle.hls_check_laws.specs.Tables.{spot_in}
 use Rattle.hls_places_laws.specs.declared.place.Place.{Place}
 use Rattle.hls_places_laws.specs.Order.{time_of}
 use Rattle.hls_places_laws.specs.Programmes.{is_kept, filter_kept}
@@ -11,17 +10,16 @@ use Rattle.hls_core_laws.specs.State.{State, channel}
 use Rattle.hls_core_laws.specs.IsState.{IsState}
 use Rattle.hls_core_laws.specs.Places.{places, floors, floor_of, kept_places}
 use Rattle.std.proofs.lemmas.Option.{slice_get_within}
-use Rattle.hls_core.proofs.Cited.{kept-parts, kept-of, kept-goes-on, times-rise}
+use Rattle.hls_core.proofs.Cited.{kept-goes-on, times-rise}
 use Rattle.hls_core.specs.declared.place_search.PlacePredicate.{PlacePredicate}
 use Rattle.hls_core.specs.declared.place_search.PlacePredicate.TheVariants.{AtOrBefore, Trimmed}
-use Rattle.hls_core.specs.TrimPlaces.{KeptBefore}
 use Rattle.hls_core.specs.KeptPlaces.{IsLastKeptBy, NoKeptBy}
 use Rattle.hls_core.specs.Predicates.{satisfies, SatisfyBelow, NoneSatisfiesFrom, IsFront}
 
 some-is : {A : Type 0} (x y : A) → Some x ≡ Some y → x ≡ y
 some-is x y is = cc
 
--- the floors, and what is kept above them
+-- the floors
 none-floor : (lanes : List Lane) (r : ℕ) → slice_get lanes r ≡ None → get_or (map floor_of lanes) r 0 ≡ 0
 none-floor [] r is = refl
 none-floor (l ∷ lanes) zero is = absurd (cc)
@@ -30,17 +28,7 @@ none-floor (l ∷ lanes) (suc r) is = none-floor lanes r is
 pub floor-none : (s : State) (r : ℕ) → slice_get (channel s).lanes r ≡ None → 0 ≡ slice_index (floors s) r
 floor-none s r is = sym (none-floor (channel s).lanes r is)
 
-pub kept-all : (s : State) (p : Place) (r : ℕ) → length p.spots ≡ length (floors s) → length (floors s) ≤ r → KeptBefore s p r → is_kept (floors s) p ≡ true
-kept-all s p r count past before = kept-of (floors s) p.spots count (λ k h. before k (omega arith))
-
-pub kept-not : (s : State) (p : Place) (r : ℕ) → length p.spots ≡ length (floors s) → r < length (floors s) →
-    (spot_in p.spots r).fragment < slice_index (floors s) r → is_kept (floors s) p ≡ false
-kept-not s p r count within less = elim (is_kept (floors s) p) as (λ b. is_kept (floors s) p ≡ b → b ≡ false) [
-  | true ↦ λ is. absurd (omega (arith, less, kept-parts (floors s) p.spots count is r within))
-  | false ↦ λ is. refl
-] refl
-
--- what holds below a number, and at it
+-- what holds below a number, and at that number
 pub one-more : (P : ℕ → Type 0) (r : ℕ) → ((k : ℕ) → k < r → P k) → P r → (k : ℕ) → k < r + 1 → P k
 one-more P r before here k less =
     elim (cases_lt k r) [
@@ -50,11 +38,7 @@ one-more P r before here k less =
           rw same here
     ]
 
-pub kept-more : (s : State) (p : Place) (r : ℕ) → KeptBefore s p r → slice_index (floors s) r ≤ (spot_in p.spots r).fragment → KeptBefore s p (r + 1)
-kept-more s p r before here =
-    one-more (λ k. slice_index (floors s) k ≤ (spot_in p.spots k).fragment) r before here
-
--- what is asked is true of a front of the places
+-- the predicate is true of a prefix of the places
 is-not : (b : Bool) → not b ≡ true → b ≡ false
 is-not true is = sym is
 is-not false is = refl
@@ -100,7 +84,7 @@ unmet-more s state predicate middle here there isnt k p more at = elim (satisfie
 pub none-past : (s : State) (predicate : PlacePredicate) (n : ℕ) → length (places s) ≤ n → NoneSatisfiesFrom s predicate n
 none-past s predicate n past k p more at = absurd (omega (arith, slice_get_within (places s) k p at))
 
--- the places behind the trimmed ones are the kept ones
+-- the places after the trimmed ones are the kept ones
 behind : (above : List ℕ) (ps : List Place) (n : ℕ) → ((k : ℕ) (p : Place) → k < n → slice_get ps k ≡ Some p → not (is_kept above p) ≡ true) →
     ((k : ℕ) (p : Place) → n ≤ k → slice_get ps k ≡ Some p → not (is_kept above p) ≡ false) → length (filter_kept above ps) ≡ length ps - n
 behind above [] n trimmed rest = omega arith

@@ -7,3 +7,8 @@ mod Compared
 mod Moved
 mod Upkeeps
 mod KeptPlaces
+mod DrainLaws
+mod FeedLaws
+mod Least
+mod ShortestLaws
+pub mod Callers

@@ -1,4 +1,4 @@
--- The renditions that a cursor is moved on over are those of the snapshot.
+-- The renditions over which a cursor is advanced are those of the snapshot.
 use Rattle.std.proofs.Common.{arith, ◌≡◌, ℕ, zero, suc, ◌+◌, ◌<◌, ◌≤◌, Bool, List, [], ◌∷◌, ◌++◌, Option, Some, None, length, map, drop, take, get_or, false, refl, sym, ap, subst, ◌∙◌, append-nil, Result, Ok, Err, IfOk, Global}
 use Rattle.std.specs.declared.sync.Arc.{Arc}
 use Rattle.std.specs.Prelude.{slice_get}
@@ -34,7 +34,7 @@ lane_end : (o : Option RecordingData) (finished : Bool) → finished ≡ (lane_f
 lane_end None finished = refl
 lane_end (Some r) finished = refl
 
--- the renditions up to one that has begun, and that one
+-- the renditions up to one that has begun, inclusive
 module _ {X : Type 0} where
   pub next_source : (rendition_state : X → RenditionState) (xs : List X) (config : ConfigData) (r : ℕ) (x : X) (t : Rendition) (rec : RecordingData)
       → length config.renditions ≡ length xs → r < length xs → x ≡ get_or xs r x → t ≡ get_or config.renditions r t → (rendition_state x).recording ≡ Some rec
@@ -70,7 +70,7 @@ module _ {X : Type 0} where
       {x = record { facts = get_or (map facts_of lanes) r []; tolerance = get_or (map tolerance_of config.renditions) r 0; finished = get_or (map is_finished lanes) r false }}
       {y = record { facts = rec.facts; tolerance = t.tolerance; finished = (rendition_state x).finished }} here
 
--- as many renditions as sides
+-- there are as many renditions as rendition states
 pub by_count : (config : ConfigData) (rendition_states : List RenditionState) → length config.renditions ≡ length rendition_states → length (sources_by config rendition_states) ≡ length rendition_states
 by_count config rendition_states count =
     let lanes : length (map facts_of (map lane_of rendition_states)) ≡ length rendition_states =
@@ -79,7 +79,7 @@ by_count config rendition_states count =
     (length-map config.renditions tolerance_of ∙ count ∙ sym lanes)
     (length-map (map lane_of rendition_states) is_finished ∙ length-map rendition_states lane_of ∙ sym lanes) ∙ lanes
 
--- and as many where the sides are shared
+-- and as many if the rendition states are shared
 pub one_each : (config : ConfigData) (rendition_states : List (Arc RenditionState Global)) (found : List Source) → length config.renditions ≡ length rendition_states →
     found ≡ sources_by config (map (λ a. a.value) rendition_states) → length found ≡ length rendition_states
 one_each config rendition_states found count is =
@@ -110,7 +110,7 @@ drop_at (x ∷ xs) (suc n) q at =
     let step : suc n + 1 ≡ suc (n + 1) = omega arith in
     rw step (drop_at xs n q at)
 
--- the line that is told nothing
+-- a line that is given no places
 none_told : (live : Live) → live_after_all live [] ≡ live
 none_told live = let same = progress-none live.line_goal live.removed live.progress in
     λ k. record { line_goal = live.line_goal; progress = same k; removed = live.removed; breaks = live.breaks }
@@ -146,7 +146,7 @@ told_end first all now rest n past t =
 pub told_here : (first : Live) (all : List Place) (now : Live) (rest : List Place) (n : ℕ) (q : Place) → slice_get rest n ≡ Some q → IsTold first all now (drop n rest) → HasRoomFor now (q ∷ drop (n + 1) rest)
 told_here first all now rest n q at t = subst (λ (xs : List Place). HasRoomFor now xs) (drop_at rest n q at) t.can
 
--- sides that are shared once more are the same
+-- rendition states that are shared again are the same
 pub same_values : (xs ys : List (Arc RenditionState Global)) → AllZip (λ x y. y.value ≡ x.value) xs ys → map (λ a. a.value) ys ≡ map (λ a. a.value) xs
 same_values [] [] same = refl
 same_values [] (y ∷ ys) same = absurd same
@@ -154,11 +154,11 @@ same_values (x ∷ xs) [] same = absurd same
 same_values (x ∷ xs) (y ∷ ys) same =
     ap (λ (s : RenditionState). s ∷ map (λ (a : Arc RenditionState Global). a.value) ys) same.0 ∙ ap (λ (ss : List RenditionState). x.value ∷ ss) (same_values xs ys same.1)
 
--- a value is the same as itself
+-- a value equals itself
 pub same_placed : (old p : LineState) → p ≡ old → IsSameLineState old p
 same_placed old p is = subst (λ (x : LineState). IsSameLineState old x) (sym is) (record { places = refl; cursor = refl; line_is = refl })
 
--- what follows of a value holds of it, where there is one
+-- what follows from a property of a result's value, if it has one
 pub when_ok : {T E : Type 0} {P Q : T → Type 0} (r : Result T E) → ((x : T) → P x → Q x) → IfOk r P → IfOk r Q
 when_ok (Ok x) follows is = follows x is
 when_ok (Err e) follows is = is

@@ -20,7 +20,7 @@ take_at [] (suc n) k x at = cc
 take_at (z ∷ xs) (suc n) zero x at = (omega arith, at)
 take_at (z ∷ xs) (suc n) (suc k) x at = let h = take_at xs n k x at in (omega (arith, h.0), h.1)
 
--- some rendition with that name
+-- some rendition has that name
 record Bears (rs : List Rendition) (name : List ℕ) : Type 0 where
   number : ℕ
   rendition : Rendition
@@ -60,7 +60,7 @@ not_found rs n r there true is =
     let h = take_at rs n f.number f.rendition f.at in
     absurd (there.name f.number f.rendition h.0 h.1 f.same)
 
--- a rendition may stand at n exactly where the tests say so
+-- a rendition is valid at n exactly if the tests say so
 pub named_apart : (rs : List Rendition) (n : ℕ) (r : Rendition) → IsRendition r → (n ≡ 0 → r.tolerance ≡ 0) → IsTrue (not (has_name (take n rs) r.name)) ↔ IsRenditionAt rs n r
 named_apart rs n r own first = (
   λ apart. record {
@@ -71,7 +71,7 @@ named_apart rs n r own first = (
   λ there. not_found rs n r there (has_name (take n rs) r.name) refl,
 )
 
--- one more rendition that may stand where it stands
+-- one more rendition that is valid at its number
 pub good_more : (rs : List Rendition) (n : ℕ) (x : Rendition) → ((k : ℕ) (r : Rendition) → k < n → slice_get rs k ≡ Some r → IsRenditionAt rs k r) → slice_get rs n ≡ Some x → IsRenditionAt rs n x → (k : ℕ) (r : Rendition) → k < n + 1 → slice_get rs k ≡ Some r → IsRenditionAt rs k r
 good_more rs n x good at_n good_n k r below at = elim (cases_eq k n) [
   | inl same ↦

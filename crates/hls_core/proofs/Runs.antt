@@ -1,4 +1,4 @@
--- A run that is stepped through: what its next event leads to.
+-- Stepping through a run: where its next event leads.
 use Rattle.std.proofs.Common.{◌≡◌, ◌∙◌, ℕ, ◌+◌, ◌<◌, ◌≤◌, List, ◌∷◌, length, drop, get_or, sym, ap, subst}
 use Rattle.std.proofs.lemmas.List.{drop_all, drop_more}
 use Rattle.hls_core_laws.specs.declared.event.Event.{Event}

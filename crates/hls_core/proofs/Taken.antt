@@ -1,4 +1,4 @@
--- A snapshot's parts stay one state: at the opening, and where one side is put in place of another.
+-- A snapshot's parts stay consistent: at the opening, and when one rendition state replaces another.
 use Rattle.std.proofs.Common.{◌≡◌, ℕ, suc, ◌+◌, ◌*◌, ◌<◌, ◌≤◌, Bool, true, false, List, [], ◌∷◌, ◌++◌, Option, Some, None, length, map, get_or, refl, sym, ap, subst, inl, inr, ◌∙◌, arith, length-append, Vec, Global}
 use Rattle.std.specs.declared.sync.Arc.{Arc}
 use Rattle.std.specs.Prelude.{slice_get, slice_set, if◌then◌else◌}
@@ -34,7 +34,7 @@ use Rattle.hls_core.specs.RenditionStates.{lane_of, held_of, fresh_rendition_sta
 use Rattle.hls_core.specs.declared.line_state.LineState.{LineState}
 use Rattle.hls_core.specs.LineState.{IsFirstLineState, IsSameLineState, HasLine, IsAdvancedLineState, HasRoomFor}
 use Rattle.hls_core.specs.Model.{rendition_states_of, model_of, inside_after, IsSoundSnapshot}
-use Rattle.hls_check_laws.specs.Tables.{rendition_limit}
+use Rattle.hls_check_tables.specs.Tables.{rendition_limit}
 
 filtered : {X Y : Type 0} (f : X → Option Y) (xs : List X) → length (filter_map f xs) ≤ length xs
 filtered f [] = omega arith
@@ -47,7 +47,7 @@ closed : (b : Bool) (p : Place) → length (if b then p ∷ [] else []) ≤ 1
 closed true p = omega arith
 closed false p = omega arith
 
--- a state has no more common places than entries and one
+-- a state has at most one more common place than entries
 places_few : (s : State) → IsState s → length (places s) ≤ 4194305
 places_few s state =
     let lane_at = some_at (channel s).lanes 0 (omega (arith, lanes_count s.config s.log, state.configured.renditions.some)) in
@@ -71,7 +71,7 @@ at_behind (x ∷ xs) ys k p at =
     let same : suc (length xs) + k ≡ suc (length xs + k) = omega arith in
     rw same (at_behind xs ys k p at)
 
--- what a cursor that is moved on needs, where a side is put in place of another
+-- what advancing the cursor needs, when a rendition state is replaced
 pub record Ahead (i : Inside) (config : ConfigData) (rendition_states : List RenditionState) : Type 0 where
   pub cursor : IsCursor i.line_state.value.cursor.value (sources_by config rendition_states)
   pub room : next_of i.line_state.value.places + length (places_after (sources_by config rendition_states) i.line_state.value.cursor.value.done) < list_limit
@@ -128,7 +128,7 @@ ahead i s entry r rendition_state config rendition_states is kept take same_conf
     subst (λ (c : ConfigData). Ahead i c rendition_states) (sym same_config)
     (subst (λ (xs : List RenditionState). Ahead i i.config xs) (sym same_sides) (ahead_put i entry r rendition_state kept take_seen))
 
--- parts with one more entry, and this side at number r
+-- the parts with one more entry, and this rendition state at number r
 seen_with : (i n : Inside) (entry : Entry) (r : ℕ) (rendition_state : RenditionState) → n.config ≡ i.config → n.log ≡ record { first = i.log.first; items = i.log.items ++ entry ∷ [] } → rendition_states_of n ≡ slice_set (rendition_states_of i) r rendition_state → model_of n ≡ with_rendition (model_of i) entry r rendition_state
 seen_with i n entry r rendition_state config log_is rendition_states =
     let log : n.log.items ≡ i.log.items ++ entry ∷ [] = ap (λ l. l.items) log_is in
@@ -136,7 +136,7 @@ seen_with i n entry r rendition_state config log_is rendition_states =
     ap (map held_of) rendition_states ∙ map-set held_of (rendition_states_of i) r rendition_state in
     λ k. record { config = config k; log = log k; bytes = bytes k }
 
--- what they say of their lanes, and how many segments are gone, where the entry says so
+-- the lanes of the parts, and how many segments are removed, after this entry
 with_entry : (i n : Inside) (entry : Entry) (r : ℕ) (rendition_state : RenditionState) → model_of n ≡ with_rendition (model_of i) entry r rendition_state → channel (model_of n) ≡ channel_after entry.event (channel (model_of i))
 with_entry i n entry r rendition_state is = ap channel is ∙ channel_from-snoc (first_channel i.config) i.log.items entry
 
@@ -150,7 +150,7 @@ removed_with : (i n : Inside) (entry : Entry) (r : ℕ) (rendition_state : Rendi
     model_of n ≡ with_rendition (model_of i) entry r rendition_state → (channel (model_of n)).removed ≡ (channel (model_of i)).removed
 removed_with i n entry r rendition_state removed is = ap (λ (ch : Channel). ch.removed) (with_entry i n entry r rendition_state is) ∙ removed
 
--- the parts n are the parts i with one more entry and this side at number r, and with the places moved on
+-- the parts n are the parts i with one more entry, this rendition state at number r, and the places advanced
 pub record Puts (i n : Inside) (entry : Entry) (r : ℕ) (rendition_state : RenditionState) : Type 0 where
   pub config : n.config ≡ i.config
   pub log : n.log ≡ record { first = i.log.first; items = i.log.items ++ entry ∷ [] }
@@ -213,14 +213,14 @@ kept_put i s entry r rendition_state rendition_states line_state is kept take si
     (kept_puts i (inside_after (model_of i) entry rendition_states line_state) entry r rendition_state kept (subst (λ (x : State). MayReplaceRendition x entry r rendition_state) (sym is) take)
     (puts i entry r rendition_state rendition_states line_state kept sides_are on))
 
--- the state of the parts after one more entry, and with this side at number r
+-- the state of the parts after one more entry, with this rendition state at number r
 pub seen_put : (i : Inside) (s : State) (entry : Entry) (r : ℕ) (rendition_state : RenditionState) (rendition_states : Vec (Arc RenditionState Global) Global) (line_state : Arc LineState Global) → model_of i ≡ s → IsSoundSnapshot i →
     map (λ a. a.value) rendition_states.items ≡ slice_set (rendition_states_of i) r rendition_state → model_of (inside_after s entry rendition_states line_state) ≡ with_rendition s entry r rendition_state
 seen_put i s entry r rendition_state rendition_states line_state is kept sides_are =
     subst (λ (x : State). model_of (inside_after x entry rendition_states line_state) ≡ with_rendition x entry r rendition_state) is
     (seen_with i (inside_after (model_of i) entry rendition_states line_state) entry r rendition_state refl (log_after i entry kept) sides_are)
 
--- a side stands where its lane and its bytes stand
+-- a rendition state has the number of its lane and its bytes
 pub side_at : (i : Inside) (s : State) (r : ℕ) (rendition_state : RenditionState) → model_of i ≡ s → IsSoundSnapshot i → slice_get (rendition_states_of i) r ≡ Some rendition_state → HasRenditionState s r rendition_state
 side_at i s r rendition_state is kept at =
     let here : HasRenditionState (model_of i) r rendition_state =
@@ -230,7 +230,7 @@ side_at i s r rendition_state is kept at =
     } in
     subst (λ (x : State). HasRenditionState x r rendition_state) is here
 
--- a rendition of the state has a side
+-- a rendition of the state has a rendition state
 pub side_within : (i : Inside) (s : State) (r : ℕ) → model_of i ≡ s → r < length s.bytes → r < length i.rendition_states.items
 side_within i s r is there =
     let all : length (map held_of (rendition_states_of i)) ≡ length i.rendition_states.items = length-map (rendition_states_of i) held_of ∙ length-map i.rendition_states.items (λ a. a.value) in
@@ -290,7 +290,7 @@ kept_first n config good is log rendition_states none_yet =
       line_is = none_yet.line_is ∙ ap (λ (ps : List Place). live_of (line_goal_of config) ps 0) (sym none) ∙ ap line (sym whole);
     }
 
--- where the renditions say the same as before, the places stay those of the state
+-- if the renditions are unchanged, the places stay those of the state
 record AreStill (n : Inside) : Type 0 where
   pub places : n.line_state.value.places ≡ record { first = 0; items = places (model_of n) }
   pub cursor : IsCursor n.line_state.value.cursor.value (sources (model_of n))
@@ -307,7 +307,7 @@ are_still i n now kept same p =
       exhausted = subst (λ (x : CursorData). IsExhausted x (sources (model_of n))) (sym p.cursor) (subst (λ (x : List Source). IsExhausted i.line_state.value.cursor.value x) (sym same) kept.exhausted);
     }
 
--- a trim: places and line stay
+-- a trim doesn't change places and line
 kept_trims : (i : Inside) (entry : Entry) (r : ℕ) (rendition_state : RenditionState) (rendition_states : Vec (Arc RenditionState Global) Global) (line_state : Arc LineState Global) → IsSoundSnapshot i → MayTrim (model_of i) entry r rendition_state →
     map (λ a. a.value) rendition_states.items ≡ slice_set (rendition_states_of i) r rendition_state → IsSameLineState i.line_state.value line_state.value → IsSoundSnapshot (inside_after (model_of i) entry rendition_states line_state)
 kept_trims i entry r rendition_state rendition_states line_state kept trim sides_are p =
@@ -333,7 +333,7 @@ kept_trim i s entry r rendition_state rendition_states line_state is kept trim s
     subst (λ (x : State). IsSoundSnapshot (inside_after x entry rendition_states line_state)) is
     (kept_trims i entry r rendition_state rendition_states line_state kept (subst (λ (x : State). MayTrim x entry r rendition_state) (sym is) trim) sides_are p)
 
--- a slide: the line alone is another
+-- a slide changes only the line
 seen_slides : (i : Inside) (by count : ℕ) (rendition_states : Vec (Arc RenditionState Global) Global) (line_state : Arc LineState Global) → map (λ a. a.value) rendition_states.items ≡ rendition_states_of i →
     model_of (inside_after (model_of i) (entry_of by (Slide count)) rendition_states line_state) ≡ state_with_entry (model_of i) by (Slide count)
 seen_slides i by count rendition_states line_state sides_are =

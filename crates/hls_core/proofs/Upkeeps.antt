@@ -1,9 +1,9 @@
--- The upkeep of a state: which event it is, and that nothing but a full log or want of memory refuses it.
+-- The upkeep of a state: which event it is, and that only a full log or an allocation failure refuses it.
 use Rattle.std.proofs.Common.{◌≡◌, ℕ, ◌+◌, ◌-◌, ◌<◌, ◌≤◌, true, false, length, get_or, Option, None, Some, leb, ltb, arith, refl, sym, ap, subst, inl, inr, ◌∙◌}
 use Rattle.std.specs.Prelude.{slice_get, slice_index, IfSome, IfNone}
 use Rattle.std.proofs.lemmas.Bool.{cases_lt, and_parts, and_from, leb-true, le-leb, lt-leb, le-ltb, cond-false}
 use Rattle.std.proofs.lemmas.Option.{same_Some}
-use Rattle.hls_check_laws.specs.Tables.{spot_in}
+use Rattle.hls_check_tables.specs.Tables.{spot_in}
 use Rattle.hls_places_laws.specs.declared.place.Place.{Place}
 use Rattle.hls_places_laws.specs.Order.{time_of}
 use Rattle.hls_places_laws.specs.Programmes.{is_kept}
@@ -23,7 +23,7 @@ use Rattle.hls_core.specs.TrimPlaces.{IsOldUntil, NoneOld, IsTrimPlaceAt, HasNoT
 use Rattle.hls_core.specs.KeptPlaces.{IsLastKeptBy, NoKeptBy}
 use Rattle.hls_core.proofs.KeptPlaces.{one-more}
 
--- old, by times
+-- old places, in terms of times
 old-parts : (keep : ℕ) (front last p : Place) → is_old keep front last p ≡ true → (time_of p ≤ time_of front) × (time_of p + keep ≤ time_of last)
 old-parts keep front last p is =
     let parts = and_parts (leb (time_of p) (time_of front)) (leb (time_of p + keep) (time_of last)) is in
@@ -61,7 +61,7 @@ none-long s keep end there short front last p is last_is old =
     let same : end ≡ last = same_Some end last (sym there ∙ last_is) in
     absurd (omega (arith, short, ap time_of same, (old-parts keep front last p old).1))
 
--- the cut
+-- the trim place
 old-in : (s : State) (keep time window : ℕ) (cut : Place) (until : IsOldUntil s keep time) (is : IsTrimPlaceOf (upkeep_view s window keep) cut) → is_old keep until.front until.last cut ≡ true
 old-in s keep time window cut until is =
     let front : is.front ≡ until.front = same_Some is.front until.front (sym is.front_is ∙ until.front_is) in
@@ -96,7 +96,7 @@ cut-is s keep time n p until last at window =
           ];
     }
 
--- which upkeep it is
+-- which event the upkeep is
 pub ended-idle : (s : State) (window keep : ℕ) → has_ended (line s) ≡ true → IsUpkeepOf s window keep None
 ended-idle s window keep over = record {
   upkeep = Idle;
@@ -155,7 +155,7 @@ trims-to s window keep cut event on most is below = record {
   others = below.before;
 }
 
--- nothing but a full log or want of memory refuses it
+-- only a full log or an allocation failure refuses it
 pub slide-accepted : (s : State) (window keep count : ℕ) → IsSlide (upkeep_view s window keep) count → outcome_of s (Slide count) ≡ new_or_full (length s.log)
 slide-accepted s window keep count is = ap (λ may. slide may (length s.log)) (upkeep-slides (upkeep_view s window keep) count is)
 
@@ -180,7 +180,7 @@ pub reached-more : (s : State) (p : Place) (r : ℕ) → ReachedBefore s p r →
 reached-more s p r before here =
     one-more (λ k. (spot_in p.spots k).fragment ≤ slice_index (floors s) k) r before here
 
--- what a search for a rendition to be trimmed comes to
+-- the results of a search for a rendition to trim
 pub trimmed-by : (s : State) (window keep : ℕ) (cut : Place) (found : Option Event) → has_ended (line s) ≡ false → IsMostSlide (line s) window 0 → IsTrimPlaceAt s keep cut →
     IfSome found (IsFirstBelow s cut) → IfNone found (ReachedBefore s cut (length (floors s))) → IsUpkeepOf s window keep found
 trimmed-by s window keep cut None on most is some none = trimmed-idle s window keep cut most is none
@@ -190,7 +190,7 @@ trimmed-by s window keep cut (Some event) on most is below none = record {
   event_is = ap (λ (e : Event). Some e) below.is;
 }
 
--- what an upkeep says to do is refused by nothing but a full log or want of memory
+-- the event of the upkeep is refused only for a full log or an allocation failure
 accepted-as : (s : State) → IsState s → (window keep : ℕ) (upkeep : Upkeep) → IsUpkeep (upkeep_view s window keep) upkeep →
     IfSome (event_of upkeep) (λ event. outcome_of s event ≡ new_or_full (length s.log))
 accepted-as s state window keep Idle is = tt

@@ -1,4 +1,4 @@
--- What makes a configuration, or is wrong with it first.
+-- What makes a configuration valid, or its first fault.
 use Rattle.std.specs.Prelude.{◌≡◌, ◌⊎◌, ℕ, ℤ, ◌*◌, ◌<◌, List, Option, None, Result, Ok, Err}
 use Rattle.hls_core_laws.specs.declared.rendition.Rendition.{Rendition}
 use Rattle.hls_core_laws.specs.Config.{ConfigData, IsTarget, IsPreferred, AreRenditions, IsEpoch, IsConfig}
@@ -6,7 +6,7 @@ use Rattle.hls_core.specs.declared.config.Config.{Config}
 use Rattle.hls_core.specs.declared.config.ConfigFault.{ConfigFault}
 use Rattle.hls_core.specs.declared.config.ConfigFault.TheVariants.{BadTarget, BadPreferred, BadRendition, BadEpoch, Memory}
 use Rattle.hls_core.specs.FirstBad.{IsFirstBadRendition}
-use Rattle.hls_check_laws.specs.Tables.{target_limit}
+use Rattle.hls_check_tables.specs.Tables.{target_limit}
 
 abbrev pub configured_from : ℕ → ℕ → List Rendition → Option ℤ → ConfigData
 configured_from target preferred rs epoch = record { target = target; preferred = preferred; renditions = rs; epoch = epoch }
@@ -15,7 +15,7 @@ configured_from target preferred rs epoch = record { target = target; preferred 
 abbrev pub configured : ℕ → ℕ → List Rendition → ConfigData
 configured target preferred rs = configured_from target preferred rs None
 
--- the first cause, in this order; want of memory comes last
+-- the first cause, in this order; running out of memory comes last
 abbrev pub Configures : ℕ → ℕ → List Rendition → Option ℤ → Result Config ConfigFault → Type 0
 Configures target preferred rs epoch (Ok c) = (c ≡ configured_from target preferred rs epoch) × IsConfig (configured_from target preferred rs epoch)
 Configures target preferred rs epoch (Err BadTarget) = (target ≡ 0) ⊎ (target_limit < target)

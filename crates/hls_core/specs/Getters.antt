@@ -1,4 +1,4 @@
--- What a state says of one rendition.
+-- One rendition of a state.
 use Rattle.std.specs.Prelude.{ℕ, Bool, Option, Some, None, slice_get}
 use Rattle.std.specs.Option.{option_map}
 use Rattle.hls_media_laws.specs.InitData.{InitData}
@@ -19,6 +19,6 @@ recorded_at (Some l) h = recorded_from l.init l h
 abbrev pub recording_of : State → ℕ → Option RecordingData
 recording_of s r = recorded_at (slice_get (channel s).lanes r) (held_bytes s r)
 
--- whether a rendition is finished; none where the channel has no such rendition
+-- whether a rendition is finished; none if the channel has no such rendition
 abbrev pub finished_at : State → ℕ → Option Bool
 finished_at s r = option_map (λ l. l.finished) (slice_get (channel s).lanes r)

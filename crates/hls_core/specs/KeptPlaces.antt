@@ -6,7 +6,7 @@ use Rattle.hls_places_laws.specs.Programmes.{is_kept}
 use Rattle.hls_core_laws.specs.State.{State}
 use Rattle.hls_core_laws.specs.Places.{places, floors}
 
--- just the first `count` places are at or before a time
+-- exactly the first `count` places are at or before a time
 pub record IsCountBy (ps : List Place) (time count : ℕ) : Type 0 where
   pub few : count ≤ length ps
   pub early : (k : ℕ) (p : Place) → k < count → slice_get ps k ≡ Some p → time_of p ≤ time

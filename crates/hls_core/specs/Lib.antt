@@ -12,3 +12,7 @@ pub mod Upkeeps
 pub mod KeptPlaces
 pub mod Predicates
 pub mod TrimPlaces
+pub mod FaultName
+pub mod Shortest
+pub mod Streams
+pub mod DrainSteps

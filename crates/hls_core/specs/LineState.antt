@@ -1,5 +1,5 @@
--- Common places with their live line: at the opening, moved on, or with another line. For the proofs of this crate; no public
--- clause cites it.
+-- Common places with their live line: at the opening, advanced, or with another line. For the proofs of this crate; no public clause
+-- cites it.
 use Rattle.std.specs.Prelude.{◌≡◌, ℕ, ◌+◌, ◌*◌, ◌<◌, List, [], ◌++◌, Some, length, slice_get}
 use Rattle.hls_places_laws.specs.declared.place.Place.{Place}
 use Rattle.hls_places_laws.specs.Sources.{Source}
@@ -28,20 +28,20 @@ pub record HasLine (old : LineState) (line : Live) (p : LineState) : Type 0 wher
 abbrev pub IsSameLineState : LineState → LineState → Type 0
 IsSameLineState old p = HasLine old old.line.value p
 
--- what was told, and then what an advance passed, to the line too
+-- the places so far, then those that an advance passed, which the line takes, too
 pub record IsAfterAdvance (old : LineState) (advance : PlaceAdvance) (p : LineState) : Type 0 where
   pub places : p.places ≡ record { first = old.places.first; items = old.places.items ++ advance.places.items }
   pub cursor : p.cursor.value ≡ advance.cursor
   pub line_is : p.line.value ≡ live_after_all old.line.value advance.places.items
 
--- what was told, and then all that is told from there on, to the line too
+-- the places so far, then all places from there on, which the line takes, too
 pub record IsAdvancedLineState (sources : List Source) (old p : LineState) : Type 0 where
   pub places : p.places ≡ record { first = old.places.first; items = old.places.items ++ places_after sources old.cursor.value.done }
   pub cursor : IsCursor p.cursor.value sources
   pub exhausted : IsExhausted p.cursor.value sources
   pub line_is : p.line.value ≡ live_after_all old.line.value (places_after sources old.cursor.value.done)
 
--- a line that has room for what these places close, two segments each at most
+-- a line with room for what these places close, at most two segments each
 pub record HasRoomFor (line : Live) (places : List Place) : Type 0 where
   pub room : line.removed + length line.progress.line.segments + 2 * length places + 1 < list_limit
   pub spots : (k : ℕ) (p : Place) → slice_get places k ≡ Some p → 0 < length p.spots

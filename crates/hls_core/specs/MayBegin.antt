@@ -1,5 +1,5 @@
 -- For the proofs of this crate; no public clause cites it.
--- What the tests of an event let through.
+-- What follows if an event passes its tests.
 use Rattle.std.specs.Prelude.{◌≡◌, ℕ, ◌<◌, ◌≤◌, Bool, true, false, List, Some, None, Result, Ok, Err, length, slice_get}
 use Rattle.hls_media_laws.specs.InitData.{InitData}
 use Rattle.hls_media_laws.specs.declared.facts.Facts.{Facts}
@@ -20,13 +20,13 @@ pub record MayBegin (s : State) (r : ℕ) : Type 0 where
   pub first : old.recording ≡ None
   pub room : length s.log < log_limit
 
--- an init section of these bytes is new, or there already, or refused
+-- an init section of these bytes is new, or a duplicate, or refused
 abbrev pub BeginMeets : State → ℕ → List ℕ → Result Bool Refusal → Type 0
 BeginMeets s r bytes (Ok true) = MayBegin s r
 BeginMeets s r bytes (Ok false) = begin (slice_get (channel s).lanes r) (held_bytes s r) bytes (length s.log) ≡ Repeated
 BeginMeets s r bytes (Err refusal) = (init : InitData) → IsRefused s (Begin r init bytes) refusal
 
--- a rendition whose recording this is, behind which a unit may follow
+-- a rendition with this recording, after which a unit may follow
 pub record MayAccept (s : State) (r : ℕ) (f : Facts) (rec : RecordingData) : Type 0 where
   pub old : RenditionState
   pub at : HasRenditionState s r old

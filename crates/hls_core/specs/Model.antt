@@ -1,5 +1,5 @@
 -- For the proofs of this crate; no public clause cites it.
--- How a snapshot's parts make up its state.
+-- The state that a snapshot's parts represent.
 use Rattle.std.specs.Prelude.{◌≡◌, ℕ, List, [], ◌∷◌, ◌++◌, Some, map, slice_get, Vec}
 use Rattle.std.specs.declared.sync.Arc.{Arc}
 use Rattle.std.specs.Global.{Global}
@@ -25,7 +25,7 @@ pub record IsSoundSnapshot (i : Inside) : Type 0 where
   pub lanes : map lane_of (rendition_states_of i) ≡ (channel (model_of i)).lanes
   pub valid : IsState (model_of i)
   pub good : (r : ℕ) (rendition_state : RenditionState) → slice_get (rendition_states_of i) r ≡ Some rendition_state → HasValidRecording rendition_state
-  -- the common places of the log, and a cursor behind the last of them
+  -- the common places of the log, and a cursor after the last of them
   pub places : i.line_state.value.places ≡ record { first = 0; items = places (model_of i) }
   pub cursor : IsCursor i.line_state.value.cursor.value (sources (model_of i))
   pub exhausted : IsExhausted i.line_state.value.cursor.value (sources (model_of i))

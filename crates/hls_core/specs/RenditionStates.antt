@@ -1,5 +1,5 @@
 -- For the proofs of this crate; no public clause cites it.
--- What a rendition of a snapshot says of its lane in the log, and which bytes it keeps.
+-- The lane of a rendition of a snapshot, and the bytes that it keeps.
 use Rattle.std.specs.Prelude.{◌≡◌, ℕ, Bool, false, List, [], ◌∷◌, ◌++◌, Option, Some, None, length, map, slice_get, slice_set}
 use Rattle.hls_record.specs.RecordingData.{RecordingData}
 use Rattle.hls_record.specs.IsRecorded.{IsRecorded}
@@ -33,7 +33,7 @@ held_of rendition_state = held_from rendition_state.recording
 abbrev pub fresh_rendition_state : Rendition → RenditionState
 fresh_rendition_state _ = record { recording = None; finished = false }
 
--- the rendition state stands at number r of the state
+-- the rendition state is number r of the state
 pub record HasRenditionState (s : State) (r : ℕ) (rendition_state : RenditionState) : Type 0 where
   pub lane : slice_get (channel s).lanes r ≡ Some (lane_of rendition_state)
   pub held : slice_get s.bytes r ≡ Some (held_of rendition_state)
@@ -47,12 +47,12 @@ abbrev pub sources_by : ConfigData → List RenditionState → List Source
 sources_by config rendition_states =
     sources_of (map facts_of (map lane_of rendition_states)) (map tolerance_of config.renditions) (map is_finished (map lane_of rendition_states))
 
--- the rendition state's recording, if it has one, is a good one
+-- the rendition state's recording, if it has one, is valid
 abbrev pub HasValidRecording : RenditionState → Type 0
 HasValidRecording rendition_state = (rec : RecordingData) → rendition_state.recording ≡ Some rec → IsRecorded rec
 
--- the entry says of the lanes what the rendition state says of its own, and what comes is a state that continues this one, in which
--- some rendition wasn't finished
+-- the entry changes the lanes as the rendition state does, and the result is a state that continues this one, in which some rendition
+-- wasn't finished
 pub record MayReplaceRendition (s : State) (entry : Entry) (r : ℕ) (rendition_state : RenditionState) : Type 0 where
   pub valid : IsState (with_rendition s entry r rendition_state)
   pub lanes : (channel_after entry.event (channel s)).lanes ≡ slice_set (channel s).lanes r (lane_of rendition_state)
@@ -61,7 +61,7 @@ pub record MayReplaceRendition (s : State) (entry : Entry) (r : ℕ) (rendition_
   pub live : IsLive (sources s)
   pub good : HasValidRecording rendition_state
 
--- the same, where nothing changes but what is kept of a rendition's units
+-- the same, where only the kept units of a rendition change
 pub record MayTrim (s : State) (entry : Entry) (r : ℕ) (rendition_state : RenditionState) : Type 0 where
   pub valid : IsState (with_rendition s entry r rendition_state)
   pub lanes : (channel_after entry.event (channel s)).lanes ≡ slice_set (channel s).lanes r (lane_of rendition_state)

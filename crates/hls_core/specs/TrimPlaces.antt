@@ -1,6 +1,6 @@
--- Which places are old enough to be trimmed away. For the proofs of this crate; no public clause cites it.
+-- Which places are old enough to be trimmed. For the proofs of this crate; no public clause cites it.
 use Rattle.std.specs.Prelude.{◌≡◌, ℕ, ◌<◌, ◌≤◌, true, length, Some, ◌+◌, ◌-◌, slice_get, slice_index}
-use Rattle.hls_check_laws.specs.Tables.{spot_in}
+use Rattle.hls_check_tables.specs.Tables.{spot_in}
 use Rattle.hls_places_laws.specs.declared.place.Place.{Place}
 use Rattle.hls_places_laws.specs.Order.{time_of}
 use Rattle.hls_places_laws.specs.Line.Live.{front_of}
@@ -12,7 +12,7 @@ use Rattle.hls_core_laws.specs.Places.{places, floors}
 use Rattle.hls_core_laws.specs.Line.{line}
 use Rattle.hls_core.specs.Upkeeps.{upkeep_view}
 
--- the places of a state that are old are those at or before a time
+-- the old places of a state are those at or before a time
 pub record IsOldUntil (s : State) (keep time : ℕ) : Type 0 where
   pub front : Place
   pub front_is : front_of (line s) ≡ Some front
@@ -27,20 +27,16 @@ abbrev pub NoneOld : State → ℕ → Type 0
 NoneOld s keep =
     (front last p : Place) → front_of (line s) ≡ Some front → slice_get (places s) (length (places s) - 1) ≡ Some last → is_old keep front last p ≡ true → ⊥
 
--- the place up to which may be trimmed, whatever the window
+-- the place up to which units may be trimmed, whatever the window
 abbrev pub IsTrimPlaceAt : State → ℕ → Place → Type 0
 IsTrimPlaceAt s keep cut = (window : ℕ) → IsTrimPlaceOf (upkeep_view s window keep) cut
 
 abbrev pub HasNoTrimPlace : State → ℕ → Type 0
 HasNoTrimPlace s keep = (window : ℕ) (cut : Place) → IsTrimPlaceOf (upkeep_view s window keep) cut → ⊥
 
--- of each rendition before number r the floor isn't below the place's fragment
+-- in each rendition before number r, the floor isn't below the place's fragment
 abbrev pub ReachedBefore : State → Place → ℕ → Type 0
 ReachedBefore s p r = (k : ℕ) → k < r → (spot_in p.spots k).fragment ≤ slice_index (floors s) k
-
--- of each rendition before number r the floor isn't above the place's fragment
-abbrev pub KeptBefore : State → Place → ℕ → Type 0
-KeptBefore s p r = (k : ℕ) → k < r → slice_index (floors s) k ≤ (spot_in p.spots k).fragment
 
 -- the trim of the first rendition whose floor is below the place's fragment, to that fragment
 pub record IsFirstBelow (s : State) (cut : Place) (event : Event) : Type 0 where

@@ -1,5 +1,5 @@
 -- For the proofs of this crate; no public clause cites it.
--- The recordings of all renditions, or one that has none.
+-- The recordings of all renditions, or one rendition that has none.
 use Rattle.std.specs.Prelude.{◌≡◌, ℕ, List, Some, None, slice_get}
 use Rattle.hls_core.specs.declared.rendition_state.RenditionState.{RenditionState}
 

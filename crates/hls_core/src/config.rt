@@ -1,4 +1,4 @@
-//! The configuration of a channel, and what may be wrong with one.
+//! The configuration of a channel, and its faults.
 
 ghost use Rattle.std.specs.Prelude.{◌≡◌, ℕ, ◌*◌, ◌<◌, ◌≤◌, ◌↔◌, length, IsTrue, IfOk, slice_get, None, Some, Err, Any, MatchOption};
 ghost use Rattle.std.specs.Str.{bytes_eq};
@@ -7,37 +7,37 @@ ghost use Rattle.hls_core.specs.Configures.{configured_from, Configures};
 ghost use Rattle.hls_core.specs.FirstBad.{IsFirstBadRendition, has_name};
 
 use bytes::Bytes;
-use hls_check_laws::{RENDITION_LIMIT, TARGET_LIMIT};
+use hls_check_tables::{RENDITION_LIMIT, TARGET_LIMIT};
 use hls_core_laws::rendition::Rendition;
-use hls_faults::variant_name;
+use hls_text::variant_name;
 use std::alloc::{AllocError, Global};
 use std::fmt::{self, Display, Formatter, Write};
 use std::marker::Model;
 use std::sync::Arc;
 use thiserror::Error;
 
-/// 9000-01-01T00:00:00Z in microseconds since 1970-01-01T00:00:00Z: the last moment at which time 0 may be.
+/// 9000-01-01T00:00:00Z in microseconds since 1970-01-01T00:00:00Z: the last possible epoch.
 pub const LAST_EPOCH: i64 = 221845392000000000;
 
-/// Why a channel can't be configured so.
+/// Why a configuration is refused.
 #[derive(Clone, Copy, Debug, PartialEq, Eq, Error)]
 pub enum ConfigFault {
-    /// The target isn't 1 to 3600 seconds.
+    /// The target duration isn't 1 to 3600 seconds.
     BadTarget,
-    /// The preferred length isn't 1 microsecond to the target.
+    /// The preferred segment length isn't 1 microsecond to the target duration.
     BadPreferred,
-    /// The number of the first rendition that is outside its limits, or has an earlier one's name; 0 where there is no
-    /// rendition, and 16 where only the seventeenth is too many.
+    /// The number of the first rendition that is outside its limits, or that has the name of an earlier one; 0 if there is no
+    /// rendition, and 16 if the only fault is a seventeenth.
     BadRendition(usize),
     /// The epoch is before 1970, or after 9000-01-01T00:00:00Z.
     BadEpoch,
-    /// Memory ran out.
+    /// Out of memory.
     Memory,
 }
 
-/// What a channel is configured with: 1 to 16 renditions, a target of 1 to 3600 seconds, a preferred segment length of
-/// 1 microsecond to the target, and the moment of time 0, if it is known, from 1970 to 9000-01-01T00:00:00Z. It never
-/// changes, and is shared by all states of the channel.
+/// The configuration of a channel: 1 to 16 renditions, a target duration of 1 to 3600 seconds, a preferred segment length of 1
+/// microsecond to the target, and optionally the instant of time 0, from 1970 to 9000-01-01T00:00:00Z. It never changes, and is
+/// shared by all states of the channel.
 #[derive(Drop)]
 pub struct Config {
     target: u64,
@@ -59,7 +59,7 @@ impl Model for Config {
 impl ConfigFault {
     ghost use Rattle.hls_core.specs.ConfigFaultName.{name_of};
 
-    /// The variant's name, as programs print it.
+    /// Returns the variant's name, as programs print it.
     pub fn name(&self) -> &'static str
         ensures { result.now ≡ name_of self.now }
     {
@@ -74,8 +74,8 @@ impl Display for ConfigFault {
 }
 
 impl Config {
-    /// A configuration of this target in seconds, this preferred length in microseconds, and these renditions in order;
-    /// the moment of time 0 isn't known.
+    /// Makes a configuration of a target duration in seconds, a preferred segment length in microseconds, and the renditions in
+    /// order, without an epoch.
     pub fn new(
         alloc: Global,
         target: u64,
@@ -87,7 +87,7 @@ impl Config {
         Config::with_epoch(alloc, target, preferred, renditions, None)
     }
 
-    /// The same where the moment of time 0 may be known: in microseconds since 1970-01-01T00:00:00Z.
+    /// Makes a configuration as `new` does, with an optional epoch: time 0 in microseconds since 1970-01-01T00:00:00Z.
     pub fn with_epoch(
         alloc: Global,
         target: u64,
@@ -111,7 +111,7 @@ impl Config {
         }
     }
 
-    /// The same configuration once more, over the same memory.
+    /// Returns the same configuration over the same memory.
     pub fn share(&self) -> Result<Config, AllocError>
         ensures { IfOk result (λ c. c ≡ self.now) }
     {
@@ -123,7 +123,7 @@ impl Config {
         })
     }
 
-    /// The target duration in seconds (RFC 8216 4.3.3.1).
+    /// Returns the target duration in seconds (RFC 8216 4.3.3.1).
     pub fn target(&self) -> u64
         ensures value { result ≡ self.now.target }
         ensures valid { IsConfig self.now }
@@ -131,7 +131,7 @@ impl Config {
         self.target
     }
 
-    /// The preferred segment length in microseconds.
+    /// Returns the preferred segment length in microseconds.
     pub fn preferred(&self) -> u64
         ensures value { result ≡ self.now.preferred }
         ensures valid { IsConfig self.now }
@@ -139,7 +139,7 @@ impl Config {
         self.preferred
     }
 
-    /// The renditions in order.
+    /// Returns the renditions in order.
     pub fn renditions(&self) -> &[Rendition]
         ensures value { result.now ≡ self.now.renditions }
         ensures valid { IsConfig self.now }
@@ -147,7 +147,7 @@ impl Config {
         &self.renditions
     }
 
-    /// The moment of time 0, in microseconds since 1970-01-01T00:00:00Z, if it is known.
+    /// Returns the instant of time 0 in microseconds since 1970-01-01T00:00:00Z, if it is known.
     pub fn epoch(&self) -> Option<i64>
         ensures value { result ≡ self.now.epoch }
         ensures range { IsEpoch result }
@@ -157,7 +157,7 @@ impl Config {
     }
 }
 
-/// What is wrong first with such a configuration, if anything.
+/// Returns the first fault of a configuration, if any.
 fn find_config_fault(
     target: u64,
     preferred: u64,
@@ -181,7 +181,7 @@ fn find_config_fault(
     None
 }
 
-/// Whether time 0 may be at this moment: from 1970 to 9000-01-01T00:00:00Z.
+/// Whether this is no epoch or a valid one: from 1970 to 9000-01-01T00:00:00Z.
 fn is_epoch(epoch: Option<i64>) -> bool
     ensures { IsTrue result ↔ IsEpoch epoch }
 {
@@ -191,7 +191,7 @@ fn is_epoch(epoch: Option<i64>) -> bool
     }
 }
 
-/// The number of the first rendition that may not stand where it stands, if any.
+/// Returns the number of the first rendition that is invalid at its number, if any.
 fn first_bad_rendition(renditions: &[Rendition]) -> Option<usize>
     ensures { MatchOption result (AreRenditions renditions.now) (λ n. IsFirstBadRendition renditions.now n) }
 {
@@ -222,14 +222,14 @@ fn is_rendition_at(renditions: &[Rendition], n: usize, rendition: &Rendition) ->
     !has_name(&renditions[..n], &rendition.name)
 }
 
-/// Only the first rendition has no tolerance of its own.
+/// Whether a rendition may have this tolerance: the first one has none.
 fn may_tolerate(n: usize, tolerance: u64) -> bool
     ensures { IsTrue result ↔ (n ≡ 0 → tolerance ≡ 0) }
 {
     n != 0 || tolerance == 0
 }
 
-/// Whether a rendition is within the limits that are its own.
+/// Whether a rendition is within its own limits.
 fn is_rendition(rendition: &Rendition) -> bool
     ensures { IsTrue result ↔ IsRendition rendition.now }
 {

@@ -1,4 +1,4 @@
-//! Whether two values are the same, without memory.
+//! Compares values without allocating; used only by `follows`.
 
 ghost use Rattle.std.specs.Prelude.{◌≡◌, ◌↔◌, IsTrue, length, take};
 ghost use Rattle.hls_blocks.specs.Numbered.{Numbered};
@@ -43,7 +43,7 @@ fn same_rendition(a: &Rendition, b: &Rendition) -> bool
         && a.tolerance == b.tolerance
 }
 
-/// Whether the first log, all of it, begins the second.
+/// Whether the first log is a prefix of the second.
 pub(crate) fn is_prefix(a: &Shared<Entry>, b: &Shared<Entry>) -> bool
     requires first { a.now.first ≡ 0 }
     requires other { b.now.first ≡ 0 }

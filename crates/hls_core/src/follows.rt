@@ -1,4 +1,4 @@
-//! Whether one snapshot follows another.
+//! Whether one snapshot follows another. No program calls it; `Turn::meet` does, which no program calls either.
 
 ghost use Rattle.std.specs.Prelude.{◌≡◌, ◌↔◌, ℕ, ◌-◌, ◌≤◌, IsTrue, List, Some, slice_get};
 ghost use Rattle.hls_core_laws.specs.Follows.{Follows, Extends, AllHaveSameBytes, HaveSameBytes, SameUnits};
@@ -9,8 +9,8 @@ use crate::rendition_state::RenditionState;
 use crate::snapshot::Snapshot;
 use hls_record::Recording;
 
-/// Whether `b` follows `a`: both have one configuration, the log of `a` begins that of `b`, and every init section and unit
-/// that both keep has the same bytes in both. It takes no memory.
+/// Whether `b` follows `a`: both have the same configuration, the log of `a` is a prefix of that of `b`, and every init section and
+/// unit that both keep has the same bytes in both. Doesn't allocate.
 pub fn follows(a: &Snapshot, b: &Snapshot) -> bool
     ensures continues { IsTrue result ↔ Extends a.now b.now }
     ensures follows { IsTrue result ↔ Follows a.now b.now }
@@ -24,7 +24,7 @@ pub fn follows(a: &Snapshot, b: &Snapshot) -> bool
     all_have_same_bytes(a, b)
 }
 
-/// Whether all that both keep has the same bytes in both.
+/// Whether everything that both keep has the same bytes in both.
 fn all_have_same_bytes(a: &Snapshot, b: &Snapshot) -> bool
     ensures { IsTrue result ↔ AllHaveSameBytes a.now b.now }
 {

@@ -1,4 +1,4 @@
-//! The common places of a channel and its live line, brought up to what was recorded.
+//! The common places of a channel and its live line, kept up to date with the recordings.
 
 ghost use Rattle.std.specs.Prelude.{◌≡◌, ◌+◌, ◌<◌, ◌≤◌, [], ◌∷◌, ◌++◌, Some, None, length, map, take, IfOk, IfSome};
 ghost use Rattle.hls_blocks.specs.Numbered.{next_of, with_item, list_limit};
@@ -8,7 +8,7 @@ ghost use Rattle.hls_places_laws.specs.Line.Live.{live_after_all};
 ghost use Rattle.hls_core.specs.Unbegun.{HasUnbegunRendition};
 ghost use Rattle.hls_core.specs.LineState.{HasRoomFor, IsAdvancedLineState};
 ghost use Rattle.hls_core.specs.RenditionStates.{sources_by};
-ghost use Rattle.hls_check_laws.specs.Tables.{rendition_limit};
+ghost use Rattle.hls_check_tables.specs.Tables.{rendition_limit};
 
 use crate::config::Config;
 use crate::rendition_state::RenditionState;
@@ -18,7 +18,7 @@ use hls_places::{Place, PlaceAdvance, PlaceCursor, RenditionSource};
 use std::alloc::{AllocError, Global};
 use std::sync::Arc;
 
-/// The common places told so far, how far the search has come, and the live line of these places.
+/// The common places so far, the cursor of the search for them, and their live line.
 #[derive(Drop)]
 pub(crate) struct LineState {
     pub(crate) places: Shared<Place>,
@@ -29,7 +29,7 @@ pub(crate) struct LineState {
 impl LineState {
     ghost use Rattle.hls_core.specs.LineState.{IsFirstLineState, IsAfterAdvance, HasLine};
 
-    /// No place yet, and before all units of each rendition.
+    /// Returns the state with no places, before all units of each rendition.
     pub(crate) fn first(alloc: Global, config: &Config) -> Result<Arc<LineState>, AllocError>
         ensures { IfOk result (λ p. IsFirstLineState config.now p.value) }
     {
@@ -41,7 +41,7 @@ impl LineState {
         make_line_state(alloc, places, cursor, line)
     }
 
-    /// The same places with another line.
+    /// Returns the same places with another line.
     pub(crate) fn with_line(
         &self,
         alloc: Global,
@@ -55,7 +55,7 @@ impl LineState {
         make_line_state(alloc, places, cursor, line)
     }
 
-    /// The places with those that an advance passed at their end.
+    /// Appends the places that an advance passed.
     fn with_advance(
         &self,
         alloc: Global,
@@ -72,8 +72,7 @@ impl LineState {
     }
 }
 
-/// The places with those that are decided by now at their end, which the line is told. While some rendition hasn't begun
-/// there are none.
+/// Appends the places that are decided by now, and gives them to the line. While some rendition hasn't begun there are none.
 pub(crate) fn advance_line_state(
     alloc: Global,
     line_state: &Arc<LineState>,
@@ -99,7 +98,7 @@ pub(crate) fn advance_line_state(
     }
 }
 
-/// These parts, as snapshots share them.
+/// Shares the parts between snapshots.
 fn make_line_state(
     alloc: Global,
     places: Shared<Place>,
@@ -116,21 +115,21 @@ fn make_line_state(
     Ok(Arc::new(alloc, line_state)?)
 }
 
-/// A cursor behind its Arc. What is behind one is let go in one step, and so whatever is made goes behind its own at once.
+/// Puts a cursor into an Arc. An Arc is dropped in one step, so each new value is put into its own Arc at once.
 fn shared_cursor(alloc: Global, cursor: PlaceCursor) -> Result<Arc<PlaceCursor>, AllocError>
     ensures { IfOk result (λ shared. shared.value ≡ cursor) }
 {
     Ok(Arc::new(alloc, cursor)?)
 }
 
-/// A line behind its Arc.
+/// Puts a line into an Arc.
 fn shared_line(alloc: Global, line: LiveLine) -> Result<Arc<LiveLine>, AllocError>
     ensures { IfOk result (λ shared. shared.value ≡ line) }
 {
     Ok(Arc::new(alloc, line)?)
 }
 
-/// The renditions as the search for places sees them, or none where one hasn't begun.
+/// Returns the renditions as the search for places sees them; `None` if one hasn't begun.
 fn make_sources<'a>(
     alloc: Global,
     config: &Config,
@@ -150,7 +149,7 @@ fn make_sources<'a>(
     Ok(Some(sources))
 }
 
-/// One rendition as the search for places sees it, or none where it hasn't begun.
+/// Returns a rendition as the search for places sees it; `None` if it hasn't begun.
 fn make_source<'a>(
     config: &Config,
     rendition_states: &'a [Arc<RenditionState>],
@@ -170,7 +169,7 @@ fn make_source<'a>(
     Some(RenditionSource::new(recording, tolerance, rendition_state.finished))
 }
 
-/// The line after all of these places.
+/// Returns the line after all of these places.
 fn advance_line_through(
     alloc: Global,
     line: &Arc<LiveLine>,
@@ -187,7 +186,7 @@ fn advance_line_through(
     Ok(all)
 }
 
-/// The list with all of these at its end.
+/// Appends these places to the list.
 fn push_places(
     alloc: Global,
     list: &Shared<Place>,
@@ -203,7 +202,7 @@ fn push_places(
     Ok(all)
 }
 
-/// The list with this one at its end.
+/// Appends this place to the list.
 fn push_place(alloc: Global, list: Shared<Place>, place: Place) -> Result<Shared<Place>, AllocError>
     requires { next_of list < list_limit }
     ensures { IfOk result (λ s. s ≡ with_item list place) }

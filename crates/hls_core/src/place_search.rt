@@ -1,4 +1,4 @@
-//! The kept places of a snapshot, those with no trimmed unit: how many there are, and the last by a moment.
+//! Searches for the kept places of a snapshot, those with no trimmed unit: their number, and the last one by a moment.
 
 ghost use Rattle.std.specs.Prelude.{◌≡◌, ◌<◌, ◌≤◌, length, Some, MatchOption, slice_get, slice_index};
 ghost use Rattle.std.specs.Option.{option_copied};
@@ -8,30 +8,31 @@ ghost use Rattle.hls_core_laws.specs.Places.{places, floors, kept_places};
 ghost use Rattle.hls_core.specs.KeptPlaces.{NoKeptBy, IsLastKeptBy};
 ghost use Rattle.hls_core.specs.Predicates.{satisfies, IsFront};
 
-use crate::snapshot::{Snapshot, get_fragment};
+use crate::floors::{floors_of, rendition_count};
+use crate::snapshot::Snapshot;
 use hls_places::{Place, time_of};
 
-/// So often a search guesses where it ends. Then it goes by halves, which takes few looks however the places come.
+/// How often a search interpolates. After that it bisects, which takes few steps however the places are distributed.
 const GUESS_LIMIT: u32 = 8;
 
-/// What a search asks of a place: true of some places at the front, and of none behind them.
+/// The predicate of a search: true of a prefix of the places, and false after it.
 #[derive(Clone, Copy)]
 enum PlacePredicate {
     /// Whether it is at or before a time, in microseconds.
     AtOrBefore(u64),
-    /// Whether a unit at which it stands is trimmed.
+    /// Whether a unit of the place is trimmed.
     Trimmed,
 }
 
-/// How many places have no trimmed unit. Takes no memory, and looks at few places.
+/// Returns how many places have no trimmed unit. Doesn't allocate, and looks at few places.
 pub fn kept_place_count(snapshot: &Snapshot) -> u64
     ensures { result ≡ length (kept_places snapshot.now) }
 {
     place_count(snapshot) - count_matching_front(snapshot, PlacePredicate::Trimmed)
 }
 
-/// The number of the last place at or before a time, in microseconds, that has no trimmed unit; None where there is none. Takes
-/// no memory, and looks at few places.
+/// Returns the number of the last place at or before a time, in microseconds, that has no trimmed unit; `None` if there is none.
+/// Doesn't allocate, and looks at few places.
 pub fn last_kept_place_by(snapshot: &Snapshot, time: u64) -> Option<u64>
     ensures { MatchOption result (NoKeptBy snapshot.now time) (IsLastKeptBy snapshot.now time) }
 {
@@ -39,14 +40,14 @@ pub fn last_kept_place_by(snapshot: &Snapshot, time: u64) -> Option<u64>
     if count == 0 {
         return None;
     }
-    // trims take a front of the places: where this one isn't kept, none before it is
+    // trims remove a prefix of the places: if this one isn't kept, none before it is
     if !is_kept(snapshot, get_place(snapshot, count - 1)) {
         return None;
     }
     Some(count - 1)
 }
 
-/// How many places meet what is asked. Where they come about evenly, some three of them are looked at.
+/// Counts the places that satisfy the predicate. If they are spread about evenly, it looks at some three of them.
 fn count_matching_front(snapshot: &Snapshot, predicate: PlacePredicate) -> u64
     ensures front { IsFront snapshot.now predicate result }
     ensures valid { IsState snapshot.now }
@@ -76,8 +77,8 @@ fn count_matching_front(snapshot: &Snapshot, predicate: PlacePredicate) -> u64
     low
 }
 
-/// When the first unit of rendition 0 starts that isn't trimmed, in microseconds, which is about where the kept places begin; behind
-/// all of them where each unit is trimmed.
+/// Returns the start of the first unit of rendition 0 that isn't trimmed, in microseconds, which is about where the kept places
+/// begin; after all of them if each unit is trimmed.
 fn find_oldest_kept_us(snapshot: &Snapshot) -> u64 {
     let Some(recording) = snapshot.recording(0) else {
         return 0;
@@ -88,9 +89,7 @@ fn find_oldest_kept_us(snapshot: &Snapshot) -> u64 {
     }
 }
 
-/// Whether a place meets what is asked.
 fn satisfies(snapshot: &Snapshot, predicate: PlacePredicate, place: &Place) -> bool
-    requires { length place.now.spots ≡ length (floors snapshot.now) }
     ensures { result ≡ satisfies snapshot.now predicate place.now }
 {
     match predicate {
@@ -99,8 +98,8 @@ fn satisfies(snapshot: &Snapshot, predicate: PlacePredicate, place: &Place) -> b
     }
 }
 
-/// The place to look at next, from number `low` on and below `high`: the one `further` microseconds behind the first, if they
-/// come evenly over `spread` microseconds; once no guess is left, the middle one.
+/// Returns the place to look at next, from number `low` on and below `high`: the one `further` microseconds after the first, if they
+/// are spread evenly over `spread` microseconds; once no guess is left, the middle one.
 fn guess_next(low: u64, high: u64, spread: u64, further: u64, guesses: u32) -> u64
     requires { low < high }
     ensures low { low ≤ result }
@@ -113,7 +112,7 @@ fn guess_next(low: u64, high: u64, spread: u64, further: u64, guesses: u32) -> u
     low + (further / apart).min(high - low - 1)
 }
 
-/// When the place of number `n` starts, in microseconds; 0 where there is none.
+/// Returns the start of place number `n`, in microseconds; 0 if there is none.
 fn time_at(snapshot: &Snapshot, n: u64) -> u64 {
     match place_at(snapshot, n) {
         Some(place) => time_of(place),
@@ -121,7 +120,7 @@ fn time_at(snapshot: &Snapshot, n: u64) -> u64 {
     }
 }
 
-/// The place of number `n`.
+/// Returns place number `n`.
 pub(crate) fn get_place(snapshot: &Snapshot, n: u64) -> &Place
     requires { n < length (places snapshot.now) }
     ensures there { slice_get (places snapshot.now) n ≡ Some result.now }
@@ -133,7 +132,7 @@ pub(crate) fn get_place(snapshot: &Snapshot, n: u64) -> &Place
     place
 }
 
-/// How many places there are, those with trimmed units too.
+/// Returns the number of places, including those with trimmed units.
 pub(crate) fn place_count(snapshot: &Snapshot) -> u64
     ensures count { result ≡ length (places snapshot.now) }
     ensures valid { IsState snapshot.now }
@@ -141,7 +140,7 @@ pub(crate) fn place_count(snapshot: &Snapshot) -> u64
     snapshot.places().next()
 }
 
-/// The place of number `n`, where there is one.
+/// Returns place number `n`, if there is one.
 pub(crate) fn place_at(snapshot: &Snapshot, n: u64) -> Option<&Place>
     ensures there { option_copied result ≡ slice_get (places snapshot.now) n }
     ensures valid { IsState snapshot.now }
@@ -149,20 +148,14 @@ pub(crate) fn place_at(snapshot: &Snapshot, n: u64) -> Option<&Place>
     snapshot.places().get(n)
 }
 
-/// Whether no unit at which a place stands is trimmed.
+/// Whether no unit of the place is trimmed.
 fn is_kept(snapshot: &Snapshot, place: &Place) -> bool
-    requires { length place.now.spots ≡ length (floors snapshot.now) }
     ensures { result ≡ is_kept (floors snapshot.now) place.now }
 {
-    for rendition in 0..place.spots.len() {
-        if get_fragment(place, rendition) < floor_of(snapshot, rendition) {
-            return false;
-        }
-    }
-    true
+    hls_places::is_kept(place, &floors_of(snapshot)[..rendition_count(snapshot)])
 }
 
-/// The number of the first unit of a rendition that isn't trimmed.
+/// Returns the number of the first unit of a rendition that isn't trimmed.
 pub(crate) fn floor_of(snapshot: &Snapshot, rendition: usize) -> u64
     ensures { result ≡ slice_index (floors snapshot.now) rendition }
 {

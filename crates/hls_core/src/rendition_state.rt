@@ -16,7 +16,7 @@ pub(crate) struct RenditionState {
 impl RenditionState {
     ghost use Rattle.hls_core.specs.RenditionStates.{lane_of};
 
-    /// A rendition that has begun, as snapshots share it.
+    /// Makes the state of a rendition that has begun, shared between snapshots.
     pub(crate) fn with_recording(
         alloc: Global,
         recording: Recording,
@@ -31,7 +31,7 @@ impl RenditionState {
         Ok(Arc::new(alloc, rendition_state)?)
     }
 
-    /// The number of the first unit that isn't trimmed.
+    /// Returns the number of the first unit that isn't trimmed.
     pub(crate) fn floor(&self) -> u64
         ensures { result ≡ (lane_of self.now).floor }
     {

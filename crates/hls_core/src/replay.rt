@@ -1,4 +1,4 @@
-//! A run of events, stepped one after the other.
+//! Replays a run of events. No program calls this; each event of the program goes through `Turn::submit`.
 
 ghost use Rattle.std.specs.Prelude.{◌≡◌, IfOk};
 ghost use Rattle.hls_core_laws.specs.Runs.{first_state, next_state, replayed_state, AreFitting};
@@ -6,16 +6,16 @@ ghost use Rattle.hls_core_laws.specs.Moves.{IsFitting};
 
 use crate::config::Config;
 use crate::snapshot::Snapshot;
-use crate::step::step;
-use crate::stepped::Stepped;
+use crate::step::apply;
+use hls_core_laws::done::Done;
 use hls_core_laws::event::Event;
 use hls_core_laws::refusal::Refusal;
 use std::alloc::{AllocError, Global};
 use std::sync::Arc;
 
-/// The last state of a run: each event, brought by the worker beside it, is stepped in turn from the opening state.
+/// Returns the last state of a run: each event, with the worker that submitted it, is applied in sequence from the opening state.
 ///
-/// A refused event leaves the state as it was. Want of memory ends the call.
+/// A refused event leaves the state unchanged. An allocation failure ends the call.
 pub fn replay(
     alloc: Global,
     config: Config,
@@ -31,19 +31,19 @@ pub fn replay(
     Ok(state)
 }
 
-/// The state after an event; the same one after a repeat or a refusal. Want of memory ends the call.
+/// Returns the state after an event: unchanged after a repeat or a refusal. An allocation failure ends the call.
 pub fn apply_event(
     alloc: Global,
-    state: Arc<Snapshot>,
+    mut state: Arc<Snapshot>,
     by: u16,
     event: &Event,
 ) -> Result<Arc<Snapshot>, AllocError>
     requires { IsFitting state.value event.now }
     ensures { IfOk result (λ next. next.value ≡ next_state state.value by event.now) }
 {
-    match step(&state, alloc, by, event.share()?) {
-        Ok(Stepped::New(next)) => Ok(next),
-        Ok(Stepped::Repeat) => Ok(state),
+    match apply(&mut state, alloc, by, event.share()?) {
+        Ok(Done::New { .. }) => Ok(state),
+        Ok(Done::Repeat) => Ok(state),
         Err(Refusal::Memory) => Err(AllocError),
         Err(_) => Ok(state),
     }

@@ -1,4 +1,4 @@
-//! A channel at one moment.
+//! Snapshots: a channel at one moment.
 
 ghost use Rattle.std.specs.Prelude.{◌≡◌, ℕ, ◌+◌, ◌<◌, ◌≤◌, [], ◌∷◌, ◌++◌, length, map, IfOk, IfSome, IfNone, None, slice_get, slice_set, nat_le};
 ghost use Rattle.std.specs.Option.{option_copied};
@@ -7,7 +7,7 @@ ghost use Rattle.hls_core_laws.specs.State.{channel, log_limit};
 ghost use Rattle.hls_core_laws.specs.IsState.{IsState};
 ghost use Rattle.hls_places_laws.specs.Sources.{AreSources};
 ghost use Rattle.hls_core_laws.specs.Places.{sources, places};
-ghost use Rattle.hls_check_laws.specs.Tables.{spot_in};
+ghost use Rattle.hls_check_tables.specs.Tables.{spot_in};
 ghost use Rattle.hls_places_laws.specs.Line.Live.{front_of, without_front};
 ghost use Rattle.hls_core_laws.specs.declared.event.Event.TheVariants.{Slide};
 ghost use Rattle.hls_core_laws.specs.Line.{line};
@@ -36,7 +36,7 @@ pub const LOG_LIMIT: u64 = 4194304;
 
 /// A channel at one moment: its configuration, its whole log, and the bytes that it keeps.
 ///
-/// A contract sees it as its state. Later snapshots share what hasn't changed, and none ever changes an earlier one.
+/// A contract sees it as its state. Later snapshots share what hasn't changed, and never change an earlier one.
 #[derive(Drop)]
 pub struct Snapshot {
     config: Config,
@@ -62,7 +62,7 @@ impl Snapshot {
     ghost use Rattle.hls_core.specs.Model.{model_of, IsSoundSnapshot, inside_after};
     ghost use Rattle.hls_core.specs.Getters.{recording_of, finished_at};
 
-    /// The opening state of a channel: an empty log, and no rendition begun.
+    /// Returns the opening state of a channel: an empty log, and no rendition has begun.
     pub fn first(alloc: Global, config: Config) -> Result<Snapshot, AllocError>
         ensures { IfOk result (λ s. s ≡ first_state config) }
     {
@@ -76,7 +76,7 @@ impl Snapshot {
         })
     }
 
-    /// The channel's configuration.
+    /// Returns the channel's configuration.
     pub fn config(&self) -> &Config
         ensures value { result.now ≡ self.now.config }
         ensures valid { IsState self.now }
@@ -84,7 +84,7 @@ impl Snapshot {
         &self.config
     }
 
-    /// The log; its entries count from 0.
+    /// Returns the log; its entries count from 0.
     pub fn log(&self) -> &Shared<Entry>
         ensures value { result.now ≡ record { first = 0; items = self.now.log } }
         ensures valid { IsState self.now }
@@ -92,7 +92,7 @@ impl Snapshot {
         &self.log
     }
 
-    /// The number of log entries.
+    /// Returns the number of log entries.
     pub fn version(&self) -> u64
         ensures value { result ≡ length self.now.log }
         ensures valid { IsState self.now }
@@ -100,7 +100,7 @@ impl Snapshot {
         entry_count(&self.log)
     }
 
-    /// The recording of a rendition, once it has begun.
+    /// Returns the recording of a rendition, once it has begun.
     pub fn recording(&self, rendition: usize) -> Option<&Recording>
         ensures value { option_copied result ≡ recording_of self.now rendition }
         ensures valid { IsState self.now }
@@ -111,7 +111,7 @@ impl Snapshot {
         }
     }
 
-    /// Whether a rendition is finished; none where the channel has no such rendition.
+    /// Whether a rendition is finished; `None` if the channel has no such rendition.
     pub fn is_finished(&self, rendition: usize) -> Option<bool>
         ensures value { result ≡ finished_at self.now rendition }
         ensures valid { IsState self.now }
@@ -122,7 +122,7 @@ impl Snapshot {
         }
     }
 
-    /// The common places so far, in order of time, whether their fragments are trimmed or not; they count from 0.
+    /// Returns the common places so far, in order of time, whether or not their fragments are trimmed; they count from 0.
     pub fn places(&self) -> &Shared<Place>
         ensures value { result.now ≡ record { first = 0; items = places self.now } }
         ensures valid { IsState self.now }
@@ -131,7 +131,7 @@ impl Snapshot {
         &self.line_state.places
     }
 
-    /// The live line: the segments that are kept, and where it goes on.
+    /// Returns the live line: the segments that are kept, and where it continues.
     pub fn line(&self) -> &LiveLine
         ensures value { result.now ≡ line self.now }
         ensures valid { IsState self.now }
@@ -139,7 +139,7 @@ impl Snapshot {
         &self.line_state.line
     }
 
-    /// The number of log entries that the worker `by` brought.
+    /// Returns the number of log entries of the worker `by`.
     pub fn count_entries_by(&self, by: u16) -> u64
         ensures { result ≡ length (events_by by self.now.log) }
     {
@@ -155,21 +155,21 @@ impl Snapshot {
         count
     }
 
-    /// The number of renditions.
+    /// Returns the number of renditions.
     pub(crate) fn rendition_count(&self) -> usize
         ensures { result ≡ length self.now.bytes }
     {
         self.rendition_states.len()
     }
 
-    /// Whether the log takes no more entries.
+    /// Whether the log is full.
     pub(crate) fn is_full(&self) -> bool
         ensures { result ≡ nat_le log_limit (length self.now.log) }
     {
         self.version() >= LOG_LIMIT
     }
 
-    /// A rendition's state.
+    /// Returns the state of a rendition.
     pub(crate) fn rendition(&self, rendition: usize) -> Option<&RenditionState>
         ensures some { IfSome result (λ rendition_state. HasRenditionState self.now rendition rendition_state.now) }
         ensures none { IfNone result (slice_get (channel self.now).lanes rendition ≡ None) }
@@ -182,7 +182,7 @@ impl Snapshot {
         Some(rendition_state)
     }
 
-    /// The snapshot with one more entry, and this state of a rendition in place of the one that it had.
+    /// Returns the snapshot with one more entry and a rendition's state replaced.
     pub(crate) fn with_rendition(
         &self,
         alloc: Global,
@@ -210,8 +210,7 @@ impl Snapshot {
         self.with_entry(alloc, entry, rendition_states, line_state)
     }
 
-    /// The snapshot with one more entry, and this state of a rendition in place of one of which only units were kept that
-    /// it gives up: places and line stay.
+    /// Returns the snapshot with one more entry and a rendition's state replaced by one that only drops kept units: places and line stay.
     pub(crate) fn with_trim(
         &self,
         alloc: Global,
@@ -234,7 +233,7 @@ impl Snapshot {
         self.with_entry(alloc, entry, rendition_states, line_state)
     }
 
-    /// The snapshot after a slide of the line, whose line this is.
+    /// Returns the snapshot after a slide to this line.
     pub(crate) fn with_slide(
         &self,
         alloc: Global,
@@ -253,7 +252,7 @@ impl Snapshot {
         self.with_entry(alloc, Entry { by, event }, rendition_states, line_state)
     }
 
-    /// The snapshot with one more entry, of these rendition states and places.
+    /// Returns the snapshot with one more entry, with these rendition states and places.
     fn with_entry(
         &self,
         alloc: Global,
@@ -276,7 +275,7 @@ impl Snapshot {
         Ok(Arc::new(alloc, next)?)
     }
 
-    /// How far the floor of a rendition may rise: to the unit at which the line begins.
+    /// Returns how far the floor of a rendition may rise: to the unit at which the line begins.
     pub(crate) fn trim_limit(&self, rendition: usize) -> u64
         ensures { result ≡ trim_limit (front_of (line self.now)) rendition }
     {
@@ -287,28 +286,28 @@ impl Snapshot {
     }
 }
 
-/// The number of the unit at which a place stands in a rendition; 0 where it stands in none.
+/// Returns the number of a place's unit in a rendition; 0 if it has none there.
 pub(crate) fn get_fragment(place: &Place, rendition: usize) -> u64
     ensures { result ≡ (spot_in place.now.spots rendition).fragment }
 {
     place.spots.get_or_zero(rendition).fragment
 }
 
-/// The number of a log's entries.
+/// Returns the number of entries of a log.
 pub(crate) fn entry_count(log: &Shared<Entry>) -> u64
     ensures { result ≡ next_of log.now }
 {
     log.next()
 }
 
-/// A log's entry of number `n`.
+/// Returns entry number `n` of a log.
 pub(crate) fn entry_at(log: &Shared<Entry>, n: u64) -> Option<&Entry>
     ensures { option_copied result ≡ item_at log.now n }
 {
     log.get(n)
 }
 
-/// A state for each rendition, none of which has begun.
+/// Makes a state for each rendition, none of which has begun.
 fn make_renditions(
     alloc: Global,
     renditions: &[Rendition],
@@ -326,7 +325,7 @@ fn make_renditions(
     Ok(rendition_states)
 }
 
-/// The same rendition states once more, over the same memory.
+/// Returns the same rendition states over the same memory.
 fn share_renditions(
     alloc: Global,
     rendition_states: &[Arc<RenditionState>],
@@ -336,7 +335,7 @@ fn share_renditions(
     rendition_states.to_vec(alloc)
 }
 
-/// The rendition states with another one at the number r.
+/// Replaces the rendition state at number r.
 fn replace_rendition(
     alloc: Global,
     rendition_states: &[Arc<RenditionState>],

@@ -1,4 +1,4 @@
-//! The one step by which a channel changes.
+//! The single step by which a channel changes.
 
 ghost use Rattle.std.specs.Prelude.{◌≡◌, Ok, Err, None, IfOk, IfErr, IfSome};
 ghost use Rattle.hls_media_laws.specs.IsInitOrUnit.{IsInit};
@@ -8,13 +8,14 @@ ghost use Rattle.hls_core_laws.specs.declared.refusal.Refusal.TheVariants.{Memor
 ghost use Rattle.hls_core_laws.specs.Moves.{IsFitting, IsRefused};
 ghost use Rattle.hls_core_laws.specs.Outcome.{Repeated, outcome_of};
 ghost use Rattle.hls_core.specs.MayBegin.{BeginMeets, MayAccept};
-ghost use Rattle.hls_core.specs.StepResult.{Steps};
+ghost use Rattle.hls_core.specs.StepResult.{Steps, Applies};
 ghost use Rattle.hls_core.specs.declared.stepped.Stepped.TheVariants.{New};
 
 use crate::rendition_state::RenditionState;
 use crate::snapshot::Snapshot;
 use crate::stepped::Stepped;
 use bytes::Bytes;
+use hls_core_laws::done::Done;
 use hls_core_laws::event::{Entry, Event, LoggedEvent};
 use hls_core_laws::refusal::Refusal;
 use hls_live::LineFault;
@@ -24,9 +25,9 @@ use hls_record::{RecordFault, Recording};
 use std::alloc::{AllocError, Global};
 use std::sync::Arc;
 
-/// What an event of the worker `by` does to a channel: a new snapshot, a repeat, or the first cause to refuse it.
+/// Applies an event of the worker `by` to a channel: returns a new snapshot, a repeat, or the first cause to refuse it.
 ///
-/// The tests come in this order, and want of memory comes last.
+/// The tests are in this order, and running out of memory comes last.
 ///
 /// | Event | Answers |
 /// |---|---|
@@ -58,6 +59,29 @@ pub fn step(snapshot: &Snapshot, alloc: Global, by: u16, event: Event) -> Result
     }
 }
 
+/// Replaces the snapshot by the one that an event leads to; it is unchanged after a repeat or a refusal.
+pub fn apply(
+    snapshot: &mut Arc<Snapshot>,
+    alloc: Global,
+    by: u16,
+    event: Event,
+) -> Result<Done, Refusal>
+    requires { IsFitting snapshot.old.value event }
+    ensures { Applies snapshot.old.value by event snapshot.new.value result }
+{
+    let version = snapshot.version();
+    match step(snapshot, alloc, by, event) {
+        Ok(Stepped::New(next)) => {
+            *snapshot = next;
+            Ok(Done::New {
+                version: version + 1,
+            })
+        }
+        Ok(Stepped::Repeat) => Ok(Done::Repeat),
+        Err(refusal) => Err(refusal),
+    }
+}
+
 fn begin(
     snapshot: &Snapshot,
     alloc: Global,
@@ -83,7 +107,7 @@ fn begin(
     into_stepped(snapshot.with_rendition(alloc, Entry { by, event }, rendition, rendition_state))
 }
 
-/// Whether a rendition's init section is new; false where it is there already. The tests of `Begin`, which want no memory.
+/// Whether a rendition's init section is new; false if it is a duplicate. These are the tests of `Begin` that need no memory.
 fn check_begin(snapshot: &Snapshot, rendition: usize, bytes: &Bytes) -> Result<bool, Refusal>
     ensures meets { BeginMeets snapshot.now rendition bytes.now result }
     ensures valid { IsState snapshot.now }
@@ -128,7 +152,7 @@ fn accept(
     into_stepped(snapshot.with_rendition(alloc, Entry { by, event }, rendition, rendition_state))
 }
 
-/// The recording that a new unit is to be appended to; none where the unit is there already. The tests of `Accept` but those
+/// Returns the recording to append a new unit to; `None` if the unit is a duplicate. These are the tests of `Accept` other than those
 /// of the recording's length and of memory.
 fn check_accept<'a>(
     snapshot: &'a Snapshot,
@@ -237,7 +261,7 @@ fn trim(
     into_stepped(snapshot.with_trim(alloc, Entry { by, event }, rendition, rendition_state))
 }
 
-/// The answer of a step that nothing but want of memory could still refuse.
+/// Returns the answer of a step that only an allocation failure can still refuse.
 fn into_stepped(next: Result<Arc<Snapshot>, AllocError>) -> Result<Stepped, Refusal>
     ensures new { IfOk next (λ next. result ≡ Ok (New next)) }
     ensures refused { IfErr next (λ _. result ≡ Err Memory) }

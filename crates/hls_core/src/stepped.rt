@@ -1,13 +1,13 @@
-//! What a step came to.
+//! The result of a step.
 
 use crate::snapshot::Snapshot;
 use std::sync::Arc;
 
-/// What a step that wasn't refused came to.
+/// The result of a step that wasn't refused.
 #[derive(Drop)]
 pub enum Stepped {
     /// The event is new: the snapshot after it.
     New(Arc<Snapshot>),
-    /// What the event brings is there already; the snapshot stays, and the log has no new entry.
+    /// The event duplicates what is there; the snapshot is unchanged, and the log has no new entry.
     Repeat,
 }

@@ -1,4 +1,4 @@
-//! What is to be done so that a channel keeps no more than its window and what lies a while behind it.
+//! Upkeep: the events that keep a channel to its window and to the kept time before it.
 
 ghost use Rattle.std.specs.Prelude.{◌≡◌, ◌-◌, ◌<◌, ◌≤◌, length, Some, IfSome, IfNone, slice_get};
 ghost use Rattle.std.specs.Option.{option_copied};
@@ -12,12 +12,12 @@ use crate::snapshot::{Snapshot, get_fragment};
 use hls_core_laws::event::Event;
 use hls_places::{Place, time_of};
 
-/// The event that a housekeeper is to bring next, or none where there is nothing to do.
+/// Returns the event that a housekeeper is to submit next, or `None` if nothing is due.
 ///
-/// While the live line hasn't ended: it slides as far as `window` microseconds stay in rendition 0 and three target durations
-/// in each rendition. Where it can't slide, the first rendition is trimmed that still has units before the last kept place
-/// which isn't after the line's front, and is at least `keep` microseconds before the last place. `step` refuses the event
-/// for `LedgerFull` and `Memory` alone. Takes no memory, and looks at few segments and places.
+/// While the live line hasn't ended, it slides as far as `window` microseconds stay in rendition 0 and three target durations in each
+/// rendition. If it can't slide, a trim is due of the first rendition that still has units before the last kept place which isn't
+/// after the line's front, and is at least `keep` microseconds before the last place. `step` refuses the event only for `LedgerFull`
+/// and `Memory`. Doesn't allocate, and looks at few segments and places.
 pub fn upkeep(snapshot: &Snapshot, window: u64, keep: u64) -> Option<Event>
     ensures is { IsUpkeepOf snapshot.now window keep result }
     ensures accepted { IfSome result (λ event. outcome_of snapshot.now event ≡ new_or_full (length snapshot.now.log)) }
@@ -35,7 +35,7 @@ pub fn upkeep(snapshot: &Snapshot, window: u64, keep: u64) -> Option<Event>
     }
 }
 
-/// The last kept place that isn't after the line's front, and is at least `keep` microseconds before the last place.
+/// Returns the last kept place that isn't after the line's front, and is at least `keep` microseconds before the last place.
 fn find_trim_place(snapshot: &Snapshot, keep: u64) -> Option<&Place>
     ensures some { IfSome result (λ cut. IsTrimPlaceAt snapshot.now keep cut.now) }
     ensures spots { IfSome result (λ cut. length cut.now.spots ≡ length (floors snapshot.now)) }
@@ -50,7 +50,7 @@ fn find_trim_place(snapshot: &Snapshot, keep: u64) -> Option<&Place>
     Some(get_place(snapshot, number))
 }
 
-/// The time up to which places are old, in microseconds.
+/// Returns the time up to which places are old, in microseconds.
 fn find_trim_time(snapshot: &Snapshot, keep: u64) -> Option<u64>
     ensures some { IfSome result (IsOldUntil snapshot.now keep) }
     ensures none { IfNone result (NoneOld snapshot.now keep) }
@@ -72,14 +72,14 @@ fn find_trim_time(snapshot: &Snapshot, keep: u64) -> Option<u64>
     Some(last - keep)
 }
 
-/// The last place so far.
+/// Returns the last place so far.
 fn last_place(snapshot: &Snapshot) -> Option<&Place>
     ensures { option_copied result ≡ slice_get (places snapshot.now) (length (places snapshot.now) - 1) }
 {
     place_at(snapshot, place_count(snapshot).saturating_sub(1))
 }
 
-/// The trim of the first rendition that has units before a place.
+/// Returns the trim of the first rendition that has units before a place.
 fn find_trim(snapshot: &Snapshot, cut: &Place) -> Option<Event>
     requires { length cut.now.spots ≡ length (floors snapshot.now) }
     ensures some { IfSome result (IsFirstBelow snapshot.now cut.now) }

@@ -1,4 +1,4 @@
--- The tests that an event meets in a state, in their order: one list for each kind of event.
+-- The tests of an event in a state, in their order: one list for each kind of event.
 use Rattle.std.specs.Prelude.{ℕ, ◌+◌, ◌==◌, Bool, false, not, ◌&&◌, ◌||◌, List, [], ◌∷◌, Option, Some, None, is_some, unwrap_or, length, drop, nat_lt, nat_le, if◌then◌else◌, slice_get}
 use Rattle.std.specs.Str.{bytes_eq}
 use Rattle.hls_media_laws.specs.declared.facts.Facts.{Facts}
@@ -12,7 +12,7 @@ use Rattle.hls_core_laws.specs.State.{State, channel, log_limit}
 use Rattle.hls_core_laws.specs.Line.{line}
 use Rattle.hls_core_laws.specs.Outcome.{Outcome, New, Repeated, Refused, held_bytes, trim_limit}
 
--- a test, and what the event comes to where it is the first that holds
+-- a test, and the event's outcome if it is the first that holds
 pub record Test : Type 0 where
   pub holds : Bool
   pub met : Outcome
@@ -20,7 +20,7 @@ pub record Test : Type 0 where
 abbrev pub test : Bool → Outcome → Test
 test holds met = record { holds = holds; met = met }
 
--- an event is new where no test holds
+-- an event is new if no test holds
 abbrev pub first_met : List Test → Outcome
 first_met [] = New
 first_met (t ∷ rest) = (if t.holds then t.met else first_met rest)
@@ -32,7 +32,7 @@ lane_at s r = slice_get (channel s).lanes r
 abbrev pub lane_of : Option Lane → Lane
 lane_of l = unwrap_or l no_lane
 
--- the rendition has an init section, or these very bytes are that
+-- the rendition has an init section
 abbrev pub has_init : Option Lane → Bool
 has_init l = is_some (lane_of l).init
 

@@ -1,20 +1,20 @@
-//! Calls that are counted.
+//! Counts calls.
 
-/// Calls that are counted, of which that of one number fails, from 1; none does where that is [`NEVER`](crate::NEVER).
+/// Counts calls. The call with one given number, from 1, fails; none does if the number is [`NEVER`](crate::NEVER).
 #[derive(Drop)]
 pub(crate) struct CallCounter {
-    /// How many calls there were.
+    /// The number of calls so far.
     pub count: usize,
     fails_at: usize,
 }
 
 impl CallCounter {
-    /// No call yet.
+    /// A counter without calls.
     pub fn failing_at(fails_at: usize) -> CallCounter {
         CallCounter { count: 0, fails_at }
     }
 
-    /// Counts a call; whether it fails.
+    /// Counts a call. Returns whether it fails.
     pub fn count_call(&mut self) -> bool {
         self.count = self.count.wrapping_add(1);
         self.count == self.fails_at

@@ -1,18 +1,18 @@
-//! What calls tell of which any one request for memory may be refused.
+//! Outcomes of calls in which any one allocation may fail.
 
-/// What a call told.
+/// The outcome of a call.
 #[derive(Clone, Copy, Drop)]
 pub enum CallOutcome {
-    /// What it tells with ample memory.
+    /// The result that the call has with enough memory.
     Right,
-    /// That memory was wanted, for it or for what it is handed; what it was lent is as it was.
+    /// An allocation failed, in the call or for its arguments; the values that the call borrowed are unchanged.
     OutOfMemory,
     /// Anything else.
     Wrong,
 }
 
 impl CallOutcome {
-    /// What a call told whose answer is the right one, or another.
+    /// The outcome of a call that returned a result, given whether it is the right one.
     pub fn from_answer(is_right: bool) -> CallOutcome {
         if is_right {
             CallOutcome::Right
@@ -21,7 +21,7 @@ impl CallOutcome {
         }
     }
 
-    /// What a call told that wanted memory, and left what it was lent as it was, or not.
+    /// The outcome of a call in which an allocation failed, given whether the values that it borrowed are unchanged.
     pub fn from_refusal(unchanged: bool) -> CallOutcome {
         if unchanged {
             CallOutcome::OutOfMemory
@@ -30,18 +30,18 @@ impl CallOutcome {
         }
     }
 
-    /// What was told, where what the call was lent is as it was.
+    /// The same outcome, or `Wrong` if the values that the call borrowed have changed.
     pub fn require_unchanged(self, unchanged: bool) -> CallOutcome {
         if unchanged { self } else { CallOutcome::Wrong }
     }
 
-    /// Whether it's what is told with ample memory.
+    /// Whether it is the result with enough memory.
     pub fn is_right(self) -> bool {
         matches!(self, CallOutcome::Right)
     }
 
-    /// Whether a call and the same call again, told so, are held: one request for memory is refused, so one of them at most
-    /// wanted memory, and the other gave the answer.
+    /// Whether the outcomes of a call and of its repetition are consistent: one allocation fails, so at most one of them is an allocation
+    /// failure, and the other is the right result.
     pub fn is_consistent_with(self, again: CallOutcome) -> bool {
         match self {
             CallOutcome::Right => !matches!(again, CallOutcome::Wrong),

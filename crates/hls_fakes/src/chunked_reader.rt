@@ -1,10 +1,10 @@
-//! A reader in small steps.
+//! A reader that returns small chunks.
 
 use crate::call_counter::CallCounter;
 use std::io::{self, ErrorKind, Read};
 
-/// A reader that gives at most `step` bytes a call, and fails at the call of one number, from 1; behind it the rest comes. A
-/// call of an even number fails as interrupted, one of an odd number as reset.
+/// A reader that returns at most `step` bytes per call, and fails at the call with one given number, from 1; later calls return the rest.
+/// If that number is even, the call is interrupted; if it is odd, the connection is reset.
 #[derive(Drop)]
 pub struct ChunkedReader<'a> {
     calls: CallCounter,
@@ -22,12 +22,12 @@ impl<'a> ChunkedReader<'a> {
         }
     }
 
-    /// How many bytes weren't given.
+    /// The number of bytes that weren't returned yet.
     pub fn rest_len(&self) -> usize {
         self.rest.len()
     }
 
-    /// How many calls there were.
+    /// The number of calls so far.
     pub fn calls(&self) -> usize {
         self.calls.count
     }

@@ -1,11 +1,11 @@
-//! A writer in small steps.
+//! A writer that accepts small chunks.
 
 use crate::call_counter::CallCounter;
 use std::alloc::Global;
 use std::io::{self, ErrorKind, Write};
 
-/// A writer that takes at most `step` bytes a call, and none at the call of one number, from 1; behind it all is taken again. A
-/// call of an even number takes nothing, one of an odd number fails as a broken pipe.
+/// A writer that accepts at most `step` bytes per call, and none at the call with one given number, from 1; later calls succeed again. If
+/// that number is even, the call accepts nothing; if it is odd, it fails as a broken pipe.
 #[derive(Drop)]
 pub struct ChunkedWriter {
     written: Vec<u8>,
@@ -14,7 +14,7 @@ pub struct ChunkedWriter {
 }
 
 impl ChunkedWriter {
-    /// A writer that holds nothing; memory is taken as bytes come.
+    /// A writer without contents; memory is allocated as bytes arrive.
     pub fn new(alloc: Global, step: usize, fails_at: usize) -> ChunkedWriter {
         ChunkedWriter {
             written: Vec::new(alloc),
@@ -28,7 +28,7 @@ impl ChunkedWriter {
         &self.written
     }
 
-    /// How many calls there were.
+    /// The number of calls so far.
     pub fn calls(&self) -> usize {
         self.calls.count
     }

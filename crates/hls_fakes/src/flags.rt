@@ -3,10 +3,10 @@
 use std::sync::atomic::{AtomicBool, Ordering};
 use std::thread;
 
-/// How often is looked before a test fails.
+/// The maximum number of polls before a test fails.
 pub const MAX_POLLS: u64 = 100_000_000;
 
-/// Whether the flag is set, once it is or after so many looks.
+/// Waits until the flag is set. Returns false after `MAX_POLLS` polls.
 pub fn wait_until_set(flag: &AtomicBool) -> bool {
     for _ in 0..MAX_POLLS {
         if flag.load(Ordering::SeqCst) {

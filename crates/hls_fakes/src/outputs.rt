@@ -1,11 +1,11 @@
-//! What waits to be sent, taken to its end.
+//! Drains the output that waits to be sent.
 
 ghost use Rattle.std.specs.Prelude.{◌<◌, ◌^◌, length, IfOk};
 
-use hls_output::{Resource, SendBuffer};
+use hls_io::{Resource, SendBuffer};
 use std::alloc::{AllocError, Global};
 
-/// Whether just these bytes go out.
+/// Whether exactly these bytes are sent.
 pub fn sends_exactly<R: Resource + Drop>(output: SendBuffer<R>, text: &[u8]) -> bool {
     let mut output = output;
     let mut rest = text;
@@ -21,7 +21,7 @@ pub fn sends_exactly<R: Resource + Drop>(output: SendBuffer<R>, text: &[u8]) -> 
     rest.is_empty()
 }
 
-/// All that goes out.
+/// Collects all bytes that are sent.
 pub fn collect_sent<R: Resource + Drop>(
     alloc: Global,
     output: SendBuffer<R>,

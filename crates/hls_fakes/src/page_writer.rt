@@ -1,12 +1,11 @@
-//! A writer that takes no memory.
+//! A writer that doesn't allocate.
 
 use crate::call_counter::CallCounter;
 use std::io::{self, Write};
 
-/// How many bytes a page takes.
 const LEN: usize = 32768;
 
-/// A writer that takes a page of 32768 bytes, and no memory; it takes none at the call of one number, from 1.
+/// A writer with room for a page of 32768 bytes, which doesn't allocate. It accepts nothing at the call with one given number, from 1.
 #[derive(Drop)]
 pub struct PageWriter {
     bytes: [u8; LEN],
@@ -15,12 +14,12 @@ pub struct PageWriter {
 }
 
 impl PageWriter {
-    /// A page with nothing on it, of which no call fails.
+    /// An empty page; no call fails.
     pub fn new() -> PageWriter {
         PageWriter::failing_at(crate::NEVER)
     }
 
-    /// A page with nothing on it, of which the call of one number fails.
+    /// An empty page; the call with the given number fails.
     pub fn failing_at(call: usize) -> PageWriter {
         PageWriter {
             bytes: [0; LEN],
@@ -34,17 +33,17 @@ impl PageWriter {
         self.bytes.get(..self.len).unwrap_or(b"")
     }
 
-    /// Whether just this text was written.
+    /// Whether exactly this text was written.
     pub fn holds_text(&self, text: &[u8]) -> bool {
         self.as_bytes() == text
     }
 
-    /// How many bytes were written.
+    /// The number of bytes that were written.
     pub fn len(&self) -> usize {
         self.len
     }
 
-    /// How many calls there were.
+    /// The number of calls so far.
     pub fn calls(&self) -> usize {
         self.calls.count
     }

@@ -1,18 +1,13 @@
--- Steps of a body in what is held, and in what follows.
+-- Steps of a body, within the held bytes and within the rest of the input.
 use Rattle.std.proofs.Common.{◌≡◌, ◌∙◌, ℕ, ◌≤◌, ◌<◌, List, [], ◌++◌, Option, Some, None, length, take, drop, refl, sym, ap, subst, arith, length-append, length-take}
-use Rattle.std.specs.Io.KnownBytes.{prepend_known}
-use Rattle.std.proofs.lemmas.List.{length-map}
-use Rattle.httparse.specs.declared.spans.HeaderSpan.{HeaderSpan}
+use Rattle.std.{specs.Io.KnownBytes.prepend_known, proofs.lemmas.List.length-map}
 use Rattle.httparse.specs.Grammar.{ChunkLine, Field, LineEnd, HasNoChunkLine, HasNoSection, print_chunk_line, print_section}
-use Rattle.httparse.specs.Spans.{IsChunkLineAt, IsSectionAt, header_bytes, name_and_value}
-use Rattle.httparse.proofs.GrammarLemmas.{ReadsSection-append, section_unique}
-use Rattle.httparse.proofs.ChunkLemmas.{ReadsChunkLine-append, chunk_line_unique}
-use Rattle.hls_http_laws.specs.declared.framing.BodyFraming.{BodyFraming}
-use Rattle.hls_http_laws.specs.declared.framing.BodyFraming.TheVariants.{Length, Size, Data, Trailers}
-use Rattle.hls_http_laws.specs.Bodies.{framing_after_size, Steps, StepsThrough, NoStep, HasNoStep, RunsOnReader}
-use Rattle.hls_http_laws.proofs.Callers.{Leaves, cut, run_one, runs_join, runs_leave, runs_stay, some_line, some_section}
-use Rattle.hls_http.specs.{declared.input_buffer.ReadOutcome.ReadOutcome, ReadBodies.IsLastAlone, Input.ReadsMore}
-use Rattle.hls_http.proofs.HeadLaws.{reads_known}
+use Rattle.httparse.specs.{declared.spans.HeaderSpan.HeaderSpan, Spans.{IsChunkLineAt, IsSectionAt, header_bytes, name_and_value}}
+use Rattle.httparse.proofs.{GrammarLemmas.{ReadsSection-append, section_unique}, ChunkLemmas.{ReadsChunkLine-append, chunk_line_unique}}
+use Rattle.hls_http.proofs.Callers.{Leaves, cut, run_one, runs_join, runs_leave, runs_stay, some_line, some_section}
+use Rattle.hls_http.specs.{declared.framing.BodyFraming.{BodyFraming, TheVariants.{Length, Size, Data, Trailers}}, ReadBodies.IsLastAlone}
+use Rattle.hls_http.specs.{Bodies.{framing_after_size, Steps, StepsThrough, NoStep, HasNoStep, RunsOnReader}, Input.ReadsMore}
+use Rattle.hls_http.{specs.declared.input_buffer.ReadOutcome.ReadOutcome, proofs.HeadLaws.reads_known}
 
 pub long_line : (held : List ℕ) (len size : ℕ) (l : ChunkLine) → IsChunkLineAt held len size l → 16384 < len → HasNoStep Size held
 long_line held len size l at past = λ more piece next rest s.
@@ -62,7 +57,7 @@ no_trailers held never past = λ more piece next rest s.
     let w = cut (print_section s.0.fields s.0.last) rest held more (sym s.0.reads.1) (omega (arith, s.0.small)) in
     never s.0.fields s.0.last w.0 (s.0.reads.0, w.1)
 
--- ---- steps of what is held, in the input
+-- ---- steps of the held bytes are steps of the input
 
 pub goes_none : (b : BodyFraming) (held rest : List ℕ) (left : Option (List ℕ)) → left ≡ Some rest → RunsOnReader b (held ++ rest) [] b held left
 goes_none b held rest left is = record { later = held ++ rest; runs = NoStep; known = ap (λ o. prepend_known held o) is }
@@ -79,12 +74,12 @@ goes_then b middle last input got held now piece rest (Some more) left g s now_i
       known = ap (λ o. prepend_known now o) left_is ∙ ap (λ xs. Some (xs ++ more)) now_is;
     }
 
--- what was read behind what was held changes nothing of what is to come
+-- bytes that were read after the held ones don't change the bytes still to come
 pub goes_filled : (b middle : BodyFraming) (input got held now : List ℕ) (old left : Option (List ℕ)) (filled : ReadOutcome) → RunsOnReader b input got middle held old
     → ReadsMore held now old left filled → RunsOnReader b input got middle now left
 goes_filled b middle input got held now old left filled g r = record { later = g.later; runs = g.runs; known = reads_known g.later held now old left filled g.known r }
 
--- where nothing was taken yet and the last byte is next, it is all of the body
+-- if nothing was taken yet and the last byte is next, that byte is the whole body
 pub last_alone : (b middle next : BodyFraming) (input rest : List ℕ) → StepsThrough b input [] middle rest → IsLastAlone middle next → IsLastAlone b next
 last_alone b middle next input rest r alone = λ over. all b (runs_leave b middle input [] rest r) (alone over)
   where

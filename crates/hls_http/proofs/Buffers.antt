@@ -1,4 +1,4 @@
--- What stands in a buffer, when some of it is taken and when more comes.
+-- The contents of a buffer after bytes are taken and after more are read.
 use Rattle.std.proofs.Common.{◌≡◌, ◌∙◌, ℕ, ◌+◌, ◌-◌, ◌≤◌, List, ◌++◌, length, take, drop, slice_range, take-add, length-take, sym, ap, subst, arith}
 use Rattle.std.proofs.lemmas.List.{drop-append-le, drop-drop, drop-take, take-take}
 use Rattle.hls_http.specs.Buffers.{BufferTexts, texts_after_consume}
@@ -23,7 +23,7 @@ held_more old new start end read h within front =
     ∙ drop-append-le start (take end new) (take read (drop end new)) (omega (arith, length-take end new))
     ∙ ap (λ xs. xs ++ take read (drop end new)) (ap (drop start) front ∙ sym (as_drop old start end h))
 
--- what fits into the unread bytes ends before their end
+-- a length that fits into the unread bytes ends before their end
 fits : (buffer : List ℕ) (start end len : ℕ) → start ≤ end → len ≤ length (slice_range buffer start end) → start + len ≤ end
 fits buffer start end len h few = omega (arith, length-take (end - start) (drop start buffer), few)
 

@@ -1,9 +1,8 @@
--- Digits read one after the other, and capped.
-use Rattle.std.proofs.Common.{◌≡◌, ℕ, ◌+◌, ◌-◌, ◌*◌, ◌^◌, ◌<◌, min, List, true, length, get_or, take, arith}
-use Rattle.std.specs.{Int.IsInRange, Str.all_ascii_digits}
-use Rattle.std.proofs.lemmas.{Str.digit_value_digit, Int.Digits.digits_value_more}
+-- Digits read in sequence, and capped.
+use Rattle.std.{proofs.Common.{◌≡◌, ℕ, ◌+◌, ◌-◌, ◌*◌, ◌^◌, ◌<◌, min, List, true, length, get_or, take, arith}, specs.Int.IsInRange}
+use Rattle.std.{specs.Str.all_ascii_digits, proofs.lemmas.{Str.digit_value_digit, Int.Digits.digits_value_more}}
 use Rattle.std.proofs.lemmas.Str.Parse.{digit_at, numerals_by_value, tells_all_ascii_digits}
-use Rattle.hls_http_laws.specs.Range.{capped_number}
+use Rattle.hls_http.specs.Range.{capped_number}
 
 pub digit_here : (ds : List ℕ) (i : ℕ) → all_ascii_digits ds ≡ true → i < length ds → IsInRange 48 57 (get_or ds i 0)
 digit_here ds i good below = digit_at ds i ((numerals_by_value (λ (xs : List ℕ). all_ascii_digits xs ≡ true) tells_all_ascii_digits).to ds good) below

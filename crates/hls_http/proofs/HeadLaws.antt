@@ -1,15 +1,11 @@
--- Heads within the limits, in what is held and in the input.
+-- Heads within the limits, in the held bytes and in the input.
 use Rattle.std.proofs.Common.{◌≡◌, ◌∙◌, ℕ, ◌≤◌, ◌<◌, List, [], ◌++◌, inl, Option, Some, None, length, take, drop, sym, ap, subst, arith, append_assoc, append-nil, length-take}
-use Rattle.std.specs.Io.KnownBytes.{prepend_known}
-use Rattle.std.proofs.lemmas.List.{length-map}
-use Rattle.httparse.specs.{declared.spans.HeaderSpan.HeaderSpan, declared.spans.RequestSpans.RequestSpans}
-use Rattle.httparse.specs.Grammar.{RequestHead, print_request, ReadsRequest, HasNoRequest}
-use Rattle.httparse.specs.Spans.{IsRequestAt, IsRequestWithin, header_bytes, name_and_value}
+use Rattle.std.{specs.Io.KnownBytes.prepend_known, proofs.lemmas.List.length-map}
+use Rattle.httparse.specs.{Grammar.{RequestHead, print_request, ReadsRequest, HasNoRequest}, declared.spans.HeaderSpan.HeaderSpan}
+use Rattle.httparse.specs.{Spans.{IsRequestAt, IsRequestWithin, header_bytes, name_and_value}, declared.spans.RequestSpans.RequestSpans}
 use Rattle.httparse.proofs.GrammarLemmas.{ReadsRequest-append, request_prefix_free}
-use Rattle.hls_http_laws.specs.Heads.{IsTooLarge}
-use Rattle.hls_http_laws.proofs.Callers.{cut}
 use Rattle.hls_http.specs.{declared.head.ParsedHead.ParsedHead, declared.input_buffer.ReadOutcome.ReadOutcome, declared.input_buffer.ReadOutcome.TheVariants.Eof, Input.ReadsMore}
-use Rattle.hls_http.specs.ReadHeads.{IsHead, FoundHead, HasReadHead}
+use Rattle.hls_http.{specs.{Heads.IsTooLarge, ReadHeads.{IsHead, FoundHead, HasReadHead}}, proofs.Callers.cut}
 
 pub head_past : (text : List ℕ) (headers : List HeaderSpan) (spans : RequestSpans) (h : RequestHead) → IsRequestWithin text headers spans → IsRequestAt text headers spans h → 16384 < spans.len → IsTooLarge text
 head_past text headers spans h within at past = record {
@@ -33,7 +29,7 @@ partial_past text never past = record {
   past = inl past;
 }
 
--- ---- what is to come
+-- ---- the bytes still to come
 
 pub heard_ok : (input held now taken : List ℕ) (old left : Option (List ℕ)) (head : ParsedHead) (len : ℕ) → prepend_known held old ≡ Some input
     → FoundHead held head (take len held) (drop len held) → now ≡ drop len held → taken ≡ take len held → left ≡ old → HasReadHead input head taken now left
@@ -51,14 +47,14 @@ heard_ok input held now taken (Some rest) left head len known found now_is taken
       known = ap (λ o. prepend_known now o) left_is ∙ ap (λ xs. Some (xs ++ rest)) now_is;
     }
 
--- .. behind a read, which brought some of it
+-- .. after a read that yielded some of them
 pub reads_known : (input held now : List ℕ) (old left : Option (List ℕ)) (brought : ReadOutcome) → prepend_known held old ≡ Some input → ReadsMore held now old left brought → prepend_known now left ≡ Some input
 reads_known input held now None left brought known r = absurd (cc known)
 reads_known input held now (Some xs) None brought known r = absurd r.consumes
 reads_known input held now (Some xs) (Some ys) brought known r =
     ap (λ zs. Some (zs ++ ys)) r.following ∙ ap Some (append_assoc held r.bytes ys ∙ ap (λ zs. held ++ zs) (sym r.consumes)) ∙ known
 
--- .. at the input's end
+-- .. at the end of the input
 pub at_end : (input held now : List ℕ) (old left : Option (List ℕ)) → prepend_known held old ≡ Some input → ReadsMore held now old left Eof
     → (held ≡ input) × (now ≡ input) × (prepend_known now left ≡ Some input) × (left ≡ Some [])
 at_end input held now old None known r = absurd (cc (reads_known input held now old None Eof known r))

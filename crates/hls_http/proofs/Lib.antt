@@ -5,3 +5,7 @@ mod HeadLaws
 mod SendLaws
 mod Values
 pub mod Callers
+mod BodyLaws
+mod Examples
+mod RequestLaws
+mod StayLaws

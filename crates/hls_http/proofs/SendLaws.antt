@@ -1,4 +1,4 @@
--- Output written part by part.
+-- Output that is written in parts.
 use Rattle.std.proofs.Common.{◌≡◌, ◌∙◌, ℕ, List, [], ◌++◌, Option, Some, Bool, true, length, drop, refl, sym, ap, append_assoc, append-nil}
 use Rattle.std.proofs.lemmas.List.{take-append-drop}
 use Rattle.bytes.specs.Unread.{IsChunkOf}
@@ -11,13 +11,13 @@ writes_whole held text contents w =
 pub writes_as : (held text other : List ℕ) (contents : Option (List ℕ)) → text ≡ other → Writes held text contents true → contents ≡ Some (held ++ other)
 writes_as held text other contents is w = writes_whole held text contents w ∙ ap (λ xs. Some (held ++ xs)) is
 
--- of the text the front was written behind what was held, and the rest waits
+-- of the text, a front was written after the held bytes, and the rest waits
 pub record Sent (held text waiting : List ℕ) (contents : Option (List ℕ)) : Type 0 where
   pub written : List ℕ
   pub split : text ≡ written ++ waiting
   pub contents_are : contents ≡ Some (held ++ written)
 
--- .. and then some of the chunk that is first of it
+-- .. and then some of its first chunk
 pub chunk_sent : (held text waiting chunk : List ℕ) (old new : Option (List ℕ)) (done : Bool) (s : Sent held text waiting old) → IsChunkOf chunk waiting
     → (w : Writes (held ++ s.written) chunk new done) → Sent held text (w.left ++ drop (length chunk) waiting) new
 chunk_sent held text waiting chunk old new done s is w =

@@ -1,9 +1,8 @@
--- The values of a name, field after field.
+-- The values of a name, by going through the fields.
 use Rattle.std.proofs.Common.{◌≡◌, ◌∙◌, ℕ, ◌+◌, ◌≤◌, ◌<◌, List, [], ◌∷◌, Bool, true, false, cond, Some, None, length, get_or, refl, ap, drop_of_length-le}
 use Rattle.std.proofs.lemmas.List.{at_drop_more}
 use Rattle.httparse.specs.{declared.spans.HeaderSpan.HeaderSpan, Spans.header_bytes}
-use Rattle.hls_http_laws.specs.Fields.{has_name, values}
-use Rattle.hls_http.specs.Values.{values_from, fields_at}
+use Rattle.hls_http.specs.{Fields.{has_name, values}, Values.{values_from, fields_at}}
 
 found : (b : Bool) (x v : List ℕ) (vs : List (List ℕ)) → Some v ≡ cond b (Some x) None → cond b (x ∷ vs) vs ≡ v ∷ vs
 found true x v vs e = cc

@@ -1,17 +1,16 @@
--- What one read brings.
+-- What one read yields.
 use Rattle.std.specs.Prelude.{◌≡◌, ℕ, ◌<◌, List, [], ◌++◌, length, slice_range, Option, Result, Ok, Err}
 use Rattle.std.specs.Io.KnownBytes.{Consumes, IsAtEnd, Keeps}
 use Rattle.hls_io.specs.Failures.{FailuresRose}
-use Rattle.hls_http.specs.declared.input_buffer.ReadOutcome.{ReadOutcome}
-use Rattle.hls_http.specs.declared.input_buffer.ReadOutcome.TheVariants.{Data, Eof, Failed}
+use Rattle.hls_http.specs.declared.input_buffer.ReadOutcome.{ReadOutcome, TheVariants.{Data, Eof, Failed}}
 
--- some bytes; or none, at the end of the input or for a failure
+-- some bytes; or none, at the end of the input or on a failure
 abbrev pub IsReadOutcome : ReadOutcome → List ℕ → Option (List ℕ) → Type 0
 IsReadOutcome Data bytes left = 0 < length bytes
 IsReadOutcome Eof bytes left = (bytes ≡ []) × IsAtEnd left
 IsReadOutcome Failed bytes left = bytes ≡ []
 
--- these bytes came of the reader, and stand behind those that were unread
+-- bytes from the reader, appended to the unread bytes
 pub record ReadsMore (old new : List ℕ) (before left : Option (List ℕ)) (filled : ReadOutcome) : Type 0 where
   pub bytes : List ℕ
   pub following : new ≡ old ++ bytes
@@ -22,12 +21,12 @@ abbrev pub CountsFill : ReadOutcome → ℕ → ℕ → Type 0
 CountsFill Failed old new = FailuresRose old new
 CountsFill _ old new = new ≡ old
 
--- so many bytes came of the reader, and stand behind those that were unread, none only at its end; or nothing has changed
+-- a number of bytes from the reader, appended to the unread bytes, zero only at the end of the input; or nothing changed
 abbrev pub IsAppended : {E : Type 0} → List ℕ → List ℕ → Option (List ℕ) → Option (List ℕ) → Result ℕ E → Type 0
 IsAppended old new before left (Ok n) =
     (bytes : List ℕ) × (length bytes ≡ n) × (new ≡ old ++ bytes) × Consumes before left bytes × (n ≡ 0 → IsAtEnd left)
 IsAppended old new before left (Err e) = (new ≡ old) × Keeps before left
 
--- .. and they all stand from one place of a buffer to another
+-- .. and all unread bytes are in one range of the buffer
 abbrev pub IsAppendedWithin : {E : Type 0} → List ℕ → List ℕ → ℕ → ℕ → Option (List ℕ) → Option (List ℕ) → Result ℕ E → Type 0
 IsAppendedWithin old buffer from until before left read = IsAppended old (slice_range buffer from until) before left read

@@ -5,3 +5,16 @@ pub mod Responses
 pub mod BufferedReader
 pub mod Buffers
 pub mod Values
+pub mod Bodies
+pub mod Fields
+pub mod Framing
+pub mod Grammar
+pub mod Heads
+pub mod Laws
+pub mod Limits
+pub mod Methods
+pub mod Actions
+pub mod Query
+pub mod Range
+pub mod ResponseText
+pub mod Requests

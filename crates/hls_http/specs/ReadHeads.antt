@@ -1,19 +1,15 @@
--- What is found of a head, and what a reader hears.
+-- Heads found in a text, and heads read from an input.
 use Rattle.std.specs.Prelude.{◌≡◌, ℕ, ◌<◌, ◌≤◌, List, [], length, take, drop, codes, Option, Some, Result, Ok, Err}
 use Rattle.std.specs.Io.KnownBytes.{prepend_known}
-use Rattle.httparse.specs.Grammar.{RequestHead, NeverHasRequest}
-use Rattle.httparse.specs.Spans.{span_bytes}
+use Rattle.httparse.specs.{Grammar.{RequestHead, NeverHasRequest}, Spans.span_bytes}
 use Rattle.hls_io.specs.Failures.{FailuresRose}
-use Rattle.hls_http_laws.specs.Heads.{ReadsLimitedHead, IsUnfinished, IsTooLarge}
-use Rattle.hls_http_laws.specs.Methods.{method_of}
-use Rattle.hls_http_laws.specs.Fields.{closes_connection, expects, values}
-use Rattle.hls_http_laws.specs.Range.{range_of_values}
-use Rattle.hls_http_laws.specs.Requests.{framing_of_head, fields_of}
 use Rattle.hls_http.specs.{declared.head.ParsedHead.ParsedHead, declared.head.HeadFault.HeadFault, declared.head.HeadEnd.HeadEnd}
+use Rattle.hls_http.specs.{Heads.{ReadsLimitedHead, IsUnfinished, IsTooLarge}, Methods.method_of, Range.range_of_values}
+use Rattle.hls_http.specs.{Fields.{closes_connection, expects, values, wait_of_values}, Requests.{framing_of_head, fields_of}}
 use Rattle.hls_http.specs.declared.head.HeadFault.TheVariants.{Partial, Invalid, TooLarge}
 use Rattle.hls_http.specs.declared.head.HeadEnd.TheVariants.{Closed, CutShort, BadHead, HeadTooLarge, ReadFailed}
 
--- what is told of the head h, whose text this is
+-- the parsed head describes the head h, whose text this is
 pub record IsHead (h : RequestHead) (head : ParsedHead) (text : List ℕ) : Type 0 where
   pub method : head.method ≡ method_of h.method
   pub target_ordered : head.target.start ≤ head.target.end
@@ -23,27 +19,28 @@ pub record IsHead (h : RequestHead) (head : ParsedHead) (text : List ℕ) : Type
   pub expects : head.expects ≡ expects h.minor (fields_of h)
   pub closes : head.closes ≡ closes_connection h.minor (fields_of h)
   pub range : head.range ≡ range_of_values (values (codes "range") (fields_of h))
+  pub wait : head.wait ≡ wait_of_values (values (codes "prefer") (fields_of h))
 
--- a head and what was kept of it
+-- a head, and the bytes kept of it
 pub record FoundHead (text : List ℕ) (head : ParsedHead) (taken rest : List ℕ) : Type 0 where
   pub tree : RequestHead
   pub reads : ReadsLimitedHead text tree rest
   pub is : IsHead tree head taken
 
--- the head at the front of a text, or why none is there
+-- the head at the front of a text, or why there is none
 abbrev pub FindsHead : List ℕ → Result (ParsedHead × ℕ) HeadFault → Type 0
 FindsHead text (Ok found) = (found.1 ≤ length text) × FoundHead text found.0 (take found.1 text) (drop found.1 text)
 FindsHead text (Err Partial) = IsUnfinished text
 FindsHead text (Err Invalid) = NeverHasRequest text
 FindsHead text (Err TooLarge) = IsTooLarge text
 
--- the head at the front of the input, whose rest is then to come
+-- the head at the front of the input, with the rest still to come
 pub record HasReadHead (input : List ℕ) (head : ParsedHead) (taken held : List ℕ) (left : Option (List ℕ)) : Type 0 where
   pub later : List ℕ
   pub found : FoundHead input head taken later
   pub known : prepend_known held left ≡ Some later
 
--- nothing was taken on any error
+-- a head was read; on any error nothing was taken
 abbrev pub ReadsHead : List ℕ → List ℕ → List ℕ → Option (List ℕ) → Result ParsedHead HeadEnd → Type 0
 ReadsHead input taken held left (Ok head) = HasReadHead input head taken held left
 ReadsHead input taken held left (Err Closed) = (input ≡ []) × (prepend_known held left ≡ Some [])

@@ -1,42 +1,41 @@
-//! Bodies of requests, by length and in chunks.
+//! Tokens of request bodies, framed by length or in chunks.
 
 ghost use Rattle.std.specs.Prelude.{◌≡◌, ◌≢◌, ◌<◌};
-ghost use Rattle.hls_http_laws.specs.Bodies.{framing_after_size};
-ghost use Rattle.hls_http.specs.ReadBodies.{FindsToken};
+ghost use Rattle.hls_http.specs.{Bodies.framing_after_size, ReadBodies.FindsToken};
 
-use hls_http_laws::framing::BodyFraming;
-use hls_http_laws::limits::{MOST_FIELDS, MOST_HEAD};
+use crate::framing::BodyFraming;
+use crate::limits::{MOST_FIELDS, MOST_HEAD};
 use httparse::spans::{EMPTY_HEADER_SPAN, parse_headers};
 use httparse::{Status, parse_chunk_size};
 
-/// What stands at the front of the held bytes of a body.
+/// The token at the front of a body's held bytes.
 #[derive(Clone, Copy, Drop)]
 pub enum BodyToken {
-    /// So many bytes of content, and then the body goes on so.
+    /// A number of bytes of content, and the framing of the rest of the body.
     Piece(usize, BodyFraming),
-    /// So many bytes that frame the content.
+    /// A number of bytes that frame the content, and the framing of the rest of the body.
     Frame(usize, BodyFraming),
 }
 
-/// Why nothing of a body stands at the front.
+/// Why there is no token at the front.
 #[derive(Clone, Copy, Drop)]
 pub enum TokenFault {
     /// More bytes are needed.
     Incomplete,
-    /// Nothing of the grammar stands here, whatever follows.
+    /// The bytes break the grammar, whatever follows.
     Invalid,
 }
 
-/// What a call brought of a body.
+/// What a call read of a body.
 #[derive(Clone, Copy, Drop)]
 pub enum BodyRead {
-    /// The next piece, which isn't empty, is what the source has taken last.
+    /// A piece that isn't empty: it is what the source has taken last.
     Piece,
     /// The body is over.
     End,
 }
 
-/// Bytes by length: those before the last one, or the last one alone.
+/// Finds a token of a body by length: the bytes before the last one, or the last byte alone.
 fn find_length(held: &[u8], left: u64) -> Result<BodyToken, TokenFault>
     requires { 0 < left }
     ensures { FindsToken (BodyFraming.Length left) held.now result }
@@ -48,7 +47,7 @@ fn find_length(held: &[u8], left: u64) -> Result<BodyToken, TokenFault>
     Ok(BodyToken::Piece(len, BodyFraming::Length(left - len as u64)))
 }
 
-/// The bytes of a chunk, or its CR LF.
+/// Finds the bytes of a chunk, or the CR LF after them.
 fn find_data(held: &[u8], left: u64) -> Result<BodyToken, TokenFault>
     ensures { FindsToken (BodyFraming.Data left) held.now result }
 {
@@ -66,7 +65,7 @@ fn find_data(held: &[u8], left: u64) -> Result<BodyToken, TokenFault>
     Ok(BodyToken::Piece(len, BodyFraming::Data(left - len as u64)))
 }
 
-/// The body behind a size line.
+/// Returns the framing after a chunk's size line.
 fn framing_after_size(size: u64) -> BodyFraming
     ensures { result ≡ framing_after_size size }
 {
@@ -76,7 +75,7 @@ fn framing_after_size(size: u64) -> BodyFraming
     }
 }
 
-/// The line of a chunk's size.
+/// Finds the size line of a chunk.
 fn find_size(held: &[u8]) -> Result<BodyToken, TokenFault>
     ensures { FindsToken BodyFraming.Size held.now result }
 {
@@ -89,7 +88,6 @@ fn find_size(held: &[u8]) -> Result<BodyToken, TokenFault>
     }
 }
 
-/// The trailers.
 #[tactic(auto, using(crate::proofs::BodySteps::trailers_frame))]
 fn find_trailers(held: &[u8]) -> Result<BodyToken, TokenFault>
     ensures { FindsToken BodyFraming.Trailers held.now result }
@@ -104,7 +102,7 @@ fn find_trailers(held: &[u8]) -> Result<BodyToken, TokenFault>
     }
 }
 
-/// What stands at the front of the held bytes of a body that isn't over. No memory is taken.
+/// Finds the token at the front of the held bytes of a body that hasn't ended. Doesn't allocate.
 pub fn find_token(held: &[u8], body: BodyFraming) -> Result<BodyToken, TokenFault>
     requires { body ≢ BodyFraming.Length 0 }
     ensures { FindsToken body held.now result }

@@ -1,12 +1,11 @@
 //! Bytes and decimal numbers of fields and queries.
 
-ghost use Rattle.std.specs.Prelude.{◌≡◌, ◌<◌, ◌^◌, ◌==◌, ◌+◌, length, position, true, IfSome};
-ghost use Rattle.std.specs.Str.{all_ascii_digits};
-ghost use Rattle.hls_http_laws.specs.Range.{capped_number};
+ghost use Rattle.std.specs.{Prelude.{◌≡◌, ◌<◌, ◌^◌, ◌==◌, ◌+◌, length, position, true, IfSome}, Str.all_ascii_digits};
+ghost use Rattle.hls_http.specs.Range.{capped_number};
 
-use hls_http_laws::limits::MOST_RANGE;
+use crate::limits::MOST_RANGE;
 
-/// Where a byte stands first.
+/// Returns the index of the first occurrence of a byte.
 pub fn find_byte(text: &[u8], byte: u8) -> Option<usize>
     ensures value { result ≡ position (λ b. b == byte) text.now }
     ensures within { IfSome result (λ at. at < length text.now) }
@@ -15,7 +14,7 @@ pub fn find_byte(text: &[u8], byte: u8) -> Option<usize>
     text.iter().position(|b| *b == byte)
 }
 
-/// The number that digits write, or 2^53 where it is larger.
+/// Parses a decimal number, capped at 2^53.
 #[tactic(auto, using(crate::proofs::Digits::capped_more, crate::proofs::Digits::digit_here))]
 pub fn parse_capped(digits: &[u8]) -> u64
     requires { all_ascii_digits digits.now ≡ true }

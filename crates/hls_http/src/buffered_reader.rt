@@ -1,4 +1,4 @@
-//! A reader with the bytes that were read of it and not yet taken.
+//! A reader with a buffer of the bytes that were read and not yet taken.
 
 ghost use Rattle.std.specs.Prelude.{◌≡◌, ◌≢◌, ◌<◌, ◌≤◌, length, take, drop, IfOk};
 
@@ -7,12 +7,12 @@ use hls_io::Counted;
 use std::alloc::{AllocError, Global};
 use std::io::Read;
 
-/// A counted reader and its input: the bytes that were read and not yet taken are held, and those that were taken last
-/// are still there.
+/// A counted reader and its input buffer, which holds the bytes that were read and not yet taken. The bytes that were taken last are
+/// still available.
 #[derive(Drop)]
 pub struct BufferedReader<R> {
     reader: Counted<R>,
-    /// What was read of it and not yet taken, and what was taken last.
+    /// The bytes that were read and not yet taken, and those that were taken last.
     pub input: InputBuffer,
     ghost whole: { input.room ≡ 65536 },
 }
@@ -20,7 +20,7 @@ pub struct BufferedReader<R> {
 impl<R: Drop> BufferedReader<R> {
     ghost use Rattle.hls_http.specs.BufferedReader.{IsFresh};
 
-    /// The reader with nothing held. Memory is taken for the buffer, and never again.
+    /// Wraps a reader, with nothing held. Allocates the buffer; nothing is allocated later.
     pub fn new(alloc: Global, reader: R) -> Result<BufferedReader<R>, AllocError>
         ensures { IfOk result (IsFresh reader) }
     {
@@ -35,14 +35,14 @@ impl<R: Drop> BufferedReader<R> {
 impl<R> BufferedReader<R> {
     ghost use Rattle.hls_http.specs.BufferedReader.{unread_of, taken_of};
 
-    /// The bytes that were read and not yet taken.
+    /// Returns the bytes that were read and not yet taken.
     pub fn unread(&self) -> &[u8]
         ensures { result.now ≡ unread_of self.now }
     {
         self.input.unread()
     }
 
-    /// The bytes that were taken last: a head, or a piece of a body.
+    /// Returns the bytes that were taken last: a head, or a piece of a body.
     pub fn last_taken(&self) -> &[u8]
         ensures taken { result.now ≡ taken_of self.now }
         ensures few { length result.now ≤ 65536 }
@@ -50,7 +50,7 @@ impl<R> BufferedReader<R> {
         self.input.last_taken()
     }
 
-    /// Takes so many of the held bytes.
+    /// Takes `len` of the held bytes.
     pub fn consume(&mut self, len: usize)
         requires { len ≤ length (unread_of self.old) }
         ensures held { unread_of self.new ≡ drop len (unread_of self.old) }
@@ -62,10 +62,9 @@ impl<R> BufferedReader<R> {
 }
 
 impl<R: Read> BufferedReader<R> {
-    ghost use Rattle.hls_http.specs.Input.{CountsFill, ReadsMore};
-    ghost use Rattle.hls_http.specs.BufferedReader.{unread_of, read_failures, reader_of, reads_left};
+    ghost use Rattle.hls_http.specs.{Input.{CountsFill, ReadsMore}, BufferedReader.{unread_of, read_failures, reader_of, reads_left}};
 
-    /// Reads once, behind the held bytes.
+    /// Reads once, and appends to the held bytes.
     pub fn read_more(&mut self) -> ReadOutcome
         requires { length (unread_of self.old) < 65536 }
         ensures reads { ReadsMore (unread_of self.old) (unread_of self.new) (R.remaining (reader_of self.old)) (R.remaining (reader_of self.new)) result }

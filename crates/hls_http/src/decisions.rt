@@ -1,28 +1,27 @@
-//! What is done with a request once its head was read, in the order of the fields, the path and the body.
+//! What to do with a request once its head is read, by its fields, its path and its body, in that order.
 
 ghost use Rattle.std.specs.Prelude.{◌≡◌, ◌≤◌, List, ℕ};
 ghost use Rattle.httparse.specs.Grammar.{RequestHead};
-ghost use Rattle.hls_http_laws.specs.Actions as spec;
-ghost use Rattle.hls_http_laws.specs.Requests.{framing_of_head};
-ghost use Rattle.hls_http.specs.ReadHeads.{IsHead};
+ghost use Rattle.hls_http.specs.{Requests.framing_of_head, ReadHeads.IsHead};
+ghost use Rattle.hls_http.specs.Actions as spec;
 
+use crate::fault::HttpFault;
+use crate::framing::BodyFraming;
 use crate::head::ParsedHead;
+use crate::limits::MOST_DISCARDED;
 use crate::remaining::announced_len;
-use hls_http_laws::fault::HttpFault;
-use hls_http_laws::framing::BodyFraming;
-use hls_http_laws::limits::MOST_DISCARDED;
-use hls_http_laws::request_action::RequestAction;
+use crate::request_action::RequestAction;
 
-/// Whether nothing of a body is still to come.
+/// Whether the body has been read to its end.
 pub fn is_over(body: BodyFraming) -> bool
     ensures { result ≡ spec.is_over body }
 {
     matches!(body, BodyFraming::Length(0))
 }
 
-/// What is done with a request, by whether its path is known, and whether the route takes its body part by part: the
-/// fields' fault comes first, then an unknown path, then a Content-Length past 65536 bytes of a body to be dropped. So
-/// of a body to be dropped no more are [announced](crate::announced_len).
+/// Decides what to do with a request, given whether its path is known and whether the route ingests its body in parts. A fault of the
+/// fields comes first, then an unknown path, then a discarded body whose Content-Length exceeds 65536 bytes. So a discarded body
+/// never has more bytes [announced](crate::remaining::announced_len).
 pub fn decide_action(head: &ParsedHead, known: bool, ingests: bool) -> RequestAction
     ensures action { (h : RequestHead) (text : List ℕ) → IsHead h head.now text → result ≡ spec.action_by (framing_of_head h) known ingests }
     ensures by { result ≡ spec.action_by head.now.body known ingests }
@@ -38,7 +37,7 @@ pub fn decide_action(head: &ParsedHead, known: bool, ingests: bool) -> RequestAc
     RequestAction::Refuse { fault, closing }
 }
 
-/// Whether 100 Continue goes out before the body is read (RFC 9110 10.1.1).
+/// Whether 100 Continue is sent before the body is read (RFC 9110 10.1.1).
 pub fn sends_continue(head: &ParsedHead, action: RequestAction) -> bool
     ensures { (h : RequestHead) (text : List ℕ) → IsHead h head.now text → result ≡ spec.sends_continue h action }
 {
@@ -49,8 +48,8 @@ pub fn sends_continue(head: &ParsedHead, action: RequestAction) -> bool
     }
 }
 
-/// Whether a reply says `Connection: close`: where it is given early, before the body was read to its end, or where
-/// the request asks for it (RFC 9112 9.6).
+/// Whether the reply says `Connection: close`: it is sent early, before the body was read to its end, or the request asks for it (RFC
+/// 9112 9.6).
 pub fn sends_close(head: &ParsedHead, early: bool) -> bool
     ensures { (h : RequestHead) (text : List ℕ) → IsHead h head.now text → result ≡ spec.sends_close h early }
 {

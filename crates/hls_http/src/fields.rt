@@ -1,21 +1,20 @@
-//! What the fields of a head say.
+//! The header fields that matter for framing, for the connection, for ranges and for waiting.
 
 ghost use Rattle.std.specs.Prelude.{◌≡◌, length, All, option_map, codes};
 ghost use Rattle.httparse.specs.Spans.{IsHeaderWithin, header_bytes};
-ghost use Rattle.hls_http_laws.specs.Fields.{closes_connection, expects, has_word, is_word, length_of, values};
-ghost use Rattle.hls_http_laws.specs.Framing.{checked_framing, is_chunked, has_host, framing_of_lengths};
-ghost use Rattle.hls_http_laws.specs.Range.{range_of_values};
+ghost use Rattle.hls_http.specs.{Fields.{closes_connection, expects, has_word, is_word, length_of, values, wait_of_value, wait_of_values}, Range.range_of_values};
+ghost use Rattle.hls_http.specs.Framing.{checked_framing, is_chunked, has_host, framing_of_lengths};
 ghost use Rattle.hls_http.specs.Values.{IsSingleField, NextValue, fields_at, named_value, values_from};
 
+use crate::fault::HttpFault;
+use crate::framing::BodyFraming;
+use crate::limits::MOST_LENGTH_DIGITS;
 use crate::range_field::parse_range;
-use hls_http_laws::fault::HttpFault;
-use hls_http_laws::framing::BodyFraming;
-use hls_http_laws::limits::MOST_LENGTH_DIGITS;
-use hls_http_laws::range_spec::RangeSpec;
+use crate::range_spec::RangeSpec;
 use hls_text::parse_digits;
 use httparse::spans::HeaderSpan;
 
-/// The value of a field, where it has this name.
+/// Returns the value of a field, if it has this name.
 fn value_named<'a>(text: &'a [u8], header: &HeaderSpan, name: &[u8]) -> Option<&'a [u8]>
     requires { IsHeaderWithin (length text.now) header.now }
     ensures { option_map (λ v. v.now) result ≡ named_value name.now (header_bytes text.entry.now header.now) }
@@ -27,7 +26,7 @@ fn value_named<'a>(text: &'a [u8], header: &HeaderSpan, name: &[u8]) -> Option<&
     }
 }
 
-/// The first value of this name among the fields from one on, and the number of the field behind it.
+/// Returns the first value of this name among the fields from an index on, and the index after that field.
 #[tactic(auto, using(crate::proofs::Values::none_comes, crate::proofs::Values::none_left, crate::proofs::Values::value_comes))]
 fn find_value<'a>(
     text: &'a [u8],
@@ -46,7 +45,7 @@ fn find_value<'a>(
     None
 }
 
-/// The value of a field that should stand once.
+/// The value of a field that must occur at most once.
 #[derive(Clone, Copy)]
 enum SingleField<'a> {
     Missing,
@@ -67,7 +66,7 @@ fn find_single_field<'a>(text: &'a [u8], headers: &[HeaderSpan], name: &[u8]) ->
     }
 }
 
-/// By the first value of Content-Length, and those among the fields from one on: several equal lengths count as one.
+/// Parses Content-Length from its first value and those among the fields from an index on; equal lengths count as one.
 fn parse_equal_lengths(
     text: &[u8],
     headers: &[HeaderSpan],
@@ -101,14 +100,14 @@ fn has_host(text: &[u8], headers: &[HeaderSpan], minor: u8) -> bool
         )
 }
 
-/// Whether this is the one coding that is known, which HTTP/1.1 has.
+/// Whether this is `chunked`, the only coding that is supported, in HTTP/1.1.
 fn is_chunked_coding(coding: &[u8], minor: u8) -> bool
     ensures { result ≡ is_chunked minor coding.now }
 {
     minor == 1 && coding.eq_ignore_ascii_case(b"chunked")
 }
 
-/// Where the body begins, or the first fault of the fields: the Host, and then the framing.
+/// Returns the framing of the body, or the first fault of the fields: Host first, then the framing.
 pub fn parse_framing(
     text: &[u8],
     headers: &[HeaderSpan],
@@ -135,7 +134,7 @@ pub fn parse_framing(
     }
 }
 
-/// Whether some Expect waits for 100 Continue.
+/// Whether an Expect field asks for 100 Continue.
 pub fn expects_continue(text: &[u8], headers: &[HeaderSpan], minor: u8) -> bool
     requires { All (IsHeaderWithin (length text.now)) headers.now }
     ensures { result ≡ expects minor (fields_at text.now headers.now) }
@@ -153,14 +152,14 @@ pub fn expects_continue(text: &[u8], headers: &[HeaderSpan], minor: u8) -> bool
     false
 }
 
-/// Whether this is the word, in any case, with blanks around it or without.
+/// Whether the text is this token, in any case, with or without blanks around it.
 fn is_token_in(piece: &[u8], word: &[u8]) -> bool
     ensures { result ≡ is_word word.now piece.now }
 {
     piece.trim_ascii().eq_ignore_ascii_case(word)
 }
 
-/// Whether a list of words between commas has this one, in any case.
+/// Whether a comma-separated list contains this token, in any case.
 fn has_token(value: &[u8], word: &[u8]) -> bool
     ensures { result ≡ has_word word.now value.now }
 {
@@ -169,7 +168,7 @@ fn has_token(value: &[u8], word: &[u8]) -> bool
         .any(|piece| is_token_in(piece, word))
 }
 
-/// Whether the connection ends with this request.
+/// Whether the connection ends after this request.
 pub fn closes_connection(text: &[u8], headers: &[HeaderSpan], minor: u8) -> bool
     requires { All (IsHeaderWithin (length text.now)) headers.now }
     ensures { result ≡ closes_connection minor (fields_at text.now headers.now) }
@@ -187,7 +186,7 @@ pub fn closes_connection(text: &[u8], headers: &[HeaderSpan], minor: u8) -> bool
     false
 }
 
-/// What the Range asks for.
+/// Returns the range that the Range field asks for.
 pub fn parse_range_field(text: &[u8], headers: &[HeaderSpan]) -> RangeSpec
     requires { All (IsHeaderWithin (length text.now)) headers.now }
     ensures { result ≡ range_of_values (values (codes "range") (fields_at text.now headers.now)) }
@@ -195,5 +194,27 @@ pub fn parse_range_field(text: &[u8], headers: &[HeaderSpan]) -> RangeSpec
     match find_single_field(text, headers, b"range") {
         SingleField::One(value) => parse_range(value),
         _ => RangeSpec::All,
+    }
+}
+
+/// Parses the value of a Prefer field (RFC 7240 4.3): `wait=S`, in seconds; any other form is ignored.
+#[tactic(auto, unfolding(crate::specs::Fields::wait_of_value))]
+fn parse_wait(value: &[u8]) -> Option<u64>
+    ensures { result ≡ wait_of_value value.now }
+{
+    let Some(digits) = value.strip_prefix(b"wait=") else {
+        return None;
+    };
+    parse_digits(digits, MOST_LENGTH_DIGITS)
+}
+
+/// Returns how many seconds the Prefer field lets the response wait; `None` if it says nothing of that.
+pub fn parse_wait_field(text: &[u8], headers: &[HeaderSpan]) -> Option<u64>
+    requires { All (IsHeaderWithin (length text.now)) headers.now }
+    ensures { result ≡ wait_of_values (values (codes "prefer") (fields_at text.now headers.now)) }
+{
+    match find_single_field(text, headers, b"prefer") {
+        SingleField::One(value) => parse_wait(value),
+        _ => None,
     }
 }

@@ -1,63 +1,66 @@
 //! Heads of requests.
 
 ghost use Rattle.std.specs.Prelude.{take};
-ghost use Rattle.httparse.specs.Grammar.{RequestHead};
-ghost use Rattle.httparse.specs.Spans.{IsRequestAt, IsRequestWithin};
+ghost use Rattle.httparse.specs.{Grammar.RequestHead, Spans.{IsRequestAt, IsRequestWithin}};
 ghost use Rattle.hls_http.specs.ReadHeads.{FindsHead, IsHead};
 
-use crate::fields::{closes_connection, expects_continue, parse_framing, parse_range_field};
-use hls_http_laws::fault::HttpFault;
-use hls_http_laws::framing::BodyFraming;
-use hls_http_laws::limits::{MOST_FIELDS, MOST_HEAD};
-use hls_http_laws::method::Method;
-use hls_http_laws::range_spec::RangeSpec;
+use crate::fault::HttpFault;
+use crate::fields::{
+    closes_connection, expects_continue, parse_framing, parse_range_field, parse_wait_field,
+};
+use crate::framing::BodyFraming;
+use crate::limits::{MOST_FIELDS, MOST_HEAD};
+use crate::method::Method;
+use crate::range_spec::RangeSpec;
 use httparse::spans::{EMPTY_HEADER_SPAN, HeaderSpan, RequestSpans, Span, parse_request};
 use httparse::{Error, Status};
 
-/// What a head says, as far as it matters here. Its text is what the source has taken last.
+/// The parts of a request head that matter here. The head's text is what the source has taken last.
 #[derive(Clone, Copy)]
 pub struct ParsedHead {
-    /// The method.
+    /// The request method.
     pub method: Method,
-    /// Where the target stands in the head's text.
+    /// The range of the request target in the head's text.
     pub target: Span,
-    /// Where the body begins; BadHead where the Host is wrong, else BadFraming where its length can't be told.
+    /// The framing of the body; BadHead if the Host is wrong, else BadFraming if the body's length can't be determined.
     pub body: Result<BodyFraming, HttpFault>,
-    /// Whether 100 Continue is waited for.
+    /// Whether the client waits for 100 Continue.
     pub expects: bool,
-    /// Whether the connection ends with this request.
+    /// Whether the connection ends after this request.
     pub closes: bool,
-    /// What its Range asks for.
+    /// What its Range field asks for.
     pub range: RangeSpec,
+    /// How many seconds its Prefer field lets the response wait; none if it says nothing of that.
+    pub wait: Option<u64>,
 }
 
-/// Why a text shows no head.
+/// Why a text doesn't begin with a head.
 #[derive(Clone, Copy, Drop)]
 pub enum HeadFault {
     /// More bytes are needed.
     Partial,
-    /// No bytes can follow that make it a head.
+    /// No following bytes make it a head.
     Invalid,
-    /// It is past the limits.
+    /// It exceeds the limits.
     TooLarge,
 }
 
-/// Why no head comes.
+/// Why no head could be read.
 #[derive(Clone, Copy, Debug, PartialEq, Eq, Drop)]
 pub enum HeadEnd {
     /// The input ended between two requests.
     Closed,
     /// The input ended inside a head.
     CutShort,
-    /// What was read can't become a head.
+    /// The bytes can't become a head.
     BadHead,
-    /// More than 16384 bytes or 64 fields.
+    /// The head exceeds 16384 bytes or 64 fields.
     HeadTooLarge,
     /// A read failed, and was counted.
     ReadFailed,
 }
 
-/// What is kept of a head whose parts were found.
+/// Summarizes a head from its spans.
 fn summarize_head(text: &[u8], headers: &[HeaderSpan], spans: &RequestSpans) -> ParsedHead
     requires within { IsRequestWithin text.now headers.now spans.now }
     ensures { (h : RequestHead) → IsRequestAt text.now headers.now spans.now h → IsHead h result (take spans.now.len text.now) }
@@ -71,10 +74,11 @@ fn summarize_head(text: &[u8], headers: &[HeaderSpan], spans: &RequestSpans) -> 
         expects: expects_continue(text, found, minor),
         closes: closes_connection(text, found, minor),
         range: parse_range_field(text, found),
+        wait: parse_wait_field(text, found),
     }
 }
 
-/// The head at the front of a text, and its length with that of the empty lines before it. No memory is taken.
+/// Finds the head at the front of a text, and its length including the empty lines before it. Doesn't allocate.
 #[tactic(auto, using(crate::proofs::HeadLaws::head_past, crate::proofs::HeadLaws::partial_past))]
 pub fn find_head(text: &[u8]) -> Result<(ParsedHead, usize), HeadFault>
     ensures { FindsHead text.now result }

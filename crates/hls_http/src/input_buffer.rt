@@ -1,4 +1,4 @@
-//! What was read of a connection and not yet taken.
+//! The buffer of a connection's input: bytes that were read and not yet taken.
 
 ghost use Rattle.std.specs.Prelude.{◌≡◌, ◌≢◌, ◌<◌, ◌≤◌, ◌==◌, length, take, drop, slice_range, IfOk, OnOk, OnErr};
 ghost use Rattle.std.specs.Io.KnownBytes.{Consumes, IsAtEnd, Keeps};
@@ -11,38 +11,38 @@ use std::io;
 use std::io::Read;
 use std::marker::Model;
 
-/// The most that an input's buffer holds, above every limit of what must be held as a whole.
+/// The maximum size of an input buffer; it exceeds the limit of everything that must be held as a whole.
 pub const BUFFER: usize = 65536;
 
-/// What a buffer holds that is made for a first read.
+/// The size of a buffer that is allocated for a first read.
 const FIRST: usize = 1024;
 
-/// What stands in a buffer's room before a read: copied at once, where setting one byte after the other took a twelfth of a list's time.
+/// The contents of new room before a read. It is copied at once: setting byte after byte took a twelfth of the time of a playlist.
 const ZEROS: [u8; BUFFER] = [0; BUFFER];
 
-/// What one read brought.
+/// What one read yielded.
 #[derive(Clone, Copy, Drop)]
 pub enum ReadOutcome {
     /// Some bytes.
     Data,
     /// The end of the input.
     Eof,
-    /// Nothing: the read failed, and was counted.
+    /// The read failed, and was counted; nothing was read.
     Failed,
 }
 
-/// What was read and not yet taken, and what was taken last. A clause sees these two texts, and for how many bytes there is room.
+/// The bytes that were read and not yet taken, and those that were taken last. Clauses see these two texts, and the room left.
 ///
-/// They stand in one buffer. It may hold 65536 bytes from the beginning on, so that no read wants memory; or it is made where more
-/// is to be read, grows where a read has filled it, and is given back where nothing is unread.
+/// Both are in one buffer. Either it has 65536 bytes from the start, so that no read allocates; or it is allocated for the next read,
+/// grows after a read has filled it, and is freed once nothing is unread.
 #[derive(Drop)]
 pub struct InputBuffer {
     buffer: Vec<u8>,
-    /// Where the text that was taken last begins.
+    /// Where the bytes that were taken last begin.
     from: usize,
-    /// Where it ends, and what is unread begins.
+    /// Where they end, and the unread bytes begin.
     start: usize,
-    /// Where that ends.
+    /// Where the unread bytes end.
     end: usize,
 }
 
@@ -61,7 +61,7 @@ impl Model for InputBuffer {
     ghost invariant = { λ i. (i.from ≤ i.start) × (i.start ≤ i.end) × (i.end ≤ vec_len i.buffer) × (vec_len i.buffer ≤ 65536) };
 }
 
-/// So many zeros. No other function sees the table itself, whose bytes a proof would go through.
+/// Returns `count` zeros. No other function sees the table itself, since a proof would go through its bytes.
 fn zeros(count: usize) -> &'static [u8]
     requires { count ≤ 65536 }
     ensures { length result.now ≡ count }
@@ -69,8 +69,8 @@ fn zeros(count: usize) -> &'static [u8]
     &ZEROS[..count]
 }
 
-/// Makes room behind what stands from one place of the buffer to another, and says where it then stands. It is moved to the
-/// buffer's front only where there is no room, or nothing stands there.
+/// Makes room after a range of the buffer, and returns where the range then is. It is moved to the front of the buffer only if there
+/// is no room after it, or if it is empty.
 fn make_room(buffer: &mut [u8], start: usize, end: usize) -> (usize, usize)
     requires ordered { start ≤ end }
     requires within { end ≤ length buffer.old }
@@ -86,7 +86,7 @@ fn make_room(buffer: &mut [u8], start: usize, end: usize) -> (usize, usize)
     (0, end - start)
 }
 
-/// Reads behind the first `end` bytes, and passes on what the reader says.
+/// Reads into the buffer after its first `end` bytes, and returns what the reader returns.
 fn read_into_room<R: Read>(reader: &mut R, buffer: &mut [u8], end: usize) -> io::Result<usize>
     requires { end < length buffer.old }
     ensures front { take end buffer.new ≡ take end buffer.old }
@@ -98,8 +98,7 @@ fn read_into_room<R: Read>(reader: &mut R, buffer: &mut [u8], end: usize) -> io:
     reader.read(&mut buffer[end..])
 }
 
-/// Reads once behind what stands from one place of the buffer to another, passes on what the reader says, and says where all of it
-/// then stands.
+/// Reads once into the buffer after a range, and returns what the reader returns and where the extended range then is.
 fn read_after_unread<R: Read>(
     reader: &mut R,
     buffer: &mut [u8],
@@ -123,7 +122,7 @@ fn read_after_unread<R: Read>(
 impl InputBuffer {
     ghost use Rattle.hls_http.specs.Buffers.{texts_after_consume, no_texts};
 
-    /// Nothing yet. Memory is taken for the whole buffer, and never again.
+    /// Returns an empty buffer. Allocates its full size; nothing is allocated later.
     pub fn new(alloc: Global) -> Result<InputBuffer, AllocError>
         ensures { IfOk result (λ input. input ≡ no_texts 65536) }
     {
@@ -136,7 +135,7 @@ impl InputBuffer {
         })
     }
 
-    /// Nothing yet, and no room. No memory is taken before it is asked for.
+    /// Returns an empty buffer without room. Doesn't allocate until room is reserved.
     pub fn empty(alloc: Global) -> InputBuffer
         ensures { result ≡ no_texts 0 }
     {
@@ -148,9 +147,8 @@ impl InputBuffer {
         }
     }
 
-    /// Makes room for a read. The buffer is made where there is none, and grows to four times as much, up to 65536 bytes, where the
-    /// last read has filled it: then more is likely to be there than it takes at once. Where memory is wanted for a read, nothing
-    /// has changed.
+    /// Makes room for a read. The buffer is allocated if there is none, and grows fourfold, up to 65536 bytes, if the last read
+    /// filled it: then more input is likely to be available than fits at once. On an allocation failure nothing has changed.
     pub fn reserve(&mut self) -> Result<(), AllocError>
         requires { length self.old.unread < 65536 }
         ensures unread { self.new.unread ≡ self.old.unread }
@@ -169,7 +167,7 @@ impl InputBuffer {
         grown
     }
 
-    /// Gives the buffer back where nothing is unread.
+    /// Frees the buffer if nothing is unread.
     pub fn release(&mut self)
         ensures unread { self.new.unread ≡ self.old.unread }
         ensures empty { length self.old.unread ≡ 0 → self.new ≡ no_texts 0 }
@@ -184,7 +182,7 @@ impl InputBuffer {
         self.buffer.shrink_to_fit();
     }
 
-    /// The bytes that were read and not yet taken.
+    /// Returns the bytes that were read and not yet taken.
     pub fn unread(&self) -> &[u8]
         ensures unread { result.now ≡ self.now.unread }
         ensures few { length result.now ≤ 65536 }
@@ -192,7 +190,7 @@ impl InputBuffer {
         &self.buffer[self.start..self.end]
     }
 
-    /// The bytes that were taken last, if nothing was read since.
+    /// Returns the bytes that were taken last, if nothing was read since.
     pub fn last_taken(&self) -> &[u8]
         ensures taken { result.now ≡ self.now.taken }
         ensures few { length result.now ≤ 65536 }
@@ -207,7 +205,7 @@ impl InputBuffer {
         self.end - self.start == BUFFER
     }
 
-    /// Takes so many of the unread bytes.
+    /// Takes `len` of the unread bytes.
     pub fn consume(&mut self, len: usize)
         requires { len ≤ length self.old.unread }
         ensures { self.new ≡ texts_after_consume self.old len }
@@ -216,7 +214,7 @@ impl InputBuffer {
         self.start += len;
     }
 
-    /// Reads once, behind the unread bytes, and passes on what the reader says: none is the end; after an error nothing has changed.
+    /// Reads once, appends to the unread bytes, and returns what the reader returns: 0 is the end; after an error nothing has changed.
     pub fn read_some<R: Read>(&mut self, reader: &mut R) -> io::Result<usize>
         requires { length self.old.unread < self.old.room }
         ensures appends { IsAppended self.old.unread self.new.unread (R.remaining reader.old) (R.remaining reader.new) result }
@@ -230,7 +228,7 @@ impl InputBuffer {
         read
     }
 
-    /// Reads once, behind the unread bytes.
+    /// Reads once, and appends to the unread bytes.
     pub fn read_from<R: Read>(&mut self, reader: &mut Counted<R>) -> ReadOutcome
         requires { length self.old.unread < self.old.room }
         ensures room { self.new.room ≡ self.old.room }

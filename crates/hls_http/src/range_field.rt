@@ -1,13 +1,13 @@
 //! Byte ranges.
 
 ghost use Rattle.std.specs.Prelude.{◌≡◌};
-ghost use Rattle.hls_http_laws.specs.Range.{range_of_value, by_texts, range_selection, slice_from};
+ghost use Rattle.hls_http.specs.Range.{range_of_value, by_texts, range_selection, slice_from};
 
 use crate::bounded_digits::{find_byte, parse_capped};
-use hls_http_laws::range_spec::{RangeSelection, RangeSpec};
+use crate::range_spec::{RangeSelection, RangeSpec};
 use hls_text::are_digits;
 
-/// What two texts of digits around a hyphen ask for; either may be empty.
+/// Parses the digits before and after the hyphen; either text may be empty.
 fn parse_range_parts(front: &[u8], following: &[u8]) -> RangeSpec
     ensures { result ≡ by_texts front.now following.now }
 {
@@ -24,9 +24,8 @@ fn parse_range_parts(front: &[u8], following: &[u8]) -> RangeSpec
     }
 }
 
-/// What the value of a Range field asks for (RFC 9110 14.1.2): `bytes=a-b`, `bytes=a-` or `bytes=-n`; every other
-/// form is ignored.
-#[tactic(auto, unfolding(hls_http_laws::specs::Range::range_of_value))]
+/// Parses the value of a Range field (RFC 9110 14.1.2): `bytes=a-b`, `bytes=a-` or `bytes=-n`; any other form is ignored.
+#[tactic(auto, unfolding(crate::specs::Range::range_of_value))]
 pub fn parse_range(value: &[u8]) -> RangeSpec
     ensures { result ≡ range_of_value value.now }
 {
@@ -39,7 +38,7 @@ pub fn parse_range(value: &[u8]) -> RangeSpec
     parse_range_parts(&spec[..hyphen], &spec[hyphen + 1..])
 }
 
-/// From an offset on, at most so many bytes of a total; none where the offset is at or past the total.
+/// Selects at most `len` bytes from an offset on; `Outside` if the offset is at or past the total.
 fn clamp_range(total: u64, from: u64, len: u64) -> RangeSelection
     ensures { result ≡ slice_from total from len }
 {
@@ -53,7 +52,7 @@ fn clamp_range(total: u64, from: u64, len: u64) -> RangeSelection
     }
 }
 
-/// The part of a resource of `total` bytes that is asked for.
+/// Selects the part of a resource of `total` bytes that a range asks for.
 pub fn select_range(range: RangeSpec, total: u64) -> RangeSelection
     ensures { result ≡ range_selection range total }
 {

@@ -1,11 +1,11 @@
-//! Bodies that are dropped.
+//! Bodies that are discarded.
 
 ghost use Rattle.std.specs.Prelude.{◌≡◌};
-ghost use Rattle.hls_http_laws.specs.Actions.{announced_len};
+ghost use Rattle.hls_http.specs.Actions.{announced_len};
 
-use hls_http_laws::framing::BodyFraming;
+use crate::framing::BodyFraming;
 
-/// The bytes of a body that are known to be still to come.
+/// Returns how many bytes of a body are known to be still to come.
 pub fn announced_len(body: BodyFraming) -> u64
     ensures { result ≡ announced_len body }
 {

@@ -1,14 +1,14 @@
-//! Replies: a head is one text, made before the first write.
+//! Replies; a head is made as one text before the first write.
 
-ghost use Rattle.std.specs.Prelude.{◌≡◌, ◌++◌, IfOk};
-ghost use Rattle.std.specs.Fmt.{decimal};
-ghost use Rattle.hls_http_laws.specs.ResponseText.{close_line, content_lines, crlf, extra_line, head_text_of, refusal_body, response_text, status_line, type_line};
+ghost use Rattle.std.specs.{Prelude.{◌≡◌, ◌++◌, IfOk}, Fmt.decimal};
+ghost use Rattle.hls_http.specs.ResponseText.{close_line, content_lines, crlf, extra_line, head_text_of, refusal_body, response_text, status_line, type_line};
 
-use hls_http_laws::response_parts::{ContentType, ExtraField, ResponseParts, Status};
-use hls_output::{MAX_GATHERED_BYTES, Resource, ResourceRange, SendBuffer};
+use crate::response_parts::{ContentType, ExtraField, ResponseParts, Status};
+use hls_io::{MAX_GATHERED_BYTES, Resource, ResourceRange, SendBuffer};
+use hls_text::push_number;
 use std::alloc::{AllocError, Global};
 
-/// Room for most heads, taken at once.
+/// The initial capacity of a head, which suffices for most.
 const HEAD_ROOM: usize = 256;
 
 fn status_text(status: Status) -> &'static [u8]
@@ -42,7 +42,7 @@ fn type_text(kind: ContentType) -> &'static [u8]
     }
 }
 
-/// Adds a number between two texts.
+/// Appends a number between two texts.
 fn push_number_between(
     out: &mut Vec<u8>,
     front: &[u8],
@@ -52,7 +52,7 @@ fn push_number_between(
     ensures { IfOk result (λ done. out.new.items ≡ out.old.items ++ (front.now ++ (decimal number ++ back.now))) }
 {
     out.extend_from_slice(front)?;
-    out.extend_from_slice(itoa::Buffer::new().format(number).as_bytes())?;
+    push_number(out, number)?;
     out.extend_from_slice(back)
 }
 
@@ -97,7 +97,7 @@ fn push_extra(out: &mut Vec<u8>, extra: ExtraField<'_>) -> Result<(), AllocError
     }
 }
 
-/// The end of a head.
+/// Returns the end of a head.
 fn end_text(closing: bool) -> &'static [u8]
     ensures { result.now ≡ close_line closing ++ crlf }
 {
@@ -108,7 +108,7 @@ fn end_text(closing: bool) -> &'static [u8]
     }
 }
 
-/// The text of a reply's head, as of [`write_head`], in memory that has room for so many bytes behind it.
+/// Writes the text of a reply's head, as [`write_head`] does, with capacity for the given number of bytes after it.
 fn write_head_with_room(
     alloc: Global,
     head: &ResponseParts<'_>,
@@ -125,16 +125,16 @@ fn write_head_with_room(
     Ok(out)
 }
 
-/// The text of a reply's head, whose content has so many bytes: status line, Content-Type, Content-Length, then
-/// Content-Range, Location or Allow, then Connection, and the empty line.
+/// Writes the text of a reply's head, for a content of `len` bytes: status line, Content-Type, Content-Length, then Content-Range,
+/// Location or Allow, then Connection, and the empty line.
 pub fn write_head(alloc: Global, head: &ResponseParts<'_>, len: u64) -> Result<Vec<u8>, AllocError>
     ensures { IfOk result (λ v. v.items ≡ head_text_of head.now len) }
 {
     write_head_with_room(alloc, head, len, 0)
 }
 
-/// A reply whose content is a part of a resource, to be sent as the resource's own slices; to HEAD without it. Memory is taken
-/// for the head, and for as many bytes of small slices as go out at once.
+/// Makes a reply whose content is a part of a resource, which is sent as the resource's own slices; a reply to HEAD has none.
+/// Allocates the head, and room for as many bytes of small slices as are sent at once.
 pub fn make_response<M: Resource + Drop>(
     alloc: Global,
     head: &ResponseParts<'_>,
@@ -153,7 +153,7 @@ pub fn make_response<M: Resource + Drop>(
     Ok(SendBuffer::from_range(text, content))
 }
 
-/// The body of a refusal: its name.
+/// Returns the body of a refusal: its name.
 pub fn refusal_body(alloc: Global, name: &str) -> Result<Vec<u8>, AllocError>
     ensures { IfOk result (λ v. v.items ≡ refusal_body name.now) }
 {

@@ -1,23 +1,19 @@
-//! A session: the requests that come of a reader, and the replies that go to a writer.
+//! A session: requests from a reader, and replies to a writer.
 
 ghost use Rattle.std.specs.Prelude.{◌≡◌};
-ghost use Rattle.hls_io.specs.{Counted.failures_of, Streams.RelatesOutput};
-ghost use Rattle.hls_io.specs.Writing.{CountsWrite, Writes};
-ghost use Rattle.hls_http.specs.ReadBodies.{CountsBody, ReadsPiece};
-ghost use Rattle.hls_http.specs.ReadHeads.{CountsHead, ReadsHead};
-ghost use Rattle.hls_http.specs.Responses.{WritesResponse, CountsResponse};
-ghost use Rattle.hls_http.specs.BufferedReader.{FromSource, read_failures, taken_of};
+ghost use Rattle.hls_io.specs.{Counted.failures_of, Streams.RelatesOutput, Writing.{CountsWrite, Writes}};
+ghost use Rattle.hls_http.specs.{ReadBodies.{CountsBody, ReadsPiece}, ReadHeads.{CountsHead, ReadsHead}};
+ghost use Rattle.hls_http.specs.{Responses.{WritesResponse, CountsResponse}, BufferedReader.{FromSource, read_failures, taken_of}};
 
 use crate::body_tokens::{BodyRead, BodyToken, TokenFault, find_token};
 use crate::buffered_reader::BufferedReader;
+use crate::end::{BodyEnd, SessionEnd};
+use crate::framing::BodyFraming;
 use crate::head::{HeadEnd, HeadFault, ParsedHead, find_head};
 use crate::input_buffer::ReadOutcome;
 use crate::response::make_response;
-use hls_http_laws::end::{BodyEnd, SessionEnd};
-use hls_http_laws::framing::BodyFraming;
-use hls_http_laws::response_parts::{ResponseParts, out_of_memory_response};
-use hls_io::{Counted, write_whole};
-use hls_output::{Resource, SendBuffer, TextResource};
+use crate::response_parts::{ResponseParts, out_of_memory_response};
+use hls_io::{Counted, Resource, SendBuffer, TextResource, write_whole};
 use std::alloc::{AllocError, Global};
 use std::io::{Read, Write};
 
@@ -34,8 +30,8 @@ impl<R: Drop, W: Drop> Session<R, W> {
     ghost use Rattle.std.specs.Prelude.{IfOk};
     ghost use Rattle.hls_http.specs.BufferedReader.{IsNew};
 
-    /// A session of which nothing was read or written. Memory is taken for the buffer of 65536 bytes, and never again
-    /// but for the heads of replies.
+    /// Creates a session with nothing read and nothing written. Allocates the buffer of 65536 bytes; later only the heads of replies
+    /// are allocated.
     pub fn new(alloc: Global, reader: R, writer: W) -> Result<Session<R, W>, AllocError>
         ensures { IfOk result (IsNew reader writer) }
     {
@@ -48,8 +44,8 @@ impl<R: Drop, W: Drop> Session<R, W> {
 }
 
 impl<R: Read, W> Session<R, W> {
-    /// Takes the next head, reading as much as it needs. The head's text is then what the source has taken last, with
-    /// empty lines that stood before it. Nothing is taken on any error. No memory is taken.
+    /// Reads the next head, with as many reads as it needs. The source has then taken the head's text last, with the empty lines
+    /// before it. On any error nothing is taken. Doesn't allocate.
     #[tactic(auto, using(crate::proofs::HeadLaws::heard_ok))]
     pub fn next_head(&mut self) -> Result<ParsedHead, HeadEnd>
         ensures reads_head { FromSource R.remaining self.old.source self.new.source (λ input. ReadsHead input (taken_of self.new.source)) result }
@@ -75,9 +71,9 @@ impl<R: Read, W> Session<R, W> {
         }
     }
 
-    /// Takes the next piece of a body, reading as much as it needs; the body says where it goes on. Where it is over,
-    /// what follows it is held. The last byte of a body by length is a piece of its own, so what an earlier piece shows
-    /// stands before the body's end. No memory is taken.
+    /// Reads the next piece of a body, with as many reads as it needs, and updates the body's framing. After the body's end, the
+    /// bytes that follow it are held. The last byte of a body by length is a piece of its own, so whatever an earlier piece yields
+    /// precedes the body's end. Doesn't allocate.
     pub fn body(&mut self, body: &mut BodyFraming) -> Result<BodyRead, BodyEnd>
         ensures reads_piece { FromSource R.remaining self.old.source self.new.source
             (λ input. ReadsPiece body.old input body.new (taken_of self.new.source)) result }
@@ -109,7 +105,7 @@ impl<R: Read, W> Session<R, W> {
     }
 }
 
-/// Writes all that waits. After a failed call, which is counted, a beginning of it is written.
+/// Writes all pending output. After a failed call, which is counted, a prefix of it is written.
 fn write_output<W: Write, M: Resource + Drop>(
     writer: &mut Counted<W>,
     output: SendBuffer<M>,
@@ -130,8 +126,8 @@ fn write_output<W: Write, M: Resource + Drop>(
 }
 
 impl<R, W: Write> Session<R, W> {
-    /// Replies with a text; to HEAD without it. For want of memory the fixed 503 is the reply. The session goes on
-    /// unless a reply said `Connection: close` or wasn't written whole.
+    /// Replies with a text, to HEAD without the text. On an allocation failure the fixed 503 is the reply. The session continues
+    /// unless a reply said `Connection: close` or wasn't written completely.
     pub fn reply(
         &mut self,
         alloc: Global,

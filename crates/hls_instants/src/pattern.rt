@@ -4,7 +4,7 @@ ghost use Rattle.std.specs.Prelude.{◌≡◌, option_map, List, ℕ};
 ghost use Rattle.std.specs.Borrow.{Bor};
 ghost use Rattle.hls_instants.specs.Pattern as shape;
 
-// Whether a byte stands at a place of a pattern: a digit there is for every digit up to itself, a plus sign for either sign.
+// Whether a byte matches a byte of a pattern: a digit matches every digit up to itself, and a plus sign matches either sign.
 fn matches_byte(pattern: u8, byte: u8) -> bool
     ensures { result ≡ shape.matches_byte pattern byte }
 {
@@ -17,7 +17,7 @@ fn matches_byte(pattern: u8, byte: u8) -> bool
     }
 }
 
-// What follows the pattern in a text that begins with it.
+// The text after the pattern, if the text begins with it.
 fn strip_pattern<'a>(pattern: &[u8], text: &'a [u8]) -> Option<&'a [u8]>
     ensures { option_map (λ (rest : Bor (List ℕ)). rest.now) result ≡ shape.rest_after_pattern pattern.now text.entry.now }
 {
@@ -34,7 +34,6 @@ fn strip_pattern<'a>(pattern: &[u8], text: &'a [u8]) -> Option<&'a [u8]>
     }
 }
 
-// Whether the text is of the pattern, and no more.
 fn matches_pattern(pattern: &[u8], text: &[u8]) -> bool
     ensures { result ≡ shape.matches_pattern pattern.now text.now }
 {
@@ -44,7 +43,7 @@ fn matches_pattern(pattern: &[u8], text: &[u8]) -> bool
     }
 }
 
-// Z, or an offset whose hours are up to 19, or 20 to 23.
+// `Z`, or an offset whose hours are up to 19, or 20 to 23.
 fn is_zone(text: &[u8]) -> bool
     ensures { result ≡ shape.is_zone text.now }
 {
@@ -53,7 +52,7 @@ fn is_zone(text: &[u8]) -> bool
         || matches_pattern(b"+23:59", text)
 }
 
-// Whether the text is a zone behind at most so many digits.
+// Whether the text is a zone after at most `digits` digits.
 fn is_fraction_and_zone(digits: usize, text: &[u8]) -> bool
     ensures { result ≡ shape.is_fraction_and_zone digits text.now }
 {
@@ -66,8 +65,8 @@ fn is_fraction_and_zone(digits: usize, text: &[u8]) -> bool
     is_zone(text) || (byte.is_ascii_digit() && is_fraction_and_zone(digits - 1, bytes))
 }
 
-/// Whether the text is `YYYY-MM-DDTHH:MM:SS` with seconds to 59, then nothing or a point and 1 to 9 digits, then `Z`, `+hh:mm`
-/// or `-hh:mm` with hours to 23 and minutes to 59.
+/// Whether the text is `YYYY-MM-DDTHH:MM:SS` with seconds up to 59, then nothing or a point and 1 to 9 digits, then `Z`, `+hh:mm` or
+/// `-hh:mm` with hours up to 23 and minutes up to 59.
 pub(crate) fn has_shape(text: &[u8]) -> bool
     ensures { result ≡ shape.has_shape text.now }
 {

@@ -1,1 +1,3 @@
 mod WriteLaws
+pub mod Handed
+pub mod Places

@@ -1,7 +1,6 @@
 -- A text written by several calls.
 use Rattle.std.proofs.Common.{◌≡◌, ◌∙◌, ◌≤◌, ◌-◌, ℕ, List, [], ◌∷◌, ◌++◌, Option, Some, None, true, false, take, drop, length, refl, sym, ap, append_assoc, append-nil, arith, length-drop}
-use Rattle.std.specs.Io.KnownBytes.{Appends, Keeps}
-use Rattle.std.proofs.lemmas.List.{take-append-drop, take_all}
+use Rattle.std.{specs.Io.KnownBytes.{Appends, Keeps}, proofs.lemmas.List.{take-append-drop, take_all}}
 use Rattle.hls_io.specs.Writing.{Writes}
 
 pub record Writing (held text rest : List ℕ) (contents : Option (List ℕ)) : Type 0 where
@@ -35,7 +34,3 @@ writes_whole held text rest contents h none = record { written = h.written; left
 
 pub writes_part : (held text rest : List ℕ) (old new : Option (List ℕ)) → Writing held text rest old → Keeps old new → Writes held text new false
 writes_part held text rest old new h keeps = record { written = h.written; left = rest; split = h.split; contents_are = kept (held ++ h.written) old new h.contents_are keeps; whole = λ e. cc }
-
-pub empty_list : (xs : List ℕ) → length xs ≡ 0 → xs ≡ []
-empty_list [] e = refl
-empty_list (x ∷ xs) e = absurd (omega arith)

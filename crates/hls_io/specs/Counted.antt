@@ -1,4 +1,4 @@
--- What is told of a counted reader or writer.
+-- The properties of a counted reader or writer.
 use Rattle.std.specs.Prelude.{ℕ, ◌-◌, ◌^◌}
 use Rattle.hls_io.specs.declared.counted.Counted.{Counted}
 
@@ -10,6 +10,6 @@ inner_of counted = counted.inner
 abbrev pub failures_of : {T : Type 0} → Counted T → ℕ
 failures_of counted = counted.failures
 
--- how many calls it still passes on
+-- the number of calls that it still forwards
 abbrev pub calls_left : {T : Type 0} → Counted T → ℕ
 calls_left counted = 2 ^ 62 - counted.calls

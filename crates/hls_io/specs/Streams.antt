@@ -1,14 +1,13 @@
--- What comes of a reader and what goes to a writer: before a call, and behind it with its result.
+-- The input of a reader and the output of a writer, before and after a call.
 use Rattle.std.specs.Prelude.{◌≡◌, ℕ, List, Option, Some}
-use Rattle.hls_io.specs.Counted.{inner_of}
-use Rattle.hls_io.specs.declared.counted.Counted.{Counted}
+use Rattle.hls_io.specs.{Counted.inner_of, declared.counted.Counted.Counted}
 
--- the text that was still to come of a reader, where it is known, and what is left of it, are such
+-- the remaining input of a reader, if it is known, before and after, satisfies the relation
 abbrev pub RelatesInput : {R E : Type 0} → (R → Option (List ℕ)) → Counted R → Counted R → (List ℕ → Option (List ℕ) → E → Type 0) → E → Type 0
 RelatesInput remaining old new Is result =
     (text : List ℕ) → remaining (inner_of old) ≡ Some text → Is text (remaining (inner_of new)) result
 
--- the text that a writer held, where it is known, and what it holds now, are such
+-- the output of a writer, if it is known, before and after, satisfies the relation
 abbrev pub RelatesOutput : {W E : Type 0} → (W → Option (List ℕ)) → Counted W → Counted W → (List ℕ → Option (List ℕ) → E → Type 0) → E → Type 0
 RelatesOutput contents old new Is result =
     (held : List ℕ) → contents (inner_of old) ≡ Some held → Is held (contents (inner_of new)) result

@@ -1,8 +1,8 @@
--- What writing a whole text comes to.
+-- The result of writing a whole text.
 use Rattle.std.specs.Prelude.{◌≡◌, ℕ, List, ◌++◌, Option, Some, [], Bool, true, false}
 use Rattle.hls_io.specs.Failures.{FailuresRose}
 
--- of the text this much was written behind what was held
+-- this part of the text was written after the earlier output
 pub record Writes (held text : List ℕ) (contents : Option (List ℕ)) (done : Bool) : Type 0 where
   pub written : List ℕ
   pub left : List ℕ

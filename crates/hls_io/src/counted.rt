@@ -1,21 +1,20 @@
-//! Readers and writers whose failed calls are counted.
+//! Readers and writers that count their failed calls.
 ghost use Rattle.std.specs.Prelude.{◌≡◌, ◌+◌, ◌^◌, ◌<◌, ◌≤◌, length, take, IsSome, IfSome, IfNone, true, false};
 ghost use Rattle.std.specs.Io.KnownBytes.{Appends, Consumes, IsAtEnd, Keeps};
 ghost use Rattle.hls_io.specs.Failures.{FailuresRose};
 
 use std::io::{Read, Write};
 
-/// How many calls a counted reader or writer passes on; each later one fails.
+/// The number of calls that a counted reader or writer forwards; each later one fails.
 const MAX_CALLS: u64 = 1 << 62;
 
-/// Where the count of failures stops.
 const MAX_FAILURES: u64 = 1 << 63;
 
-/// A reader or writer that counts its failed calls: those that fail, those that are interrupted,
-/// writes that take no byte, and every call after the 2^62nd.
+/// A reader or writer that counts its failed calls: those that fail, those that are interrupted, writes that accept no byte, and every call
+/// after the 2^62nd.
 #[derive(Drop)]
 pub struct Counted<T> {
-    /// The reader or writer itself. Who calls it [begins a call](Counted::begin_call) before, and counts one that failed.
+    /// The inner reader or writer. A caller of it must [begin a call](Counted::begin_call) first, and count a failed call.
     pub inner: T,
     calls: u64,
     failures: u64,
@@ -26,7 +25,7 @@ pub struct Counted<T> {
 impl<T> Counted<T> {
     ghost use Rattle.hls_io.specs.Counted.{calls_left, failures_of, inner_of};
 
-    /// The reader or writer with no call counted yet.
+    /// Wraps a reader or writer, with no call counted.
     pub fn new(inner: T) -> Counted<T>
         ensures inside { inner_of result ≡ inner }
         ensures none { failures_of result ≡ 0 }
@@ -39,7 +38,7 @@ impl<T> Counted<T> {
         }
     }
 
-    /// The reader or writer itself.
+    /// Unwraps the reader or writer.
     pub fn into_inner(self) -> T
         ensures { result ≡ inner_of self }
     {
@@ -51,7 +50,7 @@ impl<T> Counted<T> {
         inner
     }
 
-    /// Whether another call may be passed on, which is then counted; else a failure is.
+    /// Whether another call may be forwarded. If so the call is counted, otherwise a failure.
     pub fn begin_call(&mut self) -> bool
         ensures inside { inner_of self.new ≡ inner_of self.old }
         ensures quiet { result ≡ true → failures_of self.new ≡ failures_of self.old }
@@ -81,8 +80,8 @@ impl<T> Counted<T> {
 impl<R: Read> Counted<R> {
     ghost use Rattle.hls_io.specs.Counted.{calls_left, failures_of, inner_of};
 
-    /// Reads into `buf`, which has room, by one call, and gives the number of bytes; none is the
-    /// end. A failed call is `None` and counted.
+    /// Reads into `buf`, which isn't empty, by one call. Returns the number of bytes; 0 is the end of the input. A failed call is counted
+    /// and returns `None`.
     pub fn read(&mut self, buf: &mut [u8]) -> Option<usize>
         requires { 0 < length buf.old }
         ensures quiet { IsSome result → failures_of self.new ≡ failures_of self.old }
@@ -109,8 +108,8 @@ impl<R: Read> Counted<R> {
 impl<W: Write> Counted<W> {
     ghost use Rattle.hls_io.specs.Counted.{calls_left, failures_of, inner_of};
 
-    /// Writes the front of `buf`, which isn't empty, by one call, and gives the number of bytes
-    /// taken, which is never 0. A failed call is `None` and counted; so is one that took no byte.
+    /// Writes the start of `buf`, which isn't empty, by one call. Returns the number of bytes written, which is never 0. A failed call, or
+    /// one that wrote no byte, is counted and returns `None`.
     pub fn write(&mut self, buf: &[u8]) -> Option<usize>
         requires { 0 < length buf.now }
         ensures quiet { IsSome result → failures_of self.new ≡ failures_of self.old }

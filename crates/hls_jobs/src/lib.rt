@@ -1,8 +1,24 @@
-//! The jobs of a channel, under a name of their own: they stand in `hls_catchup`, beside the answers that they wait for.
+//! The jobs of a channel: catch-up requests that wait, run concurrently, and are kept with their answers; and what is served of a job,
+//! from the job alone: its line, its certificate, and its playlists.
+//!
+//! A job's answer is right for the snapshot and the request that it holds: its type guarantees that, inside the lock and outside.
+//! `CertificateWriter` makes a text in parts, between which other connections get their turn.
 #![tactic(auto)]
 
-pub use hls_catchup::{
-    FilesUnavailable, Finished, Gate, Job, JobAnswer, JobFault, JobOutcome, JobTable, Jobs, Work,
-    answer_request, certificate_text, find_reply, master_text, playlist_text, run_job, work_loop,
-    write_job_line,
-};
+mod certificate_writer;
+mod files;
+mod gate;
+mod job_line;
+mod job_run;
+mod rows;
+mod shared;
+mod table;
+
+pub use certificate_writer::CertificateWriter;
+pub use files::{master_text, playlist_text};
+pub use gate::{Gate, work_loop};
+pub use hls_catchup::{Finished, Job, JobAnswer, JobFault, Work};
+pub use job_line::write_job_line;
+pub use job_run::{answer_request, run_job};
+pub use shared::Jobs;
+pub use table::JobTable;

@@ -1,4 +1,4 @@
--- Sums that stand beside the segments of a line: one more segment, and some that go.
+-- The sums at the segments of a line: one more segment, and some that are removed.
 use Rattle.std.proofs.Common.{◌≡◌, ℕ, zero, suc, ◌+◌, ◌-◌, ◌*◌, ◌<◌, ◌≤◌, ◌⊎◌, List, [], ◌∷◌, ◌++◌, length, drop, get_or, cond, Option, Some, arith, refl, sym, ap, inl, inr, ◌∙◌, zero-add}
 use Rattle.std.specs.Prelude.{slice_get}
 use Rattle.std.specs.List.{sum_by, count_by}
@@ -11,7 +11,7 @@ use Rattle.hls_places_laws.specs.declared.line.live_segment.LiveSegment.{LiveSeg
 use Rattle.hls_places_laws.specs.Line.Lengths.{length_in, remaining_length, is_marked, marks_in}
 use Rattle.hls_live.specs.declared.prefix_sums.PrefixSums.{PrefixSums}
 use Rattle.hls_live.specs.PrefixSums.{AreExtendedLengths, IsSumsTo, AreSums, last_of, lengths_of, marks_of, IsSumsAfter}
-use Rattle.hls_check_laws.specs.Steps.{cost_limit}
+use Rattle.hls_check_tables.specs.Steps.{cost_limit}
 
 pub at-there : {A : Type 0} (xs : List A) (m : ℕ) → m < length xs → (x : A) × (slice_get xs m ≡ Some x)
 at-there [] m within = absurd (omega (arith, within))
@@ -52,7 +52,7 @@ longer-small before segment lengths n longer past short r =
 no-lengths : (r n : ℕ) → get_or {A = ℕ} [] r 0 ≤ n * cost_limit
 no-lengths r n = omega arith
 
--- what is known of the last sums: all is 0 before the first segment
+-- the sums at the last segment: all are 0 before the first segment
 pub record IsLast (first breaks renditions : ℕ) (segments : List LiveSegment) (sums : List PrefixSums) : Type 0 where
   pub marks : marks_of breaks (last_of sums) ≡ breaks + marks_in (length segments) segments
   pub small : (r : ℕ) → get_or (lengths_of (last_of sums)) r 0 ≤ (first + length segments) * cost_limit

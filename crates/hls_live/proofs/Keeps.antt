@@ -1,4 +1,4 @@
--- What holds of a line's parts stays so as the line changes.
+-- The invariants of a line's parts are preserved as the line changes.
 use Rattle.std.proofs.Common.{◌≡◌, ℕ, zero, suc, ◌+◌, ◌-◌, ◌<◌, ◌≤◌, ◌⊎◌, true, false, Bool, List, [], ◌∷◌, length, take, drop, get_or, Option, None, Some, arith, refl, sym, ap, subst, inl, inr, ◌∙◌}
 use Rattle.std.specs.Prelude.{slice_get}
 use Rattle.std.proofs.lemmas.Bool.{and_from, and_left, and_right, and_parts}
@@ -6,8 +6,8 @@ use Rattle.std.proofs.lemmas.List.{get_or_past, length-take-le}
 use Rattle.std.proofs.lemmas.List.Sums.{count_by-le-length}
 use Rattle.std.proofs.lemmas.Option.{same_Some}
 use Rattle.hls_blocks.specs.Numbered.{list_limit}
-use Rattle.hls_check_laws.specs.Tables.{spot_in, no_spot, target_limit}
-use Rattle.hls_check_laws.specs.declared.spot.Spot.{Spot}
+use Rattle.hls_check_tables.specs.Tables.{spot_in, no_spot, target_limit}
+use Rattle.hls_check_tables.specs.declared.spot.Spot.{Spot}
 use Rattle.hls_places_laws.specs.declared.place.Place.{Place}
 use Rattle.hls_places_laws.specs.declared.line.goal.LineGoal.{LineGoal}
 use Rattle.hls_places_laws.specs.declared.line.live_segment.LiveSegment.{LiveSegment}
@@ -25,9 +25,9 @@ use Rattle.hls_live.specs.KeptSegments.{AreAligned, HasDroppedSegments, HasPushe
 use Rattle.hls_live.specs.Model.{model_of, AreKept, IsSoundLine}
 use Rattle.hls_live.specs.Advances.{with_kept}
 use Rattle.hls_live.proofs.Beside.{at-there, sums-none, last-known, sums-pushed, sums-dropped}
-use Rattle.hls_check_laws.specs.Steps.{cost_limit}
+use Rattle.hls_check_tables.specs.Steps.{cost_limit}
 
--- a segment that is allowed is short, in every rendition
+-- an allowed segment is short, in every rendition
 pub allowed-short : (line_goal : LineGoal) (o q : Place) → line_goal.target ≤ target_limit → is_allowed line_goal o q ≡ true → (r : ℕ) →
     (spot_in q.spots r).prev_end - (spot_in o.spots r).start ≤ cost_limit
 allowed-short line_goal o q target allowed r =
@@ -41,7 +41,7 @@ allowed-short line_goal o q target allowed r =
           omega (arith, end)
     ]
 
--- an open place beside segments
+-- an open place with segments
 sums-renamed : (first breaks before after : ℕ) (segments : List LiveSegment) (sums : List PrefixSums) →
     (0 < length segments → after ≡ before) → AreSums first breaks before segments sums → AreSums first breaks after segments sums
 sums-renamed first breaks before after [] [] same are = sums-none first breaks after
@@ -86,11 +86,11 @@ held-sound i kept segment_start best sound are none open_is best_is = rw (open_i
   best = sound.best;
 })
 
--- sums stand beside segments
+-- each segment has its sums
 pub are-aligned : (renditions : ℕ) (k : KeptSegments) → AreKept renditions k → AreAligned k
 are-aligned renditions k are = record { first = are.first; count = are.sums.count }
 
--- a segment more
+-- one more segment
 pub with-kept : (renditions : ℕ) (k after : KeptSegments) (segment : LiveSegment) → AreKept renditions k → HasPushedSegment segment k after →
     length segment.from.spots ≡ renditions → ((r : ℕ) → length_in r segment ≤ cost_limit) → AreKept renditions after
 with-kept renditions k after segment are is same short =
@@ -123,7 +123,7 @@ closed-sound i o to segment kept start sound at allowed from_is to_is is opening
       best = λ x b e best_is. absurd (cc);
     })
 
--- no more marks than segments
+-- there are at most as many marks as segments
 marks-few : (n : ℕ) (segments : List LiveSegment) → n ≤ length segments → marks_in n segments ≤ n
 marks-few n segments few =
     let counted : marks_in n segments ≤ length (take n segments) = count_by-le-length (λ (x : LiveSegment). x.mark) (take n segments) in
@@ -142,7 +142,7 @@ last-small renditions k are room r =
     let known = last-known k.segments.first k.breaks renditions k.segments.items k.sums.items are.sums in
     omega (arith, known.small r, room)
 
--- what stands beside the last of the segments that go
+-- the sums at the last of the segments that are removed
 last-gone : (renditions n : ℕ) (k after : KeptSegments) → AreKept renditions k → 0 < n → n ≤ length k.segments.items → HasDroppedSegments n k after →
     after.breaks ≡ k.breaks + marks_in n k.segments.items
 last-gone renditions n k after are some few is =
@@ -152,7 +152,7 @@ last-gone renditions n k after are some few is =
     let to = are.sums.each m last.0 last.1 in
     is.breaks ∙ (ap (marks_of 0) last.1 ∙ (to.marks ∙ ap (λ (j : ℕ). k.breaks + marks_in j k.segments.items) n_is))
 
--- some segments less
+-- some segments fewer
 pub without-kept : (renditions n : ℕ) (k after : KeptSegments) → AreKept renditions k → 0 < n → n ≤ length k.segments.items →
     HasDroppedSegments n k after → AreKept renditions after
 without-kept renditions n k after are some few is =
@@ -180,13 +180,13 @@ slid-is i n after sound some few is =
     let marks = last-gone (renditions_of i.segment_start) n i.kept after sound.kept some few is in
     rw (segments_from, marks) refl
 
--- while segments are kept, the line is of some renditions
+-- if segments are kept, the line has at least one rendition
 pub renditions-some : (o : Option SegmentStart) (segments : List LiveSegment) → (o ≡ None → segments ≡ []) →
     ((x : SegmentStart) → o ≡ Some x → 0 < length x.place.spots) → 0 < length segments → 0 < renditions_of o
 renditions-some None segments none some kept = absurd (omega (arith, ap length (none refl), kept))
 renditions-some (Some x) segments none some kept = some x refl
 
--- what is left is told by two of the sums
+-- the remaining length is the difference of two of the sums
 pub left-progress : (renditions : ℕ) (k : KeptSegments) (r n at last : ℕ) (s t : PrefixSums) → AreKept renditions k → 0 < n → n ≤ length k.segments.items →
     r < renditions → at ≡ n - 1 → slice_get k.sums.items at ≡ Some s →
     last ≡ length k.segments.items - 1 → slice_get k.sums.items last ≡ Some t →

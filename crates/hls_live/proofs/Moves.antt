@@ -1,4 +1,4 @@
--- How one place moves a line on, as the code goes by cases.
+-- The effect of one place on a line, by the cases of the code.
 use Rattle.std.proofs.Common.{◌≡◌, ℕ, Bool, true, false, not, List, Option, None, Some, refl, sym, ap, inl, inr, ◌∙◌}
 use Rattle.std.specs.Prelude.{◌&&◌}
 use Rattle.std.proofs.lemmas.Bool.{cases_Bool, cond-true, cond-false}
@@ -16,7 +16,7 @@ use Rattle.hls_live.specs.declared.place_fit.PlaceFit.TheVariants.{Skipped, TooF
 use Rattle.hls_live.specs.PlaceFit.{fit_of}
 use Rattle.hls_live.specs.Advances.{advance_from, advance_once, with_progress}
 
--- what each answer of the test says
+-- the meaning of each class
 pub record IsReach (line_goal : LineGoal) (o q : Place) (reach : PlaceFit) : Type 0 where
   pub skipped : reach ≡ Skipped → is_later_place o q ≡ false
   pub past : (reach ≡ Skipped → ⊥) → is_later_place o q ≡ true
@@ -71,7 +71,7 @@ reach-is line_goal o q =
       ]
     ]
 
--- a place told to a line whose best place isn't looked back to
+-- a place added to a line, without trying it again after the best place
 open-progress : (live : Live) (o : SegmentStart) (q : Place) → live.progress.line.segment_start ≡ Some o →
     advance_once live q ≡ progress_to live.line_goal live.removed live.progress.line.segments o live.progress.best q
     (progress_with live.progress.line.segments (restart_at q) None)
@@ -112,7 +112,7 @@ progress-enough live o q at past allowed enough =
     ap (with_progress live) (open-progress live o q at
     ∙ tried-enough live.line_goal live.removed live.progress.line.segments o live.progress.best q _ past allowed enough)
 
--- the whole move
+-- the whole step
 moves-as : (live : Live) (segment_start : Option SegmentStart) (best : Option Place) (q : Place) → live.progress.line.segment_start ≡ segment_start →
     live.progress.best ≡ best →
     live_after live q ≡ with_progress live (progress_from live.line_goal live.removed live.progress.line.segments segment_start best q)
@@ -141,7 +141,7 @@ moved-unbested live o q at none =
     ∙ ap (progress_to live.line_goal live.removed live.progress.line.segments o None q) (sym (stopped-restarted live.line_goal live.removed live.progress.line.segments o q))))
     ∙ sym (moved-open live o None q at none)
 
--- what a place out of reach would give counts there alone
+-- the result for a place out of reach is used only there
 same-stopped : (line_goal : LineGoal) (removed : ℕ) (segments : List LiveSegment) (o : SegmentStart) (best : Option Place) (q : Place) (s t : LineProgress) →
     (is_later_place o.place q && not (is_allowed line_goal o.place q)) ≡ false →
     progress_to line_goal removed segments o best q s ≡ progress_to line_goal removed segments o best q t
@@ -169,7 +169,7 @@ moved-near live o q at near =
     ∙ same-stopped live.line_goal live.removed live.progress.line.segments o live.progress.best q _ _ near)
     ∙ sym (moved-open live o live.progress.best q at refl)
 
--- after a segment was closed to the best place, the place is told once more
+-- after a segment was closed at the best place, the place is tried again
 abbrev pub closed_to : Live → SegmentStart → Place → Live
 closed_to live o b = with_progress live (progress_with (closed_with live.removed live.progress.line.segments o b) (start_at b) None)
 

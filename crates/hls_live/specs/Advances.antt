@@ -1,4 +1,4 @@
--- One place told to a line whose best place isn't looked back to. For the proofs of this crate; no public clause cites it.
+-- One place added to a line, without trying it again after the best place. For the proofs of this crate; no public clause cites it.
 use Rattle.std.specs.Prelude.{ℕ, List, Option, None, Some}
 use Rattle.hls_places_laws.specs.declared.place.Place.{Place}
 use Rattle.hls_places_laws.specs.declared.line.goal.LineGoal.{LineGoal}
@@ -9,7 +9,7 @@ use Rattle.hls_places_laws.specs.Line.Progress.{LineProgress, closed_with, progr
 use Rattle.hls_places_laws.specs.Line.Live.{Live}
 use Rattle.hls_live.specs.declared.kept_segments.KeptSegments.{KeptSegments}
 
--- a place out of reach begins the line anew
+-- a place out of reach restarts the line
 abbrev pub advance_from : LineGoal → ℕ → List LiveSegment → Option SegmentStart → Option Place → Place → LineProgress
 advance_from line_goal removed segments None best q = progress_with segments (start_at q) None
 advance_from line_goal removed segments (Some o) best q = progress_to line_goal removed segments o best q (progress_with segments (restart_at q) None)
@@ -29,6 +29,6 @@ with_kept live kept = record {
   breaks = kept.breaks;
 }
 
--- once its open segment ends at a place, where the next one begins
+-- after its open segment was closed at a place, where the next one begins
 abbrev pub with_closed : Live → SegmentStart → Place → Live
 with_closed live o to = with_progress live (progress_with (closed_with live.removed live.progress.line.segments o to) (start_at to) None)

@@ -1,4 +1,4 @@
--- How the segments that are kept change. For the proofs of this crate; no public clause cites it.
+-- How the kept segments change. For the proofs of this crate; no public clause cites it.
 use Rattle.std.specs.Prelude.{◌≡◌, ℕ, ◌+◌, ◌-◌, length, slice_get}
 use Rattle.hls_blocks.specs.Numbered.{with_item, from_number}
 use Rattle.hls_places_laws.specs.declared.line.live_segment.LiveSegment.{LiveSegment}
@@ -6,7 +6,7 @@ use Rattle.hls_live.specs.declared.kept_segments.KeptSegments.{KeptSegments}
 use Rattle.hls_live.specs.declared.prefix_sums.PrefixSums.{PrefixSums}
 use Rattle.hls_live.specs.PrefixSums.{marks_of, IsSumsAfter}
 
--- sums stand beside the segments, each under its number
+-- each segment has sums under its number
 pub record AreAligned (k : KeptSegments) : Type 0 where
   pub first : k.sums.first ≡ k.segments.first
   pub count : length k.sums.items ≡ length k.segments.items
@@ -17,7 +17,7 @@ pub record HasDroppedSegments (n : ℕ) (before after : KeptSegments) : Type 0 w
   pub sums : after.sums ≡ from_number before.sums (before.segments.first + n)
   pub breaks : after.breaks ≡ marks_of 0 (slice_get before.sums.items (n - 1))
 
--- with a segment more
+-- with one more segment
 pub record HasPushedSegment (segment : LiveSegment) (before after : KeptSegments) : Type 0 where
   pub next : PrefixSums
   pub is : IsSumsAfter before.breaks before.sums.items segment next

@@ -1,4 +1,4 @@
--- What a live line's parts are seen as, and what holds of them. For the proofs of this crate; no public clause cites it.
+-- The parts of a live line as contracts see them, and their invariants. For the proofs of this crate; no public clause cites it.
 use Rattle.std.specs.Prelude.{◌≡◌, ℕ, ◌<◌, ◌≤◌, true, [], length, None, Some}
 use Rattle.hls_places_laws.specs.declared.place.Place.{Place}
 use Rattle.hls_places_laws.specs.declared.line.segment_start.SegmentStart.{SegmentStart}
@@ -8,7 +8,7 @@ use Rattle.hls_places_laws.specs.Line.Lengths.{renditions_of}
 use Rattle.hls_live.specs.declared.live_line.LiveLine.TheInside.{Inside}
 use Rattle.hls_live.specs.declared.kept_segments.KeptSegments.{KeptSegments}
 use Rattle.hls_live.specs.PrefixSums.{AreSums}
-use Rattle.hls_check_laws.specs.Tables.{target_limit}
+use Rattle.hls_check_tables.specs.Tables.{target_limit}
 
 abbrev pub model_of : Inside → Live
 model_of i = record {
@@ -18,7 +18,7 @@ model_of i = record {
   breaks = i.kept.breaks;
 }
 
--- of the segments that are kept, where they are of so many renditions
+-- the invariant of the kept segments, for the given number of renditions
 pub record AreKept (renditions : ℕ) (k : KeptSegments) : Type 0 where
   pub first : k.sums.first ≡ k.segments.first
   pub sums : AreSums k.segments.first k.breaks renditions k.segments.items k.sums.items

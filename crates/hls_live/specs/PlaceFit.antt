@@ -1,4 +1,4 @@
--- How a place stands to the open one. For the proofs of this crate; no public clause cites it.
+-- The class of a place relative to the open one. For the proofs of this crate; no public clause cites it.
 use Rattle.std.specs.Prelude.{if◌then◌else◌}
 use Rattle.hls_places_laws.specs.declared.place.Place.{Place}
 use Rattle.hls_places_laws.specs.declared.line.goal.LineGoal.{LineGoal}

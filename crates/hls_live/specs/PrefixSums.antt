@@ -1,9 +1,9 @@
--- Sums over the segments of a line, kept beside each of them. For the proofs of this crate; no public clause cites it.
+-- Sums over the segments of a line, one for each of them. For the proofs of this crate; no public clause cites it.
 use Rattle.std.specs.Prelude.{◌≡◌, ℕ, suc, ◌+◌, ◌-◌, ◌*◌, ◌<◌, ◌≤◌, if◌then◌else◌, List, [], length, slice_index, slice_get, Option, None, Some}
 use Rattle.hls_places_laws.specs.declared.line.live_segment.LiveSegment.{LiveSegment}
 use Rattle.hls_places_laws.specs.Line.Lengths.{length_in, remaining_length, marks_in}
 use Rattle.hls_live.specs.declared.prefix_sums.PrefixSums.{PrefixSums}
-use Rattle.hls_check_laws.specs.Steps.{cost_limit}
+use Rattle.hls_check_tables.specs.Steps.{cost_limit}
 
 -- lengths with one more segment in each rendition
 pub record AreExtendedLengths (before : List ℕ) (segment : LiveSegment) (lengths : List ℕ) : Type 0 where
@@ -16,7 +16,7 @@ pub record IsSumsTo (first breaks renditions : ℕ) (segments : List LiveSegment
   pub marks : sums.marks ≡ breaks + marks_in (suc k) segments
   pub small : (r : ℕ) → slice_index sums.lengths.items r ≤ (first + suc k) * cost_limit
 
--- one for each kept segment; what is left behind a segment is the difference to the last one
+-- one for each kept segment; the rest after a segment is the difference to the last one
 pub record AreSums (first breaks renditions : ℕ) (segments : List LiveSegment) (sums : List PrefixSums) : Type 0 where
   pub count : length sums ≡ length segments
   pub each : (k : ℕ) (s : PrefixSums) → slice_get sums k ≡ Some s → IsSumsTo first breaks renditions segments k s
@@ -24,7 +24,7 @@ pub record AreSums (first breaks renditions : ℕ) (segments : List LiveSegment)
       suc last ≡ length segments → r < renditions →
       slice_index s.lengths.items r + remaining_length r segments (suc k) ≡ slice_index t.lengths.items r
 
--- what stands beside the last of some segments, where there is one
+-- the sums at the last of some segments, if there is one
 abbrev pub last_of : List PrefixSums → Option PrefixSums
 last_of sums = slice_get sums (length sums - 1)
 
@@ -36,11 +36,11 @@ abbrev pub marks_of : ℕ → Option PrefixSums → ℕ
 marks_of breaks None = breaks
 marks_of breaks (Some s) = s.marks
 
--- with a segment more
+-- with one more segment
 pub record IsNextSums (before : List ℕ) (marked : ℕ) (segment : LiveSegment) (next : PrefixSums) : Type 0 where
   pub lengths : AreExtendedLengths before segment next.lengths.items
   pub marks : next.marks ≡ marked + (if segment.mark then 1 else 0)
 
--- what stands beside a segment behind them
+-- the sums at a segment that follows them
 abbrev pub IsSumsAfter : ℕ → List PrefixSums → LiveSegment → PrefixSums → Type 0
 IsSumsAfter breaks sums segment next = IsNextSums (lengths_of (last_of sums)) (marks_of breaks (last_of sums)) segment next

@@ -1,29 +1,29 @@
-//! The segments of the live line that are kept, and what stands beside each.
+//! The kept segments of the live line, and the sums at each.
 ghost use Rattle.std.specs.Prelude.{◌≡◌, ℕ, ◌+◌, ◌-◌, ◌^◌, ◌<◌, ◌≤◌, if◌then◌else◌, length, slice_index, slice_get, IfOk, Some};
 ghost use Rattle.std.specs.Option.{option_copied};
 ghost use Rattle.hls_blocks.specs.Numbered.{next_of, no_items, list_limit};
 ghost use Rattle.hls_places_laws.specs.Line.Lengths.{length_in};
 ghost use Rattle.hls_live.specs.PrefixSums.{last_of, lengths_of, marks_of, IsNextSums, IsSumsAfter};
 ghost use Rattle.hls_live.specs.KeptSegments.{AreAligned, HasDroppedSegments, HasPushedSegment};
-ghost use Rattle.hls_check_laws.specs.Steps.{cost_limit};
+ghost use Rattle.hls_check_tables.specs.Steps.{cost_limit};
 
 use crate::prefix_sums::{PrefixSums, extend_lengths};
 use hls_blocks::Shared;
 use hls_places_laws::LiveSegment;
 use std::alloc::{AllocError, Global};
 
-/// The segments that are kept, and beside each what those up to it come to.
+/// The kept segments, and for each the sums of the segments up to it.
 #[derive(Drop)]
 pub struct KeptSegments {
     pub segments: Shared<LiveSegment>,
     pub sums: Shared<PrefixSums>,
 
-    /// How many of those that were removed have a mark.
+    /// The number of removed segments that have a mark.
     pub breaks: u64,
 }
 
 impl KeptSegments {
-    /// No segments; the first will have number 0. Takes no memory.
+    /// No segments; the first one will have number 0. Doesn't allocate.
     pub fn empty(alloc: Global) -> KeptSegments
         ensures { result ≡ record { segments = no_items; sums = no_items; breaks = 0 } }
     {
@@ -42,7 +42,7 @@ impl KeptSegments {
         self.segments.first()
     }
 
-    /// The number that the next segment will get.
+    /// The number of the next segment.
     pub fn next(&self) -> u64
         ensures value { result ≡ next_of self.now.segments }
         ensures bound { result ≤ list_limit }
@@ -50,7 +50,7 @@ impl KeptSegments {
         self.segments.next()
     }
 
-    /// How many segments there are.
+    /// The number of segments.
     pub fn count(&self) -> u64
         ensures value { result ≡ length self.now.segments.items }
         ensures bound { result ≤ list_limit }
@@ -58,7 +58,7 @@ impl KeptSegments {
         self.next() - self.first()
     }
 
-    /// The same segments once more.
+    /// Another handle to the same segments.
     pub fn share(&self, alloc: Global) -> Result<KeptSegments, AllocError>
         ensures { IfOk result (λ kept. kept ≡ self.now) }
     {
@@ -69,7 +69,7 @@ impl KeptSegments {
         })
     }
 
-    /// What stands beside the segment of number `n`.
+    /// The sums at segment `n`.
     pub fn sums_at(&self, n: u64) -> &PrefixSums
         requires aligned { AreAligned self.now }
         requires low { self.now.segments.first ≤ n }
@@ -82,7 +82,7 @@ impl KeptSegments {
         found
     }
 
-    /// The segments behind the first `n`.
+    /// The segments after the first `n`.
     pub fn drop_segments(&self, alloc: Global, n: u64) -> Result<KeptSegments, AllocError>
         requires aligned { AreAligned self.now }
         requires some { 0 < n }
@@ -98,7 +98,7 @@ impl KeptSegments {
         })
     }
 
-    /// The segments and one behind them.
+    /// The segments with one appended.
     pub fn push_segment(
         &self,
         alloc: Global,
@@ -119,7 +119,7 @@ impl KeptSegments {
         })
     }
 
-    /// What stands beside the last segment, where there is one.
+    /// The sums at the last segment, if there is one.
     fn last(&self) -> Option<&PrefixSums>
         requires { AreAligned self.now }
         ensures { option_copied result ≡ last_of self.now.sums.items }
@@ -130,7 +130,7 @@ impl KeptSegments {
         Some(self.sums_at(self.next() - 1))
     }
 
-    /// What is to stand beside a segment behind these.
+    /// The sums at a segment that follows these.
     fn next_sums(&self, alloc: Global, segment: &LiveSegment) -> Result<PrefixSums, AllocError>
         requires aligned { AreAligned self.now }
         requires few { marks_of self.now.breaks (last_of self.now.sums.items) ≤ list_limit }
@@ -145,7 +145,7 @@ impl KeptSegments {
     }
 }
 
-/// Sums and a segment more.
+/// The sums with one more segment.
 fn sums_with(
     alloc: Global,
     lengths: &[u64],
@@ -163,7 +163,7 @@ fn sums_with(
     })
 }
 
-/// One mark more, if there is one.
+/// The number of marks with one more segment.
 fn add_discontinuity(marks: u64, mark: bool) -> u64
     requires { marks ≤ list_limit }
     ensures { result ≡ marks + (if mark then 1 else 0) }

@@ -1,4 +1,4 @@
-//! The live line as a value: each call that changes it gives a new one, and every old one stays as it was.
+//! The live line as a persistent value: each call that changes it returns a new one and leaves the old one unchanged.
 ghost use Rattle.std.specs.Prelude.{◌≡◌, ◌↔◌, ◌+◌, ◌<◌, ◌≤◌, true, [], length, IfOk, IsTrue, Some, None};
 ghost use Rattle.std.specs.Option.{option_copied};
 ghost use Rattle.hls_blocks.specs.Numbered.{list_limit};
@@ -12,7 +12,7 @@ ghost use Rattle.hls_places_laws.specs.Line.Results.{IsResultOrMemory};
 ghost use Rattle.hls_places_laws.specs.Line.Upkeep.{LineLeaves, IsMostSlide};
 ghost use Rattle.hls_live.specs.Model.{AreKept};
 ghost use Rattle.hls_live.specs.Advances.{advance_once, with_closed, with_kept, with_progress};
-ghost use Rattle.hls_check_laws.specs.Tables.{target_limit};
+ghost use Rattle.hls_check_tables.specs.Tables.{target_limit};
 
 use crate::kept_segments::KeptSegments;
 use crate::place_fit::{PlaceFit, classify_place, is_at_gap, is_too_far};
@@ -21,11 +21,11 @@ use hls_places_laws::{LineFault, LineGoal, LiveSegment, Place, SegmentStart};
 use std::alloc::{AllocError, Global};
 use std::marker::Model;
 
-/// The live line: the closed segments of which the live playlists show the last. These are the kept ones, and where the next one
-/// begins.
+/// The live line: the sequence of closed segments. The live playlists show its last segments. The value has the kept segments and the start
+/// of the next one.
 ///
-/// Segments are numbered from the first one ever and keep their numbers when those before them slide away. Beside each
-/// stands what the segments up to it are long and how many have a mark, so that no call goes through them all.
+/// Segments are numbered from the very first one and keep their numbers when earlier ones are removed. Each is stored with the lengths and
+/// the number of marks of the segments up to it, so that no call examines all of them.
 #[derive(Drop)]
 pub struct LiveLine {
     line_goal: LineGoal,
@@ -47,7 +47,7 @@ impl Model for LiveLine {
 }
 
 impl LiveLine {
-    /// A line that no place was told to. `target` is seconds, at most 3600; `preferred` is microseconds. Takes no memory.
+    /// A line without places. `target` is in seconds, at most 3600; `preferred` is in microseconds. Doesn't allocate.
     pub fn fresh(alloc: Global, target: u64, preferred: u64) -> LiveLine
         requires { target ≤ target_limit }
         ensures { result ≡ fresh (record { target = target; preferred = preferred }) }
@@ -60,28 +60,28 @@ impl LiveLine {
         }
     }
 
-    /// The segments that are kept, under their numbers from the first one ever.
+    /// The kept segments, numbered from the very first one.
     pub fn segments(&self) -> &Shared<LiveSegment>
         ensures { result.now ≡ record { first = self.now.removed; items = self.now.progress.line.segments } }
     {
         &self.kept.segments
     }
 
-    /// How many segments were removed: the media sequence number (RFC 8216 section 4.3.3.2).
+    /// The number of segments that were removed: the media sequence number (RFC 8216 section 4.3.3.2).
     pub fn removed(&self) -> u64
         ensures { result ≡ self.now.removed }
     {
         self.kept.first()
     }
 
-    /// How many of those had a mark: the discontinuity sequence number (RFC 8216 section 4.3.3.3).
+    /// The number of removed segments with a mark: the discontinuity sequence number (RFC 8216 section 4.3.3.3).
     pub fn removed_breaks(&self) -> u64
         ensures { result ≡ self.now.breaks }
     {
         self.kept.breaks
     }
 
-    /// Where the line begins: at the first segment that is kept, else at the open place.
+    /// Where the line begins: at the first kept segment, or else at the open place.
     pub fn front(&self) -> Option<&Place>
         ensures { option_copied result ≡ front_of self.now }
     {
@@ -94,7 +94,7 @@ impl LiveLine {
         }
     }
 
-    /// Whether the closing place has come.
+    /// Whether the closing place was added.
     pub fn ended(&self) -> bool
         ensures { result ≡ has_ended self.now }
     {
@@ -104,14 +104,17 @@ impl LiveLine {
         }
     }
 
-    /// The same line once more.
+    /// Another handle to the same line.
     pub fn share(&self, alloc: Global) -> Result<LiveLine, AllocError>
         ensures { IfOk result (λ line. line ≡ self.now) }
     {
         self.with_kept(self.kept.share(alloc)?)
     }
 
-    /// The line after one more place. Errors in order: Ended where the closing place has come already; Memory.
+    /// The line after one more place.
+    ///
+    /// # Errors
+    /// `Ended` if the closing place was already added, then `Memory`.
     pub fn advanced(&self, alloc: Global, place: &Place) -> Result<LiveLine, LineFault>
         requires some { 0 < length place.now.spots }
         requires room { self.now.removed + length self.now.progress.line.segments + 1 < list_limit }
@@ -123,7 +126,7 @@ impl LiveLine {
         Ok(self.with_place(alloc, place)?)
     }
 
-    /// The line after one more place, whether the closing place has come or not.
+    /// The line after one more place, without the test for the closing place.
     pub fn with_place(&self, alloc: Global, place: &Place) -> Result<LiveLine, AllocError>
         requires some { 0 < length place.now.spots }
         requires room { self.now.removed + length self.now.progress.line.segments + 1 < list_limit }
@@ -142,8 +145,8 @@ impl LiveLine {
             .with_place_or_restart(alloc, place)
     }
 
-    /// The first fault of a slide by `n` segments: TooMany where `n` is 0 or above the count of kept segments; TooShort
-    /// where the line hasn't ended and less than three target durations would be left in some rendition.
+    /// The first fault of a slide by `n` segments: `TooMany` if `n` is 0 or greater than the number of kept segments; `TooShort` if the
+    /// line hasn't ended and less than three target durations would remain in some rendition.
     pub fn check_slide(&self, n: u64) -> Result<(), LineFault>
         ensures { result ≡ may_slide self.now n }
     {
@@ -156,7 +159,10 @@ impl LiveLine {
         Err(LineFault::TooShort)
     }
 
-    /// The line without its first `n` segments. Errors in order: those of `check_slide`; Memory.
+    /// The line without its first `n` segments.
+    ///
+    /// # Errors
+    /// Those of `check_slide`, then `Memory`.
     pub fn slide(&self, alloc: Global, n: u64) -> Result<LiveLine, LineFault>
         ensures { IsResultOrMemory (slide_result self.now n) result }
     {
@@ -164,8 +170,8 @@ impl LiveLine {
         Ok(self.drop_segments(alloc, n)?)
     }
 
-    /// The greatest number of segments without which three target durations are left in each rendition and `window`
-    /// microseconds in rendition 0; 0 where there is none above it. Takes no memory, and looks at few segments.
+    /// The greatest number of segments that can be removed so that three target durations remain in each rendition and `window`
+    /// microseconds in rendition 0; 0 if none can. Doesn't allocate, and examines few segments.
     pub fn max_slide(&self, window: u64) -> u64
         ensures { IsMostSlide self.now window result }
     {
@@ -182,7 +188,6 @@ impl LiveLine {
         low
     }
 
-    /// How many segments are kept.
     fn count(&self) -> u64
         ensures value { result ≡ length self.now.progress.line.segments }
         ensures bound { result ≤ list_limit }
@@ -190,7 +195,7 @@ impl LiveLine {
         self.kept.count()
     }
 
-    /// Whether so much is left without the first `n` segments.
+    /// Whether `window` microseconds in rendition 0, and three target durations in each, remain without the first `n` segments.
     fn leaves_window(&self, window: u64, n: u64) -> bool
         requires some { 0 < n }
         requires within { n ≤ length self.now.progress.line.segments }
@@ -202,7 +207,7 @@ impl LiveLine {
         self.is_long(n)
     }
 
-    /// Whether three target durations are left in each rendition without the first `n` segments.
+    /// Whether three target durations remain in each rendition without the first `n` segments.
     fn is_long(&self, n: u64) -> bool
         requires some { 0 < n }
         requires within { n ≤ length self.now.progress.line.segments }
@@ -217,7 +222,6 @@ impl LiveLine {
         true
     }
 
-    /// How many renditions the line is of.
     fn rendition_count(&self) -> usize
         ensures { result ≡ renditions_of self.now.progress.line.segment_start }
     {
@@ -227,7 +231,7 @@ impl LiveLine {
         }
     }
 
-    /// How long rendition `r` is without the first `n` segments, in microseconds.
+    /// The length of rendition `r` without the first `n` segments, in microseconds.
     fn remaining_us(&self, r: usize, n: u64) -> u64
         requires some { 0 < n }
         requires within { n ≤ length self.now.progress.line.segments }
@@ -239,7 +243,6 @@ impl LiveLine {
         last.lengths[r] - past.lengths[r]
     }
 
-    /// The line without its first `n` segments.
     fn drop_segments(&self, alloc: Global, n: u64) -> Result<LiveLine, AllocError>
         requires some { 0 < n }
         requires within { n ≤ length self.now.progress.line.segments }
@@ -248,7 +251,7 @@ impl LiveLine {
         self.with_kept(self.kept.drop_segments(alloc, n)?)
     }
 
-    /// The line with other segments, the open place and the best one the same.
+    /// The line with other segments; the open place and the best one stay.
     fn with_kept(&self, kept: KeptSegments) -> Result<LiveLine, AllocError>
         requires kept { AreKept (renditions_of self.now.progress.line.segment_start) kept }
         requires no_segment { self.now.progress.line.segment_start ≡ None → kept.segments.items ≡ [] }
@@ -262,7 +265,7 @@ impl LiveLine {
         })
     }
 
-    /// The line after one more place, which begins it anew where it is out of reach.
+    /// The line after one more place, which restarts it if it is out of reach.
     fn with_place_or_restart(&self, alloc: Global, place: &Place) -> Result<LiveLine, AllocError>
         requires some { 0 < length place.now.spots }
         requires room { self.now.removed + length self.now.progress.line.segments < list_limit }
@@ -279,7 +282,7 @@ impl LiveLine {
         }
     }
 
-    /// The line with the same segments, another open place and another best one.
+    /// The line with the same segments, and another open place and best place.
     fn with_start(
         &self,
         alloc: Global,
@@ -299,7 +302,7 @@ impl LiveLine {
         })
     }
 
-    /// Whether the segment that begins at an open place has a mark: one stands before it, and there is a break.
+    /// Whether the segment that begins at an open place has a mark: a segment precedes it, and there is a discontinuity.
     fn is_marked(&self, start: &SegmentStart) -> bool
         ensures { result ≡ (segment_to (has_earlier self.now.removed self.now.progress.line.segments) start.now start.now.place).mark }
     {
@@ -309,7 +312,7 @@ impl LiveLine {
         start.restarted || is_at_gap(&start.place)
     }
 
-    /// The line with a segment from its open place to another, where the next one begins.
+    /// The line with its open segment closed at a place, where the next one begins.
     fn close_segment(
         &self,
         alloc: Global,
@@ -331,7 +334,6 @@ impl LiveLine {
     }
 }
 
-/// A segment from one place to another.
 fn segment_between(from: &Place, to: &Place, mark: bool) -> Result<LiveSegment, AllocError>
     ensures { IfOk result (λ segment. segment ≡ record { from = from.now; to = to.now; mark = mark }) }
 {
@@ -342,7 +344,6 @@ fn segment_between(from: &Place, to: &Place, mark: bool) -> Result<LiveSegment, 
     })
 }
 
-/// An open place.
 fn make_start(place: &Place, restarted: bool) -> Result<SegmentStart, AllocError>
     ensures { IfOk result (λ start. start ≡ record { place = place.now; restarted = restarted }) }
 {

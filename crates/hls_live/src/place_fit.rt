@@ -1,24 +1,24 @@
-//! How a place stands to the open one of the line.
+//! Classifies a place relative to the open one of the line.
 ghost use Rattle.std.specs.Prelude.{◌≡◌, ◌-◌, ◌&&◌, not};
-ghost use Rattle.hls_check_laws.specs.Tables.{spot_in};
+ghost use Rattle.hls_check_tables.specs.Tables.{spot_in};
 ghost use Rattle.hls_places_laws.specs.Line.Steps.{is_later_place, is_allowed, is_long_enough, is_at_gap};
 ghost use Rattle.hls_live.specs.PlaceFit.{fit_of};
 
-use hls_check_laws::pair_allowed;
+use hls_check_tables::pair_allowed;
 use hls_places_laws::{LineGoal, Place};
 
 #[derive(Clone, Copy)]
 pub enum PlaceFit {
-    /// Some fragment isn't greater than the open place's.
+    /// In some rendition its fragment number isn't greater than the open place's.
     Skipped,
 
     /// No segment reaches it.
     TooFar,
 
-    /// A segment reaches it, and may go on.
+    /// A segment reaches it, and may be longer.
     Reachable,
 
-    /// A segment reaches it and needs to go no further.
+    /// A segment reaches it, and is long enough.
     LongEnough,
 }
 
@@ -32,7 +32,7 @@ pub fn length_between(from: &Place, to: &Place, r: usize) -> u64
         .saturating_sub(from.spots.get_or_zero(r).start)
 }
 
-/// Whether every rendition's fragment is greater at `place` than at the open place.
+/// Whether in every rendition the fragment number is greater at `place` than at the open place.
 fn is_later_place(from: &Place, place: &Place) -> bool
     ensures { result ≡ is_later_place from.now place.now }
 {
@@ -49,21 +49,21 @@ fn is_later_place(from: &Place, place: &Place) -> bool
     true
 }
 
-/// Whether a segment may reach from a place to another.
+/// Whether a segment may span from a place to another.
 fn is_allowed(line_goal: LineGoal, from: &Place, place: &Place) -> bool
     ensures { result ≡ is_allowed line_goal from.now place.now }
 {
     pair_allowed(line_goal.target, &from.spots, &place.spots)
 }
 
-/// Whether a segment that may end here needs to go no further.
+/// Whether a segment that may end here is long enough.
 fn is_long_enough(line_goal: LineGoal, from: &Place, place: &Place) -> bool
     ensures { result ≡ is_long_enough line_goal from.now place.now }
 {
     line_goal.preferred <= length_between(from, place, 0) || place.closing
 }
 
-/// Whether some rendition has a gap right before the place.
+/// Whether some rendition has a gap immediately before the place.
 pub fn is_at_gap(place: &Place) -> bool
     ensures { result ≡ is_at_gap place.now }
 {
@@ -71,14 +71,14 @@ pub fn is_at_gap(place: &Place) -> bool
     spots.iter().any(|spot| spot.run_in != spot.run_out)
 }
 
-/// Whether a place that counts is out of reach.
+/// Whether a later place is out of reach.
 pub fn is_too_far(line_goal: LineGoal, from: &Place, place: &Place) -> bool
     ensures { result ≡ (is_later_place from.now place.now && not (is_allowed line_goal from.now place.now)) }
 {
     is_later_place(from, place) && !is_allowed(line_goal, from, place)
 }
 
-/// How a place stands to the open one.
+/// Classifies a place relative to the open one.
 pub fn classify_place(line_goal: LineGoal, from: &Place, place: &Place) -> PlaceFit
     ensures { result ≡ fit_of line_goal from.now place.now }
 {

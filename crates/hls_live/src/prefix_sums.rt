@@ -1,4 +1,4 @@
-//! What the segments up to one are long in each rendition, and how many of them have a mark.
+//! The lengths in each rendition of the segments up to one, and the number of their marks.
 ghost use Rattle.std.specs.Prelude.{◌≡◌, ℕ, ◌+◌, ◌^◌, ◌<◌, length, slice_index, IfOk};
 ghost use Rattle.hls_places_laws.specs.Line.Lengths.{length_in};
 ghost use Rattle.hls_live.specs.PrefixSums.{AreExtendedLengths};
@@ -12,18 +12,18 @@ pub struct PrefixSums {
     /// One length for each rendition, in microseconds.
     pub lengths: Vec<u64>,
 
-    /// Marks are counted from the first segment ever.
+    /// Marks are counted from the very first segment.
     pub marks: u64,
 }
 
-/// The length in rendition `r`, 0 where there is none.
+/// The length in rendition `r`, or 0 if there is none.
 fn length_at(lengths: &[u64], r: usize) -> u64
     ensures { result ≡ slice_index lengths.now r }
 {
     if r < lengths.len() { lengths[r] } else { 0 }
 }
 
-/// The lengths before, and a segment more in each rendition; none is 0.
+/// The lengths so far plus those of one more segment in each rendition; none is 0.
 pub fn extend_lengths(
     alloc: Global,
     before: &[u64],

@@ -1,5 +1,4 @@
--- The two forms of playlists that are written, each over one resource with its init section at the
--- front.
+-- The two forms of playlists that are written, each over one resource with its init section at the start.
 
 use Rattle.std.specs.Prelude.{ℕ, Bool, true, List, Some, None}
 use Rattle.hls_m3u8.specs.declared.playlist.PlaylistKind.TheVariants.{Vod}
@@ -7,7 +6,7 @@ use Rattle.hls_m3u8.specs.declared.playlist.MediaSegment.{MediaSegment}
 use Rattle.hls_m3u8.specs.Playlist.{Playlist}
 use Rattle.hls_m3u8.specs.Written.{init_at}
 
--- a list of VOD
+-- a VOD playlist
 abbrev pub vod_list : ℕ → List ℕ → ℕ → List MediaSegment → Playlist
 vod_list target uri init_length segments = record {
   version = 6;
@@ -20,7 +19,7 @@ vod_list target uri init_length segments = record {
   ended = true;
 }
 
--- a live list, with the numbers of segments and of marks that were removed
+-- a live playlist, with the numbers of segments and marks that were removed
 abbrev pub live_list : ℕ → ℕ → ℕ → List ℕ → ℕ → List MediaSegment → Bool → Playlist
 live_list target media_sequence discontinuity_sequence uri init_length segments ended = record {
   version = 6;

@@ -1,4 +1,4 @@
--- What the lines of a media playlist say, one after the other (RFC 8216 section 4.3).
+-- The meaning of the lines of a media playlist, in order (RFC 8216 section 4.3).
 
 use Rattle.std.specs.Prelude.{ℕ, ◌+◌, ℤ, ◌==◌, ◌&&◌, Bool, true, false, not, if◌then◌else◌, nat_lt, List, [], ◌∷◌, ◌++◌, length, Option, Some, None, option_and_then, Result, Ok, Err, codes}
 use Rattle.std.specs.Str.{bytes_eq, is_utf8}
@@ -18,19 +18,19 @@ use Rattle.hls_m3u8.specs.Values.{limited_number, seconds, range_tag, kind_of}
 use Rattle.hls_m3u8.specs.Attributes.{map_tag}
 use Rattle.hls_instants.specs.Instants.{instant_of, whole_milliseconds}
 
--- What a tag does: none where it is refused
+-- The effect of a tag, or None if it is rejected
 
 -- at most once
 abbrev pub set_absent : {A : Type 0} → Option A → TagState → Option TagState
 set_absent None next = Some next
 set_absent (Some value) next = None
 
--- so with a value that can be read
+-- the same for a value that must be valid
 abbrev pub set_absent_value : {A : Type 0} → Option A → Option A → (A → TagState) → Option TagState
 set_absent_value None place next = None
 set_absent_value (Some value) place next = set_absent place (next value)
 
--- before the first segment
+-- only before the first segment
 abbrev pub before_first_segment : TagState → Option TagState → Option TagState
 before_first_segment r next = if r.count == 0 then next else None
 
@@ -60,7 +60,7 @@ same_range (Some a) (Some b) = (a.length == b.length) && (a.offset == b.offset)
 abbrev pub same_resource : UriRange → UriRange → Bool
 same_resource a b = bytes_eq a.uri b.uri && same_range a.range b.range
 
--- a later map equals the first
+-- a later EXT-X-MAP must equal the first
 abbrev pub map_after : TagState → Option UriRange → UriRange → Option TagState
 map_after r None m = before_first_segment r (Some (record r { map = Some m }))
 map_after r (Some first) m = if same_resource first m then Some r else None
@@ -73,7 +73,7 @@ abbrev pub with_mark : TagState → Option (List ℕ) → Option TagState
 with_mark r None = if r.mark then None else Some (record r { mark = true })
 with_mark r (Some value) = None
 
--- a moment is kept in whole milliseconds
+-- an instant is kept in whole milliseconds
 abbrev pub in_milliseconds : Option ℤ → Option ℤ
 in_milliseconds None = None
 in_milliseconds (Some us) = Some (whole_milliseconds us)
@@ -82,7 +82,7 @@ abbrev pub date_value : Option (List ℕ) → Option ℤ
 date_value None = None
 date_value (Some value) = in_milliseconds (instant_of value)
 
--- what is no moment is skipped, as an unknown tag is
+-- a value that isn't an instant is ignored, like an unknown tag
 abbrev pub with_date : TagState → Option ℤ → Option TagState
 with_date r None = Some r
 with_date r (Some us) = set_absent r.date (record r { date = Some us })
@@ -91,7 +91,7 @@ abbrev pub with_end : TagState → Option (List ℕ) → Option TagState
 with_end r None = if r.ended then None else Some (record r { ended = true })
 with_end r (Some value) = None
 
--- a tag, and what stands behind its colon
+-- a tag and the text after its colon
 abbrev pub state_after_tag : TagState → Tag → Option (List ℕ) → Option TagState
 state_after_tag r tag.Version value = set_absent_value (required_number value) r.version (λ n. record r { version = Some n })
 state_after_tag r tag.TargetDuration value = set_absent_value (required_number value) r.target (λ n. record r { target = Some n })
@@ -107,14 +107,14 @@ state_after_tag r tag.Endlist value = with_end r value
 state_after_tag r tag.Refused value = None
 state_after_tag r tag.Unknown value = Some r
 
--- What a URI does
+-- The effect of a URI
 
--- what is known after a line, and the segment whose URI it is
+-- the state after a line, and the segment that its URI completes
 pub record LineResult : Type 0 where
   pub state : TagState
   pub found : Option SegmentTags
 
--- a range without an offset begins where the last segment's ended, in the same resource
+-- a range without an offset begins at the end of the last segment's, in the same resource
 abbrev pub range_after : Option ByteRange → ℕ → Option ByteRange
 range_after None n = None
 range_after (Some b) n =
@@ -132,7 +132,7 @@ abbrev pub as_range : Option ByteRange → Option (Option ByteRange)
 as_range None = None
 as_range (Some range) = Some (Some range)
 
--- the segment's range; none where it is refused
+-- the range of the segment, or None if it is rejected
 abbrev pub segment_range : Option UriRange → List ℕ → Option RangeTag → Option (Option ByteRange)
 segment_range last uri None = Some None
 segment_range last uri (Some tag) = as_range (resolved_range last uri tag.length tag.offset)
@@ -157,7 +157,7 @@ abbrev pub tag_step : ℕ → Option TagState → Result LineResult ListFault
 tag_step line None = Err (BadTag line)
 tag_step line (Some r) = Ok (record { state = r; found = None })
 
--- the line of this number: empty, a tag or a comment, or a URI
+-- line n: an empty line, a tag or a comment, or a URI
 abbrev pub line_step : ℕ → TagState → List ℕ → Result LineResult ListFault
 line_step line r [] = Ok (record { state = r; found = None })
 line_step line r (b ∷ bytes) =
@@ -166,7 +166,7 @@ line_step line r (b ∷ bytes) =
 
 -- Lines
 
--- what all lines have given, and the segments in order
+-- the state after all lines, and the segments in order
 pub record LinesResult : Type 0 where
   pub state : TagState
   pub segments : List MediaSegment
@@ -183,12 +183,12 @@ abbrev pub then_lines : List ℕ → Result LineResult ListFault → (TagState �
 then_lines line (Err fault) rest = Err fault
 then_lines line (Ok stepped) rest = with_segments (segments_of line stepped.found) (rest stepped.state)
 
--- the lines from that of this number on
+-- the lines from line n
 unfoldable pub read_from : ℕ → TagState → List (List ℕ) → Result LinesResult ListFault
 read_from n r [] = Ok (record { state = r; segments = [] })
 read_from n r (line ∷ lines) = then_lines line (line_step n r line) (λ next. read_from (n + 1) next lines)
 
--- The whole
+-- The whole text
 
 abbrev pub initial_state : TagState
 initial_state = record {
@@ -227,7 +227,7 @@ list_of target all = record {
   ended = all.state.ended;
 }
 
--- a target duration, and no EXTINF without its URI
+-- there is a target duration, and no EXTINF without its URI
 abbrev pub required_target : Option ℕ → Option ℕ → Option ℕ
 required_target None us = None
 required_target (Some target) None = Some target
@@ -250,7 +250,7 @@ abbrev pub has_order_mark : List ℕ → Bool
 has_order_mark (a ∷ b ∷ c ∷ text) = (a == 239) && (b == 187) && (c == 191)
 has_order_mark text = false
 
--- the list that a text is readable as, or why it is refused
+-- the playlist that the text is read as, or why it is rejected
 abbrev pub reading_of : List ℕ → Result Playlist ListFault
 reading_of text =
     if nat_lt text_limit (length text) then Err TooLong

@@ -1,16 +1,16 @@
-//! The lines of a playlist, each appended to the text so far.
+//! Writes the lines of a playlist; each function appends to the text.
 
 ghost use Rattle.std.specs.Prelude.{◌≡◌, ℕ, ◌^◌, ◌<◌, List, [], ◌∷◌, ◌++◌, Option, Some, codes, decimal, OnOk};
 ghost use Rattle.hls_m3u8.specs.HasText.{IsDate};
 ghost use Rattle.hls_m3u8.specs.Lines.{text_of_lines, quoted, range_text, kind_lines, map_range, map_lines, mark_lines, date_lines, extinf_line, range_lines, segment_lines, end_lines};
 
-use crate::{ByteRange, InitSection, MediaSegment, PlaylistKind};
+use crate::playlist::{ByteRange, InitSection, MediaSegment, PlaylistKind};
 use hls_instants::format_instant;
+use hls_text::push_number;
 use hls_time::write_seconds;
-use itoa::Buffer;
 use std::alloc::AllocError;
 
-// A line that is there as it stands.
+// Writes this line.
 pub(crate) fn push_line(out: &mut Vec<u8>, line: &[u8]) -> Result<(), AllocError>
     ensures { OnOk result (out.new.items ≡ out.old.items ++ text_of_lines (line.now ∷ [])) }
 {
@@ -19,15 +19,7 @@ pub(crate) fn push_line(out: &mut Vec<u8>, line: &[u8]) -> Result<(), AllocError
     Ok(())
 }
 
-pub(crate) fn push_number(out: &mut Vec<u8>, n: u64) -> Result<(), AllocError>
-    ensures { OnOk result (out.new.items ≡ out.old.items ++ decimal n) }
-{
-    let mut buffer = Buffer::new();
-    out.extend_from_slice(buffer.format(n).as_bytes())?;
-    Ok(())
-}
-
-// A line of a tag's name and a number.
+// Writes a line of a tag's name and a number.
 pub(crate) fn push_number_line(out: &mut Vec<u8>, tag: &[u8], n: u64) -> Result<(), AllocError>
     ensures { OnOk result (out.new.items ≡ out.old.items ++ text_of_lines ((tag.now ++ decimal n) ∷ [])) }
 {
@@ -163,8 +155,8 @@ fn push_date(out: &mut Vec<u8>, date: Option<i64>) -> Result<(), AllocError>
     }
 }
 
-/// The lines of a segment, behind what was written: its length is below 2^53 microseconds, and its date one of whole milliseconds
-/// that `hls_instants::format_instant` can write.
+/// Appends the lines of a segment. Its length must be below 2^53 microseconds, and its date a whole number of milliseconds that
+/// `hls_instants::format_instant` can write.
 pub fn push_segment(out: &mut Vec<u8>, segment: &MediaSegment) -> Result<(), AllocError>
     requires length { segment.now.us < 2 ^ 53 }
     requires date { IsDate segment.now.date }
@@ -178,7 +170,7 @@ pub fn push_segment(out: &mut Vec<u8>, segment: &MediaSegment) -> Result<(), All
     Ok(())
 }
 
-/// The line behind the last segment of a list that has ended (RFC 8216 section 4.3.3.4).
+/// Appends the line after the last segment, if the playlist has ended (RFC 8216 section 4.3.3.4).
 pub fn push_end(out: &mut Vec<u8>, ended: bool) -> Result<(), AllocError>
     ensures { OnOk result (out.new.items ≡ out.old.items ++ text_of_lines (end_lines ended)) }
 {

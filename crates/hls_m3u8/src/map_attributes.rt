@@ -1,12 +1,12 @@
-//! What the attributes of a map have given (RFC 8216 section 4.3.2.5).
+//! The attributes of EXT-X-MAP that were read so far (RFC 8216 section 4.3.2.5).
 
 ghost use Rattle.hls_m3u8.specs.ReaderRecords as records;
 
-use crate::ByteRange;
+use crate::playlist::ByteRange;
 use crate::uri_range::UriRef;
 use std::marker::Model;
 
-/// The URI and the range, where an attribute has given them.
+/// The URI and the range, if an attribute gave them.
 #[derive(Drop)]
 pub(crate) struct MapAttributes<'a> {
     pub(crate) uri: Option<UriRef<'a>>,

@@ -1,5 +1,5 @@
-//! What one line does. What was read stands in one place and is changed there: a line costs what it says, and an
-//! empty one nothing. What a refusal leaves of it is no matter, since the text is refused.
+//! Reads one line. The state is kept in one place and changed there, so the cost of a line is that of its content, and an empty line costs
+//! nothing. After a fault the state is unspecified, since the text is rejected.
 
 ghost use Rattle.std.specs.Prelude.{◌≡◌, ◌<◌, ℕ, List, Some, None, ◌||◌, ◌==◌, if◌then◌else◌, true, false, is_some, option_map, IfSome, IfNone};
 ghost use Rattle.hls_m3u8.specs.TextLines.{split_at};
@@ -9,14 +9,15 @@ ghost use Rattle.hls_m3u8.specs.ReadLines.{set_absent, before_first_segment, req
 ghost use Rattle.hls_m3u8.specs.Scans.{tag_result, line_result};
 ghost use Rattle.hls_m3u8.specs.Limits.{segment_limit};
 
+use crate::fault::ListFault;
 use crate::limits::{NUMBER_LIMIT, SEGMENT_LIMIT};
 use crate::map_tag::parse_map_tag;
+use crate::playlist::ByteRange;
 use crate::split::split_at_byte;
 use crate::tag::{Tag, parse_tag};
 use crate::tag_state::{SegmentTags, TagState};
 use crate::uri_range::{UriRange, UriRef};
 use crate::value::{RangeTag, parse_number, parse_playlist_kind, parse_range_tag, parse_seconds};
-use crate::{ByteRange, ListFault};
 use hls_instants::parse_instant;
 
 fn require_number(value: Option<&str>) -> Option<u64>
@@ -25,7 +26,7 @@ fn require_number(value: Option<&str>) -> Option<u64>
     parse_number(value?)
 }
 
-// Keeps what may be given once.
+// Sets a value that may be given once.
 fn set_absent<T: Copy>(place: &mut Option<T>, value: T) -> Option<()>
     ensures given { IfSome result (λ _. (place.old ≡ None) × (place.new ≡ Some value)) }
     ensures again { IfNone result (is_some place.old ≡ true) }
@@ -37,7 +38,7 @@ fn set_absent<T: Copy>(place: &mut Option<T>, value: T) -> Option<()>
     Some(())
 }
 
-// Keeps that a tag without a value was there, which may be once.
+// Records a tag without a value, which may occur once.
 fn set_once(place: &mut bool, value: Option<&str>) -> Option<()>
     ensures set { IfSome result (λ _. (is_some value.entry ≡ false) × (place.old ≡ false) × (place.new ≡ true)) }
     ensures refused { IfNone result ((is_some value.entry || place.old) ≡ true) }
@@ -49,7 +50,7 @@ fn set_once(place: &mut bool, value: Option<&str>) -> Option<()>
     Some(())
 }
 
-// A number that may be given before the first segment alone.
+// A number that may be given only before the first segment.
 fn require_before_segments(state: &TagState<'_>, number: Option<u64>) -> Option<u64>
     ensures { result ≡ (if state.now.count == 0 then number else None) }
 {
@@ -120,7 +121,7 @@ fn set_mark(state: &mut TagState<'_>, value: Option<&str>) -> Option<()>
     set_once(&mut state.mark, value)
 }
 
-// A moment in whole milliseconds, where the text names one.
+// An instant in whole milliseconds, if the text is one.
 fn parse_date(value: Option<&str>) -> Option<i64>
     ensures { result ≡ date_value (option_map (λ (v : Bor (List ℕ)). v.now) value.entry) }
 {
@@ -143,7 +144,7 @@ fn set_end(state: &mut TagState<'_>, value: Option<&str>) -> Option<()>
     set_once(&mut state.ended, value)
 }
 
-// A tag, and what stands behind its colon.
+// Applies a tag and the text after its colon.
 fn apply_tag<'a>(state: &mut TagState<'a>, tag: Tag, value: Option<&'a str>) -> Option<()>
     ensures { tag_result result state.new ≡ state_after_tag state.old tag (option_map (λ (v : Bor (List ℕ)). v.now) value.entry) }
 {
@@ -164,7 +165,7 @@ fn apply_tag<'a>(state: &mut TagState<'a>, tag: Tag, value: Option<&'a str>) -> 
     }
 }
 
-// The range of so many bytes behind a range.
+// The range of `length` bytes after a range.
 fn range_after(last: Option<ByteRange>, length: u64) -> Option<ByteRange>
     ensures { result ≡ range_after last length }
 {
@@ -176,7 +177,7 @@ fn range_after(last: Option<ByteRange>, length: u64) -> Option<ByteRange>
     Some(ByteRange { length, offset })
 }
 
-// The range of so many bytes behind the last segment's, in the same resource.
+// The range of `length` bytes after that of the last segment, if it is in the same resource.
 fn range_after_last(last: &Option<UriRange<'_>>, uri: &str, length: u64) -> Option<ByteRange>
     ensures { result ≡ range_after_last last.now uri.now length }
 {
@@ -206,7 +207,7 @@ fn resolve_range(
     }
 }
 
-// A segment's range, where its tag is good; the tag's offset may be left out.
+// The range of a segment, if its tag is valid; the tag may omit the offset.
 fn segment_range(
     last: &Option<UriRange<'_>>,
     uri: &str,
@@ -247,7 +248,6 @@ fn finish_segment<'a>(
     found
 }
 
-// A URI's line.
 fn apply_uri_line<'a>(
     line: usize,
     state: &mut TagState<'a>,
@@ -267,7 +267,7 @@ fn apply_uri_line<'a>(
     Ok(Some(finish_segment(state, uri, us, range)))
 }
 
-// A tag's or a comment's line.
+// Applies the line of a tag or a comment.
 fn apply_tag_line<'a>(
     line: usize,
     state: &mut TagState<'a>,
@@ -283,7 +283,7 @@ fn apply_tag_line<'a>(
     }
 }
 
-// The line of this number, from 1: empty, a tag or a comment, or a URI.
+// Applies line `n`, counted from 1: an empty line, a tag or a comment, or a URI.
 pub(crate) fn apply_line<'a>(
     number: usize,
     state: &mut TagState<'a>,

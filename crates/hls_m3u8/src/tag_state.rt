@@ -1,13 +1,13 @@
-//! What the lines of a playlist have given so far.
+//! The state after some lines of a playlist.
 
 ghost use Rattle.hls_m3u8.specs.ReaderRecords as records;
 
+use crate::playlist::{ByteRange, MediaSegment, PlaylistKind};
 use crate::uri_range::UriRange;
 use crate::value::RangeTag;
-use crate::{ByteRange, MediaSegment, PlaylistKind};
 use std::marker::Model;
 
-/// What is known after some lines: the list's tags, the next segment's tags, and the last segment.
+/// The state after some lines: the playlist's tags, the next segment's tags, and the last segment.
 #[derive(Drop)]
 pub(crate) struct TagState<'a> {
     pub(crate) version: Option<u64>,
@@ -45,7 +45,7 @@ impl<'a> Model for TagState<'a> {
     } };
 }
 
-/// What a line that is a URI gives beside it: the segment's tags.
+/// The tags of the segment that a URI line completes.
 #[derive(Clone, Copy)]
 pub(crate) struct SegmentTags {
     pub(crate) mark: bool,
@@ -62,7 +62,7 @@ impl Model for SegmentTags {
     ghost inverse = { λ r. record { mark = r.mark; date = r.date; us = r.us; range = r.range } };
 }
 
-/// What is known after some lines, and the segments so far.
+/// The state after some lines, and the segments so far.
 #[derive(Drop)]
 pub(crate) struct ReadState<'a> {
     pub(crate) state: TagState<'a>,

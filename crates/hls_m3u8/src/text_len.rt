@@ -1,12 +1,11 @@
-//! How long a playlist's text is, so that its buffer is sized once.
+//! The length of a playlist's text, so that its buffer is allocated once.
 //!
-//! A wrong size would cost time and memory alone: the writer grows its buffer where it must.
+//! A wrong length would only cost time and memory: the writer grows its buffer if necessary.
 
 ghost use Rattle.std.specs.Prelude.{◌≤◌};
 
-use crate::{ByteRange, InitSection, MediaPlaylist, MediaSegment, PlaylistKind};
+use crate::playlist::{ByteRange, InitSection, MediaPlaylist, MediaSegment, PlaylistKind};
 
-// How many decimal digits a number has.
 fn count_digits(n: u64) -> usize
     ensures { result ≤ 20 }
 {
@@ -16,7 +15,7 @@ fn count_digits(n: u64) -> usize
     }
 }
 
-// A range, with what stands around it.
+// The length of a range and the text around it.
 fn range_len(range: Option<ByteRange>, around: &str) -> usize {
     match range {
         None => 0,
@@ -69,7 +68,7 @@ fn head_len(list: &MediaPlaylist) -> usize {
     (numbers + kind).saturating_add(map_len(&list.map))
 }
 
-// How many bytes the list's text has.
+// The number of bytes of the playlist's text.
 pub(crate) fn text_len(list: &MediaPlaylist) -> usize {
     let end = if list.ended {
         "#EXT-X-ENDLIST\n".len()

@@ -1,12 +1,12 @@
-//! What a text names: a resource, and bytes of it.
+//! A resource and a range of its bytes, as a text names them.
 
 ghost use Rattle.std.specs.Prelude.{◌≡◌, ℕ, List};
 ghost use Rattle.hls_m3u8.specs.ReaderRecords as records;
 
-use crate::ByteRange;
+use crate::playlist::ByteRange;
 use std::marker::Model;
 
-/// A URI as it stands in the text. A contract sees its bytes.
+/// A URI as in the text. Contracts see its bytes.
 #[derive(Drop)]
 pub(crate) struct UriRef<'a> {
     text: &'a str,
@@ -32,7 +32,7 @@ impl<'a> UriRef<'a> {
     }
 }
 
-/// Bytes of a resource: the map's, or the last segment's.
+/// A range of a resource: that of EXT-X-MAP, or of the last segment.
 #[derive(Drop)]
 pub(crate) struct UriRange<'a> {
     pub(crate) uri: UriRef<'a>,

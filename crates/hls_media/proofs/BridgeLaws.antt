@@ -1,9 +1,9 @@
--- Two walks over the boxes of a `traf`, one over its heading and one over its runs, show whether it is good, and what it holds.
+-- Two walks over the boxes of a `traf`, one over its header and one over its runs, determine whether it is valid, and its content.
 use Rattle.std.proofs.Common.{slice_index_or, slice_get, subst, not, is_some, is_none, ◌≡◌, ℕ, ◌==◌, Bool, true, false, cond, ◌&&◌, List, [], ◌∷◌, fold, Option, Some, None, option_map, option_and_then, refl, sym, ◌∙◌, ap, inl, inr}
 use Rattle.std.specs.Int.{w32}
 use Rattle.std.specs.List.{list_all}
 use Rattle.std.proofs.lemmas.Bool.{cases_Bool}
-use Rattle.hls_boxes_laws.specs.Boxes.{Child, children, contents_of_type, number_at}
+use Rattle.hls_boxes.specs.Boxes.{Child, children, contents_of_type, number_at}
 use Rattle.hls_media_laws.specs.Kinds.{tfhd_type, tfdt_type, trun_type}
 use Rattle.hls_media_laws.specs.Fields.{trun_fits, track_id_of, default_duration, default_size, default_flags, decode_time}
 use Rattle.hls_media_laws.specs.Trafs.{Traf, traf_of_boxes, traf_at}
@@ -34,7 +34,7 @@ traf_in cs = record { head = slice_index_or (contents_of_type tfhd_type cs) 0 []
 abbrev heading_in : List Child → TrafHeader
 heading_in cs = header_with (slice_index_or (contents_of_type tfhd_type cs) 0 []) (slice_get (contents_of_type tfdt_type cs) 0)
 
--- a `traf` that is no good
+-- a `traf` that isn't valid
 no_heading_in : (cs : List Child) (good : Bool) → headed cs ≡ good → cond good (Some (heading_in cs)) None ≡ None → traf_of_boxes cs ≡ None
 no_heading_in cs true e none = absurd (cc)
 no_heading_in cs false e none = ap (λ (b : Bool). cond (b && all_fit cs) (Some (traf_in cs)) None) e
@@ -51,7 +51,7 @@ misfit : (good : Bool) (t : Traf) → cond (good && false) (Some t) None ≡ Non
 misfit true t = refl
 misfit false t = refl
 
--- the runs one after the other: where they lie, and how long they last
+-- the runs in order: their positions, and their durations
 module _ (k : TrunVisitor) where
   abbrev goes : List Child → Option RunSummary → Option RunSummary
   goes cs next = option_and_then (λ (s : RunSummary). fold_boxes (runs_step k) Some s cs) next
@@ -104,7 +104,7 @@ module _ (k : TrunVisitor) where
   sample_summary-fold [] s = same s.sample_summary
   sample_summary-fold (r ∷ rs) s = sample_summary-fold rs (summary_after_run k s r) ∙ twice r rs s.sample_summary
 
--- a `traf` that both found good
+-- a `traf` that both walks found valid
 pub record Read (content : List ℕ) (heading : TrafHeader) (k : TrunVisitor) (start runs : RunSummary) : Type 0 where
   pub traf : Traf
   pub is : traf_at content ≡ Some traf

@@ -4,10 +4,10 @@ use Rattle.std.specs.Int.{w32}
 use Rattle.std.proofs.lemmas.Bool.{lt-ltb}
 use Rattle.std.proofs.lemmas.List.Sums.{sum_by-cons}
 use Rattle.std.proofs.lemmas.List.Folds.{sum_by-replicate}
-use Rattle.hls_boxes_laws.specs.Boxes.{number_at}
+use Rattle.hls_boxes.specs.Boxes.{number_at}
 use Rattle.hls_media_laws.specs.Fields.{column, total, some_missing}
 
--- a row less
+-- one row less
 pub rows_less : (n row len : ℕ) → 0 < n → n * row ≤ len → (n - 1) * row ≤ len - row
 rows_less zero row len some fits = absurd (omega arith)
 rows_less (suc n) row len some fits = let e : suc n - 1 ≡ n = omega arith in rw e (omega arith)

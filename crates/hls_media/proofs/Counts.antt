@@ -1,12 +1,12 @@
--- How far a count of fields rises over one more box, and that there is room for it.
+-- The increase of a count of fields for one more box, which doesn't overflow.
 use Rattle.std.proofs.Common.{◌≡◌, ℕ, zero, suc, ◌+◌, ◌-◌, ◌*◌, ◌≤◌, List, length, drop, slice_range, subst, sym, arith}
 use Rattle.std.proofs.lemmas.List.{length-drop}
-use Rattle.hls_boxes_laws.specs.declared.box_header.BoxHeader.{BoxHeader}
-use Rattle.hls_boxes_laws.specs.Boxes.{IsWithin}
+use Rattle.hls_boxes.specs.declared.box_header.BoxHeader.{BoxHeader}
+use Rattle.hls_boxes.specs.Boxes.{IsWithin}
 use Rattle.hls_media.specs.RisesBy.{RisesBy}
 use Rattle.hls_media.proofs.Slices.{slice-length}
 
--- so many for each byte walked so far and of the content, and three for the header, which is longer
+-- suc e for each byte walked so far and of the content, and three for the header, which is longer
 more : (e walked head content : ℕ) → 3 ≤ head → walked * suc e + 3 + content * suc e ≤ (walked + head + content) * suc e
 more e walked head content long = omega (arith, long)
 
@@ -24,13 +24,13 @@ counted-more (suc e) all rest h before now headed after some within walked state
 more_bytes : (f part others before now : ℕ) → now ≤ before + part * f → now ≤ before + (part + others) * f
 more_bytes f part others before now most = omega (arith, most)
 
--- the same of more bytes
+-- the same for more bytes
 pub counted-all : (f part all before now : ℕ) → part ≤ all → RisesBy (part * f) before now → RisesBy (all * f) before now
 counted-all f part all before now le counted =
     let parts : all ≡ part + (all - part) = omega (arith, le) in
     (counted.0, subst (λ n. now ≤ before + n * f) (sym parts) (more_bytes f part (all - part) before now counted.1))
 
--- what was counted is below what all bytes have room for
+-- the count is below the bound for all bytes
 below : (f walked left before now top : ℕ) → before + (walked + left) * f ≤ top → now ≤ before + walked * f → now ≤ top
 below f walked left before now top room state = omega (arith, room, state)
 

@@ -1,10 +1,10 @@
--- What the code keeps of the `traf` boxes comes to the facts by their whole list.
+-- The code's summary of the `traf` boxes gives the same facts as their whole list.
 use Rattle.std.proofs.Common.{◌≡◌, ℕ, ℤ, ◌+◌, ◌==◌, nat_lt, Bool, true, false, cond, ◌||◌, List, [], ◌∷◌, fold, filter, Option, Some, None, option_map, option_and_then, Result, Err, refl, sym, ◌∙◌, ap, inl, inr, add_assoc, zero-add, arith}
 use Rattle.std.specs.List.{list_any}
 use Rattle.std.proofs.lemmas.Bool.{cases_Bool}
 use Rattle.std.proofs.Math.Bool.{or_assoc, or-false}
 use Rattle.std.proofs.lemmas.List.Sums.{sum_by-cons}
-use Rattle.hls_boxes_laws.specs.Boxes.{Child, children, contents_of_type}
+use Rattle.hls_boxes.specs.Boxes.{Child, children, contents_of_type}
 use Rattle.hls_media_laws.specs.Kinds.{traf_type}
 use Rattle.hls_media_laws.specs.declared.facts.Facts.{Facts}
 use Rattle.hls_media_laws.specs.declared.fault.MediaFault.{MediaFault}
@@ -25,7 +25,7 @@ use Rattle.hls_media.specs.RunPlacement.{placement_after_run}
 use Rattle.hls_media.specs.SampleSummary.{samples_after_run, no_samples}
 use Rattle.hls_media.specs.MoofSummary.{no_placement, empty_summary, window_of, placement_start, traf_placement, traf_samples, timing_after_traf, summary_after_traf, moof_step, facts_of_timing, facts_of_summary, facts_of_read_summary}
 
--- a flag that each step may raise
+-- a flag that each step may set
 raised : {S T : Type 0} (more : S → T → S) (flag : S → Bool) (test : T → Bool) → ((s : S) (t : T) → flag (more s t) ≡ (flag s || test t)) → (ts : List T) (s : S) → flag (fold more s ts) ≡ (flag s || list_any test ts)
 raised more flag test each [] s = sym (or-false (flag s))
 raised more flag test each (t ∷ ts) s =
@@ -64,7 +64,7 @@ sample_summary-samples : (d e : Option ℕ) (rs : List (List ℕ)) (t : SampleSu
 unfolding samples_after_run
 sample_summary-samples d e rs t = raised (samples_after_run d e) (λ (t : SampleSummary). t.samples) (λ (r : List ℕ). nat_lt 0 (sample_count r)) (λ t r. refl) rs t
 
--- once there was a sample, its flags stay
+-- after the first sample, its flags don't change
 flags-stay : (d e : Option ℕ) (rs : List (List ℕ)) (t : SampleSummary) → t.samples ≡ true → (fold (samples_after_run d e) t rs).flags ≡ t.flags
 unfolding samples_after_run
 flags-stay d e [] t some = refl
@@ -106,7 +106,7 @@ module _ (g : UnitContext) where
   all-lacking : (ts : List Traf) (p : RunPlacement) → (fold (traf_placement g) p ts).lacking ≡ (p.lacking || list_any (lacks_sizes g) ts)
   all-lacking ts p = raised (traf_placement g) (λ (p : RunPlacement). p.lacking) (lacks_sizes g) traf-lacking ts p
 
-  -- the parts of a tally
+  -- the parts of a summary
   summary-unknown : (ts : List Traf) (s : MoofSummary) → (fold (summary_after_traf g) s ts).unknown ≡ (s.unknown || list_any (is_unknown g) ts)
   unfolding summary_after_traf
   summary-unknown ts s = raised (summary_after_traf g) (λ (s : MoofSummary). s.unknown) (is_unknown g) (λ s t. refl) ts s

@@ -1,12 +1,12 @@
--- A walk that keeps something of the first box of each of two types comes to what the lists of those types begin with.
+-- A walk that keeps a value of the first box of each of two types gives the first of each list of those types.
 use Rattle.std.proofs.Common.{◌≡◌, ℕ, ◌==◌, false, cond, List, [], ◌∷◌, Option, Some, None, is_some, option_and_then, option_map, slice_get, refl, sym, ◌∙◌, ap, inl, inr}
 use Rattle.std.proofs.lemmas.Bool.{cases_Bool, eqb-true}
-use Rattle.hls_boxes_laws.specs.Boxes.{Child, children, contents_of_type}
+use Rattle.hls_boxes.specs.Boxes.{Child, children, contents_of_type}
 use Rattle.hls_media_laws.specs.Inits.{first_with}
 use Rattle.hls_media.specs.Folds.{fold_boxes, fold_content}
 use Rattle.hls_media.specs.FirstBoxes.{Firsts, first_step, from_both}
 
--- what the first of these contents comes to, unless something was kept before
+-- the value of the first of these contents, unless one was kept before
 taken : {A : Type 0} → (List ℕ → Option A) → Option A → List (List ℕ) → Option (Option A)
 taken keep seen [] = Some seen
 taken keep seen (x ∷ xs) = cond (is_some seen) (taken keep seen xs) (option_and_then (λ v. taken keep (Some v) xs) (keep x))

@@ -1,4 +1,4 @@
--- What walks over an `mdia` and a `trak` come to.
+-- The results of walks over an `mdia` and a `trak`.
 use Rattle.std.proofs.Common.{◌≡◌, ℕ, List, Option, Some, None, option_and_then, refl, ◌∙◌}
 use Rattle.hls_media_laws.specs.Kinds.{mdhd_type, hdlr_type, tkhd_type, mdia_type}
 use Rattle.hls_media_laws.specs.declared.track.Mdia.{Mdia}

@@ -1,10 +1,10 @@
--- What a walk over the boxes of a `moov`, and one over those of an `mvex`, come to.
+-- The results of a walk over the boxes of a `moov`, and of one over those of an `mvex`.
 use Rattle.std.proofs.Common.{◌≡◌, ℕ, ◌==◌, true, false, cond, List, [], ◌∷◌, ◌++◌, map, fold, slice_get, Option, Some, None, is_some, option_map, option_and_then, refl, ◌∙◌, ap, inl, inr, append_assoc}
 use Rattle.std.specs.List.{list_any}
 use Rattle.std.specs.Option.{option_or}
 use Rattle.std.proofs.lemmas.Bool.{cases_Bool, eqb-true}
 use Rattle.std.proofs.lemmas.List.{append-nil}
-use Rattle.hls_boxes_laws.specs.Boxes.{Child, children, contents_of_type}
+use Rattle.hls_boxes.specs.Boxes.{Child, children, contents_of_type}
 use Rattle.hls_media_laws.specs.Kinds.{trak_type, mvex_type}
 use Rattle.hls_media_laws.specs.declared.track.Track.{Track}
 use Rattle.hls_media_laws.specs.Lists.{all_of, differ_from}
@@ -13,7 +13,7 @@ use Rattle.hls_media.specs.Folds.{fold_boxes, fold_content}
 use Rattle.hls_media.specs.TrexSteps.{first_eight}
 use Rattle.hls_media.specs.MoovSteps.{MoovContents, no_contents, with_track, moov_step}
 
--- what is gathered where these tracks follow, and this is the first `mvex`
+-- what is collected if these tracks follow, and this is the first `mvex`
 unfoldable pub after : MoovContents → Option (List ℕ) → List Track → MoovContents
 after s mvex ts = record { ids = s.ids ++ map (λ (t : Track). t.id) ts; tracks = fold first_eight s.tracks ts; mvex = option_or s.mvex mvex }
 
@@ -31,7 +31,7 @@ none-yet : (s : MoovContents) → Some s ≡ gathered s None []
 unfolding gathered after
 none-yet s = rw (append-nil, ← or-none s.mvex) refl
 
--- one track more
+-- one more track
 one-more : (s : MoovContents) (mvex : Option (List ℕ)) (t : Track) (ts : List Track) → list_any (λ (m : ℕ). m == t.id) s.ids ≡ false
     → gathered (record { ids = s.ids ++ t.id ∷ []; tracks = first_eight s.tracks t; mvex = s.mvex }) mvex ts ≡ gathered s mvex (t ∷ ts)
 unfolding gathered after

@@ -1,10 +1,10 @@
--- A walk over the boxes of an init section at the top, one box at a time.
+-- A walk over the top-level boxes of an init section, one box at a time.
 use Rattle.std.proofs.Common.{◌≡◌, ◌⊎◌, ℕ, ◌<◌, ◌≤◌, ◌==◌, false, List, length, drop, slice_range, Some, None, option_and_then, refl, ◌∙◌, inl, inr, arith}
 use Rattle.std.proofs.lemmas.Bool.{lt-ltb, le-ltb}
 use Rattle.std.proofs.lemmas.List.{length-drop}
-use Rattle.hls_boxes_laws.specs.declared.box_header.BoxHeader.{BoxHeader}
-use Rattle.hls_boxes_laws.specs.Kinds.{moov_type, moof_type, mdat_type, init_limit}
-use Rattle.hls_boxes_laws.specs.Boxes.{children, box_at}
+use Rattle.hls_boxes.specs.declared.box_header.BoxHeader.{BoxHeader}
+use Rattle.hls_boxes.specs.Kinds.{moov_type, moof_type, mdat_type, init_limit}
+use Rattle.hls_boxes.specs.Boxes.{children, box_at}
 use Rattle.hls_media_laws.specs.Layout.{moov_of_boxes, last_moov, moov_of}
 use Rattle.hls_media.proofs.UnitLaws.{first-box, no-box, end-box, nothing, some_boxes}
 
@@ -14,7 +14,7 @@ moov-bad rest some is = no-box moov_of_boxes rest some is
 pub moov-end : (rest : List ℕ) → length rest ≡ 0 → option_and_then moov_of_boxes (children rest) ≡ None
 moov-end rest none = end-box moov_of_boxes rest none
 
--- an `mdat` or a `moof` may not stand before the `moov`
+-- no `mdat` or `moof` may precede the `moov`
 pub moov-stray : (rest : List ℕ) (h : BoxHeader) → 0 < length rest → box_at rest ≡ Some h → (h.kind ≡ mdat_type) ⊎ (h.kind ≡ moof_type) → option_and_then moov_of_boxes (children rest) ≡ None
 moov-stray rest h some is (inl kind) = first-box moov_of_boxes (λ cs. None) rest h some is (λ cs. rw kind refl) ∙ nothing (children (drop h.size rest))
 moov-stray rest h some is (inr kind) = first-box moov_of_boxes (λ cs. None) rest h some is (λ cs. rw kind refl) ∙ nothing (children (drop h.size rest))

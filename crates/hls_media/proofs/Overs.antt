@@ -1,8 +1,8 @@
 -- A walk over boxes, one box at a time.
 use Rattle.std.proofs.Common.{◌≡◌, ℕ, ◌<◌, List, [], ◌∷◌, length, drop, slice_range, Option, Some, None, option_and_then, option_map, refl, ◌∙◌, ap, arith}
-use Rattle.hls_boxes_laws.specs.declared.box_header.BoxHeader.{BoxHeader}
-use Rattle.hls_boxes_laws.specs.Boxes.{Child, child_of, children, children_after_header, box_at}
-use Rattle.hls_boxes_laws.proofs.Callers.{children-empty, children-step}
+use Rattle.hls_boxes.specs.declared.box_header.BoxHeader.{BoxHeader}
+use Rattle.hls_boxes.specs.Boxes.{Child, child_of, children, children_after_header, box_at}
+use Rattle.hls_boxes.proofs.Callers.{children-empty, children-step}
 use Rattle.hls_media.specs.Folds.{fold_boxes, fold_content}
 
 pub over-end : {S R : Type 0} (step : S → ℕ → List ℕ → Option S) (finish : S → Option R) (s : S) (bytes : List ℕ) → length bytes ≡ 0 → fold_content step finish s bytes ≡ finish s
@@ -19,7 +19,7 @@ nothing : {A B : Type 0} (o : Option A) → None ≡ option_and_then {U = B} (λ
 nothing None = refl
 nothing (Some a) = refl
 
--- what stands behind the first box
+-- what follows the first box
 front : {S R : Type 0} (step : S → ℕ → List ℕ → Option S) (finish : S → Option R) (s : S) (c : Child) (others : Option (List Child))
     → option_and_then (fold_boxes step finish s) (option_map (λ more. c ∷ more) others) ≡ option_and_then (λ s'. option_and_then (fold_boxes step finish s') others) (step s c.kind c.content)
 unfolding fold_boxes
@@ -34,7 +34,7 @@ over-next step finish s bytes h next some is_box stepped =
     ∙ front step finish s (child_of h bytes) (children (drop h.size bytes))
     ∙ ap (option_and_then (λ s'. option_and_then (fold_boxes step finish s') (children (drop h.size bytes)))) stepped
 
--- what is made of the last state
+-- the result for the last state
 finish_next : {S R : Type 0} (step : S → ℕ → List ℕ → Option S) (finish : S → Option R) (cs : List Child) → ((s : S) → option_and_then finish (fold_boxes step Some s cs) ≡ fold_boxes step finish s cs) → (next : Option S)
     → option_and_then finish (option_and_then (λ s. fold_boxes step Some s cs) next) ≡ option_and_then (λ s. fold_boxes step finish s cs) next
 finish_next step finish cs ih None = refl

@@ -1,4 +1,4 @@
--- What is made of a `traf` whose heading and runs were read.
+-- The summary after a `traf` whose header and runs were read.
 use Rattle.std.proofs.Common.{◌≡◌, ℕ, ◌==◌, pos, not, bit_and, cond, List, find, Option, Some, is_some, ◌||◌, Bool, option_map, option_and_then, refl}
 use Rattle.std.specs.Option.{option_or}
 use Rattle.hls_media_laws.specs.Flags.{base_data_offset_present, default_base_is_moof}
@@ -15,7 +15,7 @@ use Rattle.hls_media.specs.declared.timing_traf.TimingTraf.{TimingTraf}
 use Rattle.hls_media.specs.MoofSummary.{facts_context, summary_after_traf, samples_before, timing_with_samples, timing_after_traf, traf_placement}
 use Rattle.hls_media.proofs.BridgeLaws.{Read, timing-read, none_flips}
 
--- what was looked up for a heading, and where its runs were to start
+-- what was looked up for a header, and where its runs start
 pub record Looked (tracks : List Track) (timing : Track) (bounds : MdatBounds) (s : MoofSummary) (heading : TrafHeader) (track : Option Track) (trex : Option TrexDefaults) (k : TrunVisitor) (start : RunSummary) : Type 0 where
   pub track_is : track ≡ find (λ (k : Track). k.id == heading.head.track) tracks
   pub trex_is : trex ≡ option_and_then (λ (k : Track). k.defaults) track

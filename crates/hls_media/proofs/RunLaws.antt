@@ -1,4 +1,4 @@
--- What a run that was kept is.
+-- The content of a run that was read.
 use Rattle.std.proofs.Common.{is_some, ◌≡◌, ℕ, true, false, List, None, refl, sym, ◌∙◌, ap, inl, inr}
 use Rattle.std.proofs.lemmas.Bool.{cases_Bool}
 use Rattle.hls_media_laws.specs.Fields.{trun_fits}

@@ -1,8 +1,8 @@
--- The tracks of a `moov`, from what walks over its boxes gathered.
+-- The tracks of a `moov`, from what walks over its boxes collected.
 use Rattle.std.proofs.Common.{◌≡◌, ℕ, ◌+◌, ◌≤◌, ◌==◌, nat_lt, Bool, true, false, cond, List, [], ◌∷◌, ◌++◌, length, map, fold, slice_get, Option, Some, None, is_none, option_map, option_and_then, refl, sym, ◌∙◌, ap, subst, inl, inr, append_assoc, arith}
 use Rattle.std.proofs.lemmas.Bool.{cases_Bool, lt-ltb}
 use Rattle.std.proofs.lemmas.List.{append-nil, length-append, length-map}
-use Rattle.hls_boxes_laws.specs.Boxes.{Child, children, contents_of_type}
+use Rattle.hls_boxes.specs.Boxes.{Child, children, contents_of_type}
 use Rattle.hls_media_laws.specs.Kinds.{trak_type, mvex_type, trex_type, tkhd_type, mdia_type}
 use Rattle.hls_media_laws.specs.declared.track.Track.{Track}
 use Rattle.hls_media_laws.specs.declared.track.Trex.{Trex}
@@ -14,11 +14,11 @@ use Rattle.hls_media.specs.TrexSteps.{track_with_defaults, trex_step, first_eigh
 use Rattle.hls_media.specs.MoovSteps.{MoovContents, no_contents, moov_step, AreTracks}
 use Rattle.hls_media.proofs.MoovLaws.{gathered, after, over-visitor}
 
--- the defaults of a track, one `trex` after the other
+-- the defaults of a track, one `trex` after another
 gave : List Trex → Track → Track
 gave xs t = fold (λ (t : Track) (x : Trex). track_with_defaults x t) t xs
 
--- tracks as yet without defaults
+-- tracks still without defaults
 abbrev Fresh : List Track → Type 0
 Fresh [] = Unit {0}
 Fresh (t ∷ ts) = (t.defaults ≡ None) × Fresh ts
@@ -115,7 +115,7 @@ over-given : (mvex : List ℕ) (ts : List Track) → fold_content trex_step Some
 unfolding fold_content trexes_of
 over-given mvex ts = given_boxes (children mvex) ts
 
--- eight tracks at most are kept whole
+-- at most eight tracks are kept whole
 kept-fold : (ts acc : List Track) → length acc + length ts ≤ 8 → fold first_eight acc ts ≡ acc ++ ts
 kept-fold [] acc few = sym (append-nil acc)
 kept-fold (t ∷ ts) acc few =
@@ -125,7 +125,7 @@ kept-fold (t ∷ ts) acc few =
     ∙ kept-fold ts (acc ++ t ∷ []) (omega (arith, length-append acc (t ∷ [])))
     ∙ append_assoc acc (t ∷ []) ts
 
--- what was gathered of a `moov`
+-- what was collected from a `moov`
 pub record Gathering (moov : List ℕ) (s : MoovContents) : Type 0 where
   pub boxes : List Child
   pub tracks : List Track
@@ -168,7 +168,7 @@ gathering_boxes moov (Some cs) s filled is = gathering_tracks moov cs (all_of tr
 pub gathering : (moov : List ℕ) (s : MoovContents) → fold_content moov_step Some no_contents moov ≡ Some s → Gathering moov s
 gathering moov s is = gathering_boxes moov (children moov) s refl (sym (over-visitor moov) ∙ is)
 
--- nothing was gathered where a box is no good or two tracks have one number
+-- nothing was collected if a box isn't valid or two tracks have the same number
 no_differ : (ts : List Track) (s : MoovContents) (differs : Bool) → all_differ (map (λ (t : Track). t.id) ts) ≡ differs → cond differs (Some s) None ≡ None → (trexes : Option (List Trex)) → option_and_then (tracks_with ts) trexes ≡ None
 no_differ ts s true e is trexes = absurd (cc)
 no_differ ts s false e is None = refl
@@ -212,7 +212,7 @@ tracks-gathered moov s g =
     ∙ ap (option_and_then (tracks_with g.tracks)) (trexes-first (contents_of_type mvex_type g.boxes) ∙ ap trexes_in (sym g.mvex_is))
     ∙ with_trexes g.tracks (trexes_in s.mvex) g.differ
 
--- what was gathered, given these defaults
+-- what was collected, given these defaults
 are-tracks : (moov : List ℕ) (s : MoovContents) (g : Gathering moov s) (xs : List Trex) (tracks : List Track) → tracks ≡ map (gave xs) s.tracks → AreTracks (Some tracks) (Some (map (with_defaults xs) g.tracks)) s.ids
 are-tracks moov s g xs tracks is = (
   ap length g.ids_are ∙ length-map g.tracks (λ (t : Track). t.id) ∙ sym (length-map g.tracks (with_defaults xs)),

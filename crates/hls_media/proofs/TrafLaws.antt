@@ -1,8 +1,8 @@
--- A walk over the boxes of a `traf` shows what its two lists of boxes show that may stand once.
+-- A walk over the boxes of a `traf` gives the same as its two lists of boxes that may occur once.
 use Rattle.std.proofs.Common.{slice_get, arith, ◌≡◌, ℕ, ◌==◌, nat_le, false, cond, ◌&&◌, inl, inr, List, [], ◌∷◌, length, Option, Some, None, is_some, option_and_then, option_map, refl, sym, ◌∙◌, ap}
 use Rattle.std.specs.List.{list_all}
 use Rattle.std.proofs.lemmas.Bool.{cases_Bool, eqb-true, lt-leb, ne_eqb}
-use Rattle.hls_boxes_laws.specs.Boxes.{Child, children, contents_of_type}
+use Rattle.hls_boxes.specs.Boxes.{Child, children, contents_of_type}
 use Rattle.hls_media_laws.specs.Kinds.{tfhd_type, tfdt_type}
 use Rattle.hls_media_laws.specs.Fields.{tfhd_fits, tfdt_fits}
 use Rattle.hls_media.specs.declared.tfhd.Tfhd.{Tfhd}
@@ -12,7 +12,7 @@ use Rattle.hls_media.specs.Boxes.{tfhd_fields, tfhd_of, tfdt_of}
 use Rattle.hls_media.specs.Folds.{fold_boxes, fold_content}
 use Rattle.hls_media.specs.TrafHeaders.{header_step, no_header, finished_header, header_with, header_from, header_of_boxes, header_of_traf}
 
--- what one kind of box comes to that may stand once, of which `seen` was kept before
+-- the value of a type of box that may occur once, after `seen` was kept
 settle : {A : Type 0} → (List ℕ → Option A) → Option A → List (List ℕ) → Option (Option A)
 settle keep seen [] = Some seen
 settle keep seen (x ∷ xs) = cond (is_some seen) None (option_and_then (λ v. settle keep (Some v) xs) (keep x))

@@ -1,17 +1,17 @@
--- A walk over the boxes of a unit at the top, one box at a time.
+-- A walk over the top-level boxes of a unit, one box at a time.
 use Rattle.std.proofs.Common.{◌≡◌, ℕ, ◌+◌, ◌-◌, ◌<◌, ◌≤◌, ◌==◌, true, false, List, [], ◌∷◌, length, take, drop, slice_range, Option, Some, None, is_some, IfSome, option_and_then, option_map, refl, sym, ◌∙◌, ap, arith}
 use Rattle.std.proofs.lemmas.Bool.{lt-ltb, le-ltb}
 use Rattle.std.proofs.lemmas.List.{drop-drop, length-drop}
-use Rattle.hls_boxes_laws.specs.declared.box_header.BoxHeader.{BoxHeader}
-use Rattle.hls_boxes_laws.specs.Kinds.{moov_type, moof_type, mdat_type, unit_limit}
-use Rattle.hls_boxes_laws.specs.Boxes.{Child, child_of, children, children_after_header, box_at, IsWithin}
-use Rattle.hls_boxes_laws.proofs.Callers.{children-empty, children-step}
+use Rattle.hls_boxes.specs.declared.box_header.BoxHeader.{BoxHeader}
+use Rattle.hls_boxes.specs.Kinds.{moov_type, moof_type, mdat_type, unit_limit}
+use Rattle.hls_boxes.specs.Boxes.{Child, child_of, children, children_after_header, box_at, IsWithin}
+use Rattle.hls_boxes.proofs.Callers.{children-empty, children-step}
 use Rattle.hls_media_laws.specs.Layout.{Layout, layout_of_boxes, layout_of, with_mdat, last_box, size_of_box}
 use Rattle.hls_media.specs.declared.unit.FoundMoof.{FoundMoof}
 use Rattle.hls_media.specs.UnitLayout.{layout_of_rest}
 use Rattle.hls_media.proofs.Slices.{slice-length}
 
--- what F makes of a first box and the boxes behind it is what G makes of those behind it
+-- F of a first box and the boxes after it is G of those after it
 pushed : {A : Type 0} (F G : List Child → Option A) (c : Child) → ((cs : List Child) → F (c ∷ cs) ≡ G cs) → (o : Option (List Child)) → option_and_then F (option_map (λ more. c ∷ more) o) ≡ option_and_then G o
 pushed F G c each None = refl
 pushed F G c each (Some cs) = each cs
@@ -32,7 +32,7 @@ pub nothing : {A : Type 0} (o : Option (List Child)) → option_and_then {U = A}
 nothing None = refl
 nothing (Some cs) = refl
 
--- bytes are filled by a box at least
+-- bytes are filled by at least one box
 by_header : {A : Type 0} (F : List Child → Option A) (bytes : List ℕ) → ((c : Child) (cs : List Child) → F (c ∷ cs) ≡ None) → (o : Option BoxHeader) → option_and_then F (children_after_header children bytes o) ≡ None
 by_header F bytes each None = refl
 by_header F bytes each (Some h) = pushed F (λ cs. None) (child_of h bytes) (each (child_of h bytes)) (children (drop h.size bytes)) ∙ nothing (children (drop h.size bytes))
@@ -73,7 +73,7 @@ come-mdat-alone unit (Some m) rest h some is kind none = absurd (cc)
 come-mdat-alone unit None rest h some is kind none =
     first-box layout_of_boxes (λ cs. None) rest h some is (λ cs. rw kind refl) ∙ nothing (children (drop h.size rest))
 
--- the `mdat`: what follows it, and where it lies
+-- the `mdat`: what follows it, and its position
 at_mdat : (unit : List ℕ) (m : FoundMoof) (rest : List ℕ) (h : BoxHeader) → 0 < length rest → box_at rest ≡ Some h → h.kind ≡ mdat_type
     → layout_of_rest unit (Some m) rest ≡ option_and_then (last_box (slice_range unit m.from m.to) (length unit - length rest - m.begin) (child_of h rest)) (children (drop h.size rest))
 at_mdat unit m rest h some is kind =
@@ -132,7 +132,7 @@ pub layout-short : (unit : List ℕ) → length unit ≤ unit_limit → layout_o
 unfolding layout_of
 layout-short unit short = rw (le-ltb unit_limit (length unit) short) refl
 
--- what stays true of the rest, and of the `moof` that was met
+-- the invariant of the rest, and of the `moof` that was found
 pub rest-more : (unit rest : List ℕ) (size : ℕ) → rest ≡ drop (length unit - length rest) unit → length rest ≤ length unit → size ≤ length rest → drop size rest ≡ drop (length unit - length (drop size rest)) unit
 rest-more unit rest size is in_unit fits =
     let at : ℕ = length unit - length rest in

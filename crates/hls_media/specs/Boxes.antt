@@ -1,8 +1,8 @@
--- What the code keeps of a `tfhd`, a `tfdt` and a `trun`, or none where a field stands past its box.
+-- The fields of a `tfhd`, a `tfdt` and a `trun` that the code keeps, or None if a field extends beyond its box.
 -- For the proofs of this crate; no public clause cites it.
 use Rattle.std.specs.Prelude.{◌≡◌, ◌+◌, ◌*◌, ◌≤◌, length, ℕ, if◌then◌else◌, Option, Some, None, List}
 use Rattle.std.specs.Int.{w32}
-use Rattle.hls_boxes_laws.specs.Boxes.{number_at}
+use Rattle.hls_boxes.specs.Boxes.{number_at}
 use Rattle.hls_media_laws.specs.Flags.{sample_duration_present, sample_size_present, sample_flags_present, sample_composition_time_offsets_present}
 use Rattle.hls_media_laws.specs.Fields.{field_width, has_flag, track_id_of, tfhd_fits, default_duration, default_size, default_flags, tfdt_fits, decode_time, trun_fits, sample_count, data_offset, first_flags_of, rows_offset, row_len}
 use Rattle.hls_media.specs.declared.tfhd.Tfhd.{Tfhd}
@@ -22,7 +22,7 @@ trun_of r =
     if trun_fits r then Some (record { flags = number_at w32 0 r; count = sample_count r; offset = data_offset r; first_flags = first_flags_of r; rows = rows_offset r; row = row_len r })
     else None
 
--- what is known of a run that was kept
+-- what is known of a run
 pub record IsRun (run : Trun) (content : List ℕ) : Type 0 where
   pub kept : trun_of content ≡ Some run
   pub flags : run.flags ≡ number_at w32 0 content

@@ -1,9 +1,9 @@
--- A sum over rows, some of which are left.
+-- A partial sum over rows.
 -- For the proofs of this crate; no public clause cites it.
 use Rattle.std.specs.Prelude.{◌≡◌, ℕ, ◌+◌, ◌*◌, ◌≤◌, List, length, sum}
 use Rattle.hls_media_laws.specs.Fields.{column}
 
--- the rows of a column, and those of them that are left, each with their number; and a count before the sum and now
+-- the rows of a column, and those that remain, each with their number; and the count before the sum and now
 pub record IsPartialSum (row at : ℕ) (rows rest : ℕ × List ℕ) (total before now : ℕ) : Type 0 where
   pub value : total + sum (column rest.0 row at rest.1) ≡ sum (column rows.0 row at rows.1)
   pub room : rest.0 * row ≤ length rest.1

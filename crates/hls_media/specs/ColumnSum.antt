@@ -1,4 +1,4 @@
--- What the values of samples come to.
+-- The sum of the values of samples.
 -- For the proofs of this crate; no public clause cites it.
 use Rattle.std.specs.Prelude.{ℕ, List, Option}
 use Rattle.hls_media_laws.specs.Fields.{total, some_missing}

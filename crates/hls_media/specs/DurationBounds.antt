@@ -1,4 +1,4 @@
--- What is known after boxes of so many bytes stays known after more.
+-- What is known after boxes of n bytes stays known after more.
 -- For the proofs of this crate; no public clause cites it.
 use Rattle.std.proofs.Common.{ℕ, ℤ, ◌+◌, ◌≤◌, Option, Some, None, arith}
 use Rattle.std.proofs.lemmas.Int.{ints}

@@ -1,4 +1,4 @@
--- A walk that keeps something of the first box of each of two types.
+-- A walk that keeps a value of the first box of each of two types.
 -- For the proofs of this crate; no public clause cites it.
 use Rattle.std.specs.Prelude.{ℕ, ◌+◌, ◌==◌, if◌then◌else◌, Option, Some, is_some, option_map, List}
 use Rattle.hls_media_laws.specs.Kinds.{mdhd_type, hdlr_type, tkhd_type, mdia_type}
@@ -6,7 +6,7 @@ use Rattle.hls_media_laws.specs.declared.track.Mdia.{Mdia}
 use Rattle.hls_media_laws.specs.declared.track.Track.{Track}
 use Rattle.hls_media_laws.specs.Inits.{versioned_field, handler_field, media_from, media_of, track_from}
 
--- what was kept of either
+-- the value of each, if there was such a box
 abbrev pub Firsts : Type 0 → Type 0 → Type 0
 Firsts X Y = Option X × Option Y
 
@@ -19,7 +19,7 @@ first_step f g one two s kind content =
 abbrev pub from_both : {X Y R : Type 0} → (Option X → Option Y → Option R) → Firsts X Y → Option R
 from_both combine s = combine s.0 s.1
 
--- how many bytes what was kept took at least
+-- the minimum number of bytes of the boxes whose values were kept
 abbrev pub weight : {X Y : Type 0} → ℕ → ℕ → Firsts X Y → ℕ
 weight a b s = (if is_some s.0 then a else 0) + (if is_some s.1 then b else 0)
 

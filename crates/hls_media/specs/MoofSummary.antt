@@ -1,4 +1,4 @@
--- What the code keeps of the `traf` boxes so far, one more at a time.
+-- The code's summary of the `traf` boxes so far, and of one more.
 -- For the proofs of this crate; no public clause cites it.
 use Rattle.std.specs.Prelude.{ℕ, ℤ, pos, ◌<◌, ◌^◌, ◌==◌, Bool, false, ◌&&◌, ◌||◌, if◌then◌else◌, Option, Some, None, is_none, option_map, Result, Err, List, fold}
 use Rattle.hls_media_laws.specs.Kinds.{traf_type}
@@ -46,7 +46,7 @@ timing_after_traf g timings.Missing t = timings.One (option_map decode_time t.ti
 timing_after_traf g (timings.One time sample_summary) t = timings.Several
 timing_after_traf g timings.Several t = timings.Several
 
--- what is known of the samples of a `traf` before its first run, where that is asked: of the timing track's first one
+-- the initial sample summary of a `traf`, if samples are summarized: only for the first one of the timing track
 abbrev pub samples_before : Bool → TimingTraf → Option SampleSummary
 samples_before own timings.Missing = if own then Some no_samples else None
 samples_before own (timings.One time sample_summary) = None
@@ -56,7 +56,7 @@ abbrev pub one_or_several : Option ℕ → Option SampleSummary → TimingTraf
 one_or_several time (Some sample_summary) = timings.One time sample_summary
 one_or_several time None = timings.Several
 
--- the same as `timing_after_traf`, of what the walk over the runs gave
+-- the same as `timing_after_traf`, given the result of the walk over the runs
 abbrev pub timing_with_samples : Bool → Option ℕ → Option SampleSummary → TimingTraf → TimingTraf
 timing_with_samples own time sample_summary s = if own then one_or_several time sample_summary else s
 
@@ -68,7 +68,7 @@ summary_after_traf g s t = record {
   placement = traf_placement g s.placement t;
 }
 
--- a duration that is far below what 128 bits hold
+-- a duration far below 2^128
 abbrev pub HasBoundedDuration : TimingTraf → Type 0
 HasBoundedDuration timings.Missing = Unit {0}
 HasBoundedDuration timings.Several = Unit {0}
@@ -77,12 +77,12 @@ HasBoundedDuration (timings.One time t) = t.duration < 2 ^ 106
 abbrev pub moof_step : UnitContext → MoofSummary → ℕ → List ℕ → Option MoofSummary
 moof_step g s kind content = if kind == traf_type then option_map (summary_after_traf g s) (traf_at content) else Some s
 
--- what is known after boxes of so many bytes
+-- what is known after boxes of n bytes
 pub record IsBoundedSummary (n : ℕ) (s : MoofSummary) : Type 0 where
   pub near : IsNear n s.placement.end
   pub short : HasBoundedDuration s.timing
 
--- the first fault of a tally, or the facts
+-- the first fault of a summary, or the facts
 abbrev pub facts_of_timing : Track → ℕ → RunPlacement → TimingTraf → Result Facts MediaFault
 facts_of_timing k len p timings.Missing = Err faults.NoTimingTraf
 facts_of_timing k len p timings.Several = Err faults.TwoTimingTrafs
@@ -97,7 +97,7 @@ facts_of_summary k len s =
     else (if s.base_offset then Err faults.BaseOffset
     else facts_of_timing k len s.placement s.timing)
 
--- the same, where a box may have been no good
+-- the same, if a box may have been invalid
 abbrev pub facts_of_read_summary : Track → ℕ → Option MoofSummary → Result Facts MediaFault
 facts_of_read_summary k len None = Err faults.BadBox
 facts_of_read_summary k len (Some s) = facts_of_summary k len s

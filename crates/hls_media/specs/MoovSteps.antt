@@ -1,4 +1,4 @@
--- What the code keeps of a `moov`, one box after the other.
+-- What the code collects from a `moov`, box by box.
 -- For the proofs of this crate; no public clause cites it.
 use Rattle.std.specs.Prelude.{Bool, true, false, ◌≡◌, ℕ, ◌-◌, ◌*◌, ◌≤◌, ◌==◌, if◌then◌else◌, Option, Some, None, IfSome, is_some, option_map, option_and_then, List, [], ◌∷◌, ◌++◌, length, drop, slice_range}
 use Rattle.std.specs.List.{list_any}
@@ -18,11 +18,11 @@ pub record MoovContents : Type 0 where
 abbrev pub no_contents : MoovContents
 no_contents = record { ids = []; tracks = []; mvex = None }
 
--- one more track, unless its number came before
+-- one more track, unless its number occurred before
 abbrev pub with_track : MoovContents → Track → Option MoovContents
 with_track s t = if list_any (λ (m : ℕ). m == t.id) s.ids then None else Some (record s { ids = s.ids ++ t.id ∷ []; tracks = first_eight s.tracks t })
 
--- whether a track was added to these lists, and what they are then
+-- whether a track was added to these lists, and their new values
 abbrev pub AddsTrack : Bool → Option Track → List ℕ → List Track → List ℕ → List Track → Type 0
 AddsTrack true None ids tracks new_ids new_tracks = ⊥
 AddsTrack true (Some t) ids tracks new_ids new_tracks = (list_any (λ (m : ℕ). m == t.id) ids ≡ false) × (new_ids ≡ ids ++ t.id ∷ []) × (new_tracks ≡ first_eight tracks t)
@@ -35,14 +35,14 @@ moov_step s kind content =
     else (if kind == mvex_type then (if is_some s.mvex then Some s else Some (record s { mvex = Some content }))
     else Some s)
 
--- whether these are the numbers of all tracks, and what was read the tracks where they are at most eight
+-- whether these are the numbers of all tracks, and the result is the tracks if they are at most eight
 abbrev pub AreTracks : Option (List Track) → Option (List Track) → List ℕ → Type 0
 AreTracks (Some tracks) None ids = ⊥
 AreTracks (Some tracks) (Some ts) ids = (length ids ≡ length ts) × (length ts ≤ 8 → tracks ≡ ts)
 AreTracks None None ids = Unit {0}
 AreTracks None (Some ts) ids = ⊥
 
--- what was gathered, seen with the content of the `mvex`
+-- what was collected, with the content of the `mvex`
 abbrev pub contents_with : List ℕ → List ℕ → List Track → Option ByteSpan → MoovContents
 contents_with moov ids tracks mvex = record { ids = ids; tracks = tracks; mvex = option_map (λ (s : ByteSpan). slice_range moov s.from s.to) mvex }
 

@@ -1,8 +1,8 @@
--- What the code keeps of the heading of a `traf`: its boxes one after the other, each looked at once.
+-- What the code collects of the header of a `traf`, box by box, each visited once.
 -- For the proofs of this crate; no public clause cites it.
 use Rattle.std.specs.Prelude.{ℕ, ◌==◌, nat_le, Bool, ◌&&◌, if◌then◌else◌, Option, Some, None, is_some, option_map, option_and_then, List, [], length, slice_get, slice_index_or}
 use Rattle.std.specs.List.{list_all}
-use Rattle.hls_boxes_laws.specs.Boxes.{Child, children, contents_of_type}
+use Rattle.hls_boxes.specs.Boxes.{Child, children, contents_of_type}
 use Rattle.hls_media_laws.specs.Kinds.{tfhd_type, tfdt_type}
 use Rattle.hls_media_laws.specs.Fields.{tfhd_fits, tfdt_fits, decode_time}
 use Rattle.hls_media.specs.declared.tfhd.Tfhd.{Tfhd}
@@ -10,11 +10,11 @@ use Rattle.hls_media.specs.declared.traf_header.TrafHeader.{TrafHeader}
 use Rattle.hls_media.specs.declared.traf_header.PartialTrafHeader.{PartialTrafHeader}
 use Rattle.hls_media.specs.Boxes.{tfhd_fields, tfhd_of, tfdt_of}
 
--- what is kept of these
+-- the fields of these that are used
 unfoldable pub header_with : List ℕ → Option (List ℕ) → TrafHeader
 header_with head time = record { head = tfhd_fields head; time = option_map decode_time time }
 
--- just one `tfhd`, at most one `tfdt`, and no field past its box
+-- exactly one `tfhd`, at most one `tfdt`, and no field beyond its box
 abbrev pub is_traf_header : List (List ℕ) → List (List ℕ) → Bool
 is_traf_header heads times = (length heads == 1) && list_all tfhd_fits heads && nat_le (length times) 1 && list_all tfdt_fits times
 
@@ -24,7 +24,7 @@ header_from heads times = if is_traf_header heads times then Some (header_with (
 abbrev pub header_of_boxes : List Child → Option TrafHeader
 header_of_boxes boxes = header_from (contents_of_type tfhd_type boxes) (contents_of_type tfdt_type boxes)
 
--- the heading of the `traf` with this content, whatever its runs are
+-- the header of the `traf` with this content, whatever its runs are
 unfoldable pub header_of_traf : List ℕ → Option TrafHeader
 header_of_traf content = option_and_then header_of_boxes (children content)
 

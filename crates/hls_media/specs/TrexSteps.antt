@@ -1,4 +1,4 @@
--- Tracks that are given their defaults, one `trex` after the other.
+-- Setting the defaults of tracks, one `trex` after another.
 -- For the proofs of this crate; no public clause cites it.
 use Rattle.std.specs.Prelude.{ℕ, ◌==◌, nat_lt, ◌&&◌, if◌then◌else◌, Option, Some, is_none, option_map, List, [], ◌∷◌, ◌++◌, length, map}
 use Rattle.hls_media_laws.specs.Kinds.{trex_type}
@@ -13,6 +13,6 @@ track_with_defaults x t = if x.id == t.id && is_none t.defaults then record t { 
 abbrev pub trex_step : List Track → ℕ → List ℕ → Option (List Track)
 trex_step ts kind content = if kind == trex_type then option_map (λ (x : Trex). map (track_with_defaults x) ts) (trex_at content) else Some ts
 
--- one more track, of which eight are kept
+-- one more track; eight are kept
 abbrev pub first_eight : List Track → Track → List Track
 first_eight ts t = if nat_lt (length ts) 8 then ts ++ t ∷ [] else ts

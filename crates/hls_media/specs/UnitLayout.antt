@@ -1,17 +1,17 @@
--- A walk over the boxes of a unit at the top.
+-- A walk over the top-level boxes of a unit.
 -- For the proofs of this crate; no public clause cites it.
 use Rattle.std.specs.Prelude.{◌≡◌, ℕ, ◌-◌, ◌≤◌, Option, Some, None, IfSome, option_and_then, List, length, drop, slice_range}
-use Rattle.hls_boxes_laws.specs.Boxes.{children}
+use Rattle.hls_boxes.specs.Boxes.{children}
 use Rattle.hls_media_laws.specs.Layout.{Layout, layout_of_boxes, with_mdat, moov_of_boxes}
 use Rattle.hls_media.specs.RisesBy.{RisesBy}
 use Rattle.hls_media.specs.declared.unit.UnitLayout.{UnitLayout}
 use Rattle.hls_media.specs.declared.unit.FoundMoof.{FoundMoof}
 
--- what a shape says of a unit
+-- the layout of a unit with these positions
 abbrev pub layout_of_spans : List ℕ → UnitLayout → Layout
 layout_of_spans unit s = record { moof = slice_range unit s.from s.to; low = s.low; high = s.high }
 
--- the layout, by what is still to come after a `moof` or before it
+-- the layout, by the boxes that remain after a `moof` or before it
 abbrev pub layout_of_rest : List ℕ → Option FoundMoof → List ℕ → Option Layout
 layout_of_rest unit None rest = option_and_then layout_of_boxes (children rest)
 layout_of_rest unit (Some m) rest = option_and_then (with_mdat (slice_range unit m.from m.to) (length unit - length rest - m.begin)) (children rest)

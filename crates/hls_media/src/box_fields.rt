@@ -3,11 +3,10 @@
 ghost use Rattle.std.specs.Prelude.{◌≡◌, ◌≤◌, length, IfSome};
 ghost use Rattle.hls_media_laws.specs.Inits.{versioned_field as field_by_version, handler_field as handler_at_offset, trex_at as trex_by_fields};
 
-use hls_boxes_laws::numbers::u32_at;
+use hls_boxes::numbers::u32_at;
 use hls_media_laws::track::{Trex, TrexDefaults};
 
-/// The `track_ID` of a `tkhd` or the `timescale` of an `mdhd` with this content, if its version is known and its field lies
-/// in it.
+/// The `track_ID` of a `tkhd` or the `timescale` of an `mdhd` with this content, if its version is known and the field is within it.
 #[tactic(auto, unfolding(hls_media_laws::specs::Inits::versioned_field))]
 pub fn read_versioned_field(content: &[u8]) -> Option<u32>
     ensures value { result ≡ field_by_version content.now }
@@ -25,7 +24,7 @@ pub fn read_versioned_field(content: &[u8]) -> Option<u32>
     Some(u32_at(content, 20))
 }
 
-/// The `handler_type` of an `hdlr` with this content, if it lies in it.
+/// The `handler_type` of an `hdlr` with this content, if it is within it.
 #[tactic(auto, unfolding(hls_media_laws::specs::Inits::handler_field))]
 pub fn read_handler(content: &[u8]) -> Option<u32>
     ensures value { result ≡ handler_at_offset content.now }
@@ -37,7 +36,7 @@ pub fn read_handler(content: &[u8]) -> Option<u32>
     Some(u32_at(content, 8))
 }
 
-/// The `trex` with this content, if its fields lie in it.
+/// The `trex` with this content, if its fields are within it.
 #[tactic(auto, unfolding(hls_media_laws::specs::Inits::trex_at))]
 pub fn parse_trex(content: &[u8]) -> Option<Trex>
     ensures { result ≡ trex_by_fields content.now }

@@ -1,13 +1,13 @@
-//! The header of the whole box at the front of bytes.
+//! The header of the complete box at the start of bytes.
 
 ghost use Rattle.std.specs.Prelude.{◌≡◌, ◌+◌, ◌^◌, ◌<◌, ◌≤◌, Some, length, IfSome};
-ghost use Rattle.hls_boxes_laws.specs.Boxes.{header_at, box_at, IsWithin};
+ghost use Rattle.hls_boxes.specs.Boxes.{header_at, box_at, IsWithin};
 
-use hls_boxes_laws::box_header::BoxHeader;
+use hls_boxes::box_header::BoxHeader;
 use hls_time::Ticks;
 
-/// The header that stands at the front of bytes, if its box lies in them as a whole.
-#[tactic(auto, unfolding(hls_boxes_laws::specs::Boxes::box_at))]
+/// The header at the start of the bytes, if its box is complete.
+#[tactic(auto, unfolding(hls_boxes::specs::Boxes::box_at))]
 fn check_fits(bytes: &[u8], header: BoxHeader) -> Option<BoxHeader>
     requires at_front { header_at bytes.now ≡ Some header }
     requires head { 8 ≤ header.head }
@@ -20,8 +20,8 @@ fn check_fits(bytes: &[u8], header: BoxHeader) -> Option<BoxHeader>
     Some(header)
 }
 
-/// The header, if its box lies in the bytes as a whole.
-#[tactic(auto, unfolding(hls_boxes_laws::specs::Boxes::box_at))]
+/// The header, if its box is complete.
+#[tactic(auto, unfolding(hls_boxes::specs::Boxes::box_at))]
 pub fn read_uncounted_box_header(bytes: &[u8]) -> Option<BoxHeader>
     ensures value { result ≡ box_at bytes.now }
     ensures within { IfSome result (λ h. IsWithin (length bytes.now) h) }
@@ -30,8 +30,8 @@ pub fn read_uncounted_box_header(bytes: &[u8]) -> Option<BoxHeader>
     check_fits(bytes, header)
 }
 
-/// The same, each field of the header counted: size and type, and the size in 64 bits where it is read.
-#[tactic(auto, unfolding(hls_boxes_laws::specs::Boxes::box_at, hls_boxes_laws::specs::Boxes::header_at))]
+/// The same, counting each field of the header: size and type, and the 64-bit size if there is one.
+#[tactic(auto, unfolding(hls_boxes::specs::Boxes::box_at, hls_boxes::specs::Boxes::header_at))]
 pub fn read_box_header(bytes: &[u8], ticks: &mut Ticks) -> Option<BoxHeader>
     requires { ticks.old < 2 ^ 62 + 2 ^ 61 }
     ensures value { result ≡ box_at bytes.now }

@@ -1,4 +1,4 @@
-//! Going over the boxes that fill a text, one after the other.
+//! Visits the boxes that fill a text, in order.
 
 ghost use Rattle.std.specs.Prelude.{◌≡◌, ℕ, ◌+◌, ◌*◌, ◌^◌, ◌≤◌, Option, Some, List, length, IfSome};
 ghost use Rattle.hls_media.specs.RisesBy.{RisesBy};
@@ -7,21 +7,21 @@ ghost use Rattle.hls_media.specs.Folds.{fold_content};
 use crate::box_headers::read_box_header;
 use hls_time::Ticks;
 
-/// What is looked for in the boxes that fill a text.
+/// A visitor of the boxes that fill a text.
 pub trait BoxVisitor {
-    /// What the boxes so far have shown.
+    /// What was found in the boxes so far.
     type Found: Drop;
 
-    // what they show with one more box of this type and content, or none where it is no good
+    // what is found with one more box of this type and content, or None if the box isn't valid
     ghost step: { Self → Self.Found → ℕ → List ℕ → Option Self.Found };
 
-    // what is known of it after boxes of so many bytes
+    // what is known of it after boxes of the given number of bytes
     ghost known: { Self → ℕ → Self.Found → Type 0 };
 
-    // how many fields are read for each byte at most
+    // the maximum number of fields that are read for each byte
     ghost fields: { ℕ };
 
-    /// One more box.
+    /// Visits one more box.
     fn visit_box(
         &self,
         state: Self::Found,
@@ -36,14 +36,14 @@ pub trait BoxVisitor {
         ensures known { IfSome result (λ s. (n : ℕ) → known self.now n state → known self.now (n + 8 + length content.now) s) }
         ensures counted { RisesBy (length content.now * fields) ticks.old ticks.new };
 
-    // it stays known as there are more
+    // it stays known as the number of bytes increases
     ghost stays_known: { (g : Self) (n m : ℕ) (s : Self.Found) → n ≤ m → known g n s → known g m s };
 
-    // headers are read, so it is one at least
+    // headers are read, so it is at least one
     ghost some: { 1 ≤ fields };
 }
 
-/// Goes over the boxes that fill a text. None where no boxes do, or one is no good.
+/// Visits the boxes that fill a text. Returns None if no boxes fill it, or one isn't valid.
 pub fn visit_boxes<G: BoxVisitor>(
     visitor: &G,
     start: G::Found,

@@ -1,4 +1,4 @@
-//! The facts of a unit from what its track fragments came to, or its first fault.
+//! The facts of a unit, or its first fault, from the summary of its track fragments.
 
 ghost use Rattle.std.specs.Prelude.{◌≡◌, ◌+◌, ◌^◌, ◌<◌};
 ghost use Rattle.hls_time.specs.Times.{floor_us as us_of};
@@ -14,7 +14,7 @@ use hls_media_laws::fault::MediaFault;
 use hls_media_laws::flags::SAMPLE_IS_NON_SYNC;
 use hls_media_laws::track::Track;
 
-/// A time in whole microseconds, rounded down, on exact numbers: an end may pass 64 bits here.
+/// A time in whole microseconds, rounded down. Exact, since an end may exceed 64 bits here.
 fn floor_us(ticks: u128, scale: u32) -> u128
     requires some { 0 < scale }
     requires room { ticks < 2 ^ 107 }
@@ -23,7 +23,7 @@ fn floor_us(ticks: u128, scale: u32) -> u128
     ticks * 1_000_000 / u128::from(scale)
 }
 
-/// Whether these flags of the first sample say that it is a sync sample.
+/// Whether these flags of the first sample make it a sync sample.
 fn is_sync(flags: Option<u32>) -> bool
     ensures { result ≡ first_is_sync flags }
 {
@@ -33,7 +33,7 @@ fn is_sync(flags: Option<u32>) -> bool
     }
 }
 
-/// The facts of a unit whose samples have all that they need.
+/// The facts of a unit whose samples have all required values.
 fn finish_facts(
     timing: Track,
     len: u64,
@@ -68,7 +68,7 @@ fn finish_facts(
     })
 }
 
-/// The facts of a unit of `len` bytes with these track fragments, or the first fault in its order.
+/// The facts of a unit of `len` bytes with these track fragments, or its first fault, in the order of the tests.
 pub fn decide_facts(timing: Track, len: u64, summary: MoofSummary) -> Result<Facts, MediaFault>
     requires some { 0 < timing.scale }
     requires short { HasBoundedDuration summary.timing }

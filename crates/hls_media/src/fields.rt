@@ -1,13 +1,13 @@
-//! Fields of a unit, each counted where it is read.
+//! Fields of a unit; each is counted when it is read.
 
 ghost use Rattle.std.specs.Prelude.{◌≡◌, ◌+◌, ◌^◌, ◌<◌, ◌≤◌, length};
 ghost use Rattle.std.specs.Int.{w32, w64};
-ghost use Rattle.hls_boxes_laws.specs.Boxes.{number_at};
+ghost use Rattle.hls_boxes.specs.Boxes.{number_at};
 
-use hls_boxes_laws::numbers::{u32_at, u64_at};
+use hls_boxes::numbers::{u32_at, u64_at};
 use hls_time::Ticks;
 
-/// The number of the four bytes from `at` on.
+/// The number in the four bytes at `at`.
 #[inline]
 pub fn read_u32_field(bytes: &[u8], at: usize, ticks: &mut Ticks) -> u32
     requires within { at + 4 ≤ length bytes.now }
@@ -19,7 +19,7 @@ pub fn read_u32_field(bytes: &[u8], at: usize, ticks: &mut Ticks) -> u32
     u32_at(bytes, at)
 }
 
-/// The number of the eight bytes from `at` on.
+/// The number in the eight bytes at `at`.
 #[inline]
 pub fn read_u64_field(bytes: &[u8], at: usize, ticks: &mut Ticks) -> u64
     requires within { at + 8 ≤ length bytes.now }

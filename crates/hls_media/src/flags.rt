@@ -1,4 +1,4 @@
-//! Fields of four bytes that a box's flags announce.
+//! Optional fields of four bytes, whose presence a box's flags declare.
 
 ghost use Rattle.std.specs.Prelude.{◌≡◌, ◌+◌, ◌^◌, ◌<◌, ◌≤◌, ◌==◌, true, not, bit_and, length};
 ghost use Rattle.hls_media_laws.specs.Fields.{field_width, field_if as field_if_present};
@@ -7,7 +7,7 @@ ghost use Rattle.hls_media.specs.RisesBy.{RisesBy};
 use crate::fields::read_u32_field;
 use hls_time::Ticks;
 
-/// The length of a field that is there if `flag` is set.
+/// The length of a field that is present if `flag` is set.
 pub fn field_len(flags: u32, flag: u32) -> usize
     ensures { result ≡ field_width (not (bit_and flags flag == 0)) }
 {

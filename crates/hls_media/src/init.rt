@@ -1,4 +1,4 @@
-//! Init sections: their `moov`, and their tracks.
+//! Init sections: their `moov` and their tracks.
 
 ghost use Rattle.std.specs.Prelude.{position, ◌==◌, Some, ◌<◌, ◌≡◌, ◌^◌, ◌≤◌, length, slice_range, option_map, IfSome};
 ghost use Rattle.hls_media_laws.specs.declared.track.Track.{Track};
@@ -10,14 +10,14 @@ ghost use Rattle.hls_media.specs.declared.moov.ByteSpan.{ByteSpan};
 use crate::box_headers::read_uncounted_box_header;
 use crate::moov::{ByteSpan, read_tracks};
 use crate::track_ids::TrackIds;
-use hls_boxes_laws::kinds::{INIT_LIMIT, MDAT, MOOF, MOOV};
+use hls_boxes::kinds::{INIT_LIMIT, MDAT, MOOF, MOOV};
 use hls_media_laws::fault::MediaFault;
 use hls_media_laws::init::Init;
 use hls_media_laws::kinds::{MAX_TRACKS, VIDE};
 use hls_media_laws::track::Track;
 use std::alloc::Global;
 
-/// Where the content of the `moov` of an init section stands, if the bytes are just one.
+/// The position of the content of an init section's `moov`, if the bytes are exactly one init section.
 fn find_moov(bytes: &[u8]) -> Option<ByteSpan>
     ensures value { option_map (λ (s : ByteSpan). slice_range bytes.now s.from s.to) result ≡ moov_of bytes.now }
     ensures within { IfSome result (λ s. (s.from ≤ s.to) × (s.to ≤ length bytes.now) × (length bytes.now ≤ 2 ^ 20)) }
@@ -58,7 +58,7 @@ fn find_video(tracks: &[Track]) -> Option<usize>
     tracks.iter().position(|track| track.handler == VIDE)
 }
 
-/// The number of the timing track: the first video track, else the first of all.
+/// The number of the timing track: the first video track, or else the first track.
 fn find_timing_track(tracks: &[Track]) -> usize
     requires { 0 < length tracks.now }
     ensures number { result ≡ timing_by_list tracks.now }
@@ -67,7 +67,7 @@ fn find_timing_track(tracks: &[Track]) -> usize
     find_video(tracks).unwrap_or(0)
 }
 
-/// The init section of these tracks, which are as many as may be.
+/// The init section of these tracks, whose number is within the limit.
 fn make_init(alloc: Global, tracks: &[Track]) -> Result<Init, MediaFault>
     requires some { 0 < length tracks.now }
     requires few { length tracks.now ≤ 8 }
@@ -83,11 +83,12 @@ fn make_init(alloc: Global, tracks: &[Track]) -> Result<Init, MediaFault>
     Ok(init)
 }
 
-/// Reads an init section (ISO/IEC 14496-12 8.2 to 8.4, 8.8.1, 8.8.3): its tracks in order with their `trex` defaults, and
-/// which of them is the timing track.
+/// Reads an init section (ISO/IEC 14496-12 8.2 to 8.4, 8.8.1, 8.8.3): its tracks in order with their `trex` defaults, and the number of the
+/// timing track.
 ///
-/// The first fault, in this order: `BadBox`, `NoTrack`, `TooManyTracks`, `ZeroScale`, and `Memory` in place of a good init
-/// section alone, where no memory was left to keep it.
+/// # Errors
+/// The first fault, in this order: `BadBox`, `NoTrack`, `TooManyTracks`, `ZeroScale`. `Memory` only for a valid init section, if the
+/// allocation to keep it failed.
 pub fn read_init(alloc: Global, bytes: &[u8]) -> Result<Init, MediaFault>
     ensures { ReadsAs result (init_of bytes.now) }
 {

@@ -1,4 +1,4 @@
-//! Reads init sections and the facts of units (ISO/IEC 14496-12), exactly by the definitions of `hls_media_laws`.
+//! Reads init sections and the facts of units (ISO/IEC 14496-12), exactly as `hls_media_laws` defines them.
 #![tactic(auto)]
 
 mod box_fields;

@@ -1,4 +1,4 @@
-//! What the track fragments of a unit come to, one after the other.
+//! Summarizes the track fragments of a unit, in order.
 
 ghost use Rattle.std.proofs.Common.{rules};
 ghost use Rattle.std.specs.Prelude.{◌≡◌, ℕ, ◌+◌, ◌*◌, ◌^◌, ◌<◌, ◌≤◌, ◌==◌, pos, option_map, option_and_then, find, length, IfSome, if◌then◌else◌};
@@ -23,25 +23,24 @@ use hls_media_laws::kinds::TRAF;
 use hls_media_laws::track::{Track, TrexDefaults};
 use hls_time::Ticks;
 
-/// From where to where the content of the `mdat` goes, counted from the first byte of the `moof`.
+/// The range of the `mdat`'s content, relative to the first byte of the `moof`.
 #[derive(Clone, Copy)]
 pub struct MdatBounds {
     pub low: i128,
     pub high: i128,
 }
 
-/// What is known of the track fragments so far.
+/// The summary of the track fragments so far.
 #[derive(Clone, Copy)]
 pub struct MoofSummary {
-    /// Whether one is of no track.
+    /// Whether a track fragment belongs to no track.
     pub unknown: bool,
-    /// Whether one has a base data offset.
+    /// Whether a track fragment has a base data offset.
     pub base_offset: bool,
     pub timing: TimingTraf,
     pub placement: RunPlacement,
 }
 
-/// The first track with this number.
 fn find_track(tracks: &[Track], id: u32) -> Option<Track>
     ensures { result ≡ find (λ (k : Track). k.id == id) tracks.now }
 {
@@ -53,7 +52,6 @@ fn find_track(tracks: &[Track], id: u32) -> Option<Track>
     None
 }
 
-/// The defaults of a track.
 fn track_defaults(track: Option<Track>) -> Option<TrexDefaults>
     ensures { result ≡ option_and_then (λ (k : Track). k.defaults) track }
 {
@@ -63,7 +61,7 @@ fn track_defaults(track: Option<Track>) -> Option<TrexDefaults>
     track.defaults
 }
 
-/// What goes for the runs of a track fragment in this frame: a default stands in its header, else in the `trex`.
+/// The visitor for the runs of a track fragment in this window. Defaults are those of its header, or else those of the `trex`.
 fn make_trun_visitor(head: Tfhd, trex: Option<TrexDefaults>, window: DataWindow) -> TrunVisitor
     ensures duration { result.duration ≡ option_or head.duration (option_map (λ (d : TrexDefaults). d.duration) trex) }
     ensures size { result.size ≡ option_or head.size (option_map (λ (d : TrexDefaults). d.size) trex) }
@@ -78,7 +76,7 @@ fn make_trun_visitor(head: Tfhd, trex: Option<TrexDefaults>, window: DataWindow)
     }
 }
 
-/// Where a track fragment's runs start: at the first byte of the `moof`, or where the runs before it ended.
+/// The start of a track fragment's runs: the first byte of the `moof`, or the end of the previous runs.
 fn start_placement(at_moof: bool, last: RunPlacement) -> RunPlacement
     ensures value { result ≡ record { end = if at_moof then pos 0 else last.end; lacking = last.lacking; outside = last.outside } }
     ensures near { (n : ℕ) → IsNear n last.end → IsNear n result.end }
@@ -93,7 +91,6 @@ fn start_placement(at_moof: bool, last: RunPlacement) -> RunPlacement
     last
 }
 
-/// The frame of runs that start there.
 fn make_window(start: RunPlacement, bounds: MdatBounds) -> DataWindow
     ensures { result ≡ record { base = start.end; low = bounds.low; high = bounds.high } }
 {
@@ -104,8 +101,7 @@ fn make_window(start: RunPlacement, bounds: MdatBounds) -> DataWindow
     }
 }
 
-/// What the track fragments of a `moof` are read by: the tracks of the init section, which of them is the timing track, and
-/// where samples may lie.
+/// The parameters for reading the track fragments of a `moof`: the tracks of the init section, the timing track, and where samples may be.
 #[derive(Clone, Copy)]
 pub struct MoofVisitor<'a> {
     pub tracks: &'a [Track],
@@ -113,7 +109,7 @@ pub struct MoofVisitor<'a> {
     pub bounds: MdatBounds,
 }
 
-/// One more track fragment, with this content: its heading first, which may stand behind its runs.
+/// Adds a track fragment with this content. Its header is read first, since it may follow its runs.
 fn add_traf(
     moof_visitor: &MoofVisitor<'_>,
     state: MoofSummary,
@@ -184,7 +180,7 @@ impl<'a> BoxVisitor for MoofVisitor<'a> {
     ghost some = { Prim.search rules };
 }
 
-/// What all track fragments of the `moof` with this content come to.
+/// Summarizes all track fragments of the `moof` with this content.
 pub fn summarize_moof(
     tracks: &[Track],
     timing: Track,

@@ -1,4 +1,4 @@
-//! Movie boxes (ISO/IEC 14496-12 8.2.1): their tracks, and their `mvex`.
+//! Movie boxes (ISO/IEC 14496-12 8.2.1): their tracks and their `mvex`.
 
 ghost use Rattle.std.proofs.Common.{rules};
 ghost use Rattle.std.specs.Prelude.{◌≡◌, ◌^◌, ◌<◌, ◌≤◌, true, Some, [], length, IfSome, option_map, if◌then◌else◌, None};
@@ -17,14 +17,14 @@ use crate::trak::parse_trak;
 use hls_media_laws::kinds::{MVEX, TRAK, TREX};
 use hls_time::Ticks;
 
-/// From where to where something goes.
+/// A range of bytes.
 #[derive(Clone, Copy)]
 pub struct ByteSpan {
     pub from: usize,
     pub to: usize,
 }
 
-/// Adds the track of the `trak` with this content. Whether that was good, and its number new.
+/// Adds the track of the `trak` with this content. Returns whether it is valid and its number is new.
 fn add_track(ids: &mut TrackIds, tracks: &mut Tracks, content: &[u8]) -> bool
     requires len { length content.now ≤ 2 ^ 20 }
     requires room { 76 ≤ length content.now → length ids.old < 16384 }
@@ -42,15 +42,15 @@ fn add_track(ids: &mut TrackIds, tracks: &mut Tracks, content: &[u8]) -> bool
     true
 }
 
-/// What was found beside the tracks of a `moov`.
+/// The contents of a `moov` other than its tracks.
 #[derive(Clone, Copy)]
 pub struct MoovExtras {
     /// The content of the first `mvex`.
     pub mvex: Option<ByteSpan>,
 }
 
-/// Gathers the tracks of the `moov` with this content: all their numbers, and the first of them. None where a box is no good
-/// or two tracks have one number.
+/// Collects the tracks of the `moov` with this content: all their numbers, and the first eight tracks. Returns None if a box isn't valid or
+/// two tracks have the same number.
 fn collect_tracks(moov: &[u8], ids: &mut TrackIds, tracks: &mut Tracks) -> Option<MoovExtras>
     requires len { length moov.now ≤ 2 ^ 20 }
     requires no_ids { ids.old ≡ [] }
@@ -88,7 +88,7 @@ fn collect_tracks(moov: &[u8], ids: &mut TrackIds, tracks: &mut Tracks) -> Optio
     Some(MoovExtras { mvex })
 }
 
-/// What is looked for in an `mvex`: the defaults of tracks.
+/// The visitor of an `mvex`, which collects the defaults of tracks.
 #[derive(Clone, Copy)]
 pub struct MvexVisitor;
 
@@ -122,7 +122,7 @@ impl BoxVisitor for MvexVisitor {
     ghost some = { Prim.search rules };
 }
 
-/// The tracks with the defaults of the `mvex` with this content, if all that counts in it is good.
+/// The tracks with the defaults of the `mvex` with this content, if its relevant boxes are valid.
 fn apply_mvex(mvex: &[u8], tracks: Tracks) -> Option<Tracks>
     requires { length mvex.now ≤ 2 ^ 20 }
     ensures { result ≡ fold_content trex_step Some tracks mvex.now }
@@ -130,8 +130,8 @@ fn apply_mvex(mvex: &[u8], tracks: Tracks) -> Option<Tracks>
     visit_boxes(&MvexVisitor, tracks, mvex, &mut Ticks::new())
 }
 
-/// Reads the tracks of the `moov` with this content: all their numbers, and the first eight tracks with their defaults. None
-/// where not all that counts in it is good, or two tracks have one number.
+/// Reads the tracks of the `moov` with this content: all their numbers, and the first eight tracks with their defaults. Returns None if a
+/// relevant box isn't valid, or two tracks have the same number.
 pub fn read_tracks(moov: &[u8], ids: &mut TrackIds) -> Option<Tracks>
     requires len { length moov.now ≤ 2 ^ 20 }
     requires no_ids { ids.old ≡ [] }

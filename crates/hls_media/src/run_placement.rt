@@ -1,5 +1,4 @@
-//! Where the bytes of a track fragment's runs lie, counted from the first byte of the `moof` (ISO/IEC 14496-12 8.8.7,
-//! 8.8.8).
+//! The positions of a track fragment's runs, relative to the first byte of the `moof` (ISO/IEC 14496-12 8.8.7, 8.8.8).
 
 ghost use Rattle.std.specs.Prelude.{◌≡◌, ℕ, pos, ◌+◌, ◌*◌, ◌^◌, ◌+ℤ◌, ◌≤◌, ◌<◌, ◌||◌, Some, length, IfSome};
 ghost use Rattle.hls_media_laws.specs.Runs.{is_outside as some_byte_outside};
@@ -11,7 +10,7 @@ use crate::trun::Trun;
 use crate::trun_columns::sum_sizes;
 use hls_time::Ticks;
 
-/// What a track fragment's runs are placed in: its base, and from where to where the content of the `mdat` goes.
+/// The window of a track fragment's runs: their base, and the range of the `mdat`'s content.
 #[derive(Clone, Copy)]
 pub struct DataWindow {
     pub base: i128,
@@ -19,25 +18,24 @@ pub struct DataWindow {
     pub high: i128,
 }
 
-/// What is known of the runs so far.
+/// The summary of the runs so far.
 #[derive(Clone, Copy)]
 pub struct RunPlacement {
-    /// Where the last run ended.
+    /// The end of the last run.
     pub end: i128,
-    /// Whether the size of a sample stands nowhere.
+    /// Whether the size of a sample is missing.
     pub lacking: bool,
     /// Whether a run has a byte outside the content of the `mdat`.
     pub outside: bool,
 }
 
-/// A run's bytes: where they begin, and how many they are.
+/// The bytes of a run: their start, and their number.
 #[derive(Clone, Copy)]
 pub struct RunExtent {
     pub begin: i128,
     pub len: u64,
 }
 
-/// The bytes of a run of `len` bytes.
 fn find_extent(run: Trun, window: DataWindow, state: RunPlacement, len: u64) -> RunExtent
     requires { IsNear (2 ^ 28) window.base }
     ensures value { result ≡ run_extent run window state len }
@@ -55,7 +53,7 @@ fn find_extent(run: Trun, window: DataWindow, state: RunPlacement, len: u64) -> 
     }
 }
 
-/// What is known once a run of these bytes has ended.
+/// The summary after a run with these bytes.
 fn end_run(extent: RunExtent, lacking: bool, outside: bool) -> RunPlacement
     requires { IsAround (2 ^ 28) extent.begin }
     ensures value { result ≡ record { end = extent.begin +ℤ pos extent.len; lacking = lacking; outside = outside } }
@@ -68,7 +66,7 @@ fn end_run(extent: RunExtent, lacking: bool, outside: bool) -> RunPlacement
     }
 }
 
-/// Whether a byte of a run stands outside the content of the `mdat`.
+/// Whether a byte of a run is outside the content of the `mdat`.
 fn is_outside(window: DataWindow, extent: RunExtent) -> bool
     requires { IsAround (2 ^ 28) extent.begin }
     ensures { result ≡ some_byte_outside window.low window.high extent.begin extent.len }
@@ -77,14 +75,13 @@ fn is_outside(window: DataWindow, extent: RunExtent) -> bool
         && (extent.begin < window.low || window.high < extent.begin + i128::from(extent.len))
 }
 
-/// Either of two tests.
 pub fn either(one: bool, other: bool) -> bool
     ensures { result ≡ (one || other) }
 {
     one || other
 }
 
-/// One more run.
+/// Adds a run.
 pub fn add_run(
     state: RunPlacement,
     default: Option<u32>,

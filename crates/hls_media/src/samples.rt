@@ -1,4 +1,4 @@
-//! How long a track fragment's samples last, and the flags of its first one (ISO/IEC 14496-12 8.8.8).
+//! The duration of a track fragment's samples, and the flags of the first one (ISO/IEC 14496-12 8.8.8).
 
 ghost use Rattle.std.specs.Prelude.{◌≡◌, ◌+◌, ◌*◌, ◌^◌, ◌<◌, ◌≤◌, Some, length, IfSome};
 ghost use Rattle.hls_media.specs.RisesBy.{RisesBy};
@@ -10,20 +10,19 @@ use crate::trun::Trun;
 use crate::trun_columns::{read_first_flags, sum_durations};
 use hls_time::Ticks;
 
-/// What is known of the samples so far.
+/// The summary of the samples so far.
 #[derive(Clone, Copy)]
 pub struct SampleSummary {
     /// The sum of their durations, in ticks.
     pub duration: u128,
-    /// Whether a duration stands nowhere.
+    /// Whether a duration is missing.
     pub lacking: bool,
     /// Whether there is a sample.
     pub samples: bool,
-    /// The first sample's flags, if they stand anywhere.
+    /// The first sample's flags, if they are given.
     pub flags: Option<u32>,
 }
 
-/// The first sample's flags once this run is known.
 fn flags_after_run(
     state: SampleSummary,
     flags: Option<u32>,
@@ -42,7 +41,7 @@ fn flags_after_run(
     read_first_flags(content, run, flags, ticks)
 }
 
-/// One more run.
+/// Adds a run.
 pub fn add_run_times(
     state: SampleSummary,
     duration: Option<u32>,

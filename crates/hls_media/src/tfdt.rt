@@ -7,7 +7,7 @@ ghost use Rattle.hls_media.specs.RisesBy.{RisesBy};
 use crate::fields::{read_u32_field, read_u64_field};
 use hls_time::Ticks;
 
-/// The decode time in a `tfdt` with this content, if its version is known and its field lies in it.
+/// The decode time in a `tfdt` with this content, if its version is known and the field is within it.
 #[tactic(auto, unfolding(hls_media_laws::specs::Fields::tfdt_fits, hls_media_laws::specs::Fields::decode_time, crate::specs::Boxes::tfdt_of))]
 pub fn parse_tfdt(content: &[u8], ticks: &mut Ticks) -> Option<u64>
     requires { ticks.old < 2 ^ 62 + 2 ^ 61 }

@@ -12,7 +12,7 @@ use hls_media_laws::flags::{
 };
 use hls_time::Ticks;
 
-/// What is used of a `tfhd`.
+/// The fields of a `tfhd` that are used.
 #[derive(Clone, Copy)]
 pub struct Tfhd {
     pub track: u32,
@@ -22,7 +22,7 @@ pub struct Tfhd {
     pub sample_flags: Option<u32>,
 }
 
-/// The header with this content, if its fields lie in it.
+/// The header with this content, if its fields are within it.
 #[tactic(auto, unfolding(hls_media_laws::specs::Fields::duration_offset, hls_media_laws::specs::Fields::size_offset, hls_media_laws::specs::Fields::flags_offset, hls_media_laws::specs::Fields::tfhd_fits, hls_media_laws::specs::Fields::default_duration, hls_media_laws::specs::Fields::default_size, hls_media_laws::specs::Fields::default_flags, crate::specs::Boxes::tfhd_of, crate::specs::Boxes::tfhd_fields))]
 pub fn parse_tfhd(content: &[u8], ticks: &mut Ticks) -> Option<Tfhd>
     requires { ticks.old < 2 ^ 62 + 2 ^ 61 }

@@ -1,4 +1,4 @@
-//! What the track fragments of the timing track come to: a good unit has just one.
+//! The track fragments of the timing track: a valid unit has exactly one.
 
 ghost use Rattle.std.specs.Prelude.{◌≡◌, ◌^◌};
 ghost use Rattle.hls_media.specs.Runs.{IsBrief};
@@ -6,8 +6,7 @@ ghost use Rattle.hls_media.specs.MoofSummary.{samples_before, timing_with_sample
 
 use crate::samples::SampleSummary;
 
-/// What is known of the timing track: no track fragment of it so far, one with its decode time and its samples, or more
-/// than one.
+/// The timing track's fragment: none so far, one with its decode time and its samples, or more than one.
 #[derive(Clone, Copy)]
 pub enum TimingTraf {
     Missing,
@@ -15,8 +14,7 @@ pub enum TimingTraf {
     Several,
 }
 
-/// What is known of the samples of a track fragment before its first run, where that is asked: of the timing track's first
-/// one.
+/// The initial sample summary of a track fragment, if samples are summarized: only for the first one of the timing track.
 pub fn start_samples(own: bool, state: TimingTraf) -> Option<SampleSummary>
     ensures value { result ≡ samples_before own state }
     ensures brief { IsBrief 0 result }
@@ -35,7 +33,7 @@ pub fn start_samples(own: bool, state: TimingTraf) -> Option<SampleSummary>
     })
 }
 
-/// What is known of the timing track after a track fragment that is its own, or isn't.
+/// The timing track's fragment after one more track fragment, given whether that is its own.
 pub fn add_timing_traf(
     own: bool,
     state: TimingTraf,

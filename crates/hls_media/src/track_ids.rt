@@ -5,10 +5,10 @@ ghost use Rattle.std.specs.List.{list_any};
 
 use std::marker::Model;
 
-/// More than the `trak` boxes that fit into an init section of 1048576 bytes, of which each has at least 84.
+/// More than the number of `trak` boxes that fit in an init section of 1048576 bytes: each has at least 84 bytes.
 pub const ROOM: usize = 16384;
 
-/// Track numbers, in the order in which they came. A contract sees their list.
+/// Track numbers, in order of arrival. Contracts see their list.
 #[derive(Drop)]
 pub struct TrackIds {
     numbers: [u32; ROOM],

@@ -1,4 +1,4 @@
-//! The tracks of an init section, as far as they are few enough, kept on the stack.
+//! The first tracks of an init section, kept on the stack.
 
 ghost use Rattle.std.specs.Prelude.{◌≡◌, ◌≤◌, List, [], length, map, take};
 ghost use Rattle.hls_media_laws.specs.declared.track.Track.{Track};
@@ -7,7 +7,7 @@ ghost use Rattle.hls_media.specs.TrexSteps.{track_with_defaults as with_trex_def
 use hls_media_laws::track::{Track, Trex};
 use std::marker::Model;
 
-/// The first eight tracks at most. A contract sees their list.
+/// At most the first eight tracks. Contracts see their list.
 #[derive(Drop)]
 pub struct Tracks {
     slots: [Track; 8],
@@ -46,7 +46,7 @@ impl Tracks {
         &self.slots[..self.count]
     }
 
-    /// Keeps a track, if it is among the first eight.
+    /// Keeps a track if it is among the first eight.
     pub fn keep(&mut self, track: Track)
         ensures { self.new ≡ first_eight self.old track }
     {
@@ -56,7 +56,7 @@ impl Tracks {
         }
     }
 
-    /// Gives a track its defaults, unless it has some.
+    /// Sets the defaults of a track, unless it has some.
     pub fn set_defaults(&mut self, trex: Trex)
         ensures { self.new ≡ map (with_trex_defaults trex) self.old }
     {

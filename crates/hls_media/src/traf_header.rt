@@ -1,4 +1,4 @@
-//! Track fragments (ISO/IEC 14496-12 8.8.6): their headers and their decode times.
+//! The headers and decode times of track fragments (ISO/IEC 14496-12 8.8.6).
 
 ghost use Rattle.std.proofs.Common.{rules};
 ghost use Rattle.std.specs.Prelude.{◌≡◌, ◌+◌, ◌^◌, ◌≤◌, length};
@@ -18,14 +18,14 @@ pub struct TrafHeader {
     pub time: Option<u64>,
 }
 
-/// What the boxes of a track fragment have shown of its heading so far.
+/// What was found of a track fragment's header so far.
 #[derive(Clone, Copy)]
 pub struct PartialTrafHeader {
     pub head: Option<Tfhd>,
     pub time: Option<u64>,
 }
 
-/// What is looked for in a `traf` first: its heading.
+/// The first visitor of a `traf`, which reads its header.
 #[derive(Clone, Copy)]
 pub struct TrafVisitor;
 
@@ -64,7 +64,7 @@ impl BoxVisitor for TrafVisitor {
     ghost some = { Prim.search rules };
 }
 
-/// The heading, if there was a `tfhd`.
+/// The header, if there was a `tfhd`.
 fn finish_traf_header(state: PartialTrafHeader) -> Option<TrafHeader>
     ensures { result ≡ finished_header state }
 {
@@ -75,7 +75,7 @@ fn finish_traf_header(state: PartialTrafHeader) -> Option<TrafHeader>
     })
 }
 
-/// The heading of the track fragment with this content, if it is good. No run is looked at.
+/// The header of the track fragment with this content, if it is valid. Runs are ignored.
 pub fn parse_traf_header(content: &[u8], ticks: &mut Ticks) -> Option<TrafHeader>
     requires len { length content.now ≤ 2 ^ 26 }
     requires room { ticks.old + length content.now ≤ 2 ^ 62 + 2 ^ 60 }

@@ -1,4 +1,4 @@
-//! The runs of a track fragment: where their bytes lie, and how long their samples last (ISO/IEC 14496-12 8.8.7, 8.8.8).
+//! The runs of a track fragment: the positions of their bytes, and the duration of their samples (ISO/IEC 14496-12 8.8.7, 8.8.8).
 
 ghost use Rattle.std.proofs.Common.{rules};
 ghost use Rattle.std.specs.Prelude.{◌≡◌, ℕ, ◌+◌, ◌*◌, ◌^◌, ◌<◌, ◌≤◌, length, option_map, IfSome};
@@ -16,7 +16,7 @@ use crate::trun::{Trun, parse_trun};
 use hls_media_laws::kinds::TRUN;
 use hls_time::Ticks;
 
-/// What goes for the runs of a track fragment: the values that samples have by default, and where runs are placed.
+/// The visitor of the runs of a track fragment: the default values of samples, and the window of the runs.
 #[derive(Clone, Copy)]
 pub struct TrunVisitor {
     pub duration: Option<u32>,
@@ -25,15 +25,15 @@ pub struct TrunVisitor {
     pub window: DataWindow,
 }
 
-/// What is known of the runs so far.
+/// The summary of the runs so far.
 #[derive(Clone, Copy)]
 pub struct RunSummary {
     pub placement: RunPlacement,
-    /// How long their samples last, where that is asked.
+    /// The summary of their samples, if samples are summarized.
     pub sample_summary: Option<SampleSummary>,
 }
 
-/// How long the samples last with those of one more run, where that is asked.
+/// The summary of the samples with one more run, if samples are summarized.
 fn add_run_samples(
     state: Option<SampleSummary>,
     rules: TrunVisitor,
@@ -62,7 +62,6 @@ fn add_run_samples(
     ))
 }
 
-/// One more run.
 fn summarize_run(
     state: RunSummary,
     rules: TrunVisitor,

@@ -13,13 +13,13 @@ use hls_media_laws::kinds::{HDLR, MDHD, MDIA, TKHD};
 use hls_media_laws::track::{Mdia, Track};
 use hls_time::Ticks;
 
-/// The timescale and the handler that an `mdia` has shown so far.
+/// The timescale and the handler found in an `mdia` so far.
 type PartialMdia = (Option<u32>, Option<u32>);
 
-/// The number and the media that a `trak` has shown so far.
+/// The number and the media found in a `trak` so far.
 type PartialTrak = (Option<u32>, Option<Mdia>);
 
-/// What is looked for in an `mdia`: its timescale, and its handler.
+/// The visitor of an `mdia`, which reads its timescale and its handler.
 #[derive(Clone, Copy)]
 pub struct MdiaVisitor;
 
@@ -62,7 +62,7 @@ fn finish_mdia(state: PartialMdia) -> Option<Mdia>
     Some(Mdia { scale, handler })
 }
 
-/// What the `mdia` with this content says of its track, if all that counts in it is good.
+/// The timescale and the handler of the `mdia` with this content, if its relevant boxes are valid.
 fn parse_mdia(content: &[u8], ticks: &mut Ticks) -> Option<Mdia>
     requires len { length content.now ≤ 2 ^ 26 }
     requires room { ticks.old + length content.now ≤ 2 ^ 62 + 2 ^ 60 }
@@ -74,7 +74,7 @@ fn parse_mdia(content: &[u8], ticks: &mut Ticks) -> Option<Mdia>
     finish_mdia(found)
 }
 
-/// What is looked for in a `trak`: its number, and its media.
+/// The visitor of a `trak`, which reads its track number and its media.
 #[derive(Clone, Copy)]
 pub struct TrakVisitor;
 
@@ -107,7 +107,7 @@ impl BoxVisitor for TrakVisitor {
     ghost some = { Prim.search rules };
 }
 
-/// The track, as yet without defaults, if nothing is missing.
+/// The track of these parts, still without defaults, if none is missing.
 fn finish_trak(state: PartialTrak) -> Option<Track>
     ensures value { result ≡ whole_track state }
     ensures least { IfSome result (λ _. 76 ≤ track_weight state) }
@@ -122,9 +122,9 @@ fn finish_trak(state: PartialTrak) -> Option<Track>
     })
 }
 
-/// The track of the `trak` with this content, as yet without defaults, if all that counts in it is good.
+/// The track of the `trak` with this content, still without defaults, if its relevant boxes are valid.
 ///
-/// Nobody asks how many fields of an init section are read: they go to a count of their own.
+/// The number of fields read in an init section isn't reported: it goes to a counter that is dropped.
 pub fn parse_trak(content: &[u8]) -> Option<Track>
     requires { length content.now ≤ 2 ^ 20 }
     ensures value { result ≡ track_by_lists content.now }

@@ -13,20 +13,20 @@ use hls_media_laws::flags::{
 };
 use hls_time::Ticks;
 
-/// What is used of a `trun`, and where its rows of fields stand.
+/// The fields of a `trun` that are used, and the position of its rows.
 #[derive(Clone, Copy)]
 pub struct Trun {
     pub flags: u32,
     pub count: u32,
     pub offset: Option<i32>,
     pub first_flags: Option<u32>,
-    /// Where the first row stands.
+    /// The offset of the first row.
     pub rows: usize,
     /// The length of a row.
     pub row: usize,
 }
 
-/// The run with this content, if its fields lie in it.
+/// The run with this content, if its fields are within it.
 #[tactic(auto, unfolding(hls_media_laws::specs::Fields::sample_count, hls_media_laws::specs::Fields::first_flags_offset, hls_media_laws::specs::Fields::rows_offset, hls_media_laws::specs::Fields::row_len, hls_media_laws::specs::Fields::trun_fits, hls_media_laws::specs::Fields::data_offset, hls_media_laws::specs::Fields::first_flags_of, crate::specs::Boxes::trun_of))]
 pub fn parse_trun(content: &[u8], ticks: &mut Ticks) -> Option<Trun>
     requires { ticks.old < 2 ^ 62 + 2 ^ 61 }

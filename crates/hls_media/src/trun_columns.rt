@@ -1,4 +1,4 @@
-//! The values of a run's samples: from the fields of its rows, or by defaults (ISO/IEC 14496-12 8.8.8).
+//! The values of a run's samples: from the fields of its rows, or by default (ISO/IEC 14496-12 8.8.8).
 
 ghost use Rattle.std.specs.Prelude.{◌≡◌, ◌+◌, ◌*◌, ◌^◌, ◌<◌, ◌≤◌, Option, true, false, length, sum};
 ghost use Rattle.hls_media_laws.specs.Fields.{column, values, durations, sizes};
@@ -13,16 +13,16 @@ use crate::trun::Trun;
 use hls_media_laws::flags::{SAMPLE_DURATION_PRESENT, SAMPLE_FLAGS_PRESENT, SAMPLE_SIZE_PRESENT};
 use hls_time::Ticks;
 
-/// What the values of a run's samples come to.
+/// The sum of the values of a run's samples.
 #[derive(Clone, Copy)]
 pub struct ColumnSum {
-    /// The sum of those that are there.
+    /// The sum of the values that exist.
     pub total: u64,
-    /// Whether one stands nowhere.
+    /// Whether a value is missing.
     pub lacking: bool,
 }
 
-/// The sum of the numbers that stand at `at` in the first `count` rows of `row` bytes.
+/// The sum of the numbers at `at` in the first `count` rows of `row` bytes.
 pub fn sum_column(rows: &[u8], count: u32, row: usize, at: usize, ticks: &mut Ticks) -> u64
     requires in_row { at + 4 ≤ row }
     requires in_rows { count * row ≤ length rows.now }
@@ -41,9 +41,9 @@ pub fn sum_column(rows: &[u8], count: u32, row: usize, at: usize, ticks: &mut Ti
     total
 }
 
-/// The values of the samples of a run: the fields at `at` where rows have them, else the default.
+/// The sum of the values of a run's samples: the fields at `at` if rows have them, otherwise the default.
 ///
-/// Where rows don't have them, one product serves for all samples, and nothing is read.
+/// If rows don't have them, the sum is one product, and nothing is read.
 pub fn sum_values(
     content: &[u8],
     run: Trun,
@@ -77,7 +77,7 @@ pub fn sum_values(
     }
 }
 
-/// The durations of a run's samples.
+/// The sum of the durations of a run's samples.
 pub fn sum_durations(
     content: &[u8],
     run: Trun,
@@ -99,7 +99,7 @@ pub fn sum_durations(
     )
 }
 
-/// The sizes of a run's samples.
+/// The sum of the sizes of a run's samples.
 pub fn sum_sizes(content: &[u8], run: Trun, default: Option<u32>, ticks: &mut Ticks) -> ColumnSum
     requires is_run { IsRun run content.now }
     requires room { ticks.old < 2 ^ 62 + 2 ^ 61 }
@@ -116,7 +116,7 @@ pub fn sum_sizes(content: &[u8], run: Trun, default: Option<u32>, ticks: &mut Ti
     )
 }
 
-/// The flags of the first sample of a run that has one.
+/// The flags of the first sample of a run, which has one.
 pub fn read_first_flags(
     content: &[u8],
     run: Trun,

@@ -1,4 +1,4 @@
-//! Units: their boxes at the top, and their facts.
+//! Units: their top-level boxes and their facts.
 
 ghost use Rattle.std.specs.Prelude.{pos, option_map, IfSome, ◌≡◌, ◌+◌, ◌*◌, ◌^◌, ◌<◌, ◌≤◌, length};
 ghost use Rattle.hls_media_laws.specs.UnitFacts.{facts};
@@ -11,7 +11,7 @@ ghost use Rattle.hls_media.specs.MoofSummary.{facts_context};
 use crate::box_headers::read_box_header;
 use crate::facts::decide_facts;
 use crate::moof::{MdatBounds, summarize_moof};
-use hls_boxes_laws::kinds::{MDAT, MOOF, MOOV, UNIT_LIMIT};
+use hls_boxes::kinds::{MDAT, MOOF, MOOV, UNIT_LIMIT};
 use hls_media_laws::facts::Facts;
 use hls_media_laws::fault::MediaFault;
 use hls_media_laws::init::Init;
@@ -39,18 +39,18 @@ fn read_moof_facts(
     decide_facts(timing, len, summary)
 }
 
-/// Where the parts of a unit stand.
+/// The positions of the parts of a unit.
 #[derive(Clone, Copy)]
 pub struct UnitLayout {
-    /// From where to where the content of the `moof` goes.
+    /// The range of the `moof`'s content.
     pub from: usize,
     pub to: usize,
-    /// From where to where the content of the `mdat` goes, counted from the first byte of the `moof`.
+    /// The range of the `mdat`'s content, relative to the first byte of the `moof`.
     pub low: usize,
     pub high: usize,
 }
 
-/// A `moof` that was met: where it begins, and from where to where its content goes.
+/// The `moof` that was found: its start, and the range of its content.
 #[derive(Clone, Copy)]
 pub struct FoundMoof {
     pub begin: usize,
@@ -58,7 +58,7 @@ pub struct FoundMoof {
     pub to: usize,
 }
 
-/// The layout of a unit, if the bytes are just one.
+/// The layout of a unit, if the bytes are exactly one.
 fn find_layout(unit: &[u8], ticks: &mut Ticks) -> Option<UnitLayout>
     requires { ticks.old < 2 ^ 62 }
     ensures value { option_map (layout_of_spans unit.now) result ≡ layout_of unit.now }
@@ -107,7 +107,6 @@ fn find_layout(unit: &[u8], ticks: &mut Ticks) -> Option<UnitLayout>
     None
 }
 
-/// From where to where the content of the `mdat` goes.
 fn mdat_bounds(layout: UnitLayout) -> MdatBounds
     ensures { result ≡ record { low = pos layout.low; high = pos layout.high } }
 {
@@ -117,13 +116,14 @@ fn mdat_bounds(layout: UnitLayout) -> MdatBounds
     }
 }
 
-/// Reads the facts of a unit under its init section (ISO/IEC 14496-12 8.8). It takes no memory. The count rises by one
-/// for each field that is read: of a box its size, its type, and its size in 64 bits where it has one; of its content each
-/// number that is used, each time that it is. However many samples a unit announces, that is at most 16 for each of its
-/// bytes.
+/// Reads the facts of a unit under its init section (ISO/IEC 14496-12 8.8). Doesn't allocate.
 ///
-/// The first fault of the whole unit, in this order: `BadBox`, `UnknownTrack`, `BaseOffset`, `NoTimingTraf`,
-/// `TwoTimingTrafs`, `NoDecodeTime`, `NoDefault`, `EmptyFragment`, `TimeTooLarge`, `DataOutside`.
+/// `ticks` is incremented for each field that is read: the size and type of a box, and its 64-bit size if it has one; and each number used
+/// in its content, each time that it is used. However many samples a unit declares, that is at most 16 for each of its bytes.
+///
+/// # Errors
+/// The first fault of the whole unit, in this order: `BadBox`, `UnknownTrack`, `BaseOffset`, `NoTimingTraf`, `TwoTimingTrafs`,
+/// `NoDecodeTime`, `NoDefault`, `EmptyFragment`, `TimeTooLarge`, `DataOutside`.
 pub fn read_facts_counted(init: &Init, unit: &[u8], ticks: &mut Ticks) -> Result<Facts, MediaFault>
     requires { ticks.old < 2 ^ 62 }
     ensures value { result ≡ facts init.now unit.now }
@@ -144,7 +144,7 @@ pub fn read_facts_counted(init: &Init, unit: &[u8], ticks: &mut Ticks) -> Result
     )
 }
 
-/// What `read_facts_counted` gives, by a count of its own.
+/// The same as `read_facts_counted`, with a counter of its own.
 pub fn read_facts(init: &Init, unit: &[u8]) -> Result<Facts, MediaFault>
     ensures { result ≡ facts init.now unit.now }
 {

@@ -1,4 +1,4 @@
--- What it is to be an init section that reads so, and a unit with such facts; and what follows for every one.
+-- The init sections with given tracks, and the units with given facts; and properties of all of them.
 use Rattle.std.specs.Prelude.{◌≡◌, ℕ, ◌+◌, ◌<◌, ◌≤◌, ◌^◌, List, length, Result, Ok, Err, is_ok, true}
 use Rattle.hls_time.specs.Times.{floor_us}
 use Rattle.hls_media_laws.specs.declared.facts.Facts.{Facts}
@@ -8,11 +8,11 @@ use Rattle.hls_media_laws.specs.InitData.{InitData, timing_track}
 use Rattle.hls_media_laws.specs.Inits.{init_of}
 use Rattle.hls_media_laws.specs.UnitFacts.{facts}
 
--- the bytes are just one init section, and it reads so
+-- the bytes are exactly one init section, with this content
 abbrev pub IsInit : List ℕ → InitData → Type 0
 IsInit bytes init = init_of bytes ≡ Ok init
 
--- the bytes are just one unit, and these are its facts under the init section
+-- the bytes are exactly one unit, with these facts under the init section
 abbrev pub IsUnit : InitData → List ℕ → Facts → Type 0
 IsUnit init bytes f = facts init bytes ≡ Ok f
 
@@ -43,7 +43,7 @@ UnitsAreBounded = (init : InitData) (bytes : List ℕ) (f : Facts) → IsUnit in
 abbrev pub InitsAreBounded : Type 0
 InitsAreBounded = (bytes : List ℕ) (init : InitData) → IsInit bytes init → IsBounded init bytes
 
--- what reading the bytes as an init section gives, where `Memory` may stand in place of a value
+-- the result of reading the bytes as an init section; `Memory` is possible instead of a value
 abbrev pub ReadsAs : Result InitData MediaFault → Result InitData MediaFault → Type 0
 ReadsAs (Ok init) defined = defined ≡ Ok init
 ReadsAs (Err faults.Memory) defined = is_ok defined ≡ true

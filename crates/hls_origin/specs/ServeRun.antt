@@ -1,4 +1,4 @@
--- How `serve` may end, by its words.
+-- How `serve` may end, given its arguments.
 use Rattle.std.specs.Prelude.{◌≢◌, List, Ok, Err}
 use Rattle.clap.specs.Words.{Text}
 use Rattle.hls_settings.specs.ReadSettings.{ReadsSettings}
@@ -7,11 +7,11 @@ use Rattle.hls_settings.specs.declared.settings.Settings.{Settings}
 use Rattle.hls_origin.specs.declared.serve.run.ServeEnd.{ServeEnd}
 use Rattle.hls_origin.specs.declared.serve.run.ServeEnd.TheVariants.{Done, Usage, BindFailed, Memory}
 
--- words that say settings
+-- arguments that specify settings
 abbrev pub AreSettings : List Text → Type 0
 AreSettings arguments = (settings : Settings) × ReadsSettings arguments (Ok settings)
 
--- a usage fault names the first wrong word, and nothing was started; else the words were right, or memory was wanted
+-- a usage fault reports the first invalid argument, and nothing was started; else the arguments were valid, or memory ran out
 abbrev pub EndsServe : List Text → ServeEnd → Type 0
 EndsServe arguments Done = AreSettings arguments
 EndsServe arguments BindFailed = AreSettings arguments

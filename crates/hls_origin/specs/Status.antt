@@ -1,17 +1,17 @@
--- The statuses that the programs end with.
+-- The exit statuses of the commands.
 use Rattle.std.specs.Prelude.{ℕ}
 use Rattle.hls_commands.specs.declared.check.run.CheckEnd.{CheckEnd}
 use Rattle.hls_commands.specs.declared.check.run.CheckEnd.TheVariants as check
 use Rattle.hls_commands.specs.declared.cut.run.CutEnd.{CutEnd}
 use Rattle.hls_commands.specs.declared.cut.run.CutEnd.TheVariants as cut
-use Rattle.hls_refusals.specs.declared.explain.ExplainEnd.{ExplainEnd}
-use Rattle.hls_refusals.specs.declared.explain.ExplainEnd.TheVariants as explain
+use Rattle.hls_commands.specs.declared.explain.ExplainEnd.{ExplainEnd}
+use Rattle.hls_commands.specs.declared.explain.ExplainEnd.TheVariants as explain
 use Rattle.hls_commands.specs.declared.lint.run.LintEnd.{LintEnd}
 use Rattle.hls_commands.specs.declared.lint.run.LintEnd.TheVariants as lint
 use Rattle.hls_origin.specs.declared.serve.run.ServeEnd.{ServeEnd}
 use Rattle.hls_origin.specs.declared.serve.run.ServeEnd.TheVariants as serve
 
--- words that ask for nothing that the program does
+-- arguments that name nothing that the program does
 abbrev pub usage_status : ℕ
 usage_status = 2
 

@@ -1,25 +1,25 @@
 //! `hls_origin`: a live HLS origin over fragmented MP4.
 //!
-//! `hls_origin cut [--each] [--preferred N] [--charge N] [--certificate] [--target N] [--uri TEXT] [--epoch TEXT]` reads a
-//! recorded stream of one rendition from standard input and writes its playlist (RFC 8216), or its least
-//! plan's certificate, to standard output. Without a word it does `cut --each`. Status 0 is a
-//! playlist or a plan's certificate, 1 a refusal, 2 a usage fault, 3 that no plan exists.
+//! `hls_origin cut [--each] [--preferred N] [--charge N] [--certificate] [--target N] [--uri TEXT] [--epoch TEXT]` reads a recorded
+//! stream of one rendition from standard input and writes its playlist (RFC 8216), or its least plan's certificate, to standard
+//! output. Without arguments the program runs `cut --each`. The exit status is 0 for a playlist or a plan's certificate, 1 for a
+//! refusal, 2 for a usage fault, and 3 if there is no plan.
 //!
-//! `hls_origin check` reads a certificate from standard input and writes the answer to it to standard
-//! output: `cut` and its cost, `none`, or `refused` and why. Status 0 is a good certificate, 1 a
-//! refused one or a failed call, 2 a usage fault.
+//! `hls_origin check` reads a certificate from standard input and writes the answer to it to standard output: `cut` and its cost,
+//! `none`, or `refused` and the reason. The exit status is 0 for a valid certificate, 1 for a refused one or an error, and 2 for a
+//! usage fault.
 //!
-//! `hls_origin lint` reads a media playlist from standard input and writes to standard output what it
-//! is in one line, or `refused`, why, and the line's number where there is one. Status 0 is a playlist,
-//! 1 a refusal or a failed call, 2 a usage fault.
+//! `hls_origin lint` reads a media playlist from standard input and writes a one-line summary to standard output, or `refused`, the
+//! reason, and the line's number, if there is one. The exit status is 0 for a playlist, 1 for a refusal or an error, and 2 for a
+//! usage fault.
 //!
-//! `hls_origin explain [NAME]` writes what a refusal's name means and what to change, or all names, a line each. Status 1 is an
-//! unknown name or a failed call, 2 a usage fault.
+//! `hls_origin explain [NAME]` writes what a refusal's name means and what to change, or all names, one per line. The exit status is
+//! 1 for an unknown name or an error, and 2 for a usage fault.
 //!
-//! `hls_origin serve [OPTIONS] ADDRESS SPEC..` serves a channel over HTTP until a signal ends it. Status 2 is a usage fault, 1
-//! that the address can't be listened on or that memory was wanted.
+//! `hls_origin serve [OPTIONS] ADDRESS SPEC..` serves a channel over HTTP until a signal ends it. The exit status is 2 for a usage
+//! fault, and 1 if it can't listen on the address or is out of memory.
 //!
-//! `hls_origin help`, `--help` and `-h`, alone or after a command, print how the program is used, and `--version` its version.
+//! `hls_origin help`, `--help` and `-h`, alone or after a command, print the usage, and `--version` the version.
 #![tactic(auto)]
 
 ghost use Rattle.std.specs.Prelude.{◌≡◌};
@@ -31,10 +31,11 @@ mod version;
 
 use crate::serve::run::{ServeEnd, run_serve};
 use crate::version::{TOOLCHAIN, VERSION};
-use hls_commands::{CheckEnd, CutEnd, CutFault, LintEnd, run_check, run_cut, run_lint};
+use hls_commands::{
+    CheckEnd, CutEnd, CutFault, ExplainEnd, LintEnd, ListingFault, MEANINGS, run_check, run_cut,
+    run_explain, run_lint,
+};
 use hls_io::Counted;
-use hls_origin_listing::ListingFault;
-use hls_refusals::{ExplainEnd, MEANINGS, run_explain};
 use hls_settings::{PrintableArgument, SettingsMessage};
 use std::io::{Eprint, ErrorKind};
 use std::net::{Net, TcpListener, TcpStream};
@@ -55,7 +56,7 @@ const USAGE: &str =
        hls_origin --help | --version
 ";
 
-/// How `serve` is used: its own line of the usage alone, so that the line that is wrong stays among the last ones of a journal.
+/// The usage of `serve` alone, so that the line about the invalid argument stays among the last ones of a journal.
 const SERVE_USAGE: &str = "usage: hls_origin serve [OPTIONS] ADDRESS SPEC..
 ";
 
@@ -100,7 +101,7 @@ An example: a channel of one rendition, one encoder, one player.
   sleep 15; ffplay http://127.0.0.1:8080/live/master.m3u8
 ";
 
-/// The arguments, without the program's own name.
+/// Returns the arguments, without the program's own name.
 fn read_arguments(rt: &HostRuntime) -> io::Result<Vec<String>> {
     let mut arguments = Vec::new(rt.alloc());
     for argument in env::args(rt)?.skip(1) {
@@ -109,7 +110,7 @@ fn read_arguments(rt: &HostRuntime) -> io::Result<Vec<String>> {
     Ok(arguments)
 }
 
-/// Prints that the first of the arguments is unexpected, and how the program is used.
+/// Prints that the first of the arguments is unexpected, and the usage.
 fn print_usage_fault(rt: &HostRuntime, unexpected: &[String]) -> ExitCode
     ensures { exit_status result ≡ usage_status }
 {
@@ -123,7 +124,7 @@ fn print_usage_fault(rt: &HostRuntime, unexpected: &[String]) -> ExitCode
     ExitCode::from(2)
 }
 
-/// Prints that an argument isn't text, and how the program is used.
+/// Prints that an argument isn't UTF-8 text, and the usage.
 fn print_not_utf8(rt: &HostRuntime) -> ExitCode
     ensures { exit_status result ≡ usage_status }
 {
@@ -133,13 +134,13 @@ fn print_not_utf8(rt: &HostRuntime) -> ExitCode
     ExitCode::from(2)
 }
 
-/// Prints how the program is used, in full.
+/// Prints the full help.
 fn print_help(rt: &HostRuntime) -> ExitCode {
     let _ = print!(rt; "{USAGE}{HELP}");
     ExitCode::SUCCESS
 }
 
-/// Prints the program's version, and the toolchain that it is proved with.
+/// Prints the program's version, and the toolchain that verifies it.
 fn print_version(rt: &HostRuntime) -> ExitCode {
     let _ = print!(rt; "hls_origin {VERSION}\nproved with {TOOLCHAIN}\n");
     ExitCode::SUCCESS
@@ -158,7 +159,7 @@ fn print_refusal(rt: &HostRuntime, fault: CutFault) -> io::Result<()> {
     }
 }
 
-/// Ends the program as `cut` ended.
+/// Returns the exit status of `cut`, and prints its fault.
 fn end_cut(rt: &HostRuntime, arguments: &[String], end: CutEnd) -> ExitCode
     ensures { exit_status result ≡ cut_status end }
 {
@@ -180,7 +181,7 @@ fn end_cut(rt: &HostRuntime, arguments: &[String], end: CutEnd) -> ExitCode
     }
 }
 
-/// Does `cut` with the words after it.
+/// Runs `cut` with the arguments after it.
 fn run_cut_command(rt: &HostRuntime, arguments: &[String]) -> ExitCode {
     let mut input = Counted::new(rt.stdin());
     let mut output = Counted::new(io::writer(rt));
@@ -188,7 +189,7 @@ fn run_cut_command(rt: &HostRuntime, arguments: &[String]) -> ExitCode {
     end_cut(rt, arguments, end)
 }
 
-/// Ends the program as `check` ended.
+/// Returns the exit status of `check`, and prints its fault.
 fn end_check(rt: &HostRuntime, end: CheckEnd) -> ExitCode
     ensures { exit_status result ≡ check_status end }
 {
@@ -206,7 +207,7 @@ fn end_check(rt: &HostRuntime, end: CheckEnd) -> ExitCode
     }
 }
 
-/// Does `check`, after which no word may stand.
+/// Runs `check`, which takes no arguments.
 fn run_check_command(
     rt: &HostRuntime,
     threads: &(impl Threads + Sync),
@@ -220,7 +221,7 @@ fn run_check_command(
     end_check(rt, run_check(threads, rt.alloc(), &mut input, &mut output))
 }
 
-/// Ends the program as `lint` ended.
+/// Returns the exit status of `lint`, and prints its fault.
 fn end_lint(rt: &HostRuntime, end: LintEnd) -> ExitCode
     ensures { exit_status result ≡ lint_status end }
 {
@@ -238,7 +239,7 @@ fn end_lint(rt: &HostRuntime, end: LintEnd) -> ExitCode
     }
 }
 
-/// Does `lint`, after which no word may stand.
+/// Runs `lint`, which takes no arguments.
 fn run_lint_command(rt: &HostRuntime, arguments: &[String]) -> ExitCode {
     if !arguments.is_empty() {
         return print_usage_fault(rt, arguments);
@@ -248,7 +249,7 @@ fn run_lint_command(rt: &HostRuntime, arguments: &[String]) -> ExitCode {
     end_lint(rt, run_lint(rt.alloc(), &mut input, &mut output))
 }
 
-/// Ends the program as `explain` of this word ended.
+/// Returns the exit status of `explain` with this argument, and prints its fault.
 fn end_explain(rt: &HostRuntime, argument: &str, end: ExplainEnd) -> ExitCode
     ensures { exit_status result ≡ explain_status end }
 {
@@ -272,7 +273,7 @@ fn end_explain(rt: &HostRuntime, argument: &str, end: ExplainEnd) -> ExitCode
     }
 }
 
-/// Does `explain`, after which one word may stand.
+/// Runs `explain`, which takes one optional argument.
 fn run_explain_command(rt: &HostRuntime, arguments: &[String]) -> ExitCode {
     let argument = match arguments {
         [] => None,
@@ -285,7 +286,7 @@ fn run_explain_command(rt: &HostRuntime, arguments: &[String]) -> ExitCode {
     end_explain(rt, argument.unwrap_or(""), end)
 }
 
-/// Ends the program as `serve` ended.
+/// Returns the exit status of `serve`, and prints its fault.
 fn end_serve(rt: &HostRuntime, arguments: &[String], end: ServeEnd) -> ExitCode
     ensures { exit_status result ≡ serve_status end }
 {
@@ -307,7 +308,7 @@ fn end_serve(rt: &HostRuntime, arguments: &[String], end: ServeEnd) -> ExitCode
     }
 }
 
-/// Whether the words ask how the program is used: `help`, or an option for it alone or after a command.
+/// Whether the arguments ask for help: `help`, or an option for it alone or after a command.
 fn asks_for_help(arguments: &[String]) -> bool {
     match arguments {
         [argument] => matches!(argument.as_str(), "help" | "--help" | "-h"),
@@ -316,7 +317,7 @@ fn asks_for_help(arguments: &[String]) -> bool {
     }
 }
 
-/// Does what the first word names; without a word `cut`.
+/// Runs the command that the first argument names; without one, `cut`.
 fn run_command<R>(rt: &HostRuntime, threads: &R, arguments: &[String]) -> ExitCode
 where
     R: Net<Listener = TcpListener, Stream = TcpStream>

@@ -1,7 +1,7 @@
-//! The version, in the one place where it stands: the package takes it from here, and `tests/versions` compares what else names it.
+//! The version, defined only here: the package takes it from here, and `tests/gate/versions` compares other mentions with it.
 
 /// The program's version.
 pub const VERSION: &str = "0.2.0";
 
-/// The toolchain that proves it, as it names itself.
+/// The toolchain that verifies it, by its own name.
 pub const TOOLCHAIN: &str = "rattle-kit-13f logic dac8208d650f15bf";

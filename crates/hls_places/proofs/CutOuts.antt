@@ -1,10 +1,10 @@
--- A range of the places that a programme is given.
+-- The range of places of a programme.
 use Rattle.std.proofs.Common.{◌≡◌, ℕ, ◌+◌, ◌-◌, ◌<◌, List, [], ◌∷◌, length, map, take, drop, get_or, arith, refl, sym, ap, ◌∙◌}
 use Rattle.std.specs.List.{slice_range, take-map}
 use Rattle.std.proofs.lemmas.List.{drop-map}
-use Rattle.hls_check_laws.specs.declared.goal.Goal.{Goal}
-use Rattle.hls_check_laws.specs.declared.spot.Spot.{Spot}
-use Rattle.hls_check_laws.specs.Tables.{table_of}
+use Rattle.hls_check_tables.specs.declared.goal.Goal.{Goal}
+use Rattle.hls_check_tables.specs.declared.spot.Spot.{Spot}
+use Rattle.hls_check_tables.specs.Tables.{table_of}
 use Rattle.hls_places_laws.specs.declared.place.Place.{Place}
 use Rattle.hls_places_laws.specs.Order.{spots_of, renditions_in}
 use Rattle.hls_places_laws.specs.Programmes.{table_between}

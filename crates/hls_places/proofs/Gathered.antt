@@ -1,4 +1,4 @@
--- Renditions gathered one after the other.
+-- Renditions collected one after another.
 use Rattle.std.proofs.Common.{◌≡◌, ℕ, suc, ◌+◌, ◌<◌, List, [], ◌∷◌, ◌++◌, Bool, false, length, map, take, get_or, arith, sym, ap, ◌∙◌}
 use Rattle.std.proofs.Math.Seq.{take-suc}
 use Rattle.hls_media_laws.specs.declared.facts.Facts.{Facts}

@@ -1,10 +1,10 @@
--- What looking at one fragment of rendition 0 shows.
+-- The result of examining one fragment of rendition 0.
 use Rattle.std.proofs.Common.{◌≡◌, ℕ, ◌+◌, ◌-◌, ◌<◌, List, [], ◌∷◌, ◌++◌, length, Some, None, true, arith, refl, sym, ap, subst, inl, inr, ◌∙◌}
 use Rattle.std.proofs.lemmas.List.{append-nil}
 use Rattle.std.specs.Prelude.{option_map}
 use Rattle.std.proofs.lemmas.Bool.{cases_lt, cond-true}
 use Rattle.hls_media_laws.specs.declared.facts.Facts.{Facts}
-use Rattle.hls_check_laws.specs.declared.spot.Spot.{Spot}
+use Rattle.hls_check_tables.specs.declared.spot.Spot.{Spot}
 use Rattle.hls_places_laws.specs.declared.search_position.SearchPosition.{SearchPosition}
 use Rattle.hls_places_laws.specs.declared.place.Place.{Place}
 use Rattle.hls_places_laws.specs.Sources.{Source, fact_at, source_at, first_facts, IsTimeline}
@@ -15,14 +15,14 @@ use Rattle.hls_places.proofs.Cited.{starts-never_fall, before_entry, entry-later
 use Rattle.hls_places.specs.Searches.{AreEarly, AreAtEntries, AllSettled, IsUnsettled}
 use Rattle.hls_places.specs.Decisions.{AddsPlaceOf, StopsAt}
 
--- what is known when fragment `done`, with the facts f, is looked at
+-- what is known when fragment `done`, with the facts f, is examined
 pub record IsLooking (sources : List Source) (done : ℕ) (search_positions : List SearchPosition) (f : Facts) : Type 0 where
   pub order : IsTimeline (first_facts sources)
   pub more : done < length (first_facts sources)
   pub cursor : IsCursor (record { done = done; search_positions = search_positions }) sources
   pub facts_are : f ≡ fact_at (first_facts sources) done
 
--- every fragment up to this one was asked for by its time
+-- this time is at or after the start of every fragment up to this one
 asked-here : (fs : List Facts) (done : ℕ) → IsTimeline fs → done < length fs → IsAsked fs done (fact_at fs done).start_us
 asked-here fs done order more i below within = starts-never_fall fs order i done below more
 
@@ -32,7 +32,7 @@ search_positions-early sources done search_positions f looking r within j before
     rw looking.facts_are ((looking.cursor.search_positions r within).passed (fact_at (first_facts sources) done).start_us j
     (asked-here (first_facts sources) done looking.order looking.more) before)
 
--- marks that were moved to the first entries are marks
+-- positions that were advanced to the first entries are positions
 pub cursor-sought : (sources : List Source) (done : ℕ) (search_positions moved : List SearchPosition) (f : Facts) →
     IsLooking sources done search_positions f → length moved ≡ length sources → AreAtEntries f.start_us sources moved →
     IsCursor (record { done = done; search_positions = moved }) sources
@@ -78,7 +78,7 @@ cursor-next sources done search_positions cursor more decided = record {
       };
 }
 
--- where each rendition is settled, the fragment is decided
+-- if each rendition is settled, the fragment is decided
 pub decided-settled : (sources : List Source) (done : ℕ) (search_positions moved : List SearchPosition) (f : Facts) →
     IsLooking sources done search_positions f → AreAtEntries f.start_us sources moved → AllSettled sources moved → IsDecided sources done
 decided-settled sources done search_positions moved f looking found settled sync r within =

@@ -1,4 +1,4 @@
--- Walking along rendition 0, and the cursor before all.
+-- The walk along rendition 0, and the cursor at its start.
 use Rattle.std.proofs.Common.{◌≡◌, ℕ, suc, ◌+◌, ◌<◌, List, [], ◌++◌, length, take, drop, replicate, Option, Some, None, Bool, true, false, arith, refl, ◌∙◌}
 use Rattle.std.specs.List.{filter_map, cons_option}
 use Rattle.std.specs.Option.{option_to_list}
@@ -32,7 +32,7 @@ filter_map-step f fs k h =
     let next : k + 1 ≡ suc k = omega arith in
     rw (next, drop-cons fs k no_facts h) (option-append (f (fact_at fs k)) (filter_map f (drop (suc k) fs)))
 
--- one more fragment told
+-- one more fragment
 pub walk-on : (sources : List Source) (done : ℕ) (search_positions : List SearchPosition) (before after whole : List Place) →
     done < length (first_facts sources) → AddsPlaceOf sources done search_positions before after →
     before ++ filter_map (common_at sources) (drop done (first_facts sources)) ≡ whole →
@@ -44,7 +44,7 @@ walk-on sources done search_positions before after whole more told so_far =
     (filter_map (common_at sources) (drop (done + 1) (first_facts sources)))
     ∙ (rw (← step) so_far))
 
--- what a slice of a vector wrote back
+-- the elements that a slice of a vector wrote back
 pub written-back : (len : ℕ) (items new : List SearchPosition) → length items ≡ len → length new ≡ len →
     take len (new ++ drop (length new) items) ≡ new
 written-back len items new same also =

@@ -1,4 +1,4 @@
--- For the proofs of this crate; no public clause cites it. What looking at the fragments of rendition 0 comes to.
+-- For the proofs of this crate; no public clause cites it. The results of examining the fragments of rendition 0.
 use Rattle.std.specs.Prelude.{◌≡◌, ℕ, ◌+◌, Bool, true, false, List, ◌++◌, drop}
 use Rattle.std.specs.List.{filter_map}
 use Rattle.std.specs.Option.{option_to_list}
@@ -9,12 +9,12 @@ use Rattle.hls_places_laws.specs.Places.{common_at}
 use Rattle.hls_places_laws.specs.SearchPositions.{IsCursor, IsExhausted}
 use Rattle.hls_places.specs.declared.cursor.PlaceAdvance.{PlaceAdvance}
 
--- its place was told, and the search goes on after it
+-- its place was added, and the search continues after it
 pub record AddsPlaceOf (sources : List Source) (done : ℕ) (search_positions : List SearchPosition) (before after : List Place) : Type 0 where
   pub places : after ≡ before ++ option_to_list (common_at sources (fact_at (first_facts sources) done))
   pub cursor : IsCursor (record { done = done + 1; search_positions = search_positions }) sources
 
--- it isn't decided, and no place is left
+-- it isn't decided, and no place remains
 pub record StopsAt (sources : List Source) (done : ℕ) (search_positions : List SearchPosition) (before after : List Place) : Type 0 where
   pub places : after ≡ before
   pub cursor : IsCursor (record { done = done; search_positions = search_positions }) sources
@@ -24,7 +24,7 @@ abbrev pub HasDecided : List Source → ℕ → List SearchPosition → List Pla
 HasDecided sources done search_positions before after true = AddsPlaceOf sources done search_positions before after
 HasDecided sources done search_positions before after false = StopsAt sources done search_positions before after
 
--- the common places of rendition 0's fragments from number `done` on
+-- the common places at the fragments of rendition 0 from number `done`
 pub record IsWalk (sources : List Source) (done : ℕ) (advance : PlaceAdvance) : Type 0 where
   pub places : advance.places.items ≡ filter_map (common_at sources) (drop done (first_facts sources))
   pub cursor : IsCursor advance.cursor sources

@@ -1,4 +1,4 @@
--- For the proofs of this crate; no public clause cites it. What a position says of one rendition, whatever it was moved for.
+-- For the proofs of this crate; no public clause cites it. The meaning of a position in one rendition.
 use Rattle.std.specs.Prelude.{◌≡◌, ℕ, ◌-◌, ◌<◌, ◌≤◌, ◌⊎◌, true, false, List, length}
 use Rattle.hls_media_laws.specs.declared.facts.Facts.{Facts}
 use Rattle.hls_places_laws.specs.declared.search_position.SearchPosition.{SearchPosition}
@@ -6,7 +6,7 @@ use Rattle.hls_places_laws.specs.Sources.{Source, fact_at, source_at, IsTimeline
 use Rattle.hls_places_laws.specs.Spots.{is_entry, first_entry, run_in}
 use Rattle.hls_places_laws.specs.SearchPositions.{position_at}
 
--- it stands at a fragment, or after all, with the gaps counted so far
+-- it is at a fragment, or after all, and counts the gaps up to there
 pub record IsRunAt (fs : List Facts) (search_position : SearchPosition) : Type 0 where
   pub within : search_position.at ≤ length fs
   pub runs : search_position.runs ≡ run_in fs search_position.at
@@ -15,7 +15,7 @@ pub record IsRunAt (fs : List Facts) (search_position : SearchPosition) : Type 0
 abbrev pub NoEntryBefore : ℕ → List Facts → SearchPosition → Type 0
 NoEntryBefore low fs search_position = (j : ℕ) → j < search_position.at → is_entry low (fact_at fs j) ≡ false
 
--- it stands at the first entry
+-- it is at the first entry
 pub record IsAtEntry (low : ℕ) (fs : List Facts) (search_position : SearchPosition) : Type 0 where
   pub run : IsRunAt fs search_position
   pub found : search_position.at ≡ first_entry low fs

@@ -8,7 +8,7 @@ ghost use Rattle.hls_places.specs.Searches.{AreRunsAt};
 
 use crate::rendition_sources::RenditionSources;
 use crate::search::end_spot;
-use hls_check_laws::Spots;
+use hls_check_tables::Spots;
 use hls_places_laws::{Place, SearchPosition};
 use std::alloc::{AllocError, Global};
 
@@ -42,7 +42,7 @@ fn end_spots(
     Spots::new(alloc, spots)
 }
 
-/// The place after all fragments, once every rendition is over.
+/// The place after all fragments, if every rendition has ended.
 pub(crate) fn find_closing_place(
     renditions: &RenditionSources,
     alloc: Global,

@@ -1,10 +1,10 @@
-//! The search for common places, which goes on where it stopped.
+//! The search for common places, which resumes where it stopped.
 
 ghost use Rattle.std.specs.Prelude.{◌≡◌, ◌≤◌, length, IfOk};
 ghost use Rattle.hls_places_laws.specs.SearchPositions.{first_cursor, IsCursor};
 ghost use Rattle.hls_places.specs.Advances.{IsAdvance};
 ghost use Rattle.hls_places.specs.Decisions.{IsWalk};
-ghost use Rattle.hls_check_laws.specs.Tables.{rendition_limit};
+ghost use Rattle.hls_check_tables.specs.Tables.{rendition_limit};
 
 use crate::closing_place::find_closing_place;
 use crate::decision::decide_fragment;
@@ -14,14 +14,14 @@ use hls_places_laws::{Place, SearchPosition};
 use std::alloc::{AllocError, Global};
 use std::marker::Model;
 
-/// How far the search for common places has come: in rendition 0, and by a position in each rendition.
+/// The progress of the search for common places: in rendition 0, and a position in each rendition.
 #[derive(Drop)]
 pub struct PlaceCursor {
     done: u64,
     search_positions: Vec<SearchPosition>,
 }
 
-/// A cursor moved on, and the common places that it passed.
+/// An advanced cursor, and the common places that it passed.
 #[derive(Drop)]
 pub struct PlaceAdvance {
     pub cursor: PlaceCursor,
@@ -37,7 +37,7 @@ impl Model for PlaceCursor {
 }
 
 impl PlaceCursor {
-    /// Before all fragments of so many renditions.
+    /// The start of the search in the given number of renditions.
     pub fn first(alloc: Global, renditions: usize) -> Result<PlaceCursor, AllocError>
         ensures { IfOk result (λ cursor. cursor ≡ first_cursor renditions) }
     {
@@ -47,9 +47,8 @@ impl PlaceCursor {
         })
     }
 
-    /// The common places that are decided by now and weren't when this cursor stopped, and a cursor after them.
-    /// Along a channel's life, moved on after each event, it looks at each fragment of each rendition once; that is read in
-    /// the code, and no clause says it.
+    /// Returns the common places that were decided since this cursor stopped, and a cursor after them. Over the life of a channel, advanced
+    /// after each event, it examines each fragment of each rendition once. That isn't proved; it can be seen in the code.
     pub fn advance<'s, 'a>(
         &self,
         alloc: Global,
@@ -74,7 +73,7 @@ impl PlaceCursor {
     }
 }
 
-/// The common places of rendition 0's fragments from number `start` on.
+/// The common places at the fragments of rendition 0 from number `start`.
 fn find_places(
     renditions: &RenditionSources,
     alloc: Global,

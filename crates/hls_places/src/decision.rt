@@ -1,4 +1,4 @@
-//! One fragment of rendition 0: whether it is a common place, or can't be told yet.
+//! One fragment of rendition 0: whether it is a common place, or isn't decided yet.
 
 ghost use Rattle.std.specs.Prelude.{◌≡◌, ◌<◌, length, IfOk};
 ghost use Rattle.hls_places_laws.specs.Sources.{first_facts, IsTimeline};
@@ -11,8 +11,7 @@ use crate::search::get_facts;
 use hls_places_laws::{Place, SearchPosition};
 use std::alloc::{AllocError, Global};
 
-/// Looks at fragment `done` of rendition 0, and appends its common place, if there is one. False where
-/// that isn't decided yet.
+/// Examines fragment `done` of rendition 0, and appends its common place, if there is one. Returns false if that isn't decided yet.
 pub(crate) fn decide_fragment(
     renditions: &RenditionSources,
     alloc: Global,

@@ -1,4 +1,4 @@
-//! A position in each rendition, moved together.
+//! A position in each rendition.
 
 ghost use Rattle.std.specs.Prelude.{◌≡◌, ◌-◌, ◌<◌, ◌≤◌, ◌⊎◌, true, false, length, IfOk, MatchOption};
 ghost use Rattle.hls_places_laws.specs.Sources.{source_at};
@@ -8,11 +8,11 @@ ghost use Rattle.hls_places.specs.Searches.{AreRunsAt, AreEarly, AreAtEntries, A
 
 use crate::rendition_sources::RenditionSources;
 use crate::search;
-use hls_check_laws::Spots;
+use hls_check_tables::Spots;
 use hls_places_laws::SearchPosition;
 use std::alloc::{AllocError, Global};
 
-/// Moves each rendition's position to its first entry for a time.
+/// Advances each rendition's position to its first entry for a time.
 pub(crate) fn seek_entries(
     renditions: &RenditionSources,
     time: u64,
@@ -29,7 +29,7 @@ pub(crate) fn seek_entries(
     }
 }
 
-/// A rendition that isn't finished and whose position stands after all fragments.
+/// A rendition that isn't finished and whose position is after all fragments.
 pub(crate) fn find_unsettled(
     renditions: &RenditionSources,
     search_positions: &[SearchPosition],
@@ -46,7 +46,7 @@ pub(crate) fn find_unsettled(
     None
 }
 
-/// The spots for a time, where each rendition has one.
+/// The spots for a time, if each rendition has one.
 pub(crate) fn find_spots(
     renditions: &RenditionSources,
     alloc: Global,

@@ -5,7 +5,7 @@ ghost use Rattle.std.specs.Prelude.{◌≡◌};
 use hls_record::Recording;
 use std::marker::Model;
 
-/// One rendition of a channel, as the search for common places sees it.
+/// One rendition of a channel, as the input of the search for common places.
 #[derive(Drop)]
 pub struct RenditionSource<'a> {
     recording: &'a Recording,
@@ -22,8 +22,8 @@ impl<'a> Model for RenditionSource<'a> {
 }
 
 impl<'a> RenditionSource<'a> {
-    /// A rendition that has begun. `tolerance` is how far from a sync sample of rendition 0 one of this rendition may lie, in
-    /// microseconds; `finished` says whether no unit comes any more.
+    /// A rendition with an init section. `tolerance` is the maximum distance of its sync sample from that of rendition 0, in microseconds.
+    /// `finished` says that no more units come.
     pub fn new(recording: &'a Recording, tolerance: u64, finished: bool) -> RenditionSource<'a>
         ensures { result ≡ record { facts = recording.now.facts; tolerance = tolerance; finished = finished } }
     {

@@ -1,15 +1,15 @@
-//! The renditions of a channel, side by side.
+//! The renditions of a channel.
 
 ghost use Rattle.std.specs.Prelude.{◌≡◌, ◌<◌, ◌≤◌, length};
 ghost use Rattle.hls_places_laws.specs.Sources.{source_at};
 ghost use Rattle.hls_places.specs.Searches.{AreInOrder};
-ghost use Rattle.hls_check_laws.specs.Tables.{rendition_limit};
+ghost use Rattle.hls_check_tables.specs.Tables.{rendition_limit};
 
 use crate::rendition_source::RenditionSource;
 use hls_record::Recording;
 use std::marker::Model;
 
-/// The renditions of a channel, side by side: at most sixteen.
+/// The renditions of a channel: at most sixteen.
 #[derive(Drop)]
 pub(crate) struct RenditionSources<'s, 'a> {
     sources: &'s [RenditionSource<'a>],
@@ -17,7 +17,7 @@ pub(crate) struct RenditionSources<'s, 'a> {
 
 impl<'s, 'a> Model for RenditionSources<'s, 'a> {
     ghost use Rattle.std.specs.Prelude.{◌≤◌, List, length};
-    ghost use Rattle.hls_check_laws.specs.Tables.{rendition_limit};
+    ghost use Rattle.hls_check_tables.specs.Tables.{rendition_limit};
     ghost use Rattle.hls_places_laws.specs.Sources.{Source};
 
     ghost Value = { List Source };
@@ -62,7 +62,6 @@ impl<'s, 'a> RenditionSources<'s, 'a> {
         self.at(r).is_finished()
     }
 
-    /// Rendition number `r`.
     fn at(&self, r: usize) -> &'s RenditionSource<'a>
         requires { r < length self.now }
         ensures { result.now ≡ source_at self.now r }
@@ -71,7 +70,7 @@ impl<'s, 'a> RenditionSources<'s, 'a> {
         &sources[r]
     }
 
-    /// Each rendition's units are in order, as its recording says when it is asked for their count.
+    /// Each rendition's units are in order: for the proof, which gets this from `count`.
     pub(crate) fn look_at_order(&self)
         ensures { AreInOrder self.now }
     {

@@ -1,4 +1,4 @@
-//! One rendition: its fragments, gaps, and spots.
+//! One rendition: its fragments, gaps and spots.
 
 ghost use Rattle.std.specs.Prelude.{◌≡◌, ◌+◌, ◌<◌, ◌≤◌, not, ◌==◌, ◌&&◌, nat_le, length};
 ghost use Rattle.hls_places_laws.specs.Sources.{fact_at};
@@ -6,7 +6,7 @@ ghost use Rattle.hls_places_laws.specs.Gaps.{gap_before, gaps};
 ghost use Rattle.hls_places_laws.specs.Spots.{is_entry, prev_end, spot_at, spot_by, end_spot};
 ghost use Rattle.hls_places.specs.Searches.{IsRunAt, NoEntryBefore, IsAtEntry};
 
-use hls_check_laws::Spot;
+use hls_check_tables::Spot;
 use hls_media_laws::facts::Facts;
 use hls_places_laws::SearchPosition;
 use hls_record::Recording;
@@ -22,7 +22,7 @@ pub(crate) fn get_facts(recording: &Recording, k: u64) -> Facts
     }
 }
 
-/// Whether the second doesn't start where the first ends.
+/// Whether the second fragment doesn't start where the first ends.
 fn has_gap_between(before: Facts, here: Facts) -> bool
     ensures { result ≡ not (here.start == before.start + before.duration) }
 {
@@ -63,21 +63,20 @@ fn is_entry(low: u64, facts: Facts) -> bool
     facts.sync && low <= facts.start_us
 }
 
-/// One fragment further.
 fn next_position(recording: &Recording, search_position: SearchPosition) -> SearchPosition
     requires run { IsRunAt recording.now.facts search_position }
     requires more { search_position.at < length recording.now.facts }
     ensures run { IsRunAt recording.now.facts result }
     ensures next { result.at ≡ search_position.at + 1 }
 {
-    let _count = recording.count();
+    let _count = recording.count(); // the proof needs that the recording is well formed
     SearchPosition {
         at: search_position.at + 1,
         runs: search_position.runs + gap_before(recording, search_position.at),
     }
 }
 
-/// The first entry from a position on.
+/// The first entry at or after a position.
 pub(crate) fn seek_entry(
     recording: &Recording,
     low: u64,
@@ -104,7 +103,7 @@ pub(crate) fn make_spot(recording: &Recording, search_position: SearchPosition) 
     requires more { search_position.at < length recording.now.facts }
     ensures { result ≡ spot_at recording.now.facts search_position.at }
 {
-    let _count = recording.count();
+    let _count = recording.count(); // the proof needs that the recording is well formed
     Spot {
         fragment: search_position.at,
         prev_end: prev_end(recording, search_position.at),
@@ -114,7 +113,7 @@ pub(crate) fn make_spot(recording: &Recording, search_position: SearchPosition) 
     }
 }
 
-/// The spot at a position, if a fragment is there that starts at most `tolerance` after `time`.
+/// The spot at a position, if there is a fragment that starts at or before `time` plus `tolerance`.
 pub(crate) fn find_near_spot(
     recording: &Recording,
     tolerance: u64,

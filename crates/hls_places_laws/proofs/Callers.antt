@@ -1,4 +1,4 @@
--- The lemmas that other crates cite, passed on from one place. Declares nothing.
+-- The lemmas that other crates cite. Declares nothing.
 pub use Rattle.hls_places_laws.proofs.Appends.{continues}
 pub use Rattle.hls_places_laws.proofs.Search.{before_entry, entry-later, first_entry-is, gaps-le, gaps-run_in, none-left, run_in-next, starts-never_fall}
 pub use Rattle.hls_places_laws.proofs.Sides.{length-sides, length-sources_of, side-at, side-of}

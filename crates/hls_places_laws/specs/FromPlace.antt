@@ -1,13 +1,12 @@
--- Renditions that are recorded from a place on, as an origin has them that was begun there: their spots and places, counted
--- from that place.
+-- Renditions that are recorded from a place, as by an origin that was begun there: their spots and places, counted from that place.
 use Rattle.std.specs.Prelude.{◌≡◌, ℕ, ◌-◌, ◌<◌, ◌≤◌, ◌==◌, false, if◌then◌else◌, List, [], ◌∷◌, map, drop, Some, slice_get}
 use Rattle.std.specs.List.{AllPairs}
-use Rattle.hls_check_laws.specs.declared.spot.Spot.{Spot}
+use Rattle.hls_check_tables.specs.declared.spot.Spot.{Spot}
 use Rattle.hls_places_laws.specs.declared.place.Place.{Place}
 use Rattle.hls_places_laws.specs.Sources.{Source, AreSources}
 use Rattle.hls_places_laws.specs.Places.{places_of}
 
--- a spot that isn't behind another of the same rendition: neither its unit nor the gaps before it
+-- neither the unit number nor the gap count of the spot is smaller than the cut's
 pub record IsSpotFrom (cut spot : Spot) : Type 0 where
   pub fragment : cut.fragment ≤ spot.fragment
   pub outs : cut.run_out ≤ spot.run_out
@@ -23,14 +22,14 @@ AreSpotsFrom (c ∷ cut) (spot ∷ spots) = IsSpotFrom c spot × AreSpotsFrom cu
 abbrev pub IsPlaceFrom : Place → Place → Type 0
 IsPlaceFrom cut p = AreSpotsFrom cut.spots p.spots
 
--- of each two places the later one isn't behind the earlier
+-- of two places the later one has no smaller unit number or gap count
 abbrev pub AreInRow : List Place → Type 0
 AreInRow places = AllPairs IsPlaceFrom places
 
 abbrev pub PlacesNeverGoBack : Type 0
 PlacesNeverGoBack = (sources : List Source) → AreSources sources → AreInRow (places_of sources)
 
--- a spot, counted from one that isn't behind it: the units and the gaps since, and no unit before the first one
+-- a spot, counted from an earlier one: the units and the gaps since, and no unit before the first one
 abbrev pub spot_since : Spot → Spot → Spot
 spot_since cut spot = record {
   fragment = spot.fragment - cut.fragment;
@@ -48,7 +47,7 @@ spots_since (c ∷ cut) (spot ∷ spots) = spot_since c spot ∷ spots_since cut
 abbrev pub place_since : List Spot → Place → Place
 place_since cut p = record { spots = spots_since cut p.spots; closing = p.closing }
 
--- a rendition's units from a spot on
+-- the units of a rendition from a spot
 abbrev pub source_since : Spot → Source → Source
 source_since cut s = record { facts = drop cut.fragment s.facts; tolerance = s.tolerance; finished = s.finished }
 
@@ -57,7 +56,7 @@ sources_since [] sources = []
 sources_since (c ∷ cut) [] = []
 sources_since (c ∷ cut) (s ∷ sources) = source_since c s ∷ sources_since cut sources
 
--- renditions that are recorded from one of their common places on have that place and those behind it
+-- renditions that are recorded from one of their common places have that place and all later ones
 pub record KeepsPlaces (sources : List Source) (n : ℕ) (p : Place) : Type 0 where
   pub are : AreSources (sources_since p.spots sources)
   pub places : places_of (sources_since p.spots sources) ≡ map (place_since p.spots) (drop n (places_of sources))

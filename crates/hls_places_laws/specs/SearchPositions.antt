@@ -1,4 +1,4 @@
--- How far a search for common places has come, and what that means.
+-- The progress of a search for common places.
 use Rattle.std.specs.Prelude.{◌≡◌, ℕ, ◌-◌, ◌<◌, ◌≤◌, ◌⊎◌, true, false, List, [], length, drop, replicate, slice_index_or}
 use Rattle.std.specs.List.{filter_map}
 use Rattle.hls_media_laws.specs.declared.facts.Facts.{Facts}
@@ -7,7 +7,7 @@ use Rattle.hls_places_laws.specs.Sources.{Source, fact_at, source_at, first_fact
 use Rattle.hls_places_laws.specs.Spots.{is_entry, first_entry, run_in}
 use Rattle.hls_places_laws.specs.Places.{common_at}
 
--- the number of rendition 0's fragments that are decided, and a position in each rendition
+-- the number of decided fragments of rendition 0, and a position in each rendition
 pub record CursorData : Type 0 where
   pub done : ℕ
   pub search_positions : List SearchPosition
@@ -18,15 +18,15 @@ no_position = record { at = 0; runs = 0 }
 abbrev pub position_at : List SearchPosition → ℕ → SearchPosition
 position_at search_positions r = slice_index_or search_positions r no_position
 
--- before anything was looked at
+-- before the search
 abbrev pub first_cursor : ℕ → CursorData
 first_cursor renditions = record { done = 0; search_positions = replicate renditions no_position }
 
--- a time at or after the start of each fragment of rendition 0 up to number `done`
+-- a time at or after the start of each fragment of rendition 0 before number `done`
 abbrev pub IsAsked : List Facts → ℕ → ℕ → Type 0
 IsAsked fs done t = (i : ℕ) → i ≤ done → i < length fs → (fact_at fs i).start_us ≤ t
 
--- a position in a rendition: what lies before it is too early for every time that is still to be asked
+-- a position in a rendition: what precedes it is too early for every later time of the search
 pub record IsSearchPosition (first : List Facts) (done : ℕ) (s : Source) (search_position : SearchPosition) : Type 0 where
   pub within : search_position.at ≤ length s.facts
   pub runs : search_position.runs ≡ run_in s.facts search_position.at
@@ -36,7 +36,7 @@ pub record IsSearchPosition (first : List Facts) (done : ℕ) (s : Source) (sear
 abbrev pub IsSettled : Source → ℕ → Type 0
 IsSettled s t = (s.finished ≡ true) ⊎ (first_entry (t - s.tolerance) s.facts < length s.facts)
 
--- whether fragment i of rendition 0 is a common place can't change any more
+-- whether fragment i of rendition 0 is a common place can no longer change
 abbrev pub IsDecided : List Source → ℕ → Type 0
 IsDecided sources i = (fact_at (first_facts sources) i).sync ≡ true
     → (r : ℕ) → r < length sources → IsSettled (source_at sources r) (fact_at (first_facts sources) i).start_us
@@ -48,6 +48,6 @@ pub record IsCursor (p : CursorData) (sources : List Source) : Type 0 where
   pub decided : (i : ℕ) → i < p.done → IsDecided sources i
   pub search_positions : (r : ℕ) → r < length sources → IsSearchPosition (first_facts sources) p.done (source_at sources r) (position_at p.search_positions r)
 
--- and no common place is left from it on
+-- no common place remains from it
 abbrev pub IsExhausted : CursorData → List Source → Type 0
 IsExhausted p sources = filter_map (common_at sources) (drop p.done (first_facts sources)) ≡ []

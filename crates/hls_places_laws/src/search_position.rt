@@ -1,11 +1,11 @@
-//! Where a search for common places stands in one rendition.
+//! The progress of a search for common places in one rendition.
 
-/// How far the search for common places has come in one rendition.
+/// The progress of the search for common places in one rendition.
 #[derive(Clone, Copy)]
 pub struct SearchPosition {
-    /// The number of the fragment that is looked at next.
+    /// The number of the next fragment to look at.
     pub at: u64,
 
-    /// How many gaps there are up to the start of the fragment before that one.
+    /// The number of gaps up to the start of the fragment before that one.
     pub runs: u64,
 }

@@ -1,12 +1,12 @@
 use Rattle.std.proofs.Common.{◌≡◌, ℕ, zero, suc, ◌+◌, ◌-◌, ◌*◌, ◌<◌, ◌≤◌, List, length, arith, add-zero, inl, inr, refl, subst}
 use Rattle.std.proofs.lemmas.Bool.{cases_lt}
-use Rattle.hls_check_laws.specs.declared.spot.Spot.{Spot}
-use Rattle.hls_check_laws.specs.Tables.{Table, spot_in, place_at}
-use Rattle.hls_check_laws.specs.Steps.{Allowed}
-use Rattle.hls_check_laws.specs.Orders.{IsOrderly}
+use Rattle.hls_check_tables.specs.declared.spot.Spot.{Spot}
+use Rattle.hls_check_tables.specs.Tables.{Table, spot_in, place_at}
+use Rattle.hls_check_tables.specs.Steps.{Allowed}
+use Rattle.hls_check_tables.specs.Orders.{IsOrderly}
 use Rattle.hls_plan.specs.Spans.{IsFirstStep, IsSpan}
 
--- what doesn't fall from a place to the next falls over no distance
+-- what doesn't decrease from any place to the next doesn't decrease over any distance
 never_falls : (f : List Spot → ℕ) (t : Table) →
     ((p : ℕ) → p + 1 < length t.places → f (place_at t.places p) ≤ f (place_at t.places (p + 1))) →
     (q k : ℕ) → q + k < length t.places → f (place_at t.places q) ≤ f (place_at t.places (q + k))
@@ -26,7 +26,7 @@ never_falls_to f t next q j up below =
     let P : ℕ → Type 0 = λ x. f (place_at t.places q) ≤ f (place_at t.places x) in
     subst P same (never_falls f t next q (j - q) (omega arith))
 
--- between two places that steps lead to each place is one
+-- between two places that steps lead to, a step leads to each place
 pub allowed_between : (t : Table) → IsOrderly t → (p a b : ℕ) → Allowed t p a → Allowed t p b →
     (j : ℕ) → a ≤ j → j ≤ b → Allowed t p j
 allowed_between t orderly p a b near far j up down =
@@ -65,13 +65,13 @@ allowed_between t orderly p a b near far j up down =
           };
     }
 
--- so from a place on that no step leads to, behind one that one leads to, none does
+-- so after a place that a step leads to, and from one that none leads to, no step leads to any place
 pub none_from : (t : Table) → IsOrderly t → (p q m : ℕ) → Allowed t p q → q ≤ m → (Allowed t p m → ⊥) →
     (j : ℕ) → m ≤ j → Allowed t p j → ⊥
 none_from t orderly p q m here up none j after there =
     none (allowed_between t orderly p q j here there m up after)
 
--- a first and a last one
+-- a first and a last one make a span
 pub span_found : (t : Table) → IsOrderly t → (p first last : ℕ) → IsFirstStep t p first → Allowed t p last →
     first ≤ last → ((j : ℕ) → last < j → Allowed t p j → ⊥) → IsSpan t p first (last + 1)
 span_found t orderly p first last is_first there up not_before =

@@ -2,16 +2,16 @@ use Rattle.std.proofs.Common.{◌≡◌, ℕ, zero, suc, ◌+◌, ◌<◌, ◌�
 use Rattle.std.specs.Bool.{MatchBool}
 use Rattle.std.proofs.Math.ListN.{get_or-map}
 use Rattle.std.proofs.lemmas.Bool.{cases_eq}
-use Rattle.hls_check_laws.specs.Tables.{Table, IsTable}
-use Rattle.hls_check_laws.specs.Steps.{Allowed, cost}
-use Rattle.hls_check_laws.specs.Orders.{IsSorted}
-use Rattle.hls_check_laws.specs.Plans.{StepsAreAllowed, last_place, cost_from}
-use Rattle.hls_check_laws.specs.Certificates.{price_at, is_closed, KeepsPrice}
-use Rattle.hls_check_laws.proofs.Walks.{price-end}
+use Rattle.hls_check_tables.specs.Tables.{Table, IsTable}
+use Rattle.hls_check_tables.specs.Steps.{Allowed, cost}
+use Rattle.hls_check_tables.specs.Orders.{IsSorted}
+use Rattle.hls_check_tables.specs.Plans.{StepsAreAllowed, last_place, cost_from}
+use Rattle.hls_check_tables.specs.Certificates.{price_at, is_closed, KeepsPrice}
+use Rattle.hls_check_tables.proofs.Walks.{price-end}
 use Rattle.hls_plan.specs.Pricing.{IsPricing}
 use Rattle.hls_plan.specs.Paths.{IsPathTo, IsReachable, IsLeastCost, HasLeastPrices, HasReachable}
 
--- a way that goes one step further
+-- a path with one more step
 Leads-push : (t : Table) (p : ℕ) (path : List ℕ) (q : ℕ) → StepsAreAllowed t p path → Allowed t (last_place p path) q → StepsAreAllowed t p (path ++ q ∷ [])
 Leads-push t p [] q steps_allowed allowed = (allowed, tt)
 Leads-push t p (x ∷ path) q steps_allowed allowed = (steps_allowed.0, Leads-push t x path q steps_allowed.1 allowed)
@@ -25,13 +25,13 @@ cost_from-push : (t : Table) (p : ℕ) (path : List ℕ) (q : ℕ) →
 cost_from-push t p [] q = omega arith
 cost_from-push t p (x ∷ path) q = omega (arith, cost_from-push t x path q)
 
--- a way with its cost
+-- a path and its cost
 record IsPaidWay (t : Table) (q price : ℕ) : Type 0 where
   path : List ℕ
   is_path : IsPathTo t q path
   costs : cost_from t 0 path ≡ price
 
--- each priced place is reached at its price
+-- each place with a price is reached at that price
 way_to : (t : Table) (p q : ℕ) (prices : List (Option ℕ)) (origins : List ℕ) → IsPricing t p q prices origins →
     (fuel k price : ℕ) → k ≤ fuel → price_at prices k ≡ Some price → IsPaidWay t k price
 way_to t p q prices origins pricing zero k price within priced =
@@ -62,7 +62,7 @@ way_to t p q prices origins pricing (suc fuel) k price within priced =
           }
     ]
 
--- what prices must keep to
+-- what prices must respect
 abbrev KeepsAll : Table → List (Option ℕ) → Type 0
 KeepsAll t prices = (p q : ℕ) → p < q → Allowed t p q → KeepsPrice (cost t p q) (price_at prices p) (price_at prices q)
 
@@ -70,7 +70,7 @@ pub keeps_all : (t : Table) (prices : List (Option ℕ)) (origins : List ℕ) �
     IsPricing t (length t.places) 0 prices origins → KeepsAll t prices
 keeps_all t prices origins pricing p q rises allowed = pricing.rows p q allowed.from rises allowed
 
--- no way to a place costs less than its price, and there is none to a place without
+-- no path to a place costs less than its price, and no path leads to a place without one
 price_under : (t : Table) (prices : List (Option ℕ)) → IsTable t → IsSorted t → KeepsAll t prices →
     price_at prices 0 ≡ Some 0 → (k : ℕ) (path : List ℕ) → IsPathTo t k path →
     (b : ℕ) × (price_at prices k ≡ Some b) × (b ≤ cost_from t 0 path)
@@ -105,7 +105,7 @@ pub least_prices : (t : Table) (prices : List (Option ℕ)) (origins : List ℕ)
 least_prices t prices origins ok sorted pricing k in_table =
     least_at t prices origins ok sorted pricing k (price_at prices k) refl
 
--- a place is in the closed set where it has a price
+-- a place is in the closed set if and only if it has a price
 pub closed_at : (prices : List (Option ℕ)) (closed : List Bool) → closed ≡ map is_some prices →
     (k : ℕ) → is_closed closed k ≡ is_some (price_at prices k)
 closed_at prices closed is k = ap (λ (xs : List Bool). is_closed xs k) is ∙ get_or-map is_some prices k None

@@ -1,25 +1,25 @@
 use Rattle.std.proofs.Common.{◌≡◌, ◌≢◌, ℕ, zero, suc, replicate, ◌+◌, ◌*◌, ◌<◌, ◌≤◌, List, length, set, get_or, cond, Option, Some, None, Bool, true, false, arith, refl, sym, ap, ◌∙◌, inl, inr, below_more, get_or-set_other, get_or-set_same, length-set}
 use Rattle.std.proofs.lemmas.Bool.{cases_eq, cases_lt, ltb-true, ltb-false}
 use Rattle.std.proofs.lemmas.List.{length-replicate}
-use Rattle.hls_check_laws.specs.Tables.{Table, IsTable}
-use Rattle.hls_check_laws.specs.Steps.{Allowed, cost, cost_limit}
-use Rattle.hls_check_laws.specs.Certificates.{price_at, KeepsPrice, CutKeepsPrices}
+use Rattle.hls_check_tables.specs.Tables.{Table, IsTable}
+use Rattle.hls_check_tables.specs.Steps.{Allowed, cost, cost_limit}
+use Rattle.hls_check_tables.specs.Certificates.{price_at, KeepsPrice, CutKeepsPrices}
 use Rattle.hls_plan.specs.Pricing.{is_lower_price, IsPricing}
 
--- a lower price keeps to every step that the one before kept to
+-- a lower price respects every step that the one before respected
 Keeps-lower : (step : ℕ) (from : Option ℕ) (price : ℕ) (found : Option ℕ) → is_lower_price price found ≡ true →
     KeepsPrice step from found → KeepsPrice step from (Some price)
 Keeps-lower step None price found lower keeps = tt
 Keeps-lower step (Some x) price None lower keeps = absurd keeps
 Keeps-lower step (Some x) price (Some y) lower keeps = omega (arith, ltb-true price y lower, keeps)
 
--- a price that isn't lower changes nothing, since the one found keeps to the step already
+-- a price that isn't lower changes nothing, since the step respects the one found
 Keeps-found : (step a price : ℕ) (found : Option ℕ) → price ≡ a + step → is_lower_price price found ≡ false →
     KeepsPrice step (Some a) found
 Keeps-found step a price None sum lower = cc
 Keeps-found step a price (Some y) sum lower = omega (arith, ltb-false price y lower, sum)
 
--- place q is passed where the step to it keeps to the prices
+-- place q is done if the step to it respects the prices
 pub row_passed : (t : Table) (p q : ℕ) (prices : List (Option ℕ)) (origins : List ℕ) →
     IsPricing t p q prices origins → CutKeepsPrices t prices p q → IsPricing t p (q + 1) prices origins
 row_passed t p q prices origins pricing keeps = record {
@@ -33,7 +33,7 @@ row_passed t p q prices origins pricing keeps = record {
   row = below_more (CutKeepsPrices t prices p) q pricing.row keeps;
 }
 
--- the places before the first that a step leads to are passed
+-- the places before the first that a step leads to are done
 pub row_skipped : (t : Table) (p first : ℕ) (prices : List (Option ℕ)) (origins : List ℕ) →
     IsPricing t p 0 prices origins → ((j : ℕ) → p < j → Allowed t p j → first ≤ j) → IsPricing t p first prices origins
 row_skipped t p first prices origins pricing from = record {
@@ -47,7 +47,7 @@ row_skipped t p first prices origins pricing from = record {
   row = λ j below rises allowed. let up : first ≤ j = from j rises allowed in absurd (omega arith);
 }
 
--- a row is whole where the steps from it to the places from q on keep to the prices
+-- a row is complete if the steps from it to the places from q respect the prices
 row_over : (t : Table) (p q : ℕ) (prices : List (Option ℕ)) (origins : List ℕ) →
     IsPricing t p q prices origins → ((j : ℕ) → q ≤ j → CutKeepsPrices t prices p j) → IsPricing t (p + 1) 0 prices origins
 row_over t p q prices origins pricing keep = record {
@@ -67,19 +67,19 @@ row_over t p q prices origins pricing keep = record {
   row = λ j below. absurd (omega arith);
 }
 
--- so it is where no later step from it is allowed
+-- so it is if no later step from it is allowed
 pub row_end : (t : Table) (p q : ℕ) (prices : List (Option ℕ)) (origins : List ℕ) →
     IsPricing t p q prices origins → ((j : ℕ) → p < j → q ≤ j → Allowed t p j → ⊥) → IsPricing t (p + 1) 0 prices origins
 row_end t p q prices origins pricing none =
     row_over t p q prices origins pricing (λ j after rises allowed. absurd (none j rises after allowed))
 
--- and where its place can't be reached
+-- and if its place can't be reached
 pub row_unpriced : (t : Table) (p : ℕ) (prices : List (Option ℕ)) (origins : List ℕ) →
     IsPricing t p 0 prices origins → price_at prices p ≡ None → IsPricing t (p + 1) 0 prices origins
 row_unpriced t p prices origins pricing unpriced =
     row_over t p 0 prices origins pricing (λ j from rises allowed. rw unpriced tt)
 
--- place q takes a lower price, that of place p and the step
+-- place q gets a lower price, that of place p plus the step
 row_taken : (t : Table) (p q a : ℕ) (prices : List (Option ℕ)) (origins : List ℕ) →
     IsPricing t p q prices origins → price_at prices p ≡ Some a → p < q → Allowed t p q →
     cost t p q ≤ cost_limit → is_lower_price (a + cost t p q) (price_at prices q) ≡ true →
@@ -154,7 +154,7 @@ row_taken t p q a prices origins pricing priced rises allowed small lower =
           (λ up step. rw (here, other p (omega arith), priced) (omega arith));
     }
 
--- what an offer leaves, whether it was taken or not
+-- the state after an offer, whether it was accepted or not
 row_offered_at : (t : Table) (p q a price : ℕ) (prices : List (Option ℕ)) (origins : List ℕ) (b : Bool) →
     IsPricing t p q prices origins → price_at prices p ≡ Some a → p < q → Allowed t p q →
     price ≡ a + cost t p q → cost t p q ≤ cost_limit → is_lower_price price (price_at prices q) ≡ b →
@@ -181,7 +181,7 @@ row_offered t p q a price prices origins pricing priced rises allowed sum small 
     row_offered_at t p q a price prices origins (is_lower_price price (price_at prices q)) pricing priced rises allowed
     sum small refl
 
--- before the first row the first place alone has a price
+-- before the first row only the first place has a price
 unpriced_at : (n k : ℕ) → price_at (replicate n None) k ≡ None
 unpriced_at zero k = refl
 unpriced_at (suc n) zero = refl

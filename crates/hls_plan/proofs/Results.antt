@@ -3,12 +3,12 @@ use Rattle.std.proofs.lemmas.List.Elements.{All-nil, All-cons, All-from_get_or}
 use Rattle.std.proofs.lemmas.List.{length-map}
 use Rattle.hls_plan.specs.declared.planned.Planned.{Planned}
 use Rattle.hls_plan.specs.declared.planned.Planned.TheVariants.{Cut, NoCut}
-use Rattle.hls_check_laws.specs.Tables.{Table, IsTable}
-use Rattle.hls_check_laws.specs.Steps.{cost}
-use Rattle.hls_check_laws.specs.Orders.{IsSorted}
-use Rattle.hls_check_laws.specs.Plans.{StepsAreAllowed, IsPlan, plan_cost}
-use Rattle.hls_check_laws.specs.Certificates.{price_at, KeepsPrice, IsPriceInRange, IsCutForm, IsGoodCut, IsGoodNone, IsGood}
-use Rattle.hls_check_laws.proofs.Walks.{least_from_good, no_plan_from_good}
+use Rattle.hls_check_tables.specs.Tables.{Table, IsTable}
+use Rattle.hls_check_tables.specs.Steps.{cost}
+use Rattle.hls_check_tables.specs.Orders.{IsSorted}
+use Rattle.hls_check_tables.specs.Plans.{StepsAreAllowed, IsPlan, plan_cost}
+use Rattle.hls_check_tables.specs.Certificates.{price_at, KeepsPrice, IsPriceInRange, IsCutForm, IsGoodCut, IsGoodNone, IsGood}
+use Rattle.hls_check_tables.proofs.Walks.{least_from_good, no_plan_from_good}
 use Rattle.hls_plan.specs.Planned.{certificate_of, HasClaimForm, IsBest, HasExactPrices}
 use Rattle.hls_plan.specs.Pricing.{IsPricing, IsCutFound, IsNoneFound, IsPlannerResult}
 use Rattle.hls_plan.proofs.LeastCosts.{keeps_all, least_prices, closed_at, reachable_set}
@@ -23,7 +23,7 @@ good_cut t plan prices sorted found = record {
   keeps = keeps_all t prices found.origins found.pricing;
 }
 
--- a step from a priced place leads to one
+-- a step from a place with a price leads to one with a price
 Keeps-some : (step : ℕ) (from to : Option ℕ) → KeepsPrice step from to → is_some from ≡ true → is_some to ≡ true
 Keeps-some step None to keeps some = cc
 Keeps-some step (Some x) None keeps some = absurd keeps

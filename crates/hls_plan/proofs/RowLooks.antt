@@ -1,19 +1,19 @@
 use Rattle.std.proofs.Common.{◌≡◌, ℕ, ◌+◌, ◌-◌, ◌*◌, ◌/◌, ◌<◌, ◌≤◌, length, arith, inl, inr}
 use Rattle.std.proofs.lemmas.Bool.{cases_lt}
-use Rattle.hls_check_laws.specs.Tables.{Table, IsTable}
-use Rattle.hls_check_laws.specs.Orders.{IsRowEnd, IsOrderly}
-use Rattle.hls_check_laws.proofs.RowEnds.{none_past_end}
+use Rattle.hls_check_tables.specs.Tables.{Table, IsTable}
+use Rattle.hls_check_tables.specs.Orders.{IsRowEnd, IsOrderly}
+use Rattle.hls_check_tables.proofs.RowEnds.{none_past_end}
 use Rattle.hls_plan.specs.Spans.{IsSpan}
 use Rattle.hls_plan.specs.PairCounts.{EndsWithin}
 
--- the looks at one more row
+-- the examinations of one more row
 pub one_more_row : (p row before first after : ℕ) → before ≤ first + p * row → after ≤ before + row →
     after ≤ first + (p + 1) * row
 one_more_row p row before first after so_far more =
     let sum : (p + 1) * row ≡ p * row + row = omega arith in
     omega (arith, sum, so_far, more)
 
--- steps lead to places before the row's end alone
+-- steps lead only to places before the row's end
 pub span_within : (t : Table) → IsTable t → IsOrderly t → (p first last end : ℕ) → IsSpan t p first last →
     p < end → IsRowEnd t p end → last ≤ end
 span_within t ok orderly p first last end span after is_end =
@@ -23,7 +23,7 @@ span_within t ok orderly p first last end span after is_end =
       | inr above ↦ omega (arith, above)
     ]
 
--- a row that ends within a reach, or at the table's end, takes an eighth more looks than that at most
+-- a row that ends within `reach` places, or at the table's end, takes at most an eighth more examinations than that
 pub row_within : (t : Table) (p reach before after : ℕ) → EndsWithin t reach →
     after + p + 1 ≤ before + length t.places →
     ((end : ℕ) → p < end → end < length t.places → IsRowEnd t p end → after + p ≤ before + end + (end - p) / 8) →

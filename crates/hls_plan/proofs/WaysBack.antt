@@ -1,12 +1,12 @@
 use Rattle.std.proofs.Common.{◌≡◌, ℕ, ◌+◌, ◌-◌, List, [], ◌∷◌, ◌++◌, length, reverse, is_some, true, Option, Some, None, arith, refl, sym, ap, ◌∙◌, subst}
 use Rattle.std.proofs.lemmas.List.{reverse-append}
-use Rattle.hls_check_laws.specs.Tables.{Table}
-use Rattle.hls_check_laws.specs.Steps.{cost}
-use Rattle.hls_check_laws.specs.Plans.{cost_from, IsPlan, plan_cost}
-use Rattle.hls_check_laws.specs.Certificates.{price_at}
+use Rattle.hls_check_tables.specs.Tables.{Table}
+use Rattle.hls_check_tables.specs.Steps.{cost}
+use Rattle.hls_check_tables.specs.Plans.{cost_from, IsPlan, plan_cost}
+use Rattle.hls_check_tables.specs.Certificates.{price_at}
 use Rattle.hls_plan.specs.Pricing.{IsReached, IsPathBack}
 
--- the last place alone is a way, where it has a price
+-- the last place alone is a path, if it has a price
 way_alone : (t : Table) (prices : List (Option ℕ)) (at : ℕ) (path : List ℕ) (last : Option ℕ) →
     at ≡ length t.places - 1 → path ≡ [] → price_at prices at ≡ last → is_some last ≡ true →
     IsPathBack t prices at (path ++ at ∷ [])
@@ -45,7 +45,7 @@ way_more t prices at origin path back reached =
       paid = back.paid ∙ ap (λ (x : ℕ). Some x) sum;
     }
 
--- at the first place the way is a plan, and the last place's price is its cost
+-- at the first place the path is a plan, and the last place's price is its cost
 pub plan_from_way : (t : Table) (prices : List (Option ℕ)) (at : ℕ) (path : List ℕ) → at ≡ 0 → price_at prices 0 ≡ Some 0 →
     IsPathBack t prices at path →
     IsPlan t (reverse path) × (price_at prices (length t.places - 1) ≡ Some (plan_cost t (reverse path)))

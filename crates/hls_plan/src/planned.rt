@@ -1,15 +1,15 @@
-//! What a planner found, and its certificate.
+//! The result of a planner, and its certificate.
 
 ghost use Rattle.std.specs.Prelude.{◌≡◌};
-ghost use Rattle.hls_check_laws.specs.Certificates.{IsGood};
+ghost use Rattle.hls_check_tables.specs.Certificates.{IsGood};
 ghost use Rattle.hls_plan.specs.Planned.{HasClaimForm, certificate_of};
 
-use hls_check_laws::{Certificate, Claim, PlaceTable};
+use hls_check_tables::{Certificate, Claim, PlaceTable};
 
-/// What a planner found. Places are numbered from 0, and costs are in microseconds.
+/// The result of a planner. Places are numbered from 0, and costs are in microseconds.
 #[derive(Drop)]
 pub enum Planned {
-    /// A least plan, and for each place the least cost at which it can be reached, or none.
+    /// An optimal plan, and for each place the least cost at which it can be reached, or None.
     Cut {
         plan: Vec<usize>,
         prices: Vec<Option<u64>>,
@@ -21,7 +21,7 @@ pub enum Planned {
     },
 }
 
-/// The certificate of what was planned over this very table. It takes no memory.
+/// The certificate of a result for the same table. Doesn't allocate.
 pub fn certificate(table: PlaceTable, planned: Planned) -> Certificate
     requires good { IsGood (certificate_of table planned) }
     requires shown { HasClaimForm table planned }

@@ -1,21 +1,21 @@
-//! Least plans.
+//! The planner.
 
 ghost use Rattle.std.specs.Prelude.{◌≡◌, ℕ, ◌+◌, ◌-◌, ◌*◌, ◌/◌, ◌^◌, ◌<◌, ◌≤◌, length, map, is_some, IfOk, Option, Some, true};
-ghost use Rattle.hls_check_laws.specs.Tables.{IsTable};
-ghost use Rattle.hls_check_laws.specs.Orders.{IsOrderly};
-ghost use Rattle.hls_check_laws.specs.Plans.{IsPlan, plan_cost};
-ghost use Rattle.hls_check_laws.specs.Certificates.{price_at, IsGood};
+ghost use Rattle.hls_check_tables.specs.Tables.{IsTable};
+ghost use Rattle.hls_check_tables.specs.Orders.{IsOrderly};
+ghost use Rattle.hls_check_tables.specs.Plans.{IsPlan, plan_cost};
+ghost use Rattle.hls_check_tables.specs.Certificates.{price_at, IsGood};
 ghost use Rattle.hls_plan.specs.Planned.{IsBest, HasExactPrices, HasClaimForm, certificate_of};
 ghost use Rattle.hls_plan.specs.PairCounts.{pair_count, EndsWithin};
 ghost use Rattle.hls_plan.specs.Pricing.{IsPricing, IsPlannerResult};
 
 use crate::planned::Planned;
 use crate::price_table::{PriceTable, price_of, price_places};
-use hls_check_laws::PlaceTable;
+use hls_check_tables::PlaceTable;
 use hls_time::Ticks;
 use std::alloc::{AllocError, Global};
 
-/// The plan to the last place, walked back by the origins.
+/// Traces the plan back from the last place by the origins.
 fn trace_plan(
     alloc: Global,
     table: &PlaceTable,
@@ -37,7 +37,7 @@ fn trace_plan(
     Ok(path)
 }
 
-/// Which places have a price.
+/// The set of places that have a price.
 fn closed_set(alloc: Global, prices: &[Option<u64>]) -> Result<Vec<bool>, AllocError>
     ensures { IfOk result (λ closed. closed.items ≡ map is_some prices.now) }
 {
@@ -63,15 +63,14 @@ fn find_plan(alloc: Global, table: &PlaceTable, ticks: &mut Ticks) -> Result<Pla
     Ok(Planned::NoCut { closed })
 }
 
-/// A least plan with the least cost of each place, or, where there is no plan, the set of the
-/// places that can be reached; the count rises by one for each pair of places that is looked at.
+/// Returns an optimal plan with the least cost of each place, or, if there is no plan, the set of the places that can be reached. `ticks`
+/// is incremented for each pair of places that is examined.
 ///
-/// The places that steps from one place lead to stand side by side. So it looks at the pairs of a
-/// place with those behind it up to the first that a step leads to, ever further ahead for the last
-/// one, and then at each between these, to offer it a price. A pair that is looked at a second time
-/// for its price is counted once. Where each row of pairs ends within `reach` places, as those of
-/// places a second apart with a target of 6 s do within 7, this is at most `reach` and an eighth of
-/// that for each place; and in no table more than one for each pair.
+/// The places that can be reached from one place by a step are contiguous. So the search examines the pairs of a place with later ones up
+/// to the first that a step leads to, then jumps ahead in growing distances to find the last, and then offers a price to each place
+/// between. A pair that is examined again for its price is counted once. If each row of pairs ends within `reach` places, as with places a
+/// second apart and a target of 6 s (`reach` is 7), the count for each place is at most `reach` plus an eighth. In any table it is at most
+/// one for each pair.
 pub fn plan_counted(
     alloc: Global,
     table: &PlaceTable,
@@ -89,7 +88,7 @@ pub fn plan_counted(
     find_plan(alloc, table, ticks)
 }
 
-/// What `plan_counted` gives, by a count of its own.
+/// The same as `plan_counted`, with a counter of its own.
 pub fn plan(alloc: Global, table: &PlaceTable) -> Result<Planned, AllocError>
     ensures good { IfOk result (λ planned. IsGood (certificate_of table.now planned)) }
     ensures best { IfOk result (IsBest table.now) }

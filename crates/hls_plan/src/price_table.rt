@@ -1,18 +1,18 @@
-//! The least cost of each place, place by place.
+//! The least cost of each place, computed place by place.
 
 ghost use Rattle.std.specs.Prelude.{◌≡◌, ℕ, ◌+◌, ◌-◌, ◌*◌, ◌/◌, ◌^◌, ◌<◌, ◌≤◌, length, slice_set, IfOk, IsTrue, Option, Some, if◌then◌else◌};
-ghost use Rattle.hls_check_laws.specs.Tables.{IsTable};
-ghost use Rattle.hls_check_laws.specs.Certificates.{price_at};
-ghost use Rattle.hls_check_laws.specs.Orders.{IsRowEnd, IsOrderly};
+ghost use Rattle.hls_check_tables.specs.Tables.{IsTable};
+ghost use Rattle.hls_check_tables.specs.Certificates.{price_at};
+ghost use Rattle.hls_check_tables.specs.Orders.{IsRowEnd, IsOrderly};
 ghost use Rattle.hls_plan.specs.PairCounts.{pair_count, EndsWithin};
 ghost use Rattle.hls_plan.specs.Pricing.{is_lower_price, IsPricing};
 
 use crate::reach::find_reachable_range;
-use hls_check_laws::PlaceTable;
+use hls_check_tables::PlaceTable;
 use hls_time::Ticks;
 use std::alloc::{AllocError, Global};
 
-/// The price of each place, and the place from which a priced one was reached.
+/// The price of each place, and for a place with a price the place from which it was reached.
 #[derive(Drop)]
 pub struct PriceTable {
     pub prices: Vec<Option<u64>>,
@@ -38,8 +38,7 @@ fn is_lower_price(price: u64, found: Option<u64>) -> bool
     }
 }
 
-/// Takes a price of place `q` that is lower than the one found so far, with the place that it
-/// comes from.
+/// Sets the price of place `q`, which is lower than the one found so far, and the place that it is reached from.
 #[inline(always)]
 fn lower_price(prices: &mut [Option<u64>], origins: &mut [usize], p: usize, q: usize, price: u64)
     requires price_in { q < length prices.old }
@@ -53,7 +52,7 @@ fn lower_price(prices: &mut [Option<u64>], origins: &mut [usize], p: usize, q: u
     }
 }
 
-/// Offers the price of place `p` and its step to each place that a step from it leads to.
+/// Offers the price of place `p` plus the step's cost to each place that a step from it leads to.
 fn relax_row(
     table: &PlaceTable,
     prices: &mut [Option<u64>],
@@ -83,7 +82,7 @@ fn relax_row(
     }
 }
 
-/// The rows of all places, one after the other.
+/// Examines the rows of all places in order.
 fn relax_rows(
     table: &PlaceTable,
     prices: &mut [Option<u64>],

@@ -1,18 +1,17 @@
-//! The places that steps from one place lead to. By the order of the table they stand side by side.
+//! Finds the places that steps from one place lead to. By the order of the table they are contiguous.
 //!
-//! The counts are of pairs that were looked at and are no step: a pair that is one is counted where its price is
-//! offered, so that no pair is counted twice.
+//! Only pairs that aren't steps are counted here: a step is counted when its price is offered, so no pair is counted twice.
 ghost use Rattle.std.specs.Prelude.{◌≡◌, ℕ, ◌+◌, ◌-◌, ◌/◌, ◌^◌, ◌<◌, ◌≤◌, length, IfNone, MatchOption};
-ghost use Rattle.hls_check_laws.specs.Tables.{IsTable};
-ghost use Rattle.hls_check_laws.specs.Orders.{IsRowEnd, IsOrderly};
-ghost use Rattle.hls_check_laws.specs.Steps.{Allowed};
+ghost use Rattle.hls_check_tables.specs.Tables.{IsTable};
+ghost use Rattle.hls_check_tables.specs.Orders.{IsRowEnd, IsOrderly};
+ghost use Rattle.hls_check_tables.specs.Steps.{Allowed};
 ghost use Rattle.hls_plan.specs.Spans.{IsSpan, IsFirstStep, IsNoStep, HasPairLooks, HasRowLooks};
 
-use hls_check_laws::PlaceTable;
+use hls_check_tables::PlaceTable;
 use hls_time::Ticks;
 
-/// The first place behind place `p` that a step from it leads to. It stops at the first place that is too far in
-/// rendition 0 or past a gap.
+/// The first place after place `p` that a step from it leads to. The search stops at the first place that is too far away in rendition 0 or
+/// after a gap.
 fn first_step(table: &PlaceTable, p: usize, ticks: &mut Ticks) -> Option<usize>
     requires in_range { p < length table.now.places }
     requires room { ticks.old < 2 ^ 62 + 2 ^ 61 }
@@ -34,7 +33,7 @@ fn first_step(table: &PlaceTable, p: usize, ticks: &mut Ticks) -> Option<usize>
     None
 }
 
-/// How far to look from a place that a step leads to: an eighth further than that place is.
+/// The next place to examine, given one that a step leads to: further away by an eighth of the distance.
 #[inline(always)]
 fn lookahead_end(p: usize, last: usize) -> usize
     requires forward { p < last }
@@ -44,8 +43,8 @@ fn lookahead_end(p: usize, last: usize) -> usize
     last + 1 + (last - p) / 8
 }
 
-/// Looks ever further ahead while a step leads there: the last place so found, and a place behind it from which on
-/// none does.
+/// Jumps ahead in growing distances while a step leads there. Returns the last place found, and a later place such that no step leads to it
+/// or beyond.
 fn look_ahead(table: &PlaceTable, p: usize, first: usize, ticks: &mut Ticks) -> (usize, usize)
     requires forward { p < first }
     requires step { Allowed table.now p first }
@@ -71,8 +70,7 @@ fn look_ahead(table: &PlaceTable, p: usize, first: usize, ticks: &mut Ticks) -> 
     (last, count)
 }
 
-/// The last place that a step from place `p` leads to, where one leads to place `low` and none to place `high` or
-/// behind it.
+/// The last place that a step from place `p` leads to, given that one leads to place `low`, and none to place `high` or a later one.
 fn last_allowed_between(
     table: &PlaceTable,
     p: usize,
@@ -105,8 +103,8 @@ fn last_allowed_between(
     last
 }
 
-/// The places that steps from place `p` lead to: from the first on, and below the second. It looks at each place
-/// up to the first of them, and then for the last of them at fewer the further they reach.
+/// The range of the places that steps from place `p` lead to: from the first, and below the second. Examines each place up to the first of
+/// them; to find the last, it examines relatively fewer the further they extend.
 pub fn find_reachable_range(
     table: &PlaceTable,
     p: usize,

@@ -1,4 +1,4 @@
--- In which kept unit a byte of the resource stands.
+-- The kept unit that contains a byte of the resource.
 use Rattle.std.proofs.Common.{◌≡◌, ℕ, ◌+◌, ◌-◌, ◌<◌, ◌≤◌, List, length, map, take, drop, Some, None, inl, inr, refl, sym, ◌∙◌, subst, arith}
 use Rattle.std.specs.Prelude.{slice_get}
 use Rattle.std.specs.List.{concat}
@@ -19,7 +19,7 @@ use Rattle.hls_record.proofs.Pieces.{piece_of_unit, no_piece}
 pub item_kept : {T : Type 0} (s : Numbered T) (n : ℕ) → s.first ≤ n → item_at s n ≡ slice_get s.items (n - s.first)
 item_kept s n low = rw (le-ltb n s.first low) refl
 
--- at or past the count, the offset is the total
+-- at or after the count, the offset is the total
 pub offset_past : (r : RecordingData) (n : ℕ) → length r.facts ≤ n → offset_at r n ≡ total_of r
 offset_past r n past = rw (take_all n r.facts past) refl
 
@@ -59,7 +59,7 @@ unit_found i at after kept found low high =
       },
     )
 
--- a kept unit is as long as its offsets say
+-- the length of a kept unit is the difference of its offsets
 pub unit_length : (r : RecordingData) (n : ℕ) (u : List ℕ) → IsRecorded r → r.floor ≤ n → slice_get r.units (n - r.floor) ≡ Some u
     → offset_at r (n + 1) ≡ offset_at r n + length u
 unit_length r n u valid low at =
@@ -69,7 +69,7 @@ unit_length r n u valid low at =
     let is = valid.fits (n - r.floor) f.0 u (rw n_is f.1) at in
     rw (← (units_are_bounded r.init u f.0 is).len_is) (next_offset r n f.0 f.1)
 
--- the piece from a byte that stands in a kept unit is the rest of that unit
+-- the piece from a byte in a kept unit is the rest of that unit
 pub piece_there : (r : RecordingData) (at n : ℕ) (u : List ℕ) → IsRecorded r → IsInUnit r at n → slice_get r.units (n - r.floor) ≡ Some u
     → Some (drop (at - offset_at r n) u) ≡ piece_at r at
 piece_there r at n u valid there is =
@@ -81,7 +81,7 @@ piece_there r at n u valid there is =
     rw (le-ltb at (length r.head) (omega (arith, there.from)), le-ltb at (offset_at r r.floor) (omega (arith, there.from)), place)
     (sym (piece_of_unit r.units (n - r.floor) (at - offset_at r n) u is inside))
 
--- past the end there is no piece
+-- after the end there is no piece
 pub none_there : (r : RecordingData) (at : ℕ) → IsRecorded r → length r.head ≤ at → offset_at r r.floor ≤ at → total_of r ≤ at → None ≡ piece_at r at
 none_there r at valid behind kept past =
     rw (le-ltb at (length r.head) behind, le-ltb at (offset_at r r.floor) kept)
@@ -91,7 +91,7 @@ none_there r at valid behind kept past =
 pub unit_read : (i : Inside) (n : ℕ) (u : List ℕ) → i.units.first ≤ n → Some u ≡ item_at i.units n → slice_get i.units.items (n - i.units.first) ≡ Some u
 unit_read i n u low is = sym (is ∙ item_kept i.units n low)
 
--- a kept unit is there to be read
+-- a kept unit can be read
 pub unit_there : (i : Inside) (n : ℕ) → IsSoundRecording i → i.units.first ≤ n → n < length (model_of i).facts → None ≡ item_at i.units n → ⊥
 unit_there i n kept low high none =
     let valid = kept.valid in

@@ -1,4 +1,4 @@
--- What holds of every recording.
+-- The invariant of every recording.
 use Rattle.std.specs.Prelude.{◌≡◌, ℕ, ◌+◌, ◌≤◌, List, length, Some, slice_get}
 use Rattle.hls_media_laws.specs.IsInitOrUnit.{IsInit, IsUnit}
 use Rattle.hls_media_laws.specs.declared.facts.Facts.{Facts}

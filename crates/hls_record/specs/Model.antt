@@ -1,5 +1,5 @@
 -- For the proofs of this crate; no public clause cites it.
--- How a recording's fields are seen, and what holds of them.
+-- A recording as contracts see it, and its invariant.
 use Rattle.std.specs.Prelude.{◌≡◌, ℕ, List, map, Some, slice_get}
 use Rattle.hls_blocks.specs.Numbered.{Numbered}
 use Rattle.hls_record.specs.declared.recorded_unit.RecordedUnit.{RecordedUnit}
@@ -10,7 +10,7 @@ use Rattle.hls_record.specs.IsRecorded.{IsRecorded}
 abbrev pub model_of : Inside → RecordingData
 model_of i = record { init = i.init; head = i.head; facts = map (λ x. x.facts) i.items.items; floor = i.units.first; units = i.units.items }
 
--- over the init section of a recording
+-- a value with the init section of a recording
 abbrev pub inside_over : RecordingData → Numbered RecordedUnit → Numbered (List ℕ) → ℕ → Inside
 inside_over r items units total = record { init = r.init; head = r.head; items = items; units = units; total = total }
 

@@ -1,4 +1,4 @@
-//! Ranges of a recording, copied.
+//! Copies ranges of a recording, piece by piece. No program calls this: responses send the pieces themselves.
 ghost use Rattle.std.specs.Prelude.{◌≡◌, ◌+◌, ◌<◌, ◌≤◌, ◌⊎◌, length, map, min, max, Some, true, false, IfOk};
 ghost use Rattle.hls_record.specs.RecordingData.{offset_at, total_of, range_of};
 ghost use Rattle.hls_record.specs.IsRecorded.{IsRecorded};
@@ -9,10 +9,11 @@ use crate::recording::Recording;
 use std::alloc::{AllocError, Global};
 
 impl Recording {
-    /// The bytes of the resource from `a` up to `b`.
+    /// Copies the bytes of the resource from `a` up to `b`.
     ///
-    /// Outside where `a` is above `b`, or `b` above the total; Gone where a byte of the range is trimmed; Memory where a growth
-    /// was refused.
+    /// # Errors
+    /// `Outside` if `a` is greater than `b`, or `b` greater than the total. `Gone` if a byte of the range is trimmed. `Memory` if an
+    /// allocation failed.
     pub fn copy_range(&self, alloc: Global, a: u64, b: u64) -> Result<Vec<u8>, RangeFault>
         ensures { Copies self.now a b result }
     {
@@ -42,7 +43,7 @@ impl Recording {
         from < until
     }
 
-    // The bytes of a range of which none is trimmed.
+    // Copies the bytes of a range without trimmed bytes.
     fn copy_bytes(&self, alloc: Global, a: u64, b: u64) -> Result<Vec<u8>, AllocError>
         requires valid { IsRecorded self.now }
         requires inside { IsInside self.now a b }
@@ -59,7 +60,7 @@ impl Recording {
         Ok(all)
     }
 
-    // The beginning of the piece at `at`, as far as it lies before `b`.
+    // The part of the piece at `at` that is before `b`.
     fn piece_up_to(&self, at: u64, b: u64) -> &[u8]
         requires valid { IsRecorded self.now }
         requires within { at < b }

@@ -1,4 +1,4 @@
--- What the sample channels are.
+-- The sample channels.
 use Rattle.std.specs.Prelude.{◌≡◌, ℕ, ℤ, Bool, true, List, Option, map}
 use Rattle.hls_core_laws.specs.declared.event.Event.{Event}
 use Rattle.hls_core_laws.specs.declared.event.Event.TheVariants.{Begin, Accept, Finish, Slide, Trim}
@@ -23,6 +23,6 @@ abbrev pub IsAcceptEvent : ℕ → List ℕ → Event → Type 0
 IsAcceptEvent r bytes (Accept at f b) = (at ≡ r) × (b ≡ bytes)
 IsAcceptEvent r bytes other = ⊥
 
--- the second state is the first after one event more, of which this holds
+-- the second state is the first after one more event, which has this property
 abbrev pub FollowsByEvent : State → (Event → Type 0) → State → Type 0
 FollowsByEvent before Is after = (event : Event) × Is event × (after ≡ state_with_entry before 0 event)

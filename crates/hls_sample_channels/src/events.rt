@@ -1,8 +1,8 @@
-//! Events that bring media.
+//! Events with media.
 
 ghost use Rattle.std.specs.Prelude.{◌≡◌, IfOk, true};
-ghost use Rattle.hls_samples.specs.Init.{init_bytes};
-ghost use Rattle.hls_samples.specs.UnitBytes.{unit_bytes};
+ghost use Rattle.hls_fakes.specs.Init.{init_bytes};
+ghost use Rattle.hls_fakes.specs.UnitBytes.{unit_bytes};
 ghost use Rattle.hls_core_laws.specs.State.{State};
 ghost use Rattle.hls_core_laws.specs.Moves.{IsFitting, IsFittingAsSeen};
 ghost use Rattle.hls_sample_channels.specs.Samples.{IsBeginEvent, IsAcceptEvent};
@@ -11,11 +11,11 @@ use crate::fault::SampleFault;
 use bytes::Bytes;
 use hls_core::snapshot::Snapshot;
 use hls_core_laws::event::Event;
+use hls_fakes::{init_bytes, unit_bytes};
 use hls_media::{read_facts, read_init};
-use hls_samples::{init_bytes, unit_bytes};
 use std::alloc::Global;
 
-/// The init section of a rendition, with this four-letter handler and timescale (ticks a second).
+/// Makes the event of a rendition's init section, with this four-letter handler and timescale (ticks per second).
 pub fn begin_event(
     alloc: Global,
     rendition: usize,
@@ -36,7 +36,7 @@ pub fn begin_event(
     })
 }
 
-/// A unit of a rendition that has begun; its start and duration are in ticks.
+/// Makes the event of a unit of a rendition that has begun; its start and duration are in ticks.
 pub fn accept_event(
     alloc: Global,
     snapshot: &Snapshot,

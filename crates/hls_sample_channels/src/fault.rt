@@ -1,22 +1,22 @@
-//! Why there is no such sample.
+//! Why a sample can't be made.
 
 use hls_core::config::ConfigFault;
 use hls_core_laws::refusal::Refusal;
 use hls_media_laws::fault::MediaFault;
 use std::alloc::{AllocError, AllocFailed};
 
-/// Why there is no such channel.
+/// Why a sample channel can't be made.
 #[derive(Clone, Copy, Debug, PartialEq, Eq)]
 pub enum SampleFault {
-    /// No channel can be configured so.
+    /// The configuration is invalid.
     Config,
-    /// The bytes aren't an init section or a unit that can be read.
+    /// The bytes aren't a readable init section or unit.
     Media,
     /// The rendition has no init section.
     NotBegun,
-    /// The channel refuses the event, or has it already.
+    /// The channel refuses the event, or already has it.
     NotNew,
-    /// Memory ran out.
+    /// Out of memory.
     Memory,
 }
 

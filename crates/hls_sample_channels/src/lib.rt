@@ -1,4 +1,6 @@
-//! Sample channels for tests: target 6 s, preferred length 4 s. A rendition has 3 Mbit/s, an init section 600 bytes, and a unit
+//! Sample channels for tests.
+//!
+//! The target duration is 6 s, and the preferred segment length 4 s. A rendition has 3 Mbit/s, an init section 600 bytes, and a unit
 //! one sync sample and 1000 bytes.
 #![tactic(auto)]
 

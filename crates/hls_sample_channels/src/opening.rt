@@ -1,4 +1,4 @@
-//! Channels before anything came.
+//! Channels without any events.
 
 ghost use Rattle.std.specs.Prelude.{◌≡◌, [], ◌∷◌, codes, None, true, IfOk};
 ghost use Rattle.hls_core_laws.specs.Runs.{first_state};
@@ -12,10 +12,10 @@ use hls_core_laws::rendition::Rendition;
 use std::alloc::{AllocError, Global};
 use std::sync::Arc;
 
-/// The microseconds of a second.
+/// Microseconds per second.
 pub const SECOND: u64 = 1_000_000;
 
-/// A rendition of this name and kind, whose places may be off by `tolerance` microseconds.
+/// Makes a rendition with this name and kind, whose spots may be off by `tolerance` microseconds.
 pub fn rendition(
     alloc: Global,
     name: &[u8],
@@ -32,7 +32,7 @@ pub fn rendition(
     })
 }
 
-/// A channel of these renditions; its time 0 is at this epoch, if it has one, in microseconds since 1970.
+/// Makes a channel of these renditions; the epoch, if any, is in microseconds since 1970.
 pub fn open_channel_with(
     alloc: Global,
     renditions: Vec<Rendition>,
@@ -44,7 +44,7 @@ pub fn open_channel_with(
     Ok(Arc::new(alloc, Snapshot::first(alloc, config)?)?)
 }
 
-/// A channel of one video rendition.
+/// Makes a channel of one video rendition.
 pub fn open_channel(alloc: Global) -> Result<Arc<Snapshot>, SampleFault>
     ensures { IfOk result (λ s. s.value ≡ first_state (config_of (rendition_of (codes "v1") true 0 ∷ []) None)) }
 {

@@ -1,4 +1,4 @@
-//! Channels of one video rendition, made once more where memory was refused.
+//! Channels of one video rendition, made again if an allocation failed.
 
 ghost use Rattle.std.specs.Prelude.{◌≡◌, ◌+◌, length, IfOk, IfSome};
 
@@ -12,7 +12,7 @@ use std::sync::Arc;
 /// Three units of four seconds.
 pub const THREE_UNITS: [(u32, u32); 3] = [(0, 4), (4, 8), (8, 12)];
 
-/// With units from one second to another, of which more may come.
+/// Makes a channel with units from one second to another; more may come.
 pub fn record_channel(alloc: Global, seconds: &[(u32, u32)]) -> Result<Arc<Snapshot>, SampleFault>
     ensures { IfOk result (λ s. length s.value.log ≡ length seconds.now + 1) }
 {
@@ -20,7 +20,7 @@ pub fn record_channel(alloc: Global, seconds: &[(u32, u32)]) -> Result<Arc<Snaps
     with_units(alloc, &none, 0, seconds)
 }
 
-/// With such units, made once more where memory was refused; none where it was so twice.
+/// Makes such a channel, and retries once if an allocation failed; `None` if the retry failed, too.
 pub fn record_channel_with_retry(alloc: Global, seconds: &[(u32, u32)]) -> Option<Arc<Snapshot>>
     ensures { IfSome result (λ s. length s.value.log ≡ length seconds.now + 1) }
 {
@@ -30,7 +30,7 @@ pub fn record_channel_with_retry(alloc: Global, seconds: &[(u32, u32)]) -> Optio
     }
 }
 
-/// With these units, and at its end.
+/// Makes a finished channel with these units.
 fn end_channel(alloc: Global, seconds: &[(u32, u32)]) -> Result<Arc<Snapshot>, SampleFault>
     ensures { IfOk result (λ s. length s.value.log ≡ length seconds.now + 2) }
 {
@@ -38,7 +38,7 @@ fn end_channel(alloc: Global, seconds: &[(u32, u32)]) -> Result<Arc<Snapshot>, S
     finish_rendition(alloc, &state, 0)
 }
 
-/// With such units, and at its end, made once more where memory was refused; none where it was so twice.
+/// Makes such a finished channel, and retries once if an allocation failed; `None` if the retry failed, too.
 pub fn end_channel_with_retry(alloc: Global, seconds: &[(u32, u32)]) -> Option<Arc<Snapshot>>
     ensures { IfSome result (λ s. length s.value.log ≡ length seconds.now + 2) }
 {

@@ -1,8 +1,8 @@
 //! Channels after some events, all of worker 0.
 
 ghost use Rattle.std.specs.Prelude.{◌≡◌, ◌+◌, ◌*◌, length, codes, true, IfOk};
-ghost use Rattle.hls_samples.specs.Init.{init_bytes};
-ghost use Rattle.hls_samples.specs.UnitBytes.{unit_bytes};
+ghost use Rattle.hls_fakes.specs.Init.{init_bytes};
+ghost use Rattle.hls_fakes.specs.UnitBytes.{unit_bytes};
 ghost use Rattle.hls_core_laws.specs.declared.event.Event.TheVariants.{Finish};
 ghost use Rattle.hls_core_laws.specs.Moves.{state_with_entry, IsFitting};
 ghost use Rattle.hls_sample_channels.specs.Samples.{IsBeginEvent, IsAcceptEvent, FollowsByEvent};
@@ -16,7 +16,7 @@ use hls_core_laws::event::Event;
 use std::alloc::Global;
 use std::sync::Arc;
 
-/// The channel after an event that is new in it.
+/// Returns the channel after an event that is new in it.
 pub fn apply_event(
     alloc: Global,
     snapshot: &Snapshot,
@@ -31,7 +31,7 @@ pub fn apply_event(
     }
 }
 
-/// With the init section of a video rendition of this timescale (ticks a second).
+/// Adds the init section of a video rendition with this timescale (ticks per second).
 pub fn begin_rendition(
     alloc: Global,
     snapshot: &Snapshot,
@@ -44,7 +44,7 @@ pub fn begin_rendition(
     apply_event(alloc, snapshot, event)
 }
 
-/// With a unit of a rendition that has begun; its start and duration are in ticks.
+/// Adds a unit of a rendition that has begun; its start and duration are in ticks.
 pub fn with_unit(
     alloc: Global,
     snapshot: &Snapshot,
@@ -58,7 +58,7 @@ pub fn with_unit(
     apply_event(alloc, snapshot, event)
 }
 
-/// With the init section of a video rendition, and units from one second to another.
+/// Adds the init section of a video rendition, and units from one second to another.
 pub fn with_units(
     alloc: Global,
     snapshot: &Snapshot,
@@ -89,7 +89,7 @@ pub const TEN_UNITS: [(u32, u32); 10] = [
     (36, 40),
 ];
 
-/// With a rendition that has begun at its end.
+/// Finishes a rendition that has begun.
 pub fn finish_rendition(
     alloc: Global,
     snapshot: &Snapshot,

@@ -1,10 +1,9 @@
 -- Turns of a worker's connection, one after the other.
 use Rattle.std.proofs.Common.{◌≡◌, ◌∙◌, Bool, List, ℕ, ◌++◌, ◌||◌, refl, sym, ap, append_assoc, append-nil}
 use Rattle.std.proofs.Math.Bool.{or-false, or_assoc}
-use Rattle.hls_loop.specs.Traffic.{Traffic, followed_by, no_traffic}
-use Rattle.hls_serve.specs.{declared.connection.Connection.Connection, Connections.history, Connections.renditions_of}
-use Rattle.hls_serve_laws.proofs.Callers.{acted_none, acted_on}
-use Rattle.hls_serve_laws.specs.{Acts.Knowledge, OtherActors.Others}
+use Rattle.hls_event_loop.specs.Traffic.{Traffic, followed_by, no_traffic}
+use Rattle.hls_connection.specs.{declared.connection.Connection.Connection, Connections.history, Connections.renditions_of}
+use Rattle.hls_api.{proofs.Callers.{acted_none, acted_on}, specs.{Acts.Knowledge, OtherActors.Others}}
 use Rattle.hls_server.specs.HandlerConnections.{HistoryGrows}
 
 -- it may stay as it is

@@ -1,44 +1,78 @@
-//! Who serves the connections of a worker.
+//! The handler of a worker's connections.
 
-ghost use Rattle.std.specs.Prelude.{◌≡◌};
-ghost use Rattle.hls_http_laws.specs.ResponseText.{out_of_memory_text};
-ghost use Rattle.hls_serve_laws.specs.Acts.{knowledge_of};
-ghost use Rattle.hls_serve.specs.Histories.{new_history};
-ghost use Rattle.hls_serve.specs.Connections.{IsIdleOrBlocked, KeeperSuits, WantsRead, history, stage, steps_left};
-ghost use Rattle.hls_server.specs.HistoryGrowth.{growth_composes, grows_by_nothing};
-ghost use Rattle.hls_server.specs.HandlerConnections.{HistoryGrows, HasStage, socket_end};
+ghost use Rattle.std.specs.Prelude.{◌≡◌, ◌⊎◌};
+ghost use Rattle.hls_http.specs.ResponseText.{out_of_memory_text};
+ghost use Rattle.hls_api.specs.Acts.{knowledge_of};
+ghost use Rattle.hls_connection.specs.Histories.{new_history};
+ghost use Rattle.hls_connection.specs.Connections.{IsStatus, IsIdleOrBlocked, KeeperSuits, Waits, WantsRead, history, stage, steps_left};
+ghost use Rattle.hls_server.specs.{HistoryGrowth.{growth_composes, grows_by_nothing}, HandlerConnections.{HistoryGrows, socket_end}};
 
 use crate::logged_connection::{AccessRecord, LoggedConnection};
 use crate::observer::{ClientObserver, log_slow_response};
-use hls_house::{LogThrottle, log_failed_accept, may_log};
-use hls_http::SessionEnd;
-use hls_http_laws::response_parts::out_of_memory_text;
-use hls_loop::{ConnectionEnd, Handler};
-use hls_pace::{ConnectionStage, monotonic_ms};
-use hls_serve::channel_handle::ChannelHandle;
-use hls_serve::connection::{Connection, ConnectionStatus};
-use hls_serve::laws::suits_is_stable;
+use hls_connection::channel_handle::ChannelHandle;
+use hls_connection::connection::Connection;
+use hls_connection::laws::suits_is_stable;
+use hls_event_loop::{ConnectionEnd, ConnectionStage, Handler, WorkerLoads};
+use hls_housekeeper::{LogThrottle, log_failed_accept, may_log};
+use hls_http::response_parts::out_of_memory_text;
+use hls_http::{Method, SessionEnd};
 use hls_settings::Settings;
+use hls_time::monotonic_ms;
 use std::cell::Cell;
 use std::io::{self, Eprint, Read};
 use std::net::SocketAddr;
 use std::sync::Wait;
 use std::time::Clock;
 
-/// From which time on a turn that made a reply is told, in milliseconds: for so long the others of its worker have waited. A long text
-/// is made in many turns.
+/// A turn that made a response is logged from this time on, in milliseconds: the worker's other connections have waited for it. A long
+/// text is made in many turns.
 const SLOW_MS: u64 = 50;
 
-/// Who serves the connections of a worker: a handle of the channel, and what is logged of them.
+/// Serves the connections of a worker by a handle of the channel, and logs their requests.
 #[derive(Drop)]
 pub struct ServerHandler<'a, R: Wait> {
     pub handle: ChannelHandle<'a, R>,
-    /// The renditions by their names, and whether each request is told.
+    /// The names of the renditions, and whether each request is logged.
     pub settings: &'a Settings,
     pub throttle: &'a LogThrottle,
+    /// By which waiting responses are woken.
+    pub worker_loads: &'a WorkerLoads,
+    /// How many responses of this worker wait.
+    pub waiting: Cell<u64>,
+    /// How many of them wait at most.
+    pub most_waiting: u64,
 }
 
 impl<'a, R: Wait> ServerHandler<'a, R> {
+    /// The time for a connection's turn; none where its response may not begin to wait, since too many do.
+    fn time_to_wait(&self, logged: &LoggedConnection, now: u64) -> Option<u64> {
+        if logged.connection.is_waiting() || self.waiting.get() < self.most_waiting {
+            Some(now)
+        } else {
+            None
+        }
+    }
+
+    /// Counts a response that begins to wait, or ends its wait.
+    fn count_waiting(&self, waited: bool, waits: bool) {
+        let waiting = self.waiting.get();
+        match (waited, waits) {
+            (false, true) => self.waiting.set(waiting.saturating_add(1)),
+            (true, false) => self.waiting.set(waiting.saturating_sub(1)),
+            _ => {}
+        }
+    }
+
+    /// Wakes responses that wait for a job, where one may have been removed in this turn.
+    fn wake_after_removal(&self, client: &ClientObserver<'a, R>) {
+        match client.access_line.get() {
+            Some(access_line) if access_line.method == Method::Delete => {
+                self.worker_loads.wake_waiting();
+            }
+            _ => {}
+        }
+    }
+
     /// Who is told of what comes of a peer's requests.
     fn observer(&self, peer: SocketAddr) -> ClientObserver<'a, R> {
         ClientObserver {
@@ -52,7 +86,7 @@ impl<'a, R: Wait> ServerHandler<'a, R> {
 }
 
 impl<'a, R: Wait + Clock + Eprint> ServerHandler<'a, R> {
-    /// Tells a reply that took long to make.
+    /// Logs a response that took long to make.
     fn log_slow(&self, client: &ClientObserver<'a, R>, started_ms: u64) {
         let Some(access_line) = client.access_line.get() else {
             return;
@@ -65,8 +99,8 @@ impl<'a, R: Wait + Clock + Eprint> ServerHandler<'a, R> {
         }
     }
 
-    /// Notes what came of a request in a turn that began then, where requests are told. Where there is no memory for that, it
-    /// isn't told.
+    /// Notes what became of a request in a turn that began then, if requests are logged. If there is no memory for that, it isn't
+    /// logged.
     fn note_response(
         &self,
         access: &mut Option<Box<AccessRecord>>,
@@ -89,7 +123,7 @@ impl<'a, R: Wait + Clock + Eprint> ServerHandler<'a, R> {
         }
     }
 
-    /// Notes that so many bytes were taken; whether more wait.
+    /// Notes how many bytes the client took, and whether more wait.
     fn note_sent(&self, access: &mut Option<Box<AccessRecord>>, count: usize, more: bool) {
         let Some(request) = access else {
             return;
@@ -116,13 +150,15 @@ impl<'a, R: Wait + Clock + Eprint> Handler for ServerHandler<'a, R> {
 
     ghost may_read = { λ logged. WantsRead logged.connection };
 
-    ghost needs_io = { λ logged. IsIdleOrBlocked logged.connection };
+    ghost needs_io = { λ logged. IsIdleOrBlocked logged.connection ⊎ Waits logged.connection };
 
     ghost max_steps = { λ logged. steps_left logged.connection };
 
+    ghost waits = { λ logged. Waits logged.connection };
+
     ghost own_end = { λ logged. socket_end (stage logged.connection) };
 
-    ghost has_stage = { λ logged connection_stage. HasStage connection_stage logged.connection };
+    ghost has_stage = { λ logged connection_stage. IsStatus connection_stage logged.connection };
 
     ghost out_of_memory_reply = { out_of_memory_text };
 
@@ -137,7 +173,11 @@ impl<'a, R: Wait + Clock + Eprint> Handler for ServerHandler<'a, R> {
         suits_is_stable();
         let client = self.observer(peer);
         let started_ms = monotonic_ms(self.handle.rt);
-        let more = logged.connection.advance(&mut self.handle, &client);
+        let waited = logged.connection.is_waiting();
+        let now = self.time_to_wait(logged, started_ms);
+        let more = logged.connection.advance(&mut self.handle, now, &client);
+        self.count_waiting(waited, logged.connection.is_waiting());
+        self.wake_after_removal(&client);
         self.log_slow(&client, started_ms);
         self.note_response(&mut logged.access, &client, started_ms);
         more
@@ -164,6 +204,10 @@ impl<'a, R: Wait + Clock + Eprint> Handler for ServerHandler<'a, R> {
         logged.connection.wants_read()
     }
 
+    fn is_waiting(&self, logged: &LoggedConnection) -> bool {
+        logged.connection.is_waiting()
+    }
+
     fn end(&self, logged: &LoggedConnection) -> Option<ConnectionEnd> {
         match logged.connection.end()? {
             SessionEnd::Closed | SessionEnd::Refused => Some(ConnectionEnd::Responded),
@@ -172,15 +216,7 @@ impl<'a, R: Wait + Clock + Eprint> Handler for ServerHandler<'a, R> {
     }
 
     fn stage(&self, logged: &LoggedConnection) -> ConnectionStage {
-        match logged.connection.status() {
-            ConnectionStatus::Idle => ConnectionStage::Idle,
-            ConnectionStatus::Head => ConnectionStage::Head,
-            ConnectionStatus::Discarding => ConnectionStage::Discarding,
-            ConnectionStatus::Ingesting => ConnectionStage::Ingesting,
-            ConnectionStatus::Writing => ConnectionStage::Writing,
-            ConnectionStatus::Responding => ConnectionStage::Responding,
-            ConnectionStatus::Ended => ConnectionStage::Lingering,
-        }
+        logged.connection.status()
     }
 
     fn out_of_memory_text(&self) -> &'static [u8] {
@@ -188,6 +224,7 @@ impl<'a, R: Wait + Clock + Eprint> Handler for ServerHandler<'a, R> {
     }
 
     fn abandon(&self, logged: &LoggedConnection, peer: SocketAddr) {
+        self.count_waiting(logged.connection.is_waiting(), false);
         logged.connection.report_read_failure(&self.observer(peer));
         if let Some(access) = &logged.access {
             access.log(self.handle.rt, monotonic_ms(self.handle.rt), false);

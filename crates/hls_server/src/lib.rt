@@ -1,11 +1,9 @@
-//! A running server of a channel: threads that serve connections from one turn, threads that work on catch-up jobs, one that
-//! keeps the channel to its window, and what the operator is told of clients.
+//! A running server of a channel: threads that serve connections from one turn, threads that run catch-up jobs, one that keeps the
+//! channel to its window, and the log lines about clients.
 //!
-//! What a connection is answered is a session over the turn, and stands in `hls_serve_laws`. Of threads, sockets and time
-//! nothing is claimed.
+//! What a connection is answered is a session over the turn, which `hls_api` defines. No clause is about threads, sockets and time.
 #![tactic(auto)]
 
-mod gate;
 mod handler;
 mod limits;
 mod log_lines;

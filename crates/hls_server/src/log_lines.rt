@@ -1,11 +1,11 @@
-//! The operator's lines of clients, as texts.
+//! The log lines about clients.
 
-use hls_house::DisplayName;
+use hls_api::ingest::{IngestCounts, IngestStop};
+use hls_api::route::Route;
+use hls_api::route_path::RoutePath;
+use hls_housekeeper::DisplayName;
+use hls_http::response_parts::Status;
 use hls_http::{BodyEnd, Method};
-use hls_http_laws::response_parts::Status;
-use hls_routes::route_path::RoutePath;
-use hls_serve_laws::ingest::{IngestCounts, IngestStop};
-use hls_serve_laws::route::Route;
 use std::fmt::{self, Display, Formatter, Write};
 use std::net::SocketAddr;
 
@@ -52,38 +52,18 @@ pub(crate) fn method_name(method: Method) -> &'static str {
     }
 }
 
-/// A status by its number.
-fn status_code(status: Status) -> u16 {
-    match status {
-        Status::Done => 200,
-        Status::Accepted => 202,
-        Status::NoContent => 204,
-        Status::PartialContent => 206,
-        Status::BadRequest => 400,
-        Status::NotFound => 404,
-        Status::MethodNotAllowed => 405,
-        Status::Conflict => 409,
-        Status::Gone => 410,
-        Status::ContentTooLarge => 413,
-        Status::RangeNotSatisfiable => 416,
-        Status::HeadTooLarge => 431,
-        Status::Unavailable => 503,
-        Status::InsufficientStorage => 507,
-    }
-}
-
-/// A request that was answered, and how its reply was taken.
+/// A request that was answered, and how much of its response the client took.
 #[derive(Clone, Copy, Drop)]
 pub struct AccessLine {
     pub peer: SocketAddr,
     pub method: Method,
     pub route: Option<Route>,
     pub status: Status,
-    /// How many bytes of the reply were taken, its head among them.
+    /// How many bytes of the response were taken, with its head.
     pub bytes: u64,
-    /// For how long, since the request's head was whole.
+    /// The time since the request's head was complete.
     pub milliseconds: u64,
-    /// Whether the reply was taken whole.
+    /// Whether the whole response was taken.
     pub whole: bool,
 }
 
@@ -91,7 +71,7 @@ impl Display for AccessLine {
     fn fmt<W: Write>(&self, f: &mut Formatter<W>) -> fmt::Result {
         let method = method_name(self.method);
         let path = RoutePath(self.route);
-        let status = status_code(self.status);
+        let status = self.status as u16;
         write!(f, "request {method} {path} from {}: {status}", self.peer)?;
         let end = if self.whole { "" } else { ", broken off" };
         write!(f, ", {} bytes in {} ms{end}", self.bytes, self.milliseconds)

@@ -1,15 +1,15 @@
-//! Who is at the other end of a connection.
+//! The observer of a connection.
 
 use crate::log_lines::{AccessLine, IngestLine, method_name};
-use hls_house::{DisplayName, log_line};
-use hls_routes::route_path::RoutePath;
-use hls_serve::events::{IngestReport, Observer, SessionEvent};
+use hls_api::route_path::RoutePath;
+use hls_connection::events::{IngestReport, Observer, SessionEvent};
+use hls_housekeeper::{DisplayName, log_line};
 use hls_settings::Settings;
 use std::cell::Cell;
 use std::io::Eprint;
 use std::net::SocketAddr;
 
-/// A reply that took so many milliseconds to make, while the others of its worker waited; told once a minute at most.
+/// Logs a response that took this many milliseconds to make, while the worker's other connections waited; once a minute at most.
 pub fn log_slow_response<E: Eprint>(rt: &E, milliseconds: u64, access_line: AccessLine) {
     let (method, path) = (
         method_name(access_line.method),
@@ -18,22 +18,21 @@ pub fn log_slow_response<E: Eprint>(rt: &E, milliseconds: u64, access_line: Acce
     let _ = eprintln!(rt; "serve: a reply took {milliseconds} ms to make: {method} {path}");
 }
 
-/// Who is at the other end of a connection, for one turn: an encoder's body that ended is told to the operator, and what came of a
-/// request is noted.
+/// The observer of a connection for one turn: it logs an encoder's body that ended, and notes what became of a request.
 #[derive(Drop)]
 pub struct ClientObserver<'a, E> {
     pub rt: &'a E,
-    /// The renditions by their names.
+    /// The names of the renditions.
     pub settings: &'a Settings,
     pub address: SocketAddr,
-    /// Whether a request's head was whole in this turn.
+    /// Whether a request's head was completed in this turn.
     pub head_read: Cell<bool>,
-    /// The request that was answered in this turn; of the reply nothing was taken yet.
+    /// The request that was answered in this turn; nothing of its response was taken yet.
     pub access_line: Cell<Option<AccessLine>>,
 }
 
 impl<'a, E: Eprint> ClientObserver<'a, E> {
-    /// Tells it by the rendition's name, and by none where there is no such one.
+    /// Logs it with the rendition's name, or without one if there is no such rendition.
     fn log_ingest(&self, ingested: IngestReport) {
         let found = self.settings.config.renditions().get(ingested.rendition);
         let line = IngestLine {

@@ -2,21 +2,21 @@
 
 ghost use Rattle.std.specs.Prelude.{◌≡◌, ◌+◌, ◌≤◌, All, max, min};
 
-use crate::gate::AlwaysOpen;
 use crate::handler::ServerHandler;
-use crate::limits::{connection_count, worker_count};
-use hls_catchup::{Jobs, work_loop};
+use crate::limits::{connection_count, waiting_limit, worker_count};
+use hls_connection::channel_handle::ChannelHandle;
+use hls_connection::shared_channel::SharedChannel;
 use hls_core::snapshot::Snapshot;
-use hls_house::{
+use hls_event_loop::{WorkerIo, WorkerLoads, open_file_limit, run_worker, tune_listener};
+use hls_housekeeper::{
     LogThrottle, OperatorLog, ServerStatus, ThreadCounts, log_ended_worker, log_fewer_threads,
     run_housekeeper,
 };
-use hls_loop::{WorkerIo, WorkerLoads, open_file_limit, run_worker, tune_listener};
-use hls_serve::channel_handle::ChannelHandle;
-use hls_serve::shared_channel::SharedChannel;
+use hls_jobs::{Gate, Jobs, work_loop};
 use hls_settings::Settings;
 use hls_turn::{Pass, Turn};
 use std::alloc::{AllocError, Global};
+use std::cell::Cell;
 use std::io::Eprint;
 use std::net::{Net, TcpListener, TcpStream};
 use std::rt::Env;
@@ -28,21 +28,39 @@ use std::time::Clock;
 /// The most workers: each has a pass, and so has the housekeeper.
 pub const MOST_WORKERS: u64 = 63;
 
-/// What the threads of a server have in common.
+/// What the threads of a server share.
 #[derive(Clone, Copy)]
 struct ServerContext<'a> {
     alloc: Global,
     settings: &'a Settings,
     channel: &'a SharedChannel<'a>,
-    /// Where workers find connections.
+    /// The listener of the workers.
     listener: &'a TcpListener,
-    /// How many workers serve at most.
+    /// The most workers.
     worker_count: u64,
-    /// What workers know of one another.
+    /// What the workers know of each other.
     worker_loads: &'a WorkerLoads,
+    /// How many responses of a worker wait at most.
+    most_waiting: u64,
     throttle: &'a LogThrottle,
     /// Whether all workers have ended.
     closed: &'a AtomicBool,
+}
+
+/// Wakes responses that wait for a job whenever one ends.
+#[derive(Clone, Copy, Drop)]
+struct WakingGate<'a> {
+    worker_loads: &'a WorkerLoads,
+}
+
+impl<'a> Gate for WakingGate<'a> {
+    fn enter(&self, _id: u64) -> bool {
+        true
+    }
+
+    fn leave(&self, _id: u64) {
+        self.worker_loads.wake_waiting();
+    }
 }
 
 impl<'a> ServerStatus for ServerContext<'a> {
@@ -55,7 +73,7 @@ impl<'a> ServerStatus for ServerContext<'a> {
     }
 }
 
-/// How many passes there are: one for each worker that is asked for, 1 to 63, and the housekeeper's.
+/// The number of passes: one for each worker that is asked for, 1 to 63, and the housekeeper's.
 fn pass_count(workers: u64) -> u16
     ensures count { result ≡ max 1 (min workers 63) + 1 }
     ensures few { (1 ≤ result) × (result ≤ 64) }
@@ -64,12 +82,12 @@ fn pass_count(workers: u64) -> u16
     (workers + 1) as u16
 }
 
-/// Serves connections from a channel that begins empty; each worker takes so many of them, or goes on without end where no number
+/// Serves connections from a channel that begins empty. Each worker accepts the given number of connections, or serves forever if none
 /// is given. The housekeeper and the planners end when all workers have, and the planners finish the jobs that wait by then.
 ///
-/// A worker holds many connections at once, and none of them may be silent or slow for ever. Where a thread can't be started, the
-/// rest serve, and the operator is told; want of memory comes before a thread is started, or where no worker could be. Accepts on
-/// the listener don't wait meanwhile. May wait.
+/// A worker holds many connections at once, and none of them may be silent or slow forever. If a thread can't be started, the others
+/// serve, and a line is logged. An allocation failure is returned before a thread is started, or if no worker could be. Accepts on the
+/// listener don't block meanwhile. May wait.
 pub fn run_server<'a, R: Net<Listener = TcpListener, Stream = TcpStream>>(
     rt: &R,
     alloc: Global,
@@ -110,6 +128,7 @@ where
         listener,
         worker_count,
         worker_loads: &worker_loads,
+        most_waiting: waiting_limit(workers, files),
         throttle: &throttle,
         closed: &closed,
     };
@@ -119,7 +138,7 @@ where
     ran
 }
 
-/// Serves connections on one thread; the operator is told where the system doesn't let it.
+/// Serves connections on one thread, and logs if the system doesn't let it.
 fn run_worker_thread<R: Wait + Clock + Eprint>(
     rt: &R,
     context: &ServerContext<'_>,
@@ -132,6 +151,9 @@ fn run_worker_thread<R: Wait + Clock + Eprint>(
         handle: ChannelHandle::new(rt, context.alloc, context.channel, pass),
         settings: context.settings,
         throttle: context.throttle,
+        worker_loads: context.worker_loads,
+        waiting: Cell::new(0),
+        most_waiting: context.most_waiting,
     };
     let idle_timeout_s = context.settings.server.workers.idle_timeout_s;
     if let Err(error) = run_worker(
@@ -165,7 +187,7 @@ fn run_housekeeper_thread<R: Wait + Clock + Eprint + Env>(
     );
 }
 
-/// Starts a thread for each pass, which serves connections: those that there are then.
+/// Starts a thread for each pass, which serves connections. Returns the threads that were started.
 fn start_workers<'s, E, R: Net<Listener = TcpListener, Stream = TcpStream>>(
     scope: &Scope<'s, E>,
     rt: &'s R,
@@ -196,17 +218,19 @@ where
     started
 }
 
-/// Starts so many threads that work on jobs; how many there are then.
+/// Starts the threads that run jobs. Returns how many were started.
 fn start_planners<'s, E, R: Wait + Sync>(
     scope: &Scope<'s, E>,
     rt: &'s R,
-    alloc: Global,
-    jobs: &'s Jobs,
-    wanted: u64,
+    context: &'s ServerContext<'s>,
 ) -> u64 {
+    let (alloc, jobs) = (context.alloc, context.channel.jobs);
+    let gate = WakingGate {
+        worker_loads: context.worker_loads,
+    };
     let mut started: u64 = 0;
-    for _ in 0..wanted {
-        let planner = scope.spawn(move || work_loop(rt, alloc, jobs, &AlwaysOpen));
+    for _ in 0..context.settings.server.workers.planners {
+        let planner = scope.spawn(move || work_loop(rt, alloc, jobs, &gate));
         if planner.is_ok() {
             started = started.saturating_add(1);
         }
@@ -214,7 +238,7 @@ fn start_planners<'s, E, R: Wait + Sync>(
     started
 }
 
-/// Runs a thread for each pass: the last one's runs the housekeeper, and the others serve connections. The planners' are beside them.
+/// Runs a thread for each pass, and the planners: that of the last pass runs the housekeeper, the others serve connections.
 fn run_threads<R: Net<Listener = TcpListener, Stream = TcpStream>>(
     rt: &R,
     context: &ServerContext<'_>,
@@ -235,10 +259,7 @@ where
             let Some(last) = passes.pop() else {
                 return Ok(());
             };
-            let (jobs, planners) = (
-                context.channel.jobs,
-                context.settings.server.workers.planners,
-            );
+            let planners = context.settings.server.workers.planners;
             let wanted = ThreadCounts::all(passes.len(), planners);
             let keeper = scope.spawn(
                 move || -> ()
@@ -249,13 +270,13 @@ where
             let started = ThreadCounts {
                 has_housekeeper: keeper.is_ok(),
                 workers: workers.len() as u64,
-                planners: start_planners(scope, rt, context.alloc, jobs, planners),
+                planners: start_planners(scope, rt, context),
             };
             log_fewer_threads(&OperatorLog::new(rt), started, wanted);
             for worker in workers {
                 worker.join(rt);
             }
-            jobs.close(rt);
+            context.channel.jobs.close(rt);
             context.closed.store(true, Ordering::SeqCst);
             context.channel.turn.tell(rt);
             if started.workers == 0 {

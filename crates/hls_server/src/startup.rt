@@ -1,14 +1,14 @@
-//! What the operator is told before the first connection is taken: settings that this machine can't keep to.
+//! What is logged before the first connection is accepted: settings that this machine can't satisfy.
 
 use crate::limits::connection_count;
-use hls_house::{OperatorLog, log_memory};
-use hls_loop::open_file_limit;
+use hls_event_loop::open_file_limit;
+use hls_housekeeper::{OperatorLog, log_memory};
 use hls_settings::Settings;
 use std::alloc::Global;
 use std::io::Eprint;
 use std::rt::Files;
 
-/// Tells of settings that can't be kept to: more connections than the process may have files, and more media kept than there is
+/// Logs settings that can't be satisfied: more connections than the process may have files, and more media to keep than there is
 /// memory for, as far as the system says how much that is.
 pub fn log_start<R: Eprint + Files>(log: &OperatorLog<'_, R>, alloc: Global, settings: &Settings) {
     let workers = settings.server.workers;

@@ -1,6 +1,6 @@
--- A charge in its range gives a rule that can be listed by.
+-- A charge in its range yields a rule for a listing.
 use Rattle.std.proofs.Common.{ℕ, ◌≤◌, Option, Some, None, arith}
-use Rattle.hls_check_laws.specs.Tables.{charge_limit, charge_of, rule_of}
+use Rattle.hls_check_tables.specs.Tables.{charge_limit, charge_of, rule_of}
 use Rattle.hls_settings.specs.Options.{IsCharge}
 
 pub rule_in_range : (charge : Option ℕ) → IsCharge charge → charge_of (rule_of charge) ≤ charge_limit

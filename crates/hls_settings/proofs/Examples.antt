@@ -1,4 +1,4 @@
--- Worked examples: words after `cut`, and words that can't stand where they do, computed.
+-- Worked examples, computed: arguments after `cut`, and invalid arguments.
 use Rattle.std.proofs.Common.{◌≡◌, [], ◌∷◌, Some, None, Ok, Err, codes, true, false, refl}
 use Rattle.clap.proofs.OnLiterals.{clap_on_literals}
 use Rattle.hls_instants.specs.Instants.{instant_of}
@@ -9,7 +9,7 @@ use Rattle.hls_settings.specs.declared.wrong_argument.ArgumentFault.TheVariants 
 use Rattle.hls_settings.specs.WrongArguments.{cut_options, serve_options, wrong_argument}
 use Rattle.hls_settings.specs.Options.{cut_app, options_of}
 
--- no words
+-- no arguments
 defaults : options_of [] ≡ Ok (record { target = 6; uri = codes "media.mp4"; preferred = None; charge = None; epoch = None; certificate = false })
 unfolding options_of cut_app clap_on_literals number_of_digits
 defaults = refl
@@ -59,7 +59,7 @@ unknown_word : options_of (codes "--rule" ∷ codes "1" ∷ []) ≡ Err (faults.
 unfolding options_of cut_app clap_on_literals number_of_digits
 unknown_word = refl
 
--- ---- the first word that can't stand where it does
+-- ---- the first invalid argument
 
 misspelt : wrong_argument serve_options true (codes "127.0.0.1:80" ∷ codes "--prefered=4000000" ∷ codes "--other" ∷ []) ≡ Some (record { index = 1; fault = argument.Unknown })
 misspelt = refl

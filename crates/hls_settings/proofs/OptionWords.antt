@@ -1,4 +1,4 @@
--- The words after `cut`, as `clap` takes or refuses them.
+-- The arguments after `cut`, as `clap` accepts or refuses them.
 use Rattle.std.proofs.Common.{◌≡◌, ◌∙◌, ◌⊎◌, ap, ap₂, refl, sym, subst, codes, true, false, List, [], ◌∷◌, Option, Result, Ok, Err, inl, inr}
 use Rattle.clap.specs.Words.{App, Text, fault_of, first_of, first_value, found_of, is_simple, is_simple_and_free, kind_of, matches_of, rows_of, HasMatchesOf}
 use Rattle.clap.specs.Kinds.{Kinds, HasKind, IsAmong}
@@ -27,7 +27,7 @@ first_in_rows app arguments m name is has =
     let rows : rows_of (found_of m) ≡ matches_of cut_app arguments = (has (ap is_simple is ∙ cut_is_simple)).0 ∙ ap (λ (a : App). matches_of a arguments) is in
     first_value-rows (found_of m) name ∙ ap (first_of name) rows
 
--- words that were taken
+-- accepted arguments
 pub taken_words : (app : App) (arguments : List Text) (m : ArgMatches) → app ≡ cut_app → HasMatchesOf app arguments m → fault_of app arguments ≡ []
     → choice_in (first_value (found_of m) (codes "each")) (first_value (found_of m) (codes "preferred")) (first_value (found_of m) (codes "certificate"))
     (first_value (found_of m) (codes "target")) (first_value (found_of m) (codes "uri")) (first_value (found_of m) (codes "charge"))
@@ -46,7 +46,7 @@ taken_words app arguments m is has none =
         ap (λ x. choice_in x b c d e f g) p ∙ ap (λ x. choice_in a' x c d e f g) q ∙ ap (λ x. choice_in a' b' x d e f g) r
         ∙ ap (λ x. choice_in a' b' c' x e f g) s ∙ ap (λ x. choice_in a' b' c' d' x f g) t ∙ ap₂ (choice_in a' b' c' d' e') u v
 
--- a refusal is for want of memory, or of the words
+-- a refusal is an allocation failure, or a fault of the arguments
 memory_or_words : (k : ErrorKind) (wrong : Option WrongArgument) → (refused_option k wrong ≡ faults.Memory) ⊎ (refused_option k wrong ≡ faults.Arguments wrong)
 memory_or_words kind.OutOfMemory wrong = inl refl
 memory_or_words _ wrong = inr refl
@@ -58,7 +58,7 @@ some_fault (j ∷ ks) k wrong choice among = refl
 without_memory : (arguments : List Text) (fault : CutOptionsFault) → fault ≡ faults.Memory → ReadsOptions arguments (Err fault)
 without_memory arguments fault is = subst (λ (f : CutOptionsFault). ReadsOptions arguments (Err f)) (sym is) tt
 
--- words that were refused
+-- refused arguments
 pub refused_words : (app : App) (arguments : List Text) (e : Error) (fault : CutOptionsFault) → app ≡ cut_app → fault ≡ refused_option (kind_of e) (wrong_argument cut_options false arguments)
     → HasKind (fault_of app arguments) e → ReadsOptions arguments (Err fault)
 unfolding options_of
@@ -75,7 +75,7 @@ refused_words app arguments e fault is by (inr among) = go (memory_or_words (kin
         subst (λ (a : App). unless_refused (fault_of a arguments) (wrong_argument cut_options false arguments) (choice_of (matches_of cut_app arguments)) ≡ Err (faults.Arguments (wrong_argument cut_options false arguments))) is some in
         subst (λ (f : CutOptionsFault). ReadsOptions arguments (Err f)) (sym (by ∙ wrong)) of_cut
 
--- what was read is what the words give, but for want of memory
+-- the result is that of the arguments, unless memory runs out
 pub reads_options : (arguments : List Text) (result : Result CutOptionsData CutOptionsFault) → options_of arguments ≡ result → ReadsOptions arguments result
 reads_options arguments (Err faults.Memory) is = tt
 reads_options arguments (Err f) is = is

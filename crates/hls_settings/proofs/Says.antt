@@ -1,4 +1,4 @@
--- Words of renditions, one after the other.
+-- The arguments of renditions, one after the other.
 use Rattle.std.proofs.Common.{◌≡◌, ℕ, zero, suc, ◌+◌, ◌<◌, List, [], ◌∷◌, ◌++◌, Bor, Option, Some, None, length, get_or, map, take, drop, slice_get, option_map, Err, ap, ap₂, sym, subst, ◌∙◌, arith, add-one}
 use Rattle.std.proofs.lemmas.Option.{slice_get-map, slice_get-get_or}
 use Rattle.clap.specs.Words.{Text}
@@ -8,7 +8,7 @@ use Rattle.hls_settings.specs.declared.fault.SettingsFault.TheVariants as faults
 use Rattle.hls_settings.specs.Renditions.{rendition_of}
 use Rattle.hls_settings.specs.ReadSettings.{ReadsRendition, ReadsRenditions, ParsesTo}
 
--- one word more
+-- one more argument
 more : (arguments : List (Bor Text)) (renditions : List Rendition) (n : ℕ) (d : Bor Text) (r : Rendition) → n < length arguments → rendition_of (get_or arguments n d).now ≡ Some r
     → ParsesTo (take n (map (λ w. w.now) arguments)) renditions → ParsesTo (take (suc n) (map (λ w. w.now) arguments)) (renditions ++ r ∷ [])
 more [] renditions n d r below is said = absurd (omega arith)
@@ -23,7 +23,7 @@ pub say_more : (arguments : List (Bor Text)) (renditions : List Rendition) (n : 
     → ParsesTo (take n (map (λ w. w.now) arguments)) renditions → ParsesTo (take (n + 1) (map (λ w. w.now) arguments)) (renditions ++ r ∷ [])
 say_more arguments renditions n d r below is said = rw add-one (more arguments renditions n d r below is said)
 
--- a word that says no rendition, or want of memory, after words that say these
+-- an argument that specifies no rendition, or an allocation failure, after arguments that specify these
 pub unread_at : (arguments : List (Bor Text)) (renditions : List Rendition) (n m : ℕ) (d : Bor Text) (fault : SettingsFault) → n < length arguments → m ≡ n → ParsesTo (take n (map (λ w. w.now) arguments)) renditions
     → ReadsRendition m (get_or arguments n d).now (Err fault) → ReadsRenditions (map (λ w. w.now) arguments) (Err fault)
 unread_at arguments renditions n m d (faults.Rendition k) below same said unread =

@@ -1,4 +1,4 @@
--- The words after `serve`, as `clap` takes or refuses them.
+-- The arguments after `serve`, as `clap` accepts or refuses them.
 use Rattle.std.proofs.Common.{◌≡◌, ◌∙◌, ◌⊎◌, ap, refl, sym, subst, codes, true, Option, List, [], ◌∷◌, Result, Err, inl, inr}
 use Rattle.clap.specs.Words.{App, Text, fault_of, found_of, is_simple, is_simple_and_free, kind_of, matches_of, rows_of, HasMatchesOf}
 use Rattle.clap.specs.Kinds.{Kinds, HasKind, IsAmong}
@@ -25,7 +25,7 @@ pub serve_is_simple_and_free : is_simple_and_free serve_app ≡ true
 unfolding serve_app options_app channel_app timing_app
 serve_is_simple_and_free = refl
 
--- what the getters read, by the rows
+-- what the getters return, by the rows
 abbrev texts_from : Option Text → Option Text → Option Text → Option Text → Option Text → Option Text → Option Text → Option Text → Option Text → Option Text → Option Text → Option (List Text) → Texts
 texts_from a b c d e f g h i j k l = record { target = a; preferred = b; window = c; keep = d; epoch = e; workers = f; connections = g; planners = h; idle_timeout_s = i; log = j; address = k; renditions = l }
 
@@ -60,7 +60,7 @@ texts-rows found = same_texts _ _ _ _ _ _ _ _ _ _ _ _ _ _ _ _ _ _ _ _ _ _ _ _
     (first_value-rows found (codes "address"))
     (raw_values-rows found (codes "renditions"))
 
--- words that were taken
+-- accepted arguments
 pub taken_words : (app : App) (arguments : List Text) (m : ArgMatches) (result : Result Settings SettingsFault) → app ≡ serve_app → HasMatchesOf app arguments m → fault_of app arguments ≡ []
     → SetsBy (server_settings_of (texts_in (found_of m))) (rendition_arguments (texts_in (found_of m)).renditions) result → ReadsSettings arguments result
 taken_words app arguments m result is has none given =
@@ -71,7 +71,7 @@ taken_words app arguments m result is has none given =
     subst (λ (t : Texts). SetsBy (server_settings_of t) (rendition_arguments t.renditions) result) texts given in
     inr (subst (λ (ks : Kinds). SetsIn arguments ks (texts_of (matches_of serve_app arguments)) result) (sym no_fault) moved)
 
--- a refusal is for want of memory, or of the words
+-- a refusal is an allocation failure, or a fault of the arguments
 memory_or_words : (k : ErrorKind) (wrong : Option WrongArgument) → (refused_by k wrong ≡ faults.Memory) ⊎ (refused_by k wrong ≡ faults.Arguments wrong)
 memory_or_words kind.OutOfMemory wrong = inl refl
 memory_or_words _ wrong = inr refl
@@ -80,7 +80,7 @@ some_fault : (arguments : List Text) (ks : Kinds) (k : ErrorKind) (texts : Texts
 some_fault arguments [] k texts among = absurd among
 some_fault arguments (j ∷ ks) k texts among = refl
 
--- words that were refused
+-- refused arguments
 pub refused_words : (app : App) (arguments : List Text) (e : Error) (fault : SettingsFault) → app ≡ serve_app → fault ≡ refused_by (kind_of e) (wrong_argument serve_options true arguments)
     → HasKind (fault_of app arguments) e → ReadsSettings arguments (Err fault)
 refused_words app arguments e fault is by (inl memory) = inl (ap Err (by ∙ ap (λ (k : ErrorKind). refused_by k (wrong_argument serve_options true arguments)) memory))

@@ -1,10 +1,10 @@
--- Where the server listens: `a.b.c.d:port` in decimal, without leading zeros.
+-- The address of a server: `a.b.c.d:port` in decimal, without leading zeros.
 use Rattle.std.specs.Prelude.{ℕ, List, Option, Some, None, cond, option_and_then}
 use Rattle.hls_text.specs.Digits.{has_no_leading_zero, number_of_digits}
 use Rattle.hls_settings.specs.declared.listen_address.ListenAddress.{ListenAddress}
 use Rattle.hls_settings.specs.Numbers.{cut_at, in_range}
 
--- a number of at most so much
+-- a number up to a bound
 abbrev pub small_of : ℕ → List ℕ → Option ℕ
 small_of most text = cond (has_no_leading_zero text) (option_and_then (in_range 0 most) (number_of_digits 16 text)) None
 
@@ -12,7 +12,7 @@ abbrev pub numbered_by : Option ℕ → List ℕ → Option (ℕ × List ℕ)
 numbered_by None rest = None
 numbered_by (Some n) rest = Some (n, rest)
 
--- a number before a mark, and what stands after it
+-- a number before a delimiter, and the text after it
 abbrev pub numbered : ℕ → Option (List ℕ × List ℕ) → Option (ℕ × List ℕ)
 numbered most None = None
 numbered most (Some parts) = numbered_by (small_of most parts.0) parts.1

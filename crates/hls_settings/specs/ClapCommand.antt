@@ -4,16 +4,16 @@ use Rattle.clap.specs.Words.{App, Rule, Text, new_app, with_rule}
 use Rattle.hls_settings.specs.Command.{value_rule, without_name}
 use Rattle.hls_settings.specs.Options.{flag_rule}
 
--- an option that takes a value or none
+-- an option with or without a value
 abbrev pub option_rule : Text → Bool → Rule
 option_rule name true = value_rule name
 option_rule name false = flag_rule name
 
--- a command with such options more: their long names, and whether each takes a value
+-- a command extended by these options: their long names, and whether each takes a value
 abbrev pub with_options : App → List (Text × Bool) → App
 with_options app [] = app
 with_options app (o ∷ os) = with_options (with_rule app (option_rule o.0 o.1)) os
 
--- a command of such a name, with which its words don't begin
+-- a command with this name, whose arguments don't begin with its name
 abbrev pub command_with : Text → List (Text × Bool) → App
 command_with name os = with_options (without_name (new_app name)) os

@@ -1,4 +1,4 @@
--- The words after `serve` as `clap` reads them: options with a value each, an address, and words of renditions.
+-- The arguments after `serve` as `clap` parses them: options with a value each, an address, and the renditions.
 use Rattle.std.specs.Prelude.{List, Some, true, codes, option_map, Result}
 use Rattle.clap.specs.Words.{App, Row, Rule, Text, all_of, first_of, first_value, matched_of, new_app, new_rule, raw_values, with_rule}
 use Rattle.clap.specs.declared.parser.matches.Found.{Found}
@@ -8,15 +8,15 @@ use Rattle.hls_settings.specs.declared.fault.SettingsFault.{SettingsFault}
 use Rattle.hls_settings.specs.declared.window_settings.WindowSettings.{WindowSettings}
 use Rattle.hls_settings.specs.declared.thread_settings.ThreadSettings.{ThreadSettings}
 
--- an option that takes a value, by its long name
+-- an option with a value, by its long name
 abbrev pub value_rule : Text → Rule
 value_rule name = record (new_rule name) { long = Some name }
 
--- words that stand one after the other
+-- consecutive positional arguments
 abbrev pub words_rule : Text → Rule
 words_rule name = record (new_rule name) { action = Some Append }
 
--- words that don't begin with the program's own name
+-- arguments that don't begin with the program's own name
 abbrev pub without_name : App → App
 without_name app = record app { top = record app.top { no_binary_name = true } }
 
@@ -35,7 +35,7 @@ options_app = with_rule (with_rule (with_rule (with_rule (with_rule channel_app 
 unfoldable pub serve_app : App
 serve_app = with_rule (with_rule options_app (new_rule (codes "address"))) (words_rule (codes "renditions"))
 
--- the texts among what was found
+-- the texts among the matches
 abbrev pub texts_in : Found → Texts
 texts_in found = record {
   target = first_value found (codes "target");
@@ -52,7 +52,7 @@ texts_in found = record {
   renditions = option_map raw_values (matched_of found (codes "renditions"));
 }
 
--- the lengths of time and the workers among what was found. For the code alone
+-- the durations and the threads among the matches. For the code alone
 abbrev pub timing_found : Found → Result WindowSettings SettingsFault
 timing_found found =
     timing_of (first_value found (codes "target")) (first_value found (codes "preferred")) (first_value found (codes "window")) (first_value found (codes "keep"))
@@ -61,7 +61,7 @@ abbrev pub workers_found : Found → Result ThreadSettings SettingsFault
 workers_found found =
     workers_of (first_value found (codes "workers")) (first_value found (codes "connections")) (first_value found (codes "planners")) (first_value found (codes "patience"))
 
--- the texts of the words
+-- the texts of the arguments
 abbrev pub texts_of : List Row → Texts
 texts_of rows = record {
   target = first_of (codes "target") rows;

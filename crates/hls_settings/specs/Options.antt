@@ -1,4 +1,4 @@
--- What the words after `cut` ask for.
+-- The options of `cut`, from its arguments.
 use Rattle.std.specs.Prelude.{◌≡◌, ℕ, ℤ, ◌*◌, List, [], ◌∷◌, Option, Some, None, Result, Ok, Err, Bool, false, not, ◌≤◌, ◌&&◌, ◌||◌, cond, codes, is_some}
 use Rattle.std.specs.Prelude.{nat_lt, nat_le, option_and_then}
 use Rattle.std.specs.Str.{bytes_eq}
@@ -17,11 +17,11 @@ use Rattle.hls_settings.specs.Command.{value_rule, without_name}
 use Rattle.hls_settings.specs.Settings.{epoch_in}
 use Rattle.hls_settings.specs.WrongArguments.{cut_options, wrong_argument}
 use Rattle.hls_settings.specs.declared.wrong_argument.WrongArgument.{WrongArgument}
-use Rattle.hls_check_laws.specs.Tables.{charge_limit, target_limit}
+use Rattle.hls_check_tables.specs.Tables.{charge_limit, target_limit}
 
--- the options: the target duration in seconds, the URI's bytes, the preferred length in µs where a least plan is wanted,
--- what it pays for each segment where it is least by rule 2, the moment of time 0 where it is known, and whether the
--- plan's certificate is wanted in place of the playlist
+-- the options: the target duration in seconds, the URI's bytes, the preferred length in µs if a least plan is requested, the charge
+-- for each segment if the plan is least by rule 2, the epoch if it is known, and whether the plan's certificate is requested instead
+-- of the playlist
 pub record CutOptionsData : Type 0 where
   pub target : ℕ
   pub uri : List ℕ
@@ -38,7 +38,7 @@ abbrev pub IsCharge : Option ℕ → Type 0
 IsCharge None = Unit {0}
 IsCharge (Some charge) = charge ≤ charge_limit
 
--- the choice of these options, in the order of its fields
+-- the record of these options, in the order of its fields
 abbrev pub choice_with : ℕ → List ℕ → Option ℕ → Option ℕ → Option ℤ → Bool → CutOptionsData
 choice_with target uri preferred charge epoch certificate =
     record { target = target; uri = uri; preferred = preferred; charge = charge; epoch = epoch; certificate = certificate }
@@ -52,7 +52,7 @@ pub record IsGood (choice : CutOptionsData) : Type 0 where
   pub charge : IsCharge choice.charge
   pub epoch : IsEpoch choice.epoch
 
--- an option that takes none
+-- an option without a value
 abbrev pub flag_rule : Text → Rule
 flag_rule name = record (new_rule name) { long = Some name; action = Some SetTrue }
 
@@ -74,16 +74,16 @@ abbrev pub target_in : Option Text → Option ℕ
 target_in None = Some 6
 target_in (Some text) = option_and_then in_range (number_of_digits 16 text)
 
--- a preferred length in its range of 1 µs to the target
+-- a preferred length in its range of 1 µs to the target duration
 abbrev pub preferred_at : ℕ → ℕ → Option (Option ℕ)
 preferred_at target length = cond (nat_lt 0 length && not (nat_lt (target * 1000000) length)) (Some (Some length)) None
 
--- the preferred length, where one is given
+-- the preferred length, if one is given
 abbrev pub preferred_in : ℕ → Option Text → Option (Option ℕ)
 preferred_in target None = Some None
 preferred_in target (Some text) = option_and_then (preferred_at target) (number_of_digits 16 text)
 
--- a charge in its range of 0 to 3600000000 µs, where one is given
+-- a charge in its range of 0 to 3600000000 µs, if one is given
 abbrev pub charge_at : ℕ → Option (Option ℕ)
 charge_at charge = cond (nat_le charge charge_limit) (Some (Some charge)) None
 
@@ -91,7 +91,7 @@ abbrev pub charge_in : Option Text → Option (Option ℕ)
 charge_in None = Some None
 charge_in (Some text) = option_and_then charge_at (number_of_digits 16 text)
 
--- one that a playlist can name
+-- a URI that a playlist can contain
 abbrev pub checked_uri : List ℕ → Option (List ℕ)
 checked_uri text = cond (is_uri_text text) (Some text) None
 
@@ -100,7 +100,7 @@ abbrev pub uri_in : Option Text → Option (List ℕ)
 uri_in None = checked_uri (codes "media.mp4")
 uri_in (Some text) = checked_uri text
 
--- an option without a value that is given
+-- an option without a value is given
 abbrev pub is_set : Option Text → Bool
 is_set None = false
 is_set (Some text) = bytes_eq text (codes "true")
@@ -113,12 +113,12 @@ allows_each each preferred certificate = not (each && (preferred || certificate)
 abbrev pub has_needed_preferred : Bool → Bool → Bool → Bool
 has_needed_preferred preferred certificate charge = not ((certificate || charge) && not preferred)
 
--- what a good value leads to, or what is wrong
+-- the continuation of a valid value, or its fault
 abbrev pub or_wrong : {A : Type 0} → CutOptionsFault → Option A → (A → Result CutOptionsData CutOptionsFault) → Result CutOptionsData CutOptionsFault
 or_wrong fault None next = Err fault
 or_wrong fault (Some value) next = next value
 
--- what good values come to
+-- the result of valid values
 abbrev pub options_or_fault : ℕ → List ℕ → Option ℕ → Option ℕ → Option ℤ → Bool → Bool → Result CutOptionsData CutOptionsFault
 options_or_fault target uri preferred charge epoch each certificate =
     cond (allows_each each (is_some preferred) certificate)
@@ -130,23 +130,23 @@ choice_in each preferred certificate target uri charge epoch =
     or_wrong faults.Target (target_in target) (λ t. or_wrong faults.Uri (uri_in uri) (λ u. or_wrong faults.Preferred (preferred_in t preferred) (λ p.
     or_wrong faults.Charge (charge_in charge) (λ c. or_wrong faults.Epoch (epoch_in epoch) (λ e. options_or_fault t u p c e (is_set each) (is_set certificate))))))
 
--- whether the options that are given stand together. For the code alone
+-- whether the given options are compatible. For the code alone
 abbrev pub check_together : Bool → Bool → Bool → Bool → Result (Unit {0}) CutOptionsFault
 check_together each preferred certificate charge =
     cond (allows_each each preferred certificate) (cond (has_needed_preferred preferred certificate charge) (Ok tt) (Err faults.Unplanned)) (Err faults.Each)
 
--- the choice with this target duration and URI, by the values of the other options. For the code alone
+-- the options with this target duration and URI, by the values of the other options. For the code alone
 abbrev pub choice_after : ℕ → List ℕ → (List ℕ → Option Text) → Result CutOptionsData CutOptionsFault
 choice_after target uri value =
     or_wrong faults.Preferred (preferred_in target (value (codes "preferred"))) (λ p. or_wrong faults.Charge (charge_in (value (codes "charge"))) (λ c.
     or_wrong faults.Epoch (epoch_in (value (codes "epoch"))) (λ e. options_or_fault target uri p c e (is_set (value (codes "each"))) (is_set (value (codes "certificate"))))))
 
--- words that `clap` refuses are refused by the first that can't stand where it does
+-- arguments that `clap` refuses are refused for the first invalid one
 abbrev pub unless_refused : Kinds → Option WrongArgument → Result CutOptionsData CutOptionsFault → Result CutOptionsData CutOptionsFault
 unless_refused [] wrong choice = choice
 unless_refused (k ∷ ks) wrong choice = Err (faults.Arguments wrong)
 
--- by the value of each option, where it is given
+-- by the value of each given option
 abbrev pub choice_by : (List ℕ → Option Text) → Result CutOptionsData CutOptionsFault
 choice_by value =
     choice_in (value (codes "each")) (value (codes "preferred")) (value (codes "certificate")) (value (codes "target"))
@@ -155,21 +155,21 @@ choice_by value =
 abbrev pub choice_of : List Row → Result CutOptionsData CutOptionsFault
 choice_of rows = choice_by (λ name. first_of name rows)
 
--- the options that the words give, or which word is wrong first
+-- the options that the arguments specify, or the first invalid argument
 unfoldable pub options_of : List Text → Result CutOptionsData CutOptionsFault
 options_of arguments = unless_refused (fault_of cut_app arguments) (wrong_argument cut_options false arguments) (choice_of (matches_of cut_app arguments))
 
--- want of memory may come instead
+-- memory may run out instead
 abbrev pub ReadsOptions : List Text → Result CutOptionsData CutOptionsFault → Type 0
 ReadsOptions arguments (Err faults.Memory) = Unit {0}
 ReadsOptions arguments result = options_of arguments ≡ result
 
--- words that are refused, but for want of memory. For the code alone
+-- refused arguments, unless memory runs out. For the code alone
 abbrev pub refused_option : ErrorKind → Option WrongArgument → CutOptionsFault
 refused_option kinds.OutOfMemory wrong = faults.Memory
 refused_option _ wrong = faults.Arguments wrong
 
--- what `clap` finds in the words leads to the options that they give. For the code alone
+-- the matches of `clap` lead to the options that the arguments specify. For the code alone
 abbrev pub FindsOptions : List Text → Result ArgMatches CutOptionsFault → Type 0
 FindsOptions arguments (Ok matches) = choice_by (first_value (found_of matches)) ≡ options_of arguments
 FindsOptions arguments (Err fault) = ReadsOptions arguments (Err fault)

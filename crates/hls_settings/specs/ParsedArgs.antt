@@ -1,4 +1,4 @@
--- What a word of the command line says of a rendition. For the code alone.
+-- The rendition in an argument. For the code alone.
 use Rattle.hls_core_laws.specs.declared.rendition.Rendition.{Rendition}
 use Rattle.hls_settings.specs.declared.rendition_spec.RenditionSpec.{RenditionSpec}
 

@@ -1,4 +1,4 @@
--- What reading the words after `serve` gives.
+-- The result of reading the arguments after `serve`.
 use Rattle.std.specs.Prelude.{◌≡◌, ◌⊎◌, ℕ, ℤ, List, [], ◌∷◌, map, take, slice_get, true, Option, Some, None, Result, Ok, Err, Vec}
 use Rattle.std.specs.declared.alloc.Global.{Global}
 use Rattle.clap.specs.Words.{Text, fault_of, found_of, matches_of}
@@ -22,16 +22,16 @@ use Rattle.hls_settings.specs.Settings.{Texts, server_settings_of}
 use Rattle.hls_settings.specs.WrongArguments.{serve_options, wrong_argument}
 use Rattle.hls_settings.specs.declared.wrong_argument.WrongArgument.{WrongArgument}
 
--- the words of renditions, none where there is no such word
+-- the arguments of renditions; none if there is no such argument
 abbrev pub rendition_arguments : Option (List Text) → List Text
 rendition_arguments None = []
 rendition_arguments (Some arguments) = arguments
 
--- words that say renditions
+-- arguments that specify renditions
 abbrev pub ParsesTo : List Text → List Rendition → Type 0
 ParsesTo arguments renditions = map rendition_of arguments ≡ map Some renditions
 
--- the first word that says no rendition
+-- the first argument that specifies no rendition
 pub record IsFirstUnread (arguments : List Text) (n : ℕ) : Type 0 where
   pub renditions : List Rendition
   pub front : ParsesTo (take n arguments) renditions
@@ -39,7 +39,7 @@ pub record IsFirstUnread (arguments : List Text) (n : ℕ) : Type 0 where
   pub is : slice_get arguments n ≡ Some argument
   pub unread : rendition_of argument ≡ None
 
--- the rendition of the n-th word. For the code alone
+-- the rendition of the nth argument. For the code alone
 abbrev pub ReadsRendition : ℕ → Text → Result Rendition SettingsFault → Type 0
 ReadsRendition n argument (Ok rendition) = rendition_of argument ≡ Some rendition
 ReadsRendition n argument (Err (faults.Rendition m)) = (m ≡ n) × (rendition_of argument ≡ None)
@@ -58,7 +58,7 @@ pub record IsFirstOutside (arguments : List Text) (n : ℕ) : Type 0 where
   pub parses : ParsesTo arguments renditions
   pub outside : IsFirstBadRendition renditions n
 
--- what was given, where the words apart from the renditions are right
+-- the settings, if everything except the renditions is valid
 pub record IsConfigured (server : ServerSettings) (arguments : List Text) (settings : Settings) : Type 0 where
   pub plain_is : settings.server ≡ server
   pub renditions : List Rendition
@@ -78,26 +78,26 @@ MakesSettings server arguments (Err (faults.Rendition n)) = IsFirstUnread argume
 MakesSettings server arguments (Err faults.Memory) = Unit {0}
 MakesSettings server arguments (Err _) = ⊥
 
--- by what stands apart from the renditions
+-- by everything except the renditions
 abbrev pub SetsBy : Result ServerSettings SettingsFault → List Text → Result Settings SettingsFault → Type 0
 SetsBy (Ok server) arguments result = MakesSettings server arguments result
 SetsBy (Err fault) arguments result = result ≡ Err fault
 
--- words that `clap` refuses are refused by the first that can't stand where it does
+-- arguments that `clap` refuses are refused for the first invalid one
 abbrev pub SetsIn : List Text → Kinds → Texts → Result Settings SettingsFault → Type 0
 SetsIn arguments [] texts result = SetsBy (server_settings_of texts) (rendition_arguments texts.renditions) result
 SetsIn arguments (k ∷ ks) texts result = result ≡ Err (faults.Arguments (wrong_argument serve_options true arguments))
 
--- the settings that the words give, or the first word that is wrong; want of memory may come instead
+-- the settings that the arguments specify, or the first invalid argument; memory may run out instead
 abbrev pub ReadsSettings : List Text → Result Settings SettingsFault → Type 0
 ReadsSettings arguments result = (result ≡ Err faults.Memory) ⊎ SetsIn arguments (fault_of serve_app arguments) (texts_of (matches_of serve_app arguments)) result
 
--- words that are refused, but for want of memory. For the code alone
+-- refused arguments, unless memory runs out. For the code alone
 abbrev pub refused_by : ErrorKind → Option WrongArgument → SettingsFault
 refused_by kinds.OutOfMemory wrong = faults.Memory
 refused_by _ wrong = faults.Arguments wrong
 
--- what `clap` finds in the words leads to the settings that they give. For the code alone
+-- the matches of `clap` lead to the settings that the arguments specify. For the code alone
 abbrev pub FindsSettings : List Text → Result ArgMatches SettingsFault → Type 0
 FindsSettings arguments (Ok matches) = (result : Result Settings SettingsFault) → SetsBy (server_settings_of (texts_in (found_of matches))) (rendition_arguments (texts_in (found_of matches)).renditions) result → ReadsSettings arguments result
 FindsSettings arguments (Err fault) = ReadsSettings arguments (Err fault)

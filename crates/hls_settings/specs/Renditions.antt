@@ -1,4 +1,4 @@
--- A rendition's word: `name:kind:bandwidth:tolerance`.
+-- The argument of a rendition: `name:kind:bandwidth:tolerance`.
 use Rattle.std.specs.Prelude.{ℕ, List, Option, Some, None, cond, Bool, true, false, codes}
 use Rattle.std.specs.Str.{bytes_eq}
 use Rattle.hls_core_laws.specs.declared.rendition.Rendition.{Rendition}
@@ -27,6 +27,6 @@ abbrev pub rendition_in : Option (List ℕ × List ℕ) → Option Rendition
 rendition_in None = None
 rendition_in (Some named) = rendition_after named.0 (cut_at 58 named.1)
 
--- the rendition that a word asks for, whatever its limits
+-- the rendition that an argument specifies, whatever its limits
 abbrev pub rendition_of : List ℕ → Option Rendition
 rendition_of text = rendition_in (cut_at 58 text)

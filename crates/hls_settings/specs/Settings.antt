@@ -1,4 +1,4 @@
--- What the words after `serve` ask for, or which of them is wrong first.
+-- The settings of `serve` from its arguments, or the first invalid one.
 use Rattle.std.specs.Prelude.{ℕ, ◌*◌, List, Option, Some, None, Bool, true, false, ◌&&◌, option_and_then, cond, codes, Result, Ok, Err}
 use Rattle.std.specs.Prelude.{ℤ, option_map, pos, int_le}
 use Rattle.std.specs.Borrow.{Bor}
@@ -15,7 +15,7 @@ use Rattle.hls_settings.specs.declared.thread_settings.ThreadSettings.{ThreadSet
 use Rattle.hls_settings.specs.Addresses.{address_of}
 use Rattle.hls_settings.specs.Numbers.{number_or_default}
 
--- a word, where it is given
+-- an argument, if it is given
 abbrev pub text_of : Option (Bor Text) → Option Text
 text_of argument = option_map (λ (t : Bor Text). t.now) argument
 
@@ -27,7 +27,7 @@ most_number = 9999999999999999
 abbrev pub three_targets : ℕ → ℕ
 three_targets target = target * 3000000
 
--- ---- lengths of time
+-- ---- durations
 
 abbrev pub timing_with : ℕ → ℕ → ℕ → Option ℕ → Result WindowSettings SettingsFault
 timing_with target preferred window None = Err faults.Keep
@@ -49,18 +49,18 @@ timing_in (Some target) preferred window keep = timing_by target (number_or_defa
 abbrev pub timing_of : Option Text → Option Text → Option Text → Option Text → Result WindowSettings SettingsFault
 timing_of target preferred window keep = timing_in (number_or_default 1 3600 6 target) preferred window keep
 
--- ---- the moment of time 0
+-- ---- the epoch
 
--- from 1970 on to the last one
+-- from 1970 to the last one
 abbrev pub epoch_within : ℤ → Option (Option ℤ)
 epoch_within us = cond (int_le (pos 0) us && int_le us last_epoch) (Some (Some us)) None
 
--- by the text of `--epoch`; without one it isn't known
+-- by the text of `--epoch`; without one there is no epoch
 abbrev pub epoch_in : Option Text → Option (Option ℤ)
 epoch_in None = Some None
 epoch_in (Some text) = option_and_then epoch_within (instant_of text)
 
--- ---- workers
+-- ---- threads
 
 abbrev pub workers_with : ℕ → ℕ → ℕ → Option ℕ → Result ThreadSettings SettingsFault
 workers_with workers connections planners None = Err faults.Patience
@@ -83,9 +83,9 @@ workers_in (Some workers) connections planners idle_timeout_s = workers_by worke
 abbrev pub workers_of : Option Text → Option Text → Option Text → Option Text → Result ThreadSettings SettingsFault
 workers_of workers connections planners idle_timeout_s = workers_in (number_or_default 1 63 8 workers) connections planners idle_timeout_s
 
--- ---- all that stands apart from the renditions
+-- ---- everything except the renditions
 
--- the texts that stand behind the options, and the words that stand without one
+-- the values of the options, and the positional arguments
 pub record Texts : Type 0 where
   pub target : Option Text
   pub preferred : Option Text

@@ -1,4 +1,4 @@
--- The first word that can't stand where it does, and what is wrong with it.
+-- The first invalid argument, and its fault.
 use Rattle.std.specs.Prelude.{ℕ, ◌+◌, ◌-◌, ◌==◌, ◌||◌, List, [], ◌∷◌, ◌++◌, length, map, slice_get, Option, Some, None, Bool, true, false, not, cond, codes}
 use Rattle.std.specs.Str.{bytes_eq}
 use Rattle.clap.specs.Words.{Text}
@@ -11,17 +11,17 @@ use Rattle.hls_settings.specs.Numbers.{cut_at}
 abbrev pub OptionTable : Type 0
 OptionTable = List (Text × Bool)
 
--- a word of an option begins with a hyphen (45), and has more
+-- an option begins with a hyphen (45), and is longer
 abbrev pub is_option : Text → Bool
 is_option [] = false
 is_option (x ∷ []) = false
 is_option (x ∷ y ∷ ys) = x == 45
 
--- `--`, after which no word is an option
+-- `--`, after which no argument is an option
 abbrev pub ends_options : Text → Bool
 ends_options argument = bytes_eq argument (45 ∷ 45 ∷ [])
 
--- a word up to its first `=` (61), and whether it has one
+-- an argument up to its first `=` (61), and whether it has one
 abbrev pub head_in : Text → Option (Text × Text) → Text × Bool
 head_in argument None = (argument, false)
 head_in argument (Some parts) = (parts.0, true)
@@ -29,22 +29,22 @@ head_in argument (Some parts) = (parts.0, true)
 abbrev pub option_name : Text → Text × Bool
 option_name argument = head_in argument (cut_at 61 argument)
 
--- whether the option `--name` takes a value; none where there is no such option
+-- whether the option `--name` takes a value; none if there is no such option
 abbrev pub takes_value : OptionTable → Text → Option Bool
 takes_value [] option = None
 takes_value (o ∷ os) option = cond (bytes_eq option (45 ∷ 45 ∷ o.0)) (Some o.1) (takes_value os option)
 
--- whether an earlier word gives the option
+-- whether an earlier argument gives the option
 abbrev pub is_given : List Text → Text → Bool
 is_given [] option = false
 is_given (argument ∷ arguments) option = bytes_eq (option_name argument).0 option || is_given arguments option
 
--- the word after an option is its value
+-- the argument after an option is its value
 abbrev pub has_value : List Text → Bool
 has_value [] = false
 has_value (argument ∷ arguments) = not (is_option argument)
 
--- by whether the option takes a value, and whether its word has one
+-- by whether the option takes a value, and whether one is attached
 abbrev pub value_fault : Bool → Bool → List Text → Option ArgumentFault
 value_fault true true after = None
 value_fault true false after = cond (has_value after) None (Some faults.NoValue)
@@ -55,7 +55,7 @@ abbrev pub option_fault : Option Bool → List Text → Text × Bool → List Te
 option_fault None before head after = Some faults.Unknown
 option_fault (Some takes) before head after = cond (is_given before head.0) (Some faults.Repeated) (value_fault takes head.1 after)
 
--- whether a value follows the word
+-- whether a value follows the argument
 abbrev pub value_or_false : Option Bool → Bool
 value_or_false None = false
 value_or_false (Some takes) = takes
@@ -64,11 +64,11 @@ abbrev pub awaits_value : OptionTable → Option Text → Bool
 awaits_value os None = false
 awaits_value os (Some argument) = value_or_false (takes_value os argument)
 
--- a word that is no option; `free` words may stand by themselves
+-- an argument that is no option; `free` ones are positional
 abbrev pub plain_fault : OptionTable → Bool → List Text → Option ArgumentFault
 plain_fault os free before = cond (free || awaits_value os (slice_get before (length before - 1))) None (Some faults.Stray)
 
--- what is wrong with a word between those before and after it, all of which come before any `--`
+-- the fault of an argument before any `--`, given those before and after it
 abbrev pub argument_fault : OptionTable → Bool → List Text → Text → List Text → Option ArgumentFault
 argument_fault os free before argument after =
     cond (is_option argument) (option_fault (takes_value os (option_name argument).0) before (option_name argument) after) (plain_fault os free before)
@@ -83,13 +83,13 @@ find_stray free index [] = None
 find_stray true index (argument ∷ arguments) = None
 find_stray false index (argument ∷ arguments) = Some (record { index = index; fault = faults.Stray })
 
--- the first wrong word after those before it
+-- the first invalid argument after those before it
 abbrev pub wrong_after : OptionTable → Bool → List Text → List Text → Option WrongArgument
 wrong_after os free before [] = None
 wrong_after os free before (argument ∷ arguments) = cond (ends_options argument) (find_stray free (length before + 1) arguments)
     (or_later (length before) (argument_fault os free before argument arguments) (wrong_after os free (before ++ argument ∷ []) arguments))
 
--- the first word, in their order, that can't stand where it does
+-- the first invalid argument, in their order
 abbrev pub wrong_argument : OptionTable → Bool → List Text → Option WrongArgument
 wrong_argument os free arguments = wrong_after os free [] arguments
 

@@ -1,4 +1,4 @@
-//! The words as `clap` reads them.
+//! The command line of `serve`, for `clap`.
 ghost use Rattle.std.specs.Prelude.{◌≡◌, IfOk, false, map};
 ghost use Rattle.clap.specs.Words.{app_of, new_app, rule_of};
 ghost use Rattle.hls_settings.specs.ClapCommand.{command_with, option_rule};
@@ -21,7 +21,7 @@ pub const OPTIONS: [(&str, bool); 10] = [
     ("log", true),
 ];
 
-/// An option by its long name, which takes a value or none.
+/// Builds an option by its long name, with or without a value.
 fn build_option<'a>(alloc: Global, name: &'a str, takes_value: bool) -> Arg<'a>
     ensures rule { rule_of result ≡ option_rule name.entry.now takes_value }
     ensures local { result.global ≡ false }
@@ -34,14 +34,14 @@ fn build_option<'a>(alloc: Global, name: &'a str, takes_value: bool) -> Arg<'a>
     }
 }
 
-/// A command of such a name, with which its words don't begin.
+/// Builds a command with this name, whose arguments don't begin with it.
 fn build_subcommand<'a>(alloc: Global, name: &'a str) -> Command<'a>
     ensures { app_of result ≡ without_name (new_app name.entry.now) }
 {
     Command::new(alloc, name).no_binary_name(true)
 }
 
-/// A command of such a name with these options: their long names, and whether each takes a value.
+/// Builds a command with this name and these options: their long names, and whether each takes a value.
 pub fn with_options<'a>(
     alloc: Global,
     name: &'a str,
@@ -56,7 +56,7 @@ pub fn with_options<'a>(
     Ok(command)
 }
 
-/// The command as `clap` reads it.
+/// Builds the command as `clap` parses it.
 pub fn serve_command<'a>(alloc: Global) -> Result<Command<'a>, AllocError>
     ensures { IfOk result (λ made. app_of made ≡ serve_app) }
 {

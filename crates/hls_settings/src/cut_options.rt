@@ -1,7 +1,7 @@
-//! What the words after `cut` ask for.
+//! The options of `cut`, from its arguments.
 ghost use Rattle.std.specs.Prelude.{◌≡◌, ◌≤◌, map, option_map, IfOk, IfSome};
 ghost use Rattle.clap.specs.Words.{app_of, first_value, found_of, kind_of};
-ghost use Rattle.hls_check_laws.specs.Tables.{charge_limit, charge_of, rule_of as cost_rule_of, target_limit};
+ghost use Rattle.hls_check_tables.specs.Tables.{charge_limit, charge_of, rule_of as cost_rule_of, target_limit};
 ghost use Rattle.hls_core_laws.specs.Config.{IsEpoch, IsTarget};
 ghost use Rattle.hls_m3u8.specs.Uri.{IsUri};
 ghost use Rattle.hls_settings.specs.Options.{FindsOptions, IsCharge, IsPreferredOf, ReadsOptions, charge_in, check_together, checked_uri, choice_after, choice_by, cut_app, has_needed_preferred, is_set, preferred_in, refused_option, allows_each, target_in, uri_in};
@@ -13,7 +13,7 @@ use crate::number::{number_or_default, optional_number};
 use crate::wrong_argument::{WrongArgument, find_wrong_argument};
 use clap::error::ErrorKind;
 use clap::{ArgMatches, Command, Error};
-use hls_check_laws::{CHARGE_LIMIT, CostRule, TARGET_LIMIT};
+use hls_check_tables::{CHARGE_LIMIT, CostRule, TARGET_LIMIT};
 use hls_m3u8::is_uri;
 use std::alloc::{AllocError, Global};
 use std::convert::AsStr;
@@ -30,25 +30,25 @@ const OPTIONS: [(&str, bool); 7] = [
     ("epoch", true),
 ];
 
-/// The target duration where the words name none, in seconds.
+/// The default target duration, in seconds.
 const DEFAULT_TARGET: u64 = 6;
 
-/// What `cut` is asked for.
+/// The options of `cut`.
 #[derive(Drop)]
 pub struct CutOptions<'a> {
     /// The playlist's target duration in whole seconds, 1 to 3600 (RFC 8216 section 4.3.3.1).
     target: u64,
-    /// The URI of the media file, as each segment and the map name it.
+    /// The URI of the media file, for each segment and for the map.
     uri: &'a str,
-    /// The preferred length of a segment in microseconds, 1 to the target, where a least plan is
-    /// wanted; without it each place begins a segment.
+    /// The preferred length of a segment in microseconds, 1 to the target duration, if a least plan is requested; without it each
+    /// place begins a segment.
     preferred: Option<u64>,
-    /// What a least plan pays for each segment beside its deviation, 0 to 3600000000 microseconds;
-    /// without it the plan is least by deviation alone.
+    /// The charge of a least plan for each segment, in addition to its deviation, 0 to 3600000000 microseconds; without it the plan
+    /// is least by deviation alone.
     charge: Option<u64>,
-    /// The moment of time 0 in microseconds since 1970-01-01T00:00:00Z, from which segments have dates.
+    /// The instant of time 0 in microseconds since 1970-01-01T00:00:00Z, from which segments get dates.
     epoch: Option<i64>,
-    /// Whether the plan's certificate is wanted in place of the playlist.
+    /// Whether the plan's certificate is requested instead of the playlist.
     certificate: bool,
 }
 
@@ -63,7 +63,7 @@ impl<'a> Model for CutOptions<'a> {
 }
 
 impl<'a> CutOptions<'a> {
-    /// The playlist's target duration in whole seconds, 1 to 3600.
+    /// Returns the playlist's target duration in whole seconds, 1 to 3600.
     pub fn target(&self) -> u64
         ensures value { result ≡ self.now.target }
         ensures in_range { IsTarget result }
@@ -71,7 +71,7 @@ impl<'a> CutOptions<'a> {
         self.target
     }
 
-    /// The URI of the media file, which can stand in a playlist.
+    /// Returns the URI of the media file, which a playlist can contain.
     pub fn uri(&self) -> &'a str
         ensures value { result.now ≡ self.now.uri }
         ensures good { IsUri result.now }
@@ -79,7 +79,7 @@ impl<'a> CutOptions<'a> {
         self.uri
     }
 
-    /// The preferred length of a segment in microseconds, where a least plan is wanted.
+    /// Returns the preferred length of a segment in microseconds, if a least plan is requested.
     pub fn preferred(&self) -> Option<u64>
         ensures value { result ≡ self.now.preferred }
         ensures in_range { IsPreferredOf self.now.target result }
@@ -87,7 +87,7 @@ impl<'a> CutOptions<'a> {
         self.preferred
     }
 
-    /// What makes a plan least.
+    /// Returns the rule by which a plan is least.
     pub fn rule(&self) -> CostRule
         ensures value { result ≡ cost_rule_of self.now.charge }
         ensures in_range { charge_of result ≤ charge_limit }
@@ -95,7 +95,7 @@ impl<'a> CutOptions<'a> {
         CostRule::from_charge(self.charge)
     }
 
-    /// The moment of time 0 in microseconds since 1970-01-01T00:00:00Z, where it is known.
+    /// Returns the instant of time 0 in microseconds since 1970-01-01T00:00:00Z, if it is known.
     pub fn epoch(&self) -> Option<i64>
         ensures value { result ≡ self.now.epoch }
         ensures in_range { IsEpoch result }
@@ -103,7 +103,7 @@ impl<'a> CutOptions<'a> {
         self.epoch
     }
 
-    /// Whether the plan's certificate is wanted in place of the playlist.
+    /// Whether the plan's certificate is requested instead of the playlist.
     pub fn wants_certificate(&self) -> bool
         ensures { result ≡ self.now.certificate }
     {
@@ -111,14 +111,14 @@ impl<'a> CutOptions<'a> {
     }
 }
 
-/// The command as `clap` reads it.
+/// Builds the command as `clap` parses it.
 fn cut_command<'a>(alloc: Global) -> Result<Command<'a>, AllocError>
     ensures { IfOk result (λ made. app_of made ≡ cut_app) }
 {
     with_options(alloc, "cut", &OPTIONS)
 }
 
-/// The target duration that was given, or the default; `None` where it isn't 1 to 3600 seconds.
+/// Returns the given target duration, or the default; `None` if it isn't 1 to 3600 seconds.
 fn read_target(text: Option<&str>) -> Option<u64>
     ensures value { result ≡ target_in (option_map (λ t. t.now) text.entry) }
     ensures in_range { IfSome result (λ target. (1 ≤ target) × (target ≤ target_limit)) }
@@ -126,8 +126,7 @@ fn read_target(text: Option<&str>) -> Option<u64>
     number_or_default(1, TARGET_LIMIT, DEFAULT_TARGET, text)
 }
 
-/// The preferred length that was given, if one was; `None` where it isn't 1 microsecond to the
-/// target.
+/// Returns the given preferred length, if any; `None` if it isn't 1 microsecond to the target duration.
 fn read_preferred(target: u64, text: Option<&str>) -> Option<Option<u64>>
     requires { target ≤ target_limit }
     ensures value { result ≡ preferred_in target (option_map (λ t. t.now) text.entry) }
@@ -136,7 +135,7 @@ fn read_preferred(target: u64, text: Option<&str>) -> Option<Option<u64>>
     optional_number(1, target * 1_000_000, text)
 }
 
-/// The charge that was given, if one was; `None` where it is above 3600000000 µs.
+/// Returns the given charge, if any; `None` if it is above 3600000000 µs.
 fn read_charge(text: Option<&str>) -> Option<Option<u64>>
     ensures value { result ≡ charge_in (option_map (λ t. t.now) text.entry) }
     ensures in_range { IfSome result IsCharge }
@@ -144,7 +143,7 @@ fn read_charge(text: Option<&str>) -> Option<Option<u64>>
     optional_number(0, CHARGE_LIMIT, text)
 }
 
-/// The URI, where it can stand in a playlist.
+/// Returns the URI, if a playlist can contain it.
 fn checked_uri<'a>(uri: &'a str) -> Option<&'a str>
     ensures value { option_map (λ u. u.now) result ≡ checked_uri uri.entry.now }
     ensures good { IfSome result (λ u. IsUri u.now) }
@@ -152,7 +151,7 @@ fn checked_uri<'a>(uri: &'a str) -> Option<&'a str>
     if is_uri(uri) { Some(uri) } else { None }
 }
 
-/// The URI that was given, or the default; `None` where it can't stand in a playlist.
+/// Returns the given URI, or the default; `None` if a playlist can't contain it.
 fn read_uri<'a>(text: Option<&'a str>) -> Option<&'a str>
     ensures value { option_map (λ u. u.now) result ≡ uri_in (option_map (λ t. t.now) text.entry) }
     ensures good { IfSome result (λ u. IsUri u.now) }
@@ -163,7 +162,7 @@ fn read_uri<'a>(text: Option<&'a str>) -> Option<&'a str>
     }
 }
 
-/// Whether an option without a value was given, by the text that `clap` has for it.
+/// Whether an option without a value was given, by its text from `clap`.
 fn is_set(text: Option<&str>) -> bool
     ensures { result ≡ is_set (option_map (λ t. t.now) text.entry) }
 {
@@ -173,21 +172,21 @@ fn is_set(text: Option<&str>) -> bool
     }
 }
 
-/// Whether `--each`, where it is given, stands without `--preferred` and `--certificate`.
+/// Whether `--each`, if given, is used without `--preferred` and `--certificate`.
 fn allows_each(each: bool, preferred: bool, certificate: bool) -> bool
     ensures { result ≡ allows_each each preferred certificate }
 {
     !(each && (preferred || certificate))
 }
 
-/// Whether `--certificate` and `--charge`, where they are given, stand beside `--preferred`.
+/// Whether `--certificate` and `--charge`, if given, are used with `--preferred`.
 fn has_needed_preferred(preferred: bool, certificate: bool, charge: bool) -> bool
     ensures { result ≡ has_needed_preferred preferred certificate charge }
 {
     !((certificate || charge) && !preferred)
 }
 
-/// Whether the options that are given stand together, or which of them doesn't.
+/// Checks that the given options are compatible.
 fn check_together(
     each: bool,
     preferred: bool,
@@ -205,7 +204,7 @@ fn check_together(
     Ok(())
 }
 
-/// The options with this target duration and URI, or which of the others is wrong first.
+/// Returns the options with this target duration and URI, or the first other one that is invalid.
 fn options_with<'a>(
     matches: &ArgMatches<'a>,
     target: u64,
@@ -238,7 +237,7 @@ fn options_with<'a>(
     })
 }
 
-/// The options among what `clap` found, or which of them is wrong first.
+/// Returns the options in the matches of `clap`, or the first invalid one.
 fn options_from_matches<'a>(matches: &ArgMatches<'a>) -> Result<CutOptions<'a>, CutOptionsFault>
     ensures { result ≡ choice_by (first_value (found_of matches.now)) }
 {
@@ -251,7 +250,7 @@ fn options_from_matches<'a>(matches: &ArgMatches<'a>) -> Result<CutOptions<'a>, 
     options_with(matches, target, uri)
 }
 
-/// Why `clap` took no options, by the first word that can't stand where it does.
+/// Returns why `clap` refused the arguments, by the first invalid one.
 fn cut_fault_from_clap(error: &Error, wrong: Option<WrongArgument>) -> CutOptionsFault
     ensures { result ≡ refused_option (kind_of error.now) wrong }
 {
@@ -262,7 +261,7 @@ fn cut_fault_from_clap(error: &Error, wrong: Option<WrongArgument>) -> CutOption
     }
 }
 
-/// What `clap` finds in the words, or why it takes none.
+/// Returns the matches of `clap` in the arguments, or why it refuses them.
 fn find_options<'a, S: AsStr>(
     alloc: Global,
     arguments: &'a [S],
@@ -281,8 +280,8 @@ fn find_options<'a, S: AsStr>(
     }
 }
 
-/// Reads the words after `cut`. The first that is wrong is told, in the order of the variants of `CutOptionsFault`; `Memory` comes
-/// only where a growth was refused.
+/// Reads the arguments after `cut`. The first fault is reported, in the order of the variants of `CutOptionsFault`; `Memory` only if
+/// an allocation failed.
 pub fn read_options<'a, S: AsStr>(
     alloc: Global,
     arguments: &'a [S],

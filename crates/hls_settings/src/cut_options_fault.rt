@@ -1,27 +1,27 @@
-//! Which argument of `cut` is wrong.
+//! Which argument of `cut` is invalid.
 
 use crate::wrong_argument::WrongArgument;
 
-/// Which argument of `cut` is wrong first, in the order of the variants.
+/// The first fault of the arguments of `cut`, in the order of the variants.
 #[derive(Clone, Copy, PartialEq, Eq, Drop)]
 pub enum CutOptionsFault {
-    /// An option that doesn't exist, is given twice, lacks its value or has one too many, or an argument that is no option: the first
-    /// such argument, or `None` where `clap` refuses the arguments and none of them is such.
+    /// An option that doesn't exist, is given twice, lacks its value or has one that it doesn't take, or an argument that is no
+    /// option: the first such argument, or `None` if `clap` refuses the arguments although there is no such one.
     Arguments(Option<WrongArgument>),
     /// `--target` isn't 1 to 3600 seconds.
     Target,
-    /// `--uri` can't stand in a playlist.
+    /// A playlist can't contain `--uri`.
     Uri,
-    /// `--preferred` isn't 1 microsecond to the target.
+    /// `--preferred` isn't 1 microsecond to the target duration.
     Preferred,
-    /// `--charge` is above 3600000000 microseconds, or no number.
+    /// `--charge` is above 3600000000 microseconds, or isn't a number.
     Charge,
     /// `--epoch` isn't an instant from 1970 to 9000-01-01T00:00:00Z.
     Epoch,
-    /// `--each` stands beside `--preferred` or `--certificate`.
+    /// `--each` is combined with `--preferred` or `--certificate`.
     Each,
-    /// `--certificate` or `--charge` stands without `--preferred`.
+    /// `--certificate` or `--charge` is used without `--preferred`.
     Unplanned,
-    /// Memory was wanted.
+    /// Out of memory.
     Memory,
 }

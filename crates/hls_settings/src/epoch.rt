@@ -1,4 +1,4 @@
-//! The moment of time 0.
+//! The epoch: the instant of time 0.
 ghost use Rattle.std.specs.Prelude.{◌≡◌, IfSome};
 ghost use Rattle.hls_core_laws.specs.Config.{IsEpoch};
 ghost use Rattle.hls_settings.specs.Settings.{epoch_in, epoch_within, text_of};
@@ -17,8 +17,8 @@ fn check_epoch(us: i64) -> Option<Option<i64>>
     }
 }
 
-/// The moment of time 0 that `--epoch` names, in microseconds since 1970-01-01T00:00:00Z, and none where the option isn't
-/// given; `None` where its text is no instant, or one before 1970 or after 9000-01-01T00:00:00Z.
+/// Reads the instant of time 0 from `--epoch`, in microseconds since 1970-01-01T00:00:00Z; `Some(None)` without the option, `None` if
+/// its text is no instant, or one before 1970 or after 9000-01-01T00:00:00Z.
 pub fn read_epoch(text: Option<&str>) -> Option<Option<i64>>
     ensures value { result ≡ epoch_in (text_of text.entry) }
     ensures bounds { IfSome result IsEpoch }

@@ -1,18 +1,18 @@
-//! Which argument is wrong.
+//! Which argument of `serve` is invalid.
 
 use crate::wrong_argument::WrongArgument;
 
-/// Which argument of `serve` is wrong first, in the order of the variants.
+/// The first fault of the arguments of `serve`, in the order of the variants.
 #[derive(Clone, Copy, Debug, PartialEq, Eq, Drop)]
 pub enum SettingsFault {
-    /// An option that doesn't exist, is given twice or has no value: the first such argument, or `None` where `clap` refuses the
-    /// arguments and none of them is such.
+    /// An option that doesn't exist, is given twice or has no value: the first such argument, or `None` if `clap` refuses the arguments
+    /// although there is no such one.
     Arguments(Option<WrongArgument>),
     /// `--target` isn't 1 to 3600 seconds.
     Target,
-    /// `--preferred` isn't 1 microsecond to the target.
+    /// `--preferred` isn't 1 microsecond to the target duration.
     Preferred,
-    /// `--window` is shorter than three targets.
+    /// `--window` is shorter than three target durations.
     Window,
     /// `--keep` is shorter than the window.
     Keep,
@@ -30,9 +30,9 @@ pub enum SettingsFault {
     Log,
     /// The address isn't `a.b.c.d:port` in decimal.
     Address,
-    /// The first rendition that isn't `name:kind:bandwidth:tolerance`, is outside its limits, or has an earlier one's name; 0
-    /// where there is none, and 16 where only the seventeenth is too many.
+    /// The index of the first rendition that isn't `name:kind:bandwidth:tolerance`, is outside its limits, or has the name of an
+    /// earlier one; 0 if there is none, and 16 if the only fault is a seventeenth.
     Rendition(usize),
-    /// Memory was wanted.
+    /// Out of memory.
     Memory,
 }

@@ -1,4 +1,4 @@
-//! What the words after `serve` and `cut` ask for, or which word is wrong and what it may be.
+//! Parses the arguments of `serve` and `cut`, and reports the first invalid one with its valid range.
 #![tactic(auto)]
 
 mod command;

@@ -1,4 +1,4 @@
-//! Where the server listens.
+//! The address on which the server listens.
 ghost use Rattle.std.specs.Prelude.{◌≡◌, ◌<◌, option_map};
 ghost use Rattle.hls_settings.specs.Addresses.{address_of, numbered, small_of};
 ghost use Rattle.hls_settings.specs.Numbers.{cut_at};
@@ -34,7 +34,7 @@ fn read_port(port: &str) -> Option<u16>
     u16::try_from(parse_digits(port.as_bytes(), MAX_DIGITS)?).ok()
 }
 
-/// A number before the next such delimiter, and what follows.
+/// Parses a number before the next such delimiter, and returns the text after it, too.
 fn take_octet(text: &str, mark: char) -> Option<(u8, &str)>
     requires { mark < 128 }
     ensures { option_map (λ found. (found.0, found.1.now)) result ≡ numbered 255 (cut_at mark text.now) }
@@ -43,8 +43,7 @@ fn take_octet(text: &str, mark: char) -> Option<(u8, &str)>
     Some((read_octet(number)?, rest))
 }
 
-/// The address that `a.b.c.d:port` names: four numbers of 0 to 255 and a port of 0 to 65535, in decimal and without leading
-/// zeros.
+/// Parses an address `a.b.c.d:port`: four numbers of 0 to 255 and a port of 0 to 65535, in decimal and without leading zeros.
 pub fn read_address(text: &str) -> Option<ListenAddress>
     ensures { result ≡ address_of text.now }
 {

@@ -1,4 +1,4 @@
-//! Numbers among the words of the command line, and arguments cut at a delimiter.
+//! Numbers on the command line, and arguments split at a delimiter.
 ghost use Rattle.std.specs.Prelude.{◌≡◌, ◌<◌, ◌≤◌, IfSome, option_map};
 ghost use Rattle.hls_settings.specs.Numbers.{cut_at, optional_number, number_or_default, in_range};
 
@@ -15,7 +15,7 @@ fn check_range(least: u64, most: u64, number: u64) -> Option<u64>
     }
 }
 
-/// An option's number, or the one that stands where it isn't given; `None` where it isn't within its bounds.
+/// Returns an option's number, or the default; `None` if it isn't within its bounds.
 pub fn number_or_default(least: u64, most: u64, default: u64, text: Option<&str>) -> Option<u64>
     ensures value { result ≡ number_or_default least most default (option_map (λ t. t.now) text.entry) }
     ensures bounds { IfSome result (λ n. (least ≤ n) × (n ≤ most)) }
@@ -26,7 +26,7 @@ pub fn number_or_default(least: u64, most: u64, default: u64, text: Option<&str>
     }
 }
 
-/// An option's number, where it is given; `None` where it isn't within its bounds.
+/// Returns an option's number, if it is given; `None` if it isn't within its bounds.
 pub fn optional_number(least: u64, most: u64, text: Option<&str>) -> Option<Option<u64>>
     ensures { result ≡ optional_number least most (option_map (λ t. t.now) text.entry) }
 {
@@ -39,7 +39,7 @@ pub fn optional_number(least: u64, most: u64, text: Option<&str>) -> Option<Opti
     }
 }
 
-/// What stands before the first such delimiter, which is one byte of ASCII, and what stands after it.
+/// Splits a text at the first such delimiter, which is one ASCII character.
 pub fn split_at_char(text: &str, mark: char) -> Option<(&str, &str)>
     requires { mark < 128 }
     ensures { option_map (λ parts. (parts.0.now, parts.1.now)) result ≡ cut_at mark text.now }

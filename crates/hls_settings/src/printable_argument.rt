@@ -1,11 +1,11 @@
-//! Words of the command line as they are printed.
+//! Arguments in a printable form.
 
 use std::fmt::{self, Display, Formatter, Write};
 
-/// How many bytes of a word are printed.
+/// How many bytes of an argument are printed.
 const MOST_SHOWN: usize = 64;
 
-/// A word as it is printed: its first 64 bytes, each that isn't printable ASCII as an escape, and two dots where there are more.
+/// An argument in a printable form: its first 64 bytes, with everything but printable ASCII escaped, and two dots if it is longer.
 #[derive(Clone, Copy, Drop)]
 pub struct PrintableArgument<'a>(pub &'a str);
 

@@ -1,4 +1,4 @@
-//! A rendition's word.
+//! The argument of a rendition.
 ghost use Rattle.std.specs.Prelude.{◌≡◌, option_map, IfOk};
 ghost use Rattle.hls_settings.specs.Numbers.{cut_at};
 ghost use Rattle.hls_settings.specs.Renditions.{kind_of, rendition_by, rendition_of, rendition_with};
@@ -11,7 +11,7 @@ use hls_core_laws::rendition::Rendition;
 use hls_text::{MAX_DIGITS, parse_digits};
 use std::alloc::{AllocError, Global};
 
-/// What a rendition's word says, whatever its limits.
+/// The parts of a rendition's argument, whatever their limits.
 #[derive(Clone, Copy, Drop)]
 pub struct RenditionSpec<'a> {
     name: &'a str,
@@ -33,7 +33,7 @@ fn parse_kind(text: &str) -> Option<bool>
     }
 }
 
-/// The word with its numbers, which have 1 to 16 digits.
+/// Parses the numbers of an argument, which have 1 to 16 digits.
 fn spec_with_numbers<'a>(
     name: &'a str,
     video: bool,
@@ -52,7 +52,7 @@ fn spec_with_numbers<'a>(
     })
 }
 
-/// The word of this name, by its kind and numbers.
+/// Parses the kind and the numbers of an argument with this name.
 fn spec_with_kind<'a>(name: &'a str, kind: &str, numbers: &str) -> Option<RenditionSpec<'a>>
     ensures { option_map parsed_args result ≡ rendition_by name.entry.now (kind_of kind.entry.now) (cut_at 58 numbers.entry.now) }
 {
@@ -61,7 +61,7 @@ fn spec_with_kind<'a>(name: &'a str, kind: &str, numbers: &str) -> Option<Rendit
     spec_with_numbers(name, video, bandwidth, tolerance)
 }
 
-/// What the word `name:kind:bandwidth:tolerance` says; the kind is `video` or `audio`, and the numbers have 1 to 16 digits.
+/// Parses an argument `name:kind:bandwidth:tolerance`; the kind is `video` or `audio`, and the numbers have 1 to 16 digits.
 pub fn parse_spec(text: &str) -> Option<RenditionSpec>
     ensures { option_map parsed_args result ≡ rendition_of text.now }
 {
@@ -70,7 +70,7 @@ pub fn parse_spec(text: &str) -> Option<RenditionSpec>
     spec_with_kind(name, kind, numbers)
 }
 
-/// The rendition of a word.
+/// Makes the rendition of an argument.
 pub fn make_rendition(alloc: Global, argument: RenditionSpec) -> Result<Rendition, AllocError>
     ensures { IfOk result (λ rendition. rendition ≡ parsed_args argument.entry) }
 {

@@ -1,4 +1,4 @@
-//! All that stands apart from the renditions.
+//! All settings except the renditions.
 ghost use Rattle.std.specs.Prelude.{◌≡◌, IfOk, Some};
 ghost use Rattle.hls_core_laws.specs.Config.{IsEpoch, IsTarget, IsPreferred};
 ghost use Rattle.clap.specs.Words.{found_of};
@@ -12,19 +12,19 @@ use crate::thread_settings::{ThreadSettings, read_thread_settings};
 use crate::window_settings::{WindowSettings, read_window_settings};
 use clap::ArgMatches;
 
-/// Settings but for the channel's renditions.
+/// The settings except the channel's renditions.
 #[derive(Clone, Copy, Drop)]
 pub struct ServerSettings {
     pub timing: WindowSettings,
-    /// The moment of time 0 in microseconds since 1970-01-01T00:00:00Z, where it is known.
+    /// The instant of time 0 in microseconds since 1970-01-01T00:00:00Z, if it is known.
     pub epoch: Option<i64>,
     pub workers: ThreadSettings,
-    /// Whether each request is told to the operator.
+    /// Whether each request is logged.
     pub logs_requests: bool,
     pub address: ListenAddress,
 }
 
-/// Whether requests are logged; `None` where the text asks for something else.
+/// Whether requests are logged; `None` if the text is anything else.
 fn read_log(text: Option<&str>) -> Option<bool>
     ensures { result ≡ log_of (text_of text.entry) }
 {
@@ -40,7 +40,7 @@ fn read_listen_address(text: Option<&str>) -> Option<ListenAddress>
     read_address(text?)
 }
 
-/// The lengths of time among what `clap` found.
+/// Returns the durations in the matches of `clap`.
 fn find_window_settings(matches: &ArgMatches) -> Result<WindowSettings, SettingsFault>
     ensures valid { IfOk result (λ t. IsTarget t.target × IsPreferred t.target t.preferred) }
     ensures value { result ≡ timing_found (found_of matches.now) }
@@ -53,7 +53,7 @@ fn find_window_settings(matches: &ArgMatches) -> Result<WindowSettings, Settings
     )
 }
 
-/// The workers among what `clap` found.
+/// Returns the numbers of threads in the matches of `clap`.
 fn find_thread_settings(matches: &ArgMatches) -> Result<ThreadSettings, SettingsFault>
     ensures { result ≡ workers_found (found_of matches.now) }
 {
@@ -65,7 +65,7 @@ fn find_thread_settings(matches: &ArgMatches) -> Result<ThreadSettings, Settings
     )
 }
 
-/// What was given with these lengths of time and this epoch, or what of the rest is wrong first.
+/// Returns the settings with these durations and this epoch, or the first fault of the rest.
 fn build_server_settings(
     matches: &ArgMatches,
     timing: WindowSettings,
@@ -90,7 +90,7 @@ fn build_server_settings(
     })
 }
 
-/// What was given but for the renditions, or what of it is wrong first.
+/// Returns the settings except the renditions, or their first fault.
 pub fn read_server_settings(matches: &ArgMatches) -> Result<ServerSettings, SettingsFault>
     ensures valid { IfOk result (λ p. IsTarget p.timing.target × IsPreferred p.timing.target p.timing.preferred × IsEpoch p.epoch) }
     ensures value { result ≡ server_settings_of (texts_in (found_of matches.now)) }

@@ -1,4 +1,4 @@
-//! What the words ask for, as a whole.
+//! The complete settings from the arguments.
 ghost use Rattle.std.specs.Prelude.{◌≡◌, map};
 ghost use Rattle.clap.specs.Words.{found_of, matched_of, raw_values};
 ghost use Rattle.hls_core_laws.specs.Config.{IsEpoch, IsTarget, IsPreferred};
@@ -20,7 +20,7 @@ use hls_core_laws::rendition::Rendition;
 use std::alloc::Global;
 use std::convert::AsStr;
 
-/// What a server is started with.
+/// The settings of a server.
 #[derive(Drop)]
 pub struct Settings {
     pub server: ServerSettings,
@@ -28,7 +28,7 @@ pub struct Settings {
     pub config: Config,
 }
 
-/// The rendition that a word says, which is the n-th.
+/// Reads the rendition in the nth argument.
 fn read_rendition(alloc: Global, n: usize, argument: &str) -> Result<Rendition, SettingsFault>
     ensures { ReadsRendition n argument.now result }
 {
@@ -41,7 +41,7 @@ fn read_rendition(alloc: Global, n: usize, argument: &str) -> Result<Rendition, 
     }
 }
 
-/// The renditions that the words say, in their order.
+/// Reads the renditions in the arguments, in their order.
 fn read_renditions(alloc: Global, arguments: &[&str]) -> Result<Vec<Rendition>, SettingsFault>
     ensures { ReadsRenditions (map (λ w. w.now) arguments.now) result }
 {
@@ -55,7 +55,7 @@ fn read_renditions(alloc: Global, arguments: &[&str]) -> Result<Vec<Rendition>, 
     Ok(renditions)
 }
 
-/// The channel of these renditions.
+/// Makes the configuration of a channel of these renditions.
 fn make_config(
     alloc: Global,
     timing: WindowSettings,
@@ -77,7 +77,7 @@ fn make_config(
     }
 }
 
-/// The settings with these renditions.
+/// Makes the settings with these renditions.
 fn make_settings(
     alloc: Global,
     server: ServerSettings,
@@ -93,7 +93,7 @@ fn make_settings(
     Ok(Settings { server, config })
 }
 
-/// The settings among what `clap` found.
+/// Returns the settings in the matches of `clap`.
 fn settings_from_matches(alloc: Global, matches: &ArgMatches) -> Result<Settings, SettingsFault>
     ensures { SetsBy (server_settings_of (texts_in (found_of matches.now))) (rendition_arguments (texts_in (found_of matches.now)).renditions) result }
 {
@@ -104,7 +104,7 @@ fn settings_from_matches(alloc: Global, matches: &ArgMatches) -> Result<Settings
     }
 }
 
-/// Why `clap` took no settings, by the first word that can't stand where it does.
+/// Returns why `clap` refused the arguments, by the first invalid one.
 fn fault_from_clap(error: &Error, wrong: Option<WrongArgument>) -> SettingsFault
     ensures { result ≡ refused_by (kind_of error.now) wrong }
 {
@@ -115,7 +115,7 @@ fn fault_from_clap(error: &Error, wrong: Option<WrongArgument>) -> SettingsFault
     }
 }
 
-/// What `clap` finds in the words, or why it takes none.
+/// Returns the matches of `clap` in the arguments, or why it refuses them.
 fn find_settings<'a, S: AsStr>(
     alloc: Global,
     arguments: &'a [S],
@@ -131,9 +131,9 @@ fn find_settings<'a, S: AsStr>(
     }
 }
 
-/// Reads the words after `serve`: options, then the address `a.b.c.d:port`, then a word `name:kind:bandwidth:tolerance` for
-/// each rendition. The first word that is wrong is told, in the order of the variants of `SettingsFault`; `Memory` comes only
-/// where a growth was refused.
+/// Reads the arguments after `serve`: options, then the address `a.b.c.d:port`, then an argument `name:kind:bandwidth:tolerance` for
+/// each rendition. The first fault is reported, in the order of the variants of `SettingsFault`; `Memory` only if an allocation
+/// failed.
 pub fn read_settings<'a, S: AsStr>(
     alloc: Global,
     arguments: &'a [S],

@@ -1,4 +1,4 @@
-//! The line that says which word is wrong, and what it may be.
+//! The line that names the invalid argument and its valid range.
 
 use crate::cut_options_fault::CutOptionsFault;
 use crate::fault::SettingsFault;
@@ -7,14 +7,14 @@ use crate::wrong_argument::{ArgumentFault, WrongArgument, option_name};
 use std::convert::AsStr;
 use std::fmt::{self, Display, Formatter, Write};
 
-/// What an epoch may be.
+/// The valid range of an epoch.
 const EPOCH: &str =
     "--epoch takes an instant from 1970 to 9000-01-01T00:00:00Z, as in 2024-01-01T00:00:00Z or 2024-01-01T01:00:00.5+01:00";
 
-/// What a target duration may be.
+/// The valid range of a target duration.
 const TARGET: &str = "--target takes 1 to 3600 whole seconds";
 
-/// A rendition's word that is wrong.
+/// Writes which rendition's argument is invalid.
 fn write_wrong_rendition<W: Write>(f: &mut Formatter<W>, n: usize) -> fmt::Result {
     if n >= 16 {
         return f.write_str("a channel has at most 16 renditions");
@@ -31,7 +31,7 @@ fn write_wrong_rendition<W: Write>(f: &mut Formatter<W>, n: usize) -> fmt::Resul
     )
 }
 
-/// A word that can't stand where it does: an option by its name alone, without its value.
+/// Writes an invalid argument: an option by its name alone, without its value.
 fn write_wrong_argument<W: Write>(
     f: &mut Formatter<W>,
     argument: &str,
@@ -51,7 +51,7 @@ fn write_wrong_argument<W: Write>(
     }
 }
 
-/// The first of the words that can't stand where it does.
+/// Writes the first invalid argument.
 fn write_wrong_arguments<W: Write, S: AsStr>(
     f: &mut Formatter<W>,
     arguments: &[S],
@@ -66,7 +66,7 @@ fn write_wrong_arguments<W: Write, S: AsStr>(
     }
 }
 
-/// A fault, and the words that have it. It is printed as one line, which names the word that is wrong.
+/// A fault, and the arguments that have it. It prints as one line, which names the invalid argument.
 #[derive(Clone, Copy, Drop)]
 pub struct SettingsMessage<'a, F, S> {
     pub fault: F,

@@ -1,24 +1,24 @@
-//! The server's threads, and how many connections they hold.
+//! The server's threads, and how many connections they serve.
 ghost use Rattle.std.specs.Prelude.{◌≡◌};
 ghost use Rattle.hls_settings.specs.Settings.{text_of, workers_of};
 
 use crate::fault::SettingsFault;
 use crate::number::number_or_default;
 
-/// How many threads there are, how many connections they hold, and how long one may be silent.
+/// The numbers of threads and connections, and the idle timeout.
 #[derive(Clone, Copy, Drop)]
 pub struct ThreadSettings {
     /// Threads that serve connections, 1 to 63.
     pub workers: u64,
-    /// Connections that are held at once, by all workers together, 16 to 1000000.
+    /// The maximum number of concurrent connections, for all workers together, 16 to 1000000.
     pub connections: u64,
     /// Threads that plan catch-up recordings, 1 to 16.
     pub planners: u64,
-    /// In seconds, 1 to 3600.
+    /// The idle timeout in seconds, 1 to 3600.
     pub idle_timeout_s: u64,
 }
 
-/// The numbers that were given, or those that stand where they aren't.
+/// Reads the given numbers, with their defaults.
 pub fn read_thread_settings(
     workers: Option<&str>,
     connections: Option<&str>,

@@ -1,4 +1,4 @@
-//! Lengths of time.
+//! Durations: of segments, of the live window, and of what is kept.
 ghost use Rattle.std.specs.Prelude.{◌≡◌, IfOk};
 ghost use Rattle.hls_core_laws.specs.Config.{IsTarget, IsPreferred};
 ghost use Rattle.hls_settings.specs.Settings.{text_of, timing_of};
@@ -9,20 +9,20 @@ use crate::number::number_or_default;
 /// The greatest number of 16 digits.
 const MOST_NUMBER: u64 = 9_999_999_999_999_999;
 
-/// How long segments, the live window and the recording are.
+/// The durations of segments, of the live window and of the recording.
 #[derive(Clone, Copy, Drop)]
 pub struct WindowSettings {
     /// The target duration in seconds, 1 to 3600 (RFC 8216 section 4.3.3.1).
     pub target: u64,
-    /// The preferred length of a segment in microseconds, 1 to the target.
+    /// The preferred length of a segment in microseconds, 1 to the target duration.
     pub preferred: u64,
-    /// What the live lists hold at least, in microseconds: three targets or more.
+    /// The least duration of the live playlists, in microseconds: at least three target durations.
     pub window: u64,
-    /// What is kept for catch-up, in microseconds: the window or more.
+    /// The duration that is kept for catch-up, in microseconds: at least the window.
     pub keep: u64,
 }
 
-/// The lengths that were given, or those that stand where they aren't.
+/// Reads the given durations, with their defaults.
 pub fn read_window_settings(
     target: Option<&str>,
     preferred: Option<&str>,

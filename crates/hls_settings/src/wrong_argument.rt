@@ -1,4 +1,4 @@
-//! The first word that can't stand where it does.
+//! Finds the first invalid argument.
 ghost use Rattle.std.specs.Prelude.{◌≡◌, ◌∷◌, map, option_map};
 ghost use Rattle.std.specs.Str.{bytes_eq};
 ghost use Rattle.hls_settings.specs.WrongArguments.{awaits_value, has_value, option_name, is_given, is_option, option_fault, plain_fault, find_stray, takes_value, value_fault, argument_fault, wrong_argument};
@@ -6,30 +6,30 @@ ghost use Rattle.hls_settings.specs.WrongArguments.{awaits_value, has_value, opt
 use crate::number::split_at_char;
 use std::convert::AsStr;
 
-/// Why a word can't stand where it does.
+/// Why an argument is invalid.
 #[derive(Clone, Copy, Debug, PartialEq, Eq, Drop)]
 pub enum ArgumentFault {
     /// There is no such option.
     Unknown,
-    /// An earlier word gives the same option.
+    /// An earlier argument gives the same option.
     Repeated,
     /// The option takes a value and has none.
     NoValue,
     /// The option takes no value and has one.
     Unneeded,
-    /// The word is no option, no option's value, and nothing else that the command takes.
+    /// The argument is no option, no option's value, and nothing else that the command takes.
     Stray,
 }
 
-/// The first word that can't stand where it does.
+/// The first invalid argument.
 #[derive(Clone, Copy, Debug, PartialEq, Eq, Drop)]
 pub struct WrongArgument {
-    /// Which of the words it is, from 0.
+    /// The index of the argument, from 0.
     pub index: usize,
     pub fault: ArgumentFault,
 }
 
-/// A word up to its first `=`, and whether it has one.
+/// Returns an argument up to its first `=`, and whether it has one.
 pub fn option_name(argument: &str) -> (&str, bool)
     ensures { (result.0.now, result.1) ≡ option_name argument.now }
 {
@@ -39,7 +39,7 @@ pub fn option_name(argument: &str) -> (&str, bool)
     }
 }
 
-/// Whether the word begins with a hyphen, and has more.
+/// Whether the argument begins with a hyphen, and is longer.
 fn is_option(argument: &str) -> bool
     ensures { result ≡ is_option argument.now }
 {
@@ -49,7 +49,7 @@ fn is_option(argument: &str) -> bool
     }
 }
 
-/// Whether this is the option of that long name.
+/// Whether this is the option with that long name.
 fn is_named(option: &str, name: &str) -> bool
     ensures { result ≡ bytes_eq option.now (45 ∷ 45 ∷ name.now) }
 {
@@ -59,7 +59,7 @@ fn is_named(option: &str, name: &str) -> bool
     }
 }
 
-/// Whether the option `--name` takes a value; `None` where there is no such option.
+/// Whether the option `--name` takes a value; `None` if there is no such option.
 fn takes_value(options: &[(&str, bool)], option: &str) -> Option<bool>
     ensures { result ≡ takes_value (map (λ o. (o.0.now, o.1)) options.now) option.now }
 {
@@ -71,7 +71,7 @@ fn takes_value(options: &[(&str, bool)], option: &str) -> Option<bool>
     None
 }
 
-/// Whether one of the words gives the option.
+/// Whether one of the arguments gives the option.
 fn is_given<S: AsStr>(arguments: &[S], option: &str) -> bool
     ensures { result ≡ is_given (map S.text arguments.now) option.now }
 {
@@ -83,7 +83,7 @@ fn is_given<S: AsStr>(arguments: &[S], option: &str) -> bool
     false
 }
 
-/// Whether the words after an option begin with its value.
+/// Whether the arguments after an option begin with its value.
 fn has_value<S: AsStr>(after: &[S]) -> bool
     ensures { result ≡ has_value (map S.text after.now) }
 {
@@ -93,7 +93,7 @@ fn has_value<S: AsStr>(after: &[S]) -> bool
     }
 }
 
-/// What is wrong with an option, by whether it takes a value and whether one is attached to it.
+/// Returns the fault of an option, by whether it takes a value and whether one is attached to it.
 fn value_fault<S: AsStr>(takes: bool, is_attached: bool, after: &[S]) -> Option<ArgumentFault>
     ensures { result ≡ value_fault takes is_attached (map S.text after.now) }
 {
@@ -104,7 +104,7 @@ fn value_fault<S: AsStr>(takes: bool, is_attached: bool, after: &[S]) -> Option<
     }
 }
 
-/// What is wrong with a word that begins with a hyphen.
+/// Returns the fault of an argument that begins with a hyphen.
 fn option_fault<S: AsStr>(
     options: &[(&str, bool)],
     before: &[S],
@@ -123,7 +123,7 @@ fn option_fault<S: AsStr>(
     value_fault(takes, is_attached, after)
 }
 
-/// Whether a value follows the last word.
+/// Whether a value follows the last argument.
 fn awaits_value<S: AsStr>(options: &[(&str, bool)], last: Option<&S>) -> bool
     ensures { result ≡ awaits_value (map (λ o. (o.0.now, o.1)) options.now) (option_map (λ w. S.text w.now) last.entry) }
 {
@@ -133,7 +133,7 @@ fn awaits_value<S: AsStr>(options: &[(&str, bool)], last: Option<&S>) -> bool
     }
 }
 
-/// What is wrong with a word, if anything is, by those before and after it.
+/// Returns the fault of an argument, if any, given those before and after it.
 fn argument_fault<S: AsStr>(
     options: &[(&str, bool)],
     takes_arguments: bool,
@@ -152,7 +152,7 @@ fn argument_fault<S: AsStr>(
     Some(ArgumentFault::Stray)
 }
 
-/// The first of the words after `--`, where a command takes no words.
+/// Returns the first of the arguments after `--`, if the command takes none.
 fn find_stray<S: AsStr>(takes_arguments: bool, index: usize, after: &[S]) -> Option<WrongArgument>
     ensures { result ≡ find_stray takes_arguments index (map S.text after.now) }
 {
@@ -165,8 +165,8 @@ fn find_stray<S: AsStr>(takes_arguments: bool, index: usize, after: &[S]) -> Opt
     })
 }
 
-/// The first word that can't stand where it does, by a command's options (their long names, and whether each takes a value) and
-/// whether it takes words that are no options.
+/// Returns the first invalid argument, by a command's options (their long names, and whether each takes a value) and whether it takes
+/// arguments that are no options.
 pub fn find_wrong_argument<S: AsStr>(
     options: &[(&str, bool)],
     takes_arguments: bool,

@@ -1,4 +1,4 @@
--- Several passes that look one after the other, and whose last state stands for all of them.
+-- Several passes that look one after the other, until the state of the last one agrees with all of them.
 use Rattle.std.proofs.Common.{◌≡◌, ◌-◌, ℕ, suc, Some, List, [], ◌∷◌, ◌++◌, length, map, take, option_map, slice_get, sym, ap, ◌∙◌, subst, ◌<◌, All, arith}
 use Rattle.std.specs.List.{AllZip}
 use Rattle.std.proofs.lemmas.Slice.Zip.{AllZip-long}
@@ -32,7 +32,7 @@ all_looked (a ∷ olds) [] news first then = absurd first
 all_looked (a ∷ olds) (b ∷ mids) [] first then = absurd then
 all_looked (a ∷ olds) (b ∷ mids) (c ∷ news) first then = (looked_through a b c first.0 then.0, all_looked olds mids news first.1 then.1)
 
--- one pass: s follows what it saw, and has just its events
+-- one pass: s follows what it saw, and has exactly its events
 meets : (s : State) (a b c : PassData) → HasLooked a b → LooksAt b c → Follows c.known.seen s → events_by c.known.number s.log ≡ events_by c.known.number c.known.seen.log → MeetsAt s a c
 meets s a b c looked looks follows entries =
     let through = looked_through a b c looked (record { turn = looks.turn; looked = looks.looks.looked }) in
@@ -62,7 +62,7 @@ none_left s (a ∷ olds) [] news looked looks none = absurd looked
 none_left s (a ∷ olds) (b ∷ mids) [] looked looks none = absurd looks
 none_left s (a ∷ olds) (b ∷ mids) (c ∷ news) looked looks none = let never : c.known.seen ∷ map seen_of news ≡ [] = none in absurd (cc)
 
--- all of them: the last has seen s, and s is settled for each of the others
+-- all passes: the last has seen s, and s is settled for each of the others
 pub all_meet : (s : State) (states : List State) (olds mids news : List PassData) → AllZip HasLooked olds mids → AllZip LooksAt mids news → map seen_of news ≡ states ++ s ∷ [] → AllZip (SettledAt s) states (take (length states) news) → AllZip (MeetsAt s) olds news
 all_meet s states [] [] [] looked looks are settled = tt
 all_meet s states [] [] (c ∷ news) looked looks are settled = absurd looks
@@ -80,7 +80,7 @@ all_meet s (t ∷ states) (a ∷ olds) (b ∷ mids) (c ∷ news) looked looks ar
     let entries = subst (λ (u : State). events_by c.known.number s.log ≡ events_by c.known.number u.log) (sym is) (workers_settled t s c.known.number settled.0.follows settled.0.entries) in
     (meets s a b c looked.0 looks.0 follows entries, all_meet s states olds mids news looked.1 looks.1 (behind c.known.seen t (map seen_of news) (states ++ s ∷ []) are) settled.1)
 
--- what the last one has seen
+-- what the last pass has seen
 last_at : (s : State) (states : List State) (c : PassData) (news : List PassData) → map seen_of (c ∷ news) ≡ states ++ s ∷ [] → option_map seen_of (slice_get (c ∷ news) (length news)) ≡ Some s
 last_at s [] c [] are = ap Some (front c.known.seen s [] [] are)
 last_at s (t ∷ states) c [] are = absurd (no_more states s (behind c.known.seen t [] (states ++ s ∷ []) are))
@@ -92,7 +92,7 @@ last_is s states [] are = absurd (no_more states s are)
 last_is s states (c ∷ news) are = let is : suc (length news) - 1 ≡ length news = omega arith in
     ap (λ (n : ℕ). option_map seen_of (slice_get (c ∷ news) n)) is ∙ last_at s states c news are
 
--- as many passes, and each keeps its turn
+-- the number of passes is unchanged, and each keeps its turn
 pub as_many : (olds news : List PassData) → AllZip HasLooked olds news → length news ≡ length olds
 as_many olds news looked = AllZip-long HasLooked olds news looked
 

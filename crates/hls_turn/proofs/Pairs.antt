@@ -6,7 +6,7 @@ module _ {A : Type 0} (R : A → A → Type 0) where
   heads : (x y : A) (xs ys : List A) → x ∷ xs ≡ y ∷ ys → x ≡ y
   heads x y xs ys e = cc
 
-  -- where the first i are related and the others are the same, and item i is put in, the first i + 1 are related
+  -- if the first i are related and the others unchanged, and item i is replaced by a related one, the first i + 1 are related
   pub zip_more : (i : ℕ) (old now : List A) (d q : A) → i < length now → AllZip R (take i old) (take i now) → drop i now ≡ drop i old → R (get_or now i d) q → AllZip R (take (suc i) old) (take (suc i) (set now i q))
   zip_more i old [] d q low zipped rest related = absurd (omega arith)
   zip_more zero [] (y ∷ ys) d q low zipped rest related = let never : y ∷ ys ≡ [] = rest in absurd (cc)
@@ -33,7 +33,7 @@ module _ {A : Type 0} where
   zip_self R self [] = tt
   zip_self R self (x ∷ xs) = (self x, zip_self R self xs)
 
-  -- where the first i are related and the others are the same, all are, if each is related to itself
+  -- if the first i are related and the others unchanged, all are related, given that each is related to itself
   pub zip_all : (R : A → A → Type 0) → ((x : A) → R x x) → (i : ℕ) (old now : List A) → AllZip R (take i old) (take i now) → drop i now ≡ drop i old → AllZip R old now
   zip_all R self zero old now zipped rest = subst (λ (l : List A). AllZip R old l) (sym rest) (zip_self R self old)
   zip_all R self (suc i) [] [] zipped rest = tt
@@ -47,7 +47,7 @@ module _ {A : Type 0} where
   zip_map R S weaker (x ∷ xs) [] zipped = absurd zipped
   zip_map R S weaker (x ∷ xs) (y ∷ ys) zipped = (weaker x y zipped.0, zip_map R S weaker xs ys zipped.1)
 
-  -- the same of an item that is put in and then left: its call failed
+  -- the same for an item that is put in although its call failed
   pub zip_put : (R S : A → A → Type 0) → ((x : A) → S x x) → ((x y : A) → R x y → S x y) → (i : ℕ) (old now : List A) (d q : A) → i < length now → AllZip R (take i old) (take i now) → drop i now ≡ drop i old → S (get_or now i d) q
       → AllZip S old (set now i q)
   zip_put R S self weaker i old now d q low zipped rest related = zip_all S self (suc i) old (set now i q)
@@ -60,7 +60,7 @@ module _ {A : Type 0} where
   put_map f (suc i) (x ∷ xs) q low = ap (λ l. f x ∷ l) (put_map f i xs q (omega arith))
 
 module _ {A B : Type 0} (R : A → B → Type 0) where
-  -- where the first i are related, and so is item i, the first i + 1 are
+  -- if the first i are related, and item i is, too, the first i + 1 are related
   pub zip_next : (i : ℕ) (xs : List A) (ys : List B) (d : A) (e : B) → i < length xs → i < length ys → AllZip R (take i xs) (take i ys) → R (get_or xs i d) (get_or ys i e) → AllZip R (take (suc i) xs) (take (suc i) ys)
   zip_next i [] ys d e low low' zipped related = absurd (omega arith)
   zip_next i (x ∷ xs) [] d e low low' zipped related = absurd (omega arith)

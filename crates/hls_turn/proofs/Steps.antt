@@ -1,4 +1,4 @@
--- Each step keeps the turn's rule: the opening put, a take, a put, and a pass made beside pass 0.
+-- Each step preserves the turn's rule: the first put, a take, a put, and a pass split off pass 0.
 use Rattle.std.proofs.Common.{◌≡◌, ◌≢◌, ◌⊎◌, ◌+◌, ◌<◌, ◌≤◌, ℕ, zero, suc, Option, Some, None, List, [], ◌∷◌, ◌++◌, length, length-append, set, sym, refl, ap, ◌∙◌, subst, ⊎_elim, inl, inr, arith}
 use mathlib.Core.Option.{some, some-injective, some-ne-none}
 use native.Mathlib.Decide.{ℕ_discrete}
@@ -14,7 +14,7 @@ use Rattle.hls_core_laws.proofs.Callers.{follows_itself, follows_through, moves_
 use Rattle.hls_turn.specs.declared.view.View.{View}
 use Rattle.hls_turn.specs.Rule.{new_view, after_take, after_put, with_one_more, split_view, log_seen, TakesState, FollowsSeen, Advances, MayPut, EachView, Knows, HasNoPass, IsFree, IsFreeBut, Lies, IsHeld, Runs, Opens, Keeps}
 
--- where one view is set, a fact of every view needs showing of the new one, and of the others from what they were
+-- if one view is set, a fact of every view follows from the fact of the new one and of the others as they were
 each_set : (P : ℕ → View → Type 0) (views : List View) (port : ℕ) (w : View) → P port w → ((j : ℕ) (u : View) → j ≢ port → get_elem? views j ≡ some u → P j u) → EachView P (set views port w)
 each_set P views port w mine others j u e = ⊎_elim
     (λ (x : (j ≡ port) × (w ≡ u)). subst (λ (y : ℕ × View). P y.0 y.1) (λ i. (sym x.0 i, x.1 i)) mine)
@@ -70,11 +70,11 @@ advances-apart : (t s : State) (number other : ℕ) → Advances t number s → 
 advances-apart t s number other = ⊎_elim (λ is apart. ap (λ (x : State). events_by other x.log) is)
     (λ e apart. (workers_apart t s number other e.0 e.3).1 apart)
 
--- the views of a run, each set by w at this port, where w is the port's own and still knows the state
+-- the views of a run, with the view at this port set to w, which is the port's own and still knows the state
 knows-set : (s : State) (views : List View) (port : ℕ) (w : View) → EachView (Knows s) views → Knows s port w → EachView (Knows s) (set views port w)
 knows-set s views port w each mine = each_set (Knows s) views port w mine (λ j u _ at. each j u at)
 
--- `pass_count` is kept where the view at 0, if set, keeps its count
+-- `pass_count` is unchanged if the view at 0, if set, keeps its count
 pass_count-set : (views : List View) (port : ℕ) (v w : View) → get_elem? views port ≡ some v → w.pass_count ≡ v.pass_count → ((u : View) → get_elem? views 0 ≡ some u → u.pass_count ≡ length views)
     → (u : View) → get_elem? (set views port w) 0 ≡ some u → u.pass_count ≡ length (set views port w)
 pass_count-set views port v w at same pass_count u e = ⊎_elim
@@ -106,7 +106,7 @@ module _ {A : Type 0} where
       (λ (held : IsHeld s items views). held_at s t items views port v at holds held (ℕ_discrete port held.holder))
       place
 
-  -- where an item lies in the place, it is the current state, and no pass holds one
+  -- if an item is in the queue, it is the current state, and no pass holds one
   lying : (s : State) (x : Arc State A) (items : List (Arc State A)) (views : List View) → Lies s (x ∷ items) views ⊎ IsHeld s (x ∷ items) views → (items ≡ []) × (x.value ≡ s) × EachView IsFree views
   lying s x items views place = ⊎_elim
       (λ (lies : Lies s (x ∷ items) views).
@@ -116,7 +116,7 @@ module _ {A : Type 0} where
       (λ (held : IsHeld s (x ∷ items) views). let never : x ∷ items ≡ [] = held.empty in absurd (cc))
       place
 
-  -- the first put: the state that it puts is the current one, and pass 0 has seen it
+  -- the first put: its state is the current one, and pass 0 has seen it
   opens : (x : Arc State A) → Runs (x ∷ []) (after_put new_view x.value ∷ [])
   opens x = let s : State = x.value in let w : View = after_put new_view s in
       let only : (j : ℕ) (u : View) → get_elem? (w ∷ []) j ≡ some u → (j ≡ 0) × (u ≡ w) = only-one w in
@@ -129,7 +129,7 @@ module _ {A : Type 0} where
         unassigned = λ number _ j u e. record { entries = ap (λ (y : View). events_by number (log_seen y.seen)) (only j u e).1 };
       }
 
-  -- a put by the one that holds the state
+  -- a put by the pass that holds the state
   goes_on : (items : List (Arc State A)) (views : List View) (port : ℕ) (v : View) (t : State) (x : Arc State A) → Runs items views → get_elem? views port ≡ some v → v.holds ≡ Some t → Advances t v.number x.value
       → Runs (items ++ x ∷ []) (set views port (after_put v x.value))
   goes_on items views port v t x runs at holds advances =
@@ -180,7 +180,7 @@ module _ {A : Type 0} where
     refl,
   )
 
-  -- at a put the place is empty
+  -- at a put the queue is empty
   pub empty_at_put : (port : ℕ) (v : View) (x : Arc State A) → MayPut v x.value → Learns (Keeps {A = A}) port v (λ items. items ≡ [])
   empty_at_put port v x may items views keeps at = ⊎_elim
       (λ (opening : Opens items views). opening.empty)
@@ -232,7 +232,7 @@ module _ {A : Type 0} where
   pub begins : Keeps {A = A} [] (new_view ∷ [])
   begins = inl (record { empty = refl; alone = refl })
 
--- pass 0 with so many passes made, all from the opening state
+-- pass 0 after `n` passes were made, all from the opening state
 abbrev pub made_to : ℕ → State → View
 made_to pass_count s = record { number = 0; pass_count = pass_count; seen = Some s; mine = events_by 0 s.log; holds = None }
 

@@ -1,4 +1,4 @@
--- What each call on a turn does, to what its pass knows.
+-- The effect of each call on a turn, on what its pass knows.
 use Rattle.std.specs.Prelude.{◌≡◌, ℕ, ◌-◌, Option, option_map, List, length, map, slice_get}
 use Rattle.std.specs.List.{range_with_len}
 use Rattle.atomic_table.specs.Seated.{TableId}
@@ -8,14 +8,14 @@ use Rattle.hls_core_laws.specs.Workers.{events_by}
 use Rattle.hls_core_laws.specs.PassView.{MaySeeLater, Looks}
 use Rattle.hls_turn.specs.Passes.{PassData}
 
--- pass i at the opening: it has seen the state that was handed in, and its events are that state's entries of number i
+-- pass i at the opening: it has seen the initial state, and its events are that state's entries of number i
 abbrev pub opening_pass : TableId → State → ℕ → PassData
 opening_pass turn s number = record { turn = turn; known = record { number = number; seen = s; mine = events_by number s.log } }
 
 abbrev pub opening_passes : TableId → State → ℕ → List PassData
 opening_passes turn s workers = map (opening_pass turn s) (range_with_len 0 workers)
 
--- the same of a pass among others, which keeps its turn
+-- the same for one of several passes, which keeps its turn
 pub record HasLooked (old new : PassData) : Type 0 where
   pub turn : new.turn ≡ old.turn
   pub looked : MaySeeLater old.known new.known
@@ -24,7 +24,7 @@ pub record LooksAt (old new : PassData) : Type 0 where
   pub turn : new.turn ≡ old.turn
   pub looks : Looks old.known new.known.seen new.known
 
--- of one of several passes that look together: what it had seen and has seen leads to s, where its entries are the events that it brought
+-- for one of several passes that look together: s follows what it has seen, and has exactly its events under its number
 pub record MeetsAt (s : State) (old new : PassData) : Type 0 where
   pub turn : new.turn ≡ old.turn
   pub looked : MaySeeLater old.known new.known

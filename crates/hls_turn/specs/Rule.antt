@@ -1,5 +1,5 @@
--- The turn's rule: what the queue's one place holds, and what each pass knows.
--- Public clauses don't cite it: what callers learn of it stands in Calls.
+-- The turn's rule: the contents of the queue's one slot, and what each pass knows. Public clauses don't cite it: Calls says what
+-- callers learn of it.
 use Rattle.std.specs.Prelude.{◌≡◌, ◌≢◌, ◌⊎◌, ◌+◌, ◌≤◌, ℕ, Option, Some, None, List, [], ◌∷◌, length}
 use Rattle.std.specs.declared.sync.Arc.{Arc}
 use mathlib.Core.Option.{some}
@@ -28,7 +28,7 @@ abbrev pub log_seen : Option State → List Entry
 log_seen None = []
 log_seen (Some s) = s.log
 
--- pass 0 once a pass was made beside it, and that pass: it has seen the same state, and its number is the next one
+-- pass 0 after a pass was split off it, and that pass: it has seen the same state, and its number is the next one
 abbrev pub with_one_more : View → View
 with_one_more v = record { number = v.number; pass_count = v.pass_count + 1; seen = v.seen; mine = v.mine; holds = v.holds }
 
@@ -39,7 +39,7 @@ abbrev pub FollowsSeen : Option State → State → Type 0
 FollowsSeen None s = Unit {0}
 FollowsSeen (Some t) s = Follows t s
 
--- the state is taken out: it follows what the pass saw, and has the events that the pass brought
+-- the state is taken out: it follows what the pass saw, and has the events that the pass submitted
 pub record TakesState (v : View) (s : State) (w : View) : Type 0 where
   pub follows : FollowsSeen v.seen s
   pub entries : events_by v.number s.log ≡ v.mine
@@ -49,14 +49,14 @@ pub record TakesState (v : View) (s : State) (w : View) : Type 0 where
 abbrev pub Advances : State → ℕ → State → Type 0
 Advances t number s = (s ≡ t) ⊎ ((event : Event) × IsState t × IsFitting t event × Moves t number event New s)
 
--- who may put the state s in: pass 0 at the opening, then the one who holds a state, as that or advanced
+-- a pass may put the state s in: pass 0 at the opening, then the one that holds a state, which it puts back unchanged or advanced
 abbrev pub MayPut : View → State → Type 0
 MayPut v s = (v ≡ new_view) ⊎ ((t : State) × (v.holds ≡ Some t) × Advances t v.number s)
 
 abbrev pub EachView : (ℕ → View → Type 0) → List View → Type 0
 EachView P views = (port : ℕ) (v : View) → get_elem? views port ≡ some v → P port v
 
--- what a pass knows is so in the current state s
+-- what a pass knows holds in the current state s
 pub record Knows (s : State) (port : ℕ) (v : View) : Type 0 where
   pub number : v.number ≡ port
   pub last : State
@@ -64,7 +64,7 @@ pub record Knows (s : State) (port : ℕ) (v : View) : Type 0 where
   pub follows : Follows last s
   pub mine : events_by v.number s.log ≡ v.mine
 
--- what a pass has seen of a number that no pass has yet is all there is of it
+-- of a number that no pass has yet, every pass has seen all entries
 pub record HasNoPass (s : State) (number : ℕ) (port : ℕ) (v : View) : Type 0 where
   pub entries : events_by number (log_seen v.seen) ≡ events_by number s.log
 
@@ -75,14 +75,14 @@ pub record IsFreeBut (holder : ℕ) (port : ℕ) (v : View) : Type 0 where
   pub holds : port ≢ holder → v.holds ≡ None
 
 module _ {A : Type 0} where
-  -- the state lies in the place, and no pass holds one
+  -- the state is in the queue, and no pass holds one
   pub record Lies (s : State) (items : List (Arc State A)) (views : List View) : Type 0 where
     pub item : Arc State A
     pub items_are : items ≡ item ∷ []
     pub item_is : item.value ≡ s
     pub free : EachView IsFree views
 
-  -- the place is empty, and just one pass holds the state
+  -- the queue is empty, and exactly one pass holds the state
   pub record IsHeld (s : State) (items : List (Arc State A)) (views : List View) : Type 0 where
     pub holder : ℕ
     pub view : View
@@ -91,7 +91,7 @@ module _ {A : Type 0} where
     pub holds : view.holds ≡ Some s
     pub free : EachView (IsFreeBut holder) views
 
-  -- from the opening on: one current state, which follows all that was seen; in it each pass's entries are those that it brought
+  -- after the opening: there is one current state, which follows all states seen; in it each pass's entries are those that it submitted
   pub record Runs (items : List (Arc State A)) (views : List View) : Type 0 where
     pub state : State
     pub place : Lies state items views ⊎ IsHeld state items views
@@ -99,7 +99,7 @@ module _ {A : Type 0} where
     pub pass_count : (v : View) → get_elem? views 0 ≡ some v → v.pass_count ≡ length views
     pub unassigned : (number : ℕ) → length views ≤ number → EachView (HasNoPass state number) views
 
-  -- before the opening the place is empty, and pass 0 stands alone
+  -- before the opening the queue is empty, and pass 0 is the only pass
   pub record Opens (items : List (Arc State A)) (views : List View) : Type 0 where
     pub empty : items ≡ []
     pub alone : views ≡ new_view ∷ []

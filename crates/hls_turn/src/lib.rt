@@ -1,7 +1,8 @@
-//! The turn: one state of a channel that many threads see in one order.
+//! The turn: the one state of a channel, which many threads see and change in one order.
 //!
-//! The state lies in a queue of one place. Who takes it out is alone with it, and puts back either the same state or one
-//! that is one event further; so all events stand in one log, whatever the threads do.
+//! The state is in a queue of capacity one. The thread that takes it out has exclusive access, and puts back either the same state or
+//! one that is one event further; so all events are in one log, whatever the threads do. The queue's own rule is
+//! [`Rule`](../specs/Rule.antt); no public clause cites it.
 #![tactic(auto)]
 
 mod pass;

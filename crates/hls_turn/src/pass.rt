@@ -5,7 +5,7 @@ use std::marker::Model;
 
 /// A thread's handle of a turn: a number, the state that it saw last, and its events in the log.
 ///
-/// A contract sees it as the turn that it came with and what it knows. It is used by `&mut`, so one call at a time.
+/// A contract sees it as the turn that it belongs to and what it knows. It is used by `&mut`, so by one call at a time.
 #[derive(Drop)]
 pub struct Pass {
     pub(crate) number: u16,
@@ -31,14 +31,14 @@ impl Pass {
     ghost use Rattle.std.specs.Prelude.{◌≡◌, length};
     ghost use Rattle.hls_core_laws.specs.IsState.{IsState};
 
-    /// The pass's number, from 0: its events' number in the log.
+    /// Returns the pass's number, from 0, under which the log has its events.
     pub fn number(&self) -> u16
         ensures { result ≡ self.now.known.number }
     {
         self.number
     }
 
-    /// The number of the channel's renditions, which never changes.
+    /// Returns the number of the channel's renditions, which never changes.
     pub fn rendition_count(&self) -> usize
         ensures count { result ≡ length self.now.known.seen.config.renditions }
         ensures valid { IsState self.now.known.seen }

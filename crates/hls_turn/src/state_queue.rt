@@ -1,4 +1,4 @@
-//! The queue of one place: its state taken out, and put in.
+//! The queue of capacity one: takes its state out, and puts one in.
 ghost use Rattle.std.specs.Prelude.{◌≡◌};
 ghost use Rattle.crossbeam_queue.specs.Passes.{view, IsSamePass, IsPassOf, ruled_capacity};
 ghost use Rattle.hls_turn.specs.Rule.{TakesState, MayPut, after_put};
@@ -9,10 +9,10 @@ use hls_core::snapshot::Snapshot;
 use std::sync::{Arc, Wait};
 use std::thread;
 
-/// The queue of one place.
+/// The queue of capacity one.
 pub type StateQueue = RuledArrayQueue<Arc<Snapshot>, View, TurnProtocol>;
 
-/// What one pass may do with the queue. It has no bytes.
+/// The right of one pass to use the queue. It has size zero.
 pub type QueuePass = crossbeam_queue::Pass<Arc<Snapshot>, View>;
 
 /// Takes the state out, once nobody else holds it.
@@ -30,7 +30,7 @@ pub fn take_state<R: Wait>(rt: &R, queue: &StateQueue, queue_pass: &mut QueuePas
     unreachable!()
 }
 
-/// Puts a state in. The place is empty, since this pass holds the state or is the first.
+/// Puts a state in. The queue is empty, since this pass holds the state or is the first.
 pub fn put_state<R: Wait>(
     rt: &R,
     queue: &StateQueue,

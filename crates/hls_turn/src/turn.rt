@@ -1,4 +1,5 @@
-//! The turn is the one state of a channel, which threads take, change and put back one after another.
+//! The turn: the one state of a channel, which threads take, change and put back one after another. No program calls `meet`.
+
 ghost use Rattle.std.specs.Prelude.{◌≡◌, ◌<◌, ◌≤◌, true, All, IfOk, length, map, take, Some};
 ghost use Rattle.std.specs.List.{AllZip};
 ghost use Rattle.hls_core_laws.specs.Moves.{IsFittingAsSeen};
@@ -10,8 +11,7 @@ use crate::state_queue::{StateQueue, put_state, take_state};
 use crate::view::PassSplit;
 use hls_core::follows::follows;
 use hls_core::snapshot::Snapshot;
-use hls_core::step::step;
-use hls_core::stepped::Stepped;
+use hls_core::step::apply;
 use hls_core_laws::done::Done;
 use hls_core_laws::event::Event;
 use hls_core_laws::refusal::Refusal;
@@ -20,9 +20,9 @@ use std::marker::Model;
 use std::sync::{Arc, Condvar, Mutex, Wait};
 use std::thread;
 
-/// The state of a channel that threads share, and a condition on which the housekeeper waits for changes.
+/// The state of a channel, shared by threads, with a condition variable that notifies the housekeeper of changes.
 ///
-/// A contract sees it as its queue's identity, which each of its passes has too.
+/// A contract sees it as the identity of its queue, which each of its passes has, too.
 #[derive(Drop)]
 pub struct Turn {
     queue: StateQueue,
@@ -46,10 +46,10 @@ impl Model for Turn {
 }
 
 impl Turn {
-    /// A turn that begins with this snapshot, and one pass for each of 1 to 64 workers: pass i has number i. Each has seen the
-    /// snapshot, and counts the log's entries of its number as its own.
+    /// Creates a turn that starts with this snapshot, and one pass for each of 1 to 64 workers: pass i has number i. Each has seen
+    /// the snapshot, and counts the log's entries of its number as its own.
     ///
-    /// May wait. Want of memory is the only fault.
+    /// May wait. An allocation failure is the only error.
     pub fn new<R: Wait>(
         rt: &R,
         alloc: Global,
@@ -60,7 +60,7 @@ impl Turn {
         ensures { IfOk result (λ r. r.1.items ≡ opening_passes r.0 snapshot workers) }
     {
         let mut passes = Vec::with_capacity(alloc, workers as usize)?;
-        let _ = snapshot.version();
+        let _ = snapshot.version(); // the proof needs that the state is well formed
         let renditions = snapshot.config().renditions().len();
         let state = Arc::new(alloc, snapshot)?;
         let (queue, mut queue_pass) = StateQueue::ruled(alloc, 1)?;
@@ -87,8 +87,8 @@ impl Turn {
         Ok((turn, passes))
     }
 
-    /// Takes the state, lets it meet the event as one of this pass, and puts back what came of it; so the event stands in the
-    /// log behind all that came before. An accepted unit is told to whom `wait_told` lets wait.
+    /// Takes the state, applies the event as one of this pass, and puts the result back; so the log has the event after all earlier
+    /// ones. An accepted unit notifies whoever waits in `wait_told`.
     ///
     /// The refusals are those of `step`, in its order. May wait.
     pub fn submit<R: Wait>(
@@ -104,30 +104,16 @@ impl Turn {
         ensures submits { Submits pass.old.known event result pass.new.known }
     {
         let is_unit = matches!(&event, Event::Accept { .. });
-        let state = take_state(rt, &self.queue, &mut pass.queue_pass);
-        let version = state.version();
-        match step(&state, alloc, pass.number, event) {
-            Ok(Stepped::New(next)) => {
-                put_state(rt, &self.queue, &mut pass.queue_pass, next);
-                if is_unit {
-                    self.tell(rt);
-                }
-                Ok(Done::New {
-                    version: version + 1,
-                })
-            }
-            Ok(Stepped::Repeat) => {
-                put_state(rt, &self.queue, &mut pass.queue_pass, state);
-                Ok(Done::Repeat)
-            }
-            Err(refusal) => {
-                put_state(rt, &self.queue, &mut pass.queue_pass, state);
-                Err(refusal)
-            }
+        let mut state = take_state(rt, &self.queue, &mut pass.queue_pass);
+        let result = apply(&mut state, alloc, pass.number, event);
+        put_state(rt, &self.queue, &mut pass.queue_pass, state);
+        if is_unit && matches!(result, Ok(Done::New { .. })) {
+            self.tell(rt);
         }
+        result
     }
 
-    /// The current state, which from then on the pass has seen. May wait.
+    /// Returns the current state, which the pass has then seen. May wait.
     pub fn look<R: Wait>(
         &self,
         rt: &R,
@@ -145,10 +131,10 @@ impl Turn {
         Ok(copy?)
     }
 
-    /// Looks with each pass in order, again and again, until the last one's state follows every other's and has no further
-    /// entry of their numbers; that state stands for all of them.
+    /// Looks with each pass in order, repeatedly, until the state of the last one follows that of every other and has no further
+    /// entry of their numbers; that state is then current for all of them.
     ///
-    /// Where memory is wanted, each pass has perhaps seen a later state, and its events stay. May wait.
+    /// On an allocation failure each pass may have seen a later state, and its events are unchanged. May wait.
     pub fn meet<R: Wait>(
         &self,
         rt: &R,
@@ -174,7 +160,7 @@ impl Turn {
         unreachable!()
     }
 
-    /// What each pass sees as it looks, one after the other.
+    /// Looks with each pass in order, and returns what each sees.
     fn look_with<R: Wait>(
         &self,
         rt: &R,
@@ -195,13 +181,13 @@ impl Turn {
         Ok(states)
     }
 
-    /// Says that there may be something to keep up. May wait.
+    /// Notifies the housekeeper that something may be due. May wait.
     pub fn tell<R: Wait>(&self, rt: &R) {
         *self.notified.lock(rt) = true;
         self.changed.notify_all();
     }
 
-    /// Waits until something was told since the last call.
+    /// Waits for a notification since the last call.
     pub fn wait_told<R: Wait>(&self, rt: &R) {
         let mut notified = self
             .changed

@@ -1,4 +1,4 @@
-//! The queue's rule, and what its steps tell: types for the proofs, of which no value is made.
+//! The queue's rule and the outcomes of its steps: types for the proofs, which have no values at run time.
 
 use crate::state_queue::StateQueue;
 use crossbeam_queue::protocol::{Lesson, Outcome, Protocol, Split};
@@ -7,8 +7,8 @@ use hls_core_laws::event::LoggedEvent;
 use std::collections::LinkedList;
 use std::sync::Arc;
 
-/// The view of a pass: its number, how many passes there are (told to pass 0 alone), the state that it saw last, the events
-/// that it brought, and the state that it holds.
+/// The view of a pass: its number, how many passes there are (known to pass 0 only), the state that it saw last, the events that it
+/// submitted, and the state that it holds.
 pub struct View {
     pub number: u16,
     pub pass_count: u16,
@@ -41,7 +41,7 @@ impl Lesson<Arc<Snapshot>, View> for TakeOutcome {
     ghost fact = { λ v items. Unit {0} };
 }
 
-/// A state is put in: the first one, the one that was taken, or one that is an event further.
+/// A state is put in: the first one, the one that was taken, or one that is one event further.
 pub struct PutOutcome;
 
 impl Outcome<Arc<Snapshot>, View> for PutOutcome {
@@ -57,7 +57,7 @@ impl Lesson<Arc<Snapshot>, View> for PutOutcome {
     ghost fact = { λ v items. items ≡ [] };
 }
 
-/// A new pass is made beside pass 0.
+/// A new pass is split off pass 0.
 pub struct PassSplit;
 
 impl Split<View> for PassSplit {

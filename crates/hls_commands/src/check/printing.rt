@@ -1,17 +1,17 @@
-//! The line of an answer. It takes no memory.
+//! The line of an answer. Nothing here allocates.
 ghost use Rattle.std.specs.Prelude.{◌≡◌, ◌+◌, ◌≤◌, ◌++◌, [], ◌∷◌};
 ghost use Rattle.arrayvec.specs.ArrayString.{array_string_len};
 ghost use Rattle.hls_text.specs.Numbers.{spaced_numbers};
 ghost use Rattle.hls_commands.specs.CheckAnswer.{answer_words, fault_numbers, check_line};
 
 use arrayvec::ArrayString;
-use hls_check_laws::{CertFault, Verdict};
+use hls_check_tables::{CertFault, Verdict};
 
 /// Room for any line: two words of at most 22 bytes together, two numbers of at most 20 digits, each
 /// with a space before it, and the line feed.
 pub const LINE_LEN: usize = 65;
 
-/// Adds a space and a number.
+/// Appends a space and a number.
 pub fn push_number(line: &mut ArrayString<LINE_LEN>, number: u64)
     requires { array_string_len line.old + 21 ≤ LINE_LEN }
     ensures bytes { line.new.bytes ≡ line.old.bytes ++ spaced_numbers (number ∷ []) }
@@ -21,7 +21,7 @@ pub fn push_number(line: &mut ArrayString<LINE_LEN>, number: u64)
     line.push_str(itoa::Buffer::new().format(number));
 }
 
-/// Adds two numbers, each with a space before it.
+/// Appends two numbers, each with a space before it.
 fn push_pair(line: &mut ArrayString<LINE_LEN>, first: usize, second: usize)
     requires { array_string_len line.old + 42 ≤ LINE_LEN }
     ensures bytes { line.new.bytes ≡ line.old.bytes ++ spaced_numbers (first ∷ second ∷ []) }
@@ -31,7 +31,7 @@ fn push_pair(line: &mut ArrayString<LINE_LEN>, first: usize, second: usize)
     push_number(line, second as u64);
 }
 
-/// Adds a fault's numbers, each with a space before it.
+/// Appends a fault's numbers, each with a space before it.
 fn push_numbers(line: &mut ArrayString<LINE_LEN>, fault: CertFault)
     requires { array_string_len line.old + 42 ≤ LINE_LEN }
     ensures bytes { line.new.bytes ≡ line.old.bytes ++ spaced_numbers (fault_numbers fault) }
@@ -50,7 +50,7 @@ fn push_numbers(line: &mut ArrayString<LINE_LEN>, fault: CertFault)
     }
 }
 
-/// The words of a fault.
+/// Writes a fault, without a line feed.
 fn write_fault(fault: CertFault) -> ArrayString<LINE_LEN>
     ensures bytes { result.bytes ≡ answer_words (Err fault) }
     ensures len { array_string_len result + 1 ≤ LINE_LEN }
@@ -62,7 +62,7 @@ fn write_fault(fault: CertFault) -> ArrayString<LINE_LEN>
     line
 }
 
-/// The words of a verdict.
+/// Writes a verdict, without a line feed.
 fn write_verdict(verdict: Verdict) -> ArrayString<LINE_LEN>
     ensures bytes { result.bytes ≡ answer_words (Ok verdict) }
     ensures len { array_string_len result + 1 ≤ LINE_LEN }
@@ -78,8 +78,7 @@ fn write_verdict(verdict: Verdict) -> ArrayString<LINE_LEN>
     line
 }
 
-/// The line of an answer: `cut` and the cost in microseconds, `none`, or `refused`, the fault's name
-/// and its numbers.
+/// Writes the line of an answer: `cut` and the cost in microseconds, `none`, or `refused`, the fault's name and its numbers.
 pub fn write_check_line(answer: Result<Verdict, CertFault>) -> ArrayString<LINE_LEN>
     ensures { result.bytes ≡ check_line answer }
 {

@@ -1,4 +1,4 @@
-//! `check`, from the bytes in to the bytes out.
+//! `check`, from its input to its output.
 ghost use Rattle.hls_io.specs.Counted.{failures_of};
 ghost use Rattle.hls_io.specs.Streams.{RelatesInput, RelatesInputAndOutput, RelatesOutput};
 ghost use Rattle.hls_commands.specs.CheckParts.{AnswersText, CountsPrinting, CountsReadFailures, PrintsAnswer, ReportsAnswer};
@@ -6,18 +6,18 @@ ghost use Rattle.hls_commands.specs.CheckRun.{CountsFailures, RunsCheck};
 
 use crate::check::printing::write_check_line;
 use crate::read_input::{ReadFault, read_whole};
-use hls_check_laws::{CertFault, Verdict};
+use hls_check_tables::{CertFault, Verdict};
 use hls_io::{Counted, write_whole};
 use std::alloc::Global;
 use std::io::{Read, Write};
 use std::thread::Threads;
 
-/// How `check` ended.
+/// The result of `check`.
 #[derive(Clone, Copy)]
 pub enum CheckEnd {
-    /// The certificate is good, and its verdict was written: status 0.
+    /// The certificate is valid, and its verdict was written: status 0.
     Yes,
-    /// The certificate was refused, and why was written: status 1.
+    /// The certificate was refused, and the reason was written: status 1.
     Refused,
     /// A read failed, and nothing was written: status 1.
     ReadFailed,
@@ -25,17 +25,17 @@ pub enum CheckEnd {
     WriteFailed(Result<Verdict, CertFault>),
 }
 
-/// The answer to a text.
+/// Returns the answer to a text.
 fn check_text(rt: &(impl Threads + Sync), alloc: Global, bytes: &[u8]) -> Result<Verdict, CertFault>
     ensures { AnswersText bytes.now result }
 {
-    match hls_check_text::read(alloc, bytes) {
+    match hls_check::read(alloc, bytes) {
         Ok(certificate) => hls_check::check_rows(rt, alloc, &certificate),
         Err(fault) => Err(fault),
     }
 }
 
-/// The answer to the whole of a stream; None where a read failed.
+/// Returns the answer to a whole stream; `None` if a read failed.
 fn check_stream<R: Read>(
     rt: &(impl Threads + Sync),
     alloc: Global,
@@ -51,7 +51,7 @@ fn check_stream<R: Read>(
     }
 }
 
-/// Writes the line of an answer, which is whole before the first write.
+/// Writes the line of an answer, which is complete before the first write.
 fn print_answer<W: Write>(output: &mut Counted<W>, answer: Result<Verdict, CertFault>) -> CheckEnd
     ensures prints { RelatesOutput W.contents output.old output.new (PrintsAnswer answer) result }
     ensures counts { CountsPrinting result (failures_of output.old) (failures_of output.new) }
@@ -66,14 +66,13 @@ fn print_answer<W: Write>(output: &mut Counted<W>, answer: Result<Verdict, CertF
     }
 }
 
-/// Reads a certificate's text to the reader's end, and writes the answer to it as one line: `cut`
-/// and the cost in microseconds where it is a good certificate of a cut, `none` where it is a good
-/// one of no cut, else `refused`, the name of its first fault, and the fault's numbers.
+/// Reads a certificate's text to the end of the input, and writes the answer to it as one line: `cut` and the cost in microseconds
+/// for a valid certificate of a plan, `none` for a valid one that there is no plan, else `refused`, the name of its first fault, and
+/// the fault's numbers.
 ///
-/// Nothing is written before the whole line is there. `refused Memory` is the answer only where memory
-/// was refused, and may then come before the reader's end; writing it takes no memory. Where a write
-/// fails, the end tells the answer whose line wasn't written whole. A large certificate is checked on several threads, where
-/// they can be started. May wait for them.
+/// Nothing is written before the whole line is complete. `refused Memory` is the answer only if an allocation failed, possibly before
+/// the end of the input; writing it doesn't allocate. If a write fails, the result has the answer whose line wasn't written
+/// completely. A large certificate is checked on several threads, if they can be started. May wait for them.
 pub fn run_check<R: Read, W: Write>(
     rt: &(impl Threads + Sync),
     alloc: Global,

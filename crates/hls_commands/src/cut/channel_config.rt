@@ -1,16 +1,16 @@
-//! The channel that a stream is taken into, and how it is listed.
+//! The channel into which a stream is recorded, and how it is listed.
 ghost use Rattle.std.specs.Prelude.{◌≡◌, IfOk};
-ghost use Rattle.hls_origin_listing.specs.Listings.{CanList};
+ghost use Rattle.hls_commands.specs.Listings.{CanList};
 ghost use Rattle.hls_commands.specs.Channel.{config_of, listing_mode_of, stream_rendition};
 
+use crate::listing_mode::ListingMode;
 use bytes::Bytes;
 use hls_core::config::{Config, ConfigFault};
 use hls_core_laws::rendition::Rendition;
-use hls_origin_listing::ListingMode;
 use hls_settings::CutOptions;
 use std::alloc::{AllocError, Global};
 
-/// The one rendition.
+/// Makes the only rendition.
 fn make_rendition(alloc: Global) -> Result<Rendition, AllocError>
     ensures { IfOk result (λ r. r ≡ stream_rendition) }
 {
@@ -22,7 +22,7 @@ fn make_rendition(alloc: Global) -> Result<Rendition, AllocError>
     })
 }
 
-/// The configuration of a channel of one rendition, as the options ask for it.
+/// Makes the configuration of a channel of one rendition from the options.
 pub fn make_config(alloc: Global, options: &CutOptions<'_>) -> Result<Config, AllocError>
     ensures { IfOk result (λ config. config ≡ config_of options.now) }
 {
@@ -45,7 +45,7 @@ pub fn make_config(alloc: Global, options: &CutOptions<'_>) -> Result<Config, Al
     }
 }
 
-/// How the recorded stream is to be listed: each place begins a segment, or a least plan is made.
+/// Returns how the recorded stream is listed: each place begins a segment, or a least plan is made.
 pub fn listing_mode(options: &CutOptions<'_>) -> ListingMode
     ensures value { result ≡ listing_mode_of options.now }
     ensures in_range { CanList result }

@@ -3,8 +3,8 @@ ghost use Rattle.std.specs.Prelude.{◌≡◌};
 ghost use Rattle.hls_commands.specs.CutFaultName.{fault_of, name_of};
 ghost use Rattle.hls_commands.specs.declared.cut.fault.CutFault.TheVariants.{Memory};
 
-use hls_feed::{FeedFault, StreamFault};
-use hls_origin_listing::ListingFault;
+use crate::listing_fault::ListingFault;
+use hls_core::{FeedFault, StreamFault};
 use std::alloc::{AllocError, AllocFailed};
 use std::fmt::{self, Display, Formatter, Write};
 use thiserror::Error;
@@ -12,8 +12,8 @@ use thiserror::Error;
 /// Why `cut` refuses a stream, or couldn't read or write.
 #[derive(Clone, Copy, Debug, PartialEq, Eq, Error)]
 pub enum CutFault {
-    /// The stream is refused: it can't be cut into parts, or ends inside a part; an init section or
-    /// a unit is no good; or the channel refuses what comes, or the end before any init section.
+    /// The stream is refused: it can't be cut into parts, or ends inside a part; an init section or a unit is invalid; or the channel
+    /// refuses a part, or the end before any init section.
     Stream(StreamFault),
     /// The recorded stream can't be listed.
     Listing(ListingFault),
@@ -21,12 +21,12 @@ pub enum CutFault {
     ReadFailed,
     /// A write failed.
     WriteFailed,
-    /// Memory ran out.
+    /// Out of memory.
     Memory,
 }
 
 impl CutFault {
-    /// The variant's name, or that of the fault that it holds, as the program prints it.
+    /// Returns the variant's name, or that of the fault that it holds, as the program prints it.
     pub fn name(&self) -> &'static str
         ensures { result.now ≡ name_of self.now }
     {

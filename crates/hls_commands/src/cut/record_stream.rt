@@ -1,4 +1,4 @@
-//! Reading a stream to its end, part by part.
+//! Reads and records a stream to its end, part by part.
 ghost use Rattle.std.specs.Prelude.{◌<◌, length};
 ghost use Rattle.hls_io.specs.Counted.{failures_of};
 ghost use Rattle.hls_io.specs.Streams.{RelatesInput};
@@ -8,13 +8,13 @@ use crate::buffers::new_buffer;
 use crate::cut::fault::CutFault;
 use crate::cut::recorder::{Recorder, RecorderSink};
 use hls_boxes::UnitReader;
-use hls_feed::{finish_stream, ingest_piece};
+use hls_core::{finish_stream, ingest_piece};
 use hls_io::Counted;
 use std::alloc::Global;
 use std::io::Read;
 
-/// Reads a stream by pieces that fit `piece`, to its end, a failed call or the first refusal, and
-/// records its parts. At the end `Truncated` is refused.
+/// Reads a stream in pieces that fit `piece`, until its end, a failed read or the first refusal, and records its parts. At the end
+/// `Truncated` is refused.
 fn read_parts<R: Read>(
     alloc: Global,
     input: &mut Counted<R>,

@@ -1,24 +1,24 @@
-//! The recorder: it takes a stream into a channel of one rendition, part by part.
+//! The recorder: it ingests a stream into a channel of one rendition, part by part.
 ghost use Rattle.std.specs.Prelude.{◌≡◌, length, IfOk};
 ghost use Rattle.hls_media_laws.specs.Inits.{init_of};
 ghost use Rattle.hls_media_laws.specs.UnitFacts.{facts};
 ghost use Rattle.hls_core_laws.specs.Moves.{IsFitting};
 ghost use Rattle.hls_core_laws.specs.Runs.{first_state};
 ghost use Rattle.hls_core.specs.Getters.{recording_of};
-ghost use Rattle.hls_feed.specs.declared.feed_fault.StreamFault.TheVariants.{Media};
+ghost use Rattle.hls_core.specs.declared.feed_fault.StreamFault.TheVariants.{Media};
 ghost use Rattle.hls_commands.specs.MemoryCases.{IsDefinedOrMemory, IsReadOrMemory};
 ghost use Rattle.hls_commands.specs.RecordedState.{state_at_end, state_after, with_part};
 ghost use Rattle.hls_commands.specs.OrRefused.{or_refused_as};
 
 use bytes::Bytes;
-use hls_boxes_laws::part::Part;
+use hls_boxes::part::Part;
 use hls_core::config::Config;
 use hls_core::snapshot::Snapshot;
-use hls_core::step::step;
-use hls_core::stepped::Stepped;
+use hls_core::step::apply;
+use hls_core::{FeedFault, PartSink, StreamFault};
+use hls_core_laws::done::Done;
 use hls_core_laws::event::Event;
 use hls_core_laws::refusal::Refusal;
-use hls_feed::{FeedFault, PartSink, StreamFault};
 use hls_media::{read_facts, read_init};
 use hls_media_laws::fault::MediaFault;
 use hls_media_laws::init::Init;
@@ -26,13 +26,13 @@ use std::alloc::{AllocError, Global};
 use std::marker::Model;
 use std::sync::Arc;
 
-/// The number of the one worker whose events these are.
+/// The number of the only worker, which submits all events.
 const WORKER: u16 = 0;
 
-/// The number of the one rendition.
+/// The number of the only rendition.
 pub const RENDITION: usize = 0;
 
-/// Takes a stream into a channel of one rendition. A contract sees it as the channel's state.
+/// Ingests a stream into a channel of one rendition. A contract sees it as the channel's state.
 #[derive(Drop)]
 pub struct Recorder {
     snapshot: Arc<Snapshot>,
@@ -49,7 +49,7 @@ impl Model for Recorder {
     ghost invariant = { λ r. length r.snapshot.value.config.renditions ≡ 1 };
 }
 
-/// What the bytes of an init section mean.
+/// Parses the bytes of an init section.
 fn parse_init(alloc: Global, bytes: &[u8]) -> Result<Init, FeedFault>
     ensures { IsReadOrMemory (or_refused_as Media (init_of bytes.now)) result }
 {
@@ -61,7 +61,7 @@ fn parse_init(alloc: Global, bytes: &[u8]) -> Result<Init, FeedFault>
 }
 
 impl Recorder {
-    /// A channel of this configuration, with nothing recorded.
+    /// Creates a recorder of a channel with this configuration, with nothing recorded.
     pub fn new(alloc: Global, config: Config) -> Result<Recorder, AllocError>
         requires { length config.renditions ≡ 1 }
         ensures { IfOk result (λ recorder. recorder ≡ first_state config) }
@@ -70,7 +70,7 @@ impl Recorder {
         Ok(Recorder { snapshot })
     }
 
-    /// The channel as it is recorded so far.
+    /// Returns the channel as recorded so far.
     pub fn snapshot(&self) -> &Snapshot
         ensures value { result.now ≡ self.now }
         ensures one { length self.now.config.renditions ≡ 1 }
@@ -78,23 +78,20 @@ impl Recorder {
         &self.snapshot
     }
 
-    /// Takes an event; one that comes again adds nothing.
+    /// Applies an event; a duplicate adds nothing.
     fn apply_event(&mut self, alloc: Global, event: Event) -> Result<(), FeedFault>
         requires { IsFitting self.old event }
         ensures { IsDefinedOrMemory (state_after self.old event) self.new result }
     {
-        match step(&self.snapshot, alloc, WORKER, event) {
-            Ok(Stepped::New(next)) => {
-                self.snapshot = next;
-                Ok(())
-            }
-            Ok(Stepped::Repeat) => Ok(()),
+        match apply(&mut self.snapshot, alloc, WORKER, event) {
+            Ok(Done::New { .. }) => Ok(()),
+            Ok(Done::Repeat) => Ok(()),
             Err(Refusal::Memory) => Err(FeedFault::Memory),
             Err(refusal) => Err(FeedFault::Refused(StreamFault::Core(refusal))),
         }
     }
 
-    /// Takes an init section.
+    /// Accepts an init section.
     fn accept_init(&mut self, alloc: Global, bytes: Bytes) -> Result<(), FeedFault>
         ensures { IsDefinedOrMemory (with_part self.old (Part.Init bytes)) self.new result }
     {
@@ -110,7 +107,7 @@ impl Recorder {
         self.apply_event(alloc, event)
     }
 
-    /// Takes a unit.
+    /// Accepts a unit.
     fn accept_unit(&mut self, alloc: Global, bytes: Bytes) -> Result<(), FeedFault>
         ensures { IsDefinedOrMemory (with_part self.old (Part.Unit bytes)) self.new result }
     {
@@ -129,7 +126,7 @@ impl Recorder {
         self.apply_event(alloc, event)
     }
 
-    /// Ends the stream: no unit will come any more.
+    /// Ends the stream: there are no further units.
     #[tactic(auto, unfolding(crate::specs::RecordedState::state_at_end))]
     pub fn finish(&mut self, alloc: Global) -> Result<(), FeedFault>
         ensures { IsDefinedOrMemory (state_at_end self.old) self.new result }
@@ -141,10 +138,10 @@ impl Recorder {
     }
 }
 
-/// Takes the parts of a stream into a recorder.
+/// Accepts the parts of a stream into a recorder.
 #[derive(Clone, Copy)]
 pub struct RecorderSink {
-    /// Where memory is taken.
+    /// The allocator.
     pub alloc: Global,
 }
 

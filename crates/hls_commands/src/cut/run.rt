@@ -1,4 +1,4 @@
-//! `cut`, from the words and the bytes in to the bytes out.
+//! `cut`, from its arguments and its input to its output.
 ghost use Rattle.std.specs.Prelude.{◌≡◌, Ok, map, IfOk, false, true};
 ghost use Rattle.hls_io.specs.Counted.{failures_of};
 ghost use Rattle.hls_io.specs.Streams.{RelatesInput, RelatesInputAndOutput, RelatesOutput};
@@ -9,31 +9,33 @@ ghost use Rattle.hls_commands.specs.CutRun.{CountsFailures, IsUsageFault, RunsCu
 ghost use Rattle.hls_commands.specs.CutParts.{CountsPrint, ListsAtEnd, Prints, ListsStream};
 ghost use Rattle.hls_settings.specs.Options.{options_of};
 
+use crate::channel_listing::list_channel;
 use crate::cut::channel_config::{listing_mode, make_config};
 use crate::cut::fault::CutFault;
 use crate::cut::record_stream::record_stream;
 use crate::cut::recorder::Recorder;
+use crate::listing_fault::ListingFault;
+use crate::listing_mode::ListingOutput;
 use hls_io::{Counted, write_whole};
-use hls_origin_listing::{ListingFault, ListingOutput, list_channel};
 use hls_settings::{CutOptions, CutOptionsFault, read_options};
 use std::alloc::{AllocError, Global};
 use std::convert::AsStr;
 use std::io::{Read, Write};
 
-/// How `cut` ended.
+/// The result of `cut`.
 #[derive(Clone, Copy)]
 pub enum CutEnd {
     /// The playlist, or the certificate, was written: status 0.
     Done,
-    /// No plan exists: status 3. Its certificate was written, if it was asked for.
+    /// There is no plan: status 3. The certificate of that was written, if it was requested.
     NoCut,
     /// The stream was refused, or a read or write failed: status 1.
     Refused(CutFault),
-    /// A word is wrong; nothing was read or written: status 2.
+    /// An argument is invalid; nothing was read or written: status 2.
     Usage(CutOptionsFault),
 }
 
-/// A recorder of the channel that the options ask for.
+/// Creates a recorder of the channel that the options ask for.
 fn make_recorder(alloc: Global, options: &CutOptions<'_>) -> Result<Recorder, AllocError>
     ensures { IfOk result (λ recorder. recorder ≡ opening_of options.now) }
 {
@@ -79,7 +81,7 @@ fn list_stream<R: Read>(
     }
 }
 
-/// Writes what was listed, and answers `end`, or that a write failed.
+/// Writes the listing, and returns `end`, or that a write failed.
 fn write_listing<W: Write>(output: &mut Counted<W>, text: &[u8], end: CutEnd) -> CutEnd
     ensures writes { RelatesOutput W.contents output.old output.new (λ held contents. Prints held text.now contents end) result }
     ensures counts { CountsPrint end result (failures_of output.old) (failures_of output.new) }
@@ -91,7 +93,7 @@ fn write_listing<W: Write>(output: &mut Counted<W>, text: &[u8], end: CutEnd) ->
     }
 }
 
-/// Reads a stream and writes what is listed of it, which is whole before the first write.
+/// Reads a stream and writes its listing, which is complete before the first write.
 fn cut_stream<R: Read, W: Write>(
     alloc: Global,
     options: &CutOptions<'_>,
@@ -109,15 +111,14 @@ fn cut_stream<R: Read, W: Write>(
     }
 }
 
-/// Does what the words after `cut` ask for: reads a stream of one rendition, fragmented MP4 in pieces of any lengths, and
-/// writes its playlist (RFC 8216 section 4) or the certificate of its least plan.
+/// Runs `cut`: reads a stream of one rendition, fragmented MP4 in pieces of any lengths, and writes its playlist (RFC 8216 section 4)
+/// or the certificate of its least plan.
 ///
-/// The words are those behind `cut`, each as the system gave it; a wrong one ends with `Usage` before anything is read or
-/// written. Without a preferred length each place begins a segment; with one the plan is least, and `NoCut`
-/// tells that there is none. Reading ends at the reader's end, a failed call or the first refusal
-/// in the stream's order; at the end stands `Truncated` before `NoInit` before `LedgerFull` before
-/// `NoPlace` before `ProgrammeTooLong` before `NotAllowed`. Nothing is written before the whole
-/// text is there. `Memory` is answered only where memory was refused.
+/// The arguments are those after `cut`, as the system passed them; an invalid one ends in `Usage` before anything is read or written.
+/// Without a preferred length each place begins a segment; with one the plan is least, and `NoCut` means that there is none. Reading
+/// ends at the end of the input, a failed read or the first refusal in the stream's order; at the end, the order is `Truncated`,
+/// `NoInit`, `LedgerFull`, `NoPlace`, `ProgrammeTooLong`, `NotAllowed`. Nothing is written before the whole text is complete.
+/// `Memory` is returned only if an allocation failed.
 pub fn run_cut<'a, S: AsStr, R: Read, W: Write>(
     alloc: Global,
     arguments: &'a [S],

@@ -1,4 +1,4 @@
-//! The line that is said of a media playlist.
+//! The line about a media playlist.
 ghost use Rattle.std.specs.Prelude.{◌≡◌, ◌+◌, ◌≤◌, ◌++◌, [], ◌∷◌, Ok, Err, OnOk, IfOk};
 ghost use Rattle.arrayvec.specs.ArrayString.{array_string_len};
 ghost use Rattle.hls_m3u8.specs.Playlist.{playlist_of};
@@ -13,10 +13,10 @@ use hls_m3u8::{ListFault, MediaPlaylist, MediaSegment, PlaylistKind};
 use hls_time::write_seconds;
 use std::alloc::{AllocError, Global};
 
-/// The longest time that is told, in microseconds.
+/// The longest time that is printed, in microseconds.
 const LONGEST_US: u64 = (1 << 53) - 1;
 
-/// The segments' lengths together in microseconds, or the longest time that is told.
+/// Returns the total length of the segments in microseconds, capped at the longest time that is printed.
 fn total_us(segments: &[MediaSegment]) -> u64
     ensures { result ≡ total_us segments.now }
 {
@@ -27,16 +27,16 @@ fn total_us(segments: &[MediaSegment]) -> u64
     total
 }
 
-/// Adds a label and a number.
+/// Appends a label and a number.
 fn push_field(out: &mut Vec<u8>, label: &[u8], number: u64) -> Result<(), AllocError>
     ensures { OnOk result (out.new.items ≡ out.old.items ++ field label.now number) }
 {
     out.extend_from_slice(label)?;
-    out.extend_from_slice(itoa::Buffer::new().format(number).as_bytes())?;
+    hls_text::push_number(out, number)?;
     Ok(())
 }
 
-/// Adds a time in seconds.
+/// Appends a time in seconds.
 fn push_seconds(out: &mut Vec<u8>, us: u64) -> Result<(), AllocError>
     requires { us ≤ longest_us }
     ensures { OnOk result (out.new.items ≡ out.old.items ++ seconds_text us) }
@@ -47,14 +47,14 @@ fn push_seconds(out: &mut Vec<u8>, us: u64) -> Result<(), AllocError>
     Ok(())
 }
 
-/// Adds how many segments there are.
+/// Appends the number of segments.
 fn push_count(out: &mut Vec<u8>, segments: &[MediaSegment]) -> Result<(), AllocError>
     ensures { OnOk result (out.new.items ≡ out.old.items ++ count_words segments.now) }
 {
     push_field(out, b"media playlist: ", segments.len() as u64)
 }
 
-/// Adds how long they are.
+/// Appends the total length.
 fn push_length(out: &mut Vec<u8>, us: u64) -> Result<(), AllocError>
     requires { us ≤ longest_us }
     ensures { OnOk result (out.new.items ≡ out.old.items ++ length_words us) }
@@ -64,7 +64,7 @@ fn push_length(out: &mut Vec<u8>, us: u64) -> Result<(), AllocError>
     Ok(())
 }
 
-/// Adds how many segments there are, and how long they are.
+/// Appends the number of segments and their total length.
 fn push_extent(out: &mut Vec<u8>, segments: &[MediaSegment]) -> Result<(), AllocError>
     ensures { OnOk result (out.new.items ≡ out.old.items ++ extent segments.now) }
 {
@@ -74,7 +74,7 @@ fn push_extent(out: &mut Vec<u8>, segments: &[MediaSegment]) -> Result<(), Alloc
     Ok(())
 }
 
-/// Adds the target duration and the version.
+/// Appends the target duration and the version.
 fn push_header(out: &mut Vec<u8>, list: &MediaPlaylist) -> Result<(), AllocError>
     ensures { OnOk result (out.new.items ≡ out.old.items ++ header (playlist_of list.now)) }
 {
@@ -83,7 +83,7 @@ fn push_header(out: &mut Vec<u8>, list: &MediaPlaylist) -> Result<(), AllocError
     Ok(())
 }
 
-/// Adds the two sequence numbers.
+/// Appends the two sequence numbers.
 fn push_sequences(out: &mut Vec<u8>, list: &MediaPlaylist) -> Result<(), AllocError>
     ensures { OnOk result (out.new.items ≡ out.old.items ++ sequences (playlist_of list.now)) }
 {
@@ -96,7 +96,7 @@ fn push_sequences(out: &mut Vec<u8>, list: &MediaPlaylist) -> Result<(), AllocEr
     Ok(())
 }
 
-/// Adds the four numbers of a list.
+/// Appends the four numbers of a playlist.
 fn push_numbers(out: &mut Vec<u8>, list: &MediaPlaylist) -> Result<(), AllocError>
     ensures { OnOk result (out.new.items ≡ out.old.items ++ (header (playlist_of list.now) ++ sequences (playlist_of list.now))) }
 {
@@ -105,7 +105,7 @@ fn push_numbers(out: &mut Vec<u8>, list: &MediaPlaylist) -> Result<(), AllocErro
     Ok(())
 }
 
-/// Adds what kind of list it is.
+/// Appends the playlist's type.
 fn push_kind(out: &mut Vec<u8>, kind: Option<PlaylistKind>) -> Result<(), AllocError>
     ensures { OnOk result (out.new.items ≡ out.old.items ++ kind_words kind) }
 {
@@ -116,7 +116,7 @@ fn push_kind(out: &mut Vec<u8>, kind: Option<PlaylistKind>) -> Result<(), AllocE
     }
 }
 
-/// Adds whether the list has ended.
+/// Appends whether the playlist has ended.
 fn push_end(out: &mut Vec<u8>, ended: bool) -> Result<(), AllocError>
     ensures { OnOk result (out.new.items ≡ out.old.items ++ end_words ended) }
 {
@@ -126,7 +126,7 @@ fn push_end(out: &mut Vec<u8>, ended: bool) -> Result<(), AllocError>
     Ok(())
 }
 
-/// The line of a list.
+/// Writes the line of a playlist.
 pub fn write_list_line(alloc: Global, list: &MediaPlaylist) -> Result<Vec<u8>, AllocError>
     ensures { IfOk result (λ line. line.items ≡ lint_line (Ok (playlist_of list.now))) }
 {
@@ -139,7 +139,7 @@ pub fn write_list_line(alloc: Global, list: &MediaPlaylist) -> Result<Vec<u8>, A
     Ok(out)
 }
 
-/// Adds the number of the line that is refused, with a space before it.
+/// Appends the number of the refused line, with a space before it.
 fn push_fault_line_number(line: &mut ArrayString<LINE_LEN>, fault: ListFault)
     requires { array_string_len line.old + 21 ≤ LINE_LEN }
     ensures bytes { line.new.bytes ≡ line.old.bytes ++ spaced_numbers (fault_line_numbers fault) }
@@ -155,8 +155,8 @@ fn push_fault_line_number(line: &mut ArrayString<LINE_LEN>, fault: ListFault)
     }
 }
 
-/// The line of a refusal: `refused`, the fault's name, and the number of the line in the playlist's text where it has one.
-/// It takes no memory.
+/// Writes the line of a refusal: `refused`, the fault's name, and the number of the line in the playlist's text, if there is one.
+/// Doesn't allocate.
 pub fn write_fault_line(fault: ListFault) -> ArrayString<LINE_LEN>
     ensures { result.bytes ≡ lint_line (Err fault) }
 {

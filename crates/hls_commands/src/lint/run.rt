@@ -1,4 +1,4 @@
-//! `lint`, from the bytes in to the bytes out.
+//! `lint`, from its input to its output.
 ghost use Rattle.hls_io.specs.Counted.{failures_of};
 ghost use Rattle.hls_io.specs.Streams.{RelatesInput, RelatesInputAndOutput, RelatesOutput};
 ghost use Rattle.hls_commands.specs.LintParts.{CountsReadFailures, CountsText, IsLine, PrintsText, ReportsLine, lint_end_of, line_bytes};
@@ -11,16 +11,15 @@ use hls_m3u8::{ListFault, TEXT_LIMIT, read_media};
 use std::alloc::Global;
 use std::io::{Read, Write};
 
-/// How many bytes of a text are held: one more than the most that `read_media` takes, so that a longer text is refused for
-/// its length.
+/// How many bytes of a text are held: one more than `read_media` accepts, so that a longer text is refused for its length.
 const HELD_BYTES: usize = TEXT_LIMIT + 1;
 
-/// How `lint` ended.
+/// The result of `lint`.
 #[derive(Clone, Copy)]
 pub enum LintEnd {
-    /// The text is a media playlist, and what it is was written: status 0.
+    /// The text is a media playlist, and its summary was written: status 0.
     Readable,
-    /// The text was refused, and why was written: status 1.
+    /// The text was refused, and the reason was written: status 1.
     Refused,
     /// A read failed, and nothing was written: status 1.
     ReadFailed,
@@ -28,7 +27,7 @@ pub enum LintEnd {
     WriteFailed,
 }
 
-/// The line of a text, or why it is refused.
+/// Returns the line of a text, or why it is refused.
 fn lint_text(alloc: Global, text: &[u8]) -> Result<Vec<u8>, ListFault>
     ensures { IsLine text.now result }
 {
@@ -38,7 +37,7 @@ fn lint_text(alloc: Global, text: &[u8]) -> Result<Vec<u8>, ListFault>
     }
 }
 
-/// The line of the whole of a stream; None where a read failed.
+/// Returns the line of a whole stream; `None` if a read failed.
 fn lint_stream<R: Read>(alloc: Global, input: &mut Counted<R>) -> Option<Result<Vec<u8>, ListFault>>
     ensures reports { RelatesInput R.remaining input.old input.new ReportsLine result }
     ensures counts { CountsReadFailures result (failures_of input.old) (failures_of input.new) }
@@ -50,7 +49,7 @@ fn lint_stream<R: Read>(alloc: Global, input: &mut Counted<R>) -> Option<Result<
     }
 }
 
-/// Writes a text, and ends as `done` says unless a write failed.
+/// Writes a text, and returns `done` unless a write failed.
 fn print_text<W: Write>(output: &mut Counted<W>, text: &[u8], done: LintEnd) -> LintEnd
     ensures prints { RelatesOutput W.contents output.old output.new (PrintsText text.now done) result }
     ensures counts { CountsText done result (failures_of output.old) (failures_of output.new) }
@@ -62,7 +61,7 @@ fn print_text<W: Write>(output: &mut Counted<W>, text: &[u8], done: LintEnd) -> 
     }
 }
 
-/// Writes a line, which is whole before the first write.
+/// Writes a line, which is complete before the first write.
 fn print_line<W: Write>(output: &mut Counted<W>, line: Result<Vec<u8>, ListFault>) -> LintEnd
     ensures prints { RelatesOutput W.contents output.old output.new (PrintsText (line_bytes line) (lint_end_of line)) result }
     ensures counts { CountsText (lint_end_of line) result (failures_of output.old) (failures_of output.new) }
@@ -76,13 +75,12 @@ fn print_line<W: Write>(output: &mut Counted<W>, line: Result<Vec<u8>, ListFault
     }
 }
 
-/// Reads a media playlist's text to the reader's end, and writes one line: what the list is where the text is readable as one
-/// (RFC 8216 section 4), else `refused`, the name of its first fault, and the number of the line that has it where there is
-/// one.
+/// Reads a media playlist's text to the end of the input, and writes one line: its summary if the text is readable as a media
+/// playlist (RFC 8216 section 4), else `refused`, the name of its first fault, and the number of the faulty line, if there is one.
 ///
-/// No more of the text is held than the reader of playlists takes, and one byte. Nothing is written before the whole line is
-/// there. `refused Memory` is the answer only where memory was refused, and may then come before the reader's end; writing
-/// it takes no memory.
+/// At most one byte more of the text is held than the reader of playlists accepts. Nothing is written before the whole line is
+/// complete. `refused Memory` is the answer only if an allocation failed, possibly before the end of the input; writing it doesn't
+/// allocate.
 pub fn run_lint<R: Read, W: Write>(
     alloc: Global,
     input: &mut Counted<R>,

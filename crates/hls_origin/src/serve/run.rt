@@ -1,8 +1,8 @@
-//! `serve`, from its words to its end.
+//! `serve`, from its arguments to its end.
 ghost use Rattle.std.specs.Prelude.{map};
 ghost use Rattle.hls_origin.specs.ServeRun.{EndsServe};
 
-use hls_house::{OperatorLog, log_listening};
+use hls_housekeeper::{OperatorLog, log_listening};
 use hls_server::{log_start, run_server};
 use hls_settings::{ListenAddress, SettingsFault, read_settings};
 use std::alloc::Global;
@@ -14,16 +14,16 @@ use std::sync::Wait;
 use std::thread::Threads;
 use std::time::Clock;
 
-/// How `serve` ended. While it serves it doesn't end, but by a signal.
+/// The result of `serve`. While it serves, only a signal ends it.
 #[derive(Clone, Copy, Drop)]
 pub enum ServeEnd {
     /// The server has ended: status 0.
     Done,
-    /// A word is wrong, and nothing was started: status 2.
+    /// An argument is invalid, and nothing was started: status 2.
     Usage(SettingsFault),
-    /// The address can't be listened on: status 1.
+    /// Listening on the address failed: status 1.
     BindFailed,
-    /// Memory was wanted: status 1.
+    /// Out of memory: status 1.
     Memory,
 }
 
@@ -32,7 +32,7 @@ fn socket_address(address: ListenAddress) -> SocketAddrV4 {
     SocketAddrV4::new(ip, address.port)
 }
 
-/// Reads the words, listens, and serves. It says on standard error where it listens, and what comes of each encoder's body.
+/// Reads the arguments, listens, and serves. Logs to standard error where it listens, and the result of each encoder's body.
 pub fn run_serve<'a, S: AsStr, R>(rt: &R, alloc: Global, arguments: &'a [S]) -> ServeEnd
 where
     R: Net<Listener = TcpListener, Stream = TcpStream>

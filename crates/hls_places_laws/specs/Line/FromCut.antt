@@ -1,6 +1,6 @@
--- The live line of places that are counted from one of its cuts on.
+-- The live line of places that are counted from one of its cuts.
 use Rattle.std.specs.Prelude.{◌≡◌, ℕ, zero, suc, ◌+◌, ◌≤◌, false, List, [], ◌∷◌, length, map, drop, Some, slice_get}
-use Rattle.hls_check_laws.specs.declared.spot.Spot.{Spot}
+use Rattle.hls_check_tables.specs.declared.spot.Spot.{Spot}
 use Rattle.hls_places_laws.specs.declared.place.Place.{Place}
 use Rattle.hls_places_laws.specs.Sources.{Source, AreSources}
 use Rattle.hls_places_laws.specs.Places.{places_of}
@@ -13,12 +13,12 @@ use Rattle.hls_places_laws.specs.Line.Lengths.{marks_in}
 use Rattle.hls_places_laws.specs.Line.Live.{live_of, front_of}
 use Rattle.hls_places_laws.specs.Line.Origins.{segments_over}
 
--- a segment between places that are counted from a cut on
+-- a segment between places that are counted from a cut
 abbrev pub segment_since : List Spot → LiveSegment → LiveSegment
 segment_since cut segment =
     record { from = place_since cut segment.from; to = place_since cut segment.to; mark = segment.mark }
 
--- no segment stands before the first one, so it has no mark
+-- no segment precedes the first one, so it has no mark
 abbrev pub without_discontinuity : LiveSegment → LiveSegment
 without_discontinuity segment = record { from = segment.from; to = segment.to; mark = false }
 
@@ -26,12 +26,12 @@ abbrev pub as_first : List LiveSegment → List LiveSegment
 as_first [] = []
 as_first (segment ∷ rest) = without_discontinuity segment ∷ rest
 
--- the segments from a cut on, as a line has them that begins there
+-- the segments from a cut, as in a line that begins there
 abbrev pub segments_since : List Spot → List LiveSegment → List LiveSegment
 segments_since cut segments = map (segment_since cut) (as_first segments)
 
--- the place where the line begins without its first segments is one of the places told; the line of the places from there on
--- has the segments from there on, none of whose ends is behind it
+-- the line without its first segments begins at one of the places; the line of the places from there has the segments from there, none of
+-- whose ends precedes it
 pub record ContinuesFrom (line_goal : LineGoal) (places : List Place) (removed : ℕ) (p : Place) : Type 0 where
   pub number : ℕ
   pub there : slice_get places number ≡ Some p
@@ -45,34 +45,34 @@ LineFromCutAgrees = (line_goal : LineGoal) (places : List Place) (removed : ℕ)
     removed ≤ length (line_of line_goal places).segments → front_of (live_of line_goal places removed) ≡ Some p →
     ContinuesFrom line_goal places removed p
 
--- the segments that another origin has, which was begun at a cut of this one's line: rendition by rendition its units begin
--- with the unit at the cut, and as far as both have come they are the same
+-- the renditions of another origin, which was begun at a cut of this one's line: in each rendition its units begin with the unit at the
+-- cut, and agree with this one's as far as both have come
 abbrev pub IsBegunAt : Place → List Source → List Source → Type 0
 IsBegunAt cut a b = ShareHistory (sources_since cut.spots a) b
 
--- segment number n from the cut on, as the other origin has it
+-- segment n after the cut, as the other origin has it
 abbrev pub segment_counted_from : Place → ℕ → LiveSegment → LiveSegment
 segment_counted_from cut zero segment = segment_since cut.spots (without_discontinuity segment)
 segment_counted_from cut (suc n) segment = segment_since cut.spots segment
 
--- the place where a line begins without so many segments, and units go on behind it
+-- the place where the line without its first `removed` segments begins; units follow it
 pub record IsCutOf (line_goal : LineGoal) (sources : List Source) (removed : ℕ) (p : Place) : Type 0 where
   pub within : removed ≤ length (segments_over line_goal sources)
   pub front : front_of (live_of line_goal (places_of sources) removed) ≡ Some p
   pub not_ended : p.closing ≡ false
 
--- a segment behind the cut, and the other origin's
+-- a segment after the cut, and the other origin's
 pub record IsSameFrom (cut : Place) (n : ℕ) (x y : LiveSegment) : Type 0 where
   pub same : y ≡ segment_counted_from cut n x
   pub after_cut : IsPlaceFrom cut x.from × IsPlaceFrom cut x.to
 
--- segments of the same place behind the cut are the same
+-- segments with the same number after the cut are the same
 abbrev pub SegmentsFromCutAgree : Type 0
 SegmentsFromCutAgree = (line_goal : LineGoal) (a b : List Source) (removed : ℕ) (cut : Place) → AreSources a → AreSources b → IsCutOf line_goal a removed cut →
     IsBegunAt cut a b → (n : ℕ) (x y : LiveSegment) → slice_get (segments_over line_goal a) (removed + n) ≡ Some x →
     slice_get (segments_over line_goal b) n ≡ Some y → IsSameFrom cut n x y
 
--- and so are the marks, but for that of the first one
+-- the marks agree as well, except for the first segment's
 abbrev pub DiscontinuitiesFromCutAgree : Type 0
 DiscontinuitiesFromCutAgree = (line_goal : LineGoal) (a b : List Source) (removed : ℕ) (cut : Place) → AreSources a → AreSources b → IsCutOf line_goal a removed cut →
     IsBegunAt cut a b → (n : ℕ) → removed + suc n ≤ length (segments_over line_goal a) → suc n ≤ length (segments_over line_goal b) →

@@ -1,6 +1,6 @@
--- Where the ends of a live line's segments stand.
+-- Bounds of the ends of a live line's segments.
 use Rattle.std.specs.Prelude.{◌≡◌, ℕ, ◌≤◌, ◌<◌, List, length, Some, slice_get}
-use Rattle.hls_check_laws.specs.Tables.{spot_in}
+use Rattle.hls_check_tables.specs.Tables.{spot_in}
 use Rattle.hls_places_laws.specs.declared.place.Place.{Place}
 use Rattle.hls_places_laws.specs.Sources.{Source, source_at}
 use Rattle.hls_places_laws.specs.Places.{places_of}
@@ -13,7 +13,7 @@ pub record IsOneOf (places : List Place) (p : Place) : Type 0 where
   pub number : ℕ
   pub there : slice_get places number ≡ Some p
 
--- the place where the line begins is one of the places that were told
+-- the place where the line begins is one of the places that were added
 abbrev pub FrontIsAPlace : Type 0
 FrontIsAPlace = (line_goal : LineGoal) (places : List Place) (removed : ℕ) (p : Place) →
     front_of (live_of line_goal places removed) ≡ Some p → IsOneOf places p
@@ -22,7 +22,7 @@ FrontIsAPlace = (line_goal : LineGoal) (places : List Place) (removed : ℕ) (p 
 abbrev pub SegmentsAreFewerThanPlaces : Type 0
 SegmentsAreFewerThanPlaces = (line_goal : LineGoal) (places : List Place) → length (line_of line_goal places).segments ≤ length places
 
--- the units that the front place's spots begin with are there, or are the next to come
+-- the front place's spots begin with units that exist, or that come next
 abbrev pub FrontUnitsExist : Type 0
 FrontUnitsExist = (line_goal : LineGoal) (sources : List Source) (removed : ℕ) (p : Place) →
     front_of (live_of line_goal (places_of sources) removed) ≡ Some p → (r : ℕ) → r < length sources →

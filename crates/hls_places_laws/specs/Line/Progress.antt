@@ -1,4 +1,4 @@
--- The live line as it is told one place after the other.
+-- The live line as places are added one at a time.
 use Rattle.std.specs.Prelude.{ℕ, ◌+◌, Bool, nat_lt, if◌then◌else◌, List, [], ◌∷◌, ◌++◌, length, drop, Option, None, Some}
 use Rattle.hls_places_laws.specs.declared.place.Place.{Place}
 use Rattle.hls_places_laws.specs.declared.line.goal.LineGoal.{LineGoal}
@@ -12,22 +12,22 @@ pub record LineProgress : Type 0 where
   pub line : Line
   pub best : Option Place
 
--- nothing was told yet
+-- no place was added yet
 abbrev pub no_progress : LineProgress
 no_progress = record { line = record { segments = []; segment_start = None }; best = None }
 
 abbrev pub progress_with : List LiveSegment → SegmentStart → Option Place → LineProgress
 progress_with segments o best = record { line = record { segments = segments; segment_start = Some o }; best = best }
 
--- a segment stands before the next one: one that is kept, or one of those that were removed from the front
+-- a segment precedes the next one: a kept one, or one that was removed from the front
 abbrev pub has_earlier : ℕ → List LiveSegment → Bool
 has_earlier removed segments = nat_lt 0 (removed + length segments)
 
 abbrev pub closed_with : ℕ → List LiveSegment → SegmentStart → Place → List LiveSegment
 closed_with removed segments o to = segments ++ segment_to (has_earlier removed segments) o to ∷ []
 
--- a place that isn't past the open one is skipped; else it closes the segment, or is the best so far, or is out of
--- reach, which leaves `stopped`
+-- a place that isn't later than the open one is skipped; otherwise it closes the segment, becomes the best place, or is out of reach, in
+-- which case the result is `stopped`
 unfoldable pub progress_to : LineGoal → ℕ → List LiveSegment → SegmentStart → Option Place → Place → LineProgress → LineProgress
 progress_to line_goal removed segments o best q stopped =
     (if is_later_place o.place q then
@@ -35,7 +35,7 @@ progress_to line_goal removed segments o best q stopped =
     (if is_long_enough line_goal o.place q then progress_with (closed_with removed segments o q) (start_at q) None else progress_with segments o (Some q))
     else stopped) else progress_with segments o best)
 
--- a place out of reach: the segment to the best place is closed and the place tried once more, or the line begins anew
+-- a place out of reach: the segment to the best place is closed and the place is tried again, or the line restarts
 unfoldable pub progress_restarted_at : LineGoal → ℕ → List LiveSegment → SegmentStart → Option Place → Place → LineProgress
 progress_restarted_at line_goal removed segments o None q = progress_with segments (restart_at q) None
 progress_restarted_at line_goal removed segments o (Some b) q =
@@ -47,11 +47,11 @@ progress_from line_goal removed segments None best q = progress_with segments (s
 progress_from line_goal removed segments (Some o) best q =
     progress_to line_goal removed segments o best q (progress_restarted_at line_goal removed segments o best q)
 
--- one more place
+-- after one more place
 abbrev pub progress_after : LineGoal → ℕ → LineProgress → Place → LineProgress
 progress_after line_goal removed t q = progress_from line_goal removed t.line.segments t.line.segment_start t.best q
 
--- and all of a list
+-- after a list of places
 unfoldable pub advanced_through : LineGoal → ℕ → LineProgress → List Place → LineProgress
 advanced_through line_goal removed t [] = t
 advanced_through line_goal removed t (q ∷ rest) = advanced_through line_goal removed (progress_after line_goal removed t q) rest

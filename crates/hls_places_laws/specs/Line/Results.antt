@@ -1,4 +1,4 @@
--- What a call on the live line may answer: what is defined, or that a growth of memory was refused where that is no fault.
+-- The result of a call on the live line: as defined, or an allocation failure where the definition has no fault.
 use Rattle.std.specs.Prelude.{◌≡◌, true, Result, Ok, Err, is_ok}
 use Rattle.hls_places_laws.specs.declared.fault.LineFault.{LineFault}
 use Rattle.hls_places_laws.specs.declared.fault.LineFault.TheVariants.{TooMany, TooShort, Ended, Memory}

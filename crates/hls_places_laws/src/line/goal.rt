@@ -1,11 +1,11 @@
-//! By what the live line is cut.
+//! The parameters of the live line.
 
-/// What the live line is cut by.
+/// The parameters by which the live line is cut.
 #[derive(Clone, Copy)]
 pub struct LineGoal {
     /// The target duration of a playlist (RFC 8216 section 4.3.3.1), in seconds.
     pub target: u64,
 
-    /// The length in rendition 0, in microseconds, at which a segment needn't go on.
+    /// The length in rendition 0, in microseconds, from which a segment is long enough.
     pub preferred: u64,
 }

@@ -1,21 +1,21 @@
-//! Where the live line goes on.
+//! The start of the next segment of the live line.
 
 ghost use Rattle.std.specs.Prelude.{◌≡◌, IfOk};
 
 use crate::place::Place;
 use std::alloc::AllocError;
 
-/// Where the live line goes on: the start of the segment that is to come.
+/// The start of the next segment of the live line.
 #[derive(Drop)]
 pub struct SegmentStart {
     pub place: Place,
 
-    /// Whether the line was begun anew here, since no segment reached this place.
+    /// Whether the line was restarted here, because no segment can reach this place.
     pub restarted: bool,
 }
 
 impl SegmentStart {
-    /// The same opening once more, over the same memory.
+    /// Another handle to the same start; the memory is shared.
     pub fn share(&self) -> Result<SegmentStart, AllocError>
         ensures { IfOk result (λ opening. opening ≡ self.now) }
     {

@@ -1,4 +1,4 @@
-//! The bytes of a recording, from a place to the end of its init section or unit.
+//! The bytes of a recording from an offset to the end of its init section or unit.
 ghost use Rattle.std.specs.Prelude.{◌≡◌, ◌+◌, ◌<◌, ◌≤◌, length, Some};
 ghost use Rattle.std.specs.Option.{option_copied};
 ghost use Rattle.hls_record.specs.RecordingData.{offset_at, total_of, piece_at};
@@ -9,9 +9,9 @@ use crate::recorded_unit::SearchKey;
 use crate::unit_search::first_from;
 
 impl Recording {
-    /// The bytes from byte `at` of the resource to the end of the init section or the unit in which it stands.
+    /// The bytes from byte `at` of the resource to the end of the init section or unit that contains it.
     ///
-    /// None where that byte is trimmed, or `at` is the total or above. Found in logarithmic time.
+    /// None if that byte is trimmed, or `at` is at least the total. Takes logarithmic time.
     pub fn piece(&self, at: u64) -> Option<&[u8]>
         ensures { option_copied result ≡ piece_at self.now at }
     {
@@ -29,7 +29,7 @@ impl Recording {
         Some(self.piece_in_unit(n, at))
     }
 
-    /// The number of the kept unit in which byte `at` stands. Found in logarithmic time.
+    /// The number of the kept unit that contains byte `at`. Takes logarithmic time.
     pub fn find_unit(&self, at: u64) -> u64
         requires low { offset_at self.now self.now.floor ≤ at }
         requires high { at < total_of self.now }
@@ -38,7 +38,7 @@ impl Recording {
         first_from(&self.items, SearchKey::Offset, self.units.first(), at + 1) - 1
     }
 
-    // The bytes from byte `at`, which stands in the kept unit `n`, to the end of that unit.
+    // The bytes from byte `at`, which is in the kept unit `n`, to the end of that unit.
     fn piece_in_unit(&self, n: u64, at: u64) -> &[u8]
         requires { IsInUnit self.now at n }
         ensures { Some result.now ≡ piece_at self.now at }

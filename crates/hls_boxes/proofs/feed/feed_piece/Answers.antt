@@ -1,6 +1,6 @@
 use Rattle.std.proofs.Common.{ℕ, ◌<◌, Option, Some, None, List, [], ◌++◌, length, ◌∙◌, append-nil, arith, refl, subst, sym}
 use Rattle.std.proofs.lemmas.List.{take_rest}
-use Rattle.hls_boxes_laws.specs.declared.fault.BoxFault.{BoxFault}
+use Rattle.hls_boxes.specs.declared.fault.BoxFault.{BoxFault}
 use Rattle.hls_boxes.specs.declared.pending_part.PendingPart.{PendingPart}
 use Rattle.hls_boxes.specs.Feed.{AppendsPiece}
 use Rattle.hls_boxes.proofs.IntakeLaws.{adds, any_error, at_box_end-grown, not_empty, piece-is, takes-more, takes-nothing, takes-rest, wants-some}

@@ -1,7 +1,7 @@
 use Rattle.std.proofs.Common.{◌≡◌, ◌∙◌, ap, map}
 use Rattle.hls_m3u8.specs.Playlist.{playlist_of}
 use Rattle.hls_plan.specs.Planned.{certificate_of}
-use Rattle.hls_catchup_laws.specs.JobPlaylists.{job_lists}
+use Rattle.hls_playlists_laws.specs.JobPlaylists.{job_lists}
 use Rattle.hls_catchup.proofs.Right.{right_cut, right_none}
 use Rattle.hls_catchup.proofs.cut.cut_programme.Goals as goal
 

@@ -1,6 +1,6 @@
 use Rattle.std.proofs.Common.{◌≡◌, ◌-◌, List, length, Some, ap, sym, ◌∙◌}
-use Rattle.hls_check_laws.specs.declared.spot.Spot.{Spot}
-use Rattle.hls_check_laws.specs.Tables.{Table, spot_in, place_at}
+use Rattle.hls_check_tables.specs.declared.spot.Spot.{Spot}
+use Rattle.hls_check_tables.specs.Tables.{Table, spot_in, place_at}
 use Rattle.hls_core.specs.Getters.{recording_of}
 use Rattle.hls_catchup.proofs.Spans.{span_is}
 use Rattle.hls_catchup.proofs.reply_units.find_reply_units.Goals as goal

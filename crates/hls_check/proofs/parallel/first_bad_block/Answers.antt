@@ -1,6 +1,6 @@
 use Rattle.std.proofs.Common.{◌*◌, ◌<◌, length, ap, ◌∙◌}
 use Rattle.rayon.proofs.ToStd.{nat_range-All}
-use Rattle.hls_check_laws.specs.Certificates.{claim_data}
+use Rattle.hls_check_tables.specs.Certificates.{claim_data}
 use Rattle.hls_check.proofs.FirstBlocks.{first_told}
 use Rattle.hls_check.proofs.parallel.first_bad_block.Goals as goal
 

@@ -1,6 +1,6 @@
 use Rattle.std.proofs.Common.{arith, inl, inr}
 use Rattle.std.proofs.lemmas.Bool.{cases_lt}
-use Rattle.hls_check_laws.specs.Certificates.{claim_data}
+use Rattle.hls_check_tables.specs.Certificates.{claim_data}
 use Rattle.hls_check.proofs.FirstBlocks.{first_of_bad, all_of_blocks}
 use Rattle.hls_check.proofs.parallel.first_broken_step_in_parallel.Goals as goal
 

@@ -1,7 +1,7 @@
 use Rattle.std.proofs.Common.{◌≡◌, ◌-◌, ◌*◌, ◌≤◌, take, slice_index}
-use Rattle.hls_check_laws.specs.Plans.{plan_cost}
+use Rattle.hls_check_tables.specs.Plans.{plan_cost}
 use Rattle.hls_check.proofs.plans.plan_cost.Given as goal
-use Rattle.hls_check_laws.specs.Steps.{cost_limit}
+use Rattle.hls_check_tables.specs.Steps.{cost_limit}
 
 abbrev pub invariant-loop-k : goal.invariant-loop-k
 invariant-loop-k l = record {

@@ -1,4 +1,4 @@
-use Rattle.hls_check_laws.specs.Certificates.{claim_data}
+use Rattle.hls_check_tables.specs.Certificates.{claim_data}
 use Rattle.hls_check.proofs.Seen.{whole_column}
 use Rattle.hls_check.proofs.rows.column_fault.Goals as goal
 

@@ -1,5 +1,5 @@
 use Rattle.std.proofs.Common.{refl, arith}
-use Rattle.hls_check_laws.specs.Certificates.{claim_data}
+use Rattle.hls_check_tables.specs.Certificates.{claim_data}
 use Rattle.hls_check.specs.Rows.{StepKeepsPrices}
 use Rattle.hls_check.proofs.Seen.{no_columns, more_columns, cut_at, found_of_rows}
 use Rattle.hls_check.proofs.rows.first_broken_in_block.Goals as goal

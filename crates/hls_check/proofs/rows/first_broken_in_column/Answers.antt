@@ -1,5 +1,5 @@
 use Rattle.std.proofs.Common.{arith}
-use Rattle.hls_check_laws.specs.Certificates.{claim_data}
+use Rattle.hls_check_tables.specs.Certificates.{claim_data}
 use Rattle.hls_check.specs.Rows.{StepKeepsPrices}
 use Rattle.hls_check.proofs.Seen.{more_places}
 use Rattle.hls_check.proofs.rows.first_broken_in_column.Goals as goal

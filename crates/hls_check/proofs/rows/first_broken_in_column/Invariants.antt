@@ -1,4 +1,4 @@
-use Rattle.hls_check_laws.specs.Certificates.{claim_data}
+use Rattle.hls_check_tables.specs.Certificates.{claim_data}
 use Rattle.hls_check.specs.Rows.{ColumnKeepsPrices}
 use Rattle.hls_check.proofs.rows.first_broken_in_column.Given as goal
 

@@ -1,5 +1,5 @@
 use Rattle.std.proofs.Common.{◌+◌, arith}
-use Rattle.hls_check_laws.specs.Certificates.{claim_data}
+use Rattle.hls_check_tables.specs.Certificates.{claim_data}
 use Rattle.hls_check.proofs.Blocks.{first_of_all}
 use Rattle.hls_check.proofs.Seen.{more_rows, all_rows}
 use Rattle.hls_check.proofs.rows.first_broken_step.Goals as goal

@@ -1,4 +1,4 @@
-use Rattle.hls_check_laws.specs.Certificates.{claim_data}
+use Rattle.hls_check_tables.specs.Certificates.{claim_data}
 use Rattle.hls_check.specs.Rows.{IsLowerBound}
 use Rattle.hls_check.proofs.rows.lower_bound_of.Given as goal
 

@@ -1,6 +1,6 @@
 use Rattle.std.proofs.Common.{ℕ, ◌<◌}
-use Rattle.hls_check_laws.specs.Tables.{spot_in, place_at}
-use Rattle.hls_check_laws.specs.Steps.{IsSpotStep}
+use Rattle.hls_check_tables.specs.Tables.{spot_in, place_at}
+use Rattle.hls_check_tables.specs.Steps.{IsSpotStep}
 use Rattle.hls_check.proofs.steps.first_refusing_rendition.Given as goal
 
 abbrev pub invariant-loop-r : goal.invariant-loop-r

@@ -3,7 +3,7 @@ use Rattle.std.specs.Prelude.{slice_get}
 use Rattle.hls_core_laws.specs.declared.rendition.Rendition.{Rendition}
 use Rattle.hls_core_laws.specs.Config.{IsRenditionAt}
 use Rattle.hls_core.proofs.config.first_bad_rendition.Given as goal
-use Rattle.hls_check_laws.specs.Tables.{rendition_limit}
+use Rattle.hls_check_tables.specs.Tables.{rendition_limit}
 
 abbrev pub invariant-loop-n : goal.invariant-loop-n
 invariant-loop-n l = record {

@@ -1,5 +1,5 @@
 use Rattle.std.proofs.Common.{◌≡◌, take}
-use Rattle.hls_http_laws.specs.Range.{capped_number}
+use Rattle.hls_http.specs.Range.{capped_number}
 use Rattle.hls_http.proofs.bounded_digits.parse_capped.Given as goal
 
 abbrev pub invariant-loop-digit : goal.invariant-loop-digit

@@ -1,7 +1,5 @@
-use Rattle.std.proofs.Common.{◌≡◌, ◌-◌, length, codes}
-use Rattle.std.specs.List.{list_any}
-use Rattle.hls_http_laws.specs.Fields.{has_word}
-use Rattle.hls_http.specs.Values.{values_from}
+use Rattle.std.{proofs.Common.{◌≡◌, ◌-◌, length, codes}, specs.List.list_any}
+use Rattle.hls_http.specs.{Fields.has_word, Values.values_from}
 use Rattle.hls_http.proofs.fields.closes_connection.Given as goal
 
 abbrev pub invariant-loop-next : goal.invariant-loop-next

@@ -1,6 +1,5 @@
-use Rattle.std.proofs.Common.{rules, tests}
-use Rattle.std.proofs.lemmas.Iterator.{Search.any_from_yields_List, Splits.YieldsList-from_slice_split}
-use Rattle.hls_http_laws.specs.Fields.{has_word, is_word}
+use Rattle.std.proofs.{Common.{rules, tests}, lemmas.Iterator.{Search.any_from_yields_List, Splits.YieldsList-from_slice_split}}
+use Rattle.hls_http.specs.Fields.{has_word, is_word}
 use Rattle.hls_http.proofs.fields.has_token.Goals as goal
 
 pub returns : goal.returns

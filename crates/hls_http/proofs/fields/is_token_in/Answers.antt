@@ -1,6 +1,4 @@
-use Rattle.std.proofs.Common.{◌≡◌, ◌∙◌, ap, refl, rules}
-use Rattle.std.specs.Str.{str_eq_ignore_ascii_case}
-use Rattle.std.proofs.lemmas.Str.Ascii.{trim_ascii_is}
+use Rattle.std.{proofs.{Common.{◌≡◌, ◌∙◌, ap, refl, rules}, lemmas.Str.Ascii.trim_ascii_is}, specs.Str.str_eq_ignore_ascii_case}
 use Rattle.hls_http.proofs.fields.is_token_in.Goals as goal
 
 pub returns : goal.returns

@@ -1,10 +1,8 @@
-use Rattle.std.proofs.Common.{◌≡◌, ◌-◌, Some, length, codes}
-use Rattle.std.specs.List.{list_all}
-use Rattle.hls_http_laws.specs.{Fields.length_of, Framing.is_length}
-use Rattle.hls_http.specs.Values.{values_from}
+use Rattle.std.{proofs.Common.{◌≡◌, ◌-◌, Some, length, codes}, specs.List.list_all}
+use Rattle.hls_http.specs.{Fields.length_of, Framing.is_length, Values.values_from}
 use Rattle.hls_http.proofs.fields.parse_equal_lengths.Given as goal
 
--- the values that were passed equal the first
+-- the values so far equal the first
 abbrev pub invariant-loop-next : goal.invariant-loop-next
 invariant-loop-next l = record {
   some : Some l.len ≡ length_of l.first;

@@ -1,5 +1,4 @@
-use Rattle.std.proofs.Common.{◌∙◌, ◌++◌, ℕ, List, arith, take, drop, ap}
-use Rattle.std.proofs.lemmas.List.{length-take-le}
+use Rattle.std.proofs.{Common.{◌∙◌, ◌++◌, ℕ, List, arith, take, drop, ap}, lemmas.List.length-take-le}
 use Rattle.hls_http.proofs.Buffers.{held_more}
 use Rattle.hls_http.proofs.input_buffer.read_after_unread.Goals as goal
 

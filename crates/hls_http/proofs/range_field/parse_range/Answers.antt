@@ -1,6 +1,5 @@
-use Rattle.std.proofs.Common.{◌∙◌, ◌+◌, ap, take}
-use Rattle.std.proofs.lemmas.List.{take_rest}
-use Rattle.hls_http_laws.specs.Range.{spec_around, range_of_value, by_texts, spec_of}
+use Rattle.std.proofs.{Common.{◌∙◌, ◌+◌, ap, take}, lemmas.List.take_rest}
+use Rattle.hls_http.specs.Range.{spec_around, range_of_value, by_texts, spec_of}
 use Rattle.hls_http.proofs.range_field.parse_range.Goals as goal
 
 pub returns-in_default-find_byte : goal.returns-in_default-find_byte

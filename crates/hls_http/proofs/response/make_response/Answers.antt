@@ -1,6 +1,5 @@
-use Rattle.std.proofs.Common.{◌∙◌, ◌++◌, ℕ, List, [], Bool, length, append-nil, ap, sym}
-use Rattle.std.specs.Prelude.{cond}
-use Rattle.hls_http_laws.specs.ResponseText.{head_text_of}
+use Rattle.std.{proofs.Common.{◌∙◌, ◌++◌, ℕ, List, [], Bool, length, append-nil, ap, sym}, specs.Prelude.cond}
+use Rattle.hls_http.specs.ResponseText.{head_text_of}
 use Rattle.hls_http.proofs.response.make_response.Goals as goal
 
 pub returns-then-to_head : goal.returns-then-to_head

@@ -1,5 +1,5 @@
-use Rattle.std.proofs.Common.{◌≡◌, ◌∙◌, length, arith, refl}
-use Rattle.hls_io.proofs.WriteLaws.{empty_list, writes_part, writes_whole, writing_more}
+use Rattle.std.proofs.{Common.{◌≡◌, ◌∙◌, length, arith, refl}, lemmas.List.nil_from_length}
+use Rattle.hls_io.proofs.WriteLaws.{writes_part, writes_whole, writing_more}
 use Rattle.hls_io.proofs.write.write_whole.Goals as goal
 
 pub loop-rest-preserved : goal.loop-rest-preserved
@@ -14,4 +14,4 @@ returns-in-None-clause-writes g c = λ held known. writes_part held c.args.text.
 pub returns-clause-writes : goal.returns-clause-writes
 returns-clause-writes g c = λ held known.
     let none : length c.loop-rest.rest.now ≡ 0 = grind arith in
-    writes_whole held c.args.text.now c.loop-rest.rest.now _ (c.loop-rest.invariant.writing held known) (empty_list c.loop-rest.rest.now none)
+    writes_whole held c.args.text.now c.loop-rest.rest.now _ (c.loop-rest.invariant.writing held known) (nil_from_length c.loop-rest.rest.now none)

@@ -1,6 +1,5 @@
 use Rattle.std.proofs.Common.{◌≡◌, ℕ, List, Some, length}
-use Rattle.hls_io.specs.Counted.{failures_of, inner_of}
-use Rattle.hls_io.proofs.WriteLaws.{Writing}
+use Rattle.hls_io.{specs.Counted.{failures_of, inner_of}, proofs.WriteLaws.Writing}
 use Rattle.hls_io.proofs.write.write_whole.Given as goal
 
 abbrev pub invariant-loop-rest : goal.invariant-loop-rest

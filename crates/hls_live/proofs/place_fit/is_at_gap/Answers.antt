@@ -1,7 +1,7 @@
 use Rattle.std.proofs.Common.{not, eqb, tests, rules}
 use Rattle.std.proofs.lemmas.Iterator.{YieldsList-from_slice}
 use Rattle.std.proofs.lemmas.Iterator.Search.{any_from_yields_List}
-use Rattle.hls_check_laws.specs.declared.spot.Spot.{Spot}
+use Rattle.hls_check_tables.specs.declared.spot.Spot.{Spot}
 use Rattle.hls_places_laws.specs.Line.Steps.{is_at_gap}
 use Rattle.hls_live.proofs.place_fit.is_at_gap.Goals as goal
 

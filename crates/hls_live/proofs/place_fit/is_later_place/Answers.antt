@@ -1,6 +1,6 @@
 use Rattle.std.proofs.Common.{◌<◌, length, arith, sym, ap, below_more, ◌∙◌, List}
-use Rattle.hls_check_laws.specs.declared.spot.Spot.{Spot}
-use Rattle.hls_check_laws.specs.Tables.{spot_in}
+use Rattle.hls_check_tables.specs.declared.spot.Spot.{Spot}
+use Rattle.hls_check_tables.specs.Tables.{spot_in}
 use Rattle.hls_live.proofs.Cited.{past-count, past-from_each, past-fragment, not-past}
 use Rattle.hls_live.proofs.place_fit.is_later_place.Goals as goal
 

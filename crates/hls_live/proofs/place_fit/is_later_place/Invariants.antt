@@ -1,5 +1,5 @@
 use Rattle.std.proofs.Common.{ℕ, ◌<◌}
-use Rattle.hls_check_laws.specs.Tables.{spot_in}
+use Rattle.hls_check_tables.specs.Tables.{spot_in}
 use Rattle.hls_live.proofs.place_fit.is_later_place.Given as goal
 
 abbrev pub invariant-loop-r : goal.invariant-loop-r

@@ -3,7 +3,7 @@ use Rattle.std.proofs.lemmas.List.{get_or_append_left, get_or_push}
 use Rattle.hls_places_laws.specs.Line.Lengths.{length_in}
 use Rattle.hls_live.proofs.prefix_sums.extend_lengths.Goals as goal
 
--- one more value behind those that are there
+-- one more value appended
 one-more : (lengths : List ℕ) (wanted : ℕ → ℕ) (r length_here : ℕ) → length lengths ≡ r →
     ((k : ℕ) → k < r → get_or lengths k 0 ≡ wanted k) → length_here ≡ wanted r → (k : ℕ) → k < r + 1 →
     get_or (lengths ++ length_here ∷ []) k 0 ≡ wanted k

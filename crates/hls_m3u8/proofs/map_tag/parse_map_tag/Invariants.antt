@@ -4,7 +4,7 @@ use denote.Shadow.{shadow}
 use Rattle.hls_m3u8.specs.Attributes.{attribute_texts, map_from, no_attributes}
 use Rattle.hls_m3u8.proofs.map_tag.parse_map_tag.Given as goal
 
--- what the attributes that are left give is what all give
+-- the remaining attributes give the result of all
 abbrev pub invariant-loop-parts : goal.invariant-loop-parts
 invariant-loop-parts l =
     shadow (Utf8 l.rest) × (map_from l.parts (attribute_texts false l.rest) ≡ map_from no_attributes (attribute_texts false l.fn.text))

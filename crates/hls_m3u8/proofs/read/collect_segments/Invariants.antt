@@ -6,7 +6,7 @@ use Rattle.hls_m3u8.specs.TextLines.{text_lines}
 use Rattle.hls_m3u8.specs.ReadLines.{initial_state, read_from, with_segments}
 use Rattle.hls_m3u8.proofs.read.collect_segments.Given as goal
 
--- the segments kept, and what the lines that are left give, are what all give
+-- the kept segments and the remaining lines give the result of all lines
 abbrev pub invariant-loop-line : goal.invariant-loop-line
 invariant-loop-line l =
     shadow (Utf8 l.rest) × (l.number + length l.rest ≤ text_limit + 2) × (length l.rest ≤ length l.whole)

@@ -7,7 +7,7 @@ use Rattle.hls_m3u8.specs.ReadLines.{initial_state, read_from}
 use Rattle.hls_m3u8.proofs.Scanning.{GoesOn}
 use Rattle.hls_m3u8.proofs.read.scan_playlist.Given as goal
 
--- what the lines that are left give is what all give, but for the segments already found
+-- the remaining lines give the result of all lines, except for the segments already found
 abbrev pub invariant-loop-line : goal.invariant-loop-line
 invariant-loop-line l =
     shadow (Utf8 l.rest) × (l.number + length l.rest ≤ text_limit + 2)

@@ -2,13 +2,13 @@ use Rattle.std.proofs.Common.{◌≡◌, ℕ, suc, ◌+◌, ◌<◌, List, [], �
 use Rattle.std.specs.Prelude.{option_map}
 use Rattle.std.proofs.Math.Seq.{drop-cons}
 use Rattle.std.proofs.lemmas.List.{append_assoc}
-use Rattle.hls_check_laws.specs.declared.spot.Spot.{Spot}
+use Rattle.hls_check_tables.specs.declared.spot.Spot.{Spot}
 use Rattle.hls_places_laws.specs.Sources.{Source, no_source, source_at}
 use Rattle.hls_places_laws.specs.Spots.{near_spot}
 use Rattle.hls_places_laws.specs.Places.{with_spot, spots}
 use Rattle.hls_places.proofs.positions.find_spots.Goals as goal
 
--- the spots from one rendition on
+-- the spots from one rendition
 from-next : (sources : List Source) (time r : ℕ) → r < length sources →
     spots (drop r sources) time ≡ with_spot (near_spot (source_at sources r) time) (spots (drop (r + 1) sources) time)
 from-next sources time r within =
@@ -16,7 +16,7 @@ from-next sources time r within =
     ap (λ (l : List Source). spots l time) (drop-cons sources r no_source within)
     ∙ ap (λ (n : ℕ). with_spot (near_spot (source_at sources r) time) (spots (drop n sources) time)) next
 
--- one more behind those that were found
+-- one more after those that were found
 one-more : (found : List Spot) (spot : Spot) (rest : Option (List Spot)) →
     option_map (λ more. (found ++ spot ∷ []) ++ more) rest ≡ option_map (λ more. found ++ more) (with_spot (Some spot) rest)
 one-more found spot None = refl

@@ -1,5 +1,5 @@
 use Rattle.std.proofs.Common.{◌≡◌, ◌+◌, Some}
-use Rattle.hls_check_laws.specs.Certificates.{price_at}
+use Rattle.hls_check_tables.specs.Certificates.{price_at}
 use Rattle.hls_plan.specs.Pricing.{IsPricing}
 use Rattle.hls_plan.proofs.price_table.relax_row.Given as goal
 

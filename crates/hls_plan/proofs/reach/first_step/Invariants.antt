@@ -1,6 +1,6 @@
 use Rattle.std.proofs.Common.{◌≡◌, ℕ, ◌+◌, ◌<◌}
-use Rattle.hls_check_laws.specs.Steps.{Allowed}
-use Rattle.hls_check_laws.specs.Orders.{IsRowEnd}
+use Rattle.hls_check_tables.specs.Steps.{Allowed}
+use Rattle.hls_check_tables.specs.Orders.{IsRowEnd}
 use Rattle.hls_plan.proofs.reach.first_step.Given as goal
 
 abbrev pub invariant-loop-q : goal.invariant-loop-q

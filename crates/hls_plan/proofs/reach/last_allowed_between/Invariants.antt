@@ -1,5 +1,5 @@
 use Rattle.std.proofs.Common.{ℕ, ◌+◌, ◌-◌, ◌<◌, ◌≤◌, length}
-use Rattle.hls_check_laws.specs.Steps.{Allowed}
+use Rattle.hls_check_tables.specs.Steps.{Allowed}
 use Rattle.hls_plan.proofs.reach.last_allowed_between.Given as goal
 
 abbrev pub invariant-loop-last : goal.invariant-loop-last

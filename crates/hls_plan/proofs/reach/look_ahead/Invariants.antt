@@ -1,5 +1,5 @@
 use Rattle.std.proofs.Common.{◌≡◌, ◌+◌, ◌-◌, ◌/◌, ◌≤◌, length}
-use Rattle.hls_check_laws.specs.Steps.{Allowed}
+use Rattle.hls_check_tables.specs.Steps.{Allowed}
 use Rattle.hls_plan.proofs.reach.look_ahead.Given as goal
 
 abbrev pub invariant-loop-far : goal.invariant-loop-far

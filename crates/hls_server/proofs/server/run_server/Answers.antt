@@ -1,6 +1,5 @@
 use Rattle.std.proofs.Common.{◌≡◌, All, List, sym, subst}
-use Rattle.hls_turn.specs.Passes.{PassData}
-use Rattle.hls_turn.proofs.Openings.{all_opening}
+use Rattle.hls_turn.{specs.Passes.PassData, proofs.Openings.all_opening}
 use Rattle.hls_server.proofs.server.run_server.Goals as goal
 
 pub run_threads-ran-requires-after_bounds : goal.run_threads-ran-requires-after_bounds

@@ -2,6 +2,6 @@ use Rattle.std.proofs.Common.{◌≡◌, drop, map}
 use Rattle.hls_settings.specs.WrongArguments.{is_given}
 use Rattle.hls_settings.proofs.wrong_argument.is_given.Given as goal
 
--- the words that are left say the same
+-- the remaining arguments give the same result
 abbrev pub invariant-loop-argument : goal.invariant-loop-argument
 invariant-loop-argument g l = is_given (map g.S.AsStr.text (drop l.argument-index l.arguments)) l.option ≡ is_given (map g.S.AsStr.text l.arguments) l.option

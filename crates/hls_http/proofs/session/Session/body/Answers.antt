@@ -1,9 +1,7 @@
 use Rattle.std.proofs.Common.{◌∙◌, ◌<◌, ◌++◌, ℕ, List, [], length, length-take, sym, ap, subst, arith, refl, take}
 use Rattle.hls_io.specs.Counted.{failures_of, inner_of}
-use Rattle.hls_http_laws.specs.Bodies.{RunsOnReader, IsOpen}
-use Rattle.hls_http.specs.{declared.input_buffer.ReadOutcome.TheVariants.Eof, BufferedReader.unread_of}
-use Rattle.hls_http.proofs.BodySteps.{goes_filled, goes_none, goes_then, last_alone}
-use Rattle.hls_http.proofs.HeadLaws.{at_end}
+use Rattle.hls_http.specs.{Bodies.{RunsOnReader, IsOpen}, declared.input_buffer.ReadOutcome.TheVariants.Eof, BufferedReader.unread_of}
+use Rattle.hls_http.proofs.{BodySteps.{goes_filled, goes_none, goes_then, last_alone}, HeadLaws.at_end}
 use Rattle.hls_http.proofs.session.Session.body.Goals as goal
 
 pub loop-self-init : goal.loop-self-init

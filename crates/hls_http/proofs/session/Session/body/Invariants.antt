@@ -1,6 +1,5 @@
 use Rattle.std.proofs.Common.{◌≡◌, ◌+◌, ◌*◌, ◌++◌, List, [], ℕ, Some, length}
-use Rattle.hls_http_laws.specs.Bodies.{RunsOnReader}
-use Rattle.hls_http.specs.BufferedReader.{unread_of, read_failures, reader_of, reads_left}
+use Rattle.hls_http.specs.{Bodies.RunsOnReader, BufferedReader.{unread_of, read_failures, reader_of, reads_left}}
 use Rattle.hls_http.proofs.session.Session.body.Given as goal
 
 abbrev pub invariant-loop-self : goal.invariant-loop-self

@@ -1,7 +1,5 @@
-use Rattle.std.proofs.Common.{◌∙◌, ◌++◌, Some, sym, ap, arith}
-use Rattle.std.proofs.lemmas.List.{nil_from_length}
-use Rattle.hls_http.specs.BufferedReader.{unread_of}
-use Rattle.hls_http.proofs.HeadLaws.{at_end}
+use Rattle.std.proofs.{Common.{◌∙◌, ◌++◌, Some, sym, ap, arith}, lemmas.List.nil_from_length}
+use Rattle.hls_http.{specs.BufferedReader.unread_of, proofs.HeadLaws.at_end}
 use Rattle.hls_http.proofs.session.Session.next_head.Goals as goal
 
 pub returns-in-Eof-clause-reads_head : goal.returns-in-Eof-clause-reads_head

@@ -1,6 +1,5 @@
 use Rattle.std.proofs.Common.{◌∙◌, inl, inr, sym, ap}
-use Rattle.hls_http_laws.specs.ResponseText.{response_text}
-use Rattle.hls_http.proofs.SendLaws.{writes_as}
+use Rattle.hls_http.{specs.ResponseText.response_text, proofs.SendLaws.writes_as}
 use Rattle.hls_http.proofs.session.Session.reply.Goals as goal
 
 pub returns-then-write_whole-clause-answers : goal.returns-then-write_whole-clause-answers

@@ -5,7 +5,7 @@ use Rattle.hls_places_laws.specs.Line.Live.{Live}
 use Rattle.hls_live.proofs.Keeps.{are-aligned, left-progress, renditions-some}
 use Rattle.hls_live.proofs.live_line.LiveLine.remaining_us.Goals as goal
 
--- a rendition of the line: the first is there while segments are kept
+-- a rendition of the line: the first one exists if segments are kept
 is-there : (r renditions : ℕ) → 0 < renditions → (0 < r → r < renditions) → r < renditions
 is-there zero renditions some there = some
 is-there (suc r) renditions some there = there (omega arith)

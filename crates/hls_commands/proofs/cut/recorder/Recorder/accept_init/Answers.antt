@@ -1,6 +1,6 @@
 use Rattle.std.proofs.Common.{◌≡◌, rules, List, ℕ, Ok, Err, subst}
 use Rattle.hls_media_laws.specs.Inits.{init_of}
-use Rattle.hls_feed.specs.declared.feed_fault.StreamFault.TheVariants.{Media}
+use Rattle.hls_core.specs.declared.feed_fault.StreamFault.TheVariants.{Media}
 use Rattle.hls_commands.specs.MemoryCases.{IsReadOrMemory}
 use Rattle.hls_commands.specs.OrRefused.{or_refused_as}
 use Rattle.hls_commands.proofs.AcceptLaws.{accepts_init, refuses_init}

@@ -1,0 +1,39 @@
+-- The definitions, computed on rows that tests don't cover, or cover only within longer ones.
+use Rattle.std.{proofs.Common.{◌≡◌, pos, false, [], ◌∷◌, ◌++◌, Some, None, Ok, refl, codes}, specs.Fmt.digits}
+use Rattle.hls_text.specs.Digits.{number_of_digits}
+use Rattle.hls_api.specs.{declared.catchup_query.TimePoint.TheVariants.Instant, Queries.catchup_params_of, Routes.route_of}
+use Rattle.hls_api.specs.{JobResponses.{file_answer, resource_answer, job_answer}, Responses.{answer_text, whole_range}}
+use Rattle.hls_http.specs.declared.range_spec.RangeSpec.TheVariants as ranges
+use Rattle.hls_catchup.specs.declared.jobs.job.Job.TheVariants as told
+use Rattle.hls_api.specs.declared.route.Route.TheVariants as routes
+use Rattle.hls_api.specs.declared.route.JobFile.TheVariants as files
+
+leading_zero : route_of 2 (codes "/live/01.m3u8") ≡ None
+leading_zero = refl
+
+job_media : route_of 1 (codes "/job/12/0.mp4") ≡ Some (routes.JobFile 12 (files.Media 0))
+unfolding number_of_digits
+job_media = refl
+
+-- a job that failed with an allocation failure has neither a line nor a file
+no_line : job_answer told.Failed ≡ None
+no_line = refl
+
+no_file : file_answer files.Certificate ranges.All told.Failed ≡ None
+no_file = refl
+
+-- a resource of five bytes, from its second to its third byte
+part : answer_text (resource_answer (Some (10 ∷ 20 ∷ 30 ∷ 40 ∷ 50 ∷ [])) (ranges.Between 1 2)) false false
+    ≡ codes "HTTP/1.1 206 Partial Content\r\nContent-Type: video/mp4\r\nContent-Length: 2\r\nContent-Range: bytes 1-2/5\r\n\r\n" ++ 20 ∷ 30 ∷ []
+unfolding digits
+part = refl
+
+-- the instants 2024-01-01T00:00:05Z and :09Z, where time 0 is the start of that day
+by_the_clock : catchup_params_of (Some (pos 1704067200000000)) (record { start = Instant (pos 1704067205000000); stop = Instant (pos 1704067209000000); preferred = None; charge = None })
+    ≡ Ok (record { start_us = 5000000; stop_us = 9000000; preferred = None; charge = None })
+by_the_clock = refl
+
+-- a trimmed byte
+trimmed : whole_range (Some 1 ∷ None ∷ []) ≡ None
+unfolding whole_range
+trimmed = refl

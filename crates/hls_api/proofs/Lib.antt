@@ -1,0 +1,7 @@
+mod Recents
+mod Parts
+mod Acting
+mod Examples
+mod Linking
+mod Requests
+pub mod Callers

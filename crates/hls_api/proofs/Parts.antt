@@ -1,0 +1,107 @@
+-- Parts of a resource: where a part begins in its slices, and which parts of a recording are kept.
+use Rattle.std.proofs.Common.{◌≡◌, ◌∙◌, ℕ, zero, suc, ◌+◌, ◌-◌, ◌<◌, ◌≤◌, List, [], ◌∷◌, ◌++◌, Option, Some, None, length, get_or, map, take, drop, replicate, min, max, refl, sym, ap, subst, arith, length-append}
+use Rattle.std.specs.{Prelude.{Contains, option_map}, List.concat}
+use Rattle.std.proofs.lemmas.List.{length-map, length-replicate, map-append, drop-map, take-map, take_all}
+use Rattle.hls_record.specs.{RecordingData.{RecordingData, offset_at, total_of, bytes_of, range_of}, IsRecorded.IsRecorded}
+use Rattle.hls_record.proofs.Callers.{bytes_length, gone_range}
+use Rattle.hls_core_laws.specs.State.{State}
+use Rattle.hls_core.specs.Getters.{recording_of}
+use Rattle.hls_catchup.specs.{Replies.ReplyData, Resources.parts_in, ReplyUnits.AreReplyUnits, declared.reply_units.ReplyUnits.ReplyUnits}
+use Rattle.hls_api.specs.{Responses.{media_bytes, whole_range}, ResponseContents.{kept_offset, kept_slices, slices_between}}
+use Rattle.hls_playlists_laws.specs.JobResource.{units_between}
+
+-- ---- bytes that are all available
+
+whole-map : (bytes : List ℕ) → whole_range (map Some bytes) ≡ Some bytes
+unfolding whole_range
+whole-map [] = refl
+whole-map (b ∷ bytes) = ap (option_map (λ others. b ∷ others)) (whole-map bytes)
+
+none-at : (xs : List (Option ℕ)) (n : ℕ) → n < length xs → get_or xs n None ≡ None → whole_range xs ≡ None
+unfolding whole_range
+none-at [] n within none = absurd (omega arith)
+none-at (None ∷ xs) n within none = refl
+none-at (Some b ∷ xs) zero within none = cc
+none-at (Some b ∷ xs) (suc n) within none = ap (option_map (λ others. b ∷ others)) (none-at xs n (omega arith) none)
+
+whole-none : (xs : List (Option ℕ)) → Contains xs None → whole_range xs ≡ None
+whole-none xs gone = none-at xs gone.0 gone.1 gone.2
+
+-- ---- a recording
+
+pub part_gone : (r : RecordingData) (from len : ℕ) → IsRecorded r → from + len ≤ total_of r → max from (length r.head) < min (from + len) (offset_at r r.floor)
+    → media_bytes r from len ≡ None
+part_gone r from len valid within gone = whole-none (range_of r from (from + len)) (gone_range r from (from + len) valid (omega arith, within) gone)
+
+-- the number of trimmed bytes
+abbrev hole : RecordingData → ℕ
+hole r = offset_at r r.floor - length r.head
+
+-- the joined slices: the init section, and the bytes of the kept units
+kept-joined : (r : RecordingData) → IsRecorded r → concat (kept_slices r) ≡ r.head ++ concat r.units
+kept-joined r valid =
+    let none : max 0 r.floor - r.floor ≡ 0 = omega arith in
+    ap (λ n. r.head ++ concat (take (length r.facts - max 0 r.floor) (drop n r.units))) none
+    ∙ ap (λ us. r.head ++ concat us) (take_all (length r.facts - max 0 r.floor) r.units (omega (arith, valid.kept)))
+
+heads : (r : RecordingData) → length (map (λ (x : ℕ). Some x) r.head) ≡ length r.head
+heads r = length-map r.head Some
+
+holes : (r : RecordingData) → length {A = Option ℕ} (replicate (hole r) None) ≡ hole r
+holes r = length-replicate (hole r) None
+
+-- the kept part of a range is there
+pub part_fits : (r : RecordingData) (from len : ℕ) → IsRecorded r → from + len ≤ total_of r → min (from + len) (offset_at r r.floor) ≤ max from (length r.head)
+    → kept_offset r from + len ≤ length (concat (kept_slices r))
+part_fits r from len valid within kept =
+    let joined = ap length (kept-joined r valid) in
+    let both = length-append r.head (concat r.units) in
+    let a = length-append (map Some r.head ++ replicate (hole r) None) (map Some (concat r.units)) in
+    let b = length-append (map Some r.head) (replicate (hole r) None) in
+    let c : length (map (λ (x : ℕ). Some x) (concat r.units)) ≡ length (concat r.units) = length-map (concat r.units) Some in
+    omega (arith, joined, both, a, b, c, bytes_length r valid, heads r, holes r, within, kept)
+
+-- bytes of two lists with a third between them are bytes of the two alone, if none of the third is asked for
+without : {A : Type 0} (xs ns ys : List A) (from len at : ℕ) → min (from + len) (length xs + length ns) ≤ max from (length xs)
+    → at ≡ min from (length xs) + (from - (length xs + length ns)) → take len (drop from (xs ++ ns ++ ys)) ≡ take len (drop at (xs ++ ys))
+without xs ns ys from zero at kept is = refl
+without [] [] ys from (suc len) at kept is =
+    let same : from ≡ at = omega arith in ap (λ n. take (suc len) (drop n ys)) same
+without [] (n ∷ ns) ys zero (suc len) at kept is = absurd (omega arith)
+without [] (n ∷ ns) ys (suc from) (suc len) at kept is = without [] ns ys from (suc len) at (omega arith) (omega arith)
+without (x ∷ xs) ns ys zero (suc len) at kept is =
+    let first : at ≡ 0 = omega arith in rw first (ap (λ zs. x ∷ zs) (without xs ns ys 0 len 0 (omega arith) (omega arith)))
+without (x ∷ xs) ns ys (suc from) (suc len) at kept is =
+    let up : suc (at - 1) ≡ at = omega arith in
+    let more = without xs ns ys from (suc len) (at - 1) (omega arith) (omega arith) in
+    subst (λ n. take (suc len) (drop from (xs ++ ns ++ ys)) ≡ take (suc len) (drop n (x ∷ xs ++ ys))) up more
+
+-- if none of them is trimmed, the bytes from an offset on are those of the slices
+pub part_kept : (r : RecordingData) (from len : ℕ) → IsRecorded r → min (from + len) (offset_at r r.floor) ≤ max from (length r.head)
+    → media_bytes r from len ≡ Some (take len (drop (kept_offset r from) (concat (kept_slices r))))
+part_kept r from len valid kept =
+    let at : ℕ = kept_offset r from in
+    let span : from + len - from ≡ len = omega arith in
+    let shown = without (map Some r.head) (replicate (hole r) None) (map Some (concat r.units)) from len at (omega (arith, kept, heads r, holes r)) (omega (arith, heads r, holes r)) in
+    let joined : map Some r.head ++ map Some (concat r.units) ≡ map Some (concat (kept_slices r)) =
+    sym (map-append Some r.head (concat r.units)) ∙ ap (map Some) (sym (kept-joined r valid)) in
+    let some = ap (take len) (drop-map Some at (concat (kept_slices r))) ∙ take-map Some len (drop at (concat (kept_slices r))) in
+    ap whole_range (ap (λ n. take n (drop from (bytes_of r))) span ∙ shown ∙ ap (λ xs. take len (drop at xs)) joined ∙ some)
+    ∙ whole-map (take len (drop at (concat (kept_slices r))))
+
+-- ---- a reply
+
+-- if all units from number `first` on are kept, the slices are those between
+from_kept : (r : RecordingData) (first end : ℕ) → r.floor ≤ first → slices_between (Some r) first end ≡ r.head ∷ units_between r.floor r.units first end
+from_kept r first end kept =
+    let above : max first r.floor ≡ first = omega arith in
+    ap (λ n. r.head ∷ units_between r.floor r.units n end) above
+
+-- the slices of its units, in its own snapshot, are its parts
+pub reply_slices : (reply : ReplyData) (s : State) (r : ℕ) (span : ReplyUnits) → s ≡ reply.state → AreReplyUnits reply r span
+    → Some (slices_between (recording_of s r) span.first span.end) ≡ parts_in reply r
+reply_slices reply s r span same are =
+    ap (λ (t : State). Some (slices_between (recording_of t r) span.first span.end)) same
+    ∙ ap (λ (o : Option RecordingData). Some (slices_between o span.first span.end)) are.recorded
+    ∙ ap Some (from_kept span.recording.now span.first span.end are.kept)
+    ∙ sym are.parts

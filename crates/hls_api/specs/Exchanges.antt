@@ -1,0 +1,292 @@
+-- One request and its reply: the acts that it leads to, its effect on the table of jobs, and the reply that is due.
+use Rattle.std.specs.Prelude.{◌≡◌, ◌≢◌, ◌⊎◌, ◌<◌, ◌≤◌, ◌+◌, ℕ, Bool, true, false, cond, List, [], ◌∷◌, ◌++◌, length, Option, Some, None, Result, Ok, Err, codes}
+use Rattle.std.specs.Option.{is_some}
+use Rattle.httparse.specs.Grammar.{RequestHead, NeverHasRequest}
+use Rattle.hls_core_laws.specs.{declared.event.Event.TheVariants.Finish, declared.refusal.Refusal.TheVariants.Memory}
+use Rattle.hls_core.specs.FaultName.{name_of}
+use Rattle.hls_http.specs.{declared.framing.BodyFraming.TheVariants.{Length, Size}, Heads.{ReadsLimitedHead, IsTooLarge}, Methods.method_of}
+use Rattle.hls_http.specs.{declared.request_action.RequestAction.TheVariants.{Refuse, Ingest, Discard}, Bodies.{StepsThrough, ReadsLine}}
+use Rattle.hls_http.specs.{Limits.discard_limit, Fields.values, Range.range_of_values, Requests.{framing_of_head, fields_of}}
+use Rattle.hls_http.specs.Actions.{announced_len, action_by, sends_continue, sends_close}
+use Rattle.hls_http.specs.ResponseText.{continue_text, is_success, out_of_memory_response}
+use Rattle.hls_catchup.specs.{declared.fault.JobFault.TheVariants.UnknownJob, Jobs.Shared.{HasCounted, HasRemoved}}
+use Rattle.hls_api.specs.Responses.{ResponseData, answer_text, fault_answer, finish_answer, list_answer, media_answer, method_answer, playlist_answer, status_answer, text_answer}
+use Rattle.hls_api.specs.Types.{Refusal, State, StreamFault, Done, BodyFraming, HttpFault, RequestAction, RangeSpec, Method, BodyEnd, DiscardEnd, JobFault, Job, IngestStop, CatchupQuery, QueryFault, Route, CatchupParams}
+use Rattle.hls_api.specs.{declared.catchup_query.QueryFault.TheVariants.BadQuery, Faults.status_of, JobTable.{IsAddResult, IsGetResult}}
+use Rattle.hls_api.specs.Acts.{Act, ActsChangeNothing, RecordsAdd, RecordsLook, RecordsRemove, RecordsSubmit}
+use Rattle.hls_api.specs.{Ingest.{HandlesBody, Progress, IsBodyStop, counts_text}, Playlists.{live_master_text, live_text}}
+use Rattle.hls_api.specs.JobResponses.{added_answer, query_answer, file_answer, removed_answer, job_answer}
+use Rattle.hls_api.specs.Queries.{query_in, request_for, catchup_params_of}
+use Rattle.hls_api.specs.Routes.{allows, takes_ingest, is_to_head, path_of, query_of, removes_job, route_of}
+use Rattle.hls_http.specs.declared.fault.HttpFault.TheVariants as http
+use Rattle.hls_http.specs.declared.range_spec.RangeSpec.TheVariants as asks
+use Rattle.hls_http.specs.declared.response_parts.Status.TheVariants as statuses
+use Rattle.hls_http.specs.declared.end.BodyEnd.TheVariants as bodies
+use Rattle.hls_http.specs.declared.end.DiscardEnd.TheVariants as discards
+use Rattle.hls_api.specs.declared.ingest.IngestStop.TheVariants as ingest_stops
+use Rattle.hls_api.specs.declared.route.Route.TheVariants as routes
+
+-- what a request's head asks for
+pub record RequestParams : Type 0 where
+  pub route : Option Route
+  pub method : Method
+  pub query : List ℕ
+  pub range : RangeSpec
+
+abbrev pub params_of : ℕ → RequestHead → RequestParams
+params_of count h = record {
+  route = route_of count (path_of h.target);
+  method = method_of h.method;
+  query = query_of h.target;
+  range = range_of_values (values (codes "range") (fields_of h));
+}
+
+-- a request whose head was read: what it asks for, and what is done with it
+pub record RoutedRequest : Type 0 where
+  pub head : RequestHead
+  pub asks : RequestParams
+  pub action : RequestAction
+
+-- HEAD is answered as GET without Range (RFC 9110, sections 9.3.2 and 14.2)
+abbrev pub range_for : Bool → RangeSpec → RangeSpec
+range_for to_head range = cond to_head asks.All range
+
+-- ---- acts on the channel: at most one look or one event for each request other than an encoder's body. `a` are the acts before it,
+-- and `b` those up to its end: no case allows more than it names
+
+-- the reply is made of the state that is seen
+abbrev pub RespondsWithState : List Act → List Act → (State → ResponseData) → ResponseData → Type 0
+RespondsWithState a b shown answer = (s : State) × RecordsLook a s b × (answer ≡ shown s)
+
+-- the reply is the event's outcome
+abbrev pub FinishesRendition : List Act → ℕ → List Act → ResponseData → Type 0
+FinishesRendition a r b answer = (done : Result Done Refusal) × RecordsSubmit a (Finish r) done b × (done ≢ Err Memory) × (answer ≡ finish_answer done)
+
+-- ---- acts on the table of jobs: one addition where a recording is asked for, one removal where a job is deleted, and no other
+
+-- a job is added with a state, and the reply is the result
+pub record AddsJob (s : State) (params : CatchupParams) (a b : List Act) (answer : ResponseData) : Type 0 where
+  pub result : Result ℕ JobFault
+  pub asked : RecordsAdd a s (request_for s params) result b
+  pub adds : IsAddResult s (request_for s params) result
+  pub answer_is : answer ≡ added_answer (length s.log) result
+
+-- an invalid query is reported before a full table
+abbrev pub AddsValidJob : State → Result CatchupParams QueryFault → List Act → List Act → ResponseData → Type 0
+AddsValidJob s (Err fault) a b answer = (b ≡ a) × (answer ≡ query_answer fault)
+AddsValidJob s (Ok params) a b answer = AddsJob s params a b answer
+
+-- by the epoch of the state that is seen, which is the same in every state of the channel
+pub record AddsCatchupJob (query : CatchupQuery) (a b : List Act) (answer : ResponseData) : Type 0 where
+  pub state : State
+  pub looked : List Act
+  pub looks : RecordsLook a state looked
+  pub adds : AddsValidJob state (catchup_params_of state.config.epoch query) looked b answer
+
+-- a query that is invalid in any channel needs no look
+abbrev pub HandlesCatchup : Option CatchupQuery → List Act → List Act → ResponseData → Type 0
+HandlesCatchup None a b answer = (b ≡ a) × (answer ≡ query_answer BadQuery)
+HandlesCatchup (Some query) a b answer = AddsCatchupJob query a b answer
+
+-- the reply describes the job; an unknown job is not found, and an allocation failure has one reply
+abbrev pub IsJobResponse : Result Job JobFault → (Job → Option ResponseData) → ResponseData → Type 0
+IsJobResponse (Ok job) shown answer = shown job ≡ Some answer
+IsJobResponse (Err UnknownJob) shown answer = answer ≡ fault_answer http.NotFound
+IsJobResponse (Err fault) shown answer = ⊥
+
+abbrev pub RespondsWithJob : ℕ → (Job → Option ResponseData) → ResponseData → Type 0
+RespondsWithJob id shown answer = (found : Result Job JobFault) × IsGetResult id found × IsJobResponse found shown answer
+
+-- the reply about a job that exists: its status, or a file
+abbrev pub shown_at : RequestParams → Route → Job → Option ResponseData
+shown_at q (routes.Job id) job = job_answer job
+shown_at q (routes.JobFile id file) job = file_answer file (range_for (is_to_head q.method) q.range) job
+shown_at q route job = None
+
+-- .. or that the route doesn't allow the method
+abbrev pub shown_if : RequestParams → Route → Bool → Job → Option ResponseData
+shown_if q route true job = shown_at q route job
+shown_if q route false job = Some (method_answer route)
+
+-- this job and no other is removed, and the reply is the result
+pub record RemovesJob (id : ℕ) (a b : List Act) (answer : ResponseData) : Type 0 where
+  pub result : Result (Unit {0}) JobFault
+  pub asked : RecordsRemove a id result b
+  pub removes : HasRemoved id result
+  pub answer_is : answer ≡ removed_answer result
+
+abbrev pub ServesJob : RequestParams → Route → ℕ → List Act → ResponseData → List Act → Bool → Type 0
+ServesJob q route id a answer b true = RemovesJob id a b answer
+ServesJob q route id a answer b false = (b ≡ a) × RespondsWithJob id (shown_if q route (allows route q.method)) answer
+
+-- ---- by the route
+
+-- if the route allows the method
+abbrev pub IsServedBy : RequestParams → Route → List Act → ResponseData → List Act → Type 0
+IsServedBy q (routes.Finish r) a answer b = FinishesRendition a r b answer
+IsServedBy q routes.LiveMaster a answer b = RespondsWithState a b (λ s. playlist_answer (live_master_text s)) answer
+IsServedBy q (routes.LiveList r) a answer b = RespondsWithState a b (λ s. list_answer (live_text s r)) answer
+IsServedBy q (routes.Media r) a answer b = RespondsWithState a b (λ s. media_answer s r (range_for (is_to_head q.method) q.range)) answer
+IsServedBy q routes.CatchUp a answer b = HandlesCatchup (query_in q.query) a b answer
+IsServedBy q routes.Status a answer b = (jobs : ℕ) × HasCounted jobs × RespondsWithState a b (λ s. status_answer s jobs) answer
+IsServedBy q route a answer b = ⊥
+
+abbrev pub ServesAllowed : RequestParams → Route → List Act → ResponseData → List Act → Bool → Type 0
+ServesAllowed q route a answer b true = IsServedBy q route a answer b
+ServesAllowed q route a answer b false = (b ≡ a) × (answer ≡ method_answer route)
+
+-- the job of a route
+abbrev pub job_at : Route → Option ℕ
+job_at (routes.Job id) = Some id
+job_at (routes.JobFile id file) = Some id
+job_at route = None
+
+-- an unknown job comes before a method that the route doesn't allow
+abbrev pub ServesBy : RequestParams → Route → List Act → ResponseData → List Act → Option ℕ → Type 0
+ServesBy q route a answer b (Some id) = ServesJob q route id a answer b (removes_job route q.method)
+ServesBy q route a answer b None = ServesAllowed q route a answer b (allows route q.method)
+
+-- the answer to a request, or out of memory
+abbrev pub Responds : RequestParams → Route → List Act → Option ResponseData → List Act → Type 0
+Responds q route a (Some answer) b = ServesBy q route a answer b (job_at route)
+Responds q route a None b = ActsChangeNothing a b
+
+-- ---- the reply that is due
+
+-- a reply's whole text; whether it says that the connection closes, and whether it is a success
+pub record DueResponse : Type 0 where
+  pub text : List ℕ
+  pub closing : Bool
+  pub success : Bool
+
+-- 100 Continue, if the client waits for it and the body will be read
+abbrev pub continue_prefix : RequestHead → RequestAction → List ℕ
+continue_prefix h action = cond (sends_continue h action) continue_text []
+
+abbrev pub to_head : RequestHead → Bool
+to_head h = is_to_head (method_of h.method)
+
+abbrev pub due_for : RequestHead → RequestAction → ResponseData → Bool → DueResponse
+due_for h action answer early = record {
+  text = continue_prefix h action ++ answer_text answer (sends_close h early) (to_head h);
+  closing = sends_close h early;
+  success = is_success answer.status;
+}
+
+-- out of memory has one reply
+abbrev pub due_for_memory : RequestHead → RequestAction → DueResponse
+due_for_memory h action = record { text = continue_prefix h action ++ out_of_memory_response (to_head h); closing = true; success = false }
+
+abbrev pub due_for_maybe : RequestHead → RequestAction → Option ResponseData → Bool → DueResponse
+due_for_maybe h action None early = due_for_memory h action
+due_for_maybe h action (Some answer) early = due_for h action answer early
+
+-- the answer, or the out-of-memory reply
+abbrev pub IsDue : RequestHead → RequestAction → ResponseData → Bool → DueResponse → Type 0
+IsDue h action answer early due = (due ≡ due_for h action answer early) ⊎ (due ≡ due_for_memory h action)
+
+-- where a body stopped early: only bad framing gets a reply
+abbrev pub IsDueAtStop : RequestHead → RequestAction → BodyEnd → DueResponse → Type 0
+IsDueAtStop h action bodies.BadFraming due = IsDue h action (fault_answer http.BadFraming) true due
+IsDueAtStop h action end due = ⊥
+
+-- ---- discarded bodies
+
+-- the size line of a chunk that would exceed the limit
+pub record IsPastLimit (content unread : List ℕ) : Type 0 where
+  pub size : ℕ
+  pub rest : List ℕ
+  pub line : ReadsLine unread size rest
+  pub many : discard_limit < length content + size
+
+-- this content was discarded; these bytes are unread
+abbrev pub DiscardsBody : List ℕ → BodyFraming → List ℕ → Result (Unit {0}) DiscardEnd → Type 0
+DiscardsBody content last unread (Ok done) = (last ≡ Length 0) × (length content ≤ discard_limit)
+DiscardsBody content last unread (Err discards.TooLarge) = (last ≡ Size) × IsPastLimit content unread
+DiscardsBody content last unread (Err (discards.Stopped end)) = (length content + announced_len last ≤ discard_limit) × IsBodyStop last unread end
+
+abbrev pub IsDiscardDue : RoutedRequest → Route → List Act → DueResponse → Result (Unit {0}) DiscardEnd → Type 0
+IsDiscardDue request route acts due (Ok done) =
+    (answer : Option ResponseData) × Responds request.asks route [] answer acts
+    × ((due ≡ due_for_maybe request.head request.action answer false) ⊎ (due ≡ due_for_memory request.head request.action))
+IsDiscardDue request route acts due (Err discards.TooLarge) = (acts ≡ []) × IsDue request.head request.action (fault_answer http.TooLarge) true due
+IsDiscardDue request route acts due (Err (discards.Stopped end)) = (acts ≡ []) × IsDueAtStop request.head request.action end due
+
+pub record DiscardsThenResponds (request : RoutedRequest) (route : Route) (body : BodyFraming) (stream : List ℕ) (acts : List Act) (due : DueResponse) (unread : List ℕ) : Type 0 where
+  pub content : List ℕ
+  pub last : BodyFraming
+  pub runs : StepsThrough body stream content last unread
+  pub result : Result (Unit {0}) DiscardEnd
+  pub discards : DiscardsBody content last unread result
+  pub skipped : IsDiscardDue request route acts due result
+
+-- ---- encoders' bodies
+
+abbrev pub ingested_answer : Progress → ResponseData
+ingested_answer y = text_answer statuses.Done (counts_text y.counts)
+
+-- the name of the deepest fault, and the counts of what was accepted before
+abbrev pub ingest_refused_answer : StreamFault → Progress → ResponseData
+ingest_refused_answer fault y = text_answer (status_of fault) (codes "refused " ++ (name_of fault ++ (32 ∷ counts_text y.counts)))
+
+-- by whether a part of the body is still to come after what is refused
+abbrev pub IsIngestDue : RequestHead → RequestAction → Bool → Progress → DueResponse → Result (Unit {0}) IngestStop → Type 0
+IsIngestDue h action early y due (Ok done) = IsDue h action (ingested_answer y) false due
+IsIngestDue h action early y due (Err (ingest_stops.Refused fault)) = IsDue h action (ingest_refused_answer fault y) early due
+IsIngestDue h action early y due (Err ingest_stops.Memory) = due ≡ due_for_memory h action
+IsIngestDue h action early y due (Err (ingest_stops.Stopped end)) = IsDueAtStop h action end due
+
+pub record Ingests (request : RoutedRequest) (r : ℕ) (body : BodyFraming) (stream : List ℕ) (acts : List Act) (due : DueResponse) (unread : List ℕ) : Type 0 where
+  pub content : List ℕ
+  pub last : BodyFraming
+  pub runs : StepsThrough body stream content last unread
+  pub progress : Progress
+  pub asked : acts ≡ progress.acts
+  pub early : Bool
+  pub result : Result (Unit {0}) IngestStop
+  pub handles : HandlesBody r body content last unread progress early result
+  pub ingested : IsIngestDue request.head request.action early progress due result
+
+-- ---- a request: from the end of its head, where its body begins, to the bytes that are unread when the reply is sent
+
+-- the rendition that an encoder's body is for
+abbrev pub IngestsBy : Option Route → RoutedRequest → BodyFraming → List ℕ → List Act → DueResponse → List ℕ → Type 0
+IngestsBy (Some (routes.Ingest r)) request body stream acts due unread = Ingests request r body stream acts due unread
+IngestsBy route request body stream acts due unread = ⊥
+
+abbrev pub DiscardsBy : Option Route → RoutedRequest → BodyFraming → List ℕ → List Act → DueResponse → List ℕ → Type 0
+DiscardsBy None request body stream acts due unread = ⊥
+DiscardsBy (Some route) request body stream acts due unread = DiscardsThenResponds request route body stream acts due unread
+
+-- by what is done with it: refused before its body, its body ingested in parts, or its body discarded
+abbrev pub HandlesBy : RequestAction → RoutedRequest → List ℕ → List Act → DueResponse → List ℕ → Type 0
+HandlesBy (Refuse fault closing) request stream acts due unread =
+    (acts ≡ []) × (unread ≡ stream) × IsDue request.head request.action (fault_answer fault) closing due
+HandlesBy (Ingest body) request stream acts due unread = IngestsBy request.asks.route request body stream acts due unread
+HandlesBy (Discard body) request stream acts due unread = DiscardsBy request.asks.route request body stream acts due unread
+
+abbrev pub action_for : RequestHead → RequestParams → RequestAction
+action_for h q = action_by (framing_of_head h) (is_some q.route) (takes_ingest q.route q.method)
+
+-- a head as a request, in a channel of `count` renditions
+abbrev pub request_of : ℕ → RequestHead → RoutedRequest
+request_of count h = record { head = h; asks = params_of count h; action = action_for h (params_of count h) }
+
+-- the stream begins with a request; these are its acts, this reply is due, and these bytes are unread when it is sent
+pub record IsExchange (count : ℕ) (stream : List ℕ) (acts : List Act) (due : DueResponse) (unread : List ℕ) : Type 0 where
+  pub head : RequestHead
+  pub following : List ℕ
+  pub reads : ReadsLimitedHead stream head following
+  pub follows : HandlesBy (request_of count head).action (request_of count head) following acts due unread
+
+-- ---- where no head can follow
+
+abbrev pub refused_head : HttpFault → DueResponse
+refused_head fault = record { text = answer_text (fault_answer fault) true false; closing = true; success = false }
+
+abbrev pub IsDueWithoutHead : HttpFault → DueResponse → Type 0
+IsDueWithoutHead fault due = (due ≡ refused_head fault) ⊎ (due ≡ record { text = out_of_memory_response false; closing = true; success = false })
+
+abbrev pub RefusesHead : List ℕ → DueResponse → Type 0
+RefusesHead unread due =
+    (NeverHasRequest unread × IsDueWithoutHead http.BadHead due) ⊎ (IsTooLarge unread × IsDueWithoutHead http.HeadTooLarge due)

@@ -1,0 +1,13 @@
+-- The texts of a channel's playlists.
+use Rattle.std.specs.Prelude.{ℕ, List, Option, option_map}
+use Rattle.hls_core_laws.specs.State.{State}
+use Rattle.hls_m3u8.specs.{Lines.media_text, Masters.master_text}
+use Rattle.hls_playlists_laws.specs.{Masters.live_master, Live.live_list_of}
+
+-- the live playlist of a rendition; none before a segment was closed
+abbrev pub live_text : State → ℕ → Option (List ℕ)
+live_text s rendition = option_map media_text (live_list_of s rendition)
+
+-- the master playlist of the live playlists
+abbrev pub live_master_text : State → List ℕ
+live_master_text s = master_text (live_master s)

@@ -1,0 +1,115 @@
+-- The replies: refusals, and how a state is shown.
+use Rattle.std.specs.Prelude.{ℕ, ◌+◌, ◌-◌, Bool, cond, List, [], ◌∷◌, ◌++◌, length, Option, Some, None, option_and_then, option_map, Result, Ok, Err, codes}
+use Rattle.std.specs.Fmt.{decimal}
+use Rattle.hls_http.specs.{declared.range_spec.RangeSelection.RangeSelection, declared.response_parts.ContentType.ContentType, declared.response_parts.ExtraField.ExtraField, Range.range_selection}
+use Rattle.hls_http.specs.declared.response_parts.Status.TheVariants.{Done, PartialContent}
+use Rattle.hls_http.specs.declared.response_parts.ContentType.TheVariants.{Text, Media, Playlist}
+use Rattle.hls_http.specs.declared.response_parts.ExtraField.TheVariants.{Nothing, Range, NoRange}
+use Rattle.hls_http.specs.ResponseText.{fault_name, fault_status, status_line, content_lines, extra_line, close_line, crlf, refusal_body}
+use Rattle.hls_record.specs.RecordingData.{RecordingData, total_of, range_of}
+use Rattle.hls_places_laws.specs.Line.Live.{segments_of}
+use Rattle.hls_core_laws.specs.{Line.line, Places.kept_places}
+use Rattle.hls_core.specs.Getters.{recording_of}
+use Rattle.hls_api.specs.{Faults.core_status, Routes.methods_of, Types.{HttpFault, RangeSpec, Status, Refusal, State, Done as Moved, Route}}
+use Rattle.hls_http.specs.declared.fault.HttpFault.TheVariants as http
+use Rattle.hls_http.specs.declared.range_spec.RangeSelection.TheVariants as parts
+use Rattle.hls_core_laws.specs.RefusalName as core_names
+use Rattle.hls_core_laws.specs.declared.done.Done.TheVariants as moved
+
+-- a reply without its `Connection` field: its status, the type of its body, the one optional field, and its body
+pub record ResponseData : Type 0 where
+  pub status : Status
+  pub kind : ContentType
+  pub field : List ℕ
+  pub body : List ℕ
+
+-- its text; a reply to HEAD lacks the body
+abbrev pub answer_text : ResponseData → Bool → Bool → List ℕ
+answer_text a closing to_head =
+    (status_line a.status ++ (content_lines a.status a.kind (length a.body) ++ (a.field ++ (close_line closing ++ crlf)))) ++ cond to_head [] a.body
+
+-- a text, and this field
+abbrev pub text_with : List ℕ → Status → List ℕ → ResponseData
+text_with field status body = record { status = status; kind = Text; field = field; body = body }
+
+abbrev pub text_answer : Status → List ℕ → ResponseData
+text_answer status body = text_with [] status body
+
+-- ---- refusals
+
+abbrev pub fault_with : List ℕ → HttpFault → ResponseData
+fault_with field fault = text_with field (fault_status fault) (refusal_body (fault_name fault))
+
+abbrev pub fault_answer : HttpFault → ResponseData
+fault_answer fault = fault_with [] fault
+
+-- a known path that doesn't allow the method (RFC 9110, section 15.5.6)
+abbrev pub method_answer : Route → ResponseData
+method_answer route = fault_with (codes "Allow: " ++ (methods_of route ++ crlf)) http.BadMethod
+
+-- ---- the end of a rendition
+
+abbrev pub finish_answer : Result Moved Refusal → ResponseData
+finish_answer (Ok (moved.New version)) = text_answer Done (codes "finished\n")
+finish_answer (Ok moved.Repeat) = text_answer Done (codes "repeated\n")
+finish_answer (Err refusal_) = text_answer (core_status refusal_) (refusal_body (core_names.name_of refusal_))
+
+-- ---- the status
+
+abbrev pub status_row : List ℕ → ℕ → List ℕ
+status_row name number = name ++ (32 ∷ (decimal number ++ 10 ∷ []))
+
+-- log entries, kept places, live segments, segments that have slid out, and jobs
+abbrev pub status_text : State → ℕ → List ℕ
+status_text s jobs =
+    status_row (codes "version") (length s.log)
+    ++ (status_row (codes "places") (length (kept_places s))
+    ++ (status_row (codes "segments") (length (segments_of (line s)))
+    ++ (status_row (codes "removed") (line s).removed
+    ++ status_row (codes "jobs") jobs)))
+
+abbrev pub status_answer : State → ℕ → ResponseData
+status_answer s jobs = text_answer Done (status_text s jobs)
+
+-- ---- media
+
+-- all bytes, if each of them is there
+unfoldable pub whole_range : List (Option ℕ) → Option (List ℕ)
+whole_range [] = Some []
+whole_range (b ∷ bytes) = option_and_then (λ first. option_map (λ others. first ∷ others) (whole_range bytes)) b
+
+abbrev pub media_part_answer : Status → ExtraField → Option (List ℕ) → ResponseData
+media_part_answer status extra None = fault_answer http.Gone
+media_part_answer status extra (Some bytes) = record { status = status; kind = Media; field = extra_line extra; body = bytes }
+
+-- where the range has none of the resource's `total` bytes
+abbrev pub outside_answer : ℕ → ResponseData
+outside_answer total = fault_with (extra_line (NoRange total)) http.RangeOutside
+
+-- by the selected part of a resource; the resource is a function of an offset and a length, which may be unavailable
+abbrev pub part_answer : (ℕ → ℕ → Option (List ℕ)) → ℕ → RangeSelection → ResponseData
+part_answer bytes total parts.Outside = outside_answer total
+part_answer bytes total parts.Whole = media_part_answer Done Nothing (bytes 0 total)
+part_answer bytes total (parts.Slice from len) = media_part_answer PartialContent (Range from (from + len - 1) total) (bytes from len)
+
+-- a number of bytes of a rendition's resource from an offset on, if none of them is trimmed
+abbrev pub media_bytes : RecordingData → ℕ → ℕ → Option (List ℕ)
+media_bytes rec from len = whole_range (range_of rec from (from + len))
+
+-- a rendition's resource: its init section and all its units; not found before its init section
+abbrev pub recording_answer : Option RecordingData → RangeSpec → ResponseData
+recording_answer None range = fault_answer http.NotFound
+recording_answer (Some rec) range = part_answer (media_bytes rec) (total_of rec) (range_selection range (total_of rec))
+
+abbrev pub media_answer : State → ℕ → RangeSpec → ResponseData
+media_answer s r range = recording_answer (recording_of s r) range
+
+-- ---- playlists
+
+abbrev pub playlist_answer : List ℕ → ResponseData
+playlist_answer text = record { status = Done; kind = Playlist; field = []; body = text }
+
+-- a missing playlist, such as a live one before a segment was closed, is not found
+abbrev pub list_answer : Option (List ℕ) → ResponseData
+list_answer None = fault_answer http.NotFound
+list_answer (Some text) = playlist_answer text

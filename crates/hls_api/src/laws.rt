@@ -1,0 +1,42 @@
+//! Theorems about the definitions. Each function has no body: its contract is the law.
+
+ghost use Rattle.hls_api.specs.Laws.{AllowNamesMethods, JobFilesAreRight, JobLinesAreRight, RequestsAreRead};
+ghost use Rattle.hls_api.specs.ActLinks.{ActsAreLater, ActsExtendLinks, LinkedStatesFollow, LinksStay};
+
+/// Every reply of a session to a request for a job's file has a file of the right reply of some state to some request, or says that
+/// there is none.
+pub fn job_files_are_right()
+    ensures { JobFilesAreRight }
+{}
+
+/// Every reply of a session about a job has the result of the right answer of some state to some request, with that state's version,
+/// or says that there is no answer yet, or no such job.
+pub fn job_lines_are_right()
+    ensures { JobLinesAreRight }
+{}
+
+/// The field Allow names exactly the methods that a route allows (RFC 9110 10.2.1).
+pub fn allow_names_methods()
+    ensures { AllowNamesMethods }
+{}
+
+/// The requests after whose replies a connection stays open are the first ones of its stream by the standard's grammar (RFC 9112),
+/// each a head and its whole body, and the bytes to come follow directly.
+#[tactic(auto, using(crate::proofs::Requests::requests_are_read))]
+pub fn requests_are_read()
+    ensures { RequestsAreRead }
+{}
+
+/// Acts that continue from earlier acts of the same connection are linked to them, whatever others did between.
+#[tactic(auto, using(crate::proofs::Linking::linked_later))]
+pub fn acts_extend_links()
+    ensures link { ActsExtendLinks }
+    ensures stay { LinksStay }
+{}
+
+/// Linked acts lead from a state to one that follows it; so does each act of another connection.
+#[tactic(auto, using(crate::proofs::Linking::linked_follows, crate::proofs::Linking::act_later))]
+pub fn linked_states_follow()
+    ensures follow { LinkedStatesFollow }
+    ensures acts { ActsAreLater }
+{}

@@ -1,0 +1,178 @@
+//! Parses paths.
+
+ghost use Rattle.std.specs.Prelude.{◌≡◌, ◌<◌, ◌+◌, ◌^◌, ◌==◌, length, option_map, position, IfSome};
+ghost use Rattle.hls_api.specs.Routes.{route_of};
+ghost use Rattle.hls_api.specs.Exchanges as heard;
+ghost use Rattle.hls_api.specs.Routes as spec;
+
+use crate::route::{JobFile, Route};
+use hls_http::method::Method;
+use hls_text::{MAX_DIGITS, are_digits, has_no_leading_zero, parse_digits};
+
+/// A number above that of every job: 2^53.
+const NO_JOB: u64 = 1 << 53;
+
+/// Returns the text after a prefix.
+fn strip_front<'a>(front: &[u8], text: &'a [u8]) -> Option<&'a [u8]>
+    ensures { option_map (λ rest. rest.now) result ≡ spec.without_prefix front.now text.entry.now }
+{
+    text.strip_prefix(front)
+}
+
+/// Returns the text before a suffix.
+fn strip_back<'a>(back: &[u8], text: &'a [u8]) -> Option<&'a [u8]>
+    ensures { option_map (λ rest. rest.now) result ≡ spec.without_suffix back.now text.entry.now }
+{
+    text.strip_suffix(back)
+}
+
+/// Parses the number of a rendition, below `count`.
+fn parse_rendition(count: usize, text: &[u8]) -> Option<usize>
+    ensures { result ≡ spec.rendition_in count text.now }
+{
+    if !has_no_leading_zero(text) {
+        return None;
+    }
+    let number = parse_digits(text, MAX_DIGITS)?;
+    if number < count as u64 {
+        Some(number as usize)
+    } else {
+        None
+    }
+}
+
+/// Parses the number of a job; too many digits give the number that no job has.
+fn parse_job_id(text: &[u8]) -> Option<u64>
+    ensures { result ≡ spec.job_in text.now }
+{
+    if !has_no_leading_zero(text) || !are_digits(text) {
+        return None;
+    }
+    Some(parse_digits(text, MAX_DIGITS).unwrap_or(NO_JOB).min(NO_JOB))
+}
+
+/// Parses the name of a job's file.
+fn parse_job_file(count: usize, name: &[u8]) -> Option<JobFile>
+    ensures { result ≡ spec.file_of count name.now }
+{
+    if name == b"master.m3u8".as_slice() {
+        return Some(JobFile::Master);
+    }
+    if name == b"certificate.txt".as_slice() {
+        return Some(JobFile::Certificate);
+    }
+    match strip_back(b".m3u8", name) {
+        Some(number) => Some(JobFile::List(parse_rendition(count, number)?)),
+        None => Some(JobFile::Media(parse_rendition(count, strip_back(b".mp4", name)?)?)),
+    }
+}
+
+fn find_slash(text: &[u8]) -> Option<usize>
+    ensures value { result ≡ position (λ b. b == 47) text.now }
+    ensures within { IfSome result (λ at. at < length text.now) }
+    ensures small { IfSome result (λ at. at + 1 < 2 ^ 64) }
+{
+    text.iter().position(|byte| *byte == b'/')
+}
+
+/// Parses a job, or one of its files.
+fn parse_job_route(count: usize, text: &[u8]) -> Option<Route>
+    ensures { result ≡ spec.job_route count text.now }
+{
+    match find_slash(text) {
+        Some(slash) => {
+            let id = parse_job_id(&text[..slash])?;
+            Some(Route::JobFile(id, parse_job_file(count, &text[slash + 1..])?))
+        }
+        None => Some(Route::Job(parse_job_id(text)?)),
+    }
+}
+
+/// Parses a path with a folder.
+fn parse_folder_route(count: usize, path: &[u8]) -> Option<Route>
+    ensures { result ≡ spec.folder_route count path.now }
+{
+    if let Some(number) = strip_front(b"/ingest/", path) {
+        return Some(Route::Ingest(parse_rendition(count, number)?));
+    }
+    if let Some(number) = strip_front(b"/finish/", path) {
+        return Some(Route::Finish(parse_rendition(count, number)?));
+    }
+    if let Some(text) = strip_front(b"/live/", path) {
+        if text == b"master.m3u8".as_slice() {
+            return Some(Route::LiveMaster);
+        }
+        return Some(Route::LiveList(parse_rendition(count, strip_back(b".m3u8", text)?)?));
+    }
+    if let Some(text) = strip_front(b"/media/", path) {
+        return Some(Route::Media(parse_rendition(count, strip_back(b".mp4", text)?)?));
+    }
+    parse_job_route(count, strip_front(b"/job/", path)?)
+}
+
+/// Returns what a path names in a channel of `count` renditions.
+pub fn parse_route(count: usize, path: &[u8]) -> Option<Route>
+    ensures { result ≡ route_of count path.now }
+{
+    if path == b"/status".as_slice() {
+        return Some(Route::Status);
+    }
+    if path == b"/catchup".as_slice() {
+        return Some(Route::CatchUp);
+    }
+    parse_folder_route(count, path)
+}
+
+fn is_sent(method: Method) -> bool
+    ensures { result ≡ spec.is_sent method }
+{
+    matches!(method, Method::Put | Method::Post)
+}
+
+/// Whether a route allows a method.
+pub fn allows_method(route: Route, method: Method) -> bool
+    ensures { result ≡ spec.allows route method }
+{
+    match route {
+        Route::Ingest(_) => is_sent(method),
+        Route::Finish(_) => matches!(method, Method::Post),
+        Route::CatchUp => matches!(method, Method::Post),
+        Route::Job(_) => matches!(method, Method::Get | Method::Head | Method::Delete),
+        _ => matches!(method, Method::Get | Method::Head),
+    }
+}
+
+/// Returns the number of a route's job, for the job itself and for its files.
+pub fn job_at(route: Route) -> Option<u64>
+    ensures { result ≡ heard.job_at route }
+{
+    match route {
+        Route::Job(id) => Some(id),
+        Route::JobFile(id, _) => Some(id),
+        _ => None,
+    }
+}
+
+/// Whether a request removes the route's job.
+pub fn removes_job(route: Route, method: Method) -> bool
+    ensures { result ≡ spec.removes_job route method }
+{
+    matches!(route, Route::Job(_)) && matches!(method, Method::Delete)
+}
+
+/// Whether a request's body is ingested in parts.
+pub fn takes_ingest(route: Option<Route>, method: Method) -> bool
+    ensures { result ≡ spec.takes_ingest route method }
+{
+    match route {
+        Some(Route::Ingest(_)) => is_sent(method),
+        _ => false,
+    }
+}
+
+/// Whether the reply to a request has no body.
+pub fn is_head_request(method: Method) -> bool
+    ensures { result ≡ spec.is_to_head method }
+{
+    matches!(method, Method::Head)
+}

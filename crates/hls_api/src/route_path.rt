@@ -1,0 +1,30 @@
+//! Writes paths, as [`parse_route`](crate::parse_route::parse_route) reads them.
+
+use crate::route::{JobFile, Route};
+use std::fmt::{self, Display, Formatter, Write};
+
+/// The path of a route; `-` for a path that named none.
+#[derive(Clone, Copy, Drop)]
+pub struct RoutePath(pub Option<Route>);
+
+impl Display for RoutePath {
+    fn fmt<W: Write>(&self, f: &mut Formatter<W>) -> fmt::Result {
+        match self.0 {
+            None => f.write_str("-"),
+            Some(Route::Ingest(n)) => write!(f, "/ingest/{n}"),
+            Some(Route::Finish(n)) => write!(f, "/finish/{n}"),
+            Some(Route::LiveMaster) => f.write_str("/live/master.m3u8"),
+            Some(Route::LiveList(n)) => write!(f, "/live/{n}.m3u8"),
+            Some(Route::Media(n)) => write!(f, "/media/{n}.mp4"),
+            Some(Route::CatchUp) => f.write_str("/catchup"),
+            Some(Route::Job(id)) => write!(f, "/job/{id}"),
+            Some(Route::JobFile(id, JobFile::Master)) => write!(f, "/job/{id}/master.m3u8"),
+            Some(Route::JobFile(id, JobFile::List(n))) => write!(f, "/job/{id}/{n}.m3u8"),
+            Some(Route::JobFile(id, JobFile::Media(n))) => write!(f, "/job/{id}/{n}.mp4"),
+            Some(Route::JobFile(id, JobFile::Certificate)) => {
+                write!(f, "/job/{id}/certificate.txt")
+            }
+            Some(Route::Status) => f.write_str("/status"),
+        }
+    }
+}

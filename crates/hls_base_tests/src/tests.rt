@@ -1,5 +1,0 @@
-//! The tests.
-
-mod boxes;
-mod loops;
-mod parts;

@@ -1,0 +1,5 @@
+use Rattle.hls_boxes.proofs.TextLaws.{empty}
+use Rattle.hls_boxes.proofs.laws.empty_input_leaves_nothing.Goals as goal
+
+pub returns : goal.returns
+returns c = empty

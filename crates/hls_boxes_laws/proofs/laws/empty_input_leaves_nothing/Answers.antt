@@ -1,5 +1,0 @@
-use Rattle.hls_boxes_laws.proofs.TextLaws.{empty}
-use Rattle.hls_boxes_laws.proofs.laws.empty_input_leaves_nothing.Goals as goal
-
-pub returns : goal.returns
-returns c = empty

@@ -1,5 +1,0 @@
-use Rattle.hls_boxes_laws.proofs.TextLaws.{stay}
-use Rattle.hls_boxes_laws.proofs.laws.faults_are_stable.Goals as goal
-
-pub returns : goal.returns
-returns c = stay

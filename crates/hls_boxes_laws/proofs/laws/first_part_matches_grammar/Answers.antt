@@ -1,5 +1,0 @@
-use Rattle.hls_boxes_laws.proofs.TextLaws.{firsts}
-use Rattle.hls_boxes_laws.proofs.laws.first_part_matches_grammar.Goals as goal
-
-pub returns : goal.returns
-returns c = firsts

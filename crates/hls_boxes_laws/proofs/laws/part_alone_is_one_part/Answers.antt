@@ -1,5 +1,0 @@
-use Rattle.hls_boxes_laws.proofs.TextLaws.{alone}
-use Rattle.hls_boxes_laws.proofs.laws.part_alone_is_one_part.Goals as goal
-
-pub returns : goal.returns
-returns c = alone

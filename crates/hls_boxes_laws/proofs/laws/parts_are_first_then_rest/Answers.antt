@@ -1,5 +1,0 @@
-use Rattle.hls_boxes_laws.proofs.TextLaws.{in_order}
-use Rattle.hls_boxes_laws.proofs.laws.parts_are_first_then_rest.Goals as goal
-
-pub returns : goal.returns
-returns c = in_order

@@ -1,5 +1,0 @@
-use Rattle.hls_boxes_laws.proofs.TextLaws.{units}
-use Rattle.hls_boxes_laws.proofs.laws.units_match_grammar.Goals as goal
-
-pub returns : goal.returns
-returns c = units

@@ -1,7 +1,0 @@
-use Rattle.std.proofs.Common.{◌≡◌, ◌++◌, drop}
-use Rattle.hls_lists_laws.specs.Masters.{variants_from}
-use Rattle.hls_catchup.proofs.masters.make_variants.Given as goal
-
--- with those of the renditions that are left they are all
-abbrev pub invariant-loop-number : goal.invariant-loop-number
-invariant-loop-number l = l.variants.items ++ variants_from l.folder l.number (drop l.number l.renditions) ≡ variants_from l.folder 0 l.renditions

@@ -1,0 +1,5 @@
+use Rattle.hls_catchup.proofs.Plays.{IsPlayedTo}
+use Rattle.hls_catchup.proofs.standalone.play.Given as goal
+
+abbrev pub invariant-loop-action : goal.invariant-loop-action
+invariant-loop-action l = IsPlayedTo l.fn.config l.actions l.action-index l.state.value l.answers.items

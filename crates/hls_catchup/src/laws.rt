@@ -1,0 +1,15 @@
+//! A theorem about the definitions: the function's contract is the law.
+
+ghost use Rattle.hls_catchup.specs.AcceptedLaw.{GoodCertificatesAreAccepted};
+
+use hls_check::check_result_is_unique;
+use hls_check::text_laws::{text_has_no_wrong_line, text_is_unique};
+
+/// A valid certificate that is printed is read back as itself, and the checker accepts it.
+pub fn good_certificates_are_accepted()
+    ensures { GoodCertificatesAreAccepted }
+{
+    text_is_unique();
+    text_has_no_wrong_line();
+    check_result_is_unique();
+}

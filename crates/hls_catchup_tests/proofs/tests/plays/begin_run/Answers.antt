@@ -1,4 +1,0 @@
-use Rattle.hls_catchup_tests.proofs.tests.plays.begin_run.Goals as goal
-
-pub with_event-requires-clause-fits : goal.with_event-requires-clause-fits
-with_event-requires-clause-fits c = c.in_ok-event.ensures.fits c.in_ok-new.field-0.value

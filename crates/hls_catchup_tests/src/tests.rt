@@ -1,5 +1,0 @@
-//! The tests, and what they share.
-
-mod channels;
-mod plays;
-mod refused;

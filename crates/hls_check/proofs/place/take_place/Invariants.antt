@@ -1,0 +1,5 @@
+use Rattle.hls_check.proofs.PlaceTexts.{SpotsRead}
+use Rattle.hls_check.proofs.place.take_place.Given as goal
+
+abbrev pub invariant-loop-r : goal.invariant-loop-r
+invariant-loop-r l = SpotsRead l.renditions l.text l.spots.items l.rest l._r

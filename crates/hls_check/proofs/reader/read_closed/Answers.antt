@@ -1,0 +1,69 @@
+use Rattle.std.proofs.Common.{ℕ, ◌≡◌, ◌+◌, ◌^◌, ◌<◌, ◌≤◌, ◌-◌, List, [], ◌∷◌, ◌++◌, length, take, replicate, vec_len, Bool, true, false, subst, ap, ◌∙◌, Fits, w64, arith, rules}
+use Rattle.hls_check.specs.Stages.{IsClosedLine}
+use Rattle.std.proofs.lemmas.Bool.{iff_false}
+use Rattle.hls_check.proofs.Claims.{padded, closed_form, no_member_read, member_missing, member_end, member_bad, member_more}
+use Rattle.hls_check.proofs.reader.read_closed.Goals as goal
+
+-- one more line doesn't overflow the count, given the bound of the text
+room : (first lines_read whole rest : ℕ) → lines_read + rest ≤ first + whole → first + whole + 1 < 2 ^ 64 → Fits w64 (lines_read + 1)
+room first lines_read whole rest shorter fits = omega arith
+
+pub loop-line-init : goal.loop-line-init
+loop-line-init c = rw c.new-closed.ensures.items (no_member_read c.args.count c.args.text.now c.args.first)
+
+pub returns-in_default-clause-at : goal.returns-in_default-clause-at
+returns-in_default-clause-at c =
+    member_missing c.args.count c.args.text.now c.args.first c.loop-line.closed.items c.loop-line.rest.now c.loop-line.lines_read c.loop-line.invariant c.in_default.ensures.line
+
+pub returns-then-is_word-clause-at : goal.returns-then-is_word-clause-at
+returns-then-is_word-clause-at c =
+    let len : vec_len c.loop-line.closed ≡ length c.loop-line.closed.items = search rules in
+    member_end c.args.count c.args.text.now c.args.first c.loop-line.closed.items c.resize.new.self.items c.loop-line.rest.now c.in-Some.line.now c.in-Some.after.now
+    c.loop-line.lines_read c.loop-line.invariant c.in-Some.ensures.line (c.is_word.ensures.0 c.if-is_word.true)
+    (subst (λ (n : ℕ). c.resize.new.self.items ≡ take c.args.count c.loop-line.closed.items ++ replicate (c.args.count - n) false) len c.in_ok-resize.ensures.items)
+
+pub returns-then-is_word-clause-shorter : goal.returns-then-is_word-clause-shorter
+returns-then-is_word-clause-shorter c =
+    omega (arith, c.loop-line.invariant.shorter, c.in-Some.ensures.shorter)
+
+pub returns-in_default-parse_closed-clause-at : goal.returns-in_default-parse_closed-clause-at
+returns-in_default-parse_closed-clause-at c =
+    let len : c.len.result ≡ length c.loop-line.closed.items = search rules in
+    member_bad c.args.count c.args.text.now c.args.first c.loop-line.closed.items c.loop-line.rest.now c.in-Some.line.now c.in-Some.after.now
+    c.loop-line.lines_read c.loop-line.invariant c.in-Some.ensures.line (iff_false c.is_word.ensures c.if-is_word.false)
+    (subst (λ (n : ℕ). IsClosedLine n c.args.count c.in-Some.line.now → ⊥) len c.in_default-parse_closed.ensures)
+
+pub loop-line-preserved : goal.loop-line-preserved
+loop-line-preserved c =
+    let len : c.len.result ≡ length c.loop-line.closed.items = search rules in
+    let whole : vec_len c.loop-line.closed ≡ length c.loop-line.closed.items = search rules in
+    let above : length c.loop-line.closed.items ≤ c.in-Some-parse_closed.place = omega (arith, c.in-Some-parse_closed.ensures.0) in
+    let resized : c.resize-in-loop-line.new.self.items ≡ c.loop-line.closed.items ++ replicate (c.in-Some-parse_closed.place - length c.loop-line.closed.items) false =
+    padded Bool c.loop-line.closed.items c.resize-in-loop-line.new.self.items c.in-Some-parse_closed.place false above
+    (subst (λ (n : ℕ). c.resize-in-loop-line.new.self.items ≡ take c.in-Some-parse_closed.place c.loop-line.closed.items ++ replicate (c.in-Some-parse_closed.place - n) false)
+    whole c.in_ok-resize-2.ensures.items) in
+    member_more c.args.count c.args.text.now c.args.first c.loop-line.closed.items c.push.new.self.items c.loop-line.rest.now c.in-Some.line.now c.in-Some.after.now
+    c.loop-line.lines_read c.in-Some-parse_closed.place c.loop-line.invariant c.in-Some.ensures.line c.in-Some.ensures.shorter
+    (above, c.in-Some-parse_closed.ensures.1, c.in-Some-parse_closed.ensures.2)
+    (c.in_ok-push.ensures.items ∙ ap (λ (xs : List Bool). xs ++ (true ∷ [])) resized)
+
+pub returns-then-is_word-clause-form : goal.returns-then-is_word-clause-form
+returns-then-is_word-clause-form c =
+    let len : vec_len c.loop-line.closed ≡ length c.loop-line.closed.items = search rules in
+    closed_form c.args.count c.loop-line.closed.items c.resize.new.self.items c.loop-line.invariant.within
+    (subst (λ (n : ℕ). c.resize.new.self.items ≡ take c.args.count c.loop-line.closed.items ++ replicate (c.args.count - n) false) len c.in_ok-resize.ensures.items)
+
+pub overflow_add-lines_read : goal.overflow_add-lines_read
+overflow_add-lines_read c = room c.args.first c.loop-line.lines_read (length c.args.text.now) (length c.loop-line.rest.now) c.loop-line.invariant.shorter c.requires.room
+
+pub overflow_add-result : goal.overflow_add-result
+overflow_add-result c = room c.args.first c.loop-line.lines_read (length c.args.text.now) (length c.loop-line.rest.now) c.loop-line.invariant.shorter c.requires.room
+
+pub overflow_add-result-then-is_word : goal.overflow_add-result-then-is_word
+overflow_add-result-then-is_word c = room c.args.first c.loop-line.lines_read (length c.args.text.now) (length c.loop-line.rest.now) c.loop-line.invariant.shorter c.requires.room
+
+pub overflow_add-result-in_default-parse_closed : goal.overflow_add-result-in_default-parse_closed
+overflow_add-result-in_default-parse_closed c = room c.args.first c.loop-line.lines_read (length c.args.text.now) (length c.loop-line.rest.now) c.loop-line.invariant.shorter c.requires.room
+
+pub loop-line-smaller : goal.loop-line-smaller
+loop-line-smaller c = c.in-Some.ensures.shorter

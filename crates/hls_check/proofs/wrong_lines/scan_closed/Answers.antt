@@ -1,0 +1,31 @@
+use Rattle.std.proofs.lemmas.Bool.{iff_false}
+use Rattle.hls_check_tables.specs.Certificates.{NoneClaim}
+use Rattle.hls_check.specs.Stages.{certificate_with}
+use Rattle.hls_check.proofs.Scans.{no_member_passed, missing_member, all_closed, closed_passed, wrong_member, one_member_more}
+use Rattle.hls_check.proofs.wrong_lines.scan_closed.Goals as goal
+
+pub loop-line-init : goal.loop-line-init
+loop-line-init c = no_member_passed c.args.count c.args.text.now c.args.first
+
+pub returns-in_default : goal.returns-in_default
+returns-in_default c =
+    missing_member c.args.count c.args.text.now c.args.first c.loop-line.low c.loop-line.rest.now c.loop-line.lines_read c.loop-line.invariant
+    c.in_default.ensures.line
+
+pub returns-then-is_word : goal.returns-then-is_word
+returns-then-is_word c = λ bytes t count_is at.
+    c.scan_end.ensures bytes (certificate_with t (NoneClaim (all_closed c.args.count c.loop-line.invariant.closed)))
+    (closed_passed c.args.count c.args.text.now c.args.first c.loop-line.low c.loop-line.rest.now c.in-Some.line.now c.in-Some.after.now
+    c.loop-line.lines_read c.loop-line.invariant c.in-Some.ensures.line (c.is_word.ensures.0 c.if-is_word.true) bytes t count_is at)
+
+pub returns-in_default-parse_closed : goal.returns-in_default-parse_closed
+returns-in_default-parse_closed c =
+    wrong_member c.args.count c.args.text.now c.args.first c.loop-line.low c.loop-line.rest.now c.in-Some.line.now c.in-Some.after.now
+    c.loop-line.lines_read c.loop-line.invariant c.in-Some.ensures.line (iff_false c.is_word.ensures c.if-is_word.false)
+    c.in_default-parse_closed.ensures
+
+pub loop-line-preserved : goal.loop-line-preserved
+loop-line-preserved c =
+    one_member_more c.args.count c.args.text.now c.args.first c.loop-line.low c.loop-line.rest.now c.in-Some.line.now c.in-Some.after.now
+    c.loop-line.lines_read c.in-Some-parse_closed.place c.loop-line.invariant c.in-Some.ensures.line c.in-Some.ensures.shorter
+    c.in-Some-parse_closed.ensures

@@ -1,5 +1,0 @@
-use Rattle.hls_check_text.proofs.Wrongs.{PlacesRead}
-use Rattle.hls_check_text.proofs.reader.read_places.Given as goal
-
-abbrev pub invariant-loop-p : goal.invariant-loop-p
-invariant-loop-p l = PlacesRead l.head l.initial.rest l.places.items l.rest l.p

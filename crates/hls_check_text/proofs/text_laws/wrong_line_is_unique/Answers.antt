@@ -1,5 +1,0 @@
-use Rattle.hls_check_text.proofs.Wrongs.{wrong_is_one}
-use Rattle.hls_check_text.proofs.text_laws.wrong_line_is_unique.Goals as goal
-
-pub returns : goal.returns
-returns c = wrong_is_one

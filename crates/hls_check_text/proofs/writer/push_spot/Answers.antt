@@ -1,7 +1,0 @@
-use Rattle.hls_check_text.proofs.Written.{spot_written}
-use Rattle.hls_check_text.proofs.writer.push_spot.Goals as goal
-
-pub returns : goal.returns
-returns c =
-    spot_written c.args.out.now.items c.args.spot c.push_space_and_number.new.out.items c.push_fields_after_fragment.new.out.items
-    c.in_ok-push_space_and_number.ensures c.in_ok-push_fields_after_fragment.ensures

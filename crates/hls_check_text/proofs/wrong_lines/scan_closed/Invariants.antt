@@ -1,9 +1,0 @@
-use Rattle.std.proofs.Common.{length}
-use Rattle.hls_check_text.proofs.Scans.{ClosedPassed}
-use Rattle.hls_check_text.proofs.wrong_lines.scan_closed.Given as goal
-
-abbrev pub invariant-loop-line : goal.invariant-loop-line
-invariant-loop-line l = ClosedPassed l.count l.fn.text l.fn.first l.low l.rest l.lines_read
-
-abbrev pub decreases-loop-line : goal.decreases-loop-line
-decreases-loop-line l = length l.rest

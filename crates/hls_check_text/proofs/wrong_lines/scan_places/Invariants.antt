@@ -1,5 +1,0 @@
-use Rattle.hls_check_text.proofs.Scans.{PlacesPassed}
-use Rattle.hls_check_text.proofs.wrong_lines.scan_places.Given as goal
-
-abbrev pub invariant-loop-p : goal.invariant-loop-p
-invariant-loop-p l = PlacesPassed l.fn.head l.fn.text l.rest l.p

@@ -1,0 +1,64 @@
+-- What a keeper has seen, from one act to the next, and what its acts come to.
+use Rattle.std.specs.{Global.Global, declared.sync.Arc.Arc}
+use Rattle.std.proofs.Common.{◌≡◌, ℕ, Some, Option, IfOk, Result, Ok, Err, inl, inr, List, [], ◌∷◌, ◌++◌, refl, sym, subst, ap, ◌∙◌, append_assoc}
+use Rattle.hls_core_laws.specs.{declared.event.Event.Event, declared.event.Event.TheVariants.Accept, declared.event.Event.TheVariants.Begin, declared.refusal.Refusal.Refusal}
+use Rattle.hls_core_laws.{specs.{State.State, IsState.IsState, Moves.IsFittingAsSeen, Follows.Follows}, proofs.Callers.inits_stay}
+use Rattle.hls_media_laws.specs.{InitData.InitData, declared.facts.Facts.Facts, IsInitOrUnit.IsInit, IsInitOrUnit.IsUnit}
+use Rattle.hls_api.specs.Acts.{Act, ActsExtend, Knowledge, IsActStep, Looked, LookFailed, LooksAndFailsToSubmit, RecordsLookResult, Meets, Submitted, RecordsSubmit, view_of}
+use Rattle.hls_api.{specs.{OtherActors.{MayBecome, OtherActors}, Ingest.{Progress, FindsInit, HandlesPart}}, proofs.Callers.acted_follows}
+use Rattle.hls_connection.specs.{IngestStates.FindsInitOrFails, IngestStates.IsUsable, IngestStates.feed_fault_of}
+use Rattle.hls_core_laws.specs.PassView as calls
+use Rattle.hls_core_laws.specs.declared.refusal.Refusal.TheVariants as refusals
+use Rattle.hls_boxes.specs.declared.part.Part.TheVariants as parts
+
+-- ---- what acts lead to
+
+-- the init section that was found is still there
+pub usable_after : (r : ℕ) (a b : Knowledge) (found : Option InitData) → IsState b.seen → Follows a.seen b.seen → IsUsable r a found → IsUsable r b found
+usable_after r a b found valid follows usable = record {
+  valid = valid;
+  has = λ init is. let has = usable.has init is in let w = inits_stay a.seen b.seen follows r has.lane init has.at has.init_is in record { lane = w.0; at = w.1; init_is = w.2 };
+}
+
+pub usable_acted : (m : OtherActors) (r : ℕ) (a b : Knowledge) (before after : List Act) (found : Option InitData) → ActsExtend m a before b after → IsUsable r a found → IsUsable r b found
+usable_acted m r a b before after found acted usable =
+    let w = acted_follows m a b before after usable.valid acted in usable_after r a b found w.0 w.1.follows usable
+
+-- one act
+pub acted_one : (m : OtherActors) (a b : Knowledge) (before after : List Act) (act : Act) → IsActStep a act b → Meets m a act b → after ≡ before ++ act ∷ [] → ActsExtend m a before b after
+acted_one m a b before after act act_steps meets is = (act ∷ [], is, (b, act_steps, meets, refl))
+
+-- a look, which showed a state or none
+pub acted_looked : {E : Type 0} (m : OtherActors) (a b : Knowledge) (before after : List Act) (shown : Result (Arc State Global) E) → calls.MaySeeLater (view_of a) (view_of b)
+    → IfOk shown (λ s. calls.Looks (view_of a) s.value (view_of b)) → MayBecome m a.seen b.seen → RecordsLookResult a.acts shown b.acts → RecordsLookResult before shown after → ActsExtend m a before b after
+acted_looked m a b before after (Ok s) looked looks between asked is = acted_one m a b before after (Looked s.value) (record { asked = asked; does = looks }) between is
+acted_looked m a b before after (Err e) looked looks between asked is = acted_one m a b before after LookFailed (record { asked = asked; does = looked }) between is
+
+-- ---- parts
+
+-- a unit's facts under the init section that was found
+pub fits_unit : (r : ℕ) (known : Knowledge) (found : Option InitData) (init : InitData) (f : Facts) (bytes : List ℕ) → IsUsable r known found → found ≡ Some init → IsUnit init bytes f
+    → IsFittingAsSeen known.seen (Accept r f bytes)
+fits_unit r known found init f bytes usable is unit = let has = usable.has init is in (has.lane, init, has.at, has.init_is, unit)
+
+unit_wanted : (r : ℕ) (x : Progress) (init : InitData) (z y : List Act) (event : Event) → FindsInit r x init z → RecordsSubmit z event (Err refusals.Memory) y → LooksAndFailsToSubmit x.acts y
+unit_wanted r x init z y event (inl same) s = (z, inl same.1, inr (Submitted event (Err refusals.Memory), tt, s))
+unit_wanted r x init z y event (inr found) s = (z, inr (Looked found.state, tt, found.looks), inr (Submitted event (Err refusals.Memory), tt, s))
+
+pub init_refused : (r : ℕ) (x y : Progress) (bytes : List ℕ) (init : InitData) (q : Refusal) → IsInit bytes init → y.counts ≡ x.counts → RecordsSubmit x.acts (Begin r init bytes) (Err q) y.acts
+    → HandlesPart r x (parts.Init bytes) y (Err (feed_fault_of q))
+init_refused r x y bytes init refusals.Memory is counts s = (x.acts, inl refl, inr (Submitted (Begin r init bytes) (Err refusals.Memory), tt, s))
+init_refused r x y bytes init q is counts s = ((λ e. cc, (init, is, s)), counts)
+
+found_init : (r : ℕ) (x y : Progress) (init : InitData) → FindsInitOrFails r x y (Ok tt) → y.init ≡ Some init → FindsInit r x init y.acts
+found_init r x y init (counts, (i, is, finds)) there = let same : i ≡ init = cc (is, there) in subst (λ (j : InitData). FindsInit r x j y.acts) same finds
+
+pub unit_refused : (r : ℕ) (x z y : Progress) (bytes : List ℕ) (init : InitData) (f : Facts) (q : Refusal) → FindsInitOrFails r x z (Ok tt) → z.init ≡ Some init → IsUnit init bytes f
+    → y.counts ≡ z.counts → RecordsSubmit z.acts (Accept r f bytes) (Err q) y.acts → HandlesPart r x (parts.Unit bytes) y (Err (feed_fault_of q))
+unit_refused r x z y bytes init f refusals.Memory found there is counts s = unit_wanted r x init z.acts y.acts (Accept r f bytes) (found_init r x z init found there) s
+unit_refused r x z y bytes init f q found there is counts s =
+    (inr (record { init = init; looked = z.acts; finds = found_init r x z init found there; facts = f; reads = is; not_memory = λ e. cc; submits = s }), counts ∙ found.0)
+
+-- what was asked behind something else
+pub acted_behind : (m : OtherActors) (front : List Act) (a b : Knowledge) (before : List Act) {after all : List Act} → all ≡ front ++ after → ActsExtend m a before b after → ActsExtend m a (front ++ before) b all
+acted_behind m front a b before is (acts, grown, chain) = (acts, is ∙ ap (λ (t : List Act). front ++ t) grown ∙ sym (append_assoc front before acts), chain)

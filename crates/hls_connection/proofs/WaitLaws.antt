@@ -1,0 +1,155 @@
+-- Responses that wait for a job: what is due of the job as it was found.
+use Rattle.std.proofs.Common.{◌≡◌, ◌≢◌, ℕ, ◌<◌, ◌≤◌, ◌*◌, ◌+◌, ◌-◌, ◌^◌, ◌&&◌, Bool, true, false, cond, List, [], length, Option, Some, None, IsTrue, IsFalse, Result, Ok, Err, IfOk, inl, inr, refl, sym, ap, subst, arith}
+use Rattle.std.{specs.{Prelude.min, Option.is_some}, proofs.Math.Nat.{min-le_left, min-le_right}}
+use Rattle.httparse.specs.Grammar.{RequestHead}
+use Rattle.hls_catchup.specs.{declared.fault.JobFault.JobFault, declared.jobs.job.Job.Job}
+use Rattle.hls_http.specs.{declared.method.Method.Method, Actions.sends_close}
+use Rattle.hls_api.specs.{Acts.Act, JobTable.IsGetResult, Responses.ResponseData, Routes.allows, Routes.removes_job}
+use Rattle.hls_api.specs.Exchanges.{DueResponse, IsJobResponse, RequestParams, continue_prefix, params_of, request_of, shown_if, to_head}
+use Rattle.hls_api.specs.declared.route.Route.{Route}
+use Rattle.hls_connection.specs.{declared.state.ConnectionState.ConnectionState, declared.state.Transition.Transition, declared.state.WaitingResponse.WaitingResponse}
+use Rattle.hls_connection.specs.Traces.{ConnectionTrace, KeepsWaits, TraceWaits, trace_after_step}
+use Rattle.hls_connection.specs.Waits.{AnswersDue, AnswersJob, AnswersWith, IsAhead, IsAnswered, IsDeadline, IsJobDue, StaysOrAnswers, awaited_by, deadline_after, deadline_by, deadline_in, has_time, is_unfinished, may_wait, waits_in}
+use Rattle.hls_connection.specs.{RequestContexts.{ForContext, IsContextOf, IsDueFor, IsMadeResponse, IsResponse}, States.RespondsWith}
+use Rattle.hls_http.specs.declared.method.Method.TheVariants as methods
+use Rattle.hls_api.specs.declared.route.Route.TheVariants as routes
+use Rattle.hls_connection.specs.declared.state.ConnectionState.TheVariants as states
+
+-- a request whose response may wait removes no job
+not_removed : (id : ℕ) (method : Method) → may_wait method ≡ true → removes_job (routes.Job id) method ≡ false
+not_removed id methods.Get is = refl
+not_removed id methods.Head is = refl
+not_removed id method is = absurd (cc is)
+
+-- what is due for the answer that was made, or for want of memory
+shown_due : {E : Type 0} (count : ℕ) (h : RequestHead) (id : ℕ) (found : Result Job JobFault) (response : Result ResponseData E) (due : DueResponse)
+    → IfOk response (IsJobResponse found (shown_if (params_of count h) (routes.Job id) (allows (routes.Job id) (params_of count h).method)))
+    → IsDueFor (continue_prefix h (request_of count h).action) response (sends_close h false) (to_head h) due → IsJobDue count h id found due
+shown_due count h id found (Ok a) due shows is = inl (a, shows, is)
+shown_due count h id found (Err e) due shows is = inr is
+
+-- the response shows the job as it was found
+pub answered : {E : Type 0} (w : WaitingResponse) (found : Result Job JobFault) (response : Result ResponseData E) (step : Transition)
+    → ForContext w.context (λ h q. IfOk response (IsJobResponse found (shown_if q (routes.Job w.id) (allows (routes.Job w.id) q.method))))
+    → ((count : ℕ) (h : RequestHead) (first : List ℕ) → IsContextOf count h w.context → RespondsWith (IsDueFor first response (sends_close h false) (to_head h)) first w.acts step)
+    → IsAnswered w found step.output
+answered w found response step shows responds = λ count h context.
+    let r = responds count h (continue_prefix h (request_of count h).action) context in
+    (r.due, shown_due count h w.id found response r.due (shows count h context) r.is, r.text_is)
+
+-- .. and is one to its request
+pub waiting_made : {E : Type 0} (q : RequestParams) (id : ℕ) (found : Result Job JobFault) (acts : List Act) (response : Result ResponseData E) → may_wait q.method ≡ true → acts ≡ []
+    → IsGetResult id found → IfOk response (IsJobResponse found (shown_if q (routes.Job id) (allows (routes.Job id) q.method))) → IsMadeResponse (IsResponse q (routes.Job id) [] acts) [] acts response
+waiting_made q id found acts (Ok a) waits nothing gets shows = rw (not_removed id q.method waits) (nothing, (found, gets, shows))
+waiting_made q id found acts (Err e) waits nothing gets shows = inl (inl nothing)
+
+-- ---- that it may wait, and until when
+
+abbrev pair_in : Option (ℕ × ℕ) → ℕ × ℕ
+pair_in (Some pair) = pair
+pair_in None = (0, 0)
+
+pub awaited_route : (route : Route) (deadline : Option ℕ) (id at : ℕ) → awaited_by route deadline ≡ Some (id, at) → (route ≡ routes.Job id) × (deadline ≡ Some at)
+awaited_route (routes.Job i) (Some d) id at is = (ap (λ (o : Option (ℕ × ℕ)). routes.Job (pair_in o).0) is, ap (λ (o : Option (ℕ × ℕ)). Some (pair_in o).1) is)
+awaited_route (routes.Job i) None id at is = absurd (cc is)
+awaited_route route deadline id at is = absurd (cc is)
+
+-- the head asks for it, and the method's response may wait
+pub wait_asked : (method : Method) (wait now : Option ℕ) (at : ℕ) → deadline_by method wait now ≡ Some at → (is_some wait ≡ true) × (may_wait method ≡ true)
+wait_asked method (Some seconds) (Some now) at is = (refl, by (may_wait method) is)
+  where
+    by : (may : Bool) → cond may (Some (deadline_after now seconds)) None ≡ Some at → may ≡ true
+    by true is = refl
+    by false is = absurd (cc is)
+wait_asked method (Some seconds) None at is = absurd (cc is)
+wait_asked method None now at is = absurd (cc is)
+
+soon : (now seconds : ℕ) → deadline_after now seconds ≤ now + 30000
+soon now seconds = omega (arith, min-le_left (now + min seconds 30 * 1000) (2 ^ 64 - 1), min-le_right seconds 30)
+
+pub wait_ends : (method : Method) (wait now : Option ℕ) (at : ℕ) → deadline_by method wait now ≡ Some at → IsDeadline now None (Some at)
+wait_ends method (Some seconds) (Some now) at is = by (may_wait method) is
+  where
+    by : (may : Bool) → cond may (Some (deadline_after now seconds)) None ≡ Some at → at ≤ now + 30000
+    by true is = let same : deadline_after now seconds ≡ at = cc is in subst (λ (n : ℕ). n ≤ now + 30000) same (soon now seconds)
+    by false is = absurd (cc is)
+wait_ends method (Some seconds) None at is = absurd (cc is)
+wait_ends method None now at is = absurd (cc is)
+
+-- ---- a step of a connection
+
+-- a deadline that no time was given for isn't one
+pub without_time : (now deadline : Option ℕ) → IsDeadline None None deadline → IsDeadline now None deadline
+without_time now None is = tt
+without_time now (Some d) is = absurd is
+
+pub deadline_stays : (now deadline : Option ℕ) → IsDeadline now deadline deadline
+deadline_stays now None = tt
+deadline_stays now (Some d) = refl
+
+pub deadline_on : (now here after : Option ℕ) → IsDeadline now None here → IsDeadline now here after → IsDeadline now None after
+deadline_on now here None x y = tt
+deadline_on now None (Some d) x y = y
+deadline_on now (Some e) (Some d) x y = subst (λ (n : ℕ). IsDeadline now None (Some n)) (sym y) x
+
+pub awake_state : (state : ConnectionState) → ((w : WaitingResponse) → state ≢ states.Wait w) → deadline_in state ≡ None
+awake_state (states.Wait w) never = absurd (never w refl)
+awake_state state never = refl
+
+awake_due : (now : Option ℕ) (state new : ConnectionState) (pending : List ℕ) → deadline_in state ≡ None → AnswersDue now state new pending
+awake_due now (states.Wait w) new pending is = absurd (cc is)
+awake_due now state new pending is = tt
+
+awake_waits : (state : ConnectionState) → deadline_in state ≡ None → IsTrue (waits_in state) → ⊥
+awake_waits (states.Wait w) is waits = absurd (cc is)
+awake_waits state is waits = absurd (cc waits)
+
+-- no response waited
+module _ {now : Option ℕ} {old new : ConnectionTrace} {more : Bool} (awake : deadline_in old.state ≡ None) where
+  -- .. and one may begin to
+  pub begins_waits : IsDeadline now None (deadline_in new.state) → (IsFalse more → TraceWaits new → IsAhead now (deadline_in new.state)) → KeepsWaits now old new more
+  begins_waits deadline timely = record { deadline = rw awake deadline; answers = λ empty. awake_due now old.state new.state new.past.pending awake; timely = timely }
+
+  -- .. nor does one wait now
+  pub never_waits : deadline_in new.state ≡ None → KeepsWaits now old new more
+  never_waits is = begins_waits (rw is tt) (λ off waits. absurd (awake_waits new.state is waits.1))
+
+-- something waits to be sent, and nothing is done
+pub sending_waits : (now : Option ℕ) (c : ConnectionTrace) (more : Bool) → 0 < length c.past.pending → KeepsWaits now c c more
+sending_waits now c more some = record {
+  deadline = deadline_stays now (deadline_in c.state);
+  answers = λ empty. absurd (omega (arith, empty, some));
+  timely = λ off waits. absurd (omega (arith, waits.0, some));
+}
+
+-- a response waits on
+pub waiting_waits : (now : Option ℕ) (old new : ConnectionTrace) (more : Bool) (w next : WaitingResponse) → old.state ≡ states.Wait w → new.state ≡ states.Wait next → next ≡ w → AnswersJob now w None → KeepsWaits now old new more
+waiting_waits now old new more w next was is same a = record {
+  deadline = rw (was, is, same) refl;
+  answers = λ empty. rw (was, is, same) (a.found, a.gets, stays (has_time now w.deadline_ms && is_unfinished a.found) a.answers);
+  timely = λ off waits. rw (is, same) (ahead (has_time now w.deadline_ms) (is_unfinished a.found) a.answers);
+}
+  where
+    stays : (on : Bool) → AnswersWith w a.found on None → StaysOrAnswers w a.found on (states.Wait w) new.past.pending
+    stays true answers = refl
+    stays false answers = absurd answers
+
+    ahead : (time unfinished : Bool) → AnswersWith w a.found (time && unfinished) None → IsTrue time
+    ahead true unfinished answers = refl
+    ahead false unfinished answers = absurd answers
+
+-- .. or is answered
+pub answered_waits : (now : Option ℕ) (old c : ConnectionTrace) (more : Bool) (w : WaitingResponse) (step : Transition) → old.state ≡ states.Wait w → AnswersJob now w (Some step) → deadline_in step.state ≡ None
+    → KeepsWaits now old (trace_after_step c step) more
+answered_waits now old c more w step was a awake = record {
+  deadline = rw awake tt;
+  answers = λ empty. rw was (a.found, a.gets, answers (has_time now w.deadline_ms && is_unfinished a.found) a.answers);
+  timely = λ off waits. absurd (awake_waits step.state awake waits.1);
+}
+  where
+    answers : (on : Bool) → AnswersWith w a.found on (Some step) → StaysOrAnswers w a.found on step.state step.output
+    answers true is = absurd (cc is)
+    answers false is = is
+
+pub waits_to : {now : Option ℕ} {old here new : ConnectionTrace} {more : Bool} → new ≡ here → KeepsWaits now old here more → KeepsWaits now old new more
+waits_to {now} {old} {more = more} is x = subst (λ (c : ConnectionTrace). KeepsWaits now old c more) (sym is) x

@@ -1,0 +1,31 @@
+use Rattle.std.proofs.Common.{◌∙◌, refl, sym}
+use Rattle.hls_api.specs.{Exchanges.{continue_prefix, request_of}, declared.route.Route.TheVariants.Job}
+use Rattle.hls_connection.proofs.{AnswerLaws.replies_discarded, CallLaws.response_due, HoldLaws.replied, WaitLaws.answered, WaitLaws.waiting_made}
+use Rattle.hls_connection.proofs.wait.step_waiting.Goals as goal
+
+pub returns-then-waits_on-clause-answers : goal.returns-then-waits_on-clause-answers
+returns-then-waits_on-clause-answers g c = record { found = c.get_job-found.result; gets = c.get_job-found.ensures; answers = rw (sym c.waits_on.ensures ∙ c.if-waits_on.true) refl }
+
+pub returns-clause-answers : goal.returns-clause-answers
+returns-clause-answers g c =
+    let responds = rw c.replace-acts.ensures.value at c.respond.ensures.responds in
+    record {
+      found = c.get_job-found.result;
+      gets = c.get_job-found.ensures;
+      answers = rw (sym c.waits_on.ensures ∙ c.if-waits_on.false)
+          (answered c.args.waiting.now c.get_job-found.result c.found_job_response-response.result c.respond.result c.found_job_response-response.ensures responds);
+    }
+
+pub returns-clause-consistent : goal.returns-clause-consistent
+returns-clause-consistent g c = λ count ended unread received sent past_acts h.
+    let x = h.stage_is.0 in
+    let d = x.discarded in
+    let request = request_of count d.at.head in
+    let acts = c.args.waiting.now.acts in
+    let made = waiting_made request.asks c.args.waiting.now.id c.get_job-found.result acts c.found_job_response-response.result x.waits x.asked c.get_job-found.ensures
+    (c.found_job_response-response.ensures count d.at.head d.at.is_context) in
+    replied h h.stage_is.1 refl (replies_discarded d acts (λ due is. response_due request (Job c.args.waiting.now.id) acts c.found_job_response-response.result due made is)
+    (rw c.replace-acts.ensures.value at (c.respond.ensures.responds count d.at.head (continue_prefix d.at.head request.action) d.at.is_context)))
+
+pub returns-clause-sends : goal.returns-clause-sends
+returns-clause-sends g c = rw c.replace-acts.ensures.value at c.respond.ensures.sends

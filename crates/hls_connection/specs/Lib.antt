@@ -1,0 +1,15 @@
+pub mod Alone
+pub mod RequestContexts
+pub mod FailureCounts
+pub mod RunsSession
+pub mod Histories
+pub mod States
+pub mod Moments
+pub mod ActNotes
+pub mod IngestStates
+pub mod Traces
+pub mod Events
+pub mod Connections
+pub mod NeedsMore
+pub mod WithinBody
+pub mod Waits

@@ -1,0 +1,59 @@
+-- For the proofs of this crate; no public clause cites it.
+-- A request in the middle of its answering: what is kept of its head, what is made, and what is due.
+use Rattle.std.specs.Prelude.{◌≡◌, ℕ, ◌⊎◌, Bool, true, false, List, ◌++◌, Option, Some, IfOk, Result, Ok, Err}
+use Rattle.httparse.specs.Grammar.{RequestHead}
+use Rattle.hls_http.specs.{ResponseText.{is_success, out_of_memory_response}, ReadHeads.IsHead}
+use Rattle.hls_api.specs.{declared.catchup_query.CatchupQuery.CatchupQuery, declared.route.Route.Route, Queries.query_in}
+use Rattle.hls_api.specs.{Acts.{Act, ActsChangeNothing}, Exchanges.{RequestParams, DueResponse, ServesBy, params_of, job_at}}
+use Rattle.hls_api.specs.{Responses.{ResponseData, answer_text}, Routes.{path_of, query_of, route_of}}
+use Rattle.hls_connection.specs.declared.request_context.RequestContext.{RequestContext}
+use Rattle.hls_api.specs.declared.route.Route.TheVariants as routes
+
+-- ---- what was read
+
+-- in a channel of this number of renditions this is kept of the head h
+pub record IsContextOf (count : ℕ) (h : RequestHead) (context : RequestContext) : Type 0 where
+  pub text : List ℕ
+  pub head : IsHead h context.head text
+  pub route : context.route ≡ route_of count (path_of h.target)
+  pub query : context.route ≡ Some routes.CatchUp → IfOk context.query (λ query. query ≡ query_in (query_of h.target))
+
+-- of whatever head in a channel of however many renditions this was kept
+abbrev pub ForContext : RequestContext → (RequestHead → RequestParams → Type 0) → Type 0
+ForContext context Is = (count : ℕ) (h : RequestHead) → IsContextOf count h context → Is h (params_of count h)
+
+-- .. where it is for this route
+abbrev pub ForContextAt : Route → RequestContext → (RequestHead → RequestParams → Type 0) → Type 0
+ForContextAt route context Is = ForContext context (λ h q. context.route ≡ Some route → Is h q)
+
+-- what a query asks, of whatever text it was read
+abbrev pub ForQuery : {E : Type 0} → Result (Option CatchupQuery) E → (Option CatchupQuery → Type 0) → Type 0
+ForQuery query Is = (text : List ℕ) → IfOk query (λ said. said ≡ query_in text) → Is (query_in text)
+
+-- ---- answers
+
+-- an answer satisfies this; after an allocation failure nothing was done, or what such an answer reports
+abbrev pub IsMadeResponse : {E : Type 0} → (ResponseData → Type 0) → List Act → List Act → Result ResponseData E → Type 0
+IsMadeResponse Is a b (Ok answer) = Is answer
+IsMadeResponse Is a b (Err e) = ActsChangeNothing a b ⊎ ((answer : ResponseData) × Is answer)
+
+-- .. by what was asked before and what is asked now
+abbrev pub RespondsBy : {E : Type 0} → (List Act → List Act → ResponseData → Type 0) → List Act → List Act → Result ResponseData E → Type 0
+RespondsBy Is a b response = IsMadeResponse (Is a b) a b response
+
+abbrev pub IsResponse : RequestParams → Route → List Act → List Act → ResponseData → Type 0
+IsResponse q route a b answer = ServesBy q route a answer b (job_at route)
+
+-- ---- what is due
+
+-- a response's whole text after a first one
+abbrev pub due_response : List ℕ → ResponseData → Bool → Bool → DueResponse
+due_response first a closing to_head = record { text = first ++ answer_text a closing to_head; closing = closing; success = is_success a.status }
+
+abbrev pub memory_due : List ℕ → Bool → DueResponse
+memory_due first to_head = record { text = first ++ out_of_memory_response to_head; closing = true; success = false }
+
+-- that of the answer that was made; or of an allocation failure, for it or for its text
+abbrev pub IsDueFor : {E : Type 0} → List ℕ → Result ResponseData E → Bool → Bool → DueResponse → Type 0
+IsDueFor first (Ok a) closing to_head due = (due ≡ due_response first a closing to_head) ⊎ (due ≡ memory_due first to_head)
+IsDueFor first (Err e) closing to_head due = due ≡ memory_due first to_head

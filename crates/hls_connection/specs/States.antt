@@ -1,0 +1,179 @@
+-- For the proofs of this crate; no public clause cites it.
+-- The states of a connection, and what a step from one to the next comes to.
+use Rattle.std.specs.Prelude.{◌≡◌, ◌⊎◌, ℕ, ◌+◌, ◌*◌, ◌<◌, ◌≤◌, Bool, true, false, List, [], ◌++◌, length, Option, None, Err, IsTrue, IsFalse}
+use Rattle.hls_core_laws.specs.{IsState.IsState}
+use Rattle.hls_http.specs.{declared.framing.BodyFraming.BodyFraming, Bodies.IsOpen, Heads.IsUnfinished}
+use Rattle.hls_api.specs.ConnectionStates.{Exchange, History, Serves, Stage, Between, Within, Over, IsBetween, IsAtStage, acts_of, output, text_of}
+use Rattle.hls_api.specs.{declared.{ingest.IngestStop.TheVariants.Stopped, route.Route.Route}, Acts.{Act, Knowledge}}
+use Rattle.hls_api.specs.{Sessions.IsNotOver, Exchanges.{DueResponse, IsExchange}, Ingest.no_progress}
+use Rattle.hls_connection.specs.{declared.events.SessionEvent.SessionEvent, declared.receive.BodyTarget.BodyTarget, declared.request_context.RequestContext.RequestContext, declared.ingest_sink.IngestState.IngestState}
+use Rattle.hls_connection.specs.{declared.state.ConnectionState.ConnectionState, declared.state.Transition.Transition, declared.state.WaitingResponse.WaitingResponse, declared.state.WritingResponse.WritingResponse}
+use Rattle.hls_connection.specs.{Events.ingest_event, IngestStates.progress_of, Waits.IsDeadline, Waits.deadline_in, WithinBody.IsForTarget, WithinBody.IsReceiving, WithinBody.IsWaiting, WithinBody.IsWriting, WithinBody.SuitsTarget}
+use Rattle.hls_http.specs.declared.end.BodyEnd.TheVariants as bodies
+use Rattle.hls_http.specs.declared.end.SessionEnd.TheVariants as ends
+use Rattle.hls_connection.specs.declared.state.ConnectionState.TheVariants as states
+
+-- what was asked for the request whose body is received or whose response is made
+abbrev pub current_acts : ConnectionState → List Act
+current_acts (states.Receive r) = r.taken.acts
+current_acts (states.Wait w) = w.acts
+current_acts (states.Write w) = w.acts
+current_acts state = []
+
+-- the state, in the terms of connections
+abbrev pub stage_of : ConnectionState → Stage
+stage_of states.Head = Between
+stage_of (states.Receive r) = Within
+stage_of (states.Wait w) = Within
+stage_of (states.Write w) = Within
+stage_of (states.Ended end) = Over end
+
+-- what the state says of the stream after the requests that were answered
+abbrev pub IsInState : ConnectionState → ℕ → Bool → List ℕ → List Act → List ℕ → List ℕ → Type 0
+IsInState states.Head count ended stream acts text unread = IsBetween stream acts text unread
+IsInState (states.Receive r) count ended stream acts text unread = IsReceiving count stream text r unread × (acts ≡ [])
+IsInState (states.Wait w) count ended stream acts text unread = IsWaiting count stream text w unread × (acts ≡ [])
+IsInState (states.Write w) count ended stream acts text unread = IsWriting count stream text w unread × (acts ≡ [])
+IsInState (states.Ended end) count ended stream acts text unread = IsAtStage (Over end) count ended stream acts text unread
+
+-- it holds of a history whose acts are those for the requests that are over
+pub record IsConsistent (count : ℕ) (state : ConnectionState) (h : History) : Type 0 where
+  pub over : List Exchange
+  pub rest : List ℕ
+  pub serves : (later : List ℕ) → Serves count (h.received ++ later) over (rest ++ later)
+  pub acts : List Act
+  pub asked_is : h.acts ≡ acts_of over ++ acts
+  pub text : List ℕ
+  pub written : output h ≡ text_of over ++ text
+  pub stage_is : IsInState state count h.ended rest acts text h.unread
+
+-- the keeper suits the state: it has seen the init section under which a body is read
+abbrev pub SuitsState : Knowledge → ConnectionState → Type 0
+SuitsState known (states.Receive r) = SuitsTarget known r.target r.taken × IsForTarget r.target r.route r.context
+SuitsState known state = Unit {0}
+
+-- the event for a failed read
+abbrev pub read_failure_event_in : ConnectionState → Option SessionEvent
+read_failure_event_in (states.Receive r) = ingest_event r (Err (Stopped bodies.ReadFailed))
+read_failure_event_in state = None
+
+-- ---- where nothing more can be done
+
+abbrev pub IsOver : Stage → Type 0
+IsOver (Over end) = Unit {0}
+IsOver stage = ⊥
+
+abbrev pub IsNotOverIn : ConnectionState → Type 0
+IsNotOverIn state = IsNotOver (stage_of state)
+
+-- nothing can be done with what is unread: between two requests it is empty or the beginning of a head, and within a body it ends
+-- before a step of that body. While a response waits or is made nothing more is needed
+abbrev pub LacksMore : ConnectionState → List ℕ → Type 0
+LacksMore states.Head unread = (unread ≡ []) ⊎ IsUnfinished unread
+LacksMore (states.Receive r) unread = IsOpen r.body unread
+LacksMore (states.Wait w) unread = ⊥
+LacksMore (states.Write w) unread = ⊥
+LacksMore (states.Ended end) unread = ⊥
+
+-- all is over; or more is needed, is still to come, and there is room for it
+abbrev pub IsIdleOrWaiting : Bool → ConnectionState → List ℕ → Type 0
+IsIdleOrWaiting ended state unread = IsOver (stage_of state) ⊎ (IsFalse ended × (length unread < 16384) × LacksMore state unread)
+
+-- ---- how much is still to be done
+
+-- how many steps a state can take before it needs another byte: a body comes before its response, which waits, or is made in 65536
+-- parts at most
+abbrev pub steps_of : ConnectionState → ℕ
+steps_of (states.Ended end) = 0
+steps_of states.Head = 1
+steps_of (states.Wait w) = 2
+steps_of (states.Write w) = 2 + w.parts
+steps_of (states.Receive r) = 65539
+
+-- .. and with this many bytes, each of which may begin a request
+abbrev pub steps_in : ConnectionState → List ℕ → ℕ
+steps_in state unread = 65539 * length unread + steps_of state
+
+-- after a step that reports that nothing more is to be done the connection is idle; any other step lowers the number of steps left
+pub record ReportsProgress (ended : Bool) (old : ConnectionState) (before : List ℕ) (new : ConnectionState) (after : List ℕ) (more : Bool) : Type 0 where
+  pub idle_or_blocked : IsFalse more → IsIdleOrWaiting ended new after
+  pub lowers : IsTrue more → steps_in new after < steps_in old before
+
+-- more may be done at once, in a state that any keeper suits, of which at most so many steps are made, and whose response waits for 30
+-- seconds at most
+pub record Proceeds (now : Option ℕ) (most : ℕ) (step : Transition) : Type 0 where
+  pub suits : (known : Knowledge) → SuitsState known step.state
+  pub continues : step.more ≡ true
+  pub few : steps_of step.state ≤ most
+  pub deadline : IsDeadline now None (deadline_in step.state)
+
+-- ---- a step
+
+-- nothing is sent, and no request is over
+abbrev pub step_without_output : ConnectionState → Bool → Transition
+step_without_output state more = record { state = state; output = []; acts = []; more = more }
+
+abbrev pub awaited_state : Bool → Bool → ConnectionState
+awaited_state empty false = states.Head
+awaited_state true true = states.Ended ends.Closed
+awaited_state false true = states.Ended ends.CutShort
+
+-- a body is received; nothing of it was accepted yet
+abbrev pub BeginsBody : RequestContext → Route → BodyFraming → BodyTarget → Transition → Type 0
+BeginsBody context route body target step = (taken : IngestState) × (progress_of taken ≡ no_progress)
+    × (step ≡ record { state = states.Receive (record { context = context; route = route; body = body; target = target; taken = taken }); output = step.output; acts = []; more = true })
+
+-- after a body that was cut short, for which this was asked
+abbrev pub step_cut_short : List Act → Transition
+step_cut_short acts = record { state = states.Ended ends.CutShort; output = []; acts = acts; more = false }
+
+-- after a response: the next request, unless it closes the connection
+abbrev pub state_after : Bool → Bool → ConnectionState
+state_after false success = states.Head
+state_after true true = states.Ended ends.Closed
+state_after true false = states.Ended ends.Refused
+
+abbrev pub respond_step : List ℕ → Bool → Bool → List Act → Transition
+respond_step text closing success acts = record { state = state_after closing success; output = text; acts = acts; more = true }
+
+-- after what was written first, the step sends what makes up a response that is due, which took these acts, and continues as that one says
+pub record RespondsWith (Is : DueResponse → Type 0) (first : List ℕ) (acts : List Act) (step : Transition) : Type 0 where
+  pub due : DueResponse
+  pub is : Is due
+  pub text_is : due.text ≡ first ++ step.output
+  pub step_is : step ≡ respond_step step.output due.closing due.success acts
+
+-- whatever it responds to: it took these acts, and the next request follows, or all is over
+pub record SendsResponse (acts : List Act) (step : Transition) : Type 0 where
+  pub closing : Bool
+  pub success : Bool
+  pub step_is : step ≡ respond_step step.output closing success acts
+
+-- .. to the first request of a stream, whatever follows
+abbrev pub RespondsTo : ℕ → List ℕ → List ℕ → List Act → List ℕ → Transition → Type 0
+RespondsTo count stream first acts unread step =
+    RespondsWith (λ due. (later : List ℕ) → IsExchange count (stream ++ later) acts due (unread ++ later)) first acts step
+
+-- a request whose body was discarded is responded to, or its response is made in parts first, or waits
+abbrev pub IsHandled : ℕ → List ℕ → List ℕ → List ℕ → Transition → Type 0
+IsHandled count stream first unread step =
+    ((acts : List Act) × RespondsTo count stream first acts unread step)
+    ⊎ ((w : WritingResponse) × (step ≡ step_without_output (states.Write w) true) × IsWriting count stream first w unread)
+    ⊎ ((w : WaitingResponse) × (step ≡ step_without_output (states.Wait w) true) × IsWaiting count stream first w unread)
+
+-- the result of a step if nothing waits to be sent, whatever was received and sent before
+abbrev pub StepStaysConsistent : ℕ → Bool → ConnectionState → List ℕ → Transition → List ℕ → Type 0
+StepStaysConsistent count ended old before step after =
+    (received sent : List ℕ) (past_acts : List Act)
+    → IsConsistent count old (record { received = received; ended = ended; unread = before; acts = past_acts; sent = sent; pending = [] })
+    → IsConsistent count step.state (record { received = received; ended = ended; unread = after; acts = past_acts ++ step.acts; sent = sent; pending = step.output })
+
+-- what was asked for the request that is over by it, and for the next one
+abbrev pub acts_of_step : Transition → List Act
+acts_of_step step = step.acts ++ current_acts step.state
+
+-- nothing is asked of a keeper, whatever it knows, and it suits the next state, in which no response waits
+pub record HasNoActs (old : ConnectionState) (step : Transition) : Type 0 where
+  pub same : acts_of_step step ≡ current_acts old
+  pub suits : (known : Knowledge) → IsState known.seen → SuitsState known step.state
+  pub awake : deadline_in step.state ≡ None

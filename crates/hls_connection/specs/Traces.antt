@@ -1,0 +1,132 @@
+-- For the proofs of this crate; public clauses cite it only in the terms of connections.
+-- A connection, by all that came of it.
+use Rattle.std.specs.Prelude.{◌≡◌, ◌⊎◌, ◌<◌, ℕ, Bool, false, List, [], ◌++◌, flat_map, length, take, drop, Option, IsFalse, IsTrue}
+use Rattle.hls_core_laws.specs.{IsState.IsState}
+use Rattle.hls_api.specs.{Acts.{Act, ActsExtend, Knowledge}, OtherActors.OtherActors, ConnectionStates.History, ActLinks.AreLinked}
+use Rattle.hls_connection.specs.{declared.state.ConnectionState.ConnectionState, declared.state.Transition.Transition, declared.machine.ConnectionNotes.ConnectionNotes, declared.machine.ConnectionMachine.ConnectionMachine, Histories.StaysQuiet}
+use Rattle.hls_connection.specs.{declared.connection.ActiveConnection.ActiveConnection, declared.connection.ConnectionMemory.ConnectionMemory}
+use Rattle.hls_connection.specs.States.{IsNotOverIn, IsConsistent, IsIdleOrWaiting, SuitsState, current_acts, steps_in}
+use Rattle.hls_connection.specs.Waits.{AnswersDue, IsAhead, IsDeadline, deadline_in, waits_in}
+use Rattle.hls_connection.specs.declared.connection.ConnectionMemory.TheVariants as places
+use Rattle.hls_connection.specs.declared.state.ConnectionState.TheVariants as states
+
+-- its state, and its history but for the acts for the request that isn't over
+pub record ConnectionTrace : Type 0 where
+  pub renditions : ℕ
+  pub state : ConnectionState
+  pub past : History
+
+-- what was noted read by read and piece by piece, with what is unread
+abbrev pub trace_at : ConnectionMachine → List ℕ → ConnectionTrace
+trace_at w unread = record {
+  renditions = w.renditions;
+  state = w.state;
+  past = record {
+    received = flat_map (λ r. drop r.1 r.0.unread) w.notes.reads.items;
+    ended = w.ended;
+    unread = unread;
+    acts = flat_map (λ acts. acts.0) w.notes.acts.items;
+    sent = flat_map (λ s. take s.1 s.0) w.notes.writes.items;
+    pending = w.output;
+  };
+}
+
+abbrev pub all_acts : ConnectionTrace → List Act
+all_acts c = c.past.acts ++ current_acts c.state
+
+abbrev pub history_of : ConnectionTrace → History
+history_of c = record c.past { acts = all_acts c }
+
+abbrev pub IsConsistentTrace : ConnectionTrace → Type 0
+IsConsistentTrace c = IsConsistent c.renditions c.state c.past
+
+-- ---- with or without memory of its own
+
+-- one that is idle is between two requests, and nothing waits
+abbrev pub idle_machine : ℕ → ConnectionNotes → ConnectionMachine
+idle_machine renditions notes = record { renditions = renditions; state = states.Head; output = []; ended = false; notes = notes }
+
+abbrev pub trace_of : ConnectionMemory → ConnectionTrace
+trace_of (places.Idle renditions notes) = trace_at (idle_machine renditions notes) []
+trace_of (places.Active b) = trace_at b.value.machine b.value.input.unread
+
+abbrev pub IsActive : ConnectionMemory → Type 0
+IsActive (places.Idle renditions notes) = ⊥
+IsActive (places.Active b) = Unit {0}
+
+-- there is nothing to do
+pub record IsIdle (b : ActiveConnection) : Type 0 where
+  pub unended : b.machine.ended ≡ false
+  pub sent : b.machine.output ≡ []
+  pub state : b.machine.state ≡ states.Head
+  pub unread : b.input.unread ≡ []
+
+-- nothing came, and nothing was asked
+pub record IsFresh (notes : ConnectionNotes) : Type 0 where
+  pub acts : notes.acts.items ≡ []
+  pub reads : notes.reads.items ≡ []
+  pub writes : notes.writes.items ≡ []
+
+abbrev pub HasNothing : ConnectionMemory → ℕ → Type 0
+HasNothing (places.Idle renditions notes) count = (renditions ≡ count) × IsFresh notes
+HasNothing (places.Active b) count = ⊥
+
+-- ---- what is done with it
+
+-- these bytes were read, and perhaps the input's end
+abbrev pub trace_after_read : ConnectionTrace → List ℕ → Bool → ConnectionTrace
+trace_after_read c more ended =
+    record c { past = record c.past { received = c.past.received ++ more; ended = ended; unread = c.past.unread ++ more } }
+
+-- this many of the waiting bytes were sent
+abbrev pub trace_after_send : ConnectionTrace → ℕ → ConnectionTrace
+trace_after_send c count = record c { past = record c.past { sent = c.past.sent ++ take count c.past.pending; pending = drop count c.past.pending } }
+
+-- a transition was made
+abbrev pub trace_after_step : ConnectionTrace → Transition → ConnectionTrace
+trace_after_step c step = record c { state = step.state; past = record c.past { acts = c.past.acts ++ step.acts; pending = step.output } }
+
+-- a response waits, and nothing waits to be sent
+abbrev pub TraceWaits : ConnectionTrace → Type 0
+TraceWaits c = (length c.past.pending ≡ 0) × IsTrue (waits_in c.state)
+
+-- At one time, by some steps: a response that waited waits on or is answered, one that waits has a deadline, and where nothing more is to
+-- be done at once that is still to come.
+pub record KeepsWaits (now : Option ℕ) (old new : ConnectionTrace) (more : Bool) : Type 0 where
+  pub deadline : IsDeadline now (deadline_in old.state) (deadline_in new.state)
+  pub answers : length old.past.pending ≡ 0 → AnswersDue now old.state new.state new.past.pending
+  pub timely : IsFalse more → TraceWaits new → IsAhead now (deadline_in new.state)
+
+-- more is to be read: nothing waits, all is not over, and there is room
+abbrev pub WantsMore : ConnectionTrace → Type 0
+WantsMore c = IsFalse c.past.ended × (length c.past.pending ≡ 0) × IsNotOverIn c.state × (length c.past.unread < 65536) × IsFalse (waits_in c.state)
+
+-- nothing more is to be done: something waits to be sent, all is over, or more is needed
+abbrev pub TraceIsIdleOrBlocked : ConnectionTrace → Type 0
+TraceIsIdleOrBlocked c = (0 < length c.past.pending) ⊎ IsIdleOrWaiting c.past.ended c.state c.past.unread
+
+-- how many steps it may still make at most, where nothing more comes
+abbrev pub trace_steps_left : ConnectionTrace → ℕ
+trace_steps_left c = steps_in c.state c.past.unread
+
+-- ---- its keeper
+
+-- All that the connection asked for links what some keeper knew at first to what it knows; so it knows the init section under which a
+-- body is read.
+pub record IsSuited (known : Knowledge) (count : ℕ) (acts : List Act) (state : ConnectionState) : Type 0 where
+  pub first : Knowledge
+  pub valid : IsState first.seen
+  pub count_is : count ≡ length first.seen.config.renditions
+  pub linked : AreLinked first acts known
+  pub body : SuitsState known state
+
+abbrev pub IsSuitedTo : Knowledge → ConnectionTrace → Type 0
+IsSuitedTo known c = IsSuited known c.renditions (all_acts c) c.state
+
+-- what steps do: nothing is read or sent, and what holds and suits holds and suits after them
+pub record Advances (m : OtherActors) (a : Knowledge) (old : ConnectionTrace) (b : Knowledge) (new : ConnectionTrace) : Type 0 where
+  pub suits : IsSuitedTo b new
+  pub holds : IsConsistentTrace old → IsConsistentTrace new
+  pub acted : ActsExtend m a (all_acts old) b (all_acts new)
+  pub quiet : StaysQuiet (history_of old) (history_of new)
+  pub renditions : new.renditions ≡ old.renditions

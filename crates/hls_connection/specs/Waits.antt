@@ -1,0 +1,109 @@
+-- For the proofs of this crate; no public clause cites it.
+-- Responses that wait for a job to be finished.
+use Rattle.std.specs.Prelude.{◌≡◌, ◌⊎◌, ◌≤◌, ℕ, ◌+◌, ◌*◌, ◌-◌, ◌^◌, min, nat_lt, Bool, true, false, cond, ◌&&◌, List, ◌++◌, Option, Some, None, Result, Ok, IsTrue}
+use Rattle.httparse.specs.Grammar.{RequestHead}
+use Rattle.hls_catchup.specs.{declared.fault.JobFault.JobFault, declared.jobs.job.Job.Job}
+use Rattle.hls_http.specs.declared.method.Method.{Method}
+use Rattle.hls_api.specs.Exchanges.{DueResponse, IsDue, IsJobResponse, continue_prefix, due_for_memory, params_of, request_of, shown_if}
+use Rattle.hls_api.specs.{declared.route.Route.Route, JobTable.IsGetResult, Responses.ResponseData, Routes.allows}
+use Rattle.hls_connection.specs.{declared.state.Transition.Transition, declared.state.WaitingResponse.WaitingResponse, declared.state.ConnectionState.ConnectionState, RequestContexts.IsContextOf}
+use Rattle.hls_catchup.specs.declared.jobs.job.Job.TheVariants as jobs
+use Rattle.hls_http.specs.declared.method.Method.TheVariants as methods
+use Rattle.hls_api.specs.declared.route.Route.TheVariants as routes
+use Rattle.hls_connection.specs.declared.state.ConnectionState.TheVariants as states
+
+-- ---- how long
+
+-- the response to GET may wait, and so may that to HEAD
+abbrev pub may_wait : Method → Bool
+may_wait methods.Get = true
+may_wait methods.Head = true
+may_wait method = false
+
+-- times are milliseconds of one clock: a response waits for at most 30 seconds
+abbrev pub deadline_after : ℕ → ℕ → ℕ
+deadline_after now seconds = min (now + min seconds 30 * 1000) (2 ^ 64 - 1)
+
+-- until when it waits, if its head asks for that and a time is given
+abbrev pub deadline_by : Method → Option ℕ → Option ℕ → Option ℕ
+deadline_by method (Some seconds) (Some now) = cond (may_wait method) (Some (deadline_after now seconds)) None
+deadline_by method seconds now = None
+
+-- the job for which the response waits, and until when
+abbrev pub awaited_by : Route → Option ℕ → Option (ℕ × ℕ)
+awaited_by (routes.Job id) (Some deadline) = Some (id, deadline)
+awaited_by route deadline = None
+
+-- the deadline is still to come
+abbrev pub has_time : Option ℕ → ℕ → Bool
+has_time (Some now) deadline = nat_lt now deadline
+has_time None deadline = false
+
+-- ---- for what
+
+-- the job waits for a planner, or runs
+abbrev pub is_unfinished : Result Job JobFault → Bool
+is_unfinished (Ok jobs.Waiting) = true
+is_unfinished (Ok jobs.Running) = true
+is_unfinished found = false
+
+-- ---- the answer
+
+-- what is due shows the job as it was found; or an allocation failed
+abbrev pub IsJobDue : ℕ → RequestHead → ℕ → Result Job JobFault → DueResponse → Type 0
+IsJobDue count h id found due =
+    ((answer : ResponseData) × IsJobResponse found (shown_if (params_of count h) (routes.Job id) (allows (routes.Job id) (params_of count h).method)) answer
+    × IsDue h (request_of count h).action answer false due)
+    ⊎ (due ≡ due_for_memory h (request_of count h).action)
+
+-- what is sent, after 100 Continue where that was sent, makes up what is due
+abbrev pub IsAnswered : WaitingResponse → Result Job JobFault → List ℕ → Type 0
+IsAnswered w found output =
+    (count : ℕ) (h : RequestHead) → IsContextOf count h w.context
+    → (due : DueResponse) × IsJobDue count h w.id found due × (due.text ≡ continue_prefix h (request_of count h).action ++ output)
+
+-- it waits on, or it answers
+abbrev pub AnswersWith : WaitingResponse → Result Job JobFault → Bool → Option Transition → Type 0
+AnswersWith w found true step = step ≡ None
+AnswersWith w found false None = ⊥
+AnswersWith w found false (Some step) = IsAnswered w found step.output
+
+-- The job was found so in the table: while it is unfinished and the deadline is still to come the response waits on, and else it
+-- shows the job as it was found.
+pub record AnswersJob (now : Option ℕ) (w : WaitingResponse) (step : Option Transition) : Type 0 where
+  pub found : Result Job JobFault
+  pub gets : IsGetResult w.id found
+  pub answers : AnswersWith w found (has_time now w.deadline_ms && is_unfinished found) step
+
+-- .. of a connection
+abbrev pub StaysOrAnswers : WaitingResponse → Result Job JobFault → Bool → ConnectionState → List ℕ → Type 0
+StaysOrAnswers w found true new pending = new ≡ states.Wait w
+StaysOrAnswers w found false new pending = IsAnswered w found pending
+
+-- where its response waited
+abbrev pub AnswersDue : Option ℕ → ConnectionState → ConnectionState → List ℕ → Type 0
+AnswersDue now (states.Wait w) new pending =
+    (found : Result Job JobFault) × IsGetResult w.id found × StaysOrAnswers w found (has_time now w.deadline_ms && is_unfinished found) new pending
+AnswersDue now state new pending = Unit {0}
+
+-- ---- a connection's wait
+
+abbrev pub waits_in : ConnectionState → Bool
+waits_in (states.Wait w) = true
+waits_in state = false
+
+abbrev pub deadline_in : ConnectionState → Option ℕ
+deadline_in (states.Wait w) = Some w.deadline_ms
+deadline_in state = None
+
+-- there is a deadline, and it is still to come
+abbrev pub IsAhead : Option ℕ → Option ℕ → Type 0
+IsAhead now (Some deadline) = IsTrue (has_time now deadline)
+IsAhead now None = ⊥
+
+-- a response that waits on keeps its deadline, and one that begins to wait has 30 seconds at most
+abbrev pub IsDeadline : Option ℕ → Option ℕ → Option ℕ → Type 0
+IsDeadline now old None = Unit {0}
+IsDeadline now (Some deadline) (Some d) = d ≡ deadline
+IsDeadline (Some now) None (Some d) = d ≤ now + 30000
+IsDeadline None None (Some d) = ⊥

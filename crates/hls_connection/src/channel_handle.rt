@@ -1,0 +1,136 @@
+//! A thread's handle of a channel that many threads share, and the sessions that it serves.
+
+ghost use Rattle.std.specs.Prelude.{◌≡◌, []};
+ghost use Rattle.hls_api.specs.{Acts.knowledge_of, OtherActors.Others, PlaylistCache.HasSameListsBefore};
+ghost use Rattle.hls_connection.specs.{FailureCounts.SessionCounts, RunsSession.RunsSession};
+
+use crate::act_log::{ActLog, ActNote};
+use crate::events::NoObserver;
+use crate::keeper::Keeper;
+use crate::session::session_on;
+use crate::shared_channel::SharedChannel;
+use hls_api::{PlaylistCache, Response};
+use hls_catchup::{Job, JobFault, Request};
+use hls_core::snapshot::Snapshot;
+use hls_core_laws::done::Done;
+use hls_core_laws::event::Event;
+use hls_core_laws::refusal::Refusal;
+use hls_http::{Session, SessionEnd};
+use hls_turn::Pass;
+use http_server::Log;
+use std::alloc::{AllocError, Global};
+use std::io::{Read, Write};
+use std::sync::{Arc, Wait};
+
+/// A thread's handle of a channel: the runtime by which it waits, the allocator, the channel's turn and jobs, and a pass of the turn.
+/// The next look or event sees what other passes submitted meanwhile. Between two calls it holds nothing of the turn or the jobs,
+/// except the texts of short live lists of the snapshot that it looked at for one last.
+#[derive(Drop)]
+pub struct ChannelHandle<'a, T: Wait> {
+    /// The runtime by which it waits.
+    pub rt: &'a T,
+    /// The allocator.
+    pub alloc: Global,
+    /// The turn and the jobs.
+    pub channel: SharedChannel<'a>,
+    /// The thread's pass of the turn.
+    pub pass: Pass,
+    /// Its acts.
+    pub acts: ActLog,
+    lists: PlaylistCache,
+    ghost ours: { pass.turn ≡ channel.turn.now },
+    ghost listed: { HasSameListsBefore lists pass.known.seen },
+}
+
+impl<'a, T: Wait> ChannelHandle<'a, T> {
+    /// A handle with a pass of the channel's turn.
+    pub fn new(
+        rt: &'a T,
+        alloc: Global,
+        channel: &SharedChannel<'a>,
+        pass: Pass,
+    ) -> ChannelHandle<'a, T>
+        requires { pass.turn ≡ channel.now.turn.now }
+        ensures known { result.pass.known ≡ pass.known }
+        ensures acts { result.acts ≡ [] }
+    {
+        ChannelHandle {
+            rt,
+            alloc,
+            channel: *channel,
+            pass,
+            acts: ActLog::new(),
+            lists: PlaylistCache::new(alloc),
+        }
+    }
+}
+
+impl<'a, T: Wait> Keeper for ChannelHandle<'a, T> {
+    ghost known = { λ handle. knowledge_of handle.pass.known handle.acts };
+
+    ghost other_actors = { Others };
+
+    fn alloc(&self) -> Global {
+        self.alloc
+    }
+
+    fn rendition_count(&self) -> usize {
+        self.pass.rendition_count()
+    }
+
+    fn look(&mut self) -> Result<Arc<Snapshot>, AllocError> {
+        let turn = self.channel.turn;
+        let shown = turn.look(self.rt, self.alloc, &mut self.pass);
+        self.acts.note_look(&shown);
+        shown
+    }
+
+    fn live_playlist_response(
+        &mut self,
+        state: Arc<Snapshot>,
+        rendition: usize,
+    ) -> Result<Response, AllocError> {
+        self.lists.get_or_render(state, rendition)
+    }
+
+    fn submit(&mut self, event: Event) -> Result<Done, Refusal> {
+        let note = Log::new().and(&event, &());
+        let turn = self.channel.turn;
+        let done = turn.submit(self.rt, self.alloc, &mut self.pass, event);
+        self.acts.push(ActNote::Submitted(note, done));
+        done
+    }
+
+    fn add_job(&mut self, snapshot: Arc<Snapshot>, request: Request) -> Result<u64, JobFault> {
+        let note = Log::new().and(&snapshot, &());
+        let added = self.channel.jobs.add(self.rt, snapshot, request);
+        self.acts.push(ActNote::Added(note, request, added));
+        added
+    }
+
+    fn get_job(&self, id: u64) -> Result<Job, JobFault> {
+        self.channel.jobs.get(self.rt, id)
+    }
+
+    fn remove_job(&mut self, id: u64) -> Result<(), JobFault> {
+        let removed = self.channel.jobs.remove(self.rt, id);
+        self.acts.push(ActNote::Removed(id, removed));
+        removed
+    }
+
+    fn job_count(&self) -> usize {
+        self.channel.jobs.len(self.rt)
+    }
+}
+
+/// Serves the requests of a session over a channel handle, without an observer. May wait.
+pub fn serve_session<T: Wait, R: Read, W: Write>(
+    session: &mut Session<R, W>,
+    handle: &mut ChannelHandle<'_, T>,
+) -> SessionEnd
+    ensures session { RunsSession Others R.remaining W.contents session.old session.new
+        (knowledge_of handle.old.pass.known handle.old.acts) (knowledge_of handle.new.pass.known handle.new.acts) result }
+    ensures counts { SessionCounts session.old session.new result }
+{
+    session_on(handle.rt, session, handle, &NoObserver)
+}

@@ -1,0 +1,80 @@
+//! What a session uses of a channel: its state, and the jobs of catch-up recordings.
+
+ghost use Rattle.std.specs.Prelude.{◌≡◌, IfOk, length};
+ghost use Rattle.hls_core_laws.specs.{IsState.IsState, Moves.IsFittingAsSeen, PassView.{MaySeeLater, Looks, Submits}};
+ghost use Rattle.hls_catchup.specs.Jobs.Shared.{HasCounted, HasRemoved};
+ghost use Rattle.hls_api.specs.{Acts.{Added, Knowledge, RecordsLookResult, Removed, knowledge_after, view_of}, Playlists.live_text};
+ghost use Rattle.hls_api.specs.{JobTable.{IsAddResult, IsGetResult}, OtherActors.{MayBecome, OtherActors, HasMet}};
+ghost use Rattle.hls_api.specs.Acts as acts;
+ghost use Rattle.hls_api.specs.Responses as replies;
+
+use hls_api::Response;
+use hls_catchup::{Job, JobFault, Request};
+use hls_core::snapshot::Snapshot;
+use hls_core_laws::done::Done;
+use hls_core_laws::event::Event;
+use hls_core_laws::refusal::Refusal;
+use std::alloc::{AllocError, Global};
+use std::sync::Arc;
+
+/// What a session uses to read a channel's state, to submit events, and to add, read and remove jobs. A keeper has all that it acts
+/// with, so a session borrows nothing else. Its calls may wait.
+pub trait Keeper {
+    /// What the keeper knows: its number, the state that it saw last, and the events that it submitted; and all its acts. Each call that
+    /// may change something is noted there, whoever makes it.
+    ghost known: { Self → Knowledge };
+
+    /// The others that may act on the channel between two calls.
+    ghost other_actors: { OtherActors };
+
+    /// The allocator for requests and responses.
+    fn alloc(&self) -> Global;
+
+    /// The number of the channel's renditions, which never changes.
+    fn rendition_count(&self) -> usize
+        ensures count { result ≡ length (known self.now).seen.config.renditions }
+        ensures valid { IsState (known self.now).seen };
+
+    /// Returns the current state, which the keeper has then seen.
+    fn look(&mut self) -> Result<Arc<Snapshot>, AllocError>
+        ensures looked { MaySeeLater (view_of (known self.old)) (view_of (known self.new)) }
+        ensures looks { IfOk result (λ s. Looks (view_of (known self.old)) s.value (view_of (known self.new))) }
+        ensures other_actors { MayBecome other_actors (known self.old).seen (known self.new).seen }
+        ensures asked { RecordsLookResult (known self.old).acts result (known self.new).acts };
+
+    /// Returns the response with the live list of a rendition, in the state that the keeper saw last. A long one may be partly made. 404
+    /// until a segment was ever closed.
+    fn live_playlist_response(
+        &mut self,
+        state: Arc<Snapshot>,
+        rendition: usize,
+    ) -> Result<Response, AllocError>
+        requires { state.value ≡ (known self.old).seen }
+        ensures known { known self.new ≡ known self.old }
+        ensures list { IfOk result (λ a. a ≡ replies.list_answer (live_text state.value rendition)) };
+
+    /// Applies an event to the current state, as one of this keeper. The refusals are those of a step of the core.
+    fn submit(&mut self, event: Event) -> Result<Done, Refusal>
+        requires { IsFittingAsSeen (known self.old).seen event }
+        ensures submits { Submits (view_of (known self.old)) event result (view_of (known self.new)) }
+        ensures met { HasMet other_actors (view_of (known self.old)) event (view_of (known self.new)) }
+        ensures asked { acts.RecordsSubmit (known self.old).acts event result (known self.new).acts };
+
+    /// Adds a job that answers the request from the snapshot, and returns its id; `TableFull` if there is no place for it.
+    fn add_job(&mut self, snapshot: Arc<Snapshot>, request: Request) -> Result<u64, JobFault>
+        ensures known { known self.new ≡ knowledge_after (known self.old) (Added snapshot.value request result) }
+        ensures adds { IsAddResult snapshot.value request result };
+
+    /// Returns the job of an id. An answer is shared, not copied.
+    fn get_job(&self, id: u64) -> Result<Job, JobFault>
+        ensures { IsGetResult id result };
+
+    /// Removes the job of an id.
+    fn remove_job(&mut self, id: u64) -> Result<(), JobFault>
+        ensures known { known self.new ≡ knowledge_after (known self.old) (Removed id result) }
+        ensures removes { HasRemoved id result };
+
+    /// How many jobs there are.
+    fn job_count(&self) -> usize
+        ensures { HasCounted result };
+}

@@ -1,5 +1,0 @@
-use Rattle.hls_record.specs.IsRecorded.{IsRecorded}
-use Rattle.hls_core_tests.proofs.tests.samples.record_units.Given as goal
-
-abbrev pub invariant-loop-unit : goal.invariant-loop-unit
-invariant-loop-unit l = IsRecorded l.recording

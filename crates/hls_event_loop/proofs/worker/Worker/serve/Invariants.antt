@@ -1,0 +1,5 @@
+use Rattle.hls_event_loop.specs.Validity.{AllValid}
+use Rattle.hls_event_loop.proofs.worker.Worker.serve.Given as goal
+
+abbrev pub invariant-loop : goal.invariant-loop
+invariant-loop g l = AllValid g.H.Handler.valid l.self.handler l.self.slots

@@ -1,0 +1,6 @@
+-- How many connections a process may hold.
+use Rattle.std.specs.Prelude.{ℕ, ◌+◌, ◌-◌, ◌*◌, max, min}
+
+-- of the wanted connections, with this limit on open files: a worker uses four, and 32 are for the rest of the process
+abbrev pub connection_limit : ℕ → ℕ → ℕ → ℕ
+connection_limit files wanted workers = min wanted (max (files - (4 * workers + 32)) 1)

@@ -1,5 +1,0 @@
-mod DrainLaws
-mod FeedLaws
-mod Least
-mod ShortestLaws
-pub mod Callers

@@ -1,5 +1,0 @@
-use Rattle.hls_feed.proofs.ShortestLaws.{shortest_part, shortest_fault}
-use Rattle.hls_feed.proofs.feed_laws.shortest_prefixes_exist.Goals as goal
-
-pub returns : goal.returns
-returns c = record { part = shortest_part; fault = shortest_fault }

@@ -1,4 +1,0 @@
-pub mod FaultName
-pub mod Shortest
-pub mod Streams
-pub mod DrainSteps

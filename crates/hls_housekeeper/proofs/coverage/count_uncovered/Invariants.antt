@@ -1,0 +1,6 @@
+use Rattle.std.proofs.Common.{◌≡◌, ◌≤◌, take}
+use Rattle.hls_housekeeper.specs.Coverage.{count_uncovered}
+use Rattle.hls_housekeeper.proofs.coverage.count_uncovered.Given as goal
+
+abbrev pub invariant-loop-unit : goal.invariant-loop-unit
+invariant-loop-unit l = record { counted : l.count ≡ count_uncovered l.ranges (take l.unit-index l.units); few : l.count ≤ l.unit-index }

@@ -1,0 +1,228 @@
+//! The housekeeper: keeps the channel to its window, and warns of limits that come near.
+
+ghost use Rattle.std.specs.Prelude.{◌≡◌, IfOk, Some};
+ghost use Rattle.hls_core.specs.Upkeeps.{IsUpkeepOf};
+ghost use Rattle.hls_core_laws.specs.PassView.{MaySeeLater};
+ghost use Rattle.hls_housekeeper.specs.Housekeeping.{SubmitsUpkeep, EndsRound, RunsUpkeep};
+
+use crate::alert::is_alert_due;
+use crate::monitor::Monitor;
+use crate::operator_log::{OperatorLog, log_refused_upkeep};
+use crate::progress::channel_time;
+use crate::server_status::ServerStatus;
+use crate::trim_backoff::TrimBackoff;
+use hls_core::upkeep::upkeep;
+use hls_core_laws::event::Event;
+use hls_core_laws::refusal::Refusal;
+use hls_settings::{Settings, WindowSettings};
+use hls_time::monotonic_ms;
+use hls_turn::{Pass, Turn};
+use std::alloc::Global;
+use std::io::Eprint;
+use std::rt::Env;
+use std::sync::Wait;
+use std::thread;
+use std::time::{Clock, Duration};
+
+/// How long the housekeeper sleeps once nothing is due, in milliseconds. Units that arrive within that time share one round, so
+/// encoders that send many per second don't compete with it for the turn at each one.
+const REST_MS: u64 = 10;
+
+/// The retry interval after an allocation failure, in milliseconds. Memory is freed when a body, a reply or a job ends, and none
+/// of these notifies the housekeeper; and where no unit can be accepted meanwhile, only its trim makes room.
+const RETRY_MS: u64 = 1000;
+
+/// How a round of upkeep ended, if no event was refused.
+#[derive(Clone, Copy)]
+pub enum UpkeepOutcome {
+    /// Nothing is due.
+    UpToDate,
+    /// Nothing is due any more, and units were trimmed.
+    Trimmed,
+    /// A trim is due, but waits for the backoff to end.
+    BackedOff,
+}
+
+/// Returns the next event that is due, if any.
+fn next_event<R: Wait>(
+    rt: &R,
+    alloc: Global,
+    turn: &Turn,
+    timing: WindowSettings,
+    pass: &mut Pass,
+) -> Result<Option<Event>, Refusal>
+    requires { pass.old.turn ≡ turn.now }
+    ensures ours { pass.new.turn ≡ turn.now }
+    ensures looked { MaySeeLater pass.old.known pass.new.known }
+    ensures due { IfOk result (IsUpkeepOf pass.new.known.seen timing.window timing.keep) }
+{
+    match turn.look(rt, alloc, pass) {
+        Ok(snapshot) => Ok(upkeep(&snapshot, timing.window, timing.keep)),
+        Err(_) => Err(Refusal::Memory),
+    }
+}
+
+/// Submits the event that upkeep yields: a slide or a trim.
+fn submit_upkeep<R: Wait>(
+    rt: &R,
+    alloc: Global,
+    turn: &Turn,
+    timing: WindowSettings,
+    pass: &mut Pass,
+    event: Event,
+) -> Result<(), Refusal>
+    requires ours { pass.old.turn ≡ turn.now }
+    requires due { IsUpkeepOf pass.old.known.seen timing.window timing.keep (Some event) }
+    ensures ours { pass.new.turn ≡ turn.now }
+    ensures submits { SubmitsUpkeep timing.window timing.keep pass.old.known pass.new.known }
+{
+    match turn.submit(rt, alloc, pass, event) {
+        Ok(_) => Ok(()),
+        Err(refusal) => Err(refusal),
+    }
+}
+
+/// Submits what is due until nothing is or an event is refused. During a backoff trims wait, and only the rest is submitted.
+fn run_upkeep<R: Wait>(
+    rt: &R,
+    alloc: Global,
+    turn: &Turn,
+    timing: WindowSettings,
+    resting: bool,
+    pass: &mut Pass,
+) -> Result<UpkeepOutcome, Refusal>
+    requires { pass.old.turn ≡ turn.now }
+    ensures ours { pass.new.turn ≡ turn.now }
+    ensures keeps { RunsUpkeep timing.window timing.keep pass.old.known pass.new.known }
+    ensures ends { IfOk result (EndsRound resting timing.window timing.keep pass.new.known.seen) }
+{
+    let mut trimmed = false;
+    for _ in rt.forever() {
+        let Some(event) = next_event(rt, alloc, turn, timing, pass)? else {
+            return Ok(if trimmed {
+                UpkeepOutcome::Trimmed
+            } else {
+                UpkeepOutcome::UpToDate
+            });
+        };
+        if matches!(&event, Event::Trim { .. }) {
+            if resting {
+                return Ok(UpkeepOutcome::BackedOff);
+            }
+            trimmed = true;
+        }
+        submit_upkeep(rt, alloc, turn, timing, pass, event)?;
+    }
+    unreachable!()
+}
+
+/// The housekeeper between its rounds.
+#[derive(Clone, Copy)]
+struct Housekeeper {
+    /// When a refused event was last logged, in milliseconds of the clock; 0 if never.
+    logged_at_ms: u64,
+    backoff: TrimBackoff,
+}
+
+/// What the housekeeper does after a round.
+#[derive(Clone, Copy)]
+struct NextRound {
+    /// How long it sleeps, in milliseconds.
+    length: u64,
+    /// Whether it runs the next round even if nothing notifies it.
+    again: bool,
+}
+
+/// The pause after a round that left nothing to do, or only what another unit may change.
+const SHORT: NextRound = NextRound {
+    length: REST_MS,
+    again: false,
+};
+
+/// Logs a refused event, at most once a minute. Returns when one was last logged, in milliseconds of the clock (0: never), for
+/// `logged_at_ms`.
+fn log_refusal<E: Eprint>(
+    log: &OperatorLog<'_, E>,
+    refusal: Refusal,
+    logged_at_ms: u64,
+    now: u64,
+) -> u64 {
+    if !is_alert_due(logged_at_ms, now) {
+        return logged_at_ms;
+    }
+    log_refused_upkeep(log, refusal);
+    now
+}
+
+/// Updates the housekeeper after a round, and returns its pause, at a moment of the clock and of the channel. Where a trim waits or an
+/// allocation failed, it runs again by itself, since nothing else may notify it.
+fn plan_next_round<E: Eprint>(
+    log: &OperatorLog<'_, E>,
+    keep: u64,
+    housekeeper: &mut Housekeeper,
+    round: Result<UpkeepOutcome, Refusal>,
+    now: u64,
+    time: u64,
+) -> NextRound {
+    match round {
+        Ok(UpkeepOutcome::UpToDate) => SHORT,
+        Ok(UpkeepOutcome::Trimmed) => {
+            housekeeper.backoff = TrimBackoff::start(keep, now, time);
+            SHORT
+        }
+        Ok(UpkeepOutcome::BackedOff) => NextRound {
+            length: REST_MS,
+            again: true,
+        },
+        Err(refusal) => {
+            housekeeper.logged_at_ms = log_refusal(log, refusal, housekeeper.logged_at_ms, now);
+            let again = refusal == Refusal::Memory;
+            let length = if again { RETRY_MS } else { REST_MS };
+            NextRound { length, again }
+        }
+    }
+}
+
+/// Runs upkeep whenever it is notified, until the server has closed; retries by itself after an allocation failure. The only
+/// events that it submits are those that upkeep yields. Logs what the operator has to know of the channel. May wait.
+pub fn run_housekeeper<R: Wait + Clock + Eprint + Env, H: ServerStatus>(
+    rt: &R,
+    alloc: Global,
+    turn: &Turn,
+    settings: &Settings,
+    status: &H,
+    pass: &mut Pass,
+)
+    requires { pass.old.turn ≡ turn.now }
+    ensures ours { pass.new.turn ≡ turn.now }
+    ensures keeps { RunsUpkeep settings.now.server.timing.window settings.now.server.timing.keep pass.old.known pass.new.known }
+{
+    let log = OperatorLog::new(rt);
+    let timing = settings.server.timing;
+    let mut housekeeper = Housekeeper {
+        logged_at_ms: 0,
+        backoff: TrimBackoff::none(),
+    };
+    let mut monitor = Monitor::new(monotonic_ms(rt).max(1));
+    for _ in rt.forever() {
+        turn.wait_told(rt);
+        let now = monotonic_ms(rt).max(1);
+        let mut time = 0;
+        if let Ok(snapshot) = turn.look(rt, alloc, pass) {
+            time = channel_time(&snapshot);
+            if monitor.is_due(now) {
+                monitor.inspect(&log, settings, &snapshot, status.job_count(rt), now);
+            }
+        }
+        let resting = housekeeper.backoff.is_active(now, time);
+        let round = run_upkeep(rt, alloc, turn, timing, resting, pass);
+        let pause = plan_next_round(&log, timing.keep, &mut housekeeper, round, now, time);
+        if pause.again {
+            turn.tell(rt);
+        }
+        if status.is_closed() {
+            return;
+        }
+        let _ = thread::sleep(rt, Duration::from_millis(pause.length));
+    }
+}

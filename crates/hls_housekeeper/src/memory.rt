@@ -1,0 +1,128 @@
+//! Warns before the first connection if the settings keep more media than fits in memory.
+
+ghost use Rattle.std.specs.Prelude.{◌≡◌, ◌≤◌, ◌^◌};
+ghost use Rattle.hls_housekeeper.specs.Memory.{media_bytes_needed};
+
+use crate::operator_log::OperatorLog;
+use crate::trim_backoff::backoff_ms;
+use hls_core_laws::rendition::Rendition;
+use hls_settings::{Settings, WindowSettings};
+use hls_text::{MAX_DIGITS, parse_digits};
+use std::alloc::Global;
+use std::io::{Eprint, Read};
+use std::rt::Files;
+use std::{fs, str};
+
+/// Bytes per megabyte, as sizes are logged.
+const MEGABYTE: u64 = 1_000_000;
+
+/// The size of the buffer for one file of `/proc` or of a control group.
+const ROOM: usize = 4096;
+
+/// Returns how many bytes of media a bit rate yields over the kept time, the window, two target durations, and a backoff.
+fn media_bytes_needed(bits: u64, timing: WindowSettings) -> u64
+    requires bits { bits ≤ 2 ^ 48 }
+    requires target { timing.target ≤ 3600 }
+    ensures { result ≡ media_bytes_needed bits timing }
+{
+    let retained_us = u128::from(timing.keep) + u128::from(timing.window);
+    let ahead = timing.target * 2_000_000 + backoff_ms(timing.keep) * 1000;
+    let bytes = u128::from(bits) * (retained_us + u128::from(ahead)) / 8_000_000;
+    u64::try_from(bytes).unwrap_or(u64::MAX)
+}
+
+/// Returns the sum of the renditions' declared bit rates, in bits per second, capped at 2^48.
+fn bits_of(renditions: &[Rendition]) -> u64
+    ensures { result ≤ 2 ^ 48 }
+{
+    let mut bits: u64 = 0;
+    for rendition in renditions {
+        bits = bits.saturating_add(rendition.bandwidth);
+    }
+    bits.min(1 << 48)
+}
+
+/// Reads the text of a file, as far as it fits in the buffer.
+fn read_text<'b, R: Files>(rt: &R, path: &str, room: &'b mut [u8]) -> Option<&'b str> {
+    let mut file = fs::open(rt, path).ok()?;
+    let len = file.read(room).ok()?;
+    str::from_utf8(room.get(..len)?).ok()
+}
+
+/// Returns the word after a label at the start of a line, up to the next blank.
+fn find_word_after<'t>(text: &'t str, label: &str) -> Option<&'t str> {
+    for line in text.lines() {
+        if let Some(rest) = line.strip_prefix(label) {
+            return rest.split_whitespace().next();
+        }
+    }
+    None
+}
+
+/// Returns the number after a label in a file; `None` if there is no number.
+fn read_number_at<R: Files>(rt: &R, path: &str, label: &str) -> Option<u64> {
+    let mut room = [0; ROOM];
+    let word = find_word_after(read_text(rt, path, &mut room)?, label)?;
+    parse_digits(word.as_bytes(), MAX_DIGITS)
+}
+
+/// Returns the machine's memory, in bytes.
+fn machine_memory<R: Files>(rt: &R) -> Option<u64> {
+    Some(read_number_at(rt, "/proc/meminfo", "MemTotal:")?.saturating_mul(1024))
+}
+
+/// Returns the limit of the process's address space, in bytes; `None` if it is unlimited.
+fn address_space<R: Files>(rt: &R) -> Option<u64> {
+    read_number_at(rt, "/proc/self/limits", "Max address space")
+}
+
+/// Returns the memory limit of the process's control group, in bytes; `None` if it has no limit (cgroups(7), version 2).
+fn group_memory<R: Files>(rt: &R, alloc: Global) -> Option<u64> {
+    let mut room = [0; ROOM];
+    let group = find_word_after(read_text(rt, "/proc/self/cgroup", &mut room)?, "0::")?;
+    let path = format!(in alloc; "/sys/fs/cgroup{group}/memory.max").ok()?;
+    read_number_at(rt, path.as_str(), "")
+}
+
+/// Logs that the settings need more memory than there is.
+fn log_memory_needed<E: Eprint>(
+    log: &OperatorLog<'_, E>,
+    needed: u64,
+    what: &str,
+    given: Option<u64>,
+) {
+    let Some(given) = given else {
+        return;
+    };
+    if needed <= given {
+        return;
+    }
+    let (level, needed, given) = (log.warning_prefix(), needed / MEGABYTE, given / MEGABYTE);
+    let _ = eprintln!(log.rt;
+        "{level}serve: these renditions want {needed} MB for what --keep and --window say, and {what} {given} MB"
+    );
+}
+
+/// Warns of settings that keep more media than fits in memory, as far as the system reports how much there is.
+pub fn log_memory<R: Eprint + Files>(log: &OperatorLog<'_, R>, alloc: Global, settings: &Settings) {
+    let rt = log.rt;
+    let renditions = settings.config.renditions();
+    let timing = settings.server.timing;
+    if timing.target > 3600 {
+        return;
+    }
+    let needed = media_bytes_needed(bits_of(renditions), timing);
+    log_memory_needed(log, needed, "this machine has", machine_memory(rt));
+    log_memory_needed(
+        log,
+        needed,
+        "this process's address space is limited to",
+        address_space(rt),
+    );
+    log_memory_needed(
+        log,
+        needed,
+        "its control group has",
+        group_memory(rt, alloc),
+    );
+}

@@ -1,0 +1,5 @@
+use Rattle.hls_http.proofs.StayLaws.{broken_bodies, open_bodies, sizes_count}
+use Rattle.hls_http.proofs.laws.broken_bodies_never_end.Goals as goal
+
+pub returns : goal.returns
+returns c = record { broken = broken_bodies; within = open_bodies; sizes = sizes_count }

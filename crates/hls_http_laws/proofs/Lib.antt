@@ -1,5 +1,0 @@
-mod BodyLaws
-mod Examples
-mod RequestLaws
-mod StayLaws
-pub mod Callers

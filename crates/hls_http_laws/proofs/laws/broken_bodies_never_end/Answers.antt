@@ -1,5 +1,0 @@
-use Rattle.hls_http_laws.proofs.StayLaws.{broken_bodies, open_bodies, sizes_count}
-use Rattle.hls_http_laws.proofs.laws.broken_bodies_never_end.Goals as goal
-
-pub returns : goal.returns
-returns c = record { broken = broken_bodies; within = open_bodies; sizes = sizes_count }

@@ -1,8 +1,0 @@
-use Rattle.std.specs.Fmt.{digits}
-use Rattle.std.proofs.Common.{refl}
-use Rattle.hls_http_laws.specs.ResponseText.{out_of_memory_text, out_of_memory_head_text}
-use Rattle.hls_http_laws.proofs.response_parts.out_of_memory_text.Goals as goal
-
-pub returns : goal.returns
-unfolding out_of_memory_text out_of_memory_head_text digits
-returns c = refl

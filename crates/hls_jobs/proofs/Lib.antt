@@ -1,0 +1,6 @@
+mod ByIds
+mod Valid
+mod Calls
+mod Keeps
+mod Lists
+mod CertificateTexts

@@ -1,0 +1,39 @@
+use Rattle.std.proofs.Common.{◌≡◌, ℕ, ◌<◌, List, Some, None, length, get_or, refl, sym, ap, ◌∙◌, subst}
+use Rattle.std.specs.Prelude.{option_map, slice_get}
+use Rattle.std.proofs.lemmas.Option.{slice_get_read, slice_get_past}
+use Rattle.hls_catchup.specs.declared.cut_result.CutResult.{CutResult}
+use Rattle.hls_m3u8.specs.declared.playlist.MediaPlaylist.{MediaPlaylist}
+use Rattle.hls_m3u8.specs.Playlist.{playlist_of}
+use Rattle.hls_m3u8.specs.Lines.{media_text}
+use Rattle.hls_catchup.specs.Jobs.Files.{playlist_in}
+use Rattle.hls_jobs.proofs.Lists.{list_has_text}
+use Rattle.hls_jobs.proofs.files.playlist_text.Goals as goal
+
+-- the playlist that was read at a rendition's number
+list_there : (lists read : List MediaPlaylist) (rendition : ℕ) (list : MediaPlaylist) → read ≡ lists → rendition < length read → list ≡ get_or read rendition list →
+    slice_get lists rendition ≡ Some list
+list_there lists read rendition list same within is =
+    subst (λ (ls : List MediaPlaylist). slice_get ls rendition ≡ Some list) same (slice_get_read read (length read) rendition list refl within is)
+
+pub write_media-requires : goal.write_media-requires
+write_media-requires c =
+    let lookup = c.in-Some.ensures.lookup in
+    let there = list_there _ c.deref.result.now c.args.rendition c.in-Some.list.now c.deref.ensures.value lookup.3.0 lookup.1 in
+    list_has_text c.args.reply.now.state c.args.reply.now.request c.args.reply.now.cut_result c.in-Cut.playlists c.in-Cut.certificate c.args.rendition c.in-Some.list.now
+    c.snapshot.ensures.right (sym c.cut_result.ensures ∙ c.in-Cut.is) there
+
+pub returns-in_ok-write_media-in-Some : goal.returns-in_ok-write_media-in-Some
+returns-in_ok-write_media-in-Some c =
+    let lookup = c.in-Some.ensures.lookup in
+    let there = list_there _ c.deref.result.now c.args.rendition c.in-Some.list.now c.deref.ensures.value lookup.3.0 lookup.1 in
+    ap Some c.in_ok-write_media-in-Some.ensures.text
+    ∙ sym (ap (λ (cut : CutResult). playlist_in cut c.args.rendition) (sym c.cut_result.ensures ∙ c.in-Cut.is)
+    ∙ ap (option_map (λ (l : MediaPlaylist). media_text (playlist_of l))) there)
+
+pub returns-in-None : goal.returns-in-None
+returns-in-None c =
+    let lookup = c.in-None.ensures.lookup in
+    let none = subst (λ (lists : List MediaPlaylist). slice_get lists c.args.rendition ≡ None) c.deref.ensures.value
+    (slice_get_past c.deref.result.now c.args.rendition lookup.3) in
+    sym (ap (λ (cut : CutResult). playlist_in cut c.args.rendition) (sym c.cut_result.ensures ∙ c.in-Cut.is)
+    ∙ ap (option_map (λ (l : MediaPlaylist). media_text (playlist_of l))) none)

@@ -1,5 +1,0 @@
-use Rattle.hls_lists_laws.proofs.Handovers.{live-lists-continuation}
-use Rattle.hls_lists_laws.proofs.live.live_lists_continue_at_handover.Goals as goal
-
-pub returns : goal.returns
-returns c = live-lists-continuation

@@ -1,5 +1,0 @@
-use Rattle.hls_lists_laws.proofs.JoinedLists.{live-lists-join}
-use Rattle.hls_lists_laws.proofs.live.live_lists_join_at_handover.Goals as goal
-
-pub returns : goal.returns
-returns c = live-lists-join

@@ -1,5 +1,0 @@
-use Rattle.hls_lists_laws.proofs.Stays.{live-lists-stay}
-use Rattle.hls_lists_laws.proofs.live.live_lists_stay.Goals as goal
-
-pub returns : goal.returns
-returns c = live-lists-stay

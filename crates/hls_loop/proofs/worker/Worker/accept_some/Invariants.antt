@@ -1,5 +1,0 @@
-use Rattle.hls_loop.specs.Validity.{AllValid}
-use Rattle.hls_loop.proofs.worker.Worker.accept_some.Given as goal
-
-abbrev pub invariant-loop-count : goal.invariant-loop-count
-invariant-loop-count g l = AllValid g.H.Handler.valid l.self.handler l.self.slots

@@ -1,5 +1,0 @@
-use Rattle.hls_loop.specs.Validity.{AllValid}
-use Rattle.hls_loop.proofs.worker.Worker.resume_ready.Given as goal
-
-abbrev pub invariant-loop-key : goal.invariant-loop-key
-invariant-loop-key g l = AllValid g.H.Handler.valid l.self.handler l.self.slots

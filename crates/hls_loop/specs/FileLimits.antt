@@ -1,6 +1,0 @@
--- How many connections a process may hold.
-use Rattle.std.specs.Prelude.{ℕ, ◌+◌, ◌-◌, ◌*◌, max, min}
-
--- of those that are wanted, where so many files may be open: a worker has four of its own, and 32 are for the rest of the process
-abbrev pub connection_limit : ℕ → ℕ → ℕ → ℕ
-connection_limit files wanted workers = min wanted (max (files - (4 * workers + 32)) 1)

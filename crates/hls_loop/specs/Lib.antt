@@ -1,4 +1,0 @@
-pub mod Validity
-pub mod FileLimits
-pub mod Steps
-pub mod Traffic

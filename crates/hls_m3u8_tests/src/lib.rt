@@ -1,7 +1,0 @@
-//! Tests of playlists that are read, where memory is refused.
-#![tactic(auto)]
-
-#[cfg(test)]
-mod refused;
-#[cfg(test)]
-mod texts;

@@ -1,6 +1,0 @@
-mod Walked
-mod Good
-mod Whole
-mod Singles
-mod ListTexts
-mod ListedPlans

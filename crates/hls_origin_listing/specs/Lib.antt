@@ -1,5 +1,0 @@
-pub mod Each
-pub mod Plans
-pub mod Listings
-pub mod Places
-pub mod ListingFaultName

@@ -1,5 +1,0 @@
-use Rattle.hls_output.proofs.Handed.{none_lost}
-use Rattle.hls_output.proofs.send_laws.sent_and_waiting_are_all.Goals as goal
-
-pub returns : goal.returns
-returns c = none_lost

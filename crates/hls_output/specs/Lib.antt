@@ -1,3 +1,0 @@
-pub mod SentBytes
-pub mod Slices
-pub mod HeadTexts

@@ -1,2 +1,0 @@
-pub mod Activity
-pub mod Yielding

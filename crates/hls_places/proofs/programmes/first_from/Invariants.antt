@@ -1,7 +1,0 @@
-use Rattle.std.proofs.Common.{◌≡◌, ◌+◌, map, drop}
-use Rattle.hls_places_laws.specs.Firsts.{first_from}
-use Rattle.hls_places.proofs.programmes.first_from.Given as goal
-
-abbrev pub invariant-loop-i : goal.invariant-loop-i
-invariant-loop-i l =
-    l.i + first_from l.time (map (λ p. p.now) (drop l.i l.places)) ≡ first_from l.time (map (λ p. p.now) l.places)

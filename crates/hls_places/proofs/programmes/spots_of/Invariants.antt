@@ -1,7 +1,0 @@
-use Rattle.std.proofs.Common.{◌≡◌, ◌++◌, drop, map}
-use Rattle.hls_places_laws.specs.Order.{spots_of}
-use Rattle.hls_places.proofs.programmes.spots_of.Given as goal
-
-abbrev pub invariant-loop-place : goal.invariant-loop-place
-invariant-loop-place l =
-    l.spots.items ++ spots_of (map (λ p. p.now) (drop l.place-index l.places)) ≡ spots_of (map (λ p. p.now) l.places)

@@ -1,0 +1,6 @@
+pub mod Offsets
+pub mod Places
+mod ListLoop
+mod Names
+mod LiveLists
+mod LiveTexts

@@ -1,0 +1,195 @@
+-- The text of a live playlist, written in parts.
+use Rattle.std.proofs.Common.{◌≡◌, ◌∙◌, ◌⊎◌, ℕ, zero, suc, ◌+◌, ◌-◌, ◌<◌, ◌≤◌, ◌^◌, ℤ, Bool, true, false, List, [], ◌∷◌, ◌++◌, length, map, drop, All, Option, Some, None, if◌then◌else◌, inl, inr, arith, refl, sym, ap, subst, append_assoc, add-one}
+use Rattle.std.proofs.lemmas.List.{drop-map, drop_all, length-drop, length-map}
+use Rattle.std.proofs.lemmas.List.Elements.{All-drop, All-head}
+use Rattle.std.specs.Prelude.{slice_get, option_map}
+use Rattle.hls_check_tables.specs.Tables.{spot_in}
+use Rattle.hls_blocks.specs.Numbered.{Numbered, items_starting_at}
+use Rattle.hls_record.specs.RecordingData.{RecordingData}
+use Rattle.hls_places_laws.specs.declared.line.live_segment.LiveSegment as live_line
+use Rattle.hls_places_laws.specs.Line.Live.{Live, segments_of, has_ended}
+use Rattle.hls_m3u8.specs.declared.playlist.MediaSegment.{MediaSegment}
+use Rattle.hls_m3u8.specs.HasText.{IsSegment}
+use Rattle.hls_m3u8.specs.Lines.{text_of_lines, segment_lines, all_segment_lines, head_lines, end_lines, media_text}
+use Rattle.hls_m3u8.specs.Playlist.{Playlist}
+use Rattle.hls_m3u8.proofs.Joined.{joined_append}
+use Rattle.hls_core_laws.specs.Channel.{Lane}
+use Rattle.hls_core_laws.specs.State.{State, channel}
+use Rattle.hls_core_laws.specs.IsState.{IsState}
+use Rattle.hls_core_laws.specs.Line.{line}
+use Rattle.hls_playlists_laws.specs.Live.{live_layout, live_uri, live_media_segment, live_list_over, has_closed_segment, live_list_in, live_list_of}
+use Rattle.hls_playlists_laws.specs.JobPlaylists.{job_layout}
+use Rattle.hls_playlists.specs.LiveWriter.{HasSegments, ListHasSegments, CanBeWritten, ReachesStop, ListReaches, rest_of_list, rest_of_live_list, live_segment_text, live_list_by, list_over_segments}
+use Rattle.hls_playlists_laws.proofs.Callers.{live-lists-have-texts, starts-small}
+
+-- ---- lists
+
+-- after the next item
+drop-suc : {X : Type 0} (xs : List X) (k : ℕ) (x : X) (rest : List X) → drop k xs ≡ x ∷ rest → drop (suc k) xs ≡ rest
+drop-suc xs zero x rest is = ap (λ ys. drop (suc zero) ys) is
+drop-suc [] (suc k) x rest is = cc
+drop-suc (y ∷ xs) (suc k) x rest is = drop-suc xs k x rest is
+
+pub drop-next : {X : Type 0} (xs : List X) (k : ℕ) (x : X) (rest : List X) → drop k xs ≡ x ∷ rest → drop (k + 1) xs ≡ rest
+drop-next xs k x rest is = ap (λ n. drop n xs) (add-one k) ∙ drop-suc xs k x rest is
+
+pub within : {X : Type 0} (xs : List X) (k : ℕ) (x : X) (rest : List X) → drop k xs ≡ x ∷ rest → k + 1 ≤ length xs
+within xs k x rest is = omega (arith, length-drop k xs, ap length is)
+
+pub all-of : {X : Type 0} (xs : List X) (k : ℕ) → drop k xs ≡ [] → length xs ≤ k
+all-of xs k is = omega (arith, length-drop k xs, ap length is)
+
+-- ---- a state's playlist
+
+pub unlisted-has : (s : State) (r k : ℕ) → live_list_of s r ≡ None → HasSegments s r k → ⊥
+unlisted-has s r k is has = subst (λ list. ListHasSegments list k) is has
+
+-- ---- its text
+
+-- the next segment is written
+next-lines : (all : List MediaSegment) (ended : Bool) (k : ℕ) (y : MediaSegment) (tail : List MediaSegment) (before after : List ℕ) → drop k all ≡ y ∷ tail
+    → after ≡ before ++ text_of_lines (segment_lines y)
+    → after ++ text_of_lines (all_segment_lines (drop (k + 1) all) ++ end_lines ended) ≡ before ++ text_of_lines (all_segment_lines (drop k all) ++ end_lines ended)
+next-lines all ended k y tail before after here written =
+    let rest = all_segment_lines (drop (k + 1) all) in
+    let e = end_lines ended in
+    ap (λ (t : List ℕ). t ++ text_of_lines (rest ++ e)) written
+    ∙ append_assoc before (text_of_lines (segment_lines y)) (text_of_lines (rest ++ e))
+    ∙ ap (λ (t : List ℕ). before ++ t) (sym (joined_append (segment_lines y) (rest ++ e)))
+    ∙ ap (λ (ls : List (List ℕ)). before ++ text_of_lines ls) (sym (append_assoc (segment_lines y) rest e))
+    ∙ ap (λ (ss : List MediaSegment). before ++ text_of_lines ((segment_lines y ++ all_segment_lines ss) ++ e)) (drop-next all k y tail here)
+    ∙ ap (λ (ss : List MediaSegment). before ++ text_of_lines (all_segment_lines ss ++ e)) (sym here)
+
+module _ (s : State) (state : IsState s) (r : ℕ) (recorded : RecordingData) (k : ℕ) (x : live_line.LiveSegment) (rest : List live_line.LiveSegment)
+    (there : live_list_of s r ≡ Some (live_list_by s r recorded)) (walk : drop k (segments_of (line s)) ≡ x ∷ rest) where
+  abbrev cut_of : live_line.LiveSegment → MediaSegment
+  cut_of y = live_media_segment (job_layout s.config.epoch recorded r (live_uri r) 0) y
+
+  abbrev whole : List MediaSegment
+  whole = map cut_of (segments_of (line s))
+
+  next-is : drop k whole ≡ cut_of x ∷ map cut_of rest
+  next-is = drop-map cut_of k (segments_of (line s)) ∙ ap (map cut_of) walk
+
+  pub one-written : (epoch : Option ℤ) (uri before after : List ℕ) → epoch ≡ s.config.epoch → uri ≡ live_uri r
+      → after ≡ before ++ live_segment_text (job_layout epoch recorded r uri 0) x → after ++ rest_of_live_list s r (k + 1) ≡ before ++ rest_of_live_list s r k
+  one-written epoch uri before after epoch_is uri_is written =
+      ap (λ list. after ++ rest_of_list list (k + 1)) there
+      ∙ next-lines whole (has_ended (line s)) k (cut_of x) (map cut_of rest) before after next-is
+      (written ∙ (λ i. before ++ live_segment_text (job_layout (epoch_is i) recorded r (uri_is i) 0) x))
+      ∙ sym (ap (λ list. before ++ rest_of_list list k) there)
+
+  pub has-next : HasSegments s r (k + 1)
+  has-next = subst (λ list. ListHasSegments list (k + 1)) (sym there) (omega (arith, within (segments_of (line s)) k x rest walk, length-map (segments_of (line s)) cut_of))
+
+  good : IsSegment (live_uri r) (cut_of x)
+  good =
+      let P : MediaSegment → Type 0 = IsSegment (live_uri r) in
+      let all : All P whole = (live-lists-have-texts s r (live_list_by s r recorded) state there).segments in
+      All-head P (cut_of x) (map cut_of rest) (subst (All P) next-is (All-drop P k whole all))
+
+  pub good-by : (epoch : Option ℤ) (uri : List ℕ) → epoch ≡ s.config.epoch → uri ≡ live_uri r → CanBeWritten (job_layout epoch recorded r uri 0) x
+  good-by epoch uri epoch_is uri_is =
+      subst (λ (e : Option ℤ). CanBeWritten (job_layout e recorded r uri 0) x) (sym epoch_is)
+      (subst (λ (u : List ℕ). CanBeWritten (job_layout s.config.epoch recorded r u 0) x) (sym uri_is) (good.length, good.date))
+
+  pub starts : (spot_in x.from.spots r).start < 2 ^ 53
+  starts =
+      let P : live_line.LiveSegment → Type 0 = λ y. (spot_in y.from.spots r).start < 2 ^ 53 in
+      All-head P x rest (subst (All P) walk (All-drop P k (segments_of (line s)) (starts-small s state r)))
+
+-- the number of written segments is at most that of the line's
+pub counts : (s : State) (r k : ℕ) (recorded : RecordingData) → live_list_of s r ≡ Some (live_list_by s r recorded) → HasSegments s r k → k ≤ length (segments_of (line s))
+counts s r k recorded there has =
+    omega (arith, subst (λ list. ListHasSegments list k) there has, length-map (segments_of (line s)) (live_media_segment (job_layout s.config.epoch recorded r (live_uri r) 0)))
+
+-- all segments are written
+pub reaches-all : (s : State) (r stop k : ℕ) (recorded : RecordingData) → live_list_of s r ≡ Some (live_list_by s r recorded) → length (segments_of (line s)) ≤ k → ReachesStop s r stop k
+reaches-all s r stop k recorded there all =
+    subst (λ list. ListReaches list stop k) (sym there)
+    (inr (omega (arith, all, length-map (segments_of (line s)) (live_media_segment (job_layout s.config.epoch recorded r (live_uri r) 0)))))
+
+-- the requested number of segments is written
+pub reaches-stop : (s : State) (r stop k : ℕ) (recorded : RecordingData) → live_list_of s r ≡ Some (live_list_by s r recorded) → stop ≤ k → ReachesStop s r stop k
+reaches-stop s r stop k recorded there far = subst (λ list. ListReaches list stop k) (sym there) (inl far)
+
+-- ---- its head
+
+pub begun-text : (s : State) (r : ℕ) (recorded : RecordingData) (uri text : List ℕ) (list : Playlist) → live_list_of s r ≡ Some (live_list_by s r recorded) → uri ≡ live_uri r
+    → list ≡ list_over_segments s recorded uri [] → text ≡ text_of_lines (head_lines list) → Some (text ++ rest_of_live_list s r 0) ≡ option_map media_text (live_list_of s r)
+unfolding media_text
+begun-text s r recorded uri text list there uri_is list_is written =
+    let whole = live_list_by s r recorded in
+    let head : text ≡ text_of_lines (head_lines whole) =
+    written ∙ ap (λ (p : Playlist). text_of_lines (head_lines p)) list_is ∙ ap (λ (u : List ℕ). text_of_lines (head_lines (list_over_segments s recorded u []))) uri_is in
+    let all : text ++ rest_of_list (Some whole) 0 ≡ media_text whole =
+    ap (λ (t : List ℕ). t ++ text_of_lines (all_segment_lines whole.segments ++ end_lines whole.ended)) head
+    ∙ sym (joined_append (head_lines whole) (all_segment_lines whole.segments ++ end_lines whole.ended)) in
+    ap (λ list. Some (text ++ rest_of_list list 0)) there ∙ ap Some all ∙ sym (ap (option_map media_text) there)
+
+-- a head is written only of a playlist
+pub has-none : (s : State) (r : ℕ) (text : List ℕ) → Some text ≡ option_map media_text (live_list_of s r) → HasSegments s r 0
+has-none s r text is = by (live_list_of s r) is
+  where
+    by : (o : Option Playlist) → Some text ≡ option_map media_text o → ListHasSegments o 0
+    by None none = absurd (cc)
+    by (Some list) some = omega arith
+
+-- ---- its end
+
+ended-in : (epoch : Option ℤ) (r : ℕ) (o : Option Lane) (live : Live) (list : Playlist) → live_list_in epoch r o live ≡ Some list → list.ended ≡ has_ended live
+ended-in epoch r None live list is = cc
+ended-in epoch r (Some l) live list is = by (has_closed_segment live) is
+  where
+    some-is : (a b : Playlist) → Some a ≡ Some b → a ≡ b
+    some-is a b e = cc
+
+    by : (closed : Bool) → (if closed then Some (live_list_over epoch r l live) else None) ≡ Some list → list.ended ≡ has_ended live
+    by true is = ap (λ (p : Playlist). p.ended) (sym (some-is (live_list_over epoch r l live) list is))
+    by false is = cc
+
+-- after the end's line everything is written
+pub ended-text : (s : State) (r written stop k : ℕ) (old text all : List ℕ) → length (segments_of (line s)) ≤ stop → ReachesStop s r stop k → HasSegments s r k
+    → text ++ rest_of_live_list s r k ≡ old ++ rest_of_live_list s r written → all ≡ text ++ text_of_lines (end_lines (has_ended (line s))) → all ≡ old ++ rest_of_live_list s r written
+ended-text s r written stop k old text all far reaches has goes is = by (live_list_of s r) refl
+  where
+    longs : (list : Playlist) → live_list_of s r ≡ Some list → length list.segments ≡ length (segments_of (line s))
+    longs list there = long-in s.config.epoch r (slice_get (channel s).lanes r) (line s) list there
+      where
+        long-in : (epoch : Option ℤ) (r : ℕ) (o : Option Lane) (live : Live) (list : Playlist) → live_list_in epoch r o live ≡ Some list
+            → length list.segments ≡ length (segments_of live)
+        long-in epoch r None live list is = cc
+        long-in epoch r (Some l) live list is = so (has_closed_segment live) is
+          where
+            some-is : (a b : Playlist) → Some a ≡ Some b → a ≡ b
+            some-is a b e = cc
+
+            so : (closed : Bool) → (if closed then Some (live_list_over epoch r l live) else None) ≡ Some list → length list.segments ≡ length (segments_of live)
+            so true is =
+                ap (λ (p : Playlist). length p.segments) (sym (some-is (live_list_over epoch r l live) list is))
+                ∙ length-map (segments_of live) (live_media_segment (live_layout epoch r l))
+            so false is = cc
+
+    by : (o : Option Playlist) → live_list_of s r ≡ o → all ≡ old ++ rest_of_live_list s r written
+    by None there = absurd (unlisted-has s r k there has)
+    by (Some list) there =
+        let long = longs list there in
+        let past : length list.segments ≤ k = whole (subst (λ l. ListReaches l stop k) there reaches) in
+        let left : rest_of_live_list s r k ≡ text_of_lines (end_lines (has_ended (line s))) =
+        ap (λ l. rest_of_list l k) there
+        ∙ ap (λ (ss : List MediaSegment). text_of_lines (all_segment_lines ss ++ end_lines list.ended)) (drop_all k list.segments past)
+        ∙ ap (λ (e : Bool). text_of_lines (end_lines e)) (ended-in s.config.epoch r (slice_get (channel s).lanes r) (line s) list there) in
+        is ∙ ap (λ (t : List ℕ). text ++ t) (sym left) ∙ goes
+      where
+        whole : (stop ≤ k) ⊎ (length list.segments ≤ k) → length list.segments ≤ k
+        whole (inl reached) = omega (arith, reached, far, longs list there)
+        whole (inr reached) = reached
+
+-- ---- the iteration
+
+pub walk-begins : (live : Live) (s : State) (list : Numbered live_line.LiveSegment) (first k : ℕ) (walk : List live_line.LiveSegment) → live ≡ line s
+    → list ≡ record { first = live.removed; items = segments_of live } → first ≡ list.first → walk ≡ items_starting_at list (first + k) → drop k (segments_of (line s)) ≡ walk
+walk-begins live s list first k walk live_is list_is first_is walk_is =
+    let n : (first + k) - list.first ≡ k = omega (arith, first_is) in
+    sym (walk_is ∙ ap (λ (m : ℕ). drop m list.items) n ∙ ap (λ (l : Numbered live_line.LiveSegment). drop k l.items) list_is
+    ∙ ap (λ (l : Live). drop k (segments_of l)) live_is)

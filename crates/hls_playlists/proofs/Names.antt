@@ -1,0 +1,27 @@
+-- The names of a channel's renditions are UTF-8 text.
+use Rattle.std.proofs.Common.{◌≡◌, ℕ, ◌<◌, List, [], ◌∷◌, All, get_or, arith, rules, Some}
+use Rattle.std.specs.Prelude.{IsTrue, IsUtf8, slice_get}
+use Rattle.std.proofs.lemmas.List.Elements.{All-from_get_or}
+use Rattle.std.proofs.lemmas.Option.{slice_get-get_or}
+use Rattle.std.proofs.lemmas.Str.{IsUtf8-from_ascii}
+use Rattle.std.proofs.lemmas.Str.Ascii.{IsAscii-from_all}
+use Rattle.hls_core_laws.specs.Config.{is_name_byte, IsName, IsConfig, ConfigData}
+use Rattle.hls_core_laws.specs.declared.rendition.Rendition.{Rendition}
+use Rattle.hls_playlists.specs.RenditionNames.{IsNamed}
+
+byte_small : (b : ℕ) → IsTrue (is_name_byte b) → b < 128
+byte_small b spelled = grind (arith, spelled)
+
+bytes_small : (name : List ℕ) → All (λ b. IsTrue (is_name_byte b)) name → All (λ b. b < 128) name
+bytes_small name spelled = search rules
+
+pub name_text : (name : List ℕ) → IsName name → IsUtf8 name
+name_text name is = IsUtf8-from_ascii name (IsAscii-from_all name (bytes_small name is.spelled))
+
+each_named : (renditions : List Rendition) → ((n : ℕ) (r : Rendition) → slice_get renditions n ≡ Some r → IsNamed r) → All IsNamed renditions
+each_named [] each = search rules
+each_named (r ∷ others) each =
+    All-from_get_or IsNamed (r ∷ others) r (λ i within. each i (get_or (r ∷ others) i r) (slice_get-get_or (r ∷ others) i r within))
+
+pub are_named : (config : ConfigData) → IsConfig config → All IsNamed config.renditions
+are_named config is = each_named config.renditions (λ n r at. (is.renditions.each n r at).own.name)

@@ -1,0 +1,15 @@
+use Rattle.std.proofs.Common.{◌∙◌, ℕ, List, ◌++◌, ap}
+use Rattle.hls_m3u8.specs.Lines.{head_lines, text_of_lines}
+use Rattle.hls_m3u8.specs.Playlist.{playlist_of}
+use Rattle.hls_playlists.specs.LiveWriter.{list_over_segments}
+use Rattle.hls_playlists.proofs.LiveTexts.{begun-text}
+use Rattle.hls_playlists.proofs.live_writer.write_head.Goals as goal
+
+pub returns : goal.returns
+returns c =
+    let s = c.args.snapshot.now in
+    let recorded = c.in-Some.recording.now in
+    let list = playlist_of c.make_live_playlist-list.result in
+    begun-text s c.args.rendition recorded c.in_ok-uri.uri c.push_head.new.out.items list c.in-Some.ensures.list c.in_ok-uri.ensures
+    (c.make_live_playlist-list.ensures ∙ ap (list_over_segments s recorded c.in_ok-uri.uri) c.new.ensures.items)
+    (c.in_ok-push_head.ensures ∙ ap (λ (t : List ℕ). t ++ text_of_lines (head_lines list)) c.in_ok-text.ensures.items)

@@ -1,0 +1,2 @@
+pub mod LiveWriter
+pub mod RenditionNames

@@ -1,0 +1,5 @@
+use Rattle.hls_playlists_laws.proofs.JoinedLists.{live-lists-stay_joined}
+use Rattle.hls_playlists_laws.proofs.live.live_lists_stay_joined.Goals as goal
+
+pub returns : goal.returns
+returns c = live-lists-stay_joined

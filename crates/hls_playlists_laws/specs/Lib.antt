@@ -1,0 +1,12 @@
+pub mod JobPlaylists
+pub mod Media
+pub mod JobResource
+pub mod Segments
+pub mod SegmentLaws
+pub mod Masters
+pub mod Live
+pub mod LaterList
+pub mod LiveLaws
+pub mod Origins
+pub mod Handovers
+pub mod JoinedLists

@@ -1,6 +1,0 @@
-use Rattle.std.proofs.Common.{◌≡◌, flat_map, map}
-use Rattle.hls_refusals.specs.Explanations.{name_row}
-use Rattle.hls_refusals.proofs.explanations.list_names.Given as goal
-
-abbrev pub invariant-loop-line : goal.invariant-loop-line
-invariant-loop-line l = l.names.items ≡ flat_map name_row (map (λ line. line.now) l.yielded)

@@ -1,2 +1,0 @@
-pub mod ExplainRun
-pub mod Explanations

@@ -1,2 +1,0 @@
-mod Recents
-mod Parts

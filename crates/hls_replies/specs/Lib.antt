@@ -1,2 +1,0 @@
-pub mod ResponseContents
-pub mod PlaylistCache

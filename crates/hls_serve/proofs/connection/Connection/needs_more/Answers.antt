@@ -1,9 +1,0 @@
-use Rattle.std.proofs.Math.Logic.{∥∥₁_map}
-use Rattle.hls_serve.specs.Memory.{trace_of}
-use Rattle.hls_serve.proofs.{HoldLaws.needs_of, SessionLaws.rests_before}
-use Rattle.hls_serve.proofs.connection.Connection.needs_more.Goals as goal
-
-pub returns : goal.returns
-returns c =
-    let lacks = rests_before (trace_of c.args.self.now.place) c.requires.nothing c.requires.continues c.requires.idle_or_blocked in
-    record { unended = lacks.0; needs = ∥∥₁_map c.args.self.now.holds (λ h. needs_of h lacks.1) }

@@ -1,6 +1,0 @@
-use Rattle.std.proofs.Math.Logic.{∥∥₁_map}
-use Rattle.hls_serve.proofs.HoldLaws.{served_of}
-use Rattle.hls_serve.proofs.connection.Connection.responses_are_in_order.Goals as goal
-
-pub returns : goal.returns
-returns c = ∥∥₁_map c.args.self.now.holds (λ h. served_of h)

@@ -1,8 +1,0 @@
-use Rattle.std.proofs.Common.{refl}
-use Rattle.hls_serve_laws.specs.{Exchanges.continue_prefix, Responses.fault_answer}
-use Rattle.hls_serve.proofs.CallLaws.{due_is, replies_by}
-use Rattle.hls_serve.proofs.pending_response.refuse_request.Goals as goal
-
-pub returns : goal.returns
-returns g c = λ count h action context.
-    replies_by refl (λ due. due_is h action (fault_answer c.args.fault) c.args.early c.fault_response-response.result due c.fault_response-response.ensures) (c.respond.ensures count h (continue_prefix h action) context)

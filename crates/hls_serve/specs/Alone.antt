@@ -1,8 +1,0 @@
--- What is known of a channel that one thread has for itself.
-use Rattle.std.specs.Prelude.{ℕ}
-use Rattle.hls_core_laws.specs.Workers.{events_by}
-use Rattle.hls_serve_laws.specs.Types.{PassView, State}
-
--- its state, and the events of the thread's number
-abbrev pub known_alone : ℕ → State → PassView
-known_alone number s = record { number = number; seen = s; mine = events_by number s.log }

@@ -1,3 +1,0 @@
--- The lemmas that other crates cite, passed on from one place. Declares nothing.
-pub use Rattle.hls_serve_laws.proofs.Acting.{acted_none, acted_on}
-pub use Rattle.hls_serve_laws.proofs.Linking.{acted_follows, later_itself, linked_acted, linked_follows, linked_later}

@@ -1,5 +1,0 @@
-mod Acting
-mod Examples
-mod Linking
-mod Requests
-pub mod Callers

@@ -1,5 +1,0 @@
-use Rattle.hls_serve_laws.proofs.Linking.{linked_acted}
-use Rattle.hls_serve_laws.proofs.laws.acts_extend_links.Goals as goal
-
-pub returns-clause-link : goal.returns-clause-link
-returns-clause-link c = linked_acted

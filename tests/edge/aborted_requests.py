@@ -1,0 +1,118 @@
+"""Requests whose response nobody reads: interrupted before it arrives, reset, or refused for their head. What is fetched for them is
+cached for later requests, so nobody makes the edge fetch the same thing again and again, or keeps others from it.
+
+Not a script: tests/edge/attacks runs it on a channel behind a proxy that counts.
+"""
+import re
+import socket
+import ssl
+import struct
+import threading
+import time
+
+from edge_site import media_of
+from harness import check
+
+STRANGER = "127.9.60.1"
+# What each says, and the statuses that are right for it. Of a segment no date and no tag is known.
+HEADS = {
+    "a range beyond the end": ("Range: bytes=99999999-\r\n", {416}),
+    "a range that is none": ("Range: bytes=x\r\n", {416}),
+    "a range and none": ("Range: bytes=0-0,x\r\n", {416}),
+    "two fields of ranges": ("Range: bytes=x\r\nRange: bytes=0-1\r\n", {206, 416}),
+    "a range of what it was": ('If-Range: "a"\r\nRange: bytes=1-2\r\n', {200}),
+    "a range": ("Range: bytes=1-2\r\n", {206}),
+    "a tag that must match": ('If-Match: "a"\r\n', {412}),
+    "an empty tag that must match": ("If-Match:\r\n", {412}),
+    "no change since long ago": ("If-Unmodified-Since: Thu, 01 Jan 1970 00:00:00 GMT\r\n", {200, 412}),
+    "no change since nothing": ("If-Unmodified-Since:\r\n", {200, 412}),
+    "no tag at all": ("If-None-Match: *\r\n", {304}),
+    "a change since tomorrow": ("If-Modified-Since: Fri, 01 Jan 2100 00:00:00 GMT\r\n", {200}),
+    "a cache that wants it anew": ("Cache-Control: no-cache\r\nPragma: no-cache\r\nX-Accel-Expires: 0\r\n", {200}),
+}
+
+
+def broken_off(site):
+    """Ten times each, of a segment that nobody has asked for yet, and of a list all the time."""
+    edge, wire = site.edge, site.wire
+    paths, whole = site.segments(rendition=1)[0], media_of(0, 1, 60)
+
+    def once(name, ask_ten):
+        path = paths.pop()
+        wire.asked()
+        said = ask_ten(path)
+        time.sleep(0.3)
+        found = [edge.raw(path) for _ in range(2)]
+        asked = wire.asked()
+        first, last = map(int, re.search(r"/([0-9]+)-([0-9]+)-", path).groups())
+        check(f"{name}, ten times: it is fetched once, and there", len(asked) == 1 and [one[0] for one in found] == [200] * 2 and found[1][1]["x-cache"] == "HIT" and
+              found[0][2] == found[1][2] == whole[first:last + 1], (asked, [one[:2] for one in found]))
+        return said
+    for name, (head, statuses) in HEADS.items():
+        said = once(name, lambda path, head=head: {edge.raw(path, head, here=STRANGER)[0] for _ in range(10)})
+        check(f"{name} is answered", said <= statuses, said)
+    once("HEAD", lambda path: [edge.raw(path, here=STRANGER, method="HEAD") for _ in range(10)])
+    for name in ("closed", "reset", "half closed"):
+        once(f"a connection that is {name}", lambda path, name=name: [left(edge, path, name) for _ in range(10)])
+    once("a stream of HTTP/2 that is reset", lambda path: by_http2(edge, [path] * 10, True))
+    once("a stream of HTTP/2 with an empty tag", lambda path: by_http2(edge, [path] * 10, False, [("if-match", "")]))
+    lists(site)
+
+
+def lists(site):
+    """A list goes on, and is asked for once a second, where all that asks for it anew is a stranger's that is refused it."""
+    edge, wire, over, seen = site.edge, site.wire, threading.Event(), []
+
+    def stranger():
+        while not over.is_set():
+            left(edge, "/live/1.m3u8", "half closed")
+            edge.raw("/live/1.m3u8", "If-Match:\r\n", here=STRANGER)
+            by_http2(edge, ["/live/1.m3u8"], True)
+    thread = threading.Thread(target=stranger)
+    wire.asked()
+    thread.start()
+    begun = time.monotonic()
+    for _ in range(3):
+        site.more(1)
+        time.sleep(2.5)
+        seen.append(edge.raw("/live/1.m3u8")[2])
+    over.set()
+    thread.join()
+    asked = wire.asked().count("/live/1.m3u8")
+    check("a list that strangers alone have fetched anew goes on", len(set(seen)) == 3, seen)
+    check("and is asked for once a second at most", 3 <= asked <= time.monotonic() - begun + 1, asked)
+
+
+def left(edge, path, how):
+    """Asks, and is gone before the reply is there."""
+    with socket.create_connection(("127.0.0.1", edge.open), source_address=(STRANGER, 0)) as s:
+        s.sendall(f"GET {path} HTTP/1.1\r\nHost: localhost\r\n\r\n".encode())
+        if how == "reset":
+            s.setsockopt(socket.SOL_SOCKET, socket.SO_LINGER, b"\1\0\0\0\0\0\0\0")
+        if how == "half closed":
+            s.shutdown(socket.SHUT_WR)
+            time.sleep(0.02)
+
+
+def by_http2(edge, paths, reset, more=()):
+    """Asks for each path on one connection of HTTP/2 (RFC 9113), and resets the stream right behind its head where that is wanted."""
+    def frame(kind, flags, stream, content):
+        return struct.pack(">I", len(content))[1:] + bytes([kind, flags]) + struct.pack(">I", stream) + content
+
+    def field(name, value):
+        # a literal that isn't indexed, without Huffman's code (RFC 7541 6.2.2)
+        return b"\0" + b"".join(bytes([len(text)]) + text for text in (name.encode(), value.encode()))
+    context = edge.context()
+    context.set_alpn_protocols(["h2"])
+    with context.wrap_socket(socket.create_connection(("127.0.0.1", edge.port), source_address=(STRANGER, 0)), server_hostname="localhost") as s:
+        assert s.selected_alpn_protocol() == "h2"
+        s.sendall(b"PRI * HTTP/2.0\r\n\r\nSM\r\n\r\n" + frame(4, 0, 0, b""))
+        for at, path in enumerate(paths):
+            head = b"".join(field(*one) for one in [(":method", "GET"), (":scheme", "https"), (":authority", "localhost"), (":path", path), *more])
+            s.sendall(frame(1, 5, 2 * at + 1, head) + (frame(3, 0, 2 * at + 1, struct.pack(">I", 8)) if reset else b""))
+            time.sleep(0.02)
+        time.sleep(0.2)
+        try:
+            s.unwrap()
+        except (OSError, ssl.SSLError):
+            pass

@@ -1,0 +1,158 @@
+"""A Debian of its own, made by debootstrap and booted by systemd-nspawn, with the package installed."""
+import datetime
+import os
+import re
+import shutil
+import subprocess
+import time
+
+from harness import ROOT, check
+
+
+class Machine:
+    """A booted Debian, by its own systemd's process."""
+
+    def __init__(self, root):
+        self.root = root
+        self.nspawn = subprocess.Popen(["systemd-nspawn", "--quiet", "--boot", "-D", root, "--private-network", "--register=no", "--keep-unit"],
+                                       stdin=subprocess.DEVNULL, stdout=subprocess.DEVNULL, stderr=subprocess.DEVNULL)
+        self.leader, self.senders = None, {}
+        for _ in range(100):
+            time.sleep(0.5)
+            with open(f"/proc/{self.nspawn.pid}/task/{self.nspawn.pid}/children") as file:
+                self.leader = (file.read().split() or [None])[0]
+            if self.leader and self.run("systemctl", "is-system-running").stdout.strip() in ("running", "degraded"):
+                return
+        raise SystemExit("the machine doesn't boot")
+
+    def inside(self, *words):
+        return ["nsenter", "-t", self.leader, "-m", "-u", "-i", "-n", "-p", "-C", "-r", "-w", "/usr/bin/env", "-i", "PATH=/usr/sbin:/usr/bin:/sbin:/bin",
+                "HOME=/srv", "LC_ALL=C.UTF-8", "DEBIAN_FRONTEND=noninteractive", *words]
+
+    def run(self, *words, seconds=300):
+        return subprocess.run(["timeout", "-k", "5", str(seconds), *self.inside(*words)], cwd="/", capture_output=True, text=True, errors="replace", stdin=subprocess.DEVNULL)
+
+    def said(self, *words, **more):
+        done = self.run(*words, **more)
+        return done.stdout + done.stderr
+
+    def write(self, path, text, mode=0o644):
+        with open(self.root + path, "w") as file:
+            file.write(text)
+        os.chmod(self.root + path, mode)
+
+    def send(self, name, to):
+        """An encoder somewhere that sends H.264 and AAC in a transport stream, begun again where nobody listens yet."""
+        coded = f"ffmpeg -nostdin -v error -re -f lavfi -i testsrc=s=320x180:r=25 -f lavfi -i sine=r=48000 -c:v libx264 -preset ultrafast -g 25 -pix_fmt yuv420p -c:a aac -f mpegts '{to}'"
+        self.senders[name] = subprocess.Popen(self.inside("nice", "-n", "3", "bash", "-c", f"trap 'kill $!; exit' TERM; while :; do {coded} & wait; sleep 0.5; done"),
+                                              cwd="/", stdin=subprocess.DEVNULL, stderr=subprocess.DEVNULL)
+
+    def stop_sending(self, name):
+        self.run("pkill", "-f", "mpegts .*" + {"news": ":9000", "sport": ":9001"}[name])
+        if sender := self.senders.pop(name, None):
+            sender.kill()
+            sender.wait()
+        self.run("pkill", "-f", "mpegts .*" + {"news": ":9000", "sport": ":9001"}[name])
+
+    def segments(self, port, rendition=0):
+        """Date and length of each listed segment, and whether it has a mark."""
+        text = self.run("curl", "-s", f"http://127.0.0.1:{port}/live/{rendition}.m3u8").stdout
+        return [(datetime.datetime.fromisoformat(date + "+00:00").timestamp(), float(length), bool(mark)) for mark, date, length in
+                re.findall(r"(#EXT-X-DISCONTINUITY\n)?#EXT-X-PROGRAM-DATE-TIME:(\S+)Z\n#EXTINF:([0-9.]+),", text)]
+
+    def last_end(self, port):
+        found = self.segments(port)
+        return found[-1][0] + found[-1][1] if found else 0
+
+    def until(self, port, instant, seconds=60):
+        """How long it takes until lists reach an instant."""
+        begun = time.monotonic()
+        while time.monotonic() - begun < seconds:
+            if self.last_end(port) >= instant:
+                return time.monotonic() - begun
+            time.sleep(0.3)
+        return None
+
+    def child(self, unit, word):
+        """The process that a service's own one started with this word."""
+        main = self.main_pid(unit)
+        for pid in self.run("cat", f"/proc/{main}/task/{main}/children").stdout.split():
+            if word in self.run("cat", f"/proc/{pid}/cmdline").stdout.split("\0"):
+                return pid
+        raise SystemExit(f"{unit} runs no {word}")
+
+    def main_pid(self, unit):
+        return self.run("systemctl", "show", "-P", "MainPID", unit).stdout.strip()
+
+    def journal(self, unit):
+        return self.run("journalctl", "-o", "cat", "--no-pager", "-u", unit).stdout
+
+    def stop(self):
+        for name in list(self.senders):
+            self.stop_sending(name)
+        # systemd's own signal for a power-off
+        subprocess.run(["kill", "-RTMIN+4", self.leader])
+        try:
+            self.nspawn.wait(30)
+        except subprocess.TimeoutExpired:
+            self.nspawn.kill()
+            self.nspawn.wait()
+
+
+def wait(seconds, enough):
+    begun = time.monotonic()
+    while time.monotonic() - begun < seconds:
+        if enough():
+            return time.monotonic() - begun
+        time.sleep(0.3)
+    return None
+
+
+def make(program, *words, **more):
+    """deploy/package with these words."""
+    return subprocess.run([*more.pop("before", []), "bash", os.path.join(ROOT, "deploy", "package"), *words],
+                          env={**os.environ, "HLS_ORIGIN": os.path.abspath(program)}, capture_output=True, text=True, **more)
+
+
+def debian(base, root, wanted):
+    """A fresh Debian, with what is wanted and what that needs downloaded, not installed."""
+    if not os.path.isdir(base):
+        done = subprocess.run(["debootstrap", "--variant=minbase", "--include=systemd,systemd-sysv,dbus,procps,man-db", "bookworm", base, "http://deb.debian.org/debian"],
+                              capture_output=True, text=True)
+        if done.returncode:
+            raise SystemExit(done.stdout[-500:])
+    subprocess.run(["cp", "-a", base, root], check=True)
+    if wanted.endswith(".deb"):
+        shutil.copy(wanted, os.path.join(root, "srv"))
+        wanted = f"./{os.path.basename(wanted)}"
+    # which debootstrap leaves to the installer
+    with open(os.path.join(root, "etc", "hosts"), "w") as file:
+        file.write("127.0.0.1 localhost\n::1 localhost\n")
+    done = subprocess.run(["systemd-nspawn", "--quiet", "-D", root, "--register=no", "--keep-unit", "--pipe", "bash", "-c",
+                           f"cd /srv && apt-get -q update && apt-get install -q -y --download-only {wanted}"],
+                          capture_output=True, text=True, stdin=subprocess.DEVNULL)
+    if done.returncode:
+        raise SystemExit(done.stdout[-500:] + done.stderr[-500:])
+
+
+def start_commands():
+    """The commands of docs/START.md's steps, each a line."""
+    text = open(os.path.join(ROOT, "docs", "START.md")).read()
+    steps = text[:text.index("What to look at:")]
+    return [line for one in re.findall(r"```\n(.*?)```", steps, re.S) for line in one.strip().split("\n")]
+
+
+def run_of(machine):
+    """The run that the edge serves of news."""
+    found = re.search(r'"run": (\d+)', machine.said("cat", "/etc/nginx/hls_origin/state/news.json"))
+    return int(found[1]) if found else 1
+
+
+def counted_once(machine, what, before):
+    """That the run counted up once, and players get lists of it."""
+    path = f"/seg/{before + 1}/0/"
+    listed = wait(60, lambda: path in machine.said("curl", "-m", "3", "-sk", "https://localhost/news/live/0.m3u8"))
+    check(f"{what}: the next run is served", listed is not None, machine.said("curl", "-m", "3", "-sk", "https://localhost/news/live/0.m3u8")[-300:] + machine.journal("hls_run")[-300:])
+    time.sleep(4)
+    check(f"{what}: the journal says so", f"hls_run: news: run {before + 1} begins" in machine.journal("hls_origin@news") + machine.journal("hls_run"))
+    check(f"{what}: it was counted once", run_of(machine) == before + 1, (before, run_of(machine), machine.journal("hls_run")[-400:], machine.journal("hls_origin@news")[-900:]))
