@@ -138,7 +138,7 @@ def debian(base, root, wanted):
 def start_commands():
     """The commands of docs/START.md's steps, each a line."""
     text = open(os.path.join(ROOT, "docs", "START.md")).read()
-    steps = text[:text.index("What to look at:")]
+    steps = text[:text.index("## Look at it")]
     return [line for one in re.findall(r"```\n(.*?)```", steps, re.S) for line in one.strip().split("\n")]
 
 
