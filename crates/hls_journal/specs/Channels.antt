@@ -1,0 +1,82 @@
+-- The record of a channel.
+use Rattle.std.specs.Prelude.{◌≡◌, ◌≢◌, ℕ, zero, suc, ℤ, ◌+◌, ◌-◌, ◌<◌, ◌≤◌, ⊤, ◌⊎◌, Bool, Option, Some, None, List, [], ◌∷◌, ◌++◌, length, take, drop, get_or, replicate, unsigned_abs, Result, Ok, Err}
+use Rattle.std.specs.List.{flat_map}
+use Rattle.std.specs.Int.{from_bool}
+use Rattle.byteorder.specs.Endian.{little_bytes, little_number}
+use Rattle.hls_core_laws.specs.declared.rendition.Rendition.{Rendition}
+use Rattle.hls_core_laws.specs.Base.{BaseData, bytes_before_base}
+use Rattle.hls_core_laws.specs.Config.{ConfigData}
+use Rattle.hls_journal.specs.declared.channel.ChannelHeader.{ChannelHeader}
+use Rattle.hls_journal.specs.declared.fault.ConfigField.{ConfigField}
+use Rattle.hls_journal.specs.declared.fault.ConfigField.TheVariants.{Target, Preferred, Epoch, Renditions}
+use Rattle.hls_journal.specs.declared.fault.JournalFault.{JournalFault}
+use Rattle.hls_journal.specs.declared.fault.JournalFault.TheVariants.{Memory, NoChannel, UnknownVersion, JournalOther, WrongRecord, MissingUnit}
+
+-- an epoch: whether there is one, and its microseconds
+abbrev pub epoch_bytes : Option ℤ → List ℕ
+epoch_bytes None = 0 ∷ little_bytes 8 0
+epoch_bytes (Some us) = 1 ∷ little_bytes 8 (unsigned_abs us)
+
+-- a name, filled up with zero bytes
+abbrev pub name_bytes : List ℕ → List ℕ
+name_bytes name = name ++ replicate (32 - length name) 0
+
+-- a rendition: its name, whether it is video, its bandwidth, its tolerance
+abbrev pub rendition_bytes : Rendition → List ℕ
+rendition_bytes r = name_bytes r.name ++ (from_bool r.video ∷ []) ++ little_bytes 8 r.bandwidth ++ little_bytes 8 r.tolerance
+
+-- a configuration, but for its base
+abbrev pub config_bytes : ConfigData → List ℕ
+config_bytes c = little_bytes 8 c.target ++ little_bytes 8 c.preferred ++ epoch_bytes c.epoch ++ flat_map rendition_bytes c.renditions
+
+-- the bytes that precede, of the first renditions
+abbrev pub counts_bytes : BaseData → ℕ → List ℕ
+counts_bytes b zero = []
+counts_bytes b (suc r) = counts_bytes b r ++ little_bytes 8 (bytes_before_base b r)
+
+-- a base: its run, the segments, their marks, whether the first segment is marked, the log entries, and the bytes of 16 renditions
+abbrev pub base_bytes : BaseData → List ℕ
+base_bytes b = b.run ++ little_bytes 8 b.segments ++ little_bytes 8 b.marks ++ (from_bool b.marked ∷ []) ++ little_bytes 8 b.version ++ counts_bytes b 16
+
+-- the body: the kind, the version of the format, the boot id, the base, the configuration
+abbrev pub channel_bytes : ConfigData → ChannelHeader → List ℕ
+channel_bytes c h = 0 ∷ [] ++ little_bytes 2 1 ++ h.boot ++ base_bytes h.base ++ config_bytes c
+
+abbrev pub version_in : List ℕ → ℕ
+version_in body = little_number 2 (drop 1 body)
+
+-- the configuration in the body of the record of a channel
+abbrev pub config_in : List ℕ → List ℕ
+config_in body = drop 188 body
+
+-- the number in eight bytes of a text
+abbrev pub number_at : ℕ → List ℕ → ℕ
+number_at at text = little_number 8 (drop at text)
+
+-- the first field in which two configurations differ, with both values; of renditions, the bytes that are equal
+abbrev pub DifferIn : List ℕ → List ℕ → ConfigField → ℕ → ℕ → Type 0
+DifferIn found given Target journal mine = (journal ≡ number_at 0 found) × (mine ≡ number_at 0 given) × (journal ≢ mine)
+DifferIn found given Preferred journal mine =
+    (number_at 0 found ≡ number_at 0 given) × (journal ≡ number_at 8 found) × (mine ≡ number_at 8 given) × (journal ≢ mine)
+DifferIn found given Epoch journal mine =
+    (number_at 0 found ≡ number_at 0 given) × (number_at 8 found ≡ number_at 8 given) × (journal ≡ number_at 17 found) × (mine ≡ number_at 17 given) × (take 25 found ≢ take 25 given)
+DifferIn found given Renditions journal mine = (take 25 found ≡ take 25 given) × (journal ≡ length found) × (mine ≡ length given) × (found ≢ given)
+
+-- a body is of the record of a channel in this version of the format, or isn't, for this reason
+abbrev pub JudgesVersion : List ℕ → Result (Unit {0}) JournalFault → Type 0
+JudgesVersion body (Ok _) = (3 ≤ length body) × (get_or body 0 0 ≡ 0) × (version_in body ≡ 1)
+JudgesVersion body (Err Memory) = ⊥
+JudgesVersion body (Err NoChannel) = (length body < 3) ⊎ (get_or body 0 0 ≢ 0)
+JudgesVersion body (Err (UnknownVersion version)) = (get_or body 0 0 ≡ 0) × (version ≡ version_in body) × (version ≢ 1)
+JudgesVersion body (Err (JournalOther field journal given)) = ⊥
+JudgesVersion body (Err (WrongRecord number)) = ⊥
+JudgesVersion body (Err (MissingUnit number)) = ⊥
+
+-- two configurations differ so, or they are equal or one is too short
+abbrev pub IsDifference : List ℕ → List ℕ → JournalFault → Type 0
+IsDifference found given (JournalOther field journal mine) = DifferIn found given field journal mine
+IsDifference found given NoChannel = (length found < 25) ⊎ ((length given < 25) ⊎ (found ≡ given))
+IsDifference found given Memory = ⊥
+IsDifference found given (UnknownVersion version) = ⊥
+IsDifference found given (WrongRecord number) = ⊥
+IsDifference found given (MissingUnit number) = ⊥

@@ -1,0 +1,4 @@
+pub mod Bodies
+pub mod Recalling
+pub mod Channels
+pub mod Heads

@@ -1,0 +1,13 @@
+pub mod Boxes
+pub mod Joined
+pub mod Facts
+pub mod Heads
+pub mod Prefixes
+pub mod Outcomes
+pub mod Agreement
+pub mod Replayed
+pub mod States
+pub mod Substituted
+pub mod Floors
+pub mod Continued
+pub mod Durable

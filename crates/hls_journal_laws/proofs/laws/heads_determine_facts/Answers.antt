@@ -1,0 +1,5 @@
+use Rattle.hls_journal_laws.proofs.Facts.{heads-determine-facts}
+use Rattle.hls_journal_laws.proofs.laws.heads_determine_facts.Goals as goal
+
+pub returns : goal.returns
+returns c = heads-determine-facts

@@ -1,0 +1,5 @@
+use Rattle.hls_journal_laws.proofs.Continued.{lists-continue}
+use Rattle.hls_journal_laws.proofs.laws.lists_continue.Goals as goal
+
+pub returns : goal.returns
+returns c = lists-continue c.restored_states_follow.ensures c.based_lists_follow.ensures

@@ -1,0 +1,5 @@
+use Rattle.hls_journal_laws.proofs.Continued.{path-lists-continue}
+use Rattle.hls_journal_laws.proofs.laws.path_lists_continue.Goals as goal
+
+pub returns : goal.returns
+returns c = path-lists-continue c.restored_states_follow.ensures c.path_lists_follow.ensures

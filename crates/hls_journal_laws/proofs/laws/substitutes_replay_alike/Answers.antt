@@ -1,0 +1,5 @@
+use Rattle.hls_journal_laws.proofs.Replayed.{substitutes-replay-alike}
+use Rattle.hls_journal_laws.proofs.laws.substitutes_replay_alike.Goals as goal
+
+pub returns : goal.returns
+returns c = substitutes-replay-alike

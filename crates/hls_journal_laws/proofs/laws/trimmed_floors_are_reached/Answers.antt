@@ -1,0 +1,5 @@
+use Rattle.hls_journal_laws.proofs.Floors.{trimmed-floors-are-reached}
+use Rattle.hls_journal_laws.proofs.laws.trimmed_floors_are_reached.Goals as goal
+
+pub returns : goal.returns
+returns c = trimmed-floors-are-reached

@@ -1,0 +1,10 @@
+pub mod Heads
+pub mod Replays
+pub mod Substitutes
+pub mod Bodies
+pub mod Restored
+pub mod Written
+pub mod Floors
+pub mod Laws
+pub mod Players
+pub mod Durable

@@ -1,0 +1,9 @@
+use Rattle.std.proofs.Common.{ℕ, ◌-◌, length}
+use Rattle.hls_journal_log.proofs.Steps.{HasRead}
+use Rattle.hls_journal_log.proofs.read.read_records.Given as goal
+
+abbrev pub invariant-records : goal.invariant-records
+invariant-records l = HasRead l.first l.number l.at l.text l.bodies.items
+
+abbrev pub decreases-records : goal.decreases-records
+decreases-records l = length l.text - l.at
