@@ -1,5 +1,8 @@
 mod Recents
 mod Parts
+mod Statuses
+mod NamedSpans
+mod PathAnswers
 mod Acting
 mod Examples
 mod Linking

@@ -1,5 +1,5 @@
 -- One request and its reply: the acts that it leads to, its effect on the table of jobs, and the reply that is due.
-use Rattle.std.specs.Prelude.{◌≡◌, ◌≢◌, ◌⊎◌, ◌<◌, ◌≤◌, ◌+◌, ℕ, Bool, true, false, cond, List, [], ◌∷◌, ◌++◌, length, Option, Some, None, Result, Ok, Err, codes}
+use Rattle.std.specs.Prelude.{◌≡◌, ◌≢◌, ◌⊎◌, ◌<◌, ◌≤◌, ◌+◌, ℕ, ⊤, Bool, true, false, cond, List, [], ◌∷◌, ◌++◌, length, Option, Some, None, Result, Ok, Err, codes}
 use Rattle.std.specs.Option.{is_some}
 use Rattle.httparse.specs.Grammar.{RequestHead, NeverHasRequest}
 use Rattle.hls_core_laws.specs.{declared.event.Event.TheVariants.Finish, declared.refusal.Refusal.TheVariants.Memory}
@@ -10,11 +10,13 @@ use Rattle.hls_http.specs.{Limits.discard_limit, Fields.values, Range.range_of_v
 use Rattle.hls_http.specs.Actions.{announced_len, action_by, sends_continue, sends_close}
 use Rattle.hls_http.specs.ResponseText.{continue_text, is_success, out_of_memory_response}
 use Rattle.hls_catchup.specs.{declared.fault.JobFault.TheVariants.UnknownJob, Jobs.Shared.{HasCounted, HasRemoved}}
-use Rattle.hls_api.specs.Responses.{ResponseData, answer_text, fault_answer, finish_answer, list_answer, media_answer, method_answer, playlist_answer, status_answer, text_answer}
+use Rattle.hls_api.specs.Responses.{ResponseData, answer_text, fault_answer, finish_answer, media_answer, method_answer, playlist_answer, status_answer, text_answer}
 use Rattle.hls_api.specs.Types.{Refusal, State, StreamFault, Done, BodyFraming, HttpFault, RequestAction, RangeSpec, Method, BodyEnd, DiscardEnd, JobFault, Job, IngestStop, CatchupQuery, QueryFault, Route, CatchupParams}
 use Rattle.hls_api.specs.{declared.catchup_query.QueryFault.TheVariants.BadQuery, Faults.status_of, JobTable.{IsAddResult, IsGetResult}}
 use Rattle.hls_api.specs.Acts.{Act, ActsChangeNothing, RecordsAdd, RecordsLook, RecordsRemove, RecordsSubmit}
-use Rattle.hls_api.specs.{Ingest.{HandlesBody, Progress, IsBodyStop, counts_text}, Playlists.{live_master_text, live_text}}
+use Rattle.hls_api.specs.{Ingest.{HandlesBody, Progress, IsBodyStop, counts_text}, Playlists.live_master_text}
+use Rattle.hls_api.specs.Players.{init_answer, live_list_answer, path_master_answer, run_answer, segment_answer}
+use Rattle.hls_playlists.specs.declared.media_uris.MediaUris.TheVariants.{Paths, Ranges}
 use Rattle.hls_api.specs.JobResponses.{added_answer, query_answer, file_answer, removed_answer, job_answer}
 use Rattle.hls_api.specs.Queries.{query_in, request_for, catchup_params_of}
 use Rattle.hls_api.specs.Routes.{allows, takes_ingest, is_to_head, path_of, query_of, removes_job, route_of}
@@ -121,12 +123,36 @@ ServesJob q route id a answer b false = (b ≡ a) × RespondsWithJob id (shown_i
 
 -- ---- by the route
 
+-- a route that players load
+abbrev pub IsForPlayer : Route → Type 0
+IsForPlayer routes.PathMaster = ⊤
+IsForPlayer (routes.PathList r) = ⊤
+IsForPlayer routes.Run = ⊤
+IsForPlayer (routes.InitSection run r) = ⊤
+IsForPlayer (routes.Segment run r first last) = ⊤
+IsForPlayer route = ⊥
+
+-- what a player is shown of a state
+abbrev pub shown_to_player : RequestParams → Route → State → Option ResponseData
+shown_to_player q routes.PathMaster s = Some (path_master_answer s)
+shown_to_player q (routes.PathList r) s = Some (live_list_answer Paths s r)
+shown_to_player q routes.Run s = Some (run_answer s)
+shown_to_player q (routes.InitSection run r) s = Some (init_answer s run r (range_for (is_to_head q.method) q.range))
+shown_to_player q (routes.Segment run r first last) s = Some (segment_answer s run r first last (range_for (is_to_head q.method) q.range))
+shown_to_player q route s = None
+
 -- if the route allows the method
 abbrev pub IsServedBy : RequestParams → Route → List Act → ResponseData → List Act → Type 0
 IsServedBy q (routes.Finish r) a answer b = FinishesRendition a r b answer
 IsServedBy q routes.LiveMaster a answer b = RespondsWithState a b (λ s. playlist_answer (live_master_text s)) answer
-IsServedBy q (routes.LiveList r) a answer b = RespondsWithState a b (λ s. list_answer (live_text s r)) answer
+IsServedBy q (routes.LiveList r) a answer b = RespondsWithState a b (λ s. live_list_answer Ranges s r) answer
 IsServedBy q (routes.Media r) a answer b = RespondsWithState a b (λ s. media_answer s r (range_for (is_to_head q.method) q.range)) answer
+IsServedBy q routes.PathMaster a answer b = RespondsWithState a b (λ s. path_master_answer s) answer
+IsServedBy q (routes.PathList r) a answer b = RespondsWithState a b (λ s. live_list_answer Paths s r) answer
+IsServedBy q routes.Run a answer b = RespondsWithState a b (λ s. run_answer s) answer
+IsServedBy q (routes.InitSection run r) a answer b = RespondsWithState a b (λ s. init_answer s run r (range_for (is_to_head q.method) q.range)) answer
+IsServedBy q (routes.Segment run r first last) a answer b =
+    RespondsWithState a b (λ s. segment_answer s run r first last (range_for (is_to_head q.method) q.range)) answer
 IsServedBy q routes.CatchUp a answer b = HandlesCatchup (query_in q.query) a b answer
 IsServedBy q routes.Status a answer b = (jobs : ℕ) × HasCounted jobs × RespondsWithState a b (λ s. status_answer s jobs) answer
 IsServedBy q route a answer b = ⊥

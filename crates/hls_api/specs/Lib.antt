@@ -13,6 +13,9 @@ pub mod OtherActors
 pub mod Playlists
 pub mod Queries
 pub mod Responses
+pub mod Players
+pub mod PathAnswers
+pub mod NamedSpans
 pub mod Routes
 pub mod Sessions
 pub mod Types

@@ -1,6 +1,7 @@
 -- Cached live playlists.
 use Rattle.std.specs.{Prelude.{◌≡◌, ◌≤◌, ℕ, All, List, [], ◌∷◌, length, Option, Some, None, option_and_then}, declared.sync.Arc.Arc}
 use Rattle.hls_core_laws.specs.State.{State}
+use Rattle.hls_playlists.specs.declared.media_uris.MediaUris.{MediaUris}
 use Rattle.hls_api.specs.{Playlists.live_text, declared.playlist_cache.CachedPlaylist.CachedPlaylist}
 
 -- the state that was noted
@@ -9,11 +10,11 @@ noted_state [] = None
 noted_state ((s, n) ∷ others) = Some s.value
 
 -- the text of a rendition's live playlist in that state
-abbrev pub live_text_in : Option State → ℕ → Option (List ℕ)
-live_text_in source rendition = option_and_then (λ s. live_text s rendition) source
+abbrev pub live_text_in : Option State → MediaUris → ℕ → Option (List ℕ)
+live_text_in source uris rendition = option_and_then (λ s. live_text uris s rendition) source
 
 abbrev pub IsListOf : Option State → CachedPlaylist → Type 0
-IsListOf source kept = live_text_in source kept.rendition ≡ Some kept.text.items
+IsListOf source kept = live_text_in source kept.uris kept.rendition ≡ Some kept.text.items
 
 -- the state has this number of events
 abbrev pub HasVersion : Option State → ℕ → Type 0
@@ -25,4 +26,4 @@ AreListsOf source version lists = HasVersion source version × All (IsListOf sou
 
 -- the state has at most as many events as another one, and if it has as many, both have the same playlists
 abbrev pub HasSameListsBefore : Option State → State → Type 0
-HasSameListsBefore source s = (a : State) → source ≡ Some a → (length a.log ≤ length s.log) × (length a.log ≡ length s.log → (r : ℕ) → live_text s r ≡ live_text a r)
+HasSameListsBefore source s = (a : State) → source ≡ Some a → (length a.log ≤ length s.log) × (length a.log ≡ length s.log → (uris : MediaUris) (r : ℕ) → live_text uris s r ≡ live_text uris a r)

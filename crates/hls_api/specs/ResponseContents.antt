@@ -2,12 +2,13 @@
 use Rattle.std.specs.Prelude.{◌≡◌, ℕ, ◌+◌, ◌-◌, ◌≤◌, min, max, List, [], ◌∷◌, length, take, drop, Option, Some, None, option_and_then}
 use Rattle.std.specs.List.{concat}
 use Rattle.hls_record.specs.RecordingData.{RecordingData, offset_at}
+use Rattle.hls_core_laws.specs.Base.{bytes_before_base}
 use Rattle.hls_core_laws.specs.State.{State}
 use Rattle.hls_core.specs.Getters.{recording_of}
 use Rattle.hls_http.specs.{declared.range_spec.RangeSpec.RangeSpec, declared.range_spec.RangeSelection.TheVariants.Outside, Range.range_selection, ResponseText.extra_line}
 use Rattle.hls_playlists_laws.specs.JobResource.{units_between}
 use Rattle.hls_io.specs.Slices.{part_at, rest_at}
-use Rattle.hls_api.specs.Responses.{ResponseData, media_bytes, media_part_answer, part_answer}
+use Rattle.hls_api.specs.Responses.{ResponseData, based_media_bytes, media_bytes, media_part_answer, part_answer}
 use Rattle.hls_api.specs.{declared.media_responses.MediaResource.MediaResource, declared.media_responses.MediaRange.MediaRange}
 use Rattle.hls_api.specs.{declared.response_body.ResponseBody.ResponseBody, declared.response_content.ResponseContent.ResponseContent}
 use Rattle.hls_api.specs.declared.response.Response.TheInside.{Inside}
@@ -42,6 +43,14 @@ kept_offset rec at = min at (length rec.head) + (at - max (length rec.head) (off
 abbrev pub kept_range_bytes : State → ℕ → ℕ → ℕ → Option (List ℕ)
 kept_range_bytes s r from len = option_and_then (λ rec. media_bytes rec from len) (recording_of s r)
 
+-- the same of its resource, with the bytes that precede the recording
+abbrev pub based_range_bytes : State → ℕ → ℕ → ℕ → Option (List ℕ)
+based_range_bytes s r from len = option_and_then (λ rec. based_media_bytes (bytes_before_base s.config.base r) rec from len) (recording_of s r)
+
+-- the offset of a byte that doesn't precede the recording, in the recording
+abbrev pub own_offset : ℕ → RecordingData → ℕ → ℕ
+own_offset before rec at = min at (length rec.head) + (at - (length rec.head + before))
+
 -- ---- a response
 
 -- this piece of a resource of `total` bytes is the requested part, whatever function returns its bytes
@@ -65,4 +74,4 @@ content_of (contents.List text) = text
 content_of (contents.Certificate text) = text
 
 abbrev pub model_of : Inside → ResponseData
-model_of a = record { status = a.status; kind = a.kind; field = extra_line a.extra; body = content_of a.body }
+model_of a = record { status = a.status; kind = a.kind; field = extra_line a.extra; policy = a.policy; body = content_of a.body }

@@ -1,14 +1,16 @@
 -- The replies: refusals, and how a state is shown.
-use Rattle.std.specs.Prelude.{ℕ, ◌+◌, ◌-◌, Bool, cond, List, [], ◌∷◌, ◌++◌, length, Option, Some, None, option_and_then, option_map, Result, Ok, Err, codes}
+use Rattle.std.specs.Prelude.{ℕ, ◌+◌, ◌-◌, Bool, cond, List, [], ◌∷◌, ◌++◌, length, drop, map, replicate, take, Option, Some, None, option_and_then, option_map, Result, Ok, Err, codes}
 use Rattle.std.specs.Fmt.{decimal}
 use Rattle.hls_http.specs.{declared.range_spec.RangeSelection.RangeSelection, declared.response_parts.ContentType.ContentType, declared.response_parts.ExtraField.ExtraField, Range.range_selection}
 use Rattle.hls_http.specs.declared.response_parts.Status.TheVariants.{Done, PartialContent}
 use Rattle.hls_http.specs.declared.response_parts.ContentType.TheVariants.{Text, Media, Playlist}
+use Rattle.hls_http.specs.declared.response_parts.CachePolicy.{CachePolicy}
+use Rattle.hls_http.specs.declared.response_parts.CachePolicy.TheVariants.{Unstated}
 use Rattle.hls_http.specs.declared.response_parts.ExtraField.TheVariants.{Nothing, Range, NoRange}
-use Rattle.hls_http.specs.ResponseText.{fault_name, fault_status, status_line, content_lines, extra_line, close_line, crlf, refusal_body}
-use Rattle.hls_record.specs.RecordingData.{RecordingData, total_of, range_of}
+use Rattle.hls_http.specs.ResponseText.{fault_name, fault_status, status_line, content_lines, extra_line, policy_lines, close_line, crlf, refusal_body}
+use Rattle.hls_record.specs.RecordingData.{RecordingData, bytes_of, total_of, range_of}
 use Rattle.hls_places_laws.specs.Line.Live.{segments_of}
-use Rattle.hls_core_laws.specs.{Line.line, Places.kept_places}
+use Rattle.hls_core_laws.specs.{Base.bytes_before_base, Line.line, Places.kept_places}
 use Rattle.hls_core.specs.Getters.{recording_of}
 use Rattle.hls_api.specs.{Faults.core_status, Routes.methods_of, Types.{HttpFault, RangeSpec, Status, Refusal, State, Done as Moved, Route}}
 use Rattle.hls_http.specs.declared.fault.HttpFault.TheVariants as http
@@ -16,21 +18,23 @@ use Rattle.hls_http.specs.declared.range_spec.RangeSelection.TheVariants as part
 use Rattle.hls_core_laws.specs.RefusalName as core_names
 use Rattle.hls_core_laws.specs.declared.done.Done.TheVariants as moved
 
--- a reply without its `Connection` field: its status, the type of its body, the one optional field, and its body
+-- a reply without its `Connection` field: its status, the type of its body, the one optional field, what caches may do with it, and its
+-- body
 pub record ResponseData : Type 0 where
   pub status : Status
   pub kind : ContentType
   pub field : List ℕ
+  pub policy : CachePolicy
   pub body : List ℕ
 
 -- its text; a reply to HEAD lacks the body
 abbrev pub answer_text : ResponseData → Bool → Bool → List ℕ
 answer_text a closing to_head =
-    (status_line a.status ++ (content_lines a.status a.kind (length a.body) ++ (a.field ++ (close_line closing ++ crlf)))) ++ cond to_head [] a.body
+    (status_line a.status ++ (content_lines a.status a.kind (length a.body) ++ (a.field ++ (policy_lines a.policy ++ (close_line closing ++ crlf))))) ++ cond to_head [] a.body
 
 -- a text, and this field
 abbrev pub text_with : List ℕ → Status → List ℕ → ResponseData
-text_with field status body = record { status = status; kind = Text; field = field; body = body }
+text_with field status body = record { status = status; kind = Text; field = field; policy = Unstated; body = body }
 
 abbrev pub text_answer : Status → List ℕ → ResponseData
 text_answer status body = text_with [] status body
@@ -59,13 +63,13 @@ finish_answer (Err refusal_) = text_answer (core_status refusal_) (refusal_body 
 abbrev pub status_row : List ℕ → ℕ → List ℕ
 status_row name number = name ++ (32 ∷ (decimal number ++ 10 ∷ []))
 
--- log entries, kept places, live segments, segments that have slid out, and jobs
+-- log entries, kept places, live segments, segments that have slid out, and jobs. Segments that precede this process count
 abbrev pub status_text : State → ℕ → List ℕ
 status_text s jobs =
     status_row (codes "version") (length s.log)
     ++ (status_row (codes "places") (length (kept_places s))
     ++ (status_row (codes "segments") (length (segments_of (line s)))
-    ++ (status_row (codes "removed") (line s).removed
+    ++ (status_row (codes "removed") (s.config.base.segments + (line s).removed)
     ++ status_row (codes "jobs") jobs)))
 
 abbrev pub status_answer : State → ℕ → ResponseData
@@ -80,7 +84,7 @@ whole_range (b ∷ bytes) = option_and_then (λ first. option_map (λ others. fi
 
 abbrev pub media_part_answer : Status → ExtraField → Option (List ℕ) → ResponseData
 media_part_answer status extra None = fault_answer http.Gone
-media_part_answer status extra (Some bytes) = record { status = status; kind = Media; field = extra_line extra; body = bytes }
+media_part_answer status extra (Some bytes) = record { status = status; kind = Media; field = extra_line extra; policy = Unstated; body = bytes }
 
 -- where the range has none of the resource's `total` bytes
 abbrev pub outside_answer : ℕ → ResponseData
@@ -96,18 +100,27 @@ part_answer bytes total (parts.Slice from len) = media_part_answer PartialConten
 abbrev pub media_bytes : RecordingData → ℕ → ℕ → Option (List ℕ)
 media_bytes rec from len = whole_range (range_of rec from (from + len))
 
--- a rendition's resource: its init section and all its units; not found before its init section
-abbrev pub recording_answer : Option RecordingData → RangeSpec → ResponseData
-recording_answer None range = fault_answer http.NotFound
-recording_answer (Some rec) range = part_answer (media_bytes rec) (total_of rec) (range_selection range (total_of rec))
+-- a rendition's resource byte by byte, None for a byte that isn't kept: `before` bytes of units precede the recording's units, and none of
+-- them is kept
+abbrev pub based_bytes : ℕ → RecordingData → List (Option ℕ)
+based_bytes before rec = map Some rec.head ++ replicate before None ++ drop (length rec.head) (bytes_of rec)
+
+abbrev pub based_media_bytes : ℕ → RecordingData → ℕ → ℕ → Option (List ℕ)
+based_media_bytes before rec from len = whole_range (take len (drop from (based_bytes before rec)))
+
+-- its init section and all its units; not found before its init section
+abbrev pub recording_answer : ℕ → Option RecordingData → RangeSpec → ResponseData
+recording_answer before None range = fault_answer http.NotFound
+recording_answer before (Some rec) range =
+    part_answer (based_media_bytes before rec) (before + total_of rec) (range_selection range (before + total_of rec))
 
 abbrev pub media_answer : State → ℕ → RangeSpec → ResponseData
-media_answer s r range = recording_answer (recording_of s r) range
+media_answer s r range = recording_answer (bytes_before_base s.config.base r) (recording_of s r) range
 
 -- ---- playlists
 
 abbrev pub playlist_answer : List ℕ → ResponseData
-playlist_answer text = record { status = Done; kind = Playlist; field = []; body = text }
+playlist_answer text = record { status = Done; kind = Playlist; field = []; policy = Unstated; body = text }
 
 -- a missing playlist, such as a live one before a segment was closed, is not found
 abbrev pub list_answer : Option (List ℕ) → ResponseData

@@ -3,6 +3,7 @@ use Rattle.std.specs.Prelude.{ℕ, nat_lt, min, Bool, true, false, ◌&&◌, ◌
 use Rattle.std.specs.{Prelude.{List, [], ◌∷◌, length, take, drop, position, bytes_eq, codes}, List.{filter, join_by, position_or_len}}
 use Rattle.std.specs.Str.{all_ascii_digits}
 use Rattle.hls_text.specs.Digits.{has_no_leading_zero, number_of_digits}
+use Rattle.hls_core_laws.specs.Base.{run_field}
 use Rattle.hls_http.specs.declared.method.Method.TheVariants.{Get, Head, Post, Put, Delete}
 use Rattle.hls_api.specs.Types.{Method, Route, JobFile}
 use Rattle.hls_api.specs.declared.route.Route.TheVariants as routes
@@ -69,13 +70,59 @@ job_route_at count text (Some at) =
 abbrev pub job_route : ℕ → List ℕ → Option Route
 job_route count text = job_route_at count text (position (λ b. b == 47) text)
 
-abbrev pub folder_route : ℕ → List ℕ → Option Route
-folder_route count path =
+-- ---- players
+
+-- the number of a byte
+abbrev pub byte_number : List ℕ → Option ℕ
+byte_number text = cond (has_no_leading_zero text) (number_of_digits 16 text) None
+
+-- a segment by its first and last byte, with `-` between them
+abbrev pub span_route_at : List ℕ → ℕ → List ℕ → Option ℕ → Option Route
+span_route_at run r text None = None
+span_route_at run r text (Some at) =
+    option_and_then (λ first. option_map (λ last. routes.Segment run r first last) (byte_number (drop (at + 1) text))) (byte_number (take at text))
+
+abbrev pub span_route : List ℕ → ℕ → List ℕ → Option Route
+span_route run r text = span_route_at run r text (position (λ b. b == 45) text)
+
+-- a file of a rendition, by its name
+abbrev pub media_file : List ℕ → ℕ → List ℕ → Option Route
+media_file run r name =
+    cond (bytes_eq name (codes "init.mp4")) (Some (routes.InitSection run r)) (option_and_then (span_route run r) (without_suffix (codes ".m4s") name))
+
+-- a rendition of a run, and its file after the next `/`
+abbrev pub rendition_route_at : ℕ → List ℕ → List ℕ → Option ℕ → Option Route
+rendition_route_at count run text None = None
+rendition_route_at count run text (Some at) = option_and_then (λ r. media_file run r (drop (at + 1) text)) (rendition_in count (take at text))
+
+abbrev pub run_route : ℕ → List ℕ → List ℕ → Option Route
+run_route count run text =
+    option_and_then (λ field. rendition_route_at count field text (position (λ b. b == 47) text)) (run_field run)
+
+-- a playlist, or what comes before and after the next `/`
+abbrev pub player_route_at : ℕ → List ℕ → Option ℕ → Option Route
+player_route_at count text None = numbered_route (codes ".m3u8") routes.PathList count text
+player_route_at count text (Some at) = run_route count (take at text) (drop (at + 1) text)
+
+abbrev pub player_route : ℕ → List ℕ → Option Route
+player_route count text =
+    cond (bytes_eq text (codes "master.m3u8")) (Some routes.PathMaster)
+    (cond (bytes_eq text (codes "run")) (Some routes.Run) (player_route_at count text (position (λ b. b == 47) text)))
+
+-- the folders of the channel itself
+abbrev pub own_folder_route : ℕ → List ℕ → Option Route
+own_folder_route count path =
     or_else (without_prefix (codes "/ingest/") path) (λ number. option_map routes.Ingest (rendition_in count number))
     (or_else (without_prefix (codes "/finish/") path) (λ number. option_map routes.Finish (rendition_in count number))
     (or_else (without_prefix (codes "/live/") path) (live_route count)
     (or_else (without_prefix (codes "/media/") path) (numbered_route (codes ".mp4") routes.Media count)
     (option_and_then (job_route count) (without_prefix (codes "/job/") path)))))
+
+-- a path with a folder
+abbrev pub folder_route : ℕ → List ℕ → Option Route
+folder_route count path =
+    or_else (without_prefix (codes "/hls/") path) (player_route count)
+    (own_folder_route count path)
 
 -- what a path names, in a channel of `count` renditions; paths aren't percent-decoded
 abbrev pub route_of : ℕ → List ℕ → Option Route

@@ -1,6 +1,7 @@
 //! Theorems about the definitions. Each function has no body: its contract is the law.
 
 ghost use Rattle.hls_api.specs.Laws.{AllowNamesMethods, JobFilesAreRight, JobLinesAreRight, RequestsAreRead};
+ghost use Rattle.hls_api.specs.PathAnswers.{ListedInitsAreAnswered, ListedPathsAreAnswered};
 ghost use Rattle.hls_api.specs.ActLinks.{ActsAreLater, ActsExtendLinks, LinkedStatesFollow, LinksStay};
 
 /// Every reply of a session to a request for a job's file has a file of the right reply of some state to some request, or says that
@@ -39,4 +40,11 @@ pub fn acts_extend_links()
 pub fn linked_states_follow()
     ensures follow { LinkedStatesFollow }
     ensures acts { ActsAreLater }
+{}
+
+/// Each path that a state lists is answered with 200 and all of its bytes in that state, and so is its init section.
+#[tactic(auto, using(crate::proofs::PathAnswers::listed_paths_are_answered, crate::proofs::PathAnswers::listed_inits_are_answered))]
+pub fn listed_paths_are_answered()
+    ensures segments { ListedPathsAreAnswered }
+    ensures inits { ListedInitsAreAnswered }
 {}

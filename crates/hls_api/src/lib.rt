@@ -16,6 +16,7 @@ mod job_responses;
 pub mod laws;
 mod media_responses;
 pub mod parse_route;
+mod player_responses;
 mod playlist_cache;
 mod playlist_responses;
 mod query;
@@ -31,8 +32,11 @@ pub use job_responses::{
     added_response, file_response, job_response, query_response, removed_response,
 };
 pub use media_responses::media_response;
+pub use player_responses::{SegmentSpan, init_response, segment_response};
 pub use playlist_cache::PlaylistCache;
-pub use playlist_responses::{live_master_response, live_playlist_response};
+pub use playlist_responses::{
+    live_master_response, live_playlist_response, path_master_response, run_response,
+};
 pub use query::{make_request, read_query, resolve_query};
 pub use response::{Response, into_send_buffer};
 pub use response_body::ResponseBody;

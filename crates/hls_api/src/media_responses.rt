@@ -3,10 +3,11 @@
 ghost use Rattle.std.specs.Prelude.{◌≡◌, ◌+◌, ◌<◌, ◌≤◌, ◌^◌, drop, max, min, length, take, true, false, Some, IfOk, IfSome, option_map};
 ghost use Rattle.std.specs.List.{concat};
 ghost use Rattle.hls_record.specs.RecordingData.{RecordingData as RecordedData, offset_at, total_of};
+ghost use Rattle.hls_core_laws.specs.Base.{base_limit, bytes_before_base};
 ghost use Rattle.hls_core.specs.Getters.{recording_of};
 ghost use Rattle.hls_catchup.specs.Resources.{parts_in};
 ghost use Rattle.hls_api.specs.{JobResponses.resource_answer, JobResponses.resource_of, Responses.media_part_answer};
-ghost use Rattle.hls_api.specs.ResponseContents.{IsMediaRangeFor, IsPositionFor, kept_range_bytes, kept_offset, media_slices};
+ghost use Rattle.hls_api.specs.ResponseContents.{IsMediaRangeFor, IsPositionFor, based_range_bytes, kept_range_bytes, kept_offset, media_slices, own_offset};
 ghost use Rattle.hls_api.specs.Responses as spec;
 
 use crate::response::Response;
@@ -170,7 +171,7 @@ fn kept_offset(recording: &Recording, at: u64) -> u64
 
 /// Returns `len` bytes of a rendition's recording from an offset on; `None` if one of them is trimmed. Copies nothing.
 #[tactic(auto, using(crate::proofs::Parts::part_gone, crate::proofs::Parts::part_fits, crate::proofs::Parts::part_kept))]
-fn kept_range(
+pub(crate) fn kept_range(
     snapshot: Arc<Snapshot>,
     rendition: usize,
     from: u64,
@@ -196,15 +197,59 @@ fn kept_range(
     Some(resource.range(at, len))
 }
 
-/// Returns the length of a rendition's resource; `None` before its init section.
-fn recording_total(snapshot: &Snapshot, rendition: usize) -> Option<u64>
-    ensures value { result ≡ option_map total_of (recording_of snapshot.now rendition) }
-    ensures bound { IfSome result (λ total. total ≤ 2 ^ 40) }
+/// Whether a range of offsets has a byte of the units that precede a recording.
+fn has_preceding(recording: &Recording, before: u64, from: u64, end: u64) -> bool
+    requires { before ≤ base_limit }
+    ensures yes { result ≡ true → max from (length recording.now.head) < min end (length recording.now.head + before) }
+    ensures no { result ≡ false → min end (length recording.now.head + before) ≤ max from (length recording.now.head) }
 {
-    Some(snapshot.recording(rendition)?.total())
+    let size = recording.init_section_bytes().len() as u64;
+    let start = from.max(size);
+    let stop = end.min(size + before);
+    start < stop
 }
 
-/// The requested part of a rendition's resource: 200 for all of it, 206 for a part, 416 if the part begins at or past the end, 410 if
+/// Returns the offset in a recording of a byte that doesn't precede it.
+fn own_offset(recording: &Recording, before: u64, at: u64) -> u64
+    requires { before ≤ base_limit }
+    ensures { result ≡ own_offset before recording.now at }
+{
+    let size = recording.init_section_bytes().len() as u64;
+    at.min(size) + at.saturating_sub(size + before)
+}
+
+/// Returns `len` bytes of a rendition's resource from an offset on; `None` if one of them is trimmed. Copies nothing.
+#[tactic(auto, using(crate::proofs::Parts::based_gone, crate::proofs::Parts::based_fits, crate::proofs::Parts::based_kept))]
+fn based_range(
+    snapshot: Arc<Snapshot>,
+    rendition: usize,
+    from: u64,
+    len: u64,
+) -> Option<ResourceRange<ResponseBody>>
+    requires { (rec : RecordedData) → Some rec ≡ recording_of snapshot.value rendition → from + len ≤ bytes_before_base snapshot.value.config.base rendition + total_of rec }
+    ensures { result ≡ based_range_bytes snapshot.value rendition from len }
+{
+    let before = snapshot.config().base().bytes(rendition);
+    let recording = snapshot.recording(rendition)?;
+    // its contract bounds the offsets
+    let _ = recording.total();
+    if has_preceding(recording, before, from, from + len) {
+        return None;
+    }
+    let at = own_offset(recording, before, from);
+    kept_range(snapshot, rendition, at, len)
+}
+
+/// Returns the length of a rendition's resource; `None` before its init section.
+fn resource_len(snapshot: &Snapshot, rendition: usize) -> Option<u64>
+    ensures value { result ≡ option_map (λ rec. bytes_before_base snapshot.now.config.base rendition + total_of rec) (recording_of snapshot.now rendition) }
+    ensures bound { IfSome result (λ total. total ≤ base_limit + 2 ^ 40) }
+{
+    let before = snapshot.config().base().bytes(rendition);
+    Some(before + snapshot.recording(rendition)?.total())
+}
+
+/// The requested part of a rendition's resource, in which the units that precede the recording count as trimmed: 200 for all of it, 206 for a part, 416 if the part begins at or past the end, 410 if
 /// a byte of it is trimmed, and 404 before the rendition's init section.
 pub fn media_response(
     alloc: Global,
@@ -214,13 +259,13 @@ pub fn media_response(
 ) -> Result<Response, AllocError>
     ensures { IfOk result (λ a. a ≡ spec.media_answer snapshot.value rendition asked) }
 {
-    let Some(total) = recording_total(&snapshot, rendition) else {
+    let Some(total) = resource_len(&snapshot, rendition) else {
         return fault_response(alloc, HttpFault::NotFound);
     };
     let Some(piece) = choose_media_range(asked, total) else {
         return range_not_satisfiable_response(alloc, total);
     };
-    let media = kept_range(snapshot, rendition, piece.from, piece.len);
+    let media = based_range(snapshot, rendition, piece.from, piece.len);
     range_response(alloc, piece, media)
 }
 

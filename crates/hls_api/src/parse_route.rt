@@ -6,6 +6,7 @@ ghost use Rattle.hls_api.specs.Exchanges as heard;
 ghost use Rattle.hls_api.specs.Routes as spec;
 
 use crate::route::{JobFile, Route};
+use hls_core::base::Base;
 use hls_http::method::Method;
 use hls_text::{MAX_DIGITS, are_digits, has_no_leading_zero, parse_digits};
 
@@ -88,9 +89,83 @@ fn parse_job_route(count: usize, text: &[u8]) -> Option<Route>
     }
 }
 
+/// Parses the number of a byte.
+fn parse_byte_number(text: &[u8]) -> Option<u64>
+    ensures { result ≡ spec.byte_number text.now }
+{
+    if !has_no_leading_zero(text) {
+        return None;
+    }
+    parse_digits(text, MAX_DIGITS)
+}
+
+fn find_dash(text: &[u8]) -> Option<usize>
+    ensures value { result ≡ position (λ b. b == 45) text.now }
+    ensures within { IfSome result (λ at. at < length text.now) }
+    ensures small { IfSome result (λ at. at + 1 < 2 ^ 64) }
+{
+    text.iter().position(|byte| *byte == b'-')
+}
+
+/// Parses the first and the last byte of a segment.
+fn parse_span(run: [u8; 16], rendition: usize, text: &[u8]) -> Option<Route>
+    ensures { result ≡ spec.span_route run rendition text.now }
+{
+    let dash = find_dash(text)?;
+    let first = parse_byte_number(&text[..dash])?;
+    let last = parse_byte_number(&text[dash + 1..])?;
+    Some(Route::Segment(run, rendition, first, last))
+}
+
+/// Parses the name of a file of a rendition.
+fn parse_media_file(run: [u8; 16], rendition: usize, name: &[u8]) -> Option<Route>
+    ensures { result ≡ spec.media_file run rendition name.now }
+{
+    if name == b"init.mp4".as_slice() {
+        return Some(Route::InitSection(run, rendition));
+    }
+    parse_span(run, rendition, strip_back(b".m4s", name)?)
+}
+
+/// Parses a rendition of a run, and its file.
+fn parse_run_route(count: usize, run: &[u8], text: &[u8]) -> Option<Route>
+    ensures { result ≡ spec.run_route count run.now text.now }
+{
+    let run = Base::parse_run(run)?;
+    let slash = find_slash(text)?;
+    let rendition = parse_rendition(count, &text[..slash])?;
+    parse_media_file(run, rendition, &text[slash + 1..])
+}
+
+/// Parses what players load: a playlist by paths, the run, or the media of a run.
+fn parse_player_route(count: usize, text: &[u8]) -> Option<Route>
+    ensures { result ≡ spec.player_route count text.now }
+{
+    if text == b"master.m3u8".as_slice() {
+        return Some(Route::PathMaster);
+    }
+    if text == b"run".as_slice() {
+        return Some(Route::Run);
+    }
+    match find_slash(text) {
+        Some(slash) => parse_run_route(count, &text[..slash], &text[slash + 1..]),
+        None => Some(Route::PathList(parse_rendition(count, strip_back(b".m3u8", text)?)?)),
+    }
+}
+
 /// Parses a path with a folder.
 fn parse_folder_route(count: usize, path: &[u8]) -> Option<Route>
     ensures { result ≡ spec.folder_route count path.now }
+{
+    if let Some(text) = strip_front(b"/hls/", path) {
+        return parse_player_route(count, text);
+    }
+    parse_own_folder_route(count, path)
+}
+
+/// Parses a path with a folder of the channel itself.
+fn parse_own_folder_route(count: usize, path: &[u8]) -> Option<Route>
+    ensures { result ≡ spec.own_folder_route count path.now }
 {
     if let Some(number) = strip_front(b"/ingest/", path) {
         return Some(Route::Ingest(parse_rendition(count, number)?));

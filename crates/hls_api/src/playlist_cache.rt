@@ -1,16 +1,15 @@
 //! A cache of live playlists: players request the same few repeatedly, mostly in the latest state.
 
 ghost use Rattle.std.specs.Prelude.{◌≡◌, IfOk, IfSome, None, Some};
-ghost use Rattle.hls_api.specs.{Playlists.live_text, PlaylistCache.{HasSameListsBefore, live_text_in}};
-ghost use Rattle.hls_api.specs.Responses as spec;
+ghost use Rattle.hls_api.specs.{Players.live_list_answer, PlaylistCache.{HasSameListsBefore, live_text_in}};
 
-use crate::playlist_responses::playlist_response;
+use crate::playlist_responses::{playlist_response, with_list_policy};
 use crate::response::Response;
 use crate::response_content::ResponseContent;
 use crate::text_responses::fault_response;
 use hls_core::snapshot::Snapshot;
 use hls_http::fault::HttpFault;
-use hls_playlists::LivePlaylistWriter;
+use hls_playlists::{LivePlaylistWriter, MediaUris};
 use http_server::Log;
 use std::alloc::{AllocError, Global};
 use std::marker::Model;
@@ -19,10 +18,11 @@ use std::sync::Arc;
 /// The longest text that is cached, in bytes; each response copies it.
 const MAX_CACHED_BYTES: usize = 65536;
 
-/// The text of a rendition's live playlist.
+/// The text of a rendition's live playlist, by ranges or by paths.
 #[derive(Drop)]
 pub(crate) struct CachedPlaylist {
     rendition: usize,
+    uris: MediaUris,
     text: Vec<u8>,
 }
 
@@ -64,11 +64,11 @@ impl PlaylistCache {
     }
 
     /// Returns the cached text of a rendition's playlist.
-    fn lookup(&self, rendition: usize) -> Option<&[u8]>
-        ensures { IfSome result (λ text. live_text_in self.now rendition ≡ Some text.now) }
+    fn lookup(&self, rendition: usize, uris: MediaUris) -> Option<&[u8]>
+        ensures { IfSome result (λ text. live_text_in self.now uris rendition ≡ Some text.now) }
     {
         for kept in &self.lists {
-            if kept.rendition == rendition {
+            if kept.rendition == rendition && kept.uris == uris {
                 return Some(kept.text.as_slice());
             }
         }
@@ -90,33 +90,44 @@ impl PlaylistCache {
 
     /// Caches the text of a rendition's playlist, if it isn't long and can be allocated.
     #[tactic(auto, using(crate::proofs::Recents::pushed))]
-    fn store(&mut self, rendition: usize, text: &[u8])
-        requires { live_text_in self.old rendition ≡ Some text.now }
+    fn store(&mut self, rendition: usize, uris: MediaUris, text: &[u8])
+        requires { live_text_in self.old uris rendition ≡ Some text.now }
         ensures { self.new ≡ self.old }
     {
         if text.len() > MAX_CACHED_BYTES {
             return;
         }
         if let Ok(text) = Vec::from_slice(self.alloc, text) {
-            let _ = self.lists.push(CachedPlaylist { rendition, text });
+            let _ = self.lists.push(CachedPlaylist {
+                rendition,
+                uris,
+                text,
+            });
         }
     }
 
     /// Makes a rendition's playlist, and caches it if it is made in one part.
-    fn render(&mut self, state: Arc<Snapshot>, rendition: usize) -> Result<Response, AllocError>
+    fn render(
+        &mut self,
+        state: Arc<Snapshot>,
+        rendition: usize,
+        uris: MediaUris,
+    ) -> Result<Response, AllocError>
         requires { self.old ≡ Some state.value }
         ensures state { self.new ≡ self.old }
-        ensures answer { IfOk result (λ a. a ≡ spec.list_answer (live_text state.value rendition)) }
+        ensures answer { IfOk result (λ a. a ≡ live_list_answer uris state.value rendition) }
     {
-        let Some(mut text) = LivePlaylistWriter::new(self.alloc, state, rendition)? else {
-            return fault_response(self.alloc, HttpFault::NotFound);
+        let Some(mut text) = LivePlaylistWriter::new(self.alloc, state, rendition, uris)? else {
+            let missing = fault_response(self.alloc, HttpFault::NotFound)?;
+            return Ok(with_list_policy(missing, uris));
         };
         if text.write_some(self.alloc)? {
-            return Ok(playlist_response(ResponseContent::List(text)));
+            let long = playlist_response(ResponseContent::List(text));
+            return Ok(with_list_policy(long, uris));
         }
         let text = text.finish(self.alloc)?;
-        self.store(rendition, &text);
-        Ok(playlist_response(ResponseContent::from_text(text)))
+        self.store(rendition, uris, &text);
+        Ok(with_list_policy(playlist_response(ResponseContent::from_text(text)), uris))
     }
 
     /// Returns the live playlist of a rendition in a state, whose playlists the cache keeps from then on; a long one may be partly
@@ -125,17 +136,18 @@ impl PlaylistCache {
         &mut self,
         state: Arc<Snapshot>,
         rendition: usize,
+        uris: MediaUris,
     ) -> Result<Response, AllocError>
         requires { HasSameListsBefore self.old state.value }
         ensures state { self.new ≡ Some state.value }
-        ensures answer { IfOk result (λ a. a ≡ spec.list_answer (live_text state.value rendition)) }
+        ensures answer { IfOk result (λ a. a ≡ live_list_answer uris state.value rendition) }
     {
         self.switch_to(&state);
-        if let Some(text) = self.lookup(rendition) {
-            return Ok(playlist_response(ResponseContent::from_text(Vec::from_slice(
-                self.alloc, text,
-            )?)));
+        if let Some(text) = self.lookup(rendition, uris) {
+            let text = Vec::from_slice(self.alloc, text)?;
+            let cached = playlist_response(ResponseContent::from_text(text));
+            return Ok(with_list_policy(cached, uris));
         }
-        self.render(state, rendition)
+        self.render(state, rendition, uris)
     }
 }

@@ -1,17 +1,19 @@
 //! Responses with playlists.
 
 ghost use Rattle.std.specs.Prelude.{◌≡◌, IfOk, option_map};
-ghost use Rattle.hls_api.specs.{Responses.playlist_answer, Playlists.{live_master_text, live_text}, ResponseContents.content_of};
+ghost use Rattle.hls_api.specs.{Responses.playlist_answer, Playlists.live_master_text, ResponseContents.content_of};
 ghost use Rattle.hls_api.specs.Responses as spec;
+ghost use Rattle.hls_api.specs.Players.{list_policy, live_list_answer, path_master_answer, run_answer, with_policy};
 
 use crate::response::Response;
 use crate::response_content::ResponseContent;
-use crate::text_responses::fault_response;
+use crate::text_responses::{fault_response, text_response};
 use hls_core::snapshot::Snapshot;
 use hls_http::fault::HttpFault;
-use hls_http::response_parts::{ContentType, ExtraField, Status};
+use hls_http::response_parts::{CachePolicy, ContentType, ExtraField, Status};
 use hls_m3u8::write_master;
-use hls_playlists::{LivePlaylistWriter, live_master};
+use hls_players_master::players_master;
+use hls_playlists::{LivePlaylistWriter, MediaUris, live_master};
 use std::alloc::{AllocError, Global};
 use std::sync::Arc;
 
@@ -44,13 +46,45 @@ pub fn live_playlist_response(
     alloc: Global,
     snapshot: Arc<Snapshot>,
     rendition: usize,
+    uris: MediaUris,
 ) -> Result<Response, AllocError>
-    ensures { IfOk result (λ a. a ≡ spec.list_answer (live_text snapshot.value rendition)) }
+    ensures { IfOk result (λ a. a ≡ live_list_answer uris snapshot.value rendition) }
 {
-    match LivePlaylistWriter::new(alloc, snapshot, rendition)? {
-        Some(text) => Ok(playlist_response(ResponseContent::from_playlist(alloc, text)?)),
-        None => fault_response(alloc, HttpFault::NotFound),
+    let Some(text) = LivePlaylistWriter::new(alloc, snapshot, rendition, uris)? else {
+        let missing = fault_response(alloc, HttpFault::NotFound)?;
+        return Ok(with_list_policy(missing, uris));
+    };
+    let made = playlist_response(ResponseContent::from_playlist(alloc, text)?);
+    Ok(with_list_policy(made, uris))
+}
+
+/// Returns a response with a live playlist, or that there is none; caches keep one by paths for a second.
+pub(crate) fn with_list_policy(response: Response, uris: MediaUris) -> Response
+    ensures { result ≡ with_policy (list_policy uris response.policy) response }
+{
+    match uris {
+        MediaUris::Ranges => response,
+        MediaUris::Paths => response.with_policy(CachePolicy::Brief),
     }
+}
+
+/// The master playlist of the playlists by paths; 404 before each rendition has its init section.
+pub fn path_master_response(alloc: Global, snapshot: &Snapshot) -> Result<Response, AllocError>
+    ensures { IfOk result (λ a. a ≡ path_master_answer snapshot.now) }
+{
+    let text = players_master(alloc, snapshot, false)?;
+    let response = optional_playlist_response(alloc, text)?;
+    Ok(response.with_policy(CachePolicy::Brief))
+}
+
+/// The name of the channel's run, in a line.
+pub fn run_response(alloc: Global, snapshot: &Snapshot) -> Result<Response, AllocError>
+    ensures { IfOk result (λ a. a ≡ run_answer snapshot.now) }
+{
+    let mut text = Vec::from_slice(alloc, snapshot.config().base().run_name())?;
+    text.push(b'\n')?;
+    let response = text_response(Status::Done, text);
+    Ok(response.with_policy(CachePolicy::Revalidate))
 }
 
 /// The master playlist of the live playlists.

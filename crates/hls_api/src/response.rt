@@ -2,23 +2,25 @@
 
 ghost use Rattle.std.specs.Prelude.{◌≡◌, IfOk};
 ghost use Rattle.hls_http.specs.ResponseText.{extra_line};
-ghost use Rattle.hls_api.specs.{Responses.{answer_text, text_with}, ResponseContents.content_of};
+ghost use Rattle.hls_http.specs.declared.response_parts.CachePolicy.TheVariants.{Unstated};
+ghost use Rattle.hls_api.specs.{Responses.{answer_text, text_with}, Players.with_policy, ResponseContents.content_of};
 
 use crate::response_body::ResponseBody;
-use crate::response_content::{ResponseContent, text_range};
+use crate::response_content::ResponseContent;
 use hls_http::make_response;
-use hls_http::response_parts::{ContentType, ExtraField, ResponseParts, Status};
+use hls_http::response_parts::{CachePolicy, ContentType, ExtraField, ResponseParts, Status};
 use hls_io::SendBuffer;
 use std::alloc::{AllocError, Global};
 use std::marker::Model;
 
-/// A response without its `Connection` field: its status, the type of its body, the one optional field, and its body, which isn't
-/// copied. A long text may be partly written: a clause sees all of it.
+/// A response without its `Connection` field: its status, the type of its body, the one optional field, what caches may do with it,
+/// and its body, which isn't copied. A long text may be partly written: a clause sees all of it.
 #[derive(Drop)]
 pub struct Response {
     status: Status,
     kind: ContentType,
     extra: ExtraField<'static>,
+    policy: CachePolicy,
     body: ResponseContent,
 }
 
@@ -52,12 +54,33 @@ impl Response {
         extra: ExtraField<'static>,
         body: ResponseContent,
     ) -> Response
-        ensures { result ≡ record { status = status; kind = kind; field = extra_line extra.entry; body = content_of body } }
+        ensures { result ≡ record { status = status; kind = kind; field = extra_line extra.entry; policy = Unstated; body = content_of body } }
     {
         Response {
             status,
             kind,
             extra,
+            policy: CachePolicy::Unstated,
+            body,
+        }
+    }
+
+    /// Returns the response with this statement about caches.
+    pub(crate) fn with_policy(self, policy: CachePolicy) -> Response
+        ensures { result ≡ with_policy policy self }
+    {
+        let Response {
+            status,
+            kind,
+            extra,
+            policy: _,
+            body,
+        } = self;
+        Response {
+            status,
+            kind,
+            extra,
+            policy,
             body,
         }
     }
@@ -82,6 +105,7 @@ impl Response {
             status,
             kind,
             extra,
+            policy,
             body,
         } = self;
         let body = match body {
@@ -89,7 +113,7 @@ impl Response {
             ResponseContent::List(text) => ResponseContent::from_playlist(alloc, text)?,
             ResponseContent::Certificate(text) => ResponseContent::from_certificate(text)?,
         };
-        Ok(Response::from_content(status, kind, extra, body))
+        Ok(Response::from_content(status, kind, extra, body).with_policy(policy))
     }
 }
 
@@ -107,12 +131,9 @@ pub fn into_send_buffer(
         status: answer.status,
         kind: answer.kind,
         extra: answer.extra,
+        policy: answer.policy,
         closing,
     };
-    let body = match answer.body {
-        ResponseContent::Whole(media) => media,
-        ResponseContent::List(text) => text_range(text.finish(alloc)?),
-        ResponseContent::Certificate(text) => text_range(text.finish()?),
-    };
+    let body = answer.body.finish(alloc)?;
     make_response(alloc, &head, body, to_head)
 }

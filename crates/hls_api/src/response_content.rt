@@ -21,7 +21,7 @@ pub(crate) enum ResponseContent {
 }
 
 /// Makes a body from a text.
-pub(crate) fn text_range(text: Vec<u8>) -> ResourceRange<ResponseBody>
+fn text_range(text: Vec<u8>) -> ResourceRange<ResponseBody>
     ensures { result ≡ text.items }
 {
     let len = text.len() as u64;
@@ -57,5 +57,16 @@ impl ResponseContent {
             return Ok(ResponseContent::Certificate(text));
         }
         Ok(ResponseContent::from_text(text.finish()?))
+    }
+
+    /// Writes all that remains of a partly written text.
+    pub fn finish(self, alloc: Global) -> Result<ResourceRange<ResponseBody>, AllocError>
+        ensures { IfOk result (λ media. media ≡ content_of self) }
+    {
+        match self {
+            ResponseContent::Whole(media) => Ok(media),
+            ResponseContent::List(text) => Ok(text_range(text.finish(alloc)?)),
+            ResponseContent::Certificate(text) => Ok(text_range(text.finish()?)),
+        }
     }
 }

@@ -21,6 +21,16 @@ pub enum Route {
     JobFile(u64, JobFile),
     /// `/status`.
     Status,
+    /// `/hls/master.m3u8`.
+    PathMaster,
+    /// `/hls/<r>.m3u8`.
+    PathList(usize),
+    /// `/hls/run`.
+    Run,
+    /// `/hls/<run>/<r>/init.mp4`. The run's name is filled up with zero bytes.
+    InitSection([u8; 16], usize),
+    /// `/hls/<run>/<r>/<first>-<last>.m4s`: the rendition's bytes from the first to the last one.
+    Segment([u8; 16], usize, u64, u64),
 }
 
 /// A file of a job.

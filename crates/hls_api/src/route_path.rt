@@ -25,6 +25,29 @@ impl Display for RoutePath {
                 write!(f, "/job/{id}/certificate.txt")
             }
             Some(Route::Status) => f.write_str("/status"),
+            Some(Route::PathMaster) => f.write_str("/hls/master.m3u8"),
+            Some(Route::PathList(n)) => write!(f, "/hls/{n}.m3u8"),
+            Some(Route::Run) => f.write_str("/hls/run"),
+            Some(Route::InitSection(run, n)) => {
+                f.write_str("/hls/")?;
+                write_run(f, &run)?;
+                write!(f, "/{n}/init.mp4")
+            }
+            Some(Route::Segment(run, n, first, last)) => {
+                f.write_str("/hls/")?;
+                write_run(f, &run)?;
+                write!(f, "/{n}/{first}-{last}.m4s")
+            }
         }
     }
+}
+
+/// Writes the name of a run, without the zero bytes that fill it up.
+fn write_run<W: Write>(f: &mut Formatter<W>, run: &[u8; 16]) -> fmt::Result {
+    for byte in run {
+        if *byte != 0 {
+            f.write_char(*byte as char)?;
+        }
+    }
+    Ok(())
 }

@@ -1,7 +1,8 @@
 //! The status of a channel, as a few numbers.
 
-ghost use Rattle.std.specs.Prelude.{◌≡◌, ◌++◌, IfOk, length};
+ghost use Rattle.std.specs.Prelude.{◌≡◌, ◌+◌, ◌++◌, IfOk, length};
 ghost use Rattle.hls_places_laws.specs.Line.Live.{segments_of};
+ghost use Rattle.hls_core_laws.specs.Line.{line};
 ghost use Rattle.hls_api.specs.Responses.{status_row};
 ghost use Rattle.hls_api.specs.Responses as spec;
 
@@ -33,8 +34,18 @@ fn push_status_row(out: &mut Vec<u8>, name: &[u8], number: u64) -> Result<(), Al
     Ok(())
 }
 
+/// Returns how many segments have slid out of the live line, those that precede this process included.
+#[tactic(auto, using(crate::proofs::Statuses::removed_small))]
+fn served_removed(snapshot: &Snapshot) -> u64
+    ensures { result ≡ snapshot.now.config.base.segments + (line snapshot.now).removed }
+{
+    let removed = snapshot.line().removed();
+    snapshot.config().base().segments() + removed
+}
+
 /// The status of a channel with `jobs` jobs: five lines with the numbers of log entries, places with no trimmed fragment, segments of
-/// the live line, segments that slid out, and jobs.
+/// the live line, segments that slid out, and jobs. Segments that precede
+/// this process count.
 pub fn status_response(
     alloc: Global,
     snapshot: &Snapshot,
@@ -47,7 +58,7 @@ pub fn status_response(
     push_status_row(&mut out, b"version", snapshot.version())?;
     push_status_row(&mut out, b"places", kept_place_count(snapshot))?;
     push_status_row(&mut out, b"segments", count_live_segments(line))?;
-    push_status_row(&mut out, b"removed", line.removed())?;
+    push_status_row(&mut out, b"removed", served_removed(snapshot))?;
     push_status_row(&mut out, b"jobs", jobs as u64)?;
     Ok(text_response(Status::Done, out))
 }

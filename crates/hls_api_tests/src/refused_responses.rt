@@ -5,9 +5,9 @@ use hls_api::catchup_query::{CatchupQuery, TimePoint};
 use hls_api::ingest::IngestCounts;
 use hls_api::route::Route;
 use hls_api::{
-    PlaylistCache, Response, fault_response, finish_response, ingest_refused_response,
+    PlaylistCache, Response, SegmentSpan, fault_response, finish_response, ingest_refused_response,
     ingested_response, into_send_buffer, live_master_response, live_playlist_response,
-    media_response, method_not_allowed_response, read_query, status_response,
+    media_response, method_not_allowed_response, read_query, segment_response, status_response,
 };
 use hls_core::StreamFault;
 use hls_core::snapshot::Snapshot;
@@ -16,6 +16,7 @@ use hls_core_laws::refusal::Refusal;
 use hls_fakes::sends_exactly;
 use hls_http::fault::HttpFault;
 use hls_http::range_spec::RangeSpec;
+use hls_playlists::MediaUris;
 use hls_sample_channels::{open_channel, with_units};
 use std::alloc::{AllocError, Global};
 use std::sync::Arc;
@@ -40,6 +41,12 @@ enum RequestCase {
     Status,
     Master,
     List,
+    /// The playlist by paths. The channel's run has no name.
+    PathList,
+    /// A part of the segment.
+    Segment,
+    /// A segment of another run.
+    OtherRun,
     /// The same playlist from the cache, requested once before.
     Cached,
     Part,
@@ -62,10 +69,23 @@ fn part(alloc: Global, snapshot: &Arc<Snapshot>, asked: RangeSpec) -> Result<Res
     media_response(alloc, Arc::try_clone(snapshot)?, 0, asked)
 }
 
+fn segment(
+    alloc: Global,
+    snapshot: &Arc<Snapshot>,
+    run: [u8; 16],
+    asked: RangeSpec,
+) -> Result<Response, AllocError> {
+    let span = SegmentSpan {
+        first: 600,
+        last: 1599,
+    };
+    segment_response(alloc, Arc::try_clone(snapshot)?, run, 0, span, asked)
+}
+
 fn cached_list_response(alloc: Global, snapshot: &Arc<Snapshot>) -> Result<Response, AllocError> {
     let mut lists = PlaylistCache::new(alloc);
-    let _ = lists.get_or_render(Arc::try_clone(snapshot)?, 0)?;
-    lists.get_or_render(Arc::try_clone(snapshot)?, 0)
+    let _ = lists.get_or_render(Arc::try_clone(snapshot)?, 0, MediaUris::Ranges)?;
+    lists.get_or_render(Arc::try_clone(snapshot)?, 0, MediaUris::Ranges)
 }
 
 fn response(
@@ -76,7 +96,14 @@ fn response(
     match case {
         RequestCase::Status => status_response(alloc, snapshot, 0),
         RequestCase::Master => live_master_response(alloc, snapshot),
-        RequestCase::List => live_playlist_response(alloc, Arc::try_clone(snapshot)?, 0),
+        RequestCase::List => {
+            live_playlist_response(alloc, Arc::try_clone(snapshot)?, 0, MediaUris::Ranges)
+        }
+        RequestCase::PathList => {
+            live_playlist_response(alloc, Arc::try_clone(snapshot)?, 0, MediaUris::Paths)
+        }
+        RequestCase::Segment => segment(alloc, snapshot, [0; 16], RangeSpec::Between(992, 2000)),
+        RequestCase::OtherRun => segment(alloc, snapshot, [b'a'; 16], RangeSpec::All),
         RequestCase::Cached => cached_list_response(alloc, snapshot),
         RequestCase::Part => part(alloc, snapshot, RangeSpec::Between(0, 7)),
         RequestCase::Outside => part(alloc, snapshot, RangeSpec::From(2600)),
@@ -145,7 +172,19 @@ const LIST: &[u8] =
     b"HTTP/1.1 200 OK\r\nContent-Type: application/vnd.apple.mpegurl\r\nContent-Length: 210\r\n\r\n#EXTM3U\n#EXT-X-VERSION:6\n#EXT-X-TARGETDURATION:6\n#EXT-X-MEDIA-SEQUENCE:0\n#EXT-X-DISCONTINUITY-SEQUENCE:0\n#EXT-X-MAP:URI=\"/media/0.mp4\",BYTERANGE=\"600@0\"\n#EXTINF:4.000000,\n#EXT-X-BYTERANGE:1000@600\n/media/0.mp4\n";
 
 /// Responses with their complete replies.
-const CASES: [(RequestCase, &[u8]); 12] = [
+const CASES: [(RequestCase, &[u8]); 15] = [
+    (
+        RequestCase::PathList,
+        b"HTTP/1.1 200 OK\r\nContent-Type: application/vnd.apple.mpegurl\r\nContent-Length: 168\r\nCache-Control: max-age=1\r\nAccess-Control-Allow-Origin: *\r\n\r\n#EXTM3U\n#EXT-X-VERSION:6\n#EXT-X-TARGETDURATION:6\n#EXT-X-MEDIA-SEQUENCE:0\n#EXT-X-DISCONTINUITY-SEQUENCE:0\n#EXT-X-MAP:URI=\"/0/init.mp4\"\n#EXTINF:4.000000,\n/0/600-1599.m4s\n",
+    ),
+    (
+        RequestCase::Segment,
+        b"HTTP/1.1 206 Partial Content\r\nContent-Type: video/mp4\r\nContent-Length: 8\r\nContent-Range: bytes 992-999/1000\r\nCache-Control: public, max-age=86400, immutable\r\nAccess-Control-Allow-Origin: *\r\n\r\n\xaa\xaa\xaa\xaa\xaa\xaa\xaa\xaa",
+    ),
+    (
+        RequestCase::OtherRun,
+        b"HTTP/1.1 404 Not Found\r\nContent-Type: text/plain\r\nContent-Length: 17\r\nCache-Control: no-cache\r\nAccess-Control-Allow-Origin: *\r\n\r\nrefused NotFound\n",
+    ),
     (
         RequestCase::Status,
         b"HTTP/1.1 200 OK\r\nContent-Type: text/plain\r\nContent-Length: 47\r\n\r\nversion 3\nplaces 2\nsegments 1\nremoved 0\njobs 0\n",

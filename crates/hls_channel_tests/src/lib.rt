@@ -1,4 +1,5 @@
-//! Tests of a channel's calls under allocation failures: configurations, events, recordings, steps, states, places, turns and catch-up.
+//! Tests of a channel's calls under allocation failures: configurations, events, recordings, steps, states, places, turns, catch-up and
+//! players' masters.
 //!
 //! Each call returns its only answer, or reports that it is out of memory; its arguments are then unchanged, and the same call again
 //! returns the answer. `tests/gate/fail_each_allocation` refuses each allocation in turn.
@@ -8,6 +9,8 @@
 mod channel;
 #[cfg(test)]
 mod places;
+#[cfg(test)]
+mod players_masters;
 #[cfg(test)]
 mod plays;
 #[cfg(test)]

@@ -2,6 +2,7 @@
 use Rattle.std.specs.Prelude.{ℕ, ◌*◌, [], ◌∷◌, Option, Some, None, Bool, true, codes}
 use Rattle.hls_check_tables.specs.declared.cost_rule.CostRule.{CostRule}
 use Rattle.hls_check_tables.specs.Tables.{rule_of}
+use Rattle.hls_core_laws.specs.Base.{no_base}
 use Rattle.hls_core_laws.specs.declared.rendition.Rendition.{Rendition}
 use Rattle.hls_core_laws.specs.Config.{ConfigData}
 use Rattle.hls_core_laws.specs.Runs.{first_state}
@@ -21,7 +22,7 @@ preferred_or target (Some length) = length
 
 abbrev pub config_of : CutOptionsData → ConfigData
 config_of choice =
-    record { target = choice.target; preferred = preferred_or choice.target choice.preferred; renditions = stream_rendition ∷ []; epoch = choice.epoch }
+    record { target = choice.target; preferred = preferred_or choice.target choice.preferred; renditions = stream_rendition ∷ []; epoch = choice.epoch; base = no_base }
 
 -- the channel with nothing recorded
 abbrev pub opening_of : CutOptionsData → State

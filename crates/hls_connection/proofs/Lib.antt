@@ -6,3 +6,4 @@ mod TraceLaws
 mod CallLaws
 mod WithinLaws
 mod WaitLaws
+mod PlayerLaws

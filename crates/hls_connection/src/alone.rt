@@ -16,6 +16,7 @@ use hls_core_laws::done::Done;
 use hls_core_laws::event::Event;
 use hls_core_laws::refusal::Refusal;
 use hls_jobs::JobTable;
+use hls_playlists::MediaUris;
 use http_server::Log;
 use std::alloc::{AllocError, Global};
 use std::sync::Arc;
@@ -84,8 +85,9 @@ impl Keeper for Alone {
         &mut self,
         state: Arc<Snapshot>,
         rendition: usize,
+        uris: MediaUris,
     ) -> Result<Response, AllocError> {
-        live_playlist_response(self.alloc, state, rendition)
+        live_playlist_response(self.alloc, state, rendition, uris)
     }
 
     fn submit(&mut self, event: Event) -> Result<Done, Refusal> {

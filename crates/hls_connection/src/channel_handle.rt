@@ -16,6 +16,7 @@ use hls_core_laws::done::Done;
 use hls_core_laws::event::Event;
 use hls_core_laws::refusal::Refusal;
 use hls_http::{Session, SessionEnd};
+use hls_playlists::MediaUris;
 use hls_turn::Pass;
 use http_server::Log;
 use std::alloc::{AllocError, Global};
@@ -78,6 +79,7 @@ impl<'a, T: Wait> Keeper for ChannelHandle<'a, T> {
         self.pass.rendition_count()
     }
 
+    #[tactic(auto, using(hls_api::proofs::Callers::lists_looked))]
     fn look(&mut self) -> Result<Arc<Snapshot>, AllocError> {
         let turn = self.channel.turn;
         let shown = turn.look(self.rt, self.alloc, &mut self.pass);
@@ -89,10 +91,12 @@ impl<'a, T: Wait> Keeper for ChannelHandle<'a, T> {
         &mut self,
         state: Arc<Snapshot>,
         rendition: usize,
+        uris: MediaUris,
     ) -> Result<Response, AllocError> {
-        self.lists.get_or_render(state, rendition)
+        self.lists.get_or_render(state, rendition, uris)
     }
 
+    #[tactic(auto, using(hls_api::proofs::Callers::lists_submitted))]
     fn submit(&mut self, event: Event) -> Result<Done, Refusal> {
         let note = Log::new().and(&event, &());
         let turn = self.channel.turn;

@@ -1,7 +1,7 @@
 //! Handlers: from a request whose body was discarded, and the channel's keeper, to a response.
 
 ghost use Rattle.std.specs.Prelude.{◌≡◌, Some, None, IfOk, true, false};
-ghost use Rattle.hls_api.specs.Exchanges.{AddsCatchupJob, HandlesCatchup, FinishesRendition, IsServedBy, ServesJob, shown_if};
+ghost use Rattle.hls_api.specs.Exchanges.{AddsCatchupJob, HandlesCatchup, FinishesRendition, IsForPlayer, IsServedBy, ServesJob, shown_if, shown_to_player};
 ghost use Rattle.hls_api.specs.{Exchanges.IsJobResponse, Acts.ActsExtend};
 ghost use Rattle.hls_connection.specs.RequestContexts.{IsResponse, IsMadeResponse, RespondsBy, ForContext, ForContextAt, ForQuery};
 ghost use Rattle.hls_api.specs.Routes as spec;
@@ -14,16 +14,20 @@ use hls_api::catchup_query::{CatchupQuery, QueryFault};
 use hls_api::parse_route::{allows_method, is_head_request, job_at, removes_job};
 use hls_api::route::Route;
 use hls_api::{
-    Response, added_response, fault_response, file_response, finish_response, job_response,
-    live_master_response, make_request, media_response, method_not_allowed_response,
-    query_response, removed_response, resolve_query, status_response,
+    Response, SegmentSpan, added_response, fault_response, file_response, finish_response,
+    init_response, job_response, live_master_response, make_request, media_response,
+    method_not_allowed_response, path_master_response, query_response, removed_response,
+    resolve_query, run_response, segment_response, status_response,
 };
 use hls_catchup::{Job, JobFault};
+use hls_core::snapshot::Snapshot;
 use hls_core_laws::event::Event;
 use hls_core_laws::refusal::Refusal;
 use hls_http::HttpFault;
 use hls_http::range_spec::RangeSpec;
+use hls_playlists::MediaUris;
 use std::alloc::{AllocError, Global};
+use std::sync::Arc;
 
 /// Ends a rendition.
 fn finish_rendition<K: Keeper>(
@@ -170,7 +174,9 @@ fn handle_route<K: Keeper>(
     let state = look(keeper, acts)?;
     match route {
         Route::LiveMaster => live_master_response(keeper.alloc(), &state),
-        Route::LiveList(rendition) => keeper.live_playlist_response(state, rendition),
+        Route::LiveList(rendition) => {
+            keeper.live_playlist_response(state, rendition, MediaUris::Ranges)
+        }
         Route::Media(rendition) => media_response(
             keeper.alloc(),
             state,
@@ -180,6 +186,40 @@ fn handle_route<K: Keeper>(
         Route::Status => {
             let jobs = keeper.job_count();
             status_response(keeper.alloc(), &state, jobs)
+        }
+        _ => show_player(keeper, context, route, state),
+    }
+}
+
+/// What players load: a playlist by paths, an init section, or a segment.
+fn show_player<K: Keeper>(
+    keeper: &mut K,
+    context: &RequestContext,
+    route: Route,
+    state: Arc<Snapshot>,
+) -> Result<Response, AllocError>
+    requires state { state.value ≡ (K.known keeper.old).seen }
+    requires route { IsForPlayer route }
+    ensures known { K.known keeper.new ≡ K.known keeper.old }
+    ensures answers { ForContextAt route context.now (λ h q. IfOk result (λ a. shown_to_player q route state.value ≡ Some a)) }
+{
+    let alloc = keeper.alloc();
+    match route {
+        Route::PathMaster => path_master_response(alloc, &state),
+        Route::PathList(rendition) => {
+            keeper.live_playlist_response(state, rendition, MediaUris::Paths)
+        }
+        Route::Run => run_response(alloc, &state),
+        Route::InitSection(run, rendition) => init_response(
+            alloc,
+            state,
+            run,
+            rendition,
+            requested_range(context),
+        ),
+        Route::Segment(run, rendition, first, last) => {
+            let span = SegmentSpan { first, last };
+            segment_response(alloc, state, run, rendition, span, requested_range(context))
         }
         _ => unreachable!(),
     }

@@ -3,9 +3,10 @@
 ghost use Rattle.std.specs.Prelude.{◌≡◌, IfOk, length};
 ghost use Rattle.hls_core_laws.specs.{IsState.IsState, Moves.IsFittingAsSeen, PassView.{MaySeeLater, Looks, Submits}};
 ghost use Rattle.hls_catchup.specs.Jobs.Shared.{HasCounted, HasRemoved};
-ghost use Rattle.hls_api.specs.{Acts.{Added, Knowledge, RecordsLookResult, Removed, knowledge_after, view_of}, Playlists.live_text};
+ghost use Rattle.hls_api.specs.Acts.{Added, Knowledge, RecordsLookResult, Removed, knowledge_after, view_of};
 ghost use Rattle.hls_api.specs.{JobTable.{IsAddResult, IsGetResult}, OtherActors.{MayBecome, OtherActors, HasMet}};
 ghost use Rattle.hls_api.specs.Acts as acts;
+ghost use Rattle.hls_api.specs.Players.{live_list_answer};
 ghost use Rattle.hls_api.specs.Responses as replies;
 
 use hls_api::Response;
@@ -14,6 +15,7 @@ use hls_core::snapshot::Snapshot;
 use hls_core_laws::done::Done;
 use hls_core_laws::event::Event;
 use hls_core_laws::refusal::Refusal;
+use hls_playlists::MediaUris;
 use std::alloc::{AllocError, Global};
 use std::sync::Arc;
 
@@ -42,16 +44,17 @@ pub trait Keeper {
         ensures other_actors { MayBecome other_actors (known self.old).seen (known self.new).seen }
         ensures asked { RecordsLookResult (known self.old).acts result (known self.new).acts };
 
-    /// Returns the response with the live list of a rendition, in the state that the keeper saw last. A long one may be partly made. 404
-    /// until a segment was ever closed.
+    /// Returns the response with the live list of a rendition, by ranges or by paths, in the state that the keeper saw last. A long one
+    /// may be partly made. 404 until a segment was ever closed.
     fn live_playlist_response(
         &mut self,
         state: Arc<Snapshot>,
         rendition: usize,
+        uris: MediaUris,
     ) -> Result<Response, AllocError>
         requires { state.value ≡ (known self.old).seen }
         ensures known { known self.new ≡ known self.old }
-        ensures list { IfOk result (λ a. a ≡ replies.list_answer (live_text state.value rendition)) };
+        ensures list { IfOk result (λ a. a ≡ live_list_answer uris state.value rendition) };
 
     /// Applies an event to the current state, as one of this keeper. The refusals are those of a step of the core.
     fn submit(&mut self, event: Event) -> Result<Done, Refusal>

@@ -3,7 +3,7 @@
 
 use hls_fakes::PageWriter;
 use hls_http::response_parts::{
-    ContentType, ExtraField, ResponseParts, Status, out_of_memory_text,
+    CachePolicy, ContentType, ExtraField, ResponseParts, Status, out_of_memory_text,
 };
 use hls_http::{BodyEnd, BodyFraming, BodyRead, HeadEnd, Method, ParsedHead, Session, SessionEnd};
 use hls_io::write_whole;
@@ -39,6 +39,7 @@ fn write_reply<R: Read>(
         status: Status::Done,
         kind: ContentType::Text,
         extra: ExtraField::Nothing,
+        policy: CachePolicy::Unstated,
         closing: head.closes,
     };
     if head.method == Method::Put {

@@ -11,4 +11,5 @@ mod DrainLaws
 mod FeedLaws
 mod Least
 mod ShortestLaws
+mod RunNames
 pub mod Callers

@@ -1,6 +1,7 @@
 -- What makes a configuration valid, or its first fault.
 use Rattle.std.specs.Prelude.{◌≡◌, ◌⊎◌, ℕ, ℤ, ◌*◌, ◌<◌, List, Option, None, Result, Ok, Err}
 use Rattle.hls_core_laws.specs.declared.rendition.Rendition.{Rendition}
+use Rattle.hls_core_laws.specs.Base.{no_base}
 use Rattle.hls_core_laws.specs.Config.{ConfigData, IsTarget, IsPreferred, AreRenditions, IsEpoch, IsConfig}
 use Rattle.hls_core.specs.declared.config.Config.{Config}
 use Rattle.hls_core.specs.declared.config.ConfigFault.{ConfigFault}
@@ -9,7 +10,7 @@ use Rattle.hls_core.specs.FirstBad.{IsFirstBadRendition}
 use Rattle.hls_check_tables.specs.Tables.{target_limit}
 
 abbrev pub configured_from : ℕ → ℕ → List Rendition → Option ℤ → ConfigData
-configured_from target preferred rs epoch = record { target = target; preferred = preferred; renditions = rs; epoch = epoch }
+configured_from target preferred rs epoch = record { target = target; preferred = preferred; renditions = rs; epoch = epoch; base = no_base }
 
 -- without an epoch
 abbrev pub configured : ℕ → ℕ → List Rendition → ConfigData

@@ -1,5 +1,6 @@
 pub mod FirstBad
 pub mod ConfigFaultName
+pub mod Bases
 pub mod Configures
 pub mod RenditionStates
 pub mod Model

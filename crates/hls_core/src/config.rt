@@ -3,9 +3,12 @@
 ghost use Rattle.std.specs.Prelude.{◌≡◌, ℕ, ◌*◌, ◌<◌, ◌≤◌, ◌↔◌, length, IsTrue, IfOk, slice_get, None, Some, Err, Any, MatchOption};
 ghost use Rattle.std.specs.Str.{bytes_eq};
 ghost use Rattle.hls_core_laws.specs.Config.{is_name_byte, IsName, IsRendition, IsRenditionAt, AreRenditions, IsEpoch, IsConfig};
+ghost use Rattle.hls_core_laws.specs.Base.{IsBase};
+ghost use Rattle.hls_core.specs.Bases.{config_after};
 ghost use Rattle.hls_core.specs.Configures.{configured_from, Configures};
 ghost use Rattle.hls_core.specs.FirstBad.{IsFirstBadRendition, has_name};
 
+use crate::base::Base;
 use bytes::Bytes;
 use hls_check_tables::{RENDITION_LIMIT, TARGET_LIMIT};
 use hls_core_laws::rendition::Rendition;
@@ -36,14 +39,15 @@ pub enum ConfigFault {
 }
 
 /// The configuration of a channel: 1 to 16 renditions, a target duration of 1 to 3600 seconds, a preferred segment length of 1
-/// microsecond to the target, and optionally the instant of time 0, from 1970 to 9000-01-01T00:00:00Z. It never changes, and is
-/// shared by all states of the channel.
+/// microsecond to the target, optionally the instant of time 0, from 1970 to 9000-01-01T00:00:00Z, and what precedes the recordings.
+/// It never changes, and is shared by all states of the channel.
 #[derive(Drop)]
 pub struct Config {
     target: u64,
     preferred: u64,
     renditions: Arc<Vec<Rendition>>,
     epoch: Option<i64>,
+    base: Base,
 }
 
 impl Model for Config {
@@ -51,9 +55,9 @@ impl Model for Config {
 
     ghost Value = { ConfigData };
 
-    ghost view = { λ c. record { target = c.target; preferred = c.preferred; renditions = c.renditions.value.items; epoch = c.epoch } };
+    ghost view = { λ c. record { target = c.target; preferred = c.preferred; renditions = c.renditions.value.items; epoch = c.epoch; base = c.base } };
 
-    ghost invariant = { λ c. IsConfig (record { target = c.target; preferred = c.preferred; renditions = c.renditions.value.items; epoch = c.epoch }) };
+    ghost invariant = { λ c. IsConfig (record { target = c.target; preferred = c.preferred; renditions = c.renditions.value.items; epoch = c.epoch; base = c.base }) };
 }
 
 impl ConfigFault {
@@ -106,6 +110,7 @@ impl Config {
                 preferred,
                 renditions,
                 epoch,
+                base: Base::none(),
             }),
             Err(_) => Err(ConfigFault::Memory),
         }
@@ -120,7 +125,29 @@ impl Config {
             preferred: self.preferred,
             renditions: Arc::try_clone(&self.renditions)?,
             epoch: self.epoch,
+            base: self.base,
         })
+    }
+
+    /// Returns the configuration with this base.
+    pub fn with_base(self, base: Base) -> Config
+        ensures { result ≡ config_after self base }
+    {
+        let _ = base.segments(); // the proof needs that the base is valid
+        let Config {
+            target,
+            preferred,
+            renditions,
+            epoch,
+            base: _,
+        } = self;
+        Config {
+            target,
+            preferred,
+            renditions,
+            epoch,
+            base,
+        }
     }
 
     /// Returns the target duration in seconds (RFC 8216 4.3.3.1).
@@ -154,6 +181,15 @@ impl Config {
         ensures valid { IsConfig self.now }
     {
         self.epoch
+    }
+
+    /// Returns what precedes the recordings.
+    pub fn base(&self) -> &Base
+        ensures value { result.now ≡ self.now.base }
+        ensures base { IsBase self.now.base }
+        ensures valid { IsConfig self.now }
+    {
+        &self.base
     }
 }
 

@@ -18,6 +18,7 @@ pub(crate) fn same_config(a: &Config, b: &Config) -> bool
         && a.preferred() == b.preferred()
         && same_renditions(a.renditions(), b.renditions())
         && a.epoch() == b.epoch()
+        && a.base().equals(b.base())
 }
 
 fn same_renditions(a: &[Rendition], b: &[Rendition]) -> bool

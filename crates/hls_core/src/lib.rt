@@ -5,6 +5,7 @@
 //! and for any sink: its parts in order, each accepted; or the shortest prefix of the content that shows a refusal.
 #![tactic(auto)]
 
+pub mod base;
 pub mod config;
 mod equality;
 pub mod feed_fault;

@@ -334,12 +334,19 @@ impl<'a, H: Handler + Drop> Worker<'a, H> {
         if self.accepts_left > 0
             && let Some(time) = self.backlog.time_left(self.now)
         {
-            return Some(Duration::from_millis(time.min(self.tick_ms)));
+            return Some(Duration::from_millis(time.min(self.time_to_tick())));
         }
         if self.slots.is_empty() {
             return None;
         }
-        Some(Duration::from_millis(self.tick_ms))
+        Some(Duration::from_millis(self.time_to_tick()))
+    }
+
+    /// The milliseconds until the next tick is due.
+    fn time_to_tick(&self) -> u64 {
+        self.swept_ms
+            .saturating_add(self.tick_ms)
+            .saturating_sub(self.now)
     }
 
     /// Begins a round. The last one began at most a tick and a second before, even on a busy machine, unless there was no connection

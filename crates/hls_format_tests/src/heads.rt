@@ -2,7 +2,7 @@
 
 use hls_fakes::{CallOutcome, PageWriter};
 use hls_http::response_parts::{
-    ContentType, ExtraField, ResponseParts, Status, out_of_memory_head_text,
+    CachePolicy, ContentType, ExtraField, ResponseParts, Status, out_of_memory_head_text,
 };
 use hls_http::{
     BufferedReader, InputBuffer, Session, SessionEnd, make_response, refusal_body, write_head,
@@ -24,6 +24,7 @@ fn head<'a>() -> ResponseParts<'a> {
         status: Status::Accepted,
         kind: ContentType::Text,
         extra: ExtraField::Job(7),
+        policy: CachePolicy::Unstated,
         closing: false,
     }
 }

@@ -1,4 +1,4 @@
-//! Tests of public calls that need no channel, under allocation failures: boxes, init sections and units, playlists, certificates,
+//! Tests of public calls that need no channel, under allocation failures: boxes, init sections and units, codec strings, playlists, certificates,
 //! persistent lists, HTTP heads, settings and commands.
 //!
 //! Each call returns its only answer, or reports that it is out of memory; its arguments are then unchanged, and the same call again
@@ -12,6 +12,8 @@ mod arguments;
 mod boxes;
 #[cfg(test)]
 mod certificates;
+#[cfg(test)]
+mod codec_strings;
 #[cfg(test)]
 mod heads;
 #[cfg(test)]

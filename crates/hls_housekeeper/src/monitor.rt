@@ -1,6 +1,6 @@
 //! Watches a channel for what the operator has to know: a rendition that the playlists wait for, uneven cuts, a limit that comes
-//! near, jobs that nobody deletes. It inspects the channel at most once a second, and only the ends of its lists, so that
-//! an inspection takes no longer as the channel ages.
+//! near, jobs that nobody deletes, an encrypted rendition. It inspects the channel at most once a second, and only the ends of its
+//! lists, so that an inspection takes no longer as the channel ages.
 
 use crate::alert::{Alert, AlertChange};
 use crate::coverage::{count_missing, count_uncovered, is_uneven};
@@ -14,9 +14,10 @@ use crate::progress::{
     last_segments, last_syncs,
 };
 use crate::warnings::{
-    BlockingRendition, LimitedResource, log_fewer_jobs, log_late, log_limit, log_many_jobs,
-    log_missing, log_recovered, log_uncovered,
+    BlockingRendition, LimitedResource, log_encrypted, log_fewer_jobs, log_late, log_limit,
+    log_many_jobs, log_missing, log_recovered, log_uncovered,
 };
+use hls_codecs::is_track_encrypted;
 use hls_core::snapshot::{LOG_LIMIT, Snapshot};
 use hls_core_laws::rendition::Rendition;
 use hls_record::Recording;
@@ -41,6 +42,8 @@ pub struct Monitor {
     jobs: Alert,
     entries: Gauge,
     recordings: [Gauge; MOST_RENDITIONS],
+    /// The renditions whose init section was inspected.
+    inspected: [bool; MOST_RENDITIONS],
 }
 
 /// An inspection: the state of the channel at a moment of the clock in milliseconds, and where it logs.
@@ -86,6 +89,12 @@ fn find_blocking_rendition<'a>(
     found
 }
 
+/// Whether a track's first sample entry says that its samples are encrypted.
+fn is_encrypted(recording: &Recording) -> bool {
+    let init = recording.init_section_bytes();
+    (0..recording.init().tracks().len()).any(|track| is_track_encrypted(init, track))
+}
+
 /// Of these units of the first rendition that aren't places, counts those without a sync sample of a recording near them. Also
 /// returns the greatest distance of a nearest one, in microseconds.
 fn count_misses(
@@ -120,6 +129,7 @@ impl Monitor {
             jobs: Alert::new(),
             entries: Gauge::new(now, 0),
             recordings: [Gauge::new(now, 0); MOST_RENDITIONS],
+            inspected: [false; MOST_RENDITIONS],
         }
     }
 
@@ -148,6 +158,7 @@ impl Monitor {
         self.inspect_lag(&at);
         self.inspect_cuts(&at);
         self.inspect_jobs(&at, jobs);
+        self.inspect_encryption(&at);
     }
 
     /// Checks how near the log and the recordings are to their limits.
@@ -234,6 +245,19 @@ impl Monitor {
             AlertChange::Unchanged => {}
             AlertChange::Raised => log_many_jobs(at.log, jobs),
             AlertChange::Cleared => log_fewer_jobs(at.log, jobs),
+        }
+    }
+
+    /// Reports encrypted renditions, each once: no playlist names their key.
+    fn inspect_encryption<E: Eprint>(&mut self, at: &Inspection<'_, E>) {
+        for number in 0..MOST_RENDITIONS {
+            let Some(recording) = at.snapshot.recording(number) else {
+                continue;
+            };
+            if !self.inspected[number] && is_encrypted(recording) {
+                log_encrypted(at.log, name(at.settings.config.renditions(), number));
+            }
+            self.inspected[number] = true;
         }
     }
 }

@@ -72,6 +72,12 @@ pub fn log_limit<E: Eprint>(
     );
 }
 
+/// Logs that the samples of a rendition are encrypted.
+pub fn log_encrypted<E: Eprint>(log: &OperatorLog<'_, E>, name: DisplayName<'_>) {
+    let level = log.warning_prefix();
+    let _ = eprintln!(log.rt; "{level}serve: {name} is encrypted, and playlists name no key");
+}
+
 /// Logs that jobs hold more than half of their places.
 pub fn log_many_jobs<E: Eprint>(log: &OperatorLog<'_, E>, jobs: usize) {
     let level = log.warning_prefix();

@@ -4,6 +4,8 @@ use Rattle.hls_http.specs.{declared.fault.HttpFault.HttpFault, declared.response
 use Rattle.hls_http.specs.declared.response_parts.Status.TheVariants.{Done, Accepted, NoContent, PartialContent, BadRequest, NotFound, MethodNotAllowed, Conflict, Gone, ContentTooLarge, RangeNotSatisfiable, HeadTooLarge, Unavailable, InsufficientStorage}
 use Rattle.hls_http.specs.declared.response_parts.ContentType.TheVariants.{Text, Media, Playlist}
 use Rattle.hls_http.specs.{declared.response_parts.ExtraField.ExtraField, declared.response_parts.ResponseParts.ResponseParts}
+use Rattle.hls_http.specs.declared.response_parts.CachePolicy.{CachePolicy}
+use Rattle.hls_http.specs.declared.response_parts.CachePolicy.TheVariants.{Unstated, Immutable, Brief, Revalidate}
 use Rattle.hls_http.specs.declared.response_parts.ExtraField.TheVariants.{Nothing, Range, NoRange, Job, Allow}
 use Rattle.hls_http.specs.declared.fault.HttpFault.TheVariants as faults
 
@@ -81,13 +83,23 @@ extra_line (NoRange total) = codes "Content-Range: bytes */" ++ (decimal total +
 extra_line (Job id) = codes "Location: /job/" ++ (decimal id ++ crlf)
 extra_line (Allow methods) = codes "Allow: " ++ (methods.now ++ crlf)
 
+abbrev pub policy_line : List ℕ → List ℕ
+policy_line directives = codes "Cache-Control: " ++ (directives ++ (crlf ++ (codes "Access-Control-Allow-Origin: *" ++ crlf)))
+
+-- Cache-Control (RFC 9111, section 5.2.2), and that pages of any origin may read the reply
+abbrev pub policy_lines : CachePolicy → List ℕ
+policy_lines Unstated = []
+policy_lines Immutable = policy_line (codes "public, max-age=86400, immutable")
+policy_lines Brief = policy_line (codes "max-age=1")
+policy_lines Revalidate = policy_line (codes "no-cache")
+
 abbrev pub close_line : Bool → List ℕ
 close_line closing = cond closing (codes "Connection: close" ++ crlf) []
 
--- status line, Content-Type, Content-Length, Content-Range or Location or Allow, Connection, empty line
+-- status line, Content-Type, Content-Length, Content-Range or Location or Allow, Cache-Control, Connection, empty line
 abbrev pub head_text_of : ResponseParts → ℕ → List ℕ
 head_text_of head len =
-    status_line head.status ++ (content_lines head.status head.kind len ++ (extra_line head.extra ++ (close_line head.closing ++ crlf)))
+    status_line head.status ++ (content_lines head.status head.kind len ++ (extra_line head.extra ++ (policy_lines head.policy ++ (close_line head.closing ++ crlf))))
 
 -- the whole text of a reply whose body is a text; a reply to HEAD lacks the body
 abbrev pub response_text : ResponseParts → List ℕ → Bool → List ℕ
@@ -99,7 +111,7 @@ refusal_body name = codes "refused " ++ (name ++ 10 ∷ [])
 
 -- the head of the out-of-memory reply, and the whole reply
 unfoldable pub out_of_memory_head_text : List ℕ
-out_of_memory_head_text = head_text_of (record { status = Unavailable; kind = Text; extra = Nothing; closing = true }) 15
+out_of_memory_head_text = head_text_of (record { status = Unavailable; kind = Text; extra = Nothing; policy = Unstated; closing = true }) 15
 
 unfoldable pub out_of_memory_text : List ℕ
 out_of_memory_text = out_of_memory_head_text ++ refusal_body (codes "Memory")

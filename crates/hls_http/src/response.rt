@@ -1,9 +1,9 @@
 //! Replies; a head is made as one text before the first write.
 
 ghost use Rattle.std.specs.{Prelude.{◌≡◌, ◌++◌, IfOk}, Fmt.decimal};
-ghost use Rattle.hls_http.specs.ResponseText.{close_line, content_lines, crlf, extra_line, head_text_of, refusal_body, response_text, status_line, type_line};
+ghost use Rattle.hls_http.specs.ResponseText.{close_line, content_lines, crlf, extra_line, head_text_of, policy_lines, refusal_body, response_text, status_line, type_line};
 
-use crate::response_parts::{ContentType, ExtraField, ResponseParts, Status};
+use crate::response_parts::{CachePolicy, ContentType, ExtraField, ResponseParts, Status};
 use hls_io::{MAX_GATHERED_BYTES, Resource, ResourceRange, SendBuffer};
 use hls_text::push_number;
 use std::alloc::{AllocError, Global};
@@ -97,6 +97,18 @@ fn push_extra(out: &mut Vec<u8>, extra: ExtraField<'_>) -> Result<(), AllocError
     }
 }
 
+fn policy_text(policy: CachePolicy) -> &'static [u8]
+    ensures { result.now ≡ policy_lines policy }
+{
+    match policy {
+        CachePolicy::Unstated => b"",
+        CachePolicy::Immutable =>
+            b"Cache-Control: public, max-age=86400, immutable\r\nAccess-Control-Allow-Origin: *\r\n",
+        CachePolicy::Brief => b"Cache-Control: max-age=1\r\nAccess-Control-Allow-Origin: *\r\n",
+        CachePolicy::Revalidate => b"Cache-Control: no-cache\r\nAccess-Control-Allow-Origin: *\r\n",
+    }
+}
+
 /// Returns the end of a head.
 fn end_text(closing: bool) -> &'static [u8]
     ensures { result.now ≡ close_line closing ++ crlf }
@@ -121,12 +133,13 @@ fn write_head_with_room(
     out.extend_from_slice(status_text(head.status))?;
     push_content(&mut out, head.status, head.kind, len)?;
     push_extra(&mut out, head.extra)?;
+    out.extend_from_slice(policy_text(head.policy))?;
     out.extend_from_slice(end_text(head.closing))?;
     Ok(out)
 }
 
 /// Writes the text of a reply's head, for a content of `len` bytes: status line, Content-Type, Content-Length, then Content-Range,
-/// Location or Allow, then Connection, and the empty line.
+/// Location or Allow, then Cache-Control, Connection, and the empty line.
 pub fn write_head(alloc: Global, head: &ResponseParts<'_>, len: u64) -> Result<Vec<u8>, AllocError>
     ensures { IfOk result (λ v. v.items ≡ head_text_of head.now len) }
 {

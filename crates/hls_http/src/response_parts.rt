@@ -49,6 +49,19 @@ pub enum ExtraField<'a> {
     Allow(&'a [u8]),
 }
 
+/// What caches may do with a reply (RFC 9111 5.2.2). Replies that state it may be read by pages of any other origin (CORS).
+#[derive(Clone, Copy, Drop)]
+pub enum CachePolicy {
+    /// The reply states nothing.
+    Unstated,
+    /// The content never changes: kept for a day.
+    Immutable,
+    /// Kept for a second.
+    Brief,
+    /// Not used again without a new request.
+    Revalidate,
+}
+
 /// The head of a reply, except the length of its content.
 #[derive(Clone, Copy)]
 pub struct ResponseParts<'a> {
@@ -58,6 +71,8 @@ pub struct ResponseParts<'a> {
     pub kind: ContentType,
     /// The optional field of a reply: Content-Range, Location or Allow.
     pub extra: ExtraField<'a>,
+    /// What caches may do with the reply.
+    pub policy: CachePolicy,
     /// Whether the reply has `Connection: close`: no further request is accepted.
     pub closing: bool,
 }

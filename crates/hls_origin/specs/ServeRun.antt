@@ -5,15 +5,17 @@ use Rattle.hls_settings.specs.ReadSettings.{ReadsSettings}
 use Rattle.hls_settings.specs.declared.fault.SettingsFault.TheVariants as faults
 use Rattle.hls_settings.specs.declared.settings.Settings.{Settings}
 use Rattle.hls_origin.specs.declared.serve.run.ServeEnd.{ServeEnd}
-use Rattle.hls_origin.specs.declared.serve.run.ServeEnd.TheVariants.{Done, Usage, BindFailed, Memory}
+use Rattle.hls_origin.specs.declared.serve.run.ServeEnd.TheVariants.{Done, Usage, Base, BindFailed, Memory}
 
 -- arguments that specify settings
 abbrev pub AreSettings : List Text → Type 0
 AreSettings arguments = (settings : Settings) × ReadsSettings arguments (Ok settings)
 
--- a usage fault reports the first invalid argument, and nothing was started; else the arguments were valid, or memory ran out
+-- a usage fault reports the first invalid argument, and nothing was started; else the arguments were valid, or memory ran out. If the base
+-- can't be taken, nothing was started either
 abbrev pub EndsServe : List Text → ServeEnd → Type 0
 EndsServe arguments Done = AreSettings arguments
 EndsServe arguments BindFailed = AreSettings arguments
+EndsServe arguments (Base fault) = AreSettings arguments
 EndsServe arguments (Usage fault) = ReadsSettings arguments (Err fault) × (fault ≢ faults.Memory)
 EndsServe arguments Memory = Unit {0}

@@ -90,6 +90,10 @@ serve: a live channel over HTTP; encoders PUT to /ingest/0, /ingest/1, .. and pl
   --planners N   threads for catch-up recordings, 1 to 16; 2
   --patience N   seconds that a connection may be silent or slow, 1 to 3600; 30
   --log requests a line for each request on standard error
+  --run TEXT     the run that the paths of media below /hls/ name, 1 to 16 letters and digits; generated if
+                 not given. No other channel may ever have it
+  --base FILE    what precedes: the base at which the channel continues another process's; its run is the
+                 channel's
 Each option may stand once, after its command; --each excludes --preferred and --certificate. No word
 may follow check or lint.
 
@@ -295,6 +299,10 @@ fn end_serve(rt: &HostRuntime, arguments: &[String], end: ServeEnd) -> ExitCode
         ServeEnd::Usage(fault) => {
             let wrong = SettingsMessage { fault, arguments };
             let _ = eprint!(rt; "serve: {wrong}; hls_origin --help says more\n{SERVE_USAGE}");
+            ExitCode::from(2)
+        }
+        ServeEnd::Base(fault) => {
+            let _ = eprint!(rt; "serve: {fault}; hls_origin --help says more\n{SERVE_USAGE}");
             ExitCode::from(2)
         }
         ServeEnd::BindFailed => {

@@ -4,3 +4,4 @@ mod ListLoop
 mod Names
 mod LiveLists
 mod LiveTexts
+mod Joined

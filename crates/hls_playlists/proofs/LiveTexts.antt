@@ -19,7 +19,14 @@ use Rattle.hls_core_laws.specs.IsState.{IsState}
 use Rattle.hls_core_laws.specs.Line.{line}
 use Rattle.hls_playlists_laws.specs.Live.{live_layout, live_uri, live_media_segment, live_list_over, has_closed_segment, live_list_in, live_list_of}
 use Rattle.hls_playlists_laws.specs.JobPlaylists.{job_layout}
-use Rattle.hls_playlists.specs.LiveWriter.{HasSegments, ListHasSegments, CanBeWritten, ReachesStop, ListReaches, rest_of_list, rest_of_live_list, live_segment_text, live_list_by, list_over_segments}
+use Rattle.hls_core_laws.specs.Base.{BaseData, run_text}
+use Rattle.hls_playlists_laws.specs.JoinedLists.{Offsets, joined_list, joined_segment, joined_segments}
+use Rattle.hls_playlists_laws.specs.BasedLists.{offsets_from}
+use Rattle.hls_playlists_laws.specs.PathLists.{list_by_paths, media_folder, segment_in}
+use Rattle.hls_playlists.specs.declared.media_uris.MediaUris.{MediaUris}
+use Rattle.hls_playlists.specs.declared.media_uris.MediaUris.TheVariants.{Paths, Ranges}
+use Rattle.hls_playlists.specs.MediaUris.{served_list, served_list_of, served_segment}
+use Rattle.hls_playlists.specs.LiveWriter.{HasSegments, ListHasSegments, CanBeWritten, ReachesStop, ListReaches, rest_of_list, rest_of_live_list, served_segment_text, live_list_by, list_over_segments}
 use Rattle.hls_playlists_laws.proofs.Callers.{live-lists-have-texts, starts-small}
 
 -- ---- lists
@@ -38,6 +45,61 @@ within xs k x rest is = omega (arith, length-drop k xs, ap length is)
 
 pub all-of : {X : Type 0} (xs : List X) (k : ℕ) → drop k xs ≡ [] → length xs ≤ k
 all-of xs k is = omega (arith, length-drop k xs, ap length is)
+
+-- ---- playlists as they are served
+
+-- the segments from the next one on count on
+joined-drop : (o : Offsets) (n k : ℕ) (xs : List MediaSegment) (x : MediaSegment) (rest : List MediaSegment) → drop k xs ≡ x ∷ rest
+    → drop k (joined_segments o n xs) ≡ joined_segment o (n + k) x ∷ joined_segments o (suc (n + k)) rest
+joined-drop o n zero xs x rest is =
+    let none : n ≡ n + 0 = omega arith in
+    ap (joined_segments o n) is ∙ ap (λ (m : ℕ). joined_segment o m x ∷ joined_segments o (suc m) rest) none
+joined-drop o n (suc k) [] x rest is = absurd (cc)
+joined-drop o n (suc k) (y ∷ xs) x rest is =
+    let next : suc n + k ≡ n + suc k = omega arith in
+    joined-drop o (suc n) k xs x rest is ∙ ap (λ (m : ℕ). joined_segment o m x ∷ joined_segments o (suc m) rest) next
+
+joined-count : (o : Offsets) (n : ℕ) (xs : List MediaSegment) → length (joined_segments o n xs) ≡ length xs
+joined-count o n [] = refl
+joined-count o n (x ∷ xs) = ap suc (joined-count o (suc n) xs)
+
+pub served_none : (uris : MediaUris) (s : State) (r : ℕ) → live_list_of s r ≡ None → served_list_of uris s r ≡ None
+served_none Ranges s r none = ap (option_map (joined_list (offsets_from s.config.base r))) none
+served_none Paths s r none =
+    ap (λ (o : Option Playlist). option_map (list_by_paths (run_text s.config.base.run) r) (option_map (joined_list (offsets_from s.config.base r)) o)) none
+
+served-some : (uris : MediaUris) (s : State) (r : ℕ) (list : Playlist) → live_list_of s r ≡ Some list
+    → served_list_of uris s r ≡ Some (served_list uris s.config.base r list)
+served-some Ranges s r list there = ap (option_map (joined_list (offsets_from s.config.base r))) there
+served-some Paths s r list there =
+    ap (λ (o : Option Playlist). option_map (list_by_paths (run_text s.config.base.run) r) (option_map (joined_list (offsets_from s.config.base r)) o)) there
+
+served-next : (uris : MediaUris) (base : BaseData) (r : ℕ) (list : Playlist) (k : ℕ) (x : MediaSegment) (rest : List MediaSegment) → drop k list.segments ≡ x ∷ rest
+    → (tail : List MediaSegment) × (drop k (served_list uris base r list).segments ≡ served_segment uris base r (list.media_sequence + k) x ∷ tail)
+served-next Ranges base r list k x rest is =
+    (joined_segments (offsets_from base r) (suc (list.media_sequence + k)) rest, joined-drop (offsets_from base r) list.media_sequence k list.segments x rest is)
+served-next Paths base r list k x rest is =
+    let path : MediaSegment → MediaSegment = segment_in (media_folder (run_text base.run) r) in
+    let tail : List MediaSegment = joined_segments (offsets_from base r) (suc (list.media_sequence + k)) rest in (
+      map path tail,
+      drop-map path k (joined_segments (offsets_from base r) list.media_sequence list.segments)
+          ∙ ap (map path) (joined-drop (offsets_from base r) list.media_sequence k list.segments x rest is),
+    )
+
+served-count : (uris : MediaUris) (base : BaseData) (r : ℕ) (list : Playlist) → length (served_list uris base r list).segments ≡ length list.segments
+served-count Ranges base r list = joined-count (offsets_from base r) list.media_sequence list.segments
+served-count Paths base r list =
+    length-map (joined_segments (offsets_from base r) list.media_sequence list.segments) (segment_in (media_folder (run_text base.run) r))
+    ∙ joined-count (offsets_from base r) list.media_sequence list.segments
+
+served-ended : (uris : MediaUris) (base : BaseData) (r : ℕ) (list : Playlist) → (served_list uris base r list).ended ≡ list.ended
+served-ended Ranges base r list = refl
+served-ended Paths base r list = refl
+
+served-head : (uris : MediaUris) (base : BaseData) (s : State) (r : ℕ) (recorded : RecordingData)
+    → head_lines (served_list uris base r (list_over_segments s recorded (live_uri r) [])) ≡ head_lines (served_list uris base r (live_list_by s r recorded))
+served-head Ranges base s r recorded = refl
+served-head Paths base s r recorded = refl
 
 -- ---- a state's playlist
 
@@ -71,13 +133,23 @@ module _ (s : State) (state : IsState s) (r : ℕ) (recorded : RecordingData) (k
   next-is : drop k whole ≡ cut_of x ∷ map cut_of rest
   next-is = drop-map cut_of k (segments_of (line s)) ∙ ap (map cut_of) walk
 
-  pub one-written : (epoch : Option ℤ) (uri before after : List ℕ) → epoch ≡ s.config.epoch → uri ≡ live_uri r
-      → after ≡ before ++ live_segment_text (job_layout epoch recorded r uri 0) x → after ++ rest_of_live_list s r (k + 1) ≡ before ++ rest_of_live_list s r k
-  one-written epoch uri before after epoch_is uri_is written =
-      ap (λ list. after ++ rest_of_list list (k + 1)) there
-      ∙ next-lines whole (has_ended (line s)) k (cut_of x) (map cut_of rest) before after next-is
-      (written ∙ (λ i. before ++ live_segment_text (job_layout (epoch_is i) recorded r (uri_is i) 0) x))
-      ∙ sym (ap (λ list. before ++ rest_of_list list k) there)
+  pub one-written : (uris : MediaUris) (epoch : Option ℤ) (uri : List ℕ) (number : ℕ) (own : MediaSegment) (before after : List ℕ) → epoch ≡ s.config.epoch → uri ≡ live_uri r
+      → number ≡ (line s).removed + k → own ≡ live_media_segment (job_layout epoch recorded r uri 0) x
+      → after ≡ before ++ served_segment_text uris s.config.base r number own → after ++ rest_of_live_list uris s r (k + 1) ≡ before ++ rest_of_live_list uris s r k
+  one-written uris epoch uri number own before after epoch_is uri_is number_is own_is written =
+      let base : BaseData = s.config.base in
+      let own_list : Playlist = live_list_by s r recorded in
+      let list : Playlist = served_list uris base r own_list in
+      let there_too : served_list_of uris s r ≡ Some list = served-some uris s r own_list there in
+      let next = served-next uris base r own_list k (cut_of x) (map cut_of rest) next-is in
+      let same : own ≡ cut_of x =
+      own_is ∙ (ap (λ (e : Option ℤ). live_media_segment (job_layout e recorded r uri 0) x) epoch_is
+      ∙ ap (λ (u : List ℕ). live_media_segment (job_layout s.config.epoch recorded r u 0) x) uri_is) in
+      ap (λ l. after ++ rest_of_list l (k + 1)) there_too
+      ∙ next-lines list.segments list.ended k (served_segment uris base r ((line s).removed + k) (cut_of x)) next.0 before after next.1
+      (written ∙ (ap (λ (n : ℕ). before ++ served_segment_text uris base r n own) number_is
+      ∙ ap (λ (y : MediaSegment). before ++ served_segment_text uris base r ((line s).removed + k) y) same))
+      ∙ sym (ap (λ l. before ++ rest_of_list l k) there_too)
 
   pub has-next : HasSegments s r (k + 1)
   has-next = subst (λ list. ListHasSegments list (k + 1)) (sym there) (omega (arith, within (segments_of (line s)) k x rest walk, length-map (segments_of (line s)) cut_of))
@@ -115,24 +187,31 @@ reaches-stop s r stop k recorded there far = subst (λ list. ListReaches list st
 
 -- ---- its head
 
-pub begun-text : (s : State) (r : ℕ) (recorded : RecordingData) (uri text : List ℕ) (list : Playlist) → live_list_of s r ≡ Some (live_list_by s r recorded) → uri ≡ live_uri r
-    → list ≡ list_over_segments s recorded uri [] → text ≡ text_of_lines (head_lines list) → Some (text ++ rest_of_live_list s r 0) ≡ option_map media_text (live_list_of s r)
+pub begun-text : (uris : MediaUris) (s : State) (r : ℕ) (recorded : RecordingData) (uri text : List ℕ) (list : Playlist) → live_list_of s r ≡ Some (live_list_by s r recorded)
+    → uri ≡ live_uri r → list ≡ served_list uris s.config.base r (list_over_segments s recorded uri []) → text ≡ text_of_lines (head_lines list)
+    → Some (text ++ rest_of_live_list uris s r 0) ≡ option_map media_text (served_list_of uris s r)
 unfolding media_text
-begun-text s r recorded uri text list there uri_is list_is written =
-    let whole = live_list_by s r recorded in
+begun-text uris s r recorded uri text list there uri_is list_is written =
+    let base : BaseData = s.config.base in
+    let whole : Playlist = served_list uris base r (live_list_by s r recorded) in
+    let there_too : served_list_of uris s r ≡ Some whole = served-some uris s r (live_list_by s r recorded) there in
     let head : text ≡ text_of_lines (head_lines whole) =
-    written ∙ ap (λ (p : Playlist). text_of_lines (head_lines p)) list_is ∙ ap (λ (u : List ℕ). text_of_lines (head_lines (list_over_segments s recorded u []))) uri_is in
+    written ∙ ap (λ (p : Playlist). text_of_lines (head_lines p)) list_is
+    ∙ ap (λ (u : List ℕ). text_of_lines (head_lines (served_list uris base r (list_over_segments s recorded u [])))) uri_is
+    ∙ ap text_of_lines (served-head uris base s r recorded) in
     let all : text ++ rest_of_list (Some whole) 0 ≡ media_text whole =
     ap (λ (t : List ℕ). t ++ text_of_lines (all_segment_lines whole.segments ++ end_lines whole.ended)) head
     ∙ sym (joined_append (head_lines whole) (all_segment_lines whole.segments ++ end_lines whole.ended)) in
-    ap (λ list. Some (text ++ rest_of_list list 0)) there ∙ ap Some all ∙ sym (ap (option_map media_text) there)
+    ap (λ list. Some (text ++ rest_of_list list 0)) there_too ∙ ap Some all ∙ sym (ap (option_map media_text) there_too)
 
 -- a head is written only of a playlist
-pub has-none : (s : State) (r : ℕ) (text : List ℕ) → Some text ≡ option_map media_text (live_list_of s r) → HasSegments s r 0
-has-none s r text is = by (live_list_of s r) is
+pub has-none : (uris : MediaUris) (s : State) (r : ℕ) (text : List ℕ) → Some text ≡ option_map media_text (served_list_of uris s r) → HasSegments s r 0
+has-none uris s r text is = by (live_list_of s r) refl
   where
-    by : (o : Option Playlist) → Some text ≡ option_map media_text o → ListHasSegments o 0
-    by None none = absurd (cc)
+    by : (o : Option Playlist) → live_list_of s r ≡ o → ListHasSegments o 0
+    by None none =
+        let never : Some text ≡ None = is ∙ ap (option_map media_text) (served_none uris s r none) in
+        absurd (cc)
     by (Some list) some = omega arith
 
 -- ---- its end
@@ -149,9 +228,9 @@ ended-in epoch r (Some l) live list is = by (has_closed_segment live) is
     by false is = cc
 
 -- after the end's line everything is written
-pub ended-text : (s : State) (r written stop k : ℕ) (old text all : List ℕ) → length (segments_of (line s)) ≤ stop → ReachesStop s r stop k → HasSegments s r k
-    → text ++ rest_of_live_list s r k ≡ old ++ rest_of_live_list s r written → all ≡ text ++ text_of_lines (end_lines (has_ended (line s))) → all ≡ old ++ rest_of_live_list s r written
-ended-text s r written stop k old text all far reaches has goes is = by (live_list_of s r) refl
+pub ended-text : (uris : MediaUris) (s : State) (r written stop k : ℕ) (old text all : List ℕ) → length (segments_of (line s)) ≤ stop → ReachesStop s r stop k → HasSegments s r k
+    → text ++ rest_of_live_list uris s r k ≡ old ++ rest_of_live_list uris s r written → all ≡ text ++ text_of_lines (end_lines (has_ended (line s))) → all ≡ old ++ rest_of_live_list uris s r written
+ended-text uris s r written stop k old text all far reaches has goes is = by (live_list_of s r) refl
   where
     longs : (list : Playlist) → live_list_of s r ≡ Some list → length list.segments ≡ length (segments_of (line s))
     longs list there = long-in s.config.epoch r (slice_get (channel s).lanes r) (line s) list there
@@ -170,15 +249,16 @@ ended-text s r written stop k old text all far reaches has goes is = by (live_li
                 ∙ length-map (segments_of live) (live_media_segment (live_layout epoch r l))
             so false is = cc
 
-    by : (o : Option Playlist) → live_list_of s r ≡ o → all ≡ old ++ rest_of_live_list s r written
+    by : (o : Option Playlist) → live_list_of s r ≡ o → all ≡ old ++ rest_of_live_list uris s r written
     by None there = absurd (unlisted-has s r k there has)
     by (Some list) there =
         let long = longs list there in
         let past : length list.segments ≤ k = whole (subst (λ l. ListReaches l stop k) there reaches) in
-        let left : rest_of_live_list s r k ≡ text_of_lines (end_lines (has_ended (line s))) =
-        ap (λ l. rest_of_list l k) there
-        ∙ ap (λ (ss : List MediaSegment). text_of_lines (all_segment_lines ss ++ end_lines list.ended)) (drop_all k list.segments past)
-        ∙ ap (λ (e : Bool). text_of_lines (end_lines e)) (ended-in s.config.epoch r (slice_get (channel s).lanes r) (line s) list there) in
+        let out : Playlist = served_list uris s.config.base r list in
+        let left : rest_of_live_list uris s r k ≡ text_of_lines (end_lines (has_ended (line s))) =
+        ap (λ l. rest_of_list l k) (served-some uris s r list there)
+        ∙ ap (λ (ss : List MediaSegment). text_of_lines (all_segment_lines ss ++ end_lines out.ended)) (drop_all k out.segments (omega (arith, past, served-count uris s.config.base r list)))
+        ∙ ap (λ (e : Bool). text_of_lines (end_lines e)) (served-ended uris s.config.base r list ∙ ended-in s.config.epoch r (slice_get (channel s).lanes r) (line s) list there) in
         is ∙ ap (λ (t : List ℕ). text ++ t) (sym left) ∙ goes
       where
         whole : (stop ≤ k) ⊎ (length list.segments ≤ k) → length list.segments ≤ k

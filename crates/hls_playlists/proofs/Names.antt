@@ -1,10 +1,11 @@
--- The names of a channel's renditions are UTF-8 text.
+-- The names of a channel's renditions and of its run are UTF-8 text.
 use Rattle.std.proofs.Common.{◌≡◌, ℕ, ◌<◌, List, [], ◌∷◌, All, get_or, arith, rules, Some}
 use Rattle.std.specs.Prelude.{IsTrue, IsUtf8, slice_get}
 use Rattle.std.proofs.lemmas.List.Elements.{All-from_get_or}
 use Rattle.std.proofs.lemmas.Option.{slice_get-get_or}
 use Rattle.std.proofs.lemmas.Str.{IsUtf8-from_ascii}
 use Rattle.std.proofs.lemmas.Str.Ascii.{IsAscii-from_all}
+use Rattle.hls_core_laws.specs.Base.{BaseData, IsBase, is_run_byte, run_text}
 use Rattle.hls_core_laws.specs.Config.{is_name_byte, IsName, IsConfig, ConfigData}
 use Rattle.hls_core_laws.specs.declared.rendition.Rendition.{Rendition}
 use Rattle.hls_playlists.specs.RenditionNames.{IsNamed}
@@ -25,3 +26,13 @@ each_named (r ∷ others) each =
 
 pub are_named : (config : ConfigData) → IsConfig config → All IsNamed config.renditions
 are_named config is = each_named config.renditions (λ n r at. (is.renditions.each n r at).own.name)
+
+-- so is the name of a run
+run_byte_small : (b : ℕ) → IsTrue (is_run_byte b) → b < 128
+run_byte_small b spelled = grind (arith, spelled)
+
+run_bytes_small : (name : List ℕ) → All (λ b. IsTrue (is_run_byte b)) name → All (λ b. b < 128) name
+run_bytes_small name spelled = search rules
+
+pub run_utf8 : (base : BaseData) → IsBase base → IsUtf8 (run_text base.run)
+run_utf8 base is = IsUtf8-from_ascii (run_text base.run) (IsAscii-from_all (run_text base.run) (run_bytes_small (run_text base.run) is.run))

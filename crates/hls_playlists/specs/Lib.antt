@@ -1,2 +1,3 @@
+pub mod MediaUris
 pub mod LiveWriter
 pub mod RenditionNames

@@ -13,6 +13,9 @@ use Rattle.hls_playlists_laws.specs.Live.{live_list_of, live_uri, live_media_seg
 use Rattle.hls_playlists_laws.specs.Segments.{ResourceLayout}
 use Rattle.hls_places_laws.specs.declared.line.live_segment.LiveSegment as live_line
 use Rattle.hls_playlists_laws.specs.JobPlaylists.{job_layout}
+use Rattle.hls_core_laws.specs.Base.{BaseData}
+use Rattle.hls_playlists.specs.declared.media_uris.MediaUris.{MediaUris}
+use Rattle.hls_playlists.specs.MediaUris.{served_list_of, served_segment}
 use Rattle.hls_playlists.specs.declared.live_writer.LivePlaylistWriter.TheInside.{Inside}
 
 -- the live playlist over a recording, with these segments
@@ -28,16 +31,17 @@ live_list_by s r recorded = list_over_segments s recorded (live_uri r) (map (liv
 abbrev pub CanBeWritten : ResourceLayout → live_line.LiveSegment → Type 0
 CanBeWritten c x = ((live_media_segment c x).us < 2 ^ 53) × IsDate (live_media_segment c x).date
 
-abbrev pub live_segment_text : ResourceLayout → live_line.LiveSegment → List ℕ
-live_segment_text c x = text_of_lines (segment_lines (live_media_segment c x))
+-- the text of a segment as it is served
+abbrev pub served_segment_text : MediaUris → BaseData → ℕ → ℕ → MediaSegment → List ℕ
+served_segment_text uris base r number x = text_of_lines (segment_lines (served_segment uris base r number x))
 
 -- the rest of a playlist's text after its head and its first k segments
 abbrev pub rest_of_list : Option Playlist → ℕ → List ℕ
 rest_of_list None k = []
 rest_of_list (Some list) k = text_of_lines (all_segment_lines (drop k list.segments) ++ end_lines list.ended)
 
-abbrev pub rest_of_live_list : State → ℕ → ℕ → List ℕ
-rest_of_live_list s rendition k = rest_of_list (live_list_of s rendition) k
+abbrev pub rest_of_live_list : MediaUris → State → ℕ → ℕ → List ℕ
+rest_of_live_list uris s rendition k = rest_of_list (served_list_of uris s rendition) k
 
 -- a playlist has at least that many segments
 abbrev pub ListHasSegments : Option Playlist → ℕ → Type 0
@@ -57,7 +61,7 @@ ReachesStop s rendition stop k = ListReaches (live_list_of s rendition) stop k
 
 -- the whole text: what is written, and the rest
 abbrev pub full_text : Inside → List ℕ
-full_text t = t.text.items ++ rest_of_live_list t.snapshot.value t.rendition t.written
+full_text t = t.text.items ++ rest_of_live_list t.uris t.snapshot.value t.rendition t.written
 
 abbrev pub IsSoundWriter : Inside → Type 0
 IsSoundWriter t = HasSegments t.snapshot.value t.rendition t.written

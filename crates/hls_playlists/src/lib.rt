@@ -7,6 +7,7 @@
 mod job_playlists;
 mod live_writer;
 mod masters;
+mod media_uris;
 mod resource_uri;
 mod segment_iterator;
 mod segments;
@@ -15,5 +16,6 @@ mod standalone;
 pub use job_playlists::make_job_lists;
 pub use live_writer::LivePlaylistWriter;
 pub use masters::{job_master, live_master};
+pub use media_uris::MediaUris;
 pub use segments::{bytes_between, is_break, make_plan_segments, segment_between};
 pub use standalone::live_playlist;

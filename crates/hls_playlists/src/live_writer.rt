@@ -1,20 +1,24 @@
 //! Writes the text of a live playlist in parts: a long one takes a tenth of a second, and other connections get their turn in between.
 
-ghost use Rattle.std.specs.Prelude.{◌≡◌, ◌++◌, ◌<◌, ◌^◌, IfOk, MatchOption, None, Some};
+ghost use Rattle.std.specs.Prelude.{◌≡◌, ◌++◌, ◌<◌, ◌≤◌, ◌^◌, [], IfOk, MatchOption, None, Some};
 ghost use Rattle.std.specs.Option.{option_map};
 ghost use Rattle.hls_check_tables.specs.Tables.{spot_in};
+ghost use Rattle.hls_m3u8.specs.HasText.{IsDate};
 ghost use Rattle.hls_m3u8.specs.Lines.{media_text};
 ghost use Rattle.hls_core_laws.specs.Config.{IsEpoch};
 ghost use Rattle.hls_playlists_laws.specs.Live.{live_list_of, live_media_segment};
 ghost use Rattle.hls_playlists_laws.specs.JobPlaylists.{job_layout};
-ghost use Rattle.hls_playlists.specs.LiveWriter.{HasSegments, CanBeWritten, ReachesStop, rest_of_live_list, live_segment_text, live_list_by, list_over_segments};
+ghost use Rattle.hls_playlists.specs.LiveWriter.{HasSegments, ReachesStop, rest_of_live_list, served_segment_text, live_list_by, list_over_segments};
+ghost use Rattle.hls_playlists.specs.MediaUris.{HasRange, media_uri, served_list, served_list_of};
 ghost use Rattle.hls_m3u8.specs.Playlist.{playlist_of};
 ghost use Rattle.hls_core_laws.specs.IsState.{IsState};
 
+use crate::media_uris::{MediaUris, SegmentForm, marks_before, media_uri, serve_map};
 use crate::resource_uri::resource_uri;
-use crate::segment_iterator::{iter_segments_from, next_segment};
+use crate::segment_iterator::{first_number, iter_segments_from, next_segment};
 use crate::segments::segment_between;
 use bytes::ByteStr;
+use hls_core::base::Base;
 use hls_core::snapshot::Snapshot;
 use hls_live::LiveSegment;
 use hls_m3u8::{MediaPlaylist, MediaSegment, push_end, push_head, push_segment};
@@ -32,11 +36,12 @@ const HEAD_ROOM: usize = 256;
 /// The estimated size of a segment's lines, in bytes.
 const SEGMENT_ROOM: usize = 128;
 
-/// The text of a rendition's live playlist in a shared state, partly written. A clause sees the whole text.
+/// The text of a rendition's live playlist in a shared state, partly written, by ranges or by paths. A clause sees the whole text.
 #[derive(Drop)]
 pub struct LivePlaylistWriter {
     snapshot: Arc<Snapshot>,
     rendition: usize,
+    uris: MediaUris,
     /// The number of segments written so far.
     written: u64,
     text: Vec<u8>,
@@ -98,7 +103,8 @@ pub(crate) fn make_media_segment(
 ) -> Result<MediaSegment, AllocError>
     requires epoch { IsEpoch epoch }
     requires start { (spot_in segment.now.from.spots rendition).start < 2 ^ 53 }
-    ensures { IfOk result (λ made. made ≡ live_media_segment (job_layout epoch recording.now rendition uri.now 0) segment.now) }
+    ensures value { IfOk result (λ made. made ≡ live_media_segment (job_layout epoch recording.now rendition uri.now 0) segment.now) }
+    ensures range { IfOk result (λ made. HasRange made.range) }
 {
     let uri = uri.clone()?;
     Ok(segment_between(
@@ -114,20 +120,20 @@ pub(crate) fn make_media_segment(
 }
 
 fn push_live_segment(
+    alloc: Global,
     text: &mut Vec<u8>,
-    recording: &Recording,
-    epoch: Option<i64>,
-    rendition: usize,
-    uri: &ByteStr,
-    segment: &LiveSegment,
+    form: &SegmentForm<'_>,
+    number: u64,
+    own: MediaSegment,
 ) -> Result<(), AllocError>
-    requires epoch { IsEpoch epoch }
-    requires start { (spot_in segment.now.from.spots rendition).start < 2 ^ 53 }
-    requires good { CanBeWritten (job_layout epoch recording.now rendition uri.now 0) segment.now }
-    ensures { IfOk result (λ done. text.new.items ≡ text.old.items ++ live_segment_text (job_layout epoch recording.now rendition uri.now 0) segment.now) }
+    requires range { HasRange own.range }
+    requires uri { form.now.uri.now ≡ media_uri form.now.uris form.now.base.now form.now.rendition }
+    requires length { own.us < 2 ^ 53 }
+    requires date { IsDate own.date }
+    ensures { IfOk result (λ done. text.new.items ≡ text.old.items ++ served_segment_text form.now.uris form.now.base.now form.now.rendition number own) }
 {
-    let cut = make_media_segment(recording, epoch, rendition, uri, segment)?;
-    push_segment(text, &cut)?;
+    let segment = form.apply(alloc, number, own)?;
+    push_segment(text, &segment)?;
     Ok(())
 }
 
@@ -135,28 +141,38 @@ fn push_live_segment(
 fn push_live_segments(
     alloc: Global,
     text: &mut Vec<u8>,
-    snapshot: &Snapshot,
-    rendition: usize,
+    served: ServedList<'_>,
     written: u64,
     stop: u64,
 ) -> Result<u64, AllocError>
-    requires { HasSegments snapshot.now rendition written }
-    ensures text { IfOk result (λ k. text.new.items ++ rest_of_live_list snapshot.now rendition k ≡ text.old.items ++ rest_of_live_list snapshot.now rendition written) }
-    ensures has { IfOk result (λ k. HasSegments snapshot.now rendition k) }
-    ensures reaches { IfOk result (λ k. ReachesStop snapshot.now rendition stop k) }
+    requires { HasSegments served.snapshot.now served.rendition written }
+    ensures text { IfOk result (λ k. text.new.items ++ rest_of_live_list served.entry.uris served.entry.snapshot.now served.entry.rendition k ≡ text.old.items ++ rest_of_live_list served.entry.uris served.entry.snapshot.now served.entry.rendition written) }
+    ensures has { IfOk result (λ k. HasSegments served.entry.snapshot.now served.entry.rendition k) }
+    ensures reaches { IfOk result (λ k. ReachesStop served.entry.snapshot.now served.entry.rendition stop k) }
 {
-    let Some(recording) = find_listed_recording(snapshot, rendition) else {
+    let Some(recording) = find_listed_recording(served.snapshot, served.rendition) else {
         unreachable!();
     };
-    let epoch = snapshot.config().epoch();
-    let uri = resource_uri(alloc, "/media/", rendition)?;
-    let mut walk = iter_segments_from(snapshot.line(), written);
+    let config = served.snapshot.config();
+    let epoch = config.epoch();
+    let base = config.base();
+    let own_uri = resource_uri(alloc, "/media/", served.rendition)?;
+    let uri = media_uri(alloc, served.uris, base, served.rendition)?;
+    let form = SegmentForm {
+        uris: served.uris,
+        base,
+        rendition: served.rendition,
+        uri: &uri,
+    };
+    let first = first_number(served.snapshot.line());
+    let mut walk = iter_segments_from(served.snapshot.line(), written);
     let mut next = written;
     while next < stop {
         let Some(segment) = next_segment(&mut walk) else {
             return Ok(next);
         };
-        push_live_segment(text, recording, epoch, rendition, &uri, segment)?;
+        let own = make_media_segment(recording, epoch, served.rendition, &own_uri, segment)?;
+        push_live_segment(alloc, text, &form, first + next, own)?;
         next += 1;
     }
     Ok(next)
@@ -169,42 +185,89 @@ fn estimate_len(count: u64) -> usize {
         .saturating_add(HEAD_ROOM)
 }
 
-/// Writes the head of a rendition's live playlist. `None` if there is no playlist.
-fn write_head(
-    alloc: Global,
-    snapshot: &Snapshot,
+/// Which live playlist is written.
+#[derive(Clone, Copy)]
+struct ServedList<'a> {
+    snapshot: &'a Snapshot,
     rendition: usize,
-) -> Result<Option<Vec<u8>>, AllocError>
-    ensures { IfOk result (λ head. option_map (λ text. text.items ++ rest_of_live_list snapshot.now rendition 0) head ≡ option_map media_text (live_list_of snapshot.now rendition)) }
+    uris: MediaUris,
+}
+
+/// Returns the playlist, which has no segments, as it is served.
+#[tactic(auto, using(crate::proofs::Joined::head_served))]
+fn serve_head(
+    alloc: Global,
+    base: &Base,
+    rendition: usize,
+    uris: MediaUris,
+    list: MediaPlaylist,
+) -> Result<MediaPlaylist, AllocError>
+    requires empty { list.segments.items ≡ [] }
+    requires sequence { list.media_sequence < 1000000000000000 }
+    requires marks { list.discontinuity_sequence < 1000000000000000 }
+    ensures { IfOk result (λ made. playlist_of made ≡ served_list uris base.now rendition (playlist_of list)) }
 {
-    let Some(recording) = find_listed_recording(snapshot, rendition) else {
+    let number = list.media_sequence;
+    let before = marks_before(base, rendition, number);
+    let map = serve_map(alloc, uris, base, rendition, list.map)?;
+    Ok(MediaPlaylist {
+        version: list.version,
+        target: list.target,
+        media_sequence: base.segments() + number,
+        discontinuity_sequence: before + list.discontinuity_sequence,
+        kind: list.kind,
+        map,
+        segments: list.segments,
+        ended: list.ended,
+    })
+}
+
+/// Writes the head of a rendition's live playlist. `None` if there is no playlist.
+fn write_head(alloc: Global, served: ServedList<'_>) -> Result<Option<Vec<u8>>, AllocError>
+    ensures { IfOk result (λ head. option_map (λ text. text.items ++ rest_of_live_list served.entry.uris served.entry.snapshot.now served.entry.rendition 0) head ≡ option_map media_text (served_list_of served.entry.uris served.entry.snapshot.now served.entry.rendition)) }
+{
+    let Some(recording) = find_listed_recording(served.snapshot, served.rendition) else {
         return Ok(None);
     };
-    let segments = snapshot.line().segments();
+    let segments = served.snapshot.line().segments();
     let room = estimate_len(segments.next() - segments.first());
-    let uri = resource_uri(alloc, "/media/", rendition)?;
-    let list = make_live_playlist(snapshot, recording, uri, Vec::new(alloc));
+    let uri = resource_uri(alloc, "/media/", served.rendition)?;
+    let own = make_live_playlist(served.snapshot, recording, uri, Vec::new(alloc));
+    let list = serve_head(
+        alloc,
+        served.snapshot.config().base(),
+        served.rendition,
+        served.uris,
+        own,
+    )?;
     let mut text = Vec::with_capacity(alloc, room)?;
     push_head(&mut text, &list)?;
     Ok(Some(text))
 }
 
 impl LivePlaylistWriter {
-    /// Starts the text of a rendition's live playlist with its head. `None` before a segment was closed, and if the channel has no such
-    /// rendition.
+    /// Starts the text of a rendition's live playlist with its head; it counts from the channel's base. `None` before a segment was
+    /// closed, and if the channel has no such rendition.
     pub fn new(
         alloc: Global,
         snapshot: Arc<Snapshot>,
         rendition: usize,
+        uris: MediaUris,
     ) -> Result<Option<LivePlaylistWriter>, AllocError>
-        ensures { IfOk result (λ found. found ≡ option_map media_text (live_list_of snapshot.value rendition)) }
+        ensures { IfOk result (λ found. found ≡ option_map media_text (served_list_of uris snapshot.value rendition)) }
     {
-        let Some(text) = write_head(alloc, &snapshot, rendition)? else {
+        let served = ServedList {
+            snapshot: &snapshot,
+            rendition,
+            uris,
+        };
+        let Some(text) = write_head(alloc, served)? else {
             return Ok(None);
         };
         Ok(Some(LivePlaylistWriter {
             snapshot,
             rendition,
+            uris,
             written: 0,
             text,
         }))
@@ -215,14 +278,12 @@ impl LivePlaylistWriter {
         ensures { IfOk result (λ more. self.new ≡ self.old) }
     {
         let stop = self.written.saturating_add(PART);
-        self.written = push_live_segments(
-            alloc,
-            &mut self.text,
-            &self.snapshot,
-            self.rendition,
-            self.written,
-            stop,
-        )?;
+        let served = ServedList {
+            snapshot: &self.snapshot,
+            rendition: self.rendition,
+            uris: self.uris,
+        };
+        self.written = push_live_segments(alloc, &mut self.text, served, self.written, stop)?;
         Ok(self.written == stop)
     }
 
@@ -233,13 +294,19 @@ impl LivePlaylistWriter {
         let LivePlaylistWriter {
             snapshot,
             rendition,
+            uris,
             written,
             text,
         } = self;
         let mut text = text;
         let line = snapshot.line();
         let stop = line.segments().next();
-        let _ = push_live_segments(alloc, &mut text, &snapshot, rendition, written, stop)?;
+        let served = ServedList {
+            snapshot: &snapshot,
+            rendition,
+            uris,
+        };
+        let _ = push_live_segments(alloc, &mut text, served, written, stop)?;
         push_end(&mut text, line.ended())?;
         Ok(text)
     }

@@ -6,6 +6,7 @@ ghost use Rattle.hls_core_laws.specs.Config.{IsEpoch};
 ghost use Rattle.hls_playlists_laws.specs.JobResource.{bytes_between};
 ghost use Rattle.hls_playlists_laws.specs.Segments.{is_break, date_at, segment_between, plan_segments};
 ghost use Rattle.hls_playlists_laws.specs.JobPlaylists.{job_layout};
+ghost use Rattle.hls_playlists.specs.MediaUris.{HasRange};
 
 use bytes::ByteStr;
 use hls_check_tables::{PlaceTable, Spots};
@@ -57,7 +58,8 @@ pub fn segment_between(
 ) -> MediaSegment
     requires epoch { IsEpoch epoch }
     requires start { (spot_in from.now rendition).start < 2 ^ 53 }
-    ensures { result ≡ segment_between (job_layout epoch recording.now rendition uri first) mark from.now to.now }
+    ensures value { result ≡ segment_between (job_layout epoch recording.now rendition uri first) mark from.now to.now }
+    ensures range { HasRange result.range }
 {
     let from = from.get_or_zero(rendition);
     let to = to.get_or_zero(rendition);

@@ -11,6 +11,7 @@ use Rattle.hls_places_laws.specs.FromPlace.{sources_since}
 use Rattle.hls_places_laws.specs.Line.Steps.{is_later_place, is_allowed, is_long_enough, is_at_gap}
 use Rattle.hls_places_laws.specs.Line.Cuts.{line_within}
 use Rattle.hls_places_laws.specs.Line.FromCut.{IsCutOf, IsBegunAt}
+use Rattle.hls_core_laws.specs.Base.{no_base}
 use Rattle.hls_core_laws.specs.declared.event.Entry.{Entry}
 use Rattle.hls_core_laws.specs.declared.event.LoggedEvent.TheVariants.{Begun, Accepted}
 use Rattle.hls_core_laws.specs.Config.{ConfigData}
@@ -33,6 +34,7 @@ config = record {
   preferred = 4000000;
   renditions = record { name = codes "v1"; video = true; bandwidth = 1; tolerance = 0 } ∷ [];
   epoch = None;
+  base = no_base;
 }
 
 abbrev init : InitData

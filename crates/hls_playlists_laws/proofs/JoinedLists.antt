@@ -41,15 +41,15 @@ take-map zero f xs = refl
 take-map (suc d) f [] = refl
 take-map (suc d) f (x ∷ xs) = ap (λ ys. f x ∷ ys) (take-map d f xs)
 
-none-left : {A : Type 0} (xs : List A) → length xs ≡ 0 → xs ≡ []
+pub none-left : {A : Type 0} (xs : List A) → length xs ≡ 0 → xs ≡ []
 none-left [] is = refl
 none-left (x ∷ xs) is = absurd (omega (arith, is))
 
-listed-count : (s : State) (r : ℕ) (l : Lane) → length (live_list_over s.config.epoch r l (line s)).segments ≡ length (drop (channel s).removed (closed s))
+pub listed-count : (s : State) (r : ℕ) (l : Lane) → length (live_list_over s.config.epoch r l (line s)).segments ≡ length (drop (channel s).removed (closed s))
 listed-count s r l = length-map (drop (channel s).removed (closed s)) (live_media_segment (live_layout s.config.epoch r l))
 
 -- playlists are joined segment by segment
-joined-length : (o : Offsets) (number : ℕ) (xs : List MediaSegment) → length (joined_segments o number xs) ≡ length xs
+pub joined-length : (o : Offsets) (number : ℕ) (xs : List MediaSegment) → length (joined_segments o number xs) ≡ length xs
 joined-length o number [] = refl
 joined-length o number (x ∷ xs) = ap suc (joined-length o (suc number) xs)
 
@@ -65,7 +65,7 @@ joined-lasts o number (x ∷ xs) =
     omega (arith, one, two, joined-us o number x, joined-lasts o (suc number) xs)
 
 -- if each segment of the first's playlist is the second's, joined, the first's segments are a prefix of the joined ones
-begins-with : (o : Offsets) (number : ℕ) (xs ys : List MediaSegment) → length xs ≤ length ys →
+pub begins-with : (o : Offsets) (number : ℕ) (xs ys : List MediaSegment) → length xs ≤ length ys →
     ((i : ℕ) (x y : MediaSegment) → slice_get xs i ≡ Some x → slice_get ys i ≡ Some y → x ≡ joined_segment o (number + i) y) →
     (rest : List MediaSegment) × (joined_segments o number ys ≡ xs ++ rest)
 begins-with o number [] ys few same = (joined_segments o number ys, refl)
@@ -85,13 +85,13 @@ moved-is bytes x y mark is same =
     is.there ∙ ap (option_map (shifted_range bytes)) (sym is.here) in
     λ k. record { mark = sym same k; date = sym is.date k; us = sym is.us k; range = range k; uri = sym is.uri k }
 
-joined-is : (o : Offsets) (number : ℕ) (x y : MediaSegment) → IsShifted o.bytes x y → (1 ≤ number → y.mark ≡ x.mark) → (number ≡ 0 → o.marked ≡ x.mark) →
+pub joined-is : (o : Offsets) (number : ℕ) (x y : MediaSegment) → IsShifted o.bytes x y → (1 ≤ number → y.mark ≡ x.mark) → (number ≡ 0 → o.marked ≡ x.mark) →
     x ≡ joined_segment o number y
 joined-is o zero x y is mark first = moved-is o.bytes x y o.marked is (first refl)
 joined-is o (suc number) x y is mark first = moved-is o.bytes x y y.mark is (mark (omega arith))
 
 -- marks at the front
-first-at : (xs : List live_line.LiveSegment) (x : live_line.LiveSegment) → slice_get xs 0 ≡ Some x → is_first_marked xs ≡ x.mark
+pub first-at : (xs : List live_line.LiveSegment) (x : live_line.LiveSegment) → slice_get xs 0 ≡ Some x → is_first_marked xs ≡ x.mark
 first-at [] x at = cc
 first-at (y ∷ xs) x at =
     let same : y ≡ x = cc in
@@ -114,7 +114,7 @@ marks-with a n =
     marks-add n 1 all ∙ ap (λ (k : ℕ). marks_in n all + k) (one-mark (drop n all))
 
 -- marks up to where the joined list begins
-marks-joined : (a b : State) (n : ℕ) (cut : Place) (r : ℕ) (l : Lane) → IsState a → IsState b → IsHandedOver a b n cut →
+pub marks-joined : (a b : State) (n : ℕ) (cut : Place) (r : ℕ) (l : Lane) → IsState a → IsState b → IsHandedOver a b n cut →
     n + (channel b).removed ≤ length (closed a) →
     (offsets_of a n cut r l).marks + marks_in (channel b).removed (closed b) + marks_uncounted (offsets_of a n cut r l) (channel b).removed
     ≡ marks_in (n + (channel b).removed) (closed a)
@@ -235,11 +235,11 @@ unfolding line_within
 first-within line_goal zero o rest = refl
 first-within line_goal (suc most) o rest = first-by (line_within line_goal most) (first-within line_goal most) o (ahead_of line_goal o.place rest)
 
-first-of : (line_goal : LineGoal) (progress : List Place) → is_first_marked (line_of line_goal progress).segments ≡ false
+pub first-of : (line_goal : LineGoal) (progress : List Place) → is_first_marked (line_of line_goal progress).segments ≡ false
 first-of line_goal [] = refl
 first-of line_goal (o ∷ rest) = first-within line_goal (suc (length rest)) (start_at o) rest
 
-first-listed : (s : State) (r : ℕ) (l : Lane) (x : MediaSegment) → (channel s).removed ≡ 0 →
+pub first-listed : (s : State) (r : ℕ) (l : Lane) (x : MediaSegment) → (channel s).removed ≡ 0 →
     slice_get (live_list_over s.config.epoch r l (line s)).segments 0 ≡ Some x → x.mark ≡ false
 first-listed s r l x none at =
     let u = listed-at s r l 0 x at in
@@ -286,7 +286,7 @@ uncounted-on o zero (x ∷ rest) first =
 no-segments : (o : Offsets) (number : ℕ) (xs : List MediaSegment) → joined_segments o number xs ≢ [] → xs ≢ []
 no-segments o number xs some none = some (ap (joined_segments o number) none)
 
-stays-later : (o : Offsets) (p q : Playlist) → (later : IsLater p q) →
+pub stays-later : (o : Offsets) (p q : Playlist) → (later : IsLater p q) →
     ((x : MediaSegment) → p.media_sequence ≡ 0 → slice_get later.evicted 0 ≡ Some x → x.mark ≡ false) → IsLater (joined_list o p) (joined_list o q)
 stays-later o p q later first =
     let k : ℕ = p.media_sequence in
@@ -316,7 +316,7 @@ stays-later o p q later first =
     }
 
 -- the first segment that was removed was the playlist's first
-evicted-first : (xs appended evicted ys : List MediaSegment) (x : MediaSegment) → 0 < length xs → xs ++ appended ≡ evicted ++ ys → slice_get evicted 0 ≡ Some x →
+pub evicted-first : (xs appended evicted ys : List MediaSegment) (x : MediaSegment) → 0 < length xs → xs ++ appended ≡ evicted ++ ys → slice_get evicted 0 ≡ Some x →
     slice_get xs 0 ≡ Some x
 evicted-first [] appended evicted ys x some same at = absurd (omega (arith, some))
 evicted-first (z ∷ xs) appended [] ys x some same at = cc

@@ -17,4 +17,17 @@ mod Stays
 mod Origins
 mod Handovers
 mod JoinedLists
+mod PathLists
+mod Paths
+mod UnitSearch
+mod NamedUnits
+mod KeptPaths
+mod BasedLists
+mod HandedOver
+mod RisingLines
+mod Floors
+mod PlaceSpots
+mod ListedPaths
+mod HandedPaths
+mod CutBases
 pub mod Callers

@@ -13,7 +13,7 @@ use Rattle.hls_playlists_laws.proofs.Cited.{segments-agree, marks-agree, source_
 use Rattle.hls_m3u8.specs.declared.playlist.MediaSegment.{MediaSegment}
 use Rattle.hls_m3u8.specs.Playlist.{Playlist}
 use Rattle.hls_m3u8.specs.Written.{init_at}
-use Rattle.hls_core_laws.specs.Config.{ConfigData}
+use Rattle.hls_core_laws.specs.Config.{ConfigData, without_base}
 use Rattle.hls_core_laws.specs.Channel.{Lane}
 use Rattle.hls_core_laws.specs.State.{State, channel}
 use Rattle.hls_core_laws.specs.IsState.{IsState}
@@ -32,7 +32,7 @@ use Rattle.hls_playlists_laws.proofs.Follows.{cut-on, stands-among}
 pub source-begins : (s t : Source) (l m : Lane) (tolerance : ℕ) → IsOf s l tolerance → IsOf t m tolerance → LaneBegins l m → SourceGrows s t
 source-begins s t l m tolerance is_l is_m begins = source_grown s t l m tolerance is_l is_m begins.more begins.facts begins.over
 
-alike-at : (a b : State) (r : ℕ) (l m : Lane) → b.config ≡ a.config → slice_get (channel a).lanes r ≡ Some l → slice_get (channel b).lanes r ≡ Some m →
+alike-at : (a b : State) (r : ℕ) (l m : Lane) → without_base b.config ≡ without_base a.config → slice_get (channel a).lanes r ≡ Some l → slice_get (channel b).lanes r ≡ Some m →
     LaneBegins l m ⊎ LaneBegins m l →
     SourceGrows (source_at (sources a) r) (source_at (sources b) r) ⊎ SourceGrows (source_at (sources b) r) (source_at (sources a) r)
 alike-at a b r l m config at also either =
@@ -45,7 +45,7 @@ alike-at a b r l m config at also either =
       | inr right ↦ inr (source-begins (source_at (sources b) r) (source_at (sources a) r) m l tolerance is_m is_l right)
     ]
 
-pub lanes-same : (a b : State) → b.config ≡ a.config → length (channel b).lanes ≡ length (channel a).lanes
+pub lanes-same : (a b : State) → without_base b.config ≡ without_base a.config → length (channel b).lanes ≡ length (channel a).lanes
 lanes-same a b config =
     lanes_count b.config b.log ∙ (ap (λ (c : ConfigData). length c.renditions) config ∙ sym (lanes_count a.config a.log))
 
@@ -58,7 +58,7 @@ are-alike a b fed = record {
       alike-at a b r l.0 m.0 fed.config l.1 m.1 (fed.each r l.0 m.0 l.1 m.1);
 }
 
-pub closed-at : (s : State) (c : ConfigData) (n : ℕ) (x : live_line.LiveSegment) → s.config ≡ c → slice_get (closed s) n ≡ Some x →
+pub closed-at : (s : State) (c : ConfigData) (n : ℕ) (x : live_line.LiveSegment) → without_base s.config ≡ without_base c → slice_get (closed s) n ≡ Some x →
     slice_get (line_of (line_goal_of c) (places s)).segments n ≡ Some x
 closed-at s c n x config at =
     ap (λ (d : ConfigData). slice_get (line_of (line_goal_of d) (places s)).segments n) (sym config) ∙ at

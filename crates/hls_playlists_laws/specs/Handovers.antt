@@ -9,6 +9,7 @@ use Rattle.hls_places_laws.specs.Line.FromCut.{IsCutOf}
 use Rattle.hls_m3u8.specs.declared.playlist.ByteRange.{ByteRange}
 use Rattle.hls_m3u8.specs.declared.playlist.MediaSegment.{MediaSegment}
 use Rattle.hls_m3u8.specs.Playlist.{Playlist}
+use Rattle.hls_core_laws.specs.Config.{without_base}
 use Rattle.hls_core_laws.specs.Channel.{Lane}
 use Rattle.hls_core_laws.specs.State.{State, channel}
 use Rattle.hls_core_laws.specs.Places.{sources}
@@ -23,11 +24,11 @@ unit_at cut r = (spot_in cut.spots r).fragment
 abbrev pub lane_from : ℕ → Lane → Lane
 lane_from n l = record { init = l.init; size = l.size; facts = drop n l.facts; floor = l.floor; finished = l.finished }
 
--- two states of one configuration. In each rendition, the recording of the second begins with the unit at a cut of the first's live
+-- two states of one configuration, but for what precedes. In each rendition, the recording of the second begins with the unit at a cut of the first's live
 -- line, after n of its segments, and continues as the first's does: as far as both have come their units are the same. It doesn't
 -- matter what has slid out or was trimmed, in which order units of different renditions came, or who sent them
 pub record IsHandedOver (a b : State) (n : ℕ) (cut : Place) : Type 0 where
-  pub config : b.config ≡ a.config
+  pub config : without_base b.config ≡ without_base a.config
   pub is_cut : IsCutOf (line_goal_of a.config) (sources a) n cut
   pub each : (r : ℕ) (l m : Lane) → slice_get (channel a).lanes r ≡ Some l → slice_get (channel b).lanes r ≡ Some m →
       LaneBegins (lane_from (unit_at cut r) l) m ⊎ LaneBegins m (lane_from (unit_at cut r) l)

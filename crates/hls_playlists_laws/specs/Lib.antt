@@ -10,3 +10,8 @@ pub mod LiveLaws
 pub mod Origins
 pub mod Handovers
 pub mod JoinedLists
+pub mod BasedLists
+pub mod PathLists
+pub mod NamedUnits
+pub mod CutBases
+pub mod PathLaws

@@ -3,6 +3,7 @@ use Rattle.std.specs.Prelude.{◌≡◌, ℕ, ◌+◌, ◌⊎◌, true, List, []
 use Rattle.hls_media_laws.specs.declared.facts.Facts.{Facts}
 use Rattle.hls_m3u8.specs.declared.playlist.MediaSegment.{MediaSegment}
 use Rattle.hls_m3u8.specs.Playlist.{Playlist}
+use Rattle.hls_core_laws.specs.Config.{without_base}
 use Rattle.hls_core_laws.specs.Channel.{Lane}
 use Rattle.hls_core_laws.specs.State.{State, channel}
 
@@ -14,10 +15,10 @@ pub record LaneBegins (l m : Lane) : Type 0 where
   pub facts : m.facts ≡ l.facts ++ more
   pub over : l.finished ≡ true → (m.finished ≡ true) × (more ≡ [])
 
--- states of one configuration. In each rendition the units of one are a prefix of the other's. It doesn't matter in which order units
+-- states of one configuration, but for what precedes. In each rendition the units of one are a prefix of the other's. It doesn't matter in which order units
 -- of different renditions came, what has slid out or was trimmed, or who sent them
 pub record IngestSameUnits (a b : State) : Type 0 where
-  pub config : b.config ≡ a.config
+  pub config : without_base b.config ≡ without_base a.config
   pub each : (r : ℕ) (l m : Lane) → slice_get (channel a).lanes r ≡ Some l → slice_get (channel b).lanes r ≡ Some m → LaneBegins l m ⊎ LaneBegins m l
 
 -- playlists between which a player may switch at any reload (RFC 8216 section 6.2.2)

@@ -6,6 +6,7 @@
 #![tactic(auto)]
 
 mod live;
+pub mod path_laws;
 mod segments;
 
 pub use live::{

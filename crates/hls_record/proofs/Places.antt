@@ -1,10 +1,12 @@
 -- The kept unit that contains a byte of the resource.
-use Rattle.std.proofs.Common.{◌≡◌, ℕ, ◌+◌, ◌-◌, ◌<◌, ◌≤◌, List, length, map, take, drop, Some, None, inl, inr, refl, sym, ◌∙◌, subst, arith}
+use Rattle.std.proofs.Common.{◌≡◌, ◌≢◌, ℕ, ◌+◌, ◌-◌, ◌<◌, ◌≤◌, List, length, map, take, drop, Some, None, inl, inr, refl, sym, ap, ◌∙◌, subst, arith}
 use Rattle.std.specs.Prelude.{slice_get}
 use Rattle.std.specs.List.{concat}
 use Rattle.std.proofs.lemmas.Bool.{cases_lt, le-ltb}
 use Rattle.std.proofs.lemmas.List.{length-map, take_all}
 use Rattle.std.proofs.lemmas.Option.{slice_get_within}
+use Rattle.std.proofs.lemmas.List.Sums.{sum_by-append}
+use Rattle.std.proofs.Math.Seq.{take-add}
 use Rattle.hls_record.proofs.Cited.{units_are_bounded, some_at}
 use Rattle.hls_blocks.specs.Numbered.{Numbered, item_at}
 use Rattle.hls_record.specs.declared.recorded_unit.SearchKey.TheVariants as keys
@@ -98,3 +100,35 @@ unit_there i n kept low high none =
     let there = some_at i.units.items (n - i.units.first) (omega (arith, valid.kept)) in
     let missing : None ≡ slice_get i.units.items (n - i.units.first) = none ∙ item_kept i.units n low in
     let wrong : None ≡ Some there.0 = missing ∙ there.1 in cc
+
+-- offsets rise with the number of the unit
+offsets_rise : (r : RecordingData) (n d : ℕ) → offset_at r n ≤ offset_at r (n + d)
+offsets_rise r n d =
+    rw (take-add n d r.facts, sum_by-append (λ g. g.len) (take n r.facts) (take d (drop n r.facts))) (omega arith)
+
+-- if the first unit whose offset is at least `at` doesn't begin there, no unit does
+pub none_begins : (i : Inside) (at first : ℕ) → IsSoundRecording i → IsFirst keys.Offset i.items.items 0 at first → offset_at (model_of i) first ≢ at →
+    (n : ℕ) → n ≤ length (model_of i).facts → offset_at (model_of i) n ≢ at
+none_begins i at first kept found other n within is =
+    let count : length (map (λ x. x.facts) i.items.items) ≡ length i.items.items = length-map i.items.items (λ x. x.facts) in
+    elim (cases_lt n first) [
+      | inl early ↦
+          (let here = some_at i.items.items n (omega (arith, found.high)) in
+          omega (arith, found.before n here.0 (omega arith) early here.1, kept.offsets n here.0 here.1, is))
+      | inr late ↦
+          (let rises = offsets_rise (model_of i) first (n - first) in
+          let there : first + (n - first) ≡ n = omega arith in
+          let upto : offset_at (model_of i) (first + (n - first)) ≡ offset_at (model_of i) n = ap (offset_at (model_of i)) there in
+          let low : at ≤ offset_at (model_of i) first = elim (cases_lt first (length i.items.items)) [
+            | inl h ↦
+                (let here = some_at i.items.items first h in
+                omega (arith, found.after first here.0 (omega arith) here.1, kept.offsets first here.0 here.1))
+            | inr past ↦
+                omega (arith, offset_past (model_of i) first (omega arith), offset_past (model_of i) n (omega arith), is)
+          ] in
+          let same : offset_at (model_of i) first ≡ at = omega (arith, rises, upto, low, is) in
+          other same)
+    ]
+
+pub within_first : (i : Inside) (at first : ℕ) → IsFirst keys.Offset i.items.items 0 at first → first ≤ length (model_of i).facts
+within_first i at first found = omega (arith, found.high, length-map i.items.items (λ x. x.facts))

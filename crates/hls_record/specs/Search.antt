@@ -1,6 +1,6 @@
 -- For the proofs of this crate; public clauses cite Stands alone.
 -- The results of searches among the units of a recording.
-use Rattle.std.specs.Prelude.{◌≡◌, ℕ, ◌+◌, ◌<◌, ◌≤◌, ◌==◌, Bool, false, List, length, Option, Some, None, slice_get}
+use Rattle.std.specs.Prelude.{◌≡◌, ◌≢◌, ℕ, ◌+◌, ◌<◌, ◌≤◌, ◌==◌, Bool, false, List, length, Option, Some, None, slice_get}
 use Rattle.hls_record.specs.declared.recorded_unit.RecordedUnit.{RecordedUnit}
 use Rattle.hls_record.specs.declared.recorded_unit.SearchKey.{SearchKey}
 use Rattle.hls_record.specs.RecordingData.{RecordingData, offset_at}
@@ -32,3 +32,8 @@ pub record IsInUnit (r : RecordingData) (at n : ℕ) : Type 0 where
   pub high : n < length r.facts
   pub from : offset_at r n ≤ at
   pub until : at < offset_at r (n + 1)
+
+-- unit n begins at byte `at` of the resource, or it is its end; with none, no unit begins there, nor is it the end
+abbrev pub BeginsAt : RecordingData → ℕ → Option ℕ → Type 0
+BeginsAt r at (Some n) = (n ≤ length r.facts) × (offset_at r n ≡ at)
+BeginsAt r at None = (n : ℕ) → n ≤ length r.facts → offset_at r n ≢ at

@@ -1,5 +1,6 @@
 -- The sample channels.
 use Rattle.std.specs.Prelude.{◌≡◌, ℕ, ℤ, Bool, true, List, Option, map}
+use Rattle.hls_core_laws.specs.Base.{no_base}
 use Rattle.hls_core_laws.specs.declared.event.Event.{Event}
 use Rattle.hls_core_laws.specs.declared.event.Event.TheVariants.{Begin, Accept, Finish, Slide, Trim}
 use Rattle.hls_core_laws.specs.declared.rendition.Rendition.{Rendition}
@@ -11,7 +12,7 @@ abbrev pub rendition_of : List ℕ → Bool → ℕ → Rendition
 rendition_of name video tolerance = record { name = name; video = video; bandwidth = 3000000; tolerance = tolerance }
 
 abbrev pub config_of : List Rendition → Option ℤ → ConfigData
-config_of renditions epoch = record { target = 6; preferred = 4000000; renditions = renditions; epoch = epoch }
+config_of renditions epoch = record { target = 6; preferred = 4000000; renditions = renditions; epoch = epoch; base = no_base }
 
 -- an init section of a rendition with these bytes
 abbrev pub IsBeginEvent : ℕ → List ℕ → Event → Type 0

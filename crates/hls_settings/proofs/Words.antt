@@ -26,27 +26,28 @@ unfolding serve_app options_app channel_app timing_app
 serve_is_simple_and_free = refl
 
 -- what the getters return, by the rows
-abbrev texts_from : Option Text → Option Text → Option Text → Option Text → Option Text → Option Text → Option Text → Option Text → Option Text → Option Text → Option Text → Option (List Text) → Texts
-texts_from a b c d e f g h i j k l = record { target = a; preferred = b; window = c; keep = d; epoch = e; workers = f; connections = g; planners = h; idle_timeout_s = i; log = j; address = k; renditions = l }
+abbrev texts_from : Option Text → Option Text → Option Text → Option Text → Option Text → Option Text → Option Text → Option Text → Option Text → Option Text → Option Text → Option Text → Option (List Text) → Texts
+texts_from a b c d e f g h i j m k l = record { target = a; preferred = b; window = c; keep = d; epoch = e; workers = f; connections = g; planners = h; idle_timeout_s = i; log = j; run = m; address = k; renditions = l }
 
-same_texts : (a a' b b' c c' d d' e e' f f' g g' h h' i i' j j' k k' : Option Text) (l l' : Option (List Text)) → a ≡ a' → b ≡ b' → c ≡ c' → d ≡ d' → e ≡ e' → f ≡ f' → g ≡ g' → h ≡ h' → i ≡ i' → j ≡ j' → k ≡ k' → l ≡ l'
-    → texts_from a b c d e f g h i j k l ≡ texts_from a' b' c' d' e' f' g' h' i' j' k' l'
-same_texts a a' b b' c c' d d' e e' f f' g g' h h' i i' j j' k k' l l' pa pb pc pd pe pf pg ph pi pj pk pl =
-    ap (λ (x : Option Text). texts_from x b c d e f g h i j k l) pa ∙
-    ap (λ (x : Option Text). texts_from a' x c d e f g h i j k l) pb ∙
-    ap (λ (x : Option Text). texts_from a' b' x d e f g h i j k l) pc ∙
-    ap (λ (x : Option Text). texts_from a' b' c' x e f g h i j k l) pd ∙
-    ap (λ (x : Option Text). texts_from a' b' c' d' x f g h i j k l) pe ∙
-    ap (λ (x : Option Text). texts_from a' b' c' d' e' x g h i j k l) pf ∙
-    ap (λ (x : Option Text). texts_from a' b' c' d' e' f' x h i j k l) pg ∙
-    ap (λ (x : Option Text). texts_from a' b' c' d' e' f' g' x i j k l) ph ∙
-    ap (λ (x : Option Text). texts_from a' b' c' d' e' f' g' h' x j k l) pi ∙
-    ap (λ (x : Option Text). texts_from a' b' c' d' e' f' g' h' i' x k l) pj ∙
-    ap (λ (x : Option Text). texts_from a' b' c' d' e' f' g' h' i' j' x l) pk ∙
-    ap (λ (x : Option (List Text)). texts_from a' b' c' d' e' f' g' h' i' j' k' x) pl
+same_texts : (a a' b b' c c' d d' e e' f f' g g' h h' i i' j j' m m' k k' : Option Text) (l l' : Option (List Text)) → a ≡ a' → b ≡ b' → c ≡ c' → d ≡ d' → e ≡ e' → f ≡ f' → g ≡ g' → h ≡ h' → i ≡ i' → j ≡ j' → m ≡ m' → k ≡ k' → l ≡ l'
+    → texts_from a b c d e f g h i j m k l ≡ texts_from a' b' c' d' e' f' g' h' i' j' m' k' l'
+same_texts a a' b b' c c' d d' e e' f f' g g' h h' i i' j j' m m' k k' l l' pa pb pc pd pe pf pg ph pi pj pm pk pl =
+    ap (λ (x : Option Text). texts_from x b c d e f g h i j m k l) pa ∙
+    ap (λ (x : Option Text). texts_from a' x c d e f g h i j m k l) pb ∙
+    ap (λ (x : Option Text). texts_from a' b' x d e f g h i j m k l) pc ∙
+    ap (λ (x : Option Text). texts_from a' b' c' x e f g h i j m k l) pd ∙
+    ap (λ (x : Option Text). texts_from a' b' c' d' x f g h i j m k l) pe ∙
+    ap (λ (x : Option Text). texts_from a' b' c' d' e' x g h i j m k l) pf ∙
+    ap (λ (x : Option Text). texts_from a' b' c' d' e' f' x h i j m k l) pg ∙
+    ap (λ (x : Option Text). texts_from a' b' c' d' e' f' g' x i j m k l) ph ∙
+    ap (λ (x : Option Text). texts_from a' b' c' d' e' f' g' h' x j m k l) pi ∙
+    ap (λ (x : Option Text). texts_from a' b' c' d' e' f' g' h' i' x m k l) pj ∙
+    ap (λ (x : Option Text). texts_from a' b' c' d' e' f' g' h' i' j' x k l) pm ∙
+    ap (λ (x : Option Text). texts_from a' b' c' d' e' f' g' h' i' j' m' x l) pk ∙
+    ap (λ (x : Option (List Text)). texts_from a' b' c' d' e' f' g' h' i' j' m' k' x) pl
 
 texts-rows : (found : Found) → texts_in found ≡ texts_of (rows_of found)
-texts-rows found = same_texts _ _ _ _ _ _ _ _ _ _ _ _ _ _ _ _ _ _ _ _ _ _ _ _
+texts-rows found = same_texts _ _ _ _ _ _ _ _ _ _ _ _ _ _ _ _ _ _ _ _ _ _ _ _ _ _
     (first_value-rows found (codes "target"))
     (first_value-rows found (codes "preferred"))
     (first_value-rows found (codes "window"))
@@ -57,6 +58,7 @@ texts-rows found = same_texts _ _ _ _ _ _ _ _ _ _ _ _ _ _ _ _ _ _ _ _ _ _ _ _
     (first_value-rows found (codes "planners"))
     (first_value-rows found (codes "patience"))
     (first_value-rows found (codes "log"))
+    (first_value-rows found (codes "run"))
     (first_value-rows found (codes "address"))
     (raw_values-rows found (codes "renditions"))
 

@@ -30,7 +30,7 @@ unfoldable pub channel_app : App
 channel_app = with_rule timing_app (value_rule (codes "epoch"))
 
 unfoldable pub options_app : App
-options_app = with_rule (with_rule (with_rule (with_rule (with_rule channel_app (value_rule (codes "workers"))) (value_rule (codes "connections"))) (value_rule (codes "planners"))) (value_rule (codes "patience"))) (value_rule (codes "log"))
+options_app = with_rule (with_rule (with_rule (with_rule (with_rule (with_rule (with_rule channel_app (value_rule (codes "workers"))) (value_rule (codes "connections"))) (value_rule (codes "planners"))) (value_rule (codes "patience"))) (value_rule (codes "log"))) (value_rule (codes "run"))) (value_rule (codes "base"))
 
 unfoldable pub serve_app : App
 serve_app = with_rule (with_rule options_app (new_rule (codes "address"))) (words_rule (codes "renditions"))
@@ -48,6 +48,7 @@ texts_in found = record {
   planners = first_value found (codes "planners");
   idle_timeout_s = first_value found (codes "patience");
   log = first_value found (codes "log");
+  run = first_value found (codes "run");
   address = first_value found (codes "address");
   renditions = option_map raw_values (matched_of found (codes "renditions"));
 }
@@ -74,6 +75,7 @@ texts_of rows = record {
   planners = first_of (codes "planners") rows;
   idle_timeout_s = first_of (codes "patience") rows;
   log = first_of (codes "log") rows;
+  run = first_of (codes "run") rows;
   address = first_of (codes "address") rows;
   renditions = all_of (codes "renditions") rows;
 }

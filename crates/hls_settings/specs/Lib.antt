@@ -1,6 +1,7 @@
 pub mod Numbers
 pub mod Renditions
 pub mod Addresses
+pub mod BaseArguments
 pub mod ParsedArgs
 pub mod Settings
 pub mod WrongArguments

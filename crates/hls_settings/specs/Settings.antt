@@ -5,6 +5,7 @@ use Rattle.std.specs.Borrow.{Bor}
 use Rattle.std.specs.Str.{bytes_eq}
 use Rattle.clap.specs.Words.{Text}
 use Rattle.hls_instants.specs.Instants.{instant_of}
+use Rattle.hls_core_laws.specs.Base.{run_field}
 use Rattle.hls_core_laws.specs.Config.{last_epoch}
 use Rattle.hls_settings.specs.declared.listen_address.ListenAddress.{ListenAddress}
 use Rattle.hls_settings.specs.declared.fault.SettingsFault.{SettingsFault}
@@ -97,6 +98,7 @@ pub record Texts : Type 0 where
   pub planners : Option Text
   pub idle_timeout_s : Option Text
   pub log : Option Text
+  pub run : Option Text
   pub address : Option Text
   pub renditions : Option (List Text)
 
@@ -109,22 +111,31 @@ abbrev pub address_in : Option Text → Option ListenAddress
 address_in None = None
 address_in (Some text) = address_of text
 
-abbrev pub server_with : WindowSettings → Option ℤ → ThreadSettings → Bool → Option ListenAddress → Result ServerSettings SettingsFault
-server_with timing epoch workers logs None = Err faults.Address
-server_with timing epoch workers logs (Some address) =
-    Ok (record { timing = timing; epoch = epoch; workers = workers; logs_requests = logs; address = address })
+-- the run, if there is one
+abbrev pub run_of : Option Text → Option (Option (List ℕ))
+run_of None = Some None
+run_of (Some text) = option_map (λ field. Some field) (run_field text)
 
-abbrev pub server_after : WindowSettings → Option ℤ → ThreadSettings → Option Bool → Option Text → Result ServerSettings SettingsFault
-server_after timing epoch workers None address = Err faults.Log
-server_after timing epoch workers (Some logs) address = server_with timing epoch workers logs (address_in address)
+abbrev pub server_with : WindowSettings → Option ℤ → ThreadSettings → Bool → Option (List ℕ) → Option ListenAddress → Result ServerSettings SettingsFault
+server_with timing epoch workers logs run None = Err faults.Address
+server_with timing epoch workers logs run (Some address) =
+    Ok (record { timing = timing; epoch = epoch; workers = workers; logs_requests = logs; run = run; address = address })
 
-abbrev pub server_by : WindowSettings → Option ℤ → Result ThreadSettings SettingsFault → Option Text → Option Text → Result ServerSettings SettingsFault
-server_by timing epoch (Err fault) log address = Err fault
-server_by timing epoch (Ok workers) log address = server_after timing epoch workers (log_of log) address
+abbrev pub server_named : WindowSettings → Option ℤ → ThreadSettings → Bool → Option (Option (List ℕ)) → Option Text → Result ServerSettings SettingsFault
+server_named timing epoch workers logs None address = Err faults.Run
+server_named timing epoch workers logs (Some run) address = server_with timing epoch workers logs run (address_in address)
+
+abbrev pub server_after : WindowSettings → Option ℤ → ThreadSettings → Option Bool → Texts → Result ServerSettings SettingsFault
+server_after timing epoch workers None t = Err faults.Log
+server_after timing epoch workers (Some logs) t = server_named timing epoch workers logs (run_of t.run) t.address
+
+abbrev pub server_by : WindowSettings → Option ℤ → Result ThreadSettings SettingsFault → Texts → Result ServerSettings SettingsFault
+server_by timing epoch (Err fault) t = Err fault
+server_by timing epoch (Ok workers) t = server_after timing epoch workers (log_of t.log) t
 
 abbrev pub server_from : WindowSettings → Option (Option ℤ) → Texts → Result ServerSettings SettingsFault
 server_from timing None t = Err faults.Epoch
-server_from timing (Some epoch) t = server_by timing epoch (workers_of t.workers t.connections t.planners t.idle_timeout_s) t.log t.address
+server_from timing (Some epoch) t = server_by timing epoch (workers_of t.workers t.connections t.planners t.idle_timeout_s) t
 
 abbrev pub server_in : Result WindowSettings SettingsFault → Texts → Result ServerSettings SettingsFault
 server_in (Err fault) t = Err fault

@@ -8,7 +8,7 @@ use clap::{Arg, ArgAction, Command};
 use std::alloc::{AllocError, Global};
 
 /// The options by their long names, and whether each takes a value.
-pub const OPTIONS: [(&str, bool); 10] = [
+pub const OPTIONS: [(&str, bool); 12] = [
     ("target", true),
     ("preferred", true),
     ("window", true),
@@ -19,6 +19,8 @@ pub const OPTIONS: [(&str, bool); 10] = [
     ("planners", true),
     ("patience", true),
     ("log", true),
+    ("run", true),
+    ("base", true),
 ];
 
 /// Builds an option by its long name, with or without a value.

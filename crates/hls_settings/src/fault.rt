@@ -28,6 +28,8 @@ pub enum SettingsFault {
     Patience,
     /// `--log` isn't `requests`.
     Log,
+    /// `--run` isn't 1 to 16 letters and digits.
+    Run,
     /// The address isn't `a.b.c.d:port` in decimal.
     Address,
     /// The index of the first rendition that isn't `name:kind:bandwidth:tolerance`, is outside its limits, or has the name of an

@@ -1,6 +1,7 @@
 //! Parses the arguments of `serve` and `cut`, and reports the first invalid one with its valid range.
 #![tactic(auto)]
 
+mod base_argument;
 mod command;
 mod cut_options;
 mod cut_options_fault;
@@ -17,6 +18,7 @@ mod thread_settings;
 mod window_settings;
 mod wrong_argument;
 
+pub use base_argument::find_base_argument;
 pub use cut_options::{CutOptions, read_options};
 pub use cut_options_fault::CutOptionsFault;
 pub use fault::SettingsFault;

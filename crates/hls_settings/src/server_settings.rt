@@ -2,7 +2,7 @@
 ghost use Rattle.std.specs.Prelude.{◌≡◌, IfOk, Some};
 ghost use Rattle.hls_core_laws.specs.Config.{IsEpoch, IsTarget, IsPreferred};
 ghost use Rattle.clap.specs.Words.{found_of};
-ghost use Rattle.hls_settings.specs.Settings.{address_in, log_of, server_from, server_settings_of, text_of};
+ghost use Rattle.hls_settings.specs.Settings.{address_in, log_of, run_of, server_from, server_settings_of, text_of};
 ghost use Rattle.hls_settings.specs.Command.{texts_in, timing_found, workers_found};
 
 use crate::epoch::read_epoch;
@@ -11,6 +11,7 @@ use crate::listen_address::{ListenAddress, read_address};
 use crate::thread_settings::{ThreadSettings, read_thread_settings};
 use crate::window_settings::{WindowSettings, read_window_settings};
 use clap::ArgMatches;
+use hls_core::base::Base;
 
 /// The settings except the channel's renditions.
 #[derive(Clone, Copy, Drop)]
@@ -21,6 +22,8 @@ pub struct ServerSettings {
     pub workers: ThreadSettings,
     /// Whether each request is logged.
     pub logs_requests: bool,
+    /// The name of the channel's run, filled up with zero bytes, if it is given.
+    pub run: Option<[u8; 16]>,
     pub address: ListenAddress,
 }
 
@@ -32,6 +35,16 @@ fn read_log(text: Option<&str>) -> Option<bool>
         return Some(false);
     };
     if text == "requests" { Some(true) } else { None }
+}
+
+/// Returns the run, if there is one; `None` if the text isn't the name of a run.
+fn read_run(text: Option<&str>) -> Option<Option<[u8; 16]>>
+    ensures { result ≡ run_of (text_of text.entry) }
+{
+    match text {
+        None => Some(None),
+        Some(text) => Some(Some(Base::parse_run(text.as_bytes())?)),
+    }
 }
 
 fn read_listen_address(text: Option<&str>) -> Option<ListenAddress>
@@ -78,6 +91,9 @@ fn build_server_settings(
     let Some(logs_requests) = read_log(matches.get_str("log")) else {
         return Err(SettingsFault::Log);
     };
+    let Some(run) = read_run(matches.get_str("run")) else {
+        return Err(SettingsFault::Run);
+    };
     let Some(address) = read_listen_address(matches.get_str("address")) else {
         return Err(SettingsFault::Address);
     };
@@ -86,6 +102,7 @@ fn build_server_settings(
         epoch,
         workers,
         logs_requests,
+        run,
         address,
     })
 }

@@ -97,6 +97,7 @@ impl<'a, S: AsStr> Display for SettingsMessage<'a, SettingsFault, S> {
             SettingsFault::Planners => "--planners takes 1 to 16",
             SettingsFault::Patience => "--patience takes 1 to 3600 whole seconds",
             SettingsFault::Log => "--log takes the word requests",
+            SettingsFault::Run => "--run takes 1 to 16 letters and digits",
             SettingsFault::Address => {
                 "give an address a.b.c.d:port before the renditions, as in 127.0.0.1:8080, without leading zeros"
             }

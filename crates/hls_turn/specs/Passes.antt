@@ -1,6 +1,7 @@
 -- A pass as its callers see it: its turn, its number, the state that it saw last, and the events that it submitted.
 use Rattle.std.specs.Prelude.{◌≡◌, ℕ, [], Some, None, length, unwrap_or}
 use Rattle.atomic_table.specs.Seated.{TableId}
+use Rattle.hls_core_laws.specs.Base.{no_base}
 use Rattle.hls_core_laws.specs.State.{State}
 use Rattle.hls_core_laws.specs.IsState.{IsState}
 use Rattle.hls_core_laws.specs.PassView.{PassView}
@@ -13,7 +14,7 @@ pub record PassData : Type 0 where
 
 -- a state of no channel, for a pass that has seen none: between calls each has seen one
 abbrev pub no_state : State
-no_state = record { config = record { target = 0; preferred = 0; renditions = []; epoch = None }; log = []; bytes = [] }
+no_state = record { config = record { target = 0; preferred = 0; renditions = []; epoch = None; base = no_base }; log = []; bytes = [] }
 
 abbrev pub seen_by : View → State
 seen_by v = unwrap_or v.seen no_state

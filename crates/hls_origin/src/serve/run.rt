@@ -2,9 +2,12 @@
 ghost use Rattle.std.specs.Prelude.{map};
 ghost use Rattle.hls_origin.specs.ServeRun.{EndsServe};
 
+use crate::serve::generate_run::generate_run;
+use crate::serve::load_base::{BaseFileFault, load_base};
+use hls_core::base::Base;
 use hls_housekeeper::{OperatorLog, log_listening};
 use hls_server::{log_start, run_server};
-use hls_settings::{ListenAddress, SettingsFault, read_settings};
+use hls_settings::{ListenAddress, Settings, SettingsFault, find_base_argument, read_settings};
 use std::alloc::Global;
 use std::convert::AsStr;
 use std::io::Eprint;
@@ -21,6 +24,8 @@ pub enum ServeEnd {
     Done,
     /// An argument is invalid, and nothing was started: status 2.
     Usage(SettingsFault),
+    /// The base can't be taken, and nothing was started: status 2.
+    Base(BaseFileFault),
     /// Listening on the address failed: status 1.
     BindFailed,
     /// Out of memory: status 1.
@@ -30,6 +35,41 @@ pub enum ServeEnd {
 fn socket_address(address: ListenAddress) -> SocketAddrV4 {
     let ip = Ipv4Addr::new(address.a, address.b, address.c, address.d);
     SocketAddrV4::new(ip, address.port)
+}
+
+/// Returns the base of a new channel, with the run that is given or a generated one.
+fn new_base<R: Files + Clock>(rt: &R, run: Option<[u8; 16]>) -> Base {
+    let run = match run {
+        Some(run) => run,
+        None => generate_run(rt),
+    };
+    Base::of_run(run).unwrap_or(Base::none())
+}
+
+/// Returns the base in a file. A run that is given must be the base's.
+fn given_base<R: Files>(rt: &R, path: &str, settings: &Settings) -> Result<Base, BaseFileFault> {
+    let base = load_base(rt, path, settings.config.renditions())?;
+    match settings.server.run {
+        Some(run) if run != base.run() => Err(BaseFileFault::OtherRun),
+        _ => Ok(base),
+    }
+}
+
+/// Returns the settings with the base that the arguments name, or with that of a new channel.
+fn with_base<R: Files + Clock>(
+    rt: &R,
+    settings: Settings,
+    path: Option<&str>,
+) -> Result<Settings, BaseFileFault> {
+    let base = match path {
+        Some(path) => given_base(rt, path, &settings)?,
+        None => new_base(rt, settings.server.run),
+    };
+    let Settings { server, config } = settings;
+    Ok(Settings {
+        server,
+        config: config.with_base(base),
+    })
 }
 
 /// Reads the arguments, listens, and serves. Logs to standard error where it listens, and the result of each encoder's body.
@@ -49,6 +89,10 @@ where
         Ok(settings) => settings,
         Err(SettingsFault::Memory) => return ServeEnd::Memory,
         Err(fault) => return ServeEnd::Usage(fault),
+    };
+    let settings = match with_base(rt, settings, find_base_argument(arguments)) {
+        Ok(settings) => settings,
+        Err(fault) => return ServeEnd::Base(fault),
     };
     let Ok(listener) = TcpListener::bind(rt, socket_address(settings.server.address)) else {
         return ServeEnd::BindFailed;

@@ -2,7 +2,8 @@
 ghost use Rattle.std.specs.Prelude.{◌≡◌, ◌+◌, ◌<◌, ◌≤◌, length, Some};
 ghost use Rattle.std.specs.Option.{option_copied};
 ghost use Rattle.hls_record.specs.RecordingData.{offset_at, total_of, piece_at};
-ghost use Rattle.hls_record.specs.Search.{IsInUnit};
+ghost use Rattle.hls_record.specs.IsRecorded.{IsRecorded};
+ghost use Rattle.hls_record.specs.Search.{BeginsAt, IsInUnit};
 
 use super::Recording;
 use crate::recorded_unit::SearchKey;
@@ -36,6 +37,20 @@ impl Recording {
         ensures { IsInUnit self.now at result }
     {
         first_from(&self.items, SearchKey::Offset, self.units.first(), at + 1) - 1
+    }
+
+    /// The number of the unit that begins at byte `at` of the resource, trimmed or not; the number of units at the resource's end. None if
+    /// no unit begins there. Takes logarithmic time.
+    #[tactic(auto, using(crate::proofs::Places::none_begins, crate::proofs::Places::within_first))]
+    pub fn unit_starting_at(&self, at: u64) -> Option<u64>
+        ensures begins { BeginsAt self.now at result }
+        ensures valid { IsRecorded self.now }
+    {
+        let n = first_from(&self.items, SearchKey::Offset, 0, at);
+        if self.offset(n) == at {
+            return Some(n);
+        }
+        None
     }
 
     // The bytes from byte `at`, which is in the kept unit `n`, to the end of that unit.

@@ -18,7 +18,7 @@ pub loop-to-preserved : goal.loop-to-preserved
 loop-to-preserved c =
     let ones = ones_of c.loop-to.walk c.in-Some-next_place.to.now c.next_place-in-loop-to.new.walk
     c.in-Some-next_place.ensures c.loop-to.invariant.ones in
-    let made = c.segment_between.ensures ∙ ap (λ u. segment_between (job_layout c.args.epoch c.args.recording.now 0 u 0) c.loop-to.mark c.loop-to.from.now.spots c.in-Some-next_place.to.now.spots) c.in_ok-clone.ensures.cases in
+    let made = c.segment_between.ensures.value ∙ ap (λ u. segment_between (job_layout c.args.epoch c.args.recording.now 0 u 0) c.loop-to.mark c.loop-to.from.now.spots c.in-Some-next_place.to.now.spots) c.in_ok-clone.ensures.cases in
     record {
       one = ones.0;
       ones = ones.1;

@@ -1,5 +1,8 @@
-use Rattle.std.proofs.Common.{◌∙◌, Some, ap, rules}
+use Rattle.std.proofs.Common.{◌∙◌, Some, ap, rules, subst, sym}
+use Rattle.hls_api.specs.Acts.{ActsExtend, Knowledge}
+use Rattle.hls_api.specs.Exchanges.{params_of}
 use Rattle.hls_api.specs.Routes.{query_of}
+use Rattle.hls_connection.proofs.PlayerLaws.{responds_to_player}
 use Rattle.hls_connection.proofs.handlers.handle_route.Goals as goal
 
 pub returns-in-Finish-clause-answers : goal.returns-in-Finish-clause-answers
@@ -12,3 +15,11 @@ returns-in-CatchUp-clause-answers g c = λ count h context there.
 pub returns-in-Media-clause-answers : goal.returns-in-Media-clause-answers
 returns-in-Media-clause-answers g c = λ count h context there.
     let response = rw (c.requested_range.ensures count h context) at c.media_response.ensures in rw c.in-Media.is (search rules)
+
+pub returns-in_default-route : goal.returns-in_default-route
+returns-in_default-route g c = record {
+  act_steps = subst (λ (k : Knowledge). ActsExtend g.K.Keeper.other_actors (g.K.Keeper.known c.args.keeper.now) c.args.acts.now k c.look.new.acts)
+      (sym c.show_player.ensures.known) c.in_ok-state.ensures.act_steps;
+  answers = λ count h context there. responds_to_player (params_of count h) c.args.route c.args.acts.now c.look.new.acts c.in_ok-state.state.value
+      c.show_player.result c.in_ok-state.ensures.looks (c.show_player.ensures.answers count h context there);
+}

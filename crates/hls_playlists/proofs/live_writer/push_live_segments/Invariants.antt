@@ -7,9 +7,9 @@ use Rattle.hls_playlists.proofs.live_writer.push_live_segments.Given as goal
 -- with the remaining segments the text is complete
 abbrev pub invariant-loop-next : goal.invariant-loop-next
 invariant-loop-next l = record {
-  walk : drop l.next (segments_of (line l.snapshot)) ≡ l.walk;
-  has : HasSegments l.snapshot l.rendition l.next;
-  text : l.text.items ++ rest_of_live_list l.snapshot l.rendition l.next ≡ l.initial.text.items ++ rest_of_live_list l.snapshot l.rendition l.initial.next;
+  walk : drop l.next (segments_of (line l.served.snapshot.now)) ≡ l.walk;
+  has : HasSegments l.served.snapshot.now l.served.rendition l.next;
+  text : l.text.items ++ rest_of_live_list l.served.uris l.served.snapshot.now l.served.rendition l.next ≡ l.initial.text.items ++ rest_of_live_list l.served.uris l.served.snapshot.now l.served.rendition l.initial.next;
 }
 
 abbrev pub decreases-loop-next : goal.decreases-loop-next

@@ -14,5 +14,5 @@ loop-segment-preserved c =
       starts = All-tail IsSmall c.in-Some.segment.now c.next_segment.new.walk split;
       made = one_listed_more (job_layout c.args.epoch c.args.recording.now c.args.rendition c.args.uri.now 0) c.loop-segment.list.items c.push.new.self.items
           c.loop-segment.walk c.next_segment.new.walk c.in-Some.segment.now c.in_ok-make_media_segment.field-0 _ c.in-Some.ensures
-          c.in_ok-push.ensures.items c.in_ok-make_media_segment.ensures c.loop-segment.invariant.made;
+          c.in_ok-push.ensures.items c.in_ok-make_media_segment.ensures.value c.loop-segment.invariant.made;
     }

@@ -1,0 +1,4 @@
+mod Values
+mod LineSteps
+mod Bytes
+mod Written

@@ -1,0 +1,7 @@
+pub mod BitLaws
+pub mod BoxSearches
+pub mod DescriptorLaws
+pub mod DurationLaws
+pub mod LanguageLaws
+pub mod TextLaws
+pub mod TrackLaws

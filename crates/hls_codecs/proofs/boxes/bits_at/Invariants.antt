@@ -1,0 +1,9 @@
+use Rattle.std.proofs.Common.{◌≡◌, ◌+◌, ◌-◌, ◌*◌, ◌^◌, ◌<◌}
+use Rattle.hls_codecs.specs.Boxes.{bits_at}
+use Rattle.hls_codecs.proofs.boxes.bits_at.Given as goal
+
+abbrev pub invariant-loop-done : goal.invariant-loop-done
+invariant-loop-done l = record {
+  value : l.value * 2 ^ (l.count - l.done) + bits_at (l.count - l.done) (l.at + l.done) l.bytes ≡ bits_at l.count l.at l.bytes;
+  bound : l.value < 2 ^ l.done;
+}

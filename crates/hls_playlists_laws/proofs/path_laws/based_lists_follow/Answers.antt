@@ -1,0 +1,5 @@
+use Rattle.hls_playlists_laws.proofs.BasedLists.{based-lists-follow}
+use Rattle.hls_playlists_laws.proofs.path_laws.based_lists_follow.Goals as goal
+
+pub returns : goal.returns
+returns c = based-lists-follow

@@ -1,0 +1,5 @@
+use Rattle.hls_playlists_laws.proofs.HandedPaths.{named-there}
+use Rattle.hls_playlists_laws.proofs.path_laws.handed_over_paths_name_same_units.Goals as goal
+
+pub returns : goal.returns
+returns c = named-there

@@ -1,0 +1,5 @@
+use Rattle.hls_playlists_laws.proofs.HandedPaths.{same-bytes-there}
+use Rattle.hls_playlists_laws.proofs.path_laws.handed_over_units_have_same_bytes.Goals as goal
+
+pub returns : goal.returns
+returns c = same-bytes-there

@@ -1,0 +1,5 @@
+use Rattle.hls_playlists_laws.proofs.BasedLists.{lists-without-base}
+use Rattle.hls_playlists_laws.proofs.path_laws.lists_without_base_are_own.Goals as goal
+
+pub returns : goal.returns
+returns c = lists-without-base
