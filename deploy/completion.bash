@@ -26,4 +26,4 @@ _hls_tool() {
             compgen -f -- "$word"
         )
     fi
-} && complete -o filenames -F _hls_tool hls_archive hls_catchupd hls_edge hls_follow hls_handover hls_ingest hls_master hls_memory hls_metrics hls_places hls_programme hls_reap hls_run
+} && complete -o filenames -F _hls_tool hls_archive hls_catchupd hls_edge hls_follow hls_handover hls_ingest hls_memory hls_metrics hls_places hls_programme hls_reap hls_run

@@ -272,7 +272,7 @@ async function showCertificate(job) {
 }
 
 // A job's row: its state, its programme where it is known, its files, and what can be done with it.
-function rowOf({ number, state, address }) {
+function rowOf({ number, state }) {
     const isCut = state.startsWith("cut ");
     const lists = channel.renditions.flatMap((rendition) => [`${rendition.number}.m3u8`, `${rendition.number}.mp4`]);
     const files = isCut ? ["master.m3u8", ...lists, "certificate.txt"] : state.startsWith("none") ? ["certificate.txt"] : [];
@@ -280,7 +280,7 @@ function rowOf({ number, state, address }) {
     const button = (text, act) => make("button", { type: "button", textContent: text, onclick: act, ariaLabel: `${text} job ${number}` });
     const doing = make("div", { className: "row" });
     if (isCut) {
-        const href = `watch.html?list=${encodeURIComponent(address)}`;
+        const href = `watch.html?list=${encodeURIComponent(`${channel.base}job/${number}/master.m3u8`)}`;
         doing.append(make("a", { href, target: "_blank", className: "button", textContent: "Play", ariaLabel: `Play job ${number}` }));
     }
     if (files.length > 0) doing.append(button("Certificate", () => showCertificate(number)));

@@ -273,8 +273,7 @@ export class Channel {
     async job(number) {
         const reply = await asked(`${this.base}job/${number}`);
         const state = (await reply.text()).trim();
-        const link = /<([^>]+)>;\s*rel="alternate"/.exec(reply.headers.get("Link") ?? "");
-        return reply.status === 200 ? { number, state, address: link?.[1] ?? `${this.base}job/${number}/master.m3u8` } : null;
+        return reply.status === 200 ? { number, state } : null;
     }
 
     async finished(number) {

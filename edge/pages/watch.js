@@ -1,6 +1,6 @@
 // The viewers' page: what is seen and done around the player (player.js), which plays a live channel or a recording; where there are
 // no Media Source Extensions (iPhone) the browser's own player does. For a site nothing is to be changed; ?list= names another list
-// of the same host, by default live/master.m3u8 beside the page.
+// of the same host, by default hls/master.m3u8 beside the page.
 "use strict";
 
 import { Player } from "./player.js";
@@ -191,7 +191,7 @@ async function start(url, from, bad = new Set()) {
 function main() {
     let url = "";
     try {
-        url = addressOf(new URLSearchParams(location.search).get("list") ?? "live/master.m3u8", location.href);
+        url = addressOf(new URLSearchParams(location.search).get("list") ?? "hls/master.m3u8", location.href);
     } catch (fault) {
         return say(fault.message);
     }

@@ -44,7 +44,7 @@ def broken_off(site):
         time.sleep(0.3)
         found = [edge.raw(path) for _ in range(2)]
         asked = wire.asked()
-        first, last = map(int, re.search(r"/([0-9]+)-([0-9]+)-", path).groups())
+        first, last = map(int, re.search(r"/([0-9]+)-([0-9]+)\.", path).groups())
         check(f"{name}, ten times: it is fetched once, and there", len(asked) == 1 and [one[0] for one in found] == [200] * 2 and found[1][1]["x-cache"] == "HIT" and
               found[0][2] == found[1][2] == whole[first:last + 1], (asked, [one[:2] for one in found]))
         return said
@@ -65,9 +65,9 @@ def lists(site):
 
     def stranger():
         while not over.is_set():
-            left(edge, "/live/1.m3u8", "half closed")
-            edge.raw("/live/1.m3u8", "If-Match:\r\n", here=STRANGER)
-            by_http2(edge, ["/live/1.m3u8"], True)
+            left(edge, "/hls/1.m3u8", "half closed")
+            edge.raw("/hls/1.m3u8", "If-Match:\r\n", here=STRANGER)
+            by_http2(edge, ["/hls/1.m3u8"], True)
     thread = threading.Thread(target=stranger)
     wire.asked()
     thread.start()
@@ -75,10 +75,10 @@ def lists(site):
     for _ in range(3):
         site.more(1)
         time.sleep(2.5)
-        seen.append(edge.raw("/live/1.m3u8")[2])
+        seen.append(edge.raw("/hls/1.m3u8")[2])
     over.set()
     thread.join()
-    asked = wire.asked().count("/live/1.m3u8")
+    asked = wire.asked().count("/hls/1.m3u8")
     check("a list that strangers alone have fetched anew goes on", len(set(seen)) == 3, seen)
     check("and is asked for once a second at most", 3 <= asked <= time.monotonic() - begun + 1, asked)
 

@@ -50,7 +50,7 @@ def request(target, more="", method="GET", last=False):
 def just_aired(edge, prefix=""):
     """A second of a channel that keeps twelve more; segments have two each."""
     time.sleep(2.2)
-    text = edge.ask("GET", f"{prefix}/live/0.m3u8")[2].decode()
+    text = edge.ask("GET", f"{prefix}/hls/0.m3u8")[2].decode()
     return 2 * (int(re.search(r"MEDIA-SEQUENCE:([0-9]+)", text)[1]) + text.count("#EXTINF")) - 16
 
 
@@ -88,18 +88,18 @@ def log_is_bounded(site):
     edge, here = site.edge, "127.9.70.1"
     metrics = tool("hls_metrics").Log(os.path.join(edge.folder, "hls_origin.log"))
     for agent in ("counted", "counted \xff", "counted " + "\xc3\xa4" * 150):
-        edge.raw("/live/0.m3u8", f"User-Agent: {agent}\r\n", here=here)
-    site.edge.raw("/live/0.m3u8", f"User-Agent: begin{chr(1) * 3800}\r\n", here=here)
+        edge.raw("/hls/0.m3u8", f"User-Agent: {agent}\r\n", here=here)
+    site.edge.raw("/hls/0.m3u8", f"User-Agent: begin{chr(1) * 3800}\r\n", here=here)
     edge.raw("/" + "a" * 3000 + ".html", "User-Agent: begin" + '"' * 3800 + "\r\n", here=here)
-    edge.raw("/live/1.m3u8", "User-Agent: begin\r\n", here=here, method="A" * 3000)
+    edge.raw("/hls/1.m3u8", "User-Agent: begin\r\n", here=here, method="A" * 3000)
     errors = sum(map(len, edge.errors()))
     asked = {}
-    for path in ("/", "/live/0.m3u8", "/nothing", "/sport/live/9999.m3u8"):
+    for path in ("/", "/hls/0.m3u8", "/nothing", "/sport/hls/9999.m3u8"):
         requests = [request(path, f"User-Agent: flood {path} {'x' * 900}\r\n") for _ in range(3000)]
         asked[path] = flood(edge, requests + [request("/watch.html", last=True)], f"127.9.71.{len(asked) + 1}")
     # heads of HTTP/2 that never become requests
-    for head in (head_frame(1, b"/live/0.m3u8", flags=1), head_frame(1, b"/live/\n0.m3u8"), head_frame(1, b"/live/0.m3u8", field(b"a", b"b\nc")),
-                 head_frame(1, b"/live/0.m3u8", method=b"GE\nT"), head_frame(1, b"/live/0.m3u8", field(b":authority", b"a\nb"))):
+    for head in (head_frame(1, b"/hls/0.m3u8", flags=1), head_frame(1, b"/hls/\n0.m3u8"), head_frame(1, b"/hls/0.m3u8", field(b"a", b"b\nc")),
+                 head_frame(1, b"/hls/0.m3u8", method=b"GE\nT"), head_frame(1, b"/hls/0.m3u8", field(b":authority", b"a\nb"))):
         two = Two(edge, here)
         two.line.sendall(head)
         time.sleep(0.3)
@@ -111,7 +111,7 @@ def log_is_bounded(site):
     for path, (statuses, seconds) in asked.items():
         of_flood = [json.loads(line) for line in lines if f'"agent":"flood {path} ' in line]
         written, stand = sum(len(line) for line in lines if f'"agent":"flood {path} ' in line), sum(line["requests"] for line in of_flood)
-        passed = statuses.count(200) + statuses.count(404) * (path == "/sport/live/9999.m3u8")
+        passed = statuses.count(200) + statuses.count(404) * (path == "/sport/hls/9999.m3u8")
         print(f"3000 requests of {path} in {seconds:.1f} s: {len(of_flood)} lines, {written} bytes, which stand for {stand}")
         check(f"3000 requests of {path} are so many lines as the limit let pass, and one in a hundred of the others", len(of_flood) <= passed + 75, (len(of_flood), passed))
         check("and it can be told how many they were", 1500 < stand < 4500, stand)
@@ -132,7 +132,7 @@ def refused_quietly(site):
             with socket.create_connection(("127.0.0.1", port), timeout=20, source_address=(f"127.9.81.{n % 9 + 1}", 0)) as s:
                 s.sendall(head.encode("latin-1"))
                 s.recv(100)
-    for method, path in (("GET", "/live/0.m3u8"), ("GET", "/nothing"), ("GET", "/watch?from=1&to=2"), ("POST", "/origin/1/catchup"), ("GET", "/operate.html")):
+    for method, path in (("GET", "/hls/0.m3u8"), ("GET", "/nothing"), ("GET", "/watch?from=1&to=2"), ("POST", "/origin/1/catchup"), ("GET", "/operate.html")):
         each(edge.open, request(path, long + "Content-Length: 9999999\r\n", method))
     each(edge.open, request("/origin/1/status", long, "PUT"))
     each(edge.open, request("/origin/1/status", long + authorized(("x" * 1000, "y"))))
@@ -314,37 +314,35 @@ def job_segments(site):
     """Segments of jobs are asked for by fewer requests a second than live ones: they have as many names as somebody makes jobs."""
     edge = site.edge
     job = site.job(1, "/sport", just_aired(edge, "/sport"))
-    paths = [f"{job}/{line}" for line in edge.raw(f"{job}/0.m3u8")[2].decode().split("\n") if line.startswith("0/")]
-    # however they are spelled
-    spelled = [form for path in paths for form in (path, "/" + path, "/x/.." + path, path + "?a")]
-    statuses, seconds = flood(edge, [request(path, "Range: bytes=0-9007199254740991\r\n", "HEAD") for path in (spelled * 20)[:300]] + [request("/watch.html", last=True)], "127.9.75.1")
-    passed = statuses[:-1].count(206)
-    check("300 segments of a job at once: a hundred, and twenty a second", 100 <= passed <= 102 + 20 * seconds and statuses.count(429) == 300 - passed, (passed, seconds, {one: statuses.count(one) for one in set(statuses)}))
     live = site.segments()[0]
+    made_up = [live[0].replace("-", f"-{n}") for n in range(1, 301)]
+    # however they are spelled
+    for kind, here, paths in (("of a job", "127.9.75.1", [f"{form}{job}/0.mp4" for form in ("", "/", "/x/..") for _ in range(100)]), ("that are made up", "127.9.75.3", made_up)):
+        statuses, seconds = flood(edge, [request(path, "Range: bytes=0-9007199254740991\r\n", "HEAD") for path in paths] + [request("/watch.html", last=True)], here)
+        passed = 300 - statuses[:-1].count(429)
+        check(f"300 segments {kind} at once: two hundred, and twenty a second", 200 <= passed <= 202 + 20 * seconds, (passed, seconds, {one: statuses.count(one) for one in set(statuses)}))
     statuses, _ = flood(edge, [request(path, method="HEAD") for path in (live * 100)[:300]] + [request("/watch.html", last=True)], "127.9.75.2")
     check("300 live segments", statuses.count(200) == 301, {one: statuses.count(one) for one in set(statuses)})
+    found = [edge.raw(live[-1], here="127.9.75.3")[0], edge.raw("/hls/0.m3u8", here="127.9.75.3")[0]]
+    check("whoever asks for what isn't there still has what is", found == [200, 200], found)
 
 
 def deleted(site, folder):
     """A job that an operator deletes: what the edge has of its lists, master and certificate goes when its life is over. That is shortened
     here to two seconds."""
-    with open(os.path.join(ROOT, "edge", "hls_origin.js"), encoding="utf-8") as file:
-        text = file.read()
-    short = re.sub(r"\(\) => 600\)", "() => 2)", text).replace("'/-/job_master', 600)", "'/-/job_master', 2)")
-    script = os.path.join(folder, "deleted", "hls_origin.js")
-    write(script, short)
     origin = site.origins[2]
-    edge = Edge(os.path.join(folder, "deleted"), f"sport / 127.0.0.1:{origin.port}\n", changes=[("/usr/share/hls_origin/edge/hls_origin.js", script), ("proxy_cache_valid 200 10m;", "proxy_cache_valid 200 2s;")])
+    os.makedirs(os.path.join(folder, "deleted"))
+    edge = Edge(os.path.join(folder, "deleted"), f"sport / 127.0.0.1:{origin.port}\n", changes=[("proxy_cache_valid 200 10s;", "proxy_cache_valid 200 2s;")])
+
+    def finished(location):
+        while edge.ask("GET", location, user=OPERATOR)[2].startswith((b"waiting", b"running")):
+            time.sleep(0.05)
+        return edge.edge("--job", "sport", "1", location.rpartition("/")[2]).stdout.strip()
     try:
-        check("the life of a job's lists is shortened", short.count("() => 2)") == 1 and short.count("'/-/job_master', 2)") == 1)
         begins = just_aired(edge)
         programme = f"/origin/1/catchup?from={begins}000000&to={begins + 8}000000"
         location = edge.ask("POST", programme, body=b"", user=OPERATOR)[1]["location"]
-        line = b"waiting"
-        while line.startswith((b"waiting", b"running")):
-            time.sleep(0.05)
-            _, fields, line = edge.ask("GET", location, user=OPERATOR)
-        job = fields["link"][1:].split("/master")[0]
+        job = finished(location).removesuffix("/master.m3u8")
         names = [f"{job}/{name}" for name in ("master.m3u8", "0.m3u8", "certificate.txt")]
         for _ in range(3):
             found = [edge.ask("GET", name)[0] for name in names]
@@ -357,9 +355,7 @@ def deleted(site, folder):
             check("and so are its files", found == [404] * 3, found)
         # if no origin is reached at all, what was cached is served
         again = edge.ask("POST", programme, body=b"", user=OPERATOR)[1]["location"]
-        while edge.ask("GET", again, user=OPERATOR)[2].startswith((b"waiting", b"running")):
-            time.sleep(0.05)
-        job = edge.ask("GET", again, user=OPERATOR)[1]["link"][1:].split(">")[0]
+        job = finished(again)
         check("another job", edge.ask("GET", job)[0] == 200)
         os.kill(origin.process.pid, 19)
         time.sleep(3.5)
@@ -416,7 +412,7 @@ def programmes(site, forms):
         status = edge.raw("/watch?from=1&to=2", more, here="127.9.77.2", method=method)[0]
         check(f"{method} /watch with {more[:23].strip()}", status in statuses, status)
     check("which came to the daemon thrice", len(daemon.asked) == 3, daemon.asked)
-    statuses, _ = flood(edge, [request("/watch?from=1&to=2")] * 60 + [request("/live/0.m3u8")] * 20 + [request("/watch.html", last=True)], "127.9.77.3")
+    statuses, _ = flood(edge, [request("/watch?from=1&to=2")] * 60 + [request("/hls/0.m3u8")] * 20 + [request("/watch.html", last=True)], "127.9.77.3")
     check("sixty programmes at once are too many, and keep no list away", 20 <= statuses[:60].count(302) <= 25 and statuses[:60].count(429) >= 35 and statuses[60:] == [200] * 21, statuses)
     daemon.server.shutdown()
     daemon.server.server_close()
@@ -428,7 +424,7 @@ def shares(_, folder):
     os.makedirs(folder)
     news = Watchers("news")
     channels, log = os.path.join(folder, "channels"), os.path.join(folder, "log")
-    write(channels, f"news http://127.0.0.1:{news.false.port}\n")
+    write(channels, f"news http://127.0.0.1:{news.false.port}/news/origin/1\n")
     write(log, "")
     daemon = Daemon(folder, None, channels=channels, log=log)
     try:
@@ -456,7 +452,7 @@ def popular(_, folder):
     os.makedirs(folder)
     news = Watchers("news")
     channels, log = os.path.join(folder, "channels"), os.path.join(folder, "log")
-    write(channels, f"news http://127.0.0.1:{news.false.port}\n")
+    write(channels, f"news http://127.0.0.1:{news.false.port}/news/origin/1\n")
     write(log, "")
     daemon = Daemon(folder, None, channels=channels, log=log)
 
@@ -477,7 +473,7 @@ def popular(_, folder):
     finally:
         daemon.stop()
     news = Watchers("news")
-    write(channels, f"news http://127.0.0.1:{news.false.port}\n")
+    write(channels, f"news http://127.0.0.1:{news.false.port}/news/origin/1\n")
     write(log, "")
     for name in os.listdir(daemon.state):
         os.remove(os.path.join(daemon.state, name))
@@ -512,8 +508,8 @@ def ages(_, folder):
         origin = Told()
 
         async def passes():
-            channel = catchupd.Channel("news", origin, types.SimpleNamespace(state=folder, unused=1e9, oldest=3600))
-            channel.programmes[("0", "1")] = catchupd.Programme(("0", "1"), 7, "192.0.2.1", "cut 0 version 1", "/job/1/1/7/token/master.m3u8")
+            channel = catchupd.Channel("news", origin, types.SimpleNamespace(state=folder, unused=1e9, oldest=3600, secret="s"))
+            channel.programmes[("0", "1")] = catchupd.Programme(("0", "1"), 7, "192.0.2.1", "cut 0 version 1", "/job/Run1/1/7/ttttttttttttttttttttt7/master.m3u8")
             for seconds, step in steps:
                 now["monotonic"] += seconds
                 now["time"] += seconds + step
@@ -527,11 +523,13 @@ def ages(_, folder):
 class Refusing:
     """In place of an origin that takes its time, and can cut the programme of the first second alone."""
 
+    prefix, number = "", "1"
+
     async def ask(self, method, path):
         await asyncio.sleep(0.02)
         if method == "POST":
             return (202, {}, "job 7 version 1") if "from=0&" in path else (400, {}, "refused NoCut")
-        return (200, {}, "jobs 0") if path == "/status" else (200, {"link": "</job/1/1/7/token/master.m3u8>"}, "cut 0 version 1")
+        return (200, {}, {"/status": "jobs 0", "/hls/run": "Run1"}.get(path, "cut 0 version 1"))
 
 
 def queue(_, folder):
@@ -540,7 +538,7 @@ def queue(_, folder):
     os.makedirs(folder)
 
     async def asked():
-        channel = catchupd.Channel("news", Refusing(), types.SimpleNamespace(state=folder, unused=600, oldest=3600, jobs=48, each=8))
+        channel = catchupd.Channel("news", Refusing(), types.SimpleNamespace(state=folder, unused=600, oldest=3600, jobs=48, each=8, secret="s"))
         strangers = [asyncio.create_task(channel.give((str(1000 + n), str(2000 + n)), f"192.0.2.{n % 64}")) for n in range(512)]
         await asyncio.sleep(0.1)
         begun = time.monotonic()
@@ -551,7 +549,7 @@ def queue(_, folder):
         await asyncio.gather(*strangers, return_exceptions=True)
         return path, took
     path, took = asyncio.run(asked())
-    check("a viewer's programme is made beside 512 of 64 strangers", path == "/job/1/1/7/token/master.m3u8" and took < 12, (path, took))
+    check("a viewer's programme is made beside 512 of 64 strangers", path.startswith("/job/Run1/1/7/") and took < 12, (path, took))
 
 
 def odd_states(_, folder):
@@ -560,9 +558,9 @@ def odd_states(_, folder):
     os.makedirs(folder)
     news = Watchers("news")
     channels, log = os.path.join(folder, "channels"), os.path.join(folder, "log")
-    write(channels, f"news http://127.0.0.1:{news.false.port}\n")
+    write(channels, f"news http://127.0.0.1:{news.false.port}/news/origin/1\n")
     write(log, "")
-    good = {"key": ["0", "1"], "job": 7, "who": "192.0.2.1", "line": "cut 0 version 1", "path": "/job/1/1/7/token/master.m3u8", "used": 1, "made": 1}
+    good = {"key": ["0", "1"], "job": 7, "who": "192.0.2.1", "line": "cut 0 version 1", "path": "/job/Run1/1/7/ttttttttttttttttttttt7/master.m3u8", "used": 1, "made": 1}
     odd = [json.dumps({"jobs": [{**good, **change}]}) for change in (
         {"used": "x"}, {"made": []}, {"job": 1e999}, {"job": "x"}, {"path": 5}, {"key": 5}, {"key": [[]]}, {"who": []}, {"line": {}}, {"used": -1e999, "made": float("nan")})]
     for n, text in enumerate([*odd, "[" * 200000, '{"jobs":5}', "5"]):
@@ -582,13 +580,13 @@ def authority(site, folder):
     write(channels, f"sport https://{OPERATOR[0]}:{OPERATOR[1].replace(' ', '%20')}@localhost:{site.edge.port}/sport/origin/1\n")
     write(log, "")
     for words, status in (((), 503), (("--ca", site.edge.certificate), 302)):
-        daemon = Daemon(folder, None, *words, channels=channels, log=log)
+        daemon = Daemon(folder, site.edge, *words, channels=channels, log=log)
         begins = just_aired(site.edge, "/sport")
         got = daemon.watch(begins * 1000000, (begins + 6) * 1000000, channel="sport")
         daemon.stop()
         check(f"hls_catchupd with {words[:1]}", got[0] == status, got)
     for path in ("/nowhere", log):
-        done = subprocess.run([os.path.join(ROOT, "deploy", "hls_catchupd"), "--channels", channels, "--state", folder, "--ca", path], capture_output=True, text=True, timeout=20)
+        done = subprocess.run([os.path.join(ROOT, "deploy", "hls_catchupd"), "--channels", channels, "--state", folder, "--secret", os.path.join(site.edge.files, "secret"), "--ca", path], capture_output=True, text=True, timeout=20)
         check(f"--ca {path}", done.returncode == 2 and "--ca" in done.stderr and "Traceback" not in done.stderr, (done.returncode, done.stderr))
 
 
@@ -602,9 +600,9 @@ def replies(site):
         got = edge.ask("GET", "/watch.js", {"Accept-Encoding": accept})
         check(f"a page's file says that it may be compressed, to who takes {accept}", got[1].get("vary") == "Accept-Encoding" and (got[1].get("content-encoding") == "gzip") == (accept == "gzip"), got[1])
     two = Two(edge, "127.9.78.1")
-    two.line.sendall(b"".join(head_frame(1 + 2 * n, b"/live/0.m3u8", field(b"user-agent", b"unread")) for n in range(100)))
+    two.line.sendall(b"".join(head_frame(1 + 2 * n, b"/hls/0.m3u8", field(b"user-agent", b"unread")) for n in range(100)))
     time.sleep(2)
-    check("others have their lists", edge.raw("/live/0.m3u8", here="127.9.78.2")[0] == 200)
+    check("others have their lists", edge.raw("/hls/0.m3u8", here="127.9.78.2")[0] == 200)
     two.close()
     time.sleep(5.6)
     found = [json.loads(line)["status"] for line in edge.lines("hls_origin.log") if '"agent":"unread"' in line]
@@ -624,7 +622,7 @@ def both_protocols(site):
     edge, port, path = site.edge, free_port(), os.path.join(site.edge.folder, "sites-enabled", "both")
     write(path, f"server {{ listen [::]:{port} ipv6only=off; server_name localhost; include snippets/hls_server.conf; location / {{ return 404; }} }}\n")
     check("nginx has a socket for both", edge.edge().returncode == 0)
-    requests = [request("/live/0.m3u8")] * 900 + [request("/watch.html", last=True)]
+    requests = [request("/hls/0.m3u8")] * 900 + [request("/watch.html", last=True)]
     greedy, other = flood(edge, requests, "127.9.82.1", port)[0], flood(edge, requests[-20:], "127.9.82.2", port)[0]
     check("a greedy address is refused, and another isn't", greedy.count(429) > 100 and other == [200] * 20, (greedy.count(429), other))
     os.remove(path)
@@ -645,7 +643,7 @@ def connected(here, count):
     for _ in range(count):
         try:
             s = socket.create_connection(("fd00:0:0:2::1" if ":" in here else "127.0.0.1", 443), timeout=0.5, source_address=(here, 0))
-            s.sendall(b"GET /live/0.m3u8 HTTP/1.1\r\nHost: ")
+            s.sendall(b"GET /hls/0.m3u8 HTTP/1.1\r\nHost: ")
             lines.append(s)
         except OSError:
             refused += 1

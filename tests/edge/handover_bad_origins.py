@@ -84,6 +84,8 @@ class Sham:
         text = lambda words: (200, {}, words.encode())
         if path == "/status":
             return text(f"version {len(self.units) * 2}\nplaces 1\nsegments 1\nremoved 0\njobs 0\n")
+        if path == "/hls/run":
+            return text(f"Run{self.name.rpartition(':')[2]}\n")
         if path == "/live/master.m3u8":
             return text("#EXTM3U\n#EXT-X-STREAM-INF:BANDWIDTH=1\n/live/0.m3u8\n")
         if path == "/live/0.m3u8":
@@ -269,27 +271,29 @@ def run_strangers(_program):
 def died_meanwhile():
     """A handover that was broken off while the old one drained; the new one has died since. The one that is ended isn't the one that lives."""
     with tempfile.TemporaryDirectory() as folder:
-        for name in ("words", "state", "edge/state", "edge/masters"):
+        for name in ("words", "state", "edge"):
             os.makedirs(os.path.join(folder, name))
         old, new = Sham(units(COUNT)), f"127.0.0.1:{free_port()}"
-        before = {"run": 1, "runs": {"1": {"origins": [old.name]}}}
-        files = {"edge/channels": f"news /news {old.name}\n", "words/news.conf": "", "words/news-b.conf": "",
-                 "edge/state/news.json": json.dumps({"run": 2, "runs": {**before["runs"], "2": {"origins": [new], "media_sequence": 4, "earlier": [{"run": 1, "until": 20, "shift": [100]}]}}}),
-                 "state/news.json": json.dumps({"old": old.name, "new": new, "old_instance": "news", "new_instance": "news-b", "step": "drain", "run": 1, "until": 20, "before": before}),
-                 "state/news.follow": json.dumps({"from": old.name, "to": new, "segments": 4, "marks": 0, "marked": False, "bytes": [100]}),
+        files = {"edge/channels": f"news /news {new}\n", "words/news.conf": "", "words/news-b.conf": "",
+                 "state/news.json": json.dumps({"old": old.name, "new": new, "old_instance": "news", "new_instance": "news-b", "step": "drain"}),
                  "nginx": "#!/bin/sh\nexit 0\n", "stop": f'#!/bin/sh\necho "$1" >> {folder}/stopped\n'}
         for name, text in files.items():
             with open(os.path.join(folder, name), "w", encoding="utf-8") as file:
                 file.write(text)
             os.chmod(file.name, 0o755)
+
+        def written(*_):
+            with open(os.path.join(folder, "edge/generated.conf"), encoding="utf-8") as file:
+                return 200, {}, re.findall("default ([0-9a-f]{32});", file.read())[-1].encode()
+        old.lies["/written"] = written
         done = subprocess.run([os.path.join(os.path.dirname(FOLLOW), "hls_handover"), "news", "--start", "true", "--stop", f"{folder}/stop I", "--turn", "true", "--words", f"{folder}/words",
                                "--state", f"{folder}/state", "--folder", f"{folder}/edge", "--nginx", f"{folder}/nginx", "--inner", old.name], capture_output=True, text=True)
         with open(os.path.join(folder, "stopped"), encoding="utf-8") as file:
             stopped = file.read().split()
-        with open(os.path.join(folder, "edge/state/news.json"), encoding="utf-8") as file:
-            state = json.load(file)
-        check("the one that lives has the channel, and isn't ended", done.returncode == 1 and stopped == ["news-b"] and state["runs"][str(state["run"])]["origins"] == [old.name],
-              (done.returncode, done.stderr, stopped, state))
+        with open(os.path.join(folder, "edge/channels"), encoding="utf-8") as file:
+            channels = file.read()
+        check("the one that lives has the channel, and isn't ended", done.returncode == 1 and stopped == ["news-b"] and channels == f"news /news {old.name}\n",
+              (done.returncode, done.stderr, stopped, channels))
 
 
 def refusals():
@@ -437,4 +441,4 @@ def addresses():
     status, said, *_ = follow(f"{'x' * 70}.example:80", a.name)
     check("a name that is none is 3", status == 3 and "Traceback" not in said, (status, said))
     status, said, *_ = follow(a.name, a.name)
-    check("an origin isn't filled from itself", status == 1 and "isn't empty" in said, said)
+    check("an origin isn't filled from itself", status == 2 and "from itself" in said, said)

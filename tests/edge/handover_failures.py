@@ -3,7 +3,6 @@
 Not a script: tests/edge/handover imports it, and passes its `Channel` and what else it has.
 """
 import contextlib
-import json
 import os
 import re
 import resource
@@ -15,8 +14,10 @@ from harness import ask, check
 from origins import wait_for
 
 # A start as systemd's, of a process that may be one that stands already
-START = ('. {words}/$1.conf; grep -q "^State:.[^Z]" "/proc/$(cat {folder}/$1.pid 2>/dev/null)/status" 2>/dev/null || {{ setsid {program} serve $OPTIONS $ADDRESS $RENDITIONS </dev/null >/dev/null 2>>{folder}/$1.log & '
-         'echo $! >{folder}/$1.pid; }}')
+# As hls_origin@.service: a base is used once, else the process begins a run of its own. One that runs stays.
+START = ('. {words}/$1.conf; grep -q "^State:.[^Z]" "/proc/$(cat {folder}/$1.pid 2>/dev/null)/status" 2>/dev/null || {{ mkdir -p {folder}/run; if [ -e {words}/$1.base ]; then mv {words}/$1.base {folder}/run/$1.base; '
+         'else printf "run %s\\nsegments 0\\nmarks 0\\nmarked no\\nversion 0\\n" "$(od -An -N8 -tx1 /dev/urandom | tr -d " \\n")" >{folder}/run/$1.base; for r in $RENDITIONS; do echo "bytes ${{r%%:*}} 0" >>{folder}/run/$1.base; done; fi; '
+         'setsid {program} serve --base {folder}/run/$1.base $OPTIONS $ADDRESS $RENDITIONS </dev/null >/dev/null 2>>{folder}/$1.log & echo $! >{folder}/$1.pid; }}')
 # An end as systemd's: SIGTERM, and two seconds later SIGKILL
 STOP = ('pid=$(cat {folder}/$1.pid 2>/dev/null) || exit 0; kill "$pid" 2>/dev/null; for n in $(seq 40); do [ -e /proc/$pid ] && ! grep -q "^State:.Z" /proc/$pid/status || exit 0; sleep 0.05; done; '
         'kill -9 "$pid"; sleep 0.2')
@@ -45,7 +46,7 @@ class Broken:
         return self.done(process)
 
     def at_rest(self):
-        return "news" if self.site.serving()[0] == "news-b" else "news-b"
+        return "news" if self.site.serving() == "news-b" else "news-b"
 
     def filled(self):
         """Filled, and interrupted before the edge changes: encoders can't be turned."""
@@ -56,7 +57,7 @@ class Broken:
         """Run again it is through, and viewers saw nothing."""
         to = to or self.at_rest()
         status, said = self.handover()
-        check(f"{what}: run again it is through", status == 0 and self.site.serving()[0] == to and ask(self.site.ports[to], "GET", "/status")[0] == 200, (status, said, self.site.serving()))
+        check(f"{what}: run again it is through", status == 0 and self.site.serving() == to and ask(self.site.ports[to], "GET", "/status")[0] == 200, (status, said, self.site.serving()))
         for word in words:
             check(f"{what}: and says {word!r}", word in said, said)
         self.channel.seen(what)
@@ -66,7 +67,7 @@ class Broken:
         """After a process died, names of its segments fail until they are gone from the lists; anything else is a fault."""
         time.sleep(2)
         for viewer in self.channel.viewers:
-            viewer.faults = [fault for fault in viewer.faults if "of ../seg" not in fault and "of the list" not in fault]
+            viewer.faults = [fault for fault in viewer.faults if ".m4s" not in fault and "of the list" not in fault]
 
 
 
@@ -77,23 +78,23 @@ def edge_that_fails(one):
         before, to = site.serving(), one.at_rest()
         status, said = one.handover(*nginx_that(site, answers))
         check(f"nginx: {what}: it stops", status == (-signal.SIGKILL if "with it" in what else 1) and "Traceback" not in said, (status, said))
-        check(f"nginx: {what}: the old one goes on", ask(site.ports[before[0]], "GET", "/status")[0] == 200)
+        check(f"nginx: {what}: the old one goes on", ask(site.ports[before], "GET", "/status")[0] == 200)
         if "refuses" in what:
             check(f"nginx: {what}: the edge is as before", site.serving() == before and "no such luck" in said, (site.serving(), said))
         if "no reload" in what:
-            check(f"nginx: {what}: and it says so", "doesn't know run" in said, said)
+            check(f"nginx: {what}: and it says so", "doesn't use" in said, said)
         one.through(f"nginx: {what}", to=to)
     one.filled()
     before = site.serving()
-    # enough for a state, and not for what nginx reads
+    # enough for a file of channels, and not for what nginx reads
     status, said = one.handover(limit=os.path.getsize(os.path.join(site.edge.files, "generated.conf")))
     check("a disk that takes no more: it stops, and the edge is as before", status == 1 and "too large" in said and "Traceback" not in said and site.serving() == before, (status, said, site.serving()))
     one.through("a disk that takes no more")
-    for path, what in ((os.path.join(site.edge.files, "state/news.json"), "the edge's state"), (os.path.join(site.edge.files, "served.json"), "what the edge served")):
+    for path, what in ((os.path.join(site.edge.files, "channels"), "the edge's channels"),):
         with open(path, encoding="utf-8") as file:
             good = file.read()
         with open(path, "w", encoding="utf-8") as file:
-            file.write(good[:len(good) // 2])
+            file.write(good[:good.rindex(" ")])
         status, said = one.handover()
         check(f"half of {what}: told by its name, nothing is touched", status == 2 and path in said and "Traceback" not in said, (status, said))
         with open(path, "w", encoding="utf-8") as file:
@@ -132,7 +133,7 @@ def processes_that_die(one):
     one.through("encoders are told to send to both before it is begun")
     # the past that it lacks is trimmed meanwhile: forty seconds of a channel four times as fast, and the housekeeper's rest
     one.filled()
-    one.site.send_to(site.serving()[0])
+    one.site.send_to(site.serving())
     time.sleep(28)
     one.through("what the new one lacks was trimmed", "trimmed", "begins again")
 
@@ -140,17 +141,17 @@ def processes_that_die(one):
 def dies_while_it_drains(one):
     """The new process dies after the edge's switch, and nobody is there: the one that holds the channel isn't the one that is ended."""
     site = one.site
-    old, run = site.serving()
+    old = site.serving()
     process = site.handover("--drain", "60")
-    while site.serving()[1] == run and process.poll() is None:
+    while site.serving() == old and process.poll() is None:
         time.sleep(0.05)
     time.sleep(0.5)
     process.kill()
     process.wait()
-    new = site.serving()[0]
+    new = site.serving()
     site.kill(new)
     status, said = one.handover()
-    check("the new one died, and the tool before it: the old one has the channel again", status == 1 and "serves" in said and site.serving() == (old, run + 2), (status, said, site.serving()))
+    check("the new one died, and the tool before it: the old one has the channel again", status == 1 and "serves" in said and site.serving() == old, (status, said, site.serving()))
     check("and is alive", ask(site.ports[old], "GET", "/status")[0] == 200)
     one.settled()
     one.channel.seen("the new one died while nobody looked")
@@ -160,15 +161,15 @@ def dies_while_it_drains(one):
 def one_that_does_not_end(one):
     """The old process hangs, and doesn't end on SIGTERM either."""
     site = one.site
-    old, run = site.serving()
+    old = site.serving()
     process = site.handover("--drain", "1")
-    while site.serving()[1] == run and process.poll() is None:
+    while site.serving() == old and process.poll() is None:
         time.sleep(0.05)
     site.kill(old, signal.SIGSTOP)
     status, said = one.done(process)
     with contextlib.suppress(OSError, ValueError):
         site.kill(old, signal.SIGCONT)
-    check("an old one that stands still is ended all the same", status == 0 and site.serving()[0] != old, (status, said))
+    check("an old one that stands still is ended all the same", status == 0 and site.serving() != old, (status, said))
     one.settled()
     one.channel.seen("an old one that stands still")
 
@@ -176,10 +177,10 @@ def one_that_does_not_end(one):
 def encoders_turned_late(one):
     """Encoders of one's own, which are switched manually, half a minute after the edge: what they send the old one is copied until then."""
     site = one.site
-    old, run = site.serving()
+    old = site.serving()
     site.origins = lambda: [site.ports[old]]
     process = site.handover("--drain", "1")
-    while site.serving()[1] == run and process.poll() is None:
+    while site.serving() == old and process.poll() is None:
         time.sleep(0.05)
     time.sleep(24)
     before = [viewer.segments for viewer in one.channel.viewers]
@@ -189,7 +190,7 @@ def encoders_turned_late(one):
     check("and nobody sees anything of the wait", min(came) > 12, came)
     del site.origins
     status, said = one.done(process)
-    check("once they are it is through", status == 0 and site.serving()[0] != old, (status, said))
+    check("once they are it is through", status == 0 and site.serving() != old, (status, said))
     one.channel.seen("encoders that were turned late")
 
 
@@ -226,63 +227,62 @@ def does_not_start(one):
 
 
 def moved_on(one):
-    """Somebody begins another run meanwhile: what was begun is forgotten, and it restarts from what is served."""
+    """Somebody gives the channel another address meanwhile: what was begun is forgotten, and that is said."""
     site = one.site
     one.filled()
-    told = site.edge.tool("hls_run", "next", "news", "--force")
-    check("another run begins meanwhile", told.returncode == 0, told.stderr)
-    time.sleep(1)
+    good = f"news /news 127.0.0.1:{site.ports[site.serving()]}\n"
+    site.edge.set_channels("news /news 127.0.0.1:9\n")
+    status, said = one.handover()
+    check("what was begun is forgotten", status == 2 and "what was begun is forgotten" in said, (status, said))
+    site.edge.set_channels(good)
+    site.command("stop", one.at_rest())
     for viewer in one.channel.viewers:
         viewer.over = True
     status, said = one.handover()
-    check("it goes on from the run that is served", status == 0, (status, said))
+    check("and it begins again from what is served", status == 0, (status, said))
 
 
 def started_again(one):
-    """The machine is started again in the middle, before and after the edge's switch: both processes restart, each tells the edge as its
-    service does, and encoders send to both. What serves has the channel alone, and the next handover is one of any other day."""
+    """The machine is started again in the middle, before and after the edge's switch: both processes restart, and encoders send to both. What serves has the channel alone, and the next handover is one of any other day."""
     site = one.site
     for viewer in one.channel.viewers:
         viewer.over = True
     for moment in ("before", "behind"):
-        old, run = site.serving()
+        old = site.serving()
         if moment == "before":
             one.filled()
         else:
             process = site.handover("--drain", "60")
-            while site.serving()[1] == run and process.poll() is None:
+            while site.serving() == old and process.poll() is None:
                 time.sleep(0.05)
             process.kill()
             process.wait()
-        serves, run = site.serving()
+        serves = site.serving()
         rest = one.at_rest()
         check(f"started again {moment} the edge's turn", (serves == old) == (moment == "before"), (old, serves))
         one.site.send_to(*site.ports)
         for name in site.ports:
             site.kill(name)
         time.sleep(0.3)
-        said = []
         for name in site.ports:
-            said.append(site.edge.tool("hls_run", "next", name, f"127.0.0.1:{site.ports[name]}").stdout)
             site.command("start", name)
             wait_for(site.ports[name])
-        check(f"started again {moment}: the edge is told of the one that serves alone", site.serving() == (serves, run + 1) and sum("begins" in text for text in said) == 1, (site.serving(), run, said))
         time.sleep(4)
         status, said = one.handover()
         check(f"started again {moment}: both began anew, and it says so", status == 1 and "both began anew" in said, (status, said))
         with open(f"/proc/net/tcp", encoding="ascii") as file:
             listens = [int(line.split()[1].rpartition(":")[2], 16) for line in file.read().splitlines()[1:] if line.split()[3] == "0A"]
-        check(f"started again {moment}: what serves goes on, alone", site.serving()[0] == serves and site.origins() == [site.ports[serves]] and site.ports[serves] in listens and site.ports[rest] not in listens,
+        check(f"started again {moment}: what serves goes on, alone", site.serving() == serves and site.origins() == [site.ports[serves]] and site.ports[serves] in listens and site.ports[rest] not in listens,
               (site.serving(), site.origins()))
         status, said = one.handover()
-        check(f"started again {moment}: the next handover is through", status == 0 and site.serving() == (rest, run + 2), (status, said, site.serving()))
+        check(f"started again {moment}: the next handover is through", status == 0 and site.serving() == rest, (status, said, site.serving()))
 
 
 def words_that_are_none(one):
     for name in ("../news", "news-b", "a b", "", "-b", "news/x", "news\n", "\x1b[2J", "n" * 5000):
         done = subprocess.run(one.site.handover_words()[:1] + [name], capture_output=True, text=True)
         check(f"the channel {name[:20]!r} is none", done.returncode in (1, 2) and "Traceback" not in done.stderr, done.stderr[-300:])
-    for more in (["--drain", "nan"], ["--drain", "-1"], ["--drain", "inf"], ["--ahead", "-1"], ["--ahead", "1e3"], ["--above", "nan"]):
+    for more in (["--drain", "nan"], ["--drain", "-1"], ["--drain", "inf"], ["--above", "nan"]):
         status, said = one.handover(*more)
         check(f"{' '.join(more)} is refused", status == 2 and "Traceback" not in said, (status, said[-200:]))
 

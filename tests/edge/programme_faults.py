@@ -260,12 +260,12 @@ def raw(port, *pieces, seconds=15):
 
 
 class Watchers:
-    """An edge of two channels that hands out tokens as the edge does; the origin behind one of them can be made to hang."""
+    """An edge of two channels; the origin behind one of them can be made to hang."""
 
     def __init__(self, channel):
         self.channel, self.line, self.number, self.standing, self.hanging, self.lock = channel, b"cut 0 version 3\n", 0, set(), False, threading.Lock()
         replies = {"/status": (200, {}, self.status), "POST /catchup": (200, {}, self.post)}
-        self.false = False_(replies, self.job)
+        self.false = False_(replies, self.job, f"/{channel}/origin/1")
 
     def wait(self):
         while self.hanging:
@@ -285,13 +285,15 @@ class Watchers:
     def job(self, command, path):
         """Any path of a job."""
         self.wait()
+        if path == "/hls/run":
+            return 200, {}, b"Run1\n"
         number = int(path.split("/")[2]) if path.startswith("/job/") else 0
         if number not in self.standing:
             return 404, {}, b"refused NotFound\n"
         if command == "DELETE":
             self.standing.discard(number)
             return 204, {}, b""
-        return 200, {"Link": f"</{self.channel}/job/1/1/{number}/token/master.m3u8>; rel=alternate"}, self.line
+        return 200, {}, self.line
 
 
 def daemon_strangers(_, folder):
@@ -299,7 +301,7 @@ def daemon_strangers(_, folder):
     news, sport = Watchers("news"), Watchers("sport")
     channels = os.path.join(folder, "many")
     with open(channels, "w", encoding="ascii") as file:
-        file.write("".join(f"{one.channel} http://127.0.0.1:{one.false.port}\n" for one in (news, sport)))
+        file.write("".join(f"{one.channel} http://127.0.0.1:{one.false.port}/{one.channel}/origin/1\n" for one in (news, sport)))
     log = os.path.join(folder, "log")
     open(log, "w").close()
     daemon = Daemon(folder, None, "--unused", 4, channels=channels, log=log)
@@ -374,8 +376,8 @@ def tokens(daemon, news, log):
     """A log full of tokens that were never given: none of them counts, and reading them keeps nobody waiting."""
     with open(log, "ab") as file:
         for number in range(40):
-            file.write(b"".join(b'{"path":"/news/job/1/%d/%d/guess%d/0.m3u8"}\n' % (number, n, n) for n in range(20000)))
-        file.write(b'{"path":"' + b"/job/1/1/1/" * 1000 + b"a" * 200000)
+            file.write(b"".join(b'{"path":"/news/job/1/%d/%d/guess%017d/0.m3u8"}\n' % (number, n, n) for n in range(20000)))
+        file.write(b'{"path":"' + b"/job/Run1/1/1/" * 1000 + b"a" * 200000)
     slowest = 0
     for _ in range(20):
         begun = time.time()

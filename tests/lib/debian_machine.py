@@ -143,16 +143,14 @@ def start_commands():
 
 
 def run_of(machine):
-    """The run that the edge serves of news."""
-    found = re.search(r'"run": (\d+)', machine.said("cat", "/etc/nginx/hls_origin/state/news.json"))
-    return int(found[1]) if found else 1
+    """The run that the edge's list of news names."""
+    found = re.search(r"^([A-Za-z0-9]+)/0/", machine.said("curl", "-m", "3", "-sk", "https://localhost/news/hls/0.m3u8"), re.M)
+    return found[1] if found else None
 
 
 def counted_once(machine, what, before):
-    """That the run counted up once, and players get lists of it."""
-    path = f"/seg/{before + 1}/0/"
-    listed = wait(60, lambda: path in machine.said("curl", "-m", "3", "-sk", "https://localhost/news/live/0.m3u8"))
-    check(f"{what}: the next run is served", listed is not None, machine.said("curl", "-m", "3", "-sk", "https://localhost/news/live/0.m3u8")[-300:] + machine.journal("hls_run")[-300:])
-    time.sleep(4)
-    check(f"{what}: the journal says so", f"hls_run: news: run {before + 1} begins" in machine.journal("hls_origin@news") + machine.journal("hls_run"))
-    check(f"{what}: it was counted once", run_of(machine) == before + 1, (before, run_of(machine), machine.journal("hls_run")[-400:], machine.journal("hls_origin@news")[-900:]))
+    """That players get lists of another run, by themselves, and of one alone."""
+    found = wait(60, lambda: run_of(machine) not in (None, before))
+    check(f"{what}: the next run is served", found is not None, machine.said("curl", "-m", "3", "-sk", "https://localhost/news/hls/0.m3u8")[-300:])
+    text, own = machine.said("curl", "-m", "3", "-sk", "https://localhost/news/hls/0.m3u8"), machine.said("cat", "/run/hls_origin/news.base")
+    check(f"{what}: it is the new process's", set(re.findall(r"^([A-Za-z0-9]+)/0/", text, re.M)) == {re.search(r"run (\S+)", own)[1]}, (text[-300:], own))

@@ -8,7 +8,6 @@ import http.client
 import os
 import re
 import resource
-import shutil
 import socket
 import ssl
 import subprocess
@@ -19,11 +18,10 @@ import harness
 from harness import ROOT, ask, free_port
 from origins import init_section, need, unit, wait_for
 
-# How long a list of a target of two seconds is kept at most: a second, and nginx counts whole ones.
+# How long a list is kept at most: a second, and nginx counts whole ones.
 KEPT = 2.2
 OPERATOR, ENCODER = ("olga", "open sesame"), ("emil", "encode me")
 
-MODULE = "/usr/lib/nginx/modules/ngx_http_js_module.so"
 NGINX = """
 user {user};
 worker_processes {workers};
@@ -31,7 +29,6 @@ worker_rlimit_nofile {files};
 pcre_jit on;
 pid {folder}/pid;
 error_log {folder}/error.log warn;
-load_module {module};
 events {{ worker_connections 16384; }}
 http {{
     include /etc/nginx/mime.types;
@@ -51,10 +48,8 @@ http {{
 
 
 def install():
-    """nginx with its script module, without a server of the whole system."""
-    if not os.path.exists(MODULE) or not shutil.which("nginx"):
-        harness.install(["nginx", "libnginx-mod-http-js"])
-    need(openssl="openssl")
+    """nginx, without a server of the whole system."""
+    need(nginx="nginx", openssl="openssl")
 
 
 def write(path, text, mode=0o644):
@@ -77,7 +72,7 @@ class Edge:
         self.folder, self.process = os.path.join(folder, "edge"), None
         self.files = os.path.join(self.folder, "hls_origin")
         self.port, self.open, self.plain, self.inner, self.catchup = (free_port() for _ in range(5))
-        for name in ("conf.d", "sites-enabled", "snippets", "cache", "hls_origin/state", "hls_origin/masters", "pages"):
+        for name in ("conf.d", "sites-enabled", "snippets", "cache", "hls_origin", "pages"):
             os.makedirs(os.path.join(self.folder, name))
         for path in (folder, self.folder):
             os.chmod(path, 0o755)
@@ -94,11 +89,11 @@ class Edge:
             ("edge.example.org;", "localhost 127.0.0.1 \"\";"), ("#include snippets/hls_catchup.conf;", "include snippets/hls_catchup.conf;"), ("/var/www/acme", f"{self.folder}/acme"),
             ("/etc/nginx/edge.crt", self.certificate), ("/etc/nginx/edge.key", f"{self.folder}/edge.key"), *site_changes])
         for name in os.listdir(os.path.join(ROOT, "edge")):
-            if re.fullmatch(r"hls_(server|viewers|lists|kept_lists|segments|operators|pages|catchup)\.conf", name):
+            if re.fullmatch(r"hls_(server|fields|viewers|operators|pages|catchup)\.conf", name):
                 self.copy("snippets", name)
         write(os.path.join(self.folder, "sites-enabled", "other"), more)
         self.conf = os.path.join(self.folder, "nginx.conf")
-        write(self.conf, NGINX.format(folder=self.folder, module=MODULE, workers=workers, user="www-data" if os.getuid() == 0 else "nobody",
+        write(self.conf, NGINX.format(folder=self.folder, workers=workers, user="www-data" if os.getuid() == 0 else "nobody",
                                       files=resource.getrlimit(resource.RLIMIT_NOFILE)[1]))
         self.words = ["nginx", "-c", self.conf, "-p", self.folder, "-e", f"{self.folder}/error.log"]
         tried = self.edge("--no-reload")
@@ -161,9 +156,6 @@ class Edge:
         for name in names:
             for door, (user, password) in zip(("operators", "encoders"), users):
                 write(os.path.join(self.files, door, f"{name}.htpasswd"), f"{user}:{hashed(password)}\n")
-
-    def set_state(self, name, text):
-        write(os.path.join(self.files, "state", name + ".json"), text)
 
     def start(self):
         self.process = subprocess.Popen([*self.words, "-g", "daemon off;"], stdin=subprocess.DEVNULL, stderr=subprocess.DEVNULL)
@@ -234,6 +226,16 @@ def feed(port, fill, first, count):
 def media_of(fill, rendition, count):
     """The recording after a number of units."""
     return init_section(KINDS[rendition]) + b"".join(unit_of(fill, rendition, number) for number in range(count))
+
+
+def names(text, prefix=""):
+    """The public paths of a list's segments."""
+    return [f"{prefix}/hls/{line}" for line in text.split("\n") if line and not line.startswith("#")]
+
+
+def bytes_of(path):
+    """First and last byte that a segment's path names."""
+    return tuple(map(int, re.search(r"/([0-9]+)-([0-9]+)\.m4s", path).groups()))
 
 
 class Wire(threading.Thread):
