@@ -1,0 +1,48 @@
+-- Fillers, one after another.
+use Rattle.std.proofs.Common.{◌≡◌, ◌∙◌, ℕ, zero, suc, ◌+◌, ◌-◌, ◌<◌, ◌≤◌, Some, None, List, [], ◌∷◌, ◌++◌, refl, sym, ap, arith, append_assoc}
+use Rattle.std.proofs.lemmas.Bool.{lt-ltb, le-ltb}
+use Rattle.std.proofs.lemmas.List.{append-nil}
+use Rattle.hls_media_laws.specs.InitData.{InitData}
+use Rattle.hls_mend.specs.declared.mended.ReadUnit.{ReadUnit}
+use Rattle.hls_mend.specs.MendedUnits.{FillerSource, filler, filler_ticks, fillers_from}
+
+fillers-next : (left start end : ℕ) (init : InitData) (s : FillerSource) (u : ReadUnit) → 0 < left → start < end → filler init s start (filler_ticks s.len (end - start)) ≡ Some u
+    → fillers_from left init s start end ≡ u ∷ fillers_from (left - 1) init s (start + filler_ticks s.len (end - start)) end
+unfolding fillers_from
+fillers-next zero start end init s u some within made = absurd (omega (arith, some))
+fillers-next (suc left) start end init s u some within made =
+    let a : suc left - 1 ≡ left = omega arith in rw (lt-ltb start end within, made, a) refl
+
+-- one more was made
+pub made-more : (us : List ReadUnit) (left start end next : ℕ) (init : InitData) (s : FillerSource) (u : ReadUnit) (all : List ReadUnit) → 0 < left → start < end
+    → filler init s start (filler_ticks s.len (end - start)) ≡ Some u → next ≡ start + filler_ticks s.len (end - start)
+    → us ++ fillers_from left init s start end ≡ all → (us ++ u ∷ []) ++ fillers_from (left - 1) init s next end ≡ all
+made-more us left start end next init s u all some within made is joined =
+    append_assoc us (u ∷ []) (fillers_from (left - 1) init s next end)
+    ∙ ap (λ (n : ℕ). us ++ u ∷ fillers_from (left - 1) init s n end) is
+    ∙ ap (λ (xs : List ReadUnit). us ++ xs) (sym (fillers-next left start end init s u some within made))
+    ∙ joined
+
+-- no more can be made
+pub made-all : (us : List ReadUnit) (left start end : ℕ) (init : InitData) (s : FillerSource) (all : List ReadUnit) → start < end → filler init s start (filler_ticks s.len (end - start)) ≡ None
+    → us ++ fillers_from left init s start end ≡ all → us ≡ all
+unfolding fillers_from
+made-all us zero start end init s all within none joined = sym (append-nil us) ∙ joined
+made-all us (suc left) start end init s all within none joined =
+    let stop : fillers_from (suc left) init s start end ≡ [] = rw (lt-ltb start end within, none) refl in
+    sym (append-nil us) ∙ ap (λ (xs : List ReadUnit). us ++ xs) (sym stop) ∙ joined
+
+-- the gap is filled
+pub made-over : (us : List ReadUnit) (left start end : ℕ) (init : InitData) (s : FillerSource) (all : List ReadUnit) → end ≤ start → us ++ fillers_from left init s start end ≡ all → us ≡ all
+unfolding fillers_from
+made-over us zero start end init s all over joined = sym (append-nil us) ∙ joined
+made-over us (suc left) start end init s all over joined =
+    let stop : fillers_from (suc left) init s start end ≡ [] = rw (le-ltb start end over) refl in
+    sym (append-nil us) ∙ ap (λ (xs : List ReadUnit). us ++ xs) (sym stop) ∙ joined
+
+-- there are as many as there may be
+pub made-most : (us : List ReadUnit) (left start end : ℕ) (init : InitData) (s : FillerSource) (all : List ReadUnit) → left ≡ 0 → us ++ fillers_from left init s start end ≡ all → us ≡ all
+unfolding fillers_from
+made-most us left start end init s all none joined =
+    let stop : fillers_from left init s start end ≡ [] = rw none refl in
+    sym (append-nil us) ∙ ap (λ (xs : List ReadUnit). us ++ xs) (sym stop) ∙ joined

@@ -1,0 +1,13 @@
+mod RunSteps
+mod SilenceSteps
+mod CutSteps
+mod FrontSteps
+mod LongSilence
+mod RowSteps
+mod Joined
+mod BoxSteps
+mod FillerSteps
+mod SyncSteps
+mod ContiguousLaws
+mod KeptLaws
+mod ChannelLaws

@@ -1,0 +1,14 @@
+use Rattle.std.proofs.Common.{◌≡◌, ◌++◌}
+use Rattle.std.specs.Prelude.{All}
+use Rattle.hls_media_laws.specs.IsInitOrUnit.{IsUnit}
+use Rattle.hls_mend.specs.MendedUnits.{fillers_from, source_view}
+use Rattle.hls_mend.proofs.gap.make_fillers.Given as goal
+
+abbrev pub invariant-fillers : goal.invariant-fillers
+invariant-fillers l = record {
+  same : l.fillers.items ++ fillers_from l.left l.init (source_view l.source) l.next l.end ≡ fillers_from 4096 l.init (source_view l.source) l.start l.end;
+  valid : All (λ u. IsUnit l.init u.bytes u.facts) l.fillers.items;
+}
+
+abbrev pub decreases-fillers : goal.decreases-fillers
+decreases-fillers l = l.left

@@ -1,0 +1,5 @@
+use Rattle.hls_mend.proofs.KeptLaws.{contiguous-is-kept}
+use Rattle.hls_mend.proofs.laws.contiguous_is_kept.Goals as goal
+
+pub returns : goal.returns
+returns c = contiguous-is-kept

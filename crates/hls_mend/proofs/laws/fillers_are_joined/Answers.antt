@@ -1,0 +1,5 @@
+use Rattle.hls_mend.proofs.ContiguousLaws.{fillers-are-joined}
+use Rattle.hls_mend.proofs.laws.fillers_are_joined.Goals as goal
+
+pub returns : goal.returns
+returns c = fillers-are-joined

@@ -1,0 +1,110 @@
+-- Each sample of a unit that mending makes is one of the unit that it was made of, or a frame of silence.
+use Rattle.std.proofs.Common.{◌≡◌, ◌∙◌, ℕ, ◌+◌, ◌^◌, nat_lt, nat_le, ◌&&◌, Some, None, option_and_then, List, [], ◌∷◌, ◌++◌, length, take, drop, replicate, refl, sym, ap, subst, inl, inr, arith}
+use Rattle.std.specs.List.{concat}
+use Rattle.std.proofs.lemmas.Bool.{cases_Bool}
+use Rattle.std.proofs.lemmas.List.{drop-drop}
+use Rattle.std.proofs.lemmas.List.Sums.{sum_by-cons}
+use Rattle.hls_media_laws.specs.InitData.{InitData}
+use Rattle.hls_mend_laws.specs.declared.sample.Sample.{Sample}
+use Rattle.hls_mend_laws.specs.Fragments.{Fragment, fragment_bytes, total_duration, total_size}
+use Rattle.hls_mend_laws.specs.FragmentsRead.{fragment_of}
+use Rattle.hls_mend_laws.specs.Retimed.{written}
+use Rattle.hls_mend_laws.specs.Cuts.{rest_of, is_cut, cut_from, cut, cut_unit}
+use Rattle.hls_mend_laws.specs.Fillers.{filler_of, silent_samples, held_from, held, held_unit, silence_from, silence, silent_unit}
+use Rattle.hls_mend_laws.specs.Sources.{IsRest, CutKeepsRest, IsHeld, HeldRepeatSample, IsSilence, SilenceRepeatsFrame}
+use Rattle.hls_mend_laws.proofs.Options.{and-then, if-so}
+use Rattle.hls_mend_laws.proofs.RetimedLaws.{is-written}
+
+-- ---- the rest of a unit
+
+-- what is left of these samples from `start`
+record IsLeft (f : Fragment) (start : ℕ) (ss : List Sample) (payload : List ℕ) (made : Fragment) : Type 0 where
+  gone : List Sample
+  rest : List Sample
+  samples : ss ≡ gone ++ rest
+  is : rest_of f (start + total_duration gone) rest (drop (total_size gone) payload) ≡ made
+
+none-gone : (f : Fragment) (start : ℕ) (ss : List Sample) (payload : List ℕ) → IsLeft f start ss payload (rest_of f start ss payload)
+none-gone f start ss payload =
+    let same : start + 0 ≡ start = omega arith in
+    record { gone = []; rest = ss; samples = refl; is = ap (λ (k : ℕ). rest_of f k ss payload) same }
+
+one-gone : (f : Fragment) (start : ℕ) (s : Sample) (ss : List Sample) (payload : List ℕ) (made : Fragment) → IsLeft f (start + s.duration) ss (drop s.size payload) made
+    → IsLeft f start (s ∷ ss) payload made
+one-gone f start s ss payload made left =
+    let durations : start + total_duration (s ∷ left.gone) ≡ (start + s.duration) + total_duration left.gone =
+    (let sum = sum_by-cons (λ (x : Sample). x.duration) s left.gone in omega (arith, sum)) in
+    let sizes : drop (total_size (s ∷ left.gone)) payload ≡ drop (total_size left.gone) (drop s.size payload) =
+    ap (λ (k : ℕ). drop k payload) (sum_by-cons (λ (x : Sample). x.size) s left.gone) ∙ sym (drop-drop (total_size left.gone) s.size payload) in
+    record {
+      gone = s ∷ left.gone;
+      rest = left.rest;
+      samples = ap (λ (xs : List Sample). s ∷ xs) left.samples;
+      is = ap (λ (k : ℕ). rest_of f k left.rest (drop (total_size (s ∷ left.gone)) payload)) durations
+          ∙ ap (λ (bytes : List ℕ). rest_of f ((start + s.duration) + total_duration left.gone) left.rest bytes) sizes
+          ∙ left.is;
+    }
+
+is-left : (snap end : ℕ) (f : Fragment) (start : ℕ) (ss : List Sample) (payload : List ℕ) (made : Fragment) → cut_from snap end f start ss payload ≡ Some made → IsLeft f start ss payload made
+is-left snap end f start [] payload made is = absurd (cc)
+is-left snap end f start (s ∷ ss) payload made is =
+    elim (cases_Bool (is_cut snap end start s)) [
+      | inr stays ↦
+          let here : Some (rest_of f start (s ∷ ss) payload) ≡ Some made = rw stays at is in
+          let same : rest_of f start (s ∷ ss) payload ≡ made = cc in
+          subst (IsLeft f start (s ∷ ss) payload) same (none-gone f start (s ∷ ss) payload)
+      | inl goes ↦ elim (cases_Bool (nat_le (2 ^ 64) (start + s.duration))) [
+        | inl late ↦ (let none : None ≡ Some made = rw (goes, late) at is in absurd (cc))
+        | inr early ↦
+            let more : cut_from snap end f (start + s.duration) ss (drop s.size payload) ≡ Some made = rw (goes, early) at is in
+            one-gone f start s ss payload made (is-left snap end f (start + s.duration) ss (drop s.size payload) made more)
+      ]
+    ]
+
+rest-by : (init : InitData) (unit made : List ℕ) (sent again : Fragment) → fragment_of init unit ≡ Some sent → IsLeft sent sent.start sent.samples sent.payload again → made ≡ fragment_bytes again → IsRest init unit made
+rest-by init unit made sent again read left wrote = record {
+  sent = sent;
+  cut = left.gone;
+  rest = left.rest;
+  read = read;
+  samples = left.samples;
+  bytes = wrote ∙ ap fragment_bytes (sym left.is);
+}
+
+pub cut-keeps-rest : CutKeepsRest
+unfolding cut_unit
+cut-keeps-rest init unit made snap end is =
+    let w = and-then written (option_and_then (cut snap end) (fragment_of init unit)) made is in
+    let c = and-then (cut snap end) (fragment_of init unit) w.x w.is in
+    rest-by init unit made c.x w.x c.is (is-left snap end c.x c.x.start c.x.samples c.x.payload w.x c.then) (is-written w.x made w.then).bytes
+
+-- ---- fillers
+
+held-by : (init : InitData) (unit made : List ℕ) (start ticks : ℕ) (source filler : Fragment) (ss : List Sample) → fragment_of init unit ≡ Some source → source.samples ≡ ss
+    → held_from source start ticks ss ≡ Some filler → made ≡ fragment_bytes filler → IsHeld init unit made start ticks
+held-by init unit made start ticks source filler [] read samples is wrote = absurd (cc)
+held-by init unit made start ticks source filler (first ∷ others) read samples is wrote =
+    let c = if-so (nat_lt 0 ticks && nat_lt ticks (2 ^ 32)) (filler_of source start (record first { duration = ticks } ∷ []) (take first.size source.payload)) filler is in
+    record { source = source; first = first; others = others; read = read; samples = samples; bytes = wrote ∙ ap fragment_bytes (sym c.1) }
+
+pub held-repeat-sample : HeldRepeatSample
+unfolding held_unit
+held-repeat-sample init unit made start ticks is =
+    let w = and-then written (option_and_then (held start ticks) (fragment_of init unit)) made is in
+    let h = and-then (held start ticks) (fragment_of init unit) w.x w.is in
+    held-by init unit made start ticks h.x w.x h.x.samples h.is refl h.then (is-written w.x made w.then).bytes
+
+silence-by : (init : InitData) (unit silent made : List ℕ) (start ticks : ℕ) (source filler : Fragment) (ss : List Sample) → fragment_of init unit ≡ Some source
+    → silence_from silent source start ticks ss ≡ Some filler → made ≡ fragment_bytes filler → IsSilence init unit silent made start ticks
+silence-by init unit silent made start ticks source filler [] read is wrote = absurd (cc)
+silence-by init unit silent made start ticks source filler (first ∷ others) read is wrote =
+    let frames = silent_samples first.duration (length silent) ticks in
+    let c = if-so (nat_lt 0 ticks && nat_lt 0 first.duration) (filler_of source start frames (concat (replicate (length frames) silent))) filler is in
+    record { source = source; frame = first.duration; read = read; bytes = wrote ∙ ap fragment_bytes (sym c.1) }
+
+pub silence-repeats-frame : SilenceRepeatsFrame
+unfolding silent_unit
+silence-repeats-frame init unit silent made start ticks is =
+    let w = and-then written (option_and_then (silence silent start ticks) (fragment_of init unit)) made is in
+    let h = and-then (silence silent start ticks) (fragment_of init unit) w.x w.is in
+    silence-by init unit silent made start ticks h.x w.x h.x.samples h.is h.then (is-written w.x made w.then).bytes

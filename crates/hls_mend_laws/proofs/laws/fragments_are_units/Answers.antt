@@ -1,0 +1,5 @@
+use Rattle.hls_mend_laws.proofs.FragmentLaws.{fragments-are-units}
+use Rattle.hls_mend_laws.proofs.laws.fragments_are_units.Goals as goal
+
+pub returns : goal.returns
+returns c = fragments-are-units

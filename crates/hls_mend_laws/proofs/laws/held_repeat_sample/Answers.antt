@@ -1,0 +1,5 @@
+use Rattle.hls_mend_laws.proofs.SourceLaws.{held-repeat-sample}
+use Rattle.hls_mend_laws.proofs.laws.held_repeat_sample.Goals as goal
+
+pub returns : goal.returns
+returns c = held-repeat-sample

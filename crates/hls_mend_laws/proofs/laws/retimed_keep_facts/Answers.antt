@@ -1,0 +1,5 @@
+use Rattle.hls_mend_laws.proofs.RetimedLaws.{retimed-keep-facts}
+use Rattle.hls_mend_laws.proofs.laws.retimed_keep_facts.Goals as goal
+
+pub returns : goal.returns
+returns c = retimed-keep-facts

@@ -1,0 +1,10 @@
+pub mod Bytes
+pub mod Fragments
+pub mod FragmentsRead
+pub mod Retimed
+pub mod Cuts
+pub mod Fillers
+pub mod Treatments
+pub mod Jumps
+pub mod ReadBack
+pub mod Sources
