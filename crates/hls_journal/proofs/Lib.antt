@@ -5,3 +5,10 @@ pub mod HeadSearch
 pub mod Pushed
 pub mod NoHead
 pub mod Started
+pub mod Pieces
+pub mod Units
+pub mod NotNew
+pub mod ReadBack
+pub mod Determined
+pub mod HighestIds
+pub mod Journals

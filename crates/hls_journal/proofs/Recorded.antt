@@ -1,6 +1,6 @@
 -- What a recording says of its rendition's lane.
-use Rattle.std.proofs.Common.{◌≡◌, ◌∙◌, ℕ, ◌+◌, ◌<◌, ◌≤◌, Option, Some, None, List, length, refl, sym, ap, subst, inl, inr, arith}
-use Rattle.std.specs.Prelude.{◌⊎◌, Result, Ok, slice_get}
+use Rattle.std.proofs.Common.{◌≡◌, ◌∙◌, ℕ, ◌+◌, ◌<◌, ◌≤◌, Option, Some, None, List, length, refl, sym, ap, subst, inl, inr}
+use Rattle.std.specs.Prelude.{Ok, slice_get}
 use Rattle.hls_media_laws.specs.InitData.{InitData}
 use Rattle.hls_media_laws.specs.UnitFacts.{facts}
 use Rattle.hls_media_laws.specs.FactLists.{total_bytes}
@@ -8,7 +8,7 @@ use Rattle.hls_media_laws.specs.IsInitOrUnit.{IsUnit}
 use Rattle.hls_media_laws.specs.declared.facts.Facts.{Facts}
 use Rattle.hls_record.specs.RecordingData.{RecordingData, total_of}
 use Rattle.hls_core_laws.specs.declared.event.Event.{Event}
-use Rattle.hls_core_laws.specs.declared.event.Event.TheVariants.{Begin, Accept}
+use Rattle.hls_core_laws.specs.declared.event.Event.TheVariants.{Accept}
 use Rattle.hls_core_laws.specs.Channel.{Lane, no_lane, lane, lane_len}
 use Rattle.hls_core_laws.specs.State.{State, HeldBytes, no_bytes, channel}
 use Rattle.hls_core_laws.specs.IsState.{IsState, MatchesBytes}
@@ -22,12 +22,12 @@ use Rattle.hls_journal_laws.specs.Restored.{IsStoredUnit, IsNextUnit, IsRecordOf
 use Rattle.hls_journal.specs.Recalling.{IsUnitOf, AcceptsNext}
 
 -- a recording is of a lane, which has its init section, facts and bytes
-record IsOfLane (s : State) (r : ℕ) (rec : RecordingData) : Type 0 where
-  its : Lane
-  at : slice_get (channel s).lanes r ≡ Some its
-  begun : its.init ≡ Some rec.init
-  facts : rec.facts ≡ its.facts
-  head : rec.head ≡ (held_bytes s r).head
+pub record IsOfLane (s : State) (r : ℕ) (rec : RecordingData) : Type 0 where
+  pub its : Lane
+  pub at : slice_get (channel s).lanes r ≡ Some its
+  pub begun : its.init ≡ Some rec.init
+  pub facts : rec.facts ≡ its.facts
+  pub head : rec.head ≡ (held_bytes s r).head
 
 by_init : (l : Lane) (h : HeldBytes) (rec : RecordingData) (i : Option InitData) → recorded_from i l h ≡ Some rec → (i ≡ Some rec.init) × (rec.facts ≡ l.facts) × (rec.head ≡ h.head)
 by_init l h rec None found = absurd (cc)
@@ -41,7 +41,7 @@ by_lane s r rec (Some l) at found =
     let by = by_init l (held_bytes s r) rec l.init found in
     record { its = l; at = at; begun = by.0; facts = by.1; head = by.2 }
 
-of_lane : (s : State) (r : ℕ) (rec : RecordingData) → recording_of s r ≡ Some rec → IsOfLane s r rec
+pub of_lane : (s : State) (r : ℕ) (rec : RecordingData) → recording_of s r ≡ Some rec → IsOfLane s r rec
 of_lane s r rec found = by_lane s r rec (slice_get (channel s).lanes r) refl found
 
 -- a unit whose facts were read under its init section fits
@@ -85,7 +85,7 @@ pub accepted_of : (floors : ℕ → ℕ) (media : List StoredMedia) (s : State) 
     → AcceptsNext (floors r) (slice_get media r) rec r body event → IsRecordOf floors media s body event
 accepted_of floors media s r rec body event state found kind at accepts =
     subst (λ (e : Event). IsRecordOf floors media s body e) (sym accepts.4)
-    (kind, at, next_unit floors media s r rec body accepts.1 state found accepts.2)
+    (kind, at, next_unit floors media s r rec body accepts.1 state found accepts.2, accepts.5)
 
 pub accepted_fits : (floor : ℕ) (media : Option StoredMedia) (s : State) (r : ℕ) (rec : RecordingData) (body : List ℕ) (event : Event) → recording_of s r ≡ Some rec
     → AcceptsNext floor media rec r body event → IsFitting s event

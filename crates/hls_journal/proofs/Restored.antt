@@ -3,10 +3,10 @@ use Rattle.std.proofs.lemmas.List.{take_more}
 use Rattle.std.proofs.Common.{◌≡◌, ◌∙◌, ℕ, ◌+◌, ◌<◌, ◌≤◌, List, [], ◌∷◌, ◌++◌, length, take, get_or, refl, sym, ap, subst, inl, inr}
 use Rattle.hls_core_laws.specs.declared.event.Event.{Event}
 use Rattle.hls_core_laws.specs.declared.event.Event.TheVariants.{Begin, Accept, Finish, Slide, Trim}
-use Rattle.hls_core_laws.specs.Channel.{Lane, lane}
+use Rattle.hls_core_laws.specs.Channel.{lane}
 use Rattle.hls_core_laws.specs.State.{State, channel}
 use Rattle.hls_journal_laws.specs.declared.stored_media.StoredMedia.{StoredMedia}
-use Rattle.hls_journal_laws.specs.Restored.{IsNextUnit, IsRecordOf, Recalls, Restores}
+use Rattle.hls_journal_laws.specs.Restored.{IsNextUnit, IsRecordOf, Restores}
 use Rattle.hls_journal.specs.Recalling.{RestoresOne}
 
 last_one : (floors : ℕ → ℕ) (media : List StoredMedia) (s next : State) (body : List ℕ) → RestoresOne floors media s body next → Restores floors media s (body ∷ []) next
@@ -27,7 +27,7 @@ next_alike f g same media s r body bytes (inr stored) = inr (subst (λ (n : ℕ)
 
 record_alike : (f g : ℕ → ℕ) → ((r : ℕ) → f r ≡ g r) → (media : List StoredMedia) (s : State) (body : List ℕ) (event : Event) → IsRecordOf f media s body event → IsRecordOf g media s body event
 record_alike f g same media s body (Begin r init bytes) of = of
-record_alike f g same media s body (Accept r facts bytes) of = (of.0, of.1, next_alike f g same media s r body bytes of.2)
+record_alike f g same media s body (Accept r facts bytes) of = (of.0, of.1, next_alike f g same media s r body bytes of.2, of.3)
 record_alike f g same media s body (Finish r) of = of
 record_alike f g same media s body (Slide count) of = of
 record_alike f g same media s body (Trim r floor) of = of

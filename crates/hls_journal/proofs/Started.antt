@@ -1,12 +1,12 @@
 -- What the first bytes of a body say.
-use Rattle.std.proofs.Common.{◌≡◌, ◌∙◌, ℕ, ◌+◌, ◌-◌, ◌<◌, ◌≤◌, ◌^◌, List, [], ◌∷◌, ◌++◌, length, take, drop, get_or, refl, sym, ap, subst, arith, append_assoc, append-nil, length-append}
+use Rattle.std.proofs.Common.{◌≡◌, ◌∙◌, ℕ, ◌-◌, ◌<◌, ◌≤◌, ◌^◌, List, [], ◌∷◌, ◌++◌, length, take, drop, refl, sym, ap, subst, arith, append_assoc, append-nil, length-append}
 use Rattle.std.proofs.lemmas.List.{take_at, drop_at, take-append-drop, length-drop}
 use Rattle.byteorder.specs.Endian.{little_bytes, little_number}
 use Rattle.byteorder.specs.Numbers.{little_number-reads_back, length-bytes_low_first}
 use Rattle.sqlite_disk.specs.Digest.{digest}
 use Rattle.hls_core_laws.specs.declared.event.Event.{Event}
 use Rattle.hls_core_laws.specs.declared.event.Event.TheVariants.{Begin, Accept, Finish, Slide, Trim}
-use Rattle.hls_journal_laws.specs.Bodies.{kind_in, worker_in, rendition_in, init_section_in, number_in, unit_len_in, unit_checksum_in, unit_head_in, IsAside}
+use Rattle.hls_journal_laws.specs.Bodies.{kind_in, worker_in, rendition_in, init_section_in, number_in, unit_len_in, unit_checksum_in, unit_head_in}
 use Rattle.hls_journal_laws.specs.Heads.{IsHead}
 use Rattle.hls_journal_laws.specs.Restored.{unit_checksum}
 use Rattle.hls_journal_laws.specs.Written.{IsUnitRecord}

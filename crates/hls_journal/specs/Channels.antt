@@ -1,11 +1,12 @@
 -- The record of a channel.
-use Rattle.std.specs.Prelude.{◌≡◌, ◌≢◌, ℕ, zero, suc, ℤ, ◌+◌, ◌-◌, ◌<◌, ◌≤◌, ⊤, ◌⊎◌, Bool, Option, Some, None, List, [], ◌∷◌, ◌++◌, length, take, drop, get_or, replicate, unsigned_abs, Result, Ok, Err}
+use Rattle.std.specs.Prelude.{◌≡◌, ◌≢◌, ℕ, zero, suc, ℤ, ◌+◌, ◌-◌, ◌*◌, ◌<◌, ◌≤◌, ⊤, ◌⊎◌, not, ◌==◌, Option, Some, None, List, [], ◌∷◌, ◌++◌, length, take, drop, get_or, replicate, slice_range, unsigned_abs, Result, Ok, Err}
 use Rattle.std.specs.List.{flat_map}
 use Rattle.std.specs.Int.{from_bool}
 use Rattle.byteorder.specs.Endian.{little_bytes, little_number}
 use Rattle.hls_core_laws.specs.declared.rendition.Rendition.{Rendition}
-use Rattle.hls_core_laws.specs.Base.{BaseData, bytes_before_base}
+use Rattle.hls_core_laws.specs.Base.{BaseData, IsBase, bytes_before_base}
 use Rattle.hls_core_laws.specs.Config.{ConfigData}
+use Rattle.hls_core.specs.Bases.{base_from}
 use Rattle.hls_journal.specs.declared.channel.ChannelHeader.{ChannelHeader}
 use Rattle.hls_journal.specs.declared.fault.ConfigField.{ConfigField}
 use Rattle.hls_journal.specs.declared.fault.ConfigField.TheVariants.{Target, Preferred, Epoch, Renditions}
@@ -38,22 +39,68 @@ counts_bytes b (suc r) = counts_bytes b r ++ little_bytes 8 (bytes_before_base b
 abbrev pub base_bytes : BaseData → List ℕ
 base_bytes b = b.run ++ little_bytes 8 b.segments ++ little_bytes 8 b.marks ++ (from_bool b.marked ∷ []) ++ little_bytes 8 b.version ++ counts_bytes b 16
 
--- the body: the kind, the version of the format, the boot id, the base, the configuration
+-- what precedes the configuration: the kind, the version of the format, the boot id, the base
+abbrev pub header_bytes : ChannelHeader → List ℕ
+header_bytes h = (0 ∷ []) ++ little_bytes 2 1 ++ h.boot ++ base_bytes h.base
+
+-- the body: a header, and the configuration
 abbrev pub channel_bytes : ConfigData → ChannelHeader → List ℕ
-channel_bytes c h = 0 ∷ [] ++ little_bytes 2 1 ++ h.boot ++ base_bytes h.base ++ config_bytes c
+channel_bytes c h = header_bytes h ++ config_bytes c
+
+abbrev pub header_len : ℕ
+header_len = 188
+
+-- the bytes of a configuration before its renditions
+abbrev pub fields_len : ℕ
+fields_len = 25
 
 abbrev pub version_in : List ℕ → ℕ
 version_in body = little_number 2 (drop 1 body)
 
 -- the configuration in the body of the record of a channel
 abbrev pub config_in : List ℕ → List ℕ
-config_in body = drop 188 body
+config_in body = drop header_len body
 
 -- the number in eight bytes of a text
 abbrev pub number_at : ℕ → List ℕ → ℕ
 number_at at text = little_number 8 (drop at text)
 
--- the first field in which two configurations differ, with both values; of renditions, the bytes that are equal
+-- the bytes that precede, of the first renditions, as a text has them
+abbrev pub counts_in : List ℕ → ℕ → List ℕ
+counts_in text zero = []
+counts_in text (suc r) = counts_in text r ++ number_at (8 * r) text ∷ []
+
+-- the base in its bytes
+abbrev pub base_in : List ℕ → BaseData
+base_in text = base_from (take 16 text) (number_at 16 text) (number_at 24 text) (not (get_or text 32 0 == 0)) (counts_in (drop 41 text) 16) (number_at 33 text)
+
+-- the boot id and the base in a body
+abbrev pub boot_part : List ℕ → List ℕ
+boot_part body = slice_range body 3 19
+
+abbrev pub base_part : List ℕ → List ℕ
+base_part body = slice_range body 19 188
+
+-- a base, with the name of its run in 16 bytes and the counts of 16 renditions
+abbrev pub IsWholeBase : BaseData → Type 0
+IsWholeBase b = (length b.run ≡ 16) × (length b.bytes ≡ 16) × IsBase b
+
+-- a header that a channel can have
+abbrev pub IsHeader : ChannelHeader → Type 0
+IsHeader h = (length h.boot ≡ 16) × IsWholeBase h.base
+
+-- a body begins with a header, and has the fields of a configuration
+pub record HasHeader (body : List ℕ) : Type 0 where
+  pub header : ChannelHeader
+  pub is_header : IsHeader header
+  pub is : take header_len body ≡ header_bytes header
+  pub complete : header_len + fields_len ≤ length body
+
+-- the header with which a body begins
+abbrev pub IsHeaderOf : List ℕ → ChannelHeader → Type 0
+IsHeaderOf body header = IsHeader header × (take header_len body ≡ header_bytes header) × (header_len + fields_len ≤ length body)
+
+-- the first field in which two configurations differ, with both values; of renditions, the lengths in bytes
 abbrev pub DifferIn : List ℕ → List ℕ → ConfigField → ℕ → ℕ → Type 0
 DifferIn found given Target journal mine = (journal ≡ number_at 0 found) × (mine ≡ number_at 0 given) × (journal ≢ mine)
 DifferIn found given Preferred journal mine =
@@ -67,16 +114,28 @@ abbrev pub JudgesVersion : List ℕ → Result (Unit {0}) JournalFault → Type 
 JudgesVersion body (Ok _) = (3 ≤ length body) × (get_or body 0 0 ≡ 0) × (version_in body ≡ 1)
 JudgesVersion body (Err Memory) = ⊥
 JudgesVersion body (Err NoChannel) = (length body < 3) ⊎ (get_or body 0 0 ≢ 0)
-JudgesVersion body (Err (UnknownVersion version)) = (get_or body 0 0 ≡ 0) × (version ≡ version_in body) × (version ≢ 1)
+JudgesVersion body (Err (UnknownVersion version)) = (3 ≤ length body) × (get_or body 0 0 ≡ 0) × (version ≡ version_in body) × (version ≢ 1)
 JudgesVersion body (Err (JournalOther field journal given)) = ⊥
 JudgesVersion body (Err (WrongRecord number)) = ⊥
 JudgesVersion body (Err (MissingUnit number)) = ⊥
 
--- two configurations differ so, or they are equal or one is too short
-abbrev pub IsDifference : List ℕ → List ℕ → JournalFault → Type 0
-IsDifference found given (JournalOther field journal mine) = DifferIn found given field journal mine
-IsDifference found given NoChannel = (length found < 25) ⊎ ((length given < 25) ⊎ (found ≡ given))
-IsDifference found given Memory = ⊥
-IsDifference found given (UnknownVersion version) = ⊥
-IsDifference found given (WrongRecord number) = ⊥
-IsDifference found given (MissingUnit number) = ⊥
+-- two configurations, each with its fields, are equal, or this is the first field in which they differ
+abbrev pub JudgesConfigs : List ℕ → List ℕ → Result (Unit {0}) JournalFault → Type 0
+JudgesConfigs found given (Ok _) = found ≡ given
+JudgesConfigs found given (Err Memory) = ⊥
+JudgesConfigs found given (Err NoChannel) = ⊥
+JudgesConfigs found given (Err (UnknownVersion version)) = ⊥
+JudgesConfigs found given (Err (JournalOther field journal mine)) = DifferIn found given field journal mine
+JudgesConfigs found given (Err (WrongRecord number)) = ⊥
+JudgesConfigs found given (Err (MissingUnit number)) = ⊥
+
+-- why a body isn't of the record of a channel with this configuration: the first cause in this order
+abbrev pub IsChannelFault : ConfigData → List ℕ → JournalFault → Type 0
+IsChannelFault config body Memory = ⊤
+IsChannelFault config body NoChannel =
+    (length body < 3) ⊎ ((get_or body 0 0 ≢ 0) ⊎ ((version_in body ≡ 1) × (HasHeader body → ⊥)))
+IsChannelFault config body (UnknownVersion version) = (3 ≤ length body) × (get_or body 0 0 ≡ 0) × (version ≡ version_in body) × (version ≢ 1)
+IsChannelFault config body (JournalOther field journal given) =
+    HasHeader body × DifferIn (config_in body) (config_bytes config) field journal given
+IsChannelFault config body (WrongRecord number) = ⊥
+IsChannelFault config body (MissingUnit number) = ⊥

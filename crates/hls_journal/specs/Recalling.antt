@@ -38,7 +38,7 @@ BeginsWith r bytes event = (init : InitData) × IsInit bytes init × (event ≡ 
 -- the event is the next unit of a recording
 abbrev pub AcceptsNext : ℕ → Option StoredMedia → RecordingData → ℕ → List ℕ → Event → Type 0
 AcceptsNext floor media rec r body event =
-    (f : Facts) × (bytes : List ℕ) × IsUnitOf floor media rec body bytes × IsUnit rec.init bytes f × (event ≡ Accept r f bytes)
+    (f : Facts) × (bytes : List ℕ) × IsUnitOf floor media rec body bytes × IsUnit rec.init bytes f × (event ≡ Accept r f bytes) × (16 ≤ length body)
 
 -- one record leads from a state to the next
 abbrev pub RestoresOne : (ℕ → ℕ) → List StoredMedia → State → List ℕ → State → Type 0

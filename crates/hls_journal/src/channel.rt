@@ -1,10 +1,11 @@
 //! The record of a channel: the first of a journal.
 
-ghost use Rattle.std.specs.Prelude.{◌≡◌, ℕ, ◌+◌, ◌++◌, ◌≤◌, ◌<◌, length, IfOk, IfSome, OnOk};
+ghost use Rattle.std.specs.Prelude.{◌≡◌, ℕ, ◌+◌, ◌++◌, ◌≤◌, ◌<◌, ◌==◌, ◌↔◌, not, IsTrue, length, take, drop, get_or, IfOk, IfErr, IfSome, OnOk, MatchOption};
 ghost use Rattle.std.specs.List.{flat_map};
 ghost use Rattle.byteorder.specs.Endian.{little_bytes};
 ghost use Rattle.hls_journal.specs.declared.fault.JournalFault.TheVariants.{JournalOther};
-ghost use Rattle.hls_journal.specs.Channels.{name_bytes, counts_bytes, base_bytes, epoch_bytes, rendition_bytes, config_bytes, channel_bytes, number_at, JudgesVersion, IsDifference};
+ghost use Rattle.hls_core.specs.Bases.{IsNoBase};
+ghost use Rattle.hls_journal.specs.Channels.{name_bytes, counts_bytes, base_bytes, epoch_bytes, rendition_bytes, config_bytes, header_bytes, channel_bytes, header_len, config_in, number_at, counts_in, base_in, boot_part, base_part, IsWholeBase, IsHeader, HasHeader, IsHeaderOf, JudgesVersion, JudgesConfigs, IsChannelFault};
 
 use crate::fault::{ConfigField, JournalFault};
 use crate::{CHANNEL, FORMAT_VERSION};
@@ -38,8 +39,7 @@ pub struct ChannelHeader {
     pub base: Base,
 }
 
-/// Returns the body of the record of a channel: the kind, the version of the format in two bytes, the boot id in 16, the base in 169,
-/// and the configuration.
+/// Returns the body of the record of a channel: its header, and the configuration.
 pub fn make_channel_body(
     alloc: Global,
     config: &Config,
@@ -47,13 +47,21 @@ pub fn make_channel_body(
 ) -> Result<Vec<u8>, AllocError>
     ensures { IfOk result (λ body. body.items ≡ channel_bytes config.now header.now) }
 {
-    let mut body = Vec::new(alloc);
-    body.push(CHANNEL)?;
-    body.extend_from_slice(&FORMAT_VERSION.to_le_bytes())?;
-    body.extend_from_slice(&header.boot)?;
-    push_base(&mut body, &header.base)?;
+    let mut body = make_header(alloc, header)?;
     body.extend_from_slice(&make_config_bytes(alloc, config)?)?;
     Ok(body)
+}
+
+/// Returns the header of the body: the kind, the version of the format in two bytes, the boot id in 16, and the base in 169.
+fn make_header(alloc: Global, header: &ChannelHeader) -> Result<Vec<u8>, AllocError>
+    ensures { IfOk result (λ out. out.items ≡ header_bytes header.now) }
+{
+    let mut out = Vec::new(alloc);
+    out.push(CHANNEL)?;
+    out.extend_from_slice(&FORMAT_VERSION.to_le_bytes())?;
+    out.extend_from_slice(&header.boot)?;
+    push_base(&mut out, &header.base)?;
+    Ok(out)
 }
 
 fn push_base(out: &mut Vec<u8>, base: &Base) -> Result<(), AllocError>
@@ -144,24 +152,34 @@ fn push_name(out: &mut Vec<u8>, name: &[u8]) -> Result<(), AllocError>
 
 /// Reads the record of a channel, which must have this configuration; its base is the record's.
 ///
-/// `NoChannel`: another record, or one that no channel has. `UnknownVersion`: the format has another version.
+/// The faults are found in this order. `NoChannel`: another record. `UnknownVersion`: the format has another version. `NoChannel`: the
+/// record is too short, or nothing can have its base. `JournalOther`: the first field in which the configurations differ.
 pub fn read_channel(
     alloc: Global,
     body: &[u8],
     config: &Config,
 ) -> Result<ChannelHeader, JournalFault>
-    ensures { IfOk result (λ header. body.now ≡ channel_bytes config.now header) }
+    ensures header { IfOk result (λ header. body.now ≡ channel_bytes config.now header) }
+    ensures fault { IfErr result (IsChannelFault config.now body.now) }
 {
     check_version(body)?;
-    let Some(header) = read_header(body) else {
+    let Some(header) = read_header(alloc, body)? else {
         return Err(JournalFault::NoChannel);
     };
-    let given = make_channel_body(alloc, config, &header)?;
-    if body == given.as_slice() {
-        return Ok(header);
-    }
     let given = make_config_bytes(alloc, config)?;
-    Err(find_difference(&body[CONFIG_AT..], &given))
+    match compare_configs(config_part(body), &given) {
+        Ok(()) => Ok(header),
+        Err(fault) => Err(fault),
+    }
+}
+
+/// Returns the configuration in a body.
+fn config_part(body: &[u8]) -> &[u8]
+    requires { 213 ≤ length body.now }
+    ensures value { result.now ≡ config_in body.now }
+    ensures len { 25 ≤ length result.now }
+{
+    &body[CONFIG_AT..]
 }
 
 fn check_version(body: &[u8]) -> Result<(), JournalFault>
@@ -178,71 +196,128 @@ fn check_version(body: &[u8]) -> Result<(), JournalFault>
 }
 
 /// Returns the boot id and the base; `None` if the body is too short, or if nothing can have this base.
-fn read_header(body: &[u8]) -> Option<ChannelHeader>
-    ensures { IfSome result (λ header. (188 ≤ length body.now) × (length header.boot ≡ 16) × (length header.base.run ≡ 16)) }
+fn read_header(alloc: Global, body: &[u8]) -> Result<Option<ChannelHeader>, AllocError>
+    ensures { IfOk result (λ header. MatchOption header (HasHeader body.now → ⊥) (IsHeaderOf body.now)) }
 {
-    if body.len() < CONFIG_AT {
-        return None;
+    if body.len() < CONFIG_AT + RENDITIONS_AT {
+        return Ok(None);
     }
-    let mut boot = [0; 16];
-    boot.copy_from_slice(&body[BOOT_AT..BASE_AT]);
-    let base = read_base(&body[BASE_AT..CONFIG_AT])?;
-    Some(ChannelHeader { boot, base })
+    let Some(header) = parse_header(body) else {
+        return Ok(None);
+    };
+    let again = make_header(alloc, &header)?;
+    if begins_with(body, &again) {
+        return Ok(Some(header));
+    }
+    Ok(None)
 }
 
-fn read_base(text: &[u8]) -> Option<Base>
-    requires { length text.now ≡ 169 }
+/// Whether a body begins with this header.
+fn begins_with(body: &[u8], header: &[u8]) -> bool
+    requires { 213 ≤ length body.now }
+    ensures { IsTrue result ↔ (take header_len body.now ≡ header.now) }
 {
-    let mut run = [0; 16];
-    run.copy_from_slice(&text[..16]);
-    let bytes = read_counts(&text[41..]);
-    let segments = LittleEndian::read_u64(&text[16..]);
-    let marks = LittleEndian::read_u64(&text[24..]);
-    let version = LittleEndian::read_u64(&text[33..]);
-    Base::new(run, segments, marks, text[32] != 0, bytes, version)
+    let front = &body[..CONFIG_AT];
+    front == header
 }
 
-fn read_counts(text: &[u8]) -> [u64; 16]
+/// Returns the boot id and the base in the bytes of a header, whatever the other bytes are.
+fn parse_header(body: &[u8]) -> Option<ChannelHeader>
+    requires { 213 ≤ length body.now }
+    ensures { MatchOption result (IsNoBase (base_in (base_part body.now))) (λ header. IsHeader header × (header.boot ≡ boot_part body.now) × (header.base ≡ base_in (base_part body.now))) }
+{
+    let boot = copy_16(body, BOOT_AT);
+    match parse_base(&body[BASE_AT..CONFIG_AT]) {
+        Some(base) => Some(ChannelHeader { boot, base }),
+        None => None,
+    }
+}
+
+/// Returns the 16 bytes at a place.
+fn copy_16(text: &[u8], at: usize) -> [u8; 16]
+    requires { at + 16 ≤ length text.now }
+    ensures { result ≡ take 16 (drop at text.now) }
+{
+    let mut bytes = [0; 16];
+    bytes.copy_from_slice(&text[at..at + 16]);
+    bytes
+}
+
+fn parse_base(text: &[u8]) -> Option<Base>
+    requires { length text.now ≡ 169 }
+    ensures value { MatchOption result (IsNoBase (base_in text.now)) (λ base. base ≡ base_in text.now) }
+    ensures valid { IfSome result IsWholeBase }
+{
+    let run = copy_16(text, 0);
+    let segments = read_number(text, 16);
+    let marks = read_number(text, 24);
+    let version = read_number(text, 33);
+    Base::new(
+        run,
+        segments,
+        marks,
+        is_set(text, 32),
+        parse_counts(counts_part(text)),
+        version,
+    )
+}
+
+/// Whether the byte at a place isn't zero.
+fn is_set(text: &[u8], at: usize) -> bool
+    requires { at < length text.now }
+    ensures { result ≡ not (get_or text.now at 0 == 0) }
+{
+    text[at] != 0
+}
+
+fn counts_part(text: &[u8]) -> &[u8]
+    requires { length text.now ≡ 169 }
+    ensures value { result.now ≡ drop 41 text.now }
+    ensures len { length result.now ≡ 128 }
+{
+    &text[41..]
+}
+
+fn parse_counts(text: &[u8]) -> [u64; 16]
     requires { length text.now ≡ 128 }
+    ensures { result ≡ counts_in text.now 16 }
 {
     let mut counts = [0; 16];
-    for (n, count) in counts.iter_mut().enumerate() {
-        *count = LittleEndian::read_u64(&text[8 * n..]);
+    for n in 0..16 {
+        counts[n] = read_number(text, 8 * n);
     }
     counts
 }
 
-/// Returns the first field in which two configurations differ, with both values. Of renditions these are the lengths of the
-/// configurations in bytes.
-fn find_difference(found: &[u8], given: &[u8]) -> JournalFault
-    ensures { IsDifference found.now given.now result }
+/// Compares two configurations: `JournalOther` has the first field in which they differ, with both values. Of renditions these are the
+/// lengths of the configurations in bytes.
+fn compare_configs(found: &[u8], given: &[u8]) -> Result<(), JournalFault>
+    requires { (25 ≤ length found.now) × (25 ≤ length given.now) }
+    ensures { JudgesConfigs found.now given.now result }
 {
-    if found.len() < RENDITIONS_AT || given.len() < RENDITIONS_AT {
-        return JournalFault::NoChannel;
-    }
     let (journal, mine) = (read_number(found, 0), read_number(given, 0));
     if journal != mine {
-        return other(ConfigField::Target, journal, mine);
+        return Err(other(ConfigField::Target, journal, mine));
     }
     let (journal, mine) = (read_number(found, 8), read_number(given, 8));
     if journal != mine {
-        return other(ConfigField::Preferred, journal, mine);
+        return Err(other(ConfigField::Preferred, journal, mine));
     }
     if found[..RENDITIONS_AT] != given[..RENDITIONS_AT] {
-        return other(
+        return Err(other(
             ConfigField::Epoch,
             read_number(found, 17),
             read_number(given, 17),
-        );
+        ));
     }
     if found != given {
-        return other(
+        return Err(other(
             ConfigField::Renditions,
             found.len() as u64,
             given.len() as u64,
-        );
+        ));
     }
-    JournalFault::NoChannel
+    Ok(())
 }
 
 /// Returns the number in the eight bytes at `at`.

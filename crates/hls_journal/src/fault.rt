@@ -1,5 +1,10 @@
 //! Why a journal restores no channel.
 
+ghost use Rattle.std.specs.Prelude.{◌≡◌};
+ghost use Rattle.hls_journal.specs.Faults.{fault_at};
+ghost use Rattle.hls_journal.specs.declared.fault.JournalFault.TheVariants as journal;
+ghost use Rattle.hls_journal.specs.declared.fault.RecallFault.TheVariants as recall;
+
 use std::alloc::AllocError;
 
 /// Why a journal restores no channel.
@@ -40,6 +45,8 @@ pub enum ConfigField {
 }
 
 impl From<AllocError> for JournalFault {
+    ghost from_gives = { λ _ fault. fault ≡ journal.Memory };
+
     fn from(_error: AllocError) -> JournalFault {
         JournalFault::Memory
     }
@@ -58,16 +65,20 @@ pub(crate) enum RecallFault {
 
 impl RecallFault {
     /// Returns the fault of the journal, given the record's number.
-    pub(crate) fn at_record(self, record: usize) -> JournalFault {
+    pub(crate) fn at_record(self, number: usize) -> JournalFault
+        ensures { result ≡ fault_at self number }
+    {
         match self {
             RecallFault::Memory => JournalFault::Memory,
-            RecallFault::Wrong => JournalFault::WrongRecord { record },
-            RecallFault::Missing => JournalFault::MissingUnit { record },
+            RecallFault::Wrong => JournalFault::WrongRecord { record: number },
+            RecallFault::Missing => JournalFault::MissingUnit { record: number },
         }
     }
 }
 
 impl From<AllocError> for RecallFault {
+    ghost from_gives = { λ _ fault. fault ≡ recall.Memory };
+
     fn from(_error: AllocError) -> RecallFault {
         RecallFault::Memory
     }

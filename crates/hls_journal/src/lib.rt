@@ -4,13 +4,16 @@
 //! event must be new. So whatever the records are, the result is a state of the configuration, or a fault that names the record.
 #![tactic(auto)]
 
+mod asides;
 mod bodies;
 mod channel;
 mod fault;
 mod floors;
+pub mod laws;
 mod restart;
 mod unit_head;
 
+pub use asides::{find_ids, is_closed};
 pub use bodies::{make_closed_body, make_event_body, make_ids_body};
 pub use channel::{ChannelHeader, make_channel_body, read_channel};
 pub use fault::{ConfigField, JournalFault};

@@ -92,7 +92,7 @@ stored_is floors media s t body r q f bytes others same at written keeps high st
 same_facts : (floors : ℕ → ℕ) (media : List StoredMedia) (s t : State) (body : List ℕ) (r q : ℕ) (f : Facts) (bytes others : List ℕ) (init : InitData) → channel t ≡ channel s → q ≡ r
     → IsUnitRecord (lane_len (lane (channel s) r)) bytes body → KeepsUnit floors media s (Accept r f bytes) → IsNextUnit floors media t q body others
     → facts init others ≡ facts init bytes
-same_facts floors media s t body r q f bytes others init same at written keeps (inl below) = trimmed_facts init (lane_len (lane (channel s) r)) bytes body others written below.1
+same_facts floors media s t body r q f bytes others init same at written keeps (inl below) = trimmed_facts init (lane_len (lane (channel s) r)) bytes body others written (below.1).is
 same_facts floors media s t body r q f bytes others init same at written keeps (inr stored) =
     ap (λ b. facts init b) (stored_is floors media s t body r q f bytes others same at written keeps stored.0 stored.1)
 

@@ -2,10 +2,16 @@
 
 use bytes::Bytes;
 
-/// The stored bytes of a rendition's resource from an offset on: its init section, followed by all units that were ever accepted.
+/// Consecutive bytes of a rendition's resource: its init section, followed by all units that were ever accepted.
 #[derive(Drop)]
-pub struct StoredMedia {
-    /// The offset of the first stored byte.
+pub struct MediaPiece {
+    /// The offset of the first byte.
     pub start: u64,
     pub bytes: Bytes,
+}
+
+/// The stored media of a rendition, in the order of their offsets. Each unit is in one piece, which is freed with the last of its units.
+#[derive(Drop)]
+pub struct StoredMedia {
+    pub pieces: Vec<MediaPiece>,
 }

@@ -1,10 +1,9 @@
 -- A write at the end leaves what is before it.
-use Rattle.std.proofs.Common.{◌≡◌, ◌∙◌, ℕ, zero, suc, ◌+◌, ◌-◌, ◌<◌, ◌≤◌, List, [], ◌∷◌, ◌++◌, length, take, drop, get_or, refl, sym, ap, subst, inl, inr, arith, length-append}
-use Rattle.std.proofs.lemmas.List.{length-take-le, take-append-drop, ext_get_or, get_or-take, get_or_append_left, get_or-append_right, append-nil, take_at}
+use Rattle.std.proofs.Common.{◌≡◌, ◌∙◌, ℕ, ◌+◌, ◌-◌, ◌<◌, ◌≤◌, List, [], ◌∷◌, ◌++◌, length, take, drop, get_or, sym, ap, subst, inl, inr, arith, length-append}
+use Rattle.std.proofs.lemmas.List.{length-take-le, take-append-drop, ext_get_or, get_or-take, get_or_append_left, get_or-append_right, append-nil}
 use Rattle.std.proofs.lemmas.Bool.{cases_lt}
 use Rattle.sqlite_disk.specs.Disk.{Torn, Cut, Holds, Follows, Only}
-use Rattle.hls_journal_log.specs.declared.ending.Ending.{Ending}
-use Rattle.hls_journal_log.specs.Records.{log_bytes, AreWithinLimit}
+use Rattle.hls_journal_log.specs.Records.{log_bytes}
 use Rattle.hls_journal_log.specs.Reading.{Reads}
 use Rattle.hls_journal_log.specs.Crashes.{Survive, SurvivorsAreRead}
 use Rattle.hls_journal_log.proofs.Headers.{all_read}

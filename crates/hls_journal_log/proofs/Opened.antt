@@ -1,5 +1,5 @@
 -- What opening a log leaves.
-use Rattle.std.proofs.Common.{◌≡◌, ◌∙◌, ℕ, ◌+◌, ◌-◌, ◌≤◌, List, [], ◌∷◌, ◌++◌, length, take, drop, refl, sym, ap, subst, arith, length-append, length-drop}
+use Rattle.std.proofs.Common.{◌≡◌, ◌∙◌, ℕ, ◌-◌, ◌≤◌, List, [], ◌∷◌, length, take, drop, sym, ap, subst, arith, length-append, length-drop}
 use Rattle.std.proofs.lemmas.List.{take_at, take_all, append-nil}
 use Rattle.sqlite_disk.specs.Disk.{Only}
 use Rattle.hls_journal_log.specs.declared.read.LogContent.{LogContent}

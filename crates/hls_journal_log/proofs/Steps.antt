@@ -1,14 +1,14 @@
 -- The loops that read and write records: one more.
-use Rattle.std.proofs.Common.{◌≡◌, ◌∙◌, ℕ, zero, suc, ◌+◌, ◌-◌, ◌<◌, ◌≤◌, List, [], ◌∷◌, ◌++◌, length, take, drop, get_or, refl, sym, ap, subst, inl, inr, arith, append_assoc, length-append, length-drop}
+use Rattle.std.proofs.Common.{◌≡◌, ◌∙◌, ℕ, suc, ◌+◌, ◌-◌, ◌<◌, ◌≤◌, List, [], ◌∷◌, ◌++◌, length, take, drop, get_or, refl, sym, ap, subst, inl, inr, arith, append_assoc, length-append, length-drop}
 use Rattle.std.specs.Prelude.{slice_range}
-use Rattle.std.specs.Int.{w32, from_le_bytes, to_le_bytes}
+use Rattle.std.specs.Int.{w32, from_le_bytes}
 use Rattle.std.proofs.lemmas.Bool.{cases_lt}
-use Rattle.std.proofs.lemmas.List.{take_more, take_all, length-take, length-take-le, take-append-drop, drop-drop, get_or-take, get_or-drop, get_or_past, append-nil}
+use Rattle.std.proofs.lemmas.List.{take_more, take_all, length-take, length-take-le, take-append-drop, drop-drop, get_or-take, get_or_past, append-nil}
 use Rattle.std.proofs.lemmas.List.Elements.{All-nil, All-push}
 use Rattle.std.proofs.lemmas.Nat.{le_bytes_4}
 use Rattle.byteorder.specs.Endian.{little_bytes, little_number}
 use Rattle.byteorder.specs.Numbers.{little_from-take}
-use Rattle.hls_journal_log.specs.Records.{header_len, body_limit, checksum, record_bytes, log_bytes, AreWithinLimit, body_len_in, checksum_in, body_in, IsRecord}
+use Rattle.hls_journal_log.specs.Records.{body_limit, checksum, record_bytes, log_bytes, AreWithinLimit, body_len_in, checksum_in, body_in, IsRecord}
 use Rattle.hls_journal_log.specs.Reading.{IsRecordAndRest}
 use Rattle.hls_journal_log.proofs.Headers.{record_parts, length_record}
 

@@ -1,10 +1,11 @@
--- The result of reading and of opening a log.
-use Rattle.std.specs.Prelude.{◌≡◌, ℕ, ◌≤◌, List, ◌++◌, length, take, drop, Result, Ok, Err, ⊤}
+-- The result of reading a log, and of beginning to append to it.
+use Rattle.std.specs.Prelude.{◌≡◌, ℕ, ◌+◌, List, length, drop, Result, Ok, Err, ⊤}
 use Rattle.sqlite_disk.specs.Disk.{Only}
 use Rattle.hls_journal_log.specs.declared.ending.Ending.{Ending}
 use Rattle.hls_journal_log.specs.declared.fault.LogFault.{LogFault}
 use Rattle.hls_journal_log.specs.declared.fault.LogFault.TheVariants.{Memory, Disk, Damaged}
 use Rattle.hls_journal_log.specs.declared.read.LogContent.{LogContent}
+use Rattle.hls_journal_log.specs.declared.open.ReadLog.{ReadLog}
 use Rattle.hls_journal_log.specs.Records.{log_bytes}
 use Rattle.hls_journal_log.specs.Reading.{Reads}
 use Rattle.hls_journal_log.specs.SyncPoints.{HasSyncPointBeyond}
@@ -29,6 +30,20 @@ Judges text (Ok content) = IsRead text content
 Judges text (Err Memory) = ⊤
 Judges text (Err (Disk error)) = ⊥
 Judges text (Err (Damaged at)) = IsDamaged text at
+
+-- the same of the text on a disk, which may fail; so many bytes follow the last record
+abbrev pub JudgesDisk : List ℕ → Result ReadLog LogFault → Type 0
+JudgesDisk text (Ok read) = IsRead text read.content × (read.dropped + read.content.len ≡ length text)
+JudgesDisk text (Err Memory) = ⊤
+JudgesDisk text (Err (Disk error)) = ⊤
+JudgesDisk text (Err (Damaged at)) = IsDamaged text at
+
+-- memory runs out, or the disk fails
+abbrev pub MayFail : Result (List ℕ) LogFault → Type 0
+MayFail (Ok text) = ⊤
+MayFail (Err Memory) = ⊤
+MayFail (Err (Disk error)) = ⊤
+MayFail (Err (Damaged at)) = ⊥
 
 -- a file with these bytes is read, and what isn't complete is cut off: the file is the records, and so is what a crash leaves
 pub record Opens (old new : List ℕ) (outcomes : List ℕ → Type 0) (content : LogContent) : Type 0 where

@@ -1,7 +1,7 @@
 -- Sync points: records that say how far the log was synced before them.
 use Rattle.std.specs.Prelude.{◌≡◌, ℕ, ◌+◌, ◌<◌, ◌≤◌, List, [], ◌∷◌, ◌++◌, length, take, drop}
 use Rattle.byteorder.specs.Endian.{little_bytes, little_number}
-use Rattle.hls_journal_log.specs.Records.{header_len, body_len_in, checksum_in, body_in, checksum}
+use Rattle.hls_journal_log.specs.Records.{header_len, body_len_in, checksum_in, checksum}
 
 -- the kind of a sync point, and the letters `hlssync`
 abbrev pub sync_mark : List ℕ

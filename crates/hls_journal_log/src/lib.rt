@@ -19,7 +19,7 @@ mod write;
 pub use ending::Ending;
 pub use fault::LogFault;
 pub use log::Log;
-pub use open::{OpenedLog, open_log, read_log};
+pub use open::{ReadLog, begin_log, read_disk, read_log};
 pub use read::{LogContent, read_records};
 pub use sync_point::has_sync_point_beyond;
 

@@ -1,8 +1,8 @@
-//! Opens the log on a disk.
+//! Reads the log on a disk, and begins to append to it.
 
-ghost use Rattle.std.specs.Prelude.{◌≡◌, ◌+◌, length, take, IsTrue, IfOk, OnOk};
+ghost use Rattle.std.specs.Prelude.{◌≡◌, ◌+◌, ℕ, List, length, take, Ok, IsTrue, IfOk, OnOk};
 ghost use Rattle.sqlite_disk.specs.Disk.{Only};
-ghost use Rattle.hls_journal_log.specs.Opening.{Judges, Opens};
+ghost use Rattle.hls_journal_log.specs.Opening.{Judges, JudgesDisk, MayFail, Opens};
 
 use crate::fault::LogFault;
 use crate::log::Log;
@@ -10,15 +10,14 @@ use crate::read::{LogContent, read_records};
 use crate::sync_point::has_sync_point_beyond;
 use bytes::{Bytes, BytesMut};
 use sqlite_disk::Disk;
-use std::alloc::Global;
+use std::alloc::{AllocError, Global};
 use std::io::{self, ErrorKind};
 
-/// A log that was opened, and what was in it.
+/// The content of a log on a disk.
 #[derive(Drop)]
-pub struct OpenedLog<D: Disk + Drop> {
-    pub log: Log<D>,
+pub struct ReadLog {
     pub content: LogContent,
-    /// How many bytes followed the last record and were cut off.
+    /// How many bytes follow the last record.
     pub dropped: usize,
 }
 
@@ -37,57 +36,70 @@ pub fn read_log(alloc: Global, text: &Bytes) -> Result<LogContent, LogFault>
     Ok(content)
 }
 
-/// Opens the log on a disk: reads it, cuts off a tail that isn't complete, and makes the rest durable.
-pub fn open_log<D: Disk + Drop>(alloc: Global, mut disk: D) -> Result<OpenedLog<D>, LogFault>
-    ensures opens { IfOk result (λ opened. IsTrue (D.is_clean opened.log.disk) → Opens (D.seen disk) (D.seen opened.log.disk) (D.may_leave opened.log.disk) opened.content) }
-    ensures place { IfOk result (λ opened. (opened.log.end ≡ opened.content.len) × (opened.log.synced ≡ opened.content.len) × (opened.log.next ≡ length opened.content.bodies.items)) }
-    ensures dropped { IfOk result (λ opened. IsTrue (D.is_clean opened.log.disk) → opened.dropped + opened.content.len ≡ length (D.seen disk)) }
-    ensures usable { IfOk result (λ opened. IsTrue (D.is_usable opened.log.disk)) }
+/// Reads the log on a disk, and changes nothing.
+pub fn read_disk<D: Disk>(alloc: Global, disk: &mut D) -> Result<ReadLog, LogFault>
+    ensures judges { IsTrue (D.is_clean disk.new) → JudgesDisk (D.seen disk.old) result }
+    ensures seen { D.seen disk.new ≡ D.seen disk.old }
+    ensures crash { (c : List ℕ) → D.may_leave disk.new c → D.may_leave disk.old c }
+    ensures usable { IfOk result (λ _. IsTrue (D.is_usable disk.new)) }
 {
-    let text = read_whole(alloc, &mut disk)?;
+    let text = read_whole(alloc, disk)?;
     let content = read_log(alloc, &text)?;
-    cut_tail(&mut disk, text.len(), content.len)?;
-    let len = content.len;
-    let next = content.bodies.len() as u64;
-    let log = Log {
+    let dropped = text.len() - content.len;
+    Ok(ReadLog { content, dropped })
+}
+
+/// Begins to append to the log that was read on a disk: cuts off what follows its last record, and makes the rest durable.
+pub fn begin_log<D: Disk + Drop>(mut disk: D, read: &ReadLog) -> io::Result<Log<D>>
+    ensures opens { IfOk result (λ log. JudgesDisk (D.seen disk) (Ok read.now) → Opens (D.seen disk) (D.seen log.disk) (D.may_leave log.disk) read.now.content) }
+    ensures place { IfOk result (λ log. (log.end ≡ read.now.content.len) × (log.synced ≡ read.now.content.len) × (log.next ≡ length read.now.content.bodies.items)) }
+    ensures usable { IfOk result (λ log. IsTrue (D.is_usable log.disk)) }
+{
+    let len = read.content.len;
+    cut_tail(&mut disk, read.dropped, len)?;
+    Ok(Log {
         disk,
         end: len,
-        next,
+        next: read.content.bodies.len() as u64,
         synced: len,
-    };
-    Ok(OpenedLog {
-        log,
-        content,
-        dropped: text.len() - len,
     })
 }
 
 /// Returns the bytes of a disk.
-fn read_whole<D: Disk>(alloc: Global, disk: &mut D) -> io::Result<Bytes>
+fn read_whole<D: Disk>(alloc: Global, disk: &mut D) -> Result<Bytes, LogFault>
     ensures read { IfOk result (λ text. IsTrue (D.is_clean disk.new) → text ≡ D.seen disk.old) }
+    ensures fault { MayFail result }
     ensures seen { D.seen disk.new ≡ D.seen disk.old }
+    ensures crash { (c : List ℕ) → D.may_leave disk.new c → D.may_leave disk.old c }
     ensures usable { IfOk result (λ _. IsTrue (D.is_usable disk.new)) }
 {
     if !disk.may_be_used() {
-        return Err(ErrorKind::Other.into());
+        return Err(LogFault::Disk(ErrorKind::Other.into()));
     }
     let len = disk.len()?;
     let mut text = BytesMut::zeroed(alloc, len)?;
     if len > 0 {
         disk.read_at(0, &mut text)?;
     }
+    Ok(freeze(text)?)
+}
+
+fn freeze(text: BytesMut) -> Result<Bytes, AllocError>
+    ensures { IfOk result (λ bytes. bytes ≡ text.items) }
+{
     Ok(text.freeze()?)
 }
 
-/// Cuts a file of `old` bytes off at `len`, if it is longer, and makes the rest durable.
-fn cut_tail<D: Disk>(disk: &mut D, old: usize, len: usize) -> io::Result<()>
-    requires { IsTrue (D.is_usable disk.old) }
-    ensures cut { OnOk result (length (D.seen disk.old) ≡ old → D.seen disk.new ≡ take len (D.seen disk.old)) }
+/// Cuts a file off at `len`, if more bytes follow, and makes the rest durable.
+fn cut_tail<D: Disk>(disk: &mut D, dropped: usize, len: usize) -> io::Result<()>
+    ensures cut { OnOk result (length (D.seen disk.old) ≡ dropped + len → D.seen disk.new ≡ take len (D.seen disk.old)) }
     ensures durable { OnOk result (Only (D.seen disk.new) (D.may_leave disk.new)) }
     ensures usable { OnOk result (IsTrue (D.is_usable disk.new)) }
-    ensures clean { IsTrue (D.is_clean disk.new) → IsTrue (D.is_clean disk.old) }
 {
-    if len < old {
+    if !disk.may_be_used() {
+        return Err(ErrorKind::Other.into());
+    }
+    if dropped > 0 {
         disk.set_len(len)?;
     }
     disk.sync()

@@ -1,4 +1,4 @@
-use Rattle.std.proofs.Common.{◌≡◌, ◌∙◌, ◌++◌, ℕ, List, ap, subst, arith, Vec, Global}
+use Rattle.std.proofs.Common.{◌∙◌, ◌++◌, ℕ, List, ap, subst, arith, Vec, Global}
 use Rattle.std.proofs.lemmas.Result.{IfOk-weaker}
 use Rattle.hls_journal.specs.Bodies.{IsUnitBody}
 use Rattle.hls_journal.proofs.Started.{begin_body_of, accept_body_of, finish_body_of, slide_body_of, trim_body_of}

@@ -1,4 +1,4 @@
-use Rattle.std.proofs.Common.{◌≡◌, ◌∙◌, ◌-◌, ◌<◌, ◌^◌, ◌++◌, length, take, refl, ap, arith}
+use Rattle.std.proofs.Common.{◌∙◌, ◌++◌, take, refl, ap, arith}
 use Rattle.std.specs.Int.{w64, to_le_bytes}
 use Rattle.hls_journal.proofs.Started.{unit_body_of}
 use Rattle.hls_journal.proofs.bodies.make_unit_body.Goals as goal

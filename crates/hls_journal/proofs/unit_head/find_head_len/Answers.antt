@@ -1,4 +1,4 @@
-use Rattle.std.proofs.Common.{◌≡◌, ◌∙◌, ◌+◌, ◌-◌, ◌≤◌, ◌==◌, true, Some, None, length, take, drop, refl, sym, ap, arith}
+use Rattle.std.proofs.Common.{◌∙◌, ◌-◌, length, take, drop, refl, sym, ap, arith}
 use Rattle.std.proofs.lemmas.Bool.{eqb-true, eq-eqb}
 use Rattle.hls_boxes.specs.Boxes.{header_at}
 use Rattle.hls_boxes.specs.Kinds.{mdat_type}

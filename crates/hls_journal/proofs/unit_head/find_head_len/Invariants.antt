@@ -1,4 +1,4 @@
-use Rattle.std.proofs.Common.{ℕ, ◌-◌, length}
+use Rattle.std.proofs.Common.{◌-◌, length}
 use Rattle.hls_journal.proofs.NoHead.{Searches}
 use Rattle.hls_journal.proofs.unit_head.find_head_len.Given as goal
 

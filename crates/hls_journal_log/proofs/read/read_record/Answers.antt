@@ -1,4 +1,4 @@
-use Rattle.std.proofs.Common.{◌≡◌, ◌<◌, ℕ, get_or, arith, rules}
+use Rattle.std.proofs.Common.{◌<◌, ℕ, get_or, arith, rules}
 use Rattle.hls_journal_log.specs.Records.{IsRecord}
 use Rattle.hls_journal_log.proofs.Steps.{rebuilt}
 use Rattle.hls_journal_log.proofs.read.read_record.Goals as goal

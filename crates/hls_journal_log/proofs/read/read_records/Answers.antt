@@ -1,4 +1,3 @@
-use Rattle.std.proofs.Common.{◌≡◌}
 use Rattle.hls_journal_log.proofs.Steps.{read_step_at}
 use Rattle.hls_journal_log.proofs.read.read_records.Goals as goal
 

@@ -1,4 +1,4 @@
-use Rattle.std.proofs.Common.{ℕ, ◌-◌, length}
+use Rattle.std.proofs.Common.{◌-◌, length}
 use Rattle.hls_journal_log.proofs.Steps.{HasRead}
 use Rattle.hls_journal_log.proofs.read.read_records.Given as goal
 

@@ -1,4 +1,4 @@
-use Rattle.std.proofs.Common.{ℕ, ◌-◌, length}
+use Rattle.std.proofs.Common.{◌-◌, length}
 use Rattle.hls_journal_log.proofs.Places.{NoneSoFar}
 use Rattle.hls_journal_log.proofs.sync_point.has_sync_point_beyond.Given as goal
 

@@ -1,4 +1,4 @@
-use Rattle.std.proofs.Common.{◌≡◌, ◌∙◌, ◌++◌, ap}
+use Rattle.std.proofs.Common.{◌∙◌, ◌++◌, ap}
 use Rattle.hls_journal_log.specs.Records.{record_bytes}
 use Rattle.hls_journal_log.proofs.Steps.{record_made}
 use Rattle.hls_journal_log.proofs.write.make_records.Goals as goal

@@ -1,4 +1,4 @@
-use Rattle.std.proofs.Common.{◌≡◌, ℕ, ◌+◌, take}
+use Rattle.std.proofs.Common.{◌≡◌, ◌+◌, take}
 use Rattle.hls_journal_log.specs.Records.{log_bytes}
 use Rattle.hls_journal_log.proofs.write.make_records.Given as goal
 

@@ -1,4 +1,4 @@
-use Rattle.std.proofs.Common.{◌≡◌, ◌∙◌, ◌++◌, ap}
+use Rattle.std.proofs.Common.{◌∙◌, ◌++◌, ap}
 use Rattle.std.specs.Int.{w64, to_le_bytes}
 use Rattle.hls_journal_log.proofs.Headers.{record_pushed}
 use Rattle.hls_journal_log.proofs.write.push_record.Goals as goal

@@ -1,4 +1,4 @@
-use Rattle.std.proofs.Common.{◌≡◌, ◌++◌, length}
+use Rattle.std.proofs.Common.{length}
 use Rattle.hls_journal_log.proofs.Crashes.{survive_write, file_after_write}
 use Rattle.hls_journal_log.proofs.log.Log.write_end.Goals as goal
 

@@ -1,0 +1,6 @@
+use Rattle.std.proofs.Common.{◌≡◌, take}
+use Rattle.hls_journal.specs.Asides.{highest_ids}
+use Rattle.hls_journal.proofs.asides.find_ids.Given as goal
+
+abbrev pub invariant-loop-body : goal.invariant-loop-body
+invariant-loop-body l = l.ids ≡ highest_ids (take l.body-index l.bodies)

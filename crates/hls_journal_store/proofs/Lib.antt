@@ -1,0 +1,3 @@
+mod Batches
+mod CutBack
+mod Followed

@@ -1,0 +1,13 @@
+-- Calls on a file, as they are noted.
+use Rattle.std.specs.Prelude.{ℕ, List, ◌∷◌, slice_index, ◌==◌, if◌then◌else◌}
+use Rattle.sqlite_disk.specs.Events.{Event}
+
+-- a noted call: its kind, offset or length, count, success and bytes, which for a tested read begin with the key and the digest
+abbrev pub call_of : List ℕ → List ℕ → Event
+call_of numbers bytes = (
+  slice_index numbers 0,
+  slice_index numbers 1,
+  slice_index numbers 2,
+  slice_index numbers 3 == 1,
+  if slice_index numbers 0 == 6 then slice_index numbers 4 ∷ slice_index numbers 5 ∷ bytes else bytes,
+)

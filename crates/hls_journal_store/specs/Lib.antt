@@ -1,0 +1,5 @@
+pub mod Calls
+pub mod LogFiles
+pub mod Batches
+pub mod Writes
+pub mod Followed

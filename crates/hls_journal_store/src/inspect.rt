@@ -1,0 +1,172 @@
+//! Reports what a journal's folder holds, and closes the journal of a process that has ended.
+
+use crate::batch::RENDITIONS;
+use crate::boot_id::{find_boot, read_boot_id};
+use crate::fault::{OpenFault, StorePart, open_fault};
+use crate::kept_units::{MediaIndex, find_kept_units};
+use crate::media_read::{freeze, make_zeros, read_unit};
+use crate::media_span::find_span;
+use crate::media_track::{media_path, open_and_sync};
+use crate::records::append_closed;
+use crate::store_paths::{StorePaths, is_there};
+use bytes::Bytes;
+use hls_journal::{find_ids, is_closed};
+use hls_journal_log::{LogContent, begin_log, read_disk, read_log};
+use sqlite_disk::digest_of;
+use std::alloc::Global;
+use std::fs::File;
+use std::io::{self, ErrorKind};
+use std::os::unix::fs::FileExt;
+use std::rt::Files;
+
+/// What a journal's folder holds.
+#[derive(Clone, Copy, Debug, Drop)]
+pub struct StoreReport {
+    /// Whether players have seen more of the channel than the log has.
+    pub is_marked: bool,
+    /// The number of the log's records.
+    pub records: usize,
+    /// The bytes of the log's records.
+    pub log_bytes: usize,
+    /// How many bytes of an incomplete record follow.
+    pub dropped: usize,
+    /// The number of units that aren't trimmed.
+    pub units: usize,
+    /// How many of them the media files don't have.
+    pub missing: usize,
+    /// The bytes of the others.
+    pub media_bytes: u64,
+    /// Whether the journal was closed.
+    pub was_closed: bool,
+    /// Whether the last process that wrote to it ran on this boot.
+    pub same_boot: bool,
+}
+
+/// Reports what the journal in a folder holds. Changes nothing, and takes no lock.
+pub fn inspect_store<R: Files<File = File>>(
+    rt: &R,
+    alloc: Global,
+    folder: &str,
+) -> Result<StoreReport, OpenFault> {
+    let paths = StorePaths::new(alloc, folder)?;
+    let text = read_file(rt, alloc, &paths.log)?;
+    let content = read_log(alloc, &text)?;
+    let index = find_kept_units(alloc, &content.bodies)?;
+    let mut report = StoreReport {
+        is_marked: is_there(rt, &paths.marker),
+        records: content.bodies.len(),
+        log_bytes: content.len,
+        dropped: text.len().saturating_sub(content.len),
+        units: index.units.len(),
+        missing: 0,
+        media_bytes: 0,
+        was_closed: is_closed(&content.bodies),
+        same_boot: find_boot(&content.bodies, [0; 16]) == read_boot_id(rt),
+    };
+    check_units(rt, alloc, &paths.media, &index, &mut report)?;
+    Ok(report)
+}
+
+/// Counts the units that the media files have, and those that they don't have.
+fn check_units<R: Files<File = File>>(
+    rt: &R,
+    alloc: Global,
+    folder: &str,
+    index: &MediaIndex,
+    report: &mut StoreReport,
+) -> Result<(), OpenFault> {
+    for unit in &index.units {
+        match read_unit(rt, alloc, folder, unit)? {
+            Some(bytes) if digest_of(unit.at, &bytes) == unit.sum => {
+                report.media_bytes = report.media_bytes.saturating_add(unit.len as u64);
+            }
+            _ => report.missing = report.missing.saturating_add(1),
+        }
+    }
+    Ok(())
+}
+
+/// Returns the bytes of a file.
+fn read_file<R: Files<File = File>>(rt: &R, alloc: Global, path: &str) -> Result<Bytes, OpenFault> {
+    let (file, len) = match open_to_read(rt, path) {
+        Ok(opened) => opened,
+        Err(error) => return Err(open_fault(StorePart::Log, error)),
+    };
+    let mut text = make_zeros(alloc, len)?;
+    match file.read_exact_at(&mut text, 0) {
+        Ok(()) => Ok(freeze(text)?),
+        Err(error) => Err(open_fault(StorePart::Log, error)),
+    }
+}
+
+fn open_to_read<R: Files<File = File>>(rt: &R, path: &str) -> io::Result<(File, usize)> {
+    let file = File::open(rt, path)?;
+    let len = file.metadata()?.len() as usize;
+    Ok((file, len))
+}
+
+/// Closes the journal in a folder, of a process that has ended: writes that it was closed, and makes everything durable. What follows
+/// the last complete record is cut off. Does nothing if there is no record.
+pub fn close_store<R: Files<File = File>>(
+    rt: &R,
+    alloc: Global,
+    folder: &str,
+) -> Result<(), OpenFault> {
+    let paths = StorePaths::new(alloc, folder)?;
+    let _lock = paths.lock(rt)?;
+    let mut disk = paths.open_log(rt)?;
+    let read = read_disk(alloc, &mut disk)?;
+    if read.content.bodies.is_empty() || is_closed(&read.content.bodies) {
+        return Ok(());
+    }
+    sync_media(rt, alloc, &paths.media, &read.content)?;
+    let mut log = match begin_log(disk, &read) {
+        Ok(log) => log,
+        Err(error) => return Err(open_fault(StorePart::Log, error)),
+    };
+    append_closed(&mut log, alloc)?;
+    Ok(())
+}
+
+/// Makes the media files durable, and their names.
+fn sync_media<R: Files<File = File>>(
+    rt: &R,
+    alloc: Global,
+    folder: &str,
+    content: &LogContent,
+) -> Result<(), OpenFault> {
+    let index = find_kept_units(alloc, &content.bodies)?;
+    for rendition in 0..RENDITIONS {
+        if index.total(rendition) > 0 {
+            let folder = format!(in alloc; "{folder}/{rendition}")?;
+            sync_files(
+                rt,
+                alloc,
+                &folder,
+                find_span(index.total(rendition), 0).number,
+            )?;
+        }
+    }
+    Ok(())
+}
+
+/// Syncs the media files in a folder up to a number, and the folder. Those that were removed are passed over.
+fn sync_files<R: Files<File = File>>(
+    rt: &R,
+    alloc: Global,
+    folder: &str,
+    last: u64,
+) -> Result<(), OpenFault> {
+    for number in 0..last.saturating_add(1) {
+        sync_if_there(rt, &media_path(alloc, folder, number)?)?;
+    }
+    sync_if_there(rt, folder)
+}
+
+fn sync_if_there<R: Files<File = File>>(rt: &R, path: &str) -> Result<(), OpenFault> {
+    match open_and_sync(rt, path) {
+        Ok(()) => Ok(()),
+        Err(error) if error.kind() == ErrorKind::NotFound => Ok(()),
+        Err(error) => Err(open_fault(StorePart::Media, error)),
+    }
+}

@@ -1,0 +1,175 @@
+//! The media files of one rendition.
+
+use crate::fault::{StoreFault, StorePart, sync_fault, write_fault};
+use crate::media_span::find_span;
+use std::alloc::{AllocError, Global};
+use std::fs::{self, File};
+use std::io::{self, ErrorKind};
+use std::os::unix::fs::FileExt;
+use std::rt::Files;
+
+/// The media files of a rendition: those that a journal writes, in ascending order.
+#[derive(Drop)]
+pub(crate) struct MediaTrack {
+    /// The folder.
+    folder: String,
+    /// The file that was written to last.
+    file: Option<File>,
+    /// Its number.
+    number: u64,
+    /// Whether it has bytes that aren't synced.
+    unsynced: bool,
+    /// Whether the folder has a file whose name isn't synced.
+    renamed: bool,
+    /// The first file that may still be there.
+    first: u64,
+}
+
+impl MediaTrack {
+    pub(crate) fn new(folder: String) -> MediaTrack {
+        MediaTrack {
+            folder,
+            file: None,
+            number: 0,
+            unsynced: false,
+            renamed: false,
+            first: 0,
+        }
+    }
+
+    /// Stores bytes at an offset of the resource.
+    pub(crate) fn write<R: Files<File = File>>(
+        &mut self,
+        rt: &R,
+        alloc: Global,
+        at: u64,
+        bytes: &[u8],
+    ) -> Result<(), StoreFault> {
+        let mut done = 0;
+        'spans: while done < bytes.len() {
+            let span = find_span(at.saturating_add(done as u64), bytes.len() - done);
+            self.select_file(rt, alloc, span.number)?;
+            self.write_span(span.place, &bytes[done..done + span.len])?;
+            done += span.len;
+        }
+        Ok(())
+    }
+
+    fn write_span(&mut self, place: u64, bytes: &[u8]) -> Result<(), StoreFault> {
+        let Some(file) = &self.file else {
+            return Err(StoreFault::Memory);
+        };
+        self.unsynced = true;
+        match file.write_all_at(bytes, place) {
+            Ok(()) => Ok(()),
+            Err(error) => Err(write_fault(StorePart::Media, error)),
+        }
+    }
+
+    /// Makes the file of a number the one that is written to. One with bytes that aren't synced is synced before it is closed.
+    fn select_file<R: Files<File = File>>(
+        &mut self,
+        rt: &R,
+        alloc: Global,
+        number: u64,
+    ) -> Result<(), StoreFault> {
+        if self.file.is_some() && self.number == number {
+            return Ok(());
+        }
+        self.sync_file()?;
+        let path = media_path(alloc, &self.folder, number)?;
+        let file = match open_to_write(rt, &self.folder, &path) {
+            Ok(file) => file,
+            Err(error) => return Err(write_fault(StorePart::Media, error)),
+        };
+        self.file = Some(file);
+        self.number = number;
+        self.renamed = true;
+        Ok(())
+    }
+
+    fn sync_file(&mut self) -> Result<(), StoreFault> {
+        if !self.unsynced {
+            return Ok(());
+        }
+        if let Some(file) = &self.file {
+            if let Err(error) = file.sync_data() {
+                return Err(sync_fault(StorePart::Media, error));
+            }
+        }
+        self.unsynced = false;
+        Ok(())
+    }
+
+    /// Makes what was written durable, and the names of new files, also in the folder above.
+    pub(crate) fn sync<R: Files<File = File>>(
+        &mut self,
+        rt: &R,
+        parent: &str,
+    ) -> Result<(), StoreFault> {
+        self.sync_file()?;
+        if self.renamed {
+            sync_folder(rt, &self.folder)?;
+            sync_folder(rt, parent)?;
+            self.renamed = false;
+        }
+        Ok(())
+    }
+
+    /// Removes the files that end before an offset. One that can't be removed is tried again in the next call.
+    pub(crate) fn remove_below<R: Files<File = File>>(
+        &mut self,
+        rt: &R,
+        alloc: Global,
+        at: u64,
+    ) -> Result<(), StoreFault> {
+        let end = find_span(at, 0).number.min(self.number);
+        'files: while self.first < end {
+            let path = media_path(alloc, &self.folder, self.first)?;
+            if !is_removed(fs::remove_file(rt, &path)) {
+                return Ok(());
+            }
+            self.first += 1;
+        }
+        Ok(())
+    }
+}
+
+/// Whether a file is gone after a call that removes it.
+fn is_removed(outcome: io::Result<()>) -> bool {
+    match outcome {
+        Ok(()) => true,
+        Err(error) => error.kind() == ErrorKind::NotFound,
+    }
+}
+
+/// Returns the path of a media file.
+pub(crate) fn media_path(alloc: Global, folder: &str, number: u64) -> Result<String, AllocError> {
+    format!(in alloc; "{folder}/{number:05}")
+}
+
+/// Opens a media file, and makes it and its folder if they are missing.
+fn open_to_write<R: Files<File = File>>(rt: &R, folder: &str, path: &str) -> io::Result<File> {
+    let mut options = File::options();
+    options.read(true).write(true).create(true);
+    match options.open(rt, path) {
+        Err(error) if error.kind() == ErrorKind::NotFound => {
+            fs::create_dir_all(rt, folder)?;
+            options.open(rt, path)
+        }
+        opened => opened,
+    }
+}
+
+/// Makes the names in a folder durable.
+fn sync_folder<R: Files<File = File>>(rt: &R, folder: &str) -> Result<(), StoreFault> {
+    match open_and_sync(rt, folder) {
+        Ok(()) => Ok(()),
+        Err(error) => Err(sync_fault(StorePart::Media, error)),
+    }
+}
+
+/// Syncs a file or a folder.
+pub(crate) fn open_and_sync<R: Files<File = File>>(rt: &R, path: &str) -> io::Result<()> {
+    File::open(rt, path)?.sync_all()
+}

@@ -1,0 +1,323 @@
+//! Opens the folder of a journal.
+
+use crate::batch::{Position, RENDITIONS, into_bytes};
+use crate::boot_id::{find_boot, make_boot_body, read_boot_id};
+use crate::fault::{OpenFault, StorePart, open_fault};
+use crate::follower::{Follower, StoreFollower};
+use crate::log_file::LogFile;
+use crate::media_files::MediaFiles;
+use crate::records::{append_point, append_records, sync_log};
+use crate::restored::{Source, count_bytes, count_synced, restore_prefix};
+use crate::store_paths::{StorePaths, is_there};
+use crate::sync_mode::SyncMode;
+use bytes::Bytes;
+use hls_core::config::Config;
+use hls_core::snapshot::Snapshot;
+use hls_journal::{
+    ChannelHeader, find_ids, is_closed, make_channel_body, make_ids_body, read_channel,
+};
+use hls_journal_log::{Log, ReadLog, begin_log, read_disk};
+use std::alloc::{AllocError, Global};
+use std::fs::File;
+use std::rt::Files;
+use std::sync::Arc;
+
+/// How many job ids a start reserves: more than a process gives out.
+const RESERVED_IDS: u64 = 4294967296;
+
+/// An open journal, and its channel.
+#[derive(Drop)]
+pub struct OpenedStore {
+    pub follower: StoreFollower,
+    /// The channel's state: the opening one of a new journal, else the restored one.
+    pub snapshot: Arc<Snapshot>,
+    pub start: StoreStart,
+}
+
+/// What a start found.
+#[derive(Clone, Copy, Debug, Drop)]
+pub struct StoreStart {
+    /// Whether the folder had no channel.
+    pub is_new: bool,
+    /// The number of log entries that were restored.
+    pub version: u64,
+    /// The bytes of the log's records.
+    pub log_bytes: usize,
+    /// How many bytes of an incomplete record were cut off.
+    pub dropped: usize,
+    /// The number of units that were read.
+    pub units: usize,
+    /// The first job id that no process has given out.
+    pub first_job: u64,
+    /// Whether the journal had been closed.
+    pub was_closed: bool,
+    /// Whether the last process that wrote to it ran on this boot.
+    pub same_boot: bool,
+}
+
+/// The channel of a log.
+#[derive(Drop)]
+struct LogChannel {
+    snapshot: Arc<Snapshot>,
+    start: StoreStart,
+    /// How many of the log's records it is restored from.
+    records: usize,
+    /// The body of the first record, which a new log has yet to get.
+    first: Option<Bytes>,
+}
+
+/// An open log, and its channel.
+#[derive(Drop)]
+struct OpenLog {
+    log: Log<LogFile>,
+    point_end: usize,
+    snapshot: Arc<Snapshot>,
+    start: StoreStart,
+}
+
+/// The media files of a channel, and how far its journal has come.
+#[derive(Drop)]
+struct ChannelFiles {
+    media: MediaFiles,
+    position: Position,
+}
+
+/// A log to which a process begins to write.
+#[derive(Drop)]
+struct BegunLog {
+    log: Log<LogFile>,
+    /// How long it was when the last sync point was appended.
+    point_end: usize,
+}
+
+/// Opens the journal in a folder, which is made if it is missing, and restores its channel. `config.base` counts only for a new
+/// channel; the other one has the base of its first record.
+///
+/// Nothing that the folder has is changed before the channel is restored.
+///
+/// # Errors
+/// `Busy`: another process has the folder. `Marked`: players have seen more than the log has. `Damaged`, `Channel`: the folder doesn't
+/// restore a channel with this configuration. `Disk`: a call on a file failed. `Memory`: an allocation failed.
+pub fn open_store<R: Files<File = File>>(
+    rt: &R,
+    alloc: Global,
+    folder: &str,
+    config: Config,
+    mode: SyncMode,
+) -> Result<OpenedStore, OpenFault> {
+    let paths = StorePaths::new(alloc, folder)?;
+    let lock = paths.lock(rt)?;
+    let open = open_log(rt, alloc, &paths, config)?;
+    let files = find_files(alloc, &paths.media, &open.snapshot)?;
+    Ok(OpenedStore {
+        follower: Follower {
+            log: open.log,
+            point_end: open.point_end,
+            media: files.media,
+            position: files.position,
+            mode,
+            ended: None,
+            marker: paths.marker,
+            lock,
+        },
+        snapshot: open.snapshot,
+        start: open.start,
+    })
+}
+
+/// Opens the log, restores its channel, and begins to write.
+fn open_log<R: Files<File = File>>(
+    rt: &R,
+    alloc: Global,
+    paths: &StorePaths,
+    config: Config,
+) -> Result<OpenLog, OpenFault> {
+    let mut disk = paths.open_log(rt)?;
+    let mut read = read_disk(alloc, &mut disk)?;
+    let boot = read_boot_id(rt);
+    let channel = find_channel(rt, alloc, &paths.media, config, &read, boot)?;
+    keep_records(&mut read, channel.records);
+    let begun = begin_records(alloc, disk, &read, &channel, &boot)?;
+    Ok(OpenLog {
+        log: begun.log,
+        point_end: begun.point_end,
+        snapshot: channel.snapshot,
+        start: StoreStart {
+            log_bytes: read.content.len,
+            dropped: read.dropped,
+            ..channel.start
+        },
+    })
+}
+
+/// Returns the media files and the position of a journal that has the records of a state of a channel.
+fn find_files(
+    alloc: Global,
+    folder: &str,
+    snapshot: &Snapshot,
+) -> Result<ChannelFiles, AllocError> {
+    let renditions = snapshot.config().renditions().len();
+    Ok(ChannelFiles {
+        media: MediaFiles::new(alloc, folder, renditions)?,
+        position: find_position(alloc, snapshot)?,
+    })
+}
+
+/// Returns the channel of a log: the restored one, or a new one if there is no record.
+fn find_channel<R: Files<File = File>>(
+    rt: &R,
+    alloc: Global,
+    media: &str,
+    config: Config,
+    read: &ReadLog,
+    boot: [u8; 16],
+) -> Result<LogChannel, OpenFault> {
+    if read.content.bodies.is_empty() {
+        check_no_media(rt, alloc, media, config.renditions().len())?;
+        return new_channel(alloc, config, read, boot);
+    }
+    let header = read_channel(alloc, &read.content.bodies[0], &config)?;
+    let records = &read.content.bodies[1..];
+    let source = Source {
+        media,
+        config: &config,
+        base: header.base,
+    };
+    let was_closed = is_closed(records);
+    let same_boot = find_boot(records, header.boot) == boot;
+    let synced = if was_closed || same_boot {
+        records.len()
+    } else {
+        count_synced(&read.content.bodies).saturating_sub(1)
+    };
+    let restored = restore_prefix(rt, alloc, &source, records, synced)?;
+    let start = StoreStart {
+        is_new: false,
+        version: restored.snapshot.version(),
+        log_bytes: read.content.len,
+        dropped: read.dropped,
+        units: restored.units,
+        first_job: find_ids(records).max(1),
+        was_closed,
+        same_boot,
+    };
+    Ok(LogChannel {
+        snapshot: restored.snapshot,
+        start,
+        records: restored.count.saturating_add(1),
+        first: None,
+    })
+}
+
+/// Refuses a log without records beside media: the first record is durable before there are any.
+fn check_no_media<R: Files<File = File>>(
+    rt: &R,
+    alloc: Global,
+    media: &str,
+    renditions: usize,
+) -> Result<(), OpenFault> {
+    for rendition in 0..renditions {
+        if is_there(rt, &format!(in alloc; "{media}/{rendition}")?) {
+            return Err(OpenFault::Damaged { at: 0 });
+        }
+    }
+    Ok(())
+}
+
+/// Leaves the first records of a log; what follows counts as dropped.
+fn keep_records(read: &mut ReadLog, records: usize) {
+    if records < read.content.bodies.len() {
+        read.content.bodies.truncate(records);
+        let len = count_bytes(&read.content.bodies);
+        read.dropped = read
+            .dropped
+            .saturating_add(read.content.len.saturating_sub(len));
+        read.content.len = len;
+    }
+}
+
+fn new_channel(
+    alloc: Global,
+    config: Config,
+    read: &ReadLog,
+    boot: [u8; 16],
+) -> Result<LogChannel, OpenFault> {
+    let header = ChannelHeader {
+        boot,
+        base: *config.base(),
+    };
+    let first = into_bytes(make_channel_body(alloc, &config, &header)?)?;
+    let snapshot = open_channel(alloc, config)?;
+    let start = StoreStart {
+        is_new: true,
+        version: 0,
+        log_bytes: 0,
+        dropped: read.dropped,
+        units: 0,
+        first_job: 1,
+        was_closed: false,
+        same_boot: true,
+    };
+    Ok(LogChannel {
+        snapshot,
+        start,
+        records: 0,
+        first: Some(first),
+    })
+}
+
+/// Returns the channel before any event.
+fn open_channel(alloc: Global, config: Config) -> Result<Arc<Snapshot>, AllocError> {
+    Ok(Arc::new(alloc, Snapshot::first(alloc, config)?)?)
+}
+
+/// Begins to write to a log: cuts off what isn't complete, writes the first record if it is missing, and what a start writes.
+fn begin_records(
+    alloc: Global,
+    disk: LogFile,
+    read: &ReadLog,
+    channel: &LogChannel,
+    boot: &[u8; 16],
+) -> Result<BegunLog, OpenFault> {
+    let mut log = match begin_log(disk, read) {
+        Ok(log) => log,
+        Err(error) => return Err(open_fault(StorePart::Log, error)),
+    };
+    let ids = make_ids_body(alloc, channel.start.first_job.saturating_add(RESERVED_IDS))?;
+    let bodies = make_start_bodies(alloc, &channel.first, ids, boot)?;
+    let mut point_end = 0;
+    append_records(&mut log, alloc, &bodies)?;
+    sync_log(&mut log)?;
+    append_point(&mut log, alloc, &mut point_end)?;
+    Ok(BegunLog { log, point_end })
+}
+
+/// Returns the bodies that a start writes.
+fn make_start_bodies(
+    alloc: Global,
+    first: &Option<Bytes>,
+    ids: Vec<u8>,
+    boot: &[u8; 16],
+) -> Result<Vec<Bytes>, AllocError> {
+    let mut bodies = Vec::new(alloc);
+    if let Some(first) = first {
+        bodies.push(first.clone()?)?;
+    }
+    bodies.push(into_bytes(ids)?)?;
+    bodies.push(into_bytes(make_boot_body(alloc, boot)?)?)?;
+    Ok(bodies)
+}
+
+/// Returns the position of a journal that has the records of a state of a channel.
+fn find_position(alloc: Global, snapshot: &Snapshot) -> Result<Position, AllocError> {
+    let mut counts = vec![in alloc; 0u64; RENDITIONS]?;
+    for (rendition, count) in counts.iter_mut().enumerate() {
+        if let Some(recording) = snapshot.recording(rendition) {
+            *count = recording.count();
+        }
+    }
+    Ok(Position {
+        version: snapshot.version(),
+        counts,
+    })
+}
