@@ -1,0 +1,3 @@
+pub mod Lines
+pub mod Measurements
+pub mod Metrics

@@ -1,0 +1,79 @@
+-- The metrics that aren't of a state: what the server counts and measures while it runs. Nothing is claimed of the numbers.
+use Rattle.std.specs.Prelude.{ℕ, suc, ◌/◌, ◌%◌, ◌==◌, cond, List, [], ◌∷◌, ◌++◌, codes, slice_index}
+use Rattle.std.specs.Fmt.{decimal}
+use Rattle.hls_metrics.specs.Lines.{counter, description, gauge, seconds_gauge}
+use Rattle.hls_metrics.specs.declared.measured.Measured.{Measured}
+
+unfoldable pub traffic_metrics : Measured → List ℕ
+traffic_metrics m =
+    counter (codes "hls_connections_total") (codes "Connections that were accepted.") m.accepted_connections
+    ++ (counter (codes "hls_received_bytes_total") (codes "Bytes that were read from connections.") m.received_bytes
+    ++ counter (codes "hls_sent_bytes_total") (codes "Bytes that were written to connections.") m.sent_bytes)
+
+unfoldable pub sync_metrics : Measured → List ℕ
+sync_metrics m =
+    gauge (codes "hls_sync_samples") (codes "The last sync samples of rendition 0 that were checked, at most 100.") m.checked_syncs
+    ++ (gauge (codes "hls_sync_samples_unplaced") (codes "Those that are no places: a rendition has no sync sample near enough.") m.unplaced_syncs
+    ++ gauge (codes "hls_sync_samples_unlisted") (codes "Those that are in no segment of the live playlists.") m.unlisted_syncs)
+
+unfoldable pub process_metrics : Measured → List ℕ
+process_metrics m =
+    gauge (codes "process_resident_memory_bytes") (codes "Resident memory of the process.") m.resident_bytes
+    ++ (gauge (codes "process_virtual_memory_bytes") (codes "Address space of the process.") m.virtual_bytes
+    ++ gauge (codes "process_virtual_memory_max_bytes") (codes "The limit of the address space; 0 if there is none.") m.max_virtual_bytes)
+
+-- times of the monotonic clock in microseconds
+unfoldable pub clock_metrics : Measured → List ℕ
+clock_metrics m =
+    seconds_gauge (codes "hls_uptime_seconds") (codes "How long the server has run.") m.uptime_us
+    ++ seconds_gauge (codes "hls_list_still_seconds") (codes "How long the live playlists have ended with the same segment.") m.still_us
+
+unfoldable pub repair_metrics : Measured → List ℕ
+repair_metrics m =
+    counter (codes "hls_mended_fragments_total") (codes "Fragments that were mended before they were accepted.") m.mended_fragments
+    ++ (counter (codes "hls_filled_fragments_total") (codes "Fragments that fill gaps of a rendition.") m.filled_fragments
+    ++ gauge (codes "hls_journal_lag_entries") (codes "Log entries that the journal doesn't have yet.") m.journal_lag)
+
+-- ---- requests, by route and status
+
+-- the kinds of routes
+abbrev pub route_kind : ℕ → List ℕ
+route_kind n =
+    cond (n == 0) (codes "ingest")
+    (cond (n == 1) (codes "finish")
+    (cond (n == 2) (codes "live")
+    (cond (n == 3) (codes "media")
+    (cond (n == 4) (codes "catchup")
+    (cond (n == 5) (codes "job")
+    (cond (n == 6) (codes "status")
+    (cond (n == 7) (codes "playlist")
+    (cond (n == 8) (codes "segment")
+    (codes "other")))))))))
+
+-- the statuses of responses
+abbrev pub status_codes : List ℕ
+status_codes = 200 ∷ 202 ∷ 204 ∷ 206 ∷ 400 ∷ 404 ∷ 405 ∷ 409 ∷ 410 ∷ 413 ∷ 416 ∷ 431 ∷ 503 ∷ 507 ∷ []
+
+unfoldable pub route_label : ℕ → List ℕ
+route_label n = codes "hls_requests_total{route=\"" ++ route_kind n
+
+unfoldable pub status_label : ℕ → List ℕ
+status_label n = codes "\",status=\"" ++ (decimal (slice_index status_codes n) ++ codes "\"} ")
+
+-- row n is that of a route and a status: all statuses of the first kind of routes come first
+unfoldable pub request_row : ℕ → ℕ → List ℕ
+request_row n count = route_label (n / 14) ++ (status_label (n % 14) ++ (decimal count ++ 10 ∷ []))
+
+abbrev pub request_rows_from : ℕ → List ℕ → List ℕ
+request_rows_from n [] = []
+request_rows_from n (count ∷ counts) = request_row n count ++ request_rows_from (suc n) counts
+
+unfoldable pub request_metrics : List ℕ → List ℕ
+request_metrics counts =
+    description (codes "hls_requests_total") (codes "counter") (codes "Requests that were answered, by route and status.") ++ request_rows_from 0 counts
+
+-- ---- all of them
+
+unfoldable pub measured_metrics : Measured → List ℕ
+measured_metrics m =
+    traffic_metrics m ++ (sync_metrics m ++ (process_metrics m ++ (clock_metrics m ++ (repair_metrics m ++ request_metrics m.requests))))

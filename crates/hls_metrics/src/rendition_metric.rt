@@ -1,0 +1,22 @@
+//! What is shown of each rendition.
+
+/// A metric that has a row for each rendition.
+#[derive(Clone, Copy)]
+pub enum RenditionMetric {
+    /// Whether it has its init section.
+    Begun,
+    /// Whether it is finished.
+    Finished,
+    /// Bytes that were ever accepted, those before this process included.
+    ReceivedBytes,
+    /// Bytes at which its recording is full.
+    MaxBytes,
+    /// Bytes of fragments that are kept.
+    KeptBytes,
+    /// Fragments that this process accepted.
+    Fragments,
+    /// The end of its last fragment, in microseconds.
+    End,
+    /// Its tolerance, in microseconds.
+    Tolerance,
+}
